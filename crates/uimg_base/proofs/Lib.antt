@@ -1,0 +1,4 @@
+pub mod SinkLaws
+pub mod Parts
+pub mod CrcLaw
+pub mod OutcomeLaws

@@ -1,0 +1,19 @@
+use Rattle.std.proofs.Common.{◌≡◌, ◌≤◌, ◌-◌, IsTrue}
+use Rattle.uimg_base.specs.Device.{Device, part, SameDevice, asked_more}
+use Rattle.uimg_base.proofs.ranges.sum_range.Given as goal
+
+-- the first `done` bytes were asked for and fed
+abbrev pub invariant-loop-done : goal.invariant-loop-done
+invariant-loop-done g l =
+    let device = g.S.Source.device in
+    record {
+      bound : l.done ≤ l.len;
+      same : SameDevice (device l.fn.source) (device l.source);
+      room : l.room ≡ l.fn.room;
+      asked : (device l.source).asked ≡ asked_more (device l.fn.source).asked l.done;
+      failures : (device l.source).failures ≡ (device l.fn.source).failures;
+      fed : IsTrue (device l.fn.source).honest → g.M.Summer.holds l.sum (part (device l.fn.source).bytes l.at l.done);
+    }
+
+abbrev pub decreases-loop-done : goal.decreases-loop-done
+decreases-loop-done g l = l.len - l.done

@@ -1,0 +1,10 @@
+pub mod Device
+pub mod Sink
+pub mod Held
+pub mod Window
+pub mod Digest
+pub mod Ranges
+pub mod Crc
+pub mod CrcSteps
+pub mod Zeros
+pub mod Outcome

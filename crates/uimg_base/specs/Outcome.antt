@@ -1,0 +1,32 @@
+-- What a command writes, and how it ends. F is the type of its faults.
+use Rattle.std.specs.Prelude.{◌≡◌, ℕ, List, ◌++◌, ◌∷◌, [], Option, Some, None}
+use Rattle.uimg_base.specs.Sink.{Sink, AppendsAll, AppendsFront}
+
+-- the end of a command: done, not right, or refused with one fault
+pub data End (F : Type 0) : Type 0 where
+  done : End F
+  not_right : End F
+  refused : F → End F
+
+-- a text, and the end after it
+pub record Outcome (F : Type 0) : Type 0 where
+  pub text : List ℕ
+  pub end : End F
+
+-- a text with its end
+abbrev pub told : {F : Type 0} → List ℕ → End F → Outcome F
+told text end = record { text = text; end = end }
+
+-- an outcome with a text before its own
+abbrev pub after : {F : Type 0} → List ℕ → Outcome F → Outcome F
+after text o = record { text = text ++ o.text; end = o.end }
+
+-- a text and its newline byte
+abbrev pub line : List ℕ → List ℕ
+line text = text ++ 10 ∷ []
+
+-- An answer tells an outcome: its end is the outcome's, and the outcome's text was appended. The answer of
+-- a failed device has no end, and then a front of the text was appended.
+abbrev pub Tells : {F : Type 0} → Option (End F) → Outcome F → Sink → Sink → Type 0
+Tells (Some e) o s t = (o.end ≡ e) × AppendsAll s t o.text
+Tells None o s t = AppendsFront s t o.text

@@ -1,0 +1,29 @@
+-- What a copy from a source to an output does.
+use Rattle.std.specs.Prelude.{◌≡◌, ℕ, ◌+◌, ◌≤◌, List, length, Result, Ok, Err, Bool, true, false}
+use Rattle.uimg_base.specs.Device.{Device}
+use Rattle.uimg_base.specs.Sink.{Sink, AppendsFirst}
+use Rattle.uimg_base.specs.declared.ranges.MoveFault.{MoveFault}
+use Rattle.uimg_base.specs.declared.ranges.MoveFault.TheVariants.{Read, Put}
+
+-- the answer is that a read failed, or a write
+abbrev pub is_read : {X : Type 0} → Result X MoveFault → Bool
+is_read (Ok x) = false
+is_read (Err Read) = true
+is_read (Err Put) = false
+
+abbrev pub is_put : {X : Type 0} → Result X MoveFault → Bool
+is_put (Ok x) = false
+is_put (Err Read) = false
+is_put (Err Put) = true
+
+-- A front of the bytes was appended, and at most a window more was asked for.
+pub record CopiesFront (d e : Device) (s t : Sink) (bytes : List ℕ) : Type 0 where
+  pub count : ℕ
+  pub first : AppendsFirst count s t bytes
+  pub ahead : e.asked ≤ d.asked + (count + 8192)
+
+-- A front of the bytes was appended, and no more than so many, and those and a window, was asked for.
+pub record ReadsAhead (most : ℕ) (d e : Device) (s t : Sink) (bytes : List ℕ) : Type 0 where
+  pub count : ℕ
+  pub first : AppendsFirst count s t bytes
+  pub ahead : e.asked ≤ d.asked + (most + (count + 8192))

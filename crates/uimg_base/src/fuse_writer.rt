@@ -1,0 +1,54 @@
+ghost use Rattle.std.specs.Prelude.{◌≡◌};
+
+use std::io;
+use std::io::{ErrorKind, Write};
+
+/// A writer that takes so many bytes in all, and fails from then on: for tests of what a failing
+/// write leaves.
+#[derive(Drop)]
+pub struct FuseWriter<W: Write> {
+    writer: W,
+
+    /// How many bytes are still taken.
+    pub left: u64,
+}
+
+impl<W: Write> FuseWriter<W> {
+    /// A fuse round `writer` that takes `bytes` bytes. A `write` that passes them takes what is
+    /// left of them.
+    pub fn new(writer: W, bytes: u64) -> FuseWriter<W>
+        ensures contents { ⟦<FuseWriter<W> as Write>⟧.contents result ≡ W.contents writer }
+        ensures left { result.left ≡ bytes }
+    {
+        FuseWriter {
+            writer,
+            left: bytes,
+        }
+    }
+
+    /// The writer, with what it took.
+    pub fn into_inner(self) -> W
+        ensures { W.contents result ≡ ⟦<FuseWriter<W> as Write>⟧.contents self }
+    {
+        let FuseWriter { writer, left: _ } = self;
+        writer
+    }
+}
+
+impl<W: Write> Write for FuseWriter<W> {
+    ghost contents = { λ s. W.contents s.writer };
+
+    fn write(&mut self, buf: &[u8]) -> io::Result<usize> {
+        if self.left == 0 {
+            return Err(io::Error::from(ErrorKind::Other));
+        }
+        let most = usize::min(buf.len(), self.left as usize);
+        let count = self.writer.write(&buf[..most])?;
+        self.left -= count as u64;
+        Ok(count)
+    }
+
+    fn flush(&mut self) -> io::Result<()> {
+        self.writer.flush()
+    }
+}

@@ -1,0 +1,24 @@
+// Sources, output, a room, sums, texts and names for image readers.
+#![tactic(auto)]
+
+pub mod file_source;
+pub mod fuse_source;
+pub mod fuse_writer;
+pub mod output;
+pub mod ranges;
+pub mod room;
+pub mod source;
+pub mod status;
+pub mod sums;
+#[cfg(test)]
+mod tests;
+
+pub use file_source::FileSource;
+pub use fuse_source::FuseSource;
+pub use fuse_writer::FuseWriter;
+pub use output::{Out, PutFault};
+pub use ranges::{MoveFault, copy_range, crc_range, sum_range};
+pub use room::{Entry, Room};
+pub use source::{MemSource, Source, SourceFault};
+pub use status::Status;
+pub use sums::{Crc, Summer, crc_of};

@@ -1,0 +1,103 @@
+ghost use Rattle.std.specs.Prelude.{◌≡◌, ◌≤◌, length, take, OnOk, is_err};
+ghost use Rattle.std.specs.Io.KnownBytes.{Appends};
+ghost use Rattle.std.specs.List.{flat_map};
+ghost use Rattle.uimg_base.specs.Device.{RisesIf};
+ghost use Rattle.uimg_base.specs.Sink.{AppendsAll, AppendsFront};
+
+use std::io::Write;
+use std::marker::Model;
+use thiserror::Error;
+
+/// A write failed.
+#[derive(Clone, Copy, Debug, PartialEq, Eq, Error)]
+#[error("write failed")]
+pub struct PutFault;
+
+/// A writer, with a count of its failures.
+///
+/// Contracts see it as a `Sink`: what the writer holds, where that is known, and how often it
+/// failed.
+pub struct Out<W: Write> {
+    writer: W,
+    faults: u64,
+}
+
+impl<W: Write> Model for Out<W> {
+    ghost use Rattle.uimg_base.specs.Sink.{Sink};
+
+    ghost Value = { Sink };
+
+    ghost view = { λ o. record { contents = W.contents o.writer; faults = o.faults } };
+}
+
+impl<W: Write + Drop> Drop for Out<W> {
+    fn drop(self) {
+        let Out {
+            writer: _,
+            faults: _,
+        } = self;
+    }
+}
+
+impl<W: Write> Out<W> {
+    /// An output to this writer, which did not fail yet.
+    pub fn new(writer: W) -> Out<W>
+        ensures { result ≡ record { contents = W.contents writer; faults = 0 } }
+    {
+        Out { writer, faults: 0 }
+    }
+
+    /// The writer, with all that was put.
+    pub fn into_inner(self) -> W
+        ensures { W.contents result ≡ self.contents }
+    {
+        let Out { writer, faults: _ } = self;
+        writer
+    }
+
+    /// Writes all the bytes.
+    ///
+    /// `PutFault` comes where `write` answers an error or takes nothing; then a front of the bytes
+    /// was written.
+    pub fn put_all(&mut self, bytes: &[u8]) -> Result<(), PutFault>
+        ensures ok { OnOk result (AppendsAll self.old self.new bytes.now) }
+        ensures front { AppendsFront self.old self.new bytes.now }
+        ensures faults { RisesIf (is_err result) self.old.faults self.new.faults }
+    {
+        if write_until_fault(&mut self.writer, bytes) == bytes.len() {
+            Ok(())
+        } else {
+            self.faults = self.faults.saturating_add(1);
+            Err(PutFault)
+        }
+    }
+
+    /// Writes several pieces as one text.
+    ///
+    /// `PutFault` comes as in `put_all`; then a front of the text was written.
+    pub fn put_parts(&mut self, parts: &[&[u8]]) -> Result<(), PutFault>
+        ensures ok { OnOk result (AppendsAll self.old self.new (flat_map (λ part. part.now) parts.now)) }
+        ensures front { AppendsFront self.old self.new (flat_map (λ part. part.now) parts.now) }
+        ensures faults { RisesIf (is_err result) self.old.faults self.new.faults }
+    {
+        for part in parts {
+            self.put_all(part)?;
+        }
+        Ok(())
+    }
+}
+
+// Writes until all is written or a write fails. It gives the number of bytes written.
+fn write_until_fault<W: Write>(writer: &mut W, bytes: &[u8]) -> usize
+    ensures bound { result ≤ length bytes.now }
+    ensures front { Appends (W.contents writer.old) (W.contents writer.new) (take result bytes.now) }
+{
+    let mut at = 0;
+    while at < bytes.len() {
+        match writer.write(&bytes[at..]) {
+            Ok(0) | Err(_) => return at,
+            Ok(count) => at += count,
+        }
+    }
+    at
+}

@@ -1,0 +1,167 @@
+ghost use Rattle.std.specs.Prelude.{◌≡◌, ℕ, ◌+◌, ◌≤◌, List, ◌++◌, length, IsTrue, OnOk, OnErr, IfOk, is_err};
+ghost use Rattle.uimg_base.specs.Device.{part, RisesIf, SameDevice, asked_more};
+ghost use Rattle.uimg_base.specs.Sink.{AppendsAll, AppendsFront};
+ghost use Rattle.uimg_base.specs.Crc.{crc};
+ghost use Rattle.uimg_base.specs.Digest.{PutsDigest};
+ghost use Rattle.uimg_base.specs.Ranges.{is_read, is_put, CopiesFront};
+
+use crate::output::Out;
+use crate::room::Room;
+use crate::source::{Source, SourceFault};
+use crate::sums::{Crc, Summer};
+use std::alloc::Allocator;
+use std::io::Write;
+use thiserror::Error;
+
+/// A copy from a source to an output stopped.
+#[derive(Clone, Copy, Debug, PartialEq, Eq, Error)]
+pub enum MoveFault {
+    /// A read of the source failed.
+    #[error("read failed")]
+    Read,
+
+    /// A write to the output failed.
+    #[error("write failed")]
+    Put,
+}
+
+// Copies at most a window.
+fn copy_window<S: Source, W: Write, A: Allocator>(
+    source: &mut S,
+    room: &mut Room<A>,
+    at: u64,
+    len: usize,
+    out: &mut Out<W>,
+) -> Result<(), MoveFault>
+    requires range { at + len ≤ length (S.device source.old).bytes }
+    requires window { len ≤ 8192 }
+    ensures same { SameDevice (S.device source.old) (S.device source.new) }
+    ensures room { room.new ≡ room.old }
+    ensures asked { (S.device source.new).asked ≡ asked_more (S.device source.old).asked len }
+    ensures failures { RisesIf (is_read result) (S.device source.old).failures (S.device source.new).failures }
+    ensures faults { RisesIf (is_put result) out.old.faults out.new.faults }
+    ensures front { IsTrue (S.device source.old).honest →
+        AppendsFront out.old out.new (part (S.device source.old).bytes at len) }
+    ensures ok { IsTrue (S.device source.old).honest →
+        OnOk result (AppendsAll out.old out.new (part (S.device source.old).bytes at len)) }
+{
+    let window = &mut room.window()[..len];
+    if source.fill_at(at, window).is_err() {
+        return Err(MoveFault::Read);
+    }
+    if out.put_all(window).is_err() {
+        return Err(MoveFault::Put);
+    }
+    Ok(())
+}
+
+/// Copies the `len` bytes at the offset `at` of the source to the output, a window at a time.
+///
+/// The caller sees to it that the range lies in the source. `MoveFault` comes where a read or a
+/// write failed. On every exit a front of the range was written, the source was asked for at most
+/// 8192 bytes more than were written, and nothing of the room changed but its window.
+pub fn copy_range<S: Source, W: Write, A: Allocator>(
+    source: &mut S,
+    room: &mut Room<A>,
+    at: u64,
+    len: u64,
+    out: &mut Out<W>,
+) -> Result<(), MoveFault>
+    requires { at + len ≤ length (S.device source.old).bytes }
+    ensures same { SameDevice (S.device source.old) (S.device source.new) }
+    ensures room { room.new ≡ room.old }
+    ensures asked { (S.device source.new).asked ≤ (S.device source.old).asked + len }
+    ensures asked_all { OnOk result ((S.device source.new).asked ≡ asked_more (S.device source.old).asked len) }
+    ensures failures { RisesIf (is_read result) (S.device source.old).failures (S.device source.new).failures }
+    ensures faults { RisesIf (is_put result) out.old.faults out.new.faults }
+    ensures front { IsTrue (S.device source.old).honest →
+        CopiesFront (S.device source.old) (S.device source.new) out.old out.new (part (S.device source.old).bytes at len) }
+    ensures ok { IsTrue (S.device source.old).honest →
+        OnOk result (AppendsAll out.old out.new (part (S.device source.old).bytes at len)) }
+{
+    let mut done = 0;
+    while done < len {
+        let next = u64::min(len - done, 8192);
+        copy_window(source, room, at + done, next as usize, out)?;
+        done += next;
+    }
+    Ok(())
+}
+
+// Feeds at most a window.
+fn sum_window<M: Summer, S: Source, A: Allocator>(
+    sum: &mut M,
+    source: &mut S,
+    room: &mut Room<A>,
+    at: u64,
+    len: usize,
+) -> Result<(), SourceFault>
+    requires range { at + len ≤ length (S.device source.old).bytes }
+    requires window { len ≤ 8192 }
+    ensures same { SameDevice (S.device source.old) (S.device source.new) }
+    ensures room { room.new ≡ room.old }
+    ensures asked { (S.device source.new).asked ≡ asked_more (S.device source.old).asked len }
+    ensures failures { RisesIf (is_err result) (S.device source.old).failures (S.device source.new).failures }
+    ensures fed { IsTrue (S.device source.old).honest → OnOk result ((fed : List ℕ) →
+        M.holds sum.old fed → M.holds sum.new (fed ++ part (S.device source.old).bytes at len)) }
+{
+    let window = &mut room.window()[..len];
+    source.fill_at(at, window)?;
+    sum.feed(window);
+    Ok(())
+}
+
+/// Sums the `len` bytes at the offset `at` of the source, a window at a time. The digest goes to
+/// the front of `to`, and its length is the answer.
+///
+/// The caller sees to it that the range lies in the source. `SourceFault` comes where a read
+/// failed; then `to` stays. Nothing of the room changes but its window.
+pub fn sum_range<M: Summer, S: Source, A: Allocator>(
+    source: &mut S,
+    room: &mut Room<A>,
+    at: u64,
+    len: u64,
+    to: &mut [u8; 64],
+) -> Result<usize, SourceFault>
+    requires { at + len ≤ length (S.device source.old).bytes }
+    ensures same { SameDevice (S.device source.old) (S.device source.new) }
+    ensures room { room.new ≡ room.old }
+    ensures asked { (S.device source.new).asked ≤ (S.device source.old).asked + len }
+    ensures asked_all { OnOk result ((S.device source.new).asked ≡ asked_more (S.device source.old).asked len) }
+    ensures failures { RisesIf (is_err result) (S.device source.old).failures (S.device source.new).failures }
+    ensures kept { OnErr result (to.new ≡ to.old) }
+    ensures digest { IsTrue (S.device source.old).honest →
+        IfOk result (PutsDigest (M.digest (part (S.device source.old).bytes at len)) to.old to.new) }
+{
+    let mut sum = M::start();
+    let mut done = 0;
+    while done < len {
+        let next = u64::min(len - done, 8192);
+        sum_window(&mut sum, source, room, at + done, next as usize)?;
+        done += next;
+    }
+    Ok(sum.finish(to))
+}
+
+/// CRC-32 of the `len` bytes at the offset `at` of the source.
+///
+/// The caller sees to it that the range lies in the source. `SourceFault` comes where a read
+/// failed. Nothing of the room changes but its window.
+pub fn crc_range<S: Source, A: Allocator>(
+    source: &mut S,
+    room: &mut Room<A>,
+    at: u64,
+    len: u64,
+) -> Result<u32, SourceFault>
+    requires { at + len ≤ length (S.device source.old).bytes }
+    ensures same { SameDevice (S.device source.old) (S.device source.new) }
+    ensures room { room.new ≡ room.old }
+    ensures asked { (S.device source.new).asked ≤ (S.device source.old).asked + len }
+    ensures asked_all { OnOk result ((S.device source.new).asked ≡ asked_more (S.device source.old).asked len) }
+    ensures failures { RisesIf (is_err result) (S.device source.old).failures (S.device source.new).failures }
+    ensures crc { IsTrue (S.device source.old).honest → IfOk result (λ n. n ≡ crc (part (S.device source.old).bytes at len)) }
+{
+    let mut digest = [0; 64];
+    let _length = sum_range::<Crc, S, A>(source, room, at, len, &mut digest)?;
+    Ok(u32::from_be_bytes([digest[0], digest[1], digest[2], digest[3]]))
+}

@@ -1,0 +1,110 @@
+ghost use Rattle.std.specs.Prelude.{◌≡◌, ◌+◌, ◌<◌, max, [], ◌∷◌, ◌++◌, length, is_ok, is_err, if◌then◌else◌, Some, slice_get, slice_set};
+ghost use Rattle.uimg_base.specs.Device.{RisesIf};
+ghost use Rattle.uimg_base.specs.Held.{held_bytes};
+
+use std::alloc::{AllocError, Allocator};
+use std::marker::Model;
+
+/// The words of an entry.
+pub type Entry = [u64; 16];
+
+/// All the memory of an engine: a window of 8192 bytes, and a list of entries of 128 bytes.
+///
+/// Contracts see it as `Held`: its entries, the most bytes that it ever held, and how often it
+/// refused to grow.
+#[derive(Drop)]
+pub struct Room<A: Allocator> {
+    window: [u8; 8192],
+    entries: Vec<Entry, A>,
+    peak: u128,
+    refused: u64,
+}
+
+impl<A: Allocator> Model for Room<A> {
+    ghost use Rattle.std.specs.Prelude.{◌≤◌, length};
+    ghost use Rattle.uimg_base.specs.Held.{Held, held_bytes};
+
+    ghost Value = { Held };
+
+    ghost view = { λ r. record { entries = r.entries.items; peak = r.peak; refused = r.refused } };
+
+    ghost invariant = { λ r. held_bytes (length r.entries.items) ≤ r.peak };
+}
+
+impl<A: Allocator> Room<A> {
+    ghost use Rattle.std.specs.Borrow.{sem};
+    ghost use Rattle.uimg_base.specs.Window.{LendsWindow};
+
+    /// A room with no entries. It takes no memory from the allocator yet.
+    pub fn new(alloc: A) -> Room<A>
+        ensures { result ≡ record { entries = []; peak = 8192; refused = 0 } }
+    {
+        Room {
+            window: [0; 8192],
+            entries: Vec::new(alloc),
+            peak: 8192,
+            refused: 0,
+        }
+    }
+
+    /// The window, to write to. Nothing else of the room changes.
+    pub fn window(&mut self) -> &mut [u8; 8192]
+        ensures* { sem 𝓛 (LendsWindow A.row A.Allocator self.entry result) }
+    {
+        &mut self.window
+    }
+
+    /// Drops all entries, and keeps their memory for the next ones.
+    pub fn clear(&mut self)
+        ensures { self.new ≡ record self.old { entries = [] } }
+    {
+        self.entries.clear();
+    }
+
+    /// How many entries there are.
+    pub fn count(&self) -> usize
+        ensures { result ≡ length self.now.entries }
+    {
+        self.entries.len()
+    }
+
+    /// How many bytes are held: the window's, and 128 for each entry.
+    pub fn held(&self) -> u128
+        ensures { result ≡ held_bytes (length self.now.entries) }
+    {
+        8192 + 128 * self.entries.len() as u128
+    }
+
+    /// Adds an entry at the end, taking memory for just that one.
+    ///
+    /// `AllocError` comes where the memory was refused; then all entries stay.
+    pub fn add(&mut self, entry: Entry) -> Result<(), AllocError>
+        ensures entries { self.new.entries ≡ (if is_ok result then self.old.entries ++ entry ∷ [] else self.old.entries) }
+        ensures peak { self.new.peak ≡ (if is_ok result
+            then max self.old.peak (held_bytes (length self.old.entries + 1)) else self.old.peak) }
+        ensures refused { RisesIf (is_err result) self.old.refused self.new.refused }
+    {
+        if self.entries.reserve_exact(1).is_err() || self.entries.push(entry).is_err() {
+            self.refused = self.refused.saturating_add(1);
+            return Err(AllocError);
+        }
+        self.peak = u128::max(self.peak, 8192 + 128 * self.entries.len() as u128);
+        Ok(())
+    }
+
+    /// The entry of a number below `count`, counted from 0.
+    pub fn entry(&self, number: usize) -> Entry
+        requires { number < length self.now.entries }
+        ensures { slice_get self.now.entries number ≡ Some result }
+    {
+        self.entries[number]
+    }
+
+    /// Puts an entry in the place of the one of number `place`, counted from 0.
+    pub fn set(&mut self, place: usize, entry: Entry)
+        requires { place < length self.old.entries }
+        ensures { self.new ≡ record self.old { entries = slice_set self.old.entries place entry } }
+    {
+        self.entries[place] = entry;
+    }
+}

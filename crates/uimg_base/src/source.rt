@@ -1,0 +1,99 @@
+ghost use Rattle.std.specs.Prelude.{◌≡◌, ℕ, ◌+◌, ◌^◌, ◌<◌, ◌≤◌, List, true, length, IsTrue, OnOk, IfOk, is_err};
+ghost use Rattle.uimg_base.specs.Device.{Device, part, RisesIf, SameDevice, asked_more};
+
+use thiserror::Error;
+
+/// A source did not answer: it could not be opened, or a read of it failed.
+#[derive(Clone, Copy, Debug, PartialEq, Eq, Error)]
+#[error("read failed")]
+pub struct SourceFault;
+
+/// A device with a fixed list of bytes, read at any place.
+///
+/// Contracts see a source as a `Device`: its bytes, whether its answers are honest (are those
+/// bytes), how many bytes were asked for, and how many calls failed. No call changes the bytes or
+/// the honesty.
+pub trait Source: Drop {
+    /// What contracts see of the source.
+    ghost device: { Self → Device };
+
+    /// How many bytes the source has.
+    ///
+    /// `SourceFault` comes only where `failures` rose in this call (or stood at its greatest
+    /// value).
+    fn size(&mut self) -> Result<u64, SourceFault>
+        ensures length { IfOk result (λ n. n ≡ length (device self.old).bytes) }
+        ensures same { SameDevice (device self.old) (device self.new) }
+        ensures asked { (device self.new).asked ≡ (device self.old).asked }
+        ensures failures { RisesIf (is_err result) (device self.old).failures (device self.new).failures };
+
+    /// Fills `to` with the bytes that begin at the offset `at`.
+    ///
+    /// The caller sees to it that the range lies in the source. An honest source gives the bytes
+    /// there. `asked` rises by the length of `to`, after a failure too. `SourceFault` comes only
+    /// where `failures` rose in this call (or stood at its greatest value); what `to` holds then is
+    /// left open.
+    fn fill_at(&mut self, at: u64, to: &mut [u8]) -> Result<(), SourceFault>
+        requires { at + length to.old ≤ length (device self.old).bytes }
+        ensures bytes { IsTrue (device self.old).honest →
+            OnOk result (to.new ≡ part (device self.old).bytes at (length to.old)) }
+        ensures same { SameDevice (device self.old) (device self.new) }
+        ensures asked { (device self.new).asked
+            ≡ asked_more (device self.old).asked (length to.old) }
+        ensures failures { RisesIf (is_err result) (device self.old).failures (device self.new).failures };
+
+    /// How many bytes were asked for by `fill_at`, failed calls too. It stays at its greatest
+    /// value.
+    fn asked(&self) -> u128
+        ensures { result ≡ (device self.now).asked };
+
+    /// How many calls failed. It stays at its greatest value.
+    fn failures(&self) -> u64
+        ensures { result ≡ (device self.now).failures };
+
+    /// A source has fewer than 2^64 bytes.
+    ghost short: { (s : Self) → length (device s).bytes < 2 ^ 64 };
+}
+
+/// A slice as a source. It is honest and never fails.
+#[derive(Drop)]
+pub struct MemSource<'a> {
+    bytes: &'a [u8],
+    asked: u128,
+    ghost short: { length bytes.now < 2 ^ 64 },
+}
+
+impl<'a> MemSource<'a> {
+    /// A source of these bytes, of which nothing was asked yet.
+    pub fn new(bytes: &'a [u8]) -> MemSource<'a>
+        ensures { ⟦<MemSource<'a> as Source>⟧.device result
+            ≡ record { bytes = bytes.now; honest = true; asked = 0; failures = 0 } }
+    {
+        MemSource { bytes, asked: 0 }
+    }
+}
+
+impl<'a> Source for MemSource<'a> {
+    ghost device = { λ s. record { bytes = s.bytes.now; honest = true; asked = s.asked; failures = 0 } };
+
+    ghost short = { λ s. s.short };
+
+    fn size(&mut self) -> Result<u64, SourceFault> {
+        Ok(self.bytes.len() as u64)
+    }
+
+    fn fill_at(&mut self, at: u64, to: &mut [u8]) -> Result<(), SourceFault> {
+        self.asked = self.asked.saturating_add(to.len() as u128);
+        let start = at as usize;
+        to.copy_from_slice(&self.bytes[start..start + to.len()]);
+        Ok(())
+    }
+
+    fn asked(&self) -> u128 {
+        self.asked
+    }
+
+    fn failures(&self) -> u64 {
+        0
+    }
+}

@@ -1,0 +1,71 @@
+use crate::{FileSource, Room, Source, crc_range};
+use std::fs;
+use std::io::Write;
+use std::test::Fail;
+
+#[test]
+fn a_real_file_is_read_at_any_place(rt: HostRuntime) -> Result<(), Fail> {
+    let path = "real_file.bin";
+    fs::write(&rt, path, "123456789")?;
+    let mut source = FileSource::open(&rt, path)?;
+    assert_eq!(rt; source.size()?, 9);
+    let mut middle = [0; 3];
+    assert!(rt; read_at(&mut source, 3, &mut middle));
+    assert_eq!(rt; middle, *b"456");
+    assert!(rt; read_at(&mut source, 9, &mut []));
+    assert_eq!(rt; source.asked(), 3);
+    assert_eq!(rt; source.failures(), 0);
+    fs::remove_file(&rt, path)?;
+    Ok(())
+}
+
+#[test]
+fn a_real_file_is_summed(rt: HostRuntime) -> Result<(), Fail> {
+    let path = "summed_file.bin";
+    let mut bytes = [0; 20000];
+    bytes[0] = b'x';
+    fs::write(&rt, path, bytes.as_slice())?;
+    let mut source = FileSource::open(&rt, path)?;
+    let mut room = Room::new(rt.alloc());
+    let sum = sum_all(&mut source, &mut room);
+    assert_eq!(rt; sum, Some(crate::crc_of(&bytes)));
+    fs::remove_file(&rt, path)?;
+    Ok(())
+}
+
+// The length found at the open stays, and a file that was cut since then is a failed read.
+#[test]
+fn a_file_that_shrank_fails(rt: HostRuntime) -> Result<(), Fail> {
+    let path = "shrinking_file.bin";
+    fs::write(&rt, path, "123456789")?;
+    let mut source = FileSource::open(&rt, path)?;
+    fs::create(&rt, path)?.write_all(b"123")?;
+    assert_eq!(rt; source.size()?, 9);
+    let mut all = [0; 9];
+    assert!(rt; !read_at(&mut source, 0, &mut all));
+    assert_eq!(rt; source.failures(), 1);
+    assert_eq!(rt; source.asked(), 9);
+    fs::remove_file(&rt, path)?;
+    Ok(())
+}
+
+#[test]
+fn what_is_no_file_is_refused(rt: HostRuntime) -> Result<(), Fail> {
+    assert!(rt; FileSource::open(&rt, "no_such_file").is_err());
+    assert!(rt; FileSource::open(&rt, "").is_err());
+    assert!(rt; FileSource::open(&rt, ".").is_err());
+    Ok(())
+}
+
+// Reads where the range lies in the source, and says whether that succeeded.
+fn read_at<S: Source>(source: &mut S, at: u64, to: &mut [u8]) -> bool {
+    match source.size() {
+        Ok(size) if at <= size && to.len() as u64 <= size - at => source.fill_at(at, to).is_ok(),
+        _ => false,
+    }
+}
+
+fn sum_all<S: Source, A: std::alloc::Allocator>(source: &mut S, room: &mut Room<A>) -> Option<u32> {
+    let size = source.size().ok()?;
+    crc_range(source, room, 0, size).ok()
+}

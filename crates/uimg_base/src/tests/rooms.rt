@@ -1,0 +1,43 @@
+use crate::Room;
+use linked_list_allocator::LocalHeap;
+use std::test::Fail;
+
+#[test]
+fn entries_are_kept(rt: HostRuntime) -> Result<(), Fail> {
+    let mut room = Room::new(rt.alloc());
+    assert_eq!(rt; room.held(), 8192);
+    room.add([1; 16])?;
+    room.add([2; 16])?;
+    assert_eq!(rt; room.count(), 2);
+    assert_eq!(rt; room.held(), 8448);
+    if room.count() == 2 {
+        room.set(0, [3; 16]);
+        assert_eq!(rt; room.entry(0), [3; 16]);
+        assert_eq!(rt; room.entry(1), [2; 16]);
+    }
+    room.clear();
+    assert_eq!(rt; room.count(), 0);
+    assert_eq!(rt; room.held(), 8192);
+    Ok(())
+}
+
+// A small heap has place for a few entries. The refusal leaves them.
+#[test]
+fn a_refused_entry_leaves_the_others(rt: HostRuntime) -> Result<(), Fail> {
+    let heap = LocalHeap::new(rt.alloc(), 1024)?;
+    let mut room = Room::new(&heap);
+    let mut taken = 0;
+    for number in 0..10u64 {
+        if room.add([number; 16]).is_err() {
+            break;
+        }
+        taken = room.count();
+    }
+    assert!(rt; 0 < taken && taken < 10);
+    assert!(rt; room.add([10; 16]).is_err());
+    assert_eq!(rt; room.count(), taken);
+    for number in 0..room.count() {
+        assert_eq!(rt; room.entry(number), [number as u64; 16]);
+    }
+    Ok(())
+}

@@ -1,0 +1,52 @@
+// The calls of uimg_base that move payloads, each as a command, so that they can be timed alone:
+// `uimg_bench crc FILE` prints the CRC-32 of a file, `uimg_bench copy FILE` writes it to standard
+// output.
+#![tactic(auto)]
+
+use std::env;
+use std::io;
+use std::process::ExitCode;
+use std::rt::{Env, Files};
+use uimg_base::{FileSource, MoveFault, Out, Room, Source, copy_range, crc_range};
+
+fn main(rt: HostRuntime) -> ExitCode {
+    match run(&rt) {
+        Ok(()) => ExitCode::SUCCESS,
+        Err(_) => ExitCode::FAILURE,
+    }
+}
+
+fn run<R: Files + Env + Print + Alloc>(rt: &R) -> io::Result<()> {
+    let mut words = env::args(rt)?.skip(1);
+    let (Some(command), Some(path)) = (words.next(), words.next()) else {
+        return rt.println("usage: uimg_bench crc|copy FILE");
+    };
+    match (command.as_str(), FileSource::open(rt, path.as_str())) {
+        ("crc", Ok(mut source)) => print_crc(rt, &mut source),
+        ("copy", Ok(mut source)) => copy(rt, &mut source),
+        _ => Err(io::Error::from(io::ErrorKind::NotFound)),
+    }
+}
+
+fn print_crc<R: Print + Alloc, S: Source>(rt: &R, source: &mut S) -> io::Result<()> {
+    let mut room = Room::new(rt.alloc());
+    let Ok(size) = source.size() else {
+        return Err(io::Error::from(io::ErrorKind::Other));
+    };
+    match crc_range(source, &mut room, 0, size) {
+        Ok(sum) => println!(rt; "{sum:08x}"),
+        Err(_) => Err(io::Error::from(io::ErrorKind::Other)),
+    }
+}
+
+fn copy<R: Print + Alloc, S: Source>(rt: &R, source: &mut S) -> io::Result<()> {
+    let mut room = Room::new(rt.alloc());
+    let mut out = Out::new(io::writer(rt));
+    let Ok(size) = source.size() else {
+        return Err(io::Error::from(io::ErrorKind::Other));
+    };
+    match copy_range(source, &mut room, 0, size, &mut out) {
+        Ok(()) => Ok(()),
+        Err(MoveFault::Read | MoveFault::Put) => Err(io::Error::from(io::ErrorKind::Other)),
+    }
+}
