@@ -37,20 +37,34 @@ def make_file(path):
             file.write(block)
 
 
-def best(command, output):
-    """The least wall time of a command in seconds, and its peak memory in KiB."""
-    least, peak = None, 0
-    for _ in range(RUNS):
-        with open(output, "wb") as out:
-            begin = time.monotonic()
-            child = subprocess.Popen(command, stdout=out)
-            _, status, usage = os.wait4(child.pid, 0)
-            spent = time.monotonic() - begin
-        if status != 0:
-            sys.exit(f"bench: {command[0]} failed")
-        least = spent if least is None else min(least, spent)
-        peak = max(peak, usage.ru_maxrss)
-    return least, peak
+def seconds(command, output):
+    """The wall time of a command in seconds."""
+    with open(output, "wb") as out:
+        begin = time.monotonic()
+        status = subprocess.run(command, stdout=out).returncode
+        spent = time.monotonic() - begin
+    if status != 0:
+        sys.exit(f"bench: {command[0]} failed")
+    return spent
+
+
+def peak_memory(command, output):
+    """The peak resident memory of a command in KiB, by a run of its own."""
+    peak = 0
+    with open(output, "wb") as out:
+        child = subprocess.Popen(command, stdout=out)
+        while child.poll() is None:
+            with open(f"/proc/{child.pid}/status") as status:
+                for line in status:
+                    if line.startswith("VmHWM:"):
+                        peak = int(line.split()[1])
+            time.sleep(0.001)
+    return peak
+
+
+def measure(command, output):
+    """The least wall time of several runs, and the peak memory."""
+    return min(seconds(command, output) for _ in range(RUNS)), peak_memory(command, output)
 
 
 def main():
@@ -61,12 +75,12 @@ def main():
         copy = os.path.join(folder, "copy.bin")
         make_file(file)
         rows = [
-            ("read", "cat > /dev/null", best(["cat", file], "/dev/null")),
-            ("CRC-32", "uimg_base", best([program, "crc", file], text)),
-            ("CRC-32", "Python's zlib.crc32", best([sys.executable, "-c", ZLIB, file], text)),
-            ("copy", "uimg_base", best([program, "copy", file], copy)),
-            ("copy", "cat > file", best(["cat", file], copy)),
-            ("copy", "cp", best(["cp", file, copy], text)),
+            ("read", "cat > /dev/null", measure(["cat", file], "/dev/null")),
+            ("CRC-32", "uimg_base", measure([program, "crc", file], text)),
+            ("CRC-32", "Python's zlib.crc32", measure([sys.executable, "-c", ZLIB, file], text)),
+            ("copy", "uimg_base", measure([program, "copy", file], copy)),
+            ("copy", "cat > file", measure(["cat", file], copy)),
+            ("copy", "cp", measure(["cp", file, copy], text)),
         ]
     beside = {what: spent for what, _, (spent, _) in rows}
     print(f"| {'What':8} | {'By':20} | {'MB/s':>6} | {'peak KiB':>8} | {'time, ratio':>11} |")

@@ -1,8 +1,7 @@
 -- The register after a message is the remainder.
-use Rattle.std.proofs.Common.{◌≡◌, ◌≤◌, ◌<◌, ℕ, zero, suc, ◌+◌, ◌-◌, ◌*◌, ◌/◌, ◌%◌, ◌^◌, List, [], ◌∷◌, ◌++◌, map, length, take, drop, replicate, Bool, true, false, not, nat_eq, cond, bit_xor, ◌∙◌, ap, sym, subst, refl, arith, rules, append_assoc, length-append, add-one, get_or, lit<}
+use Rattle.std.proofs.Common.{◌≡◌, ◌≤◌, ◌<◌, ℕ, zero, suc, ◌+◌, ◌-◌, ◌*◌, ◌/◌, ◌%◌, ◌^◌, List, [], ◌∷◌, ◌++◌, map, length, take, drop, replicate, Bool, true, false, not, nat_eq, cond, bit_xor, ◌∙◌, ap, sym, subst, refl, arith, append_assoc, length-append, get_or, lit<}
 use Rattle.std.proofs.lemmas.List.{length-map}
 use Rattle.std.specs.List.{flat_map, fold, AllByRecursion}
-use Rattle.std.proofs.lemmas.Grind.{common_steps}
 use Rattle.std.proofs.lemmas.Nat.{xor_of_32, xor_shr, xor_mod, xor_comm}
 use Rattle.std.proofs.Math.Nat.{pow-succ'}
 use Rattle.std.proofs.lemmas.List.Sums.{fold-append}
@@ -196,14 +195,6 @@ unfolding crc
 crc_is m all =
     ap (λ (w : List Bool). number_of (map not w) + register_of m + 1) (rem_is m all)
     ∙ number_of-not 32 (register_of m) (register_fits m 4294967295 all (lit< tt))
-
-pub bit_steps_none : (x : ℕ) → bit_steps 0 x ≡ x
-unfolding bit_steps
-bit_steps_none x = refl
-
-pub bit_steps_more : (k x : ℕ) → bit_steps (k + 1) x ≡ bit_step (bit_steps k x)
-unfolding bit_steps
-bit_steps_more k x = rw add-one refl
 
 pub register_of-append : (m bytes : List ℕ) → register_of (m ++ bytes) ≡ fold byte_step (register_of m) bytes
 register_of-append m bytes = fold-append byte_step (2 ^ 32 - 1) m bytes

@@ -8,3 +8,4 @@ pub mod Crc
 pub mod CrcSteps
 pub mod Zeros
 pub mod Outcome
+pub mod Names

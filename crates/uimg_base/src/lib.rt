@@ -1,9 +1,12 @@
 // Sources, output, a room, sums, texts and names for image readers.
 #![tactic(auto)]
 
+pub mod crc;
+pub mod crc_table;
 pub mod file_source;
 pub mod fuse_source;
 pub mod fuse_writer;
+pub mod names;
 pub mod output;
 pub mod ranges;
 pub mod room;
@@ -13,12 +16,17 @@ pub mod sums;
 #[cfg(test)]
 mod tests;
 
+pub use crc::{Crc, crc_of};
+pub use crc_table::crc_entry;
 pub use file_source::FileSource;
 pub use fuse_source::FuseSource;
 pub use fuse_writer::FuseWriter;
+pub use names::{
+    arch_code, arch_text, comp_code, comp_text, kind_code, kind_text, os_code, os_text,
+};
 pub use output::{Out, PutFault};
 pub use ranges::{MoveFault, copy_range, crc_range, sum_range};
 pub use room::{Entry, Room};
 pub use source::{MemSource, Source, SourceFault};
 pub use status::Status;
-pub use sums::{Crc, Summer, crc_of};
+pub use sums::Summer;

@@ -5,10 +5,11 @@ ghost use Rattle.uimg_base.specs.Crc.{crc};
 ghost use Rattle.uimg_base.specs.Digest.{PutsDigest};
 ghost use Rattle.uimg_base.specs.Ranges.{is_read, is_put, CopiesFront};
 
+use crate::crc::Crc;
 use crate::output::Out;
 use crate::room::Room;
 use crate::source::{Source, SourceFault};
-use crate::sums::{Crc, Summer};
+use crate::sums::Summer;
 use std::alloc::Allocator;
 use std::io::Write;
 use thiserror::Error;

@@ -1,0 +1,9 @@
+pub mod arch;
+pub mod comp;
+pub mod kind;
+pub mod os;
+
+pub use arch::{arch_code, arch_text};
+pub use comp::{comp_code, comp_text};
+pub use kind::{kind_code, kind_text};
+pub use os::{os_code, os_text};
