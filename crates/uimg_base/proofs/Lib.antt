@@ -3,3 +3,10 @@ pub mod Parts
 pub mod CrcLaw
 pub mod OutcomeLaws
 pub mod CrcTable
+pub mod SizeExamples
+pub mod Nearest
+pub mod SizeLine
+pub mod CalendarExamples
+pub mod CalendarLaw
+pub mod ClockLaw
+pub mod TimeLine

@@ -1,6 +1,6 @@
 -- An outcome with a text before its own.
-use Rattle.std.proofs.Common.{◌≡◌, List, ℕ, [], ◌++◌, Option, Some, None}
-use Rattle.uimg_base.specs.Sink.{Sink, AppendsAll, AppendsFront}
+use Rattle.std.proofs.Common.{List, ℕ, Option, Some, None}
+use Rattle.uimg_base.specs.Sink.{Sink, AppendsAll}
 use Rattle.uimg_base.specs.Outcome.{End, Outcome, after, Tells}
 use Rattle.uimg_base.proofs.SinkLaws.{all_then, front_then}
 

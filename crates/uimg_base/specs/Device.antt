@@ -1,5 +1,5 @@
 -- What contracts see of a device that may fail.
-use Rattle.std.specs.Prelude.{◌≡◌, ℕ, ◌+◌, ◌-◌, ◌^◌, ◌<◌, ◌≤◌, min, max, List, length, take, drop, Bool, true, false}
+use Rattle.std.specs.Prelude.{◌≡◌, ℕ, ◌+◌, ◌-◌, ◌^◌, ◌<◌, ◌≤◌, min, max, List, take, drop, Bool, true, false}
 
 -- What a source is: its bytes, whether its answers are those bytes, and two counters.
 pub record Device : Type 0 where

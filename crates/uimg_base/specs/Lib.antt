@@ -9,3 +9,7 @@ pub mod CrcSteps
 pub mod Zeros
 pub mod Outcome
 pub mod Names
+pub mod Digits
+pub mod Sizes
+pub mod Calendar
+pub mod Times

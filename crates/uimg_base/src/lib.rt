@@ -3,6 +3,7 @@
 
 pub mod crc;
 pub mod crc_table;
+mod digits;
 pub mod file_source;
 pub mod fuse_source;
 pub mod fuse_writer;
@@ -10,11 +11,13 @@ pub mod names;
 pub mod output;
 pub mod ranges;
 pub mod room;
+pub mod sizes;
 pub mod source;
 pub mod status;
 pub mod sums;
 #[cfg(test)]
 mod tests;
+pub mod times;
 
 pub use crc::{Crc, crc_of};
 pub use crc_table::crc_entry;
@@ -27,6 +30,8 @@ pub use names::{
 pub use output::{Out, PutFault};
 pub use ranges::{MoveFault, copy_range, crc_range, sum_range};
 pub use room::{Entry, Room};
+pub use sizes::size_text;
 pub use source::{MemSource, Source, SourceFault};
 pub use status::Status;
 pub use sums::Summer;
+pub use times::time_text;

@@ -1,4 +1,4 @@
-use Rattle.std.proofs.Common.{◌≤◌, ◌-◌, length, length-take, length-drop, ℕ, arith}
+use Rattle.std.proofs.Common.{◌≤◌, ◌-◌, length, length-take, length-drop, arith}
 use Rattle.uimg_base.proofs.SinkLaws.{Appends-next}
 use Rattle.uimg_base.proofs.output.write_until_fault.Goals as goal
 

@@ -1,6 +1,6 @@
-use Rattle.std.proofs.Common.{◌≡◌, ◌+◌, ◌≤◌, IsTrue, subst, sym, arith, length, ℕ, List, Bool, ◌∙◌}
+use Rattle.std.proofs.Common.{◌+◌, IsTrue, subst, sym, arith, ℕ, List, Bool, ◌∙◌}
 use Rattle.uimg_base.specs.Device.{part}
-use Rattle.uimg_base.specs.Sink.{AppendsFirst, AppendsFront, AppendsAll}
+use Rattle.uimg_base.specs.Sink.{AppendsFront, AppendsAll}
 use Rattle.uimg_base.proofs.Parts.{AppendsFirst-more, AppendsAll-part}
 use Rattle.uimg_base.proofs.ranges.copy_range.Goals as goal
 

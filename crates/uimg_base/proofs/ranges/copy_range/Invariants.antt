@@ -1,5 +1,5 @@
 use Rattle.std.proofs.Common.{◌≡◌, ◌≤◌, ◌-◌, IsTrue}
-use Rattle.uimg_base.specs.Device.{Device, part, SameDevice, asked_more}
+use Rattle.uimg_base.specs.Device.{part, SameDevice, asked_more}
 use Rattle.uimg_base.specs.Sink.{AppendsAll}
 use Rattle.uimg_base.proofs.ranges.copy_range.Given as goal
 

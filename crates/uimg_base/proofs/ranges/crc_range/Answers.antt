@@ -1,4 +1,4 @@
-use Rattle.std.proofs.Common.{◌≡◌, ◌∷◌, [], ap, ◌∙◌, ℕ, List, get_or}
+use Rattle.std.proofs.Common.{◌∷◌, [], ap, ◌∙◌, ℕ, List, get_or}
 use Rattle.std.specs.Int.{from_be_bytes, w32}
 use Rattle.std.proofs.lemmas.Nat.{from_be_bytes-to_be_bytes_4}
 use Rattle.uimg_base.specs.Device.{part}

@@ -1,4 +1,4 @@
-use Rattle.std.proofs.Common.{◌≡◌, ◌+◌, ◌∙◌, ◌++◌, IsTrue, subst, sym, arith, ℕ, List, Bool}
+use Rattle.std.proofs.Common.{◌+◌, ◌∙◌, ◌++◌, IsTrue, subst, sym, arith, ℕ, List, Bool}
 use Rattle.uimg_base.specs.Device.{part}
 use Rattle.uimg_base.proofs.Parts.{part-add}
 use Rattle.uimg_base.proofs.ranges.sum_range.Goals as goal
