@@ -97,3 +97,86 @@ impl<F: Read + Seek + Drop> Source for FileSource<F> {
         self.failures
     }
 }
+
+#[cfg(test)]
+mod tests {
+    use super::*;
+    use std::io;
+
+    // A file of digits that gives at most so many bytes at a read, and none or an error past an
+    // offset.
+    #[derive(Drop)]
+    struct SlowFile {
+        at: u64,
+        most: usize,
+        end: u64,
+        fails: bool,
+        turns: u64,
+    }
+
+    impl Read for SlowFile {
+        fn read(&mut self, buf: &mut [u8]) -> io::Result<usize> {
+            self.turns = self.turns.saturating_add(1);
+            if self.at >= self.end {
+                return match self.fails {
+                    true => Err(io::Error::from(io::ErrorKind::Other)),
+                    false => Ok(0),
+                };
+            }
+            let count = usize::min(buf.len(), self.most);
+            for byte in buf[..count].iter_mut() {
+                *byte = b'0' + (self.at % 10) as u8;
+                self.at = self.at.saturating_add(1);
+            }
+            Ok(count)
+        }
+    }
+
+    impl Seek for SlowFile {
+        fn seek(&mut self, to: SeekFrom) -> io::Result<u64> {
+            if let SeekFrom::Start(at) = to {
+                self.at = at;
+            }
+            Ok(self.at)
+        }
+    }
+
+    fn slow(most: usize, end: u64, fails: bool) -> SlowFile {
+        SlowFile {
+            at: 0,
+            most,
+            end,
+            fails,
+            turns: 0,
+        }
+    }
+
+    // A read that answers fewer bytes goes on, at most one turn for each byte.
+    #[test]
+    fn short_reads_go_on(rt: HostRuntime) {
+        for (most, turns) in [(1, 5), (2, 3), (5, 1), (100, 1)] {
+            let mut file = slow(most, 100, false);
+            let mut to = [b'x'; 5];
+            assert!(rt; fill_from(&mut file, 3, &mut to));
+            assert_eq!(rt; to, *b"34567");
+            assert_eq!(rt; file.turns, turns);
+        }
+    }
+
+    #[test]
+    fn a_read_of_nothing_fails(rt: HostRuntime) {
+        for fails in [false, true] {
+            let mut file = slow(2, 6, fails);
+            let mut to = [b'x'; 5];
+            assert!(rt; !fill_from(&mut file, 3, &mut to));
+            assert_eq!(rt; file.turns, 3);
+        }
+    }
+
+    #[test]
+    fn an_empty_slice_takes_no_turn(rt: HostRuntime) {
+        let mut file = slow(2, 0, true);
+        assert!(rt; fill_from(&mut file, 3, &mut []));
+        assert_eq!(rt; file.turns, 0);
+    }
+}

@@ -7,9 +7,7 @@ use crate::source::{Source, SourceFault};
 #[derive(Drop)]
 pub struct FuseSource<S: Source> {
     source: S,
-
-    /// How many calls are still let through.
-    pub left: u64,
+    left: u64,
 
     asked: u128,
     failures: u64,
@@ -18,8 +16,7 @@ pub struct FuseSource<S: Source> {
 impl<S: Source> FuseSource<S> {
     /// A fuse round `source` that lets `calls` calls through. Its counters go on from the source's.
     pub fn new(source: S, calls: u64) -> FuseSource<S>
-        ensures device { ⟦<FuseSource<S> as Source>⟧.device result ≡ S.device source }
-        ensures left { result.left ≡ calls }
+        ensures { ⟦<FuseSource<S> as Source>⟧.device result ≡ S.device source }
     {
         let asked = source.asked();
         let failures = source.failures();

@@ -8,17 +8,14 @@ use std::io::{ErrorKind, Write};
 #[derive(Drop)]
 pub struct FuseWriter<W: Write> {
     writer: W,
-
-    /// How many bytes are still taken.
-    pub left: u64,
+    left: u64,
 }
 
 impl<W: Write> FuseWriter<W> {
     /// A fuse round `writer` that takes `bytes` bytes. A `write` that passes them takes what is
     /// left of them.
     pub fn new(writer: W, bytes: u64) -> FuseWriter<W>
-        ensures contents { ⟦<FuseWriter<W> as Write>⟧.contents result ≡ W.contents writer }
-        ensures left { result.left ≡ bytes }
+        ensures { ⟦<FuseWriter<W> as Write>⟧.contents result ≡ W.contents writer }
     {
         FuseWriter {
             writer,

@@ -1,4 +1,4 @@
-// Sources, output, a room, sums, texts and names for image readers.
+//! Sources, output, a room, sums, texts and names for image readers.
 #![tactic(auto)]
 
 pub mod crc;

@@ -1,4 +1,4 @@
-ghost use Rattle.std.specs.Prelude.{◌≡◌, ◌≤◌, length, take, OnOk, is_err};
+ghost use Rattle.std.specs.Prelude.{◌≡◌, ◌+◌, ◌-◌, ◌^◌, ◌≤◌, min, length, take, OnOk, is_err, if◌then◌else◌};
 ghost use Rattle.std.specs.Io.KnownBytes.{Appends};
 ghost use Rattle.std.specs.List.{flat_map};
 ghost use Rattle.uimg_base.specs.Device.{RisesIf};
@@ -17,6 +17,7 @@ pub struct PutFault;
 ///
 /// Contracts see it as a `Sink`: what the writer holds, where that is known, and how often it
 /// failed.
+#[derive(Drop)]
 pub struct Out<W: Write> {
     writer: W,
     faults: u64,
@@ -28,15 +29,6 @@ impl<W: Write> Model for Out<W> {
     ghost Value = { Sink };
 
     ghost view = { λ o. record { contents = W.contents o.writer; faults = o.faults } };
-}
-
-impl<W: Write + Drop> Drop for Out<W> {
-    fn drop(self) {
-        let Out {
-            writer: _,
-            faults: _,
-        } = self;
-    }
 }
 
 impl<W: Write> Out<W> {
@@ -63,6 +55,7 @@ impl<W: Write> Out<W> {
         ensures ok { OnOk result (AppendsAll self.old self.new bytes.now) }
         ensures front { AppendsFront self.old self.new bytes.now }
         ensures faults { RisesIf (is_err result) self.old.faults self.new.faults }
+        ensures counted { self.new.faults ≡ (if is_err result then min (self.old.faults + 1) (2 ^ 64 - 1) else self.old.faults) }
     {
         if write_until_fault(&mut self.writer, bytes) == bytes.len() {
             Ok(())
@@ -79,6 +72,7 @@ impl<W: Write> Out<W> {
         ensures ok { OnOk result (AppendsAll self.old self.new (flat_map (λ part. part.now) parts.now)) }
         ensures front { AppendsFront self.old self.new (flat_map (λ part. part.now) parts.now) }
         ensures faults { RisesIf (is_err result) self.old.faults self.new.faults }
+        ensures counted { self.new.faults ≡ (if is_err result then min (self.old.faults + 1) (2 ^ 64 - 1) else self.old.faults) }
     {
         for part in parts {
             self.put_all(part)?;

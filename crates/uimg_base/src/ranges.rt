@@ -58,9 +58,10 @@ fn copy_window<S: Source, W: Write, A: Allocator>(
 
 /// Copies the `len` bytes at the offset `at` of the source to the output, a window at a time.
 ///
-/// The caller sees to it that the range lies in the source. `MoveFault` comes where a read or a
-/// write failed. On every exit a front of the range was written, the source was asked for at most
-/// 8192 bytes more than were written, and nothing of the room changed but its window.
+/// The caller sees to it that the range lies in the source. `MoveFault::Read` comes exactly where a
+/// read failed, `MoveFault::Put` exactly where a write did. Over an honest source, on every exit, a
+/// front of the range was written and at most 8192 bytes more than that were asked for. Nothing of
+/// the room changes but its window.
 pub fn copy_range<S: Source, W: Write, A: Allocator>(
     source: &mut S,
     room: &mut Room<A>,
@@ -115,8 +116,9 @@ fn sum_window<M: Summer, S: Source, A: Allocator>(
 /// Sums the `len` bytes at the offset `at` of the source, a window at a time. The digest goes to
 /// the front of `to`, and its length is the answer.
 ///
-/// The caller sees to it that the range lies in the source. `SourceFault` comes where a read
-/// failed; then `to` stays. Nothing of the room changes but its window.
+/// The caller sees to it that the range lies in the source. `SourceFault` comes exactly where a
+/// read failed; then `to` stays. Over an honest source the digest is that of the range's bytes.
+/// Nothing of the room changes but its window.
 pub fn sum_range<M: Summer, S: Source, A: Allocator>(
     source: &mut S,
     room: &mut Room<A>,
@@ -131,6 +133,7 @@ pub fn sum_range<M: Summer, S: Source, A: Allocator>(
     ensures asked_all { OnOk result ((S.device source.new).asked ≡ asked_more (S.device source.old).asked len) }
     ensures failures { RisesIf (is_err result) (S.device source.old).failures (S.device source.new).failures }
     ensures kept { OnErr result (to.new ≡ to.old) }
+    ensures bound { IfOk result (λ n. n ≤ 64) }
     ensures digest { IsTrue (S.device source.old).honest →
         IfOk result (PutsDigest (M.digest (part (S.device source.old).bytes at len)) to.old to.new) }
 {
@@ -146,8 +149,9 @@ pub fn sum_range<M: Summer, S: Source, A: Allocator>(
 
 /// CRC-32 of the `len` bytes at the offset `at` of the source.
 ///
-/// The caller sees to it that the range lies in the source. `SourceFault` comes where a read
-/// failed. Nothing of the room changes but its window.
+/// The caller sees to it that the range lies in the source. `SourceFault` comes exactly where a
+/// read failed. Over an honest source the CRC is that of the range's bytes. Nothing of the room
+/// changes but its window.
 pub fn crc_range<S: Source, A: Allocator>(
     source: &mut S,
     room: &mut Room<A>,

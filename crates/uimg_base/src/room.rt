@@ -1,4 +1,4 @@
-ghost use Rattle.std.specs.Prelude.{◌≡◌, ◌+◌, ◌<◌, max, [], ◌∷◌, ◌++◌, length, is_ok, is_err, if◌then◌else◌, Some, slice_get, slice_set};
+ghost use Rattle.std.specs.Prelude.{◌≡◌, ◌+◌, ◌-◌, ◌^◌, ◌<◌, min, max, [], ◌∷◌, ◌++◌, length, is_ok, is_err, if◌then◌else◌, Some, slice_get, slice_set};
 ghost use Rattle.uimg_base.specs.Device.{RisesIf};
 ghost use Rattle.uimg_base.specs.Held.{held_bytes};
 
@@ -83,6 +83,7 @@ impl<A: Allocator> Room<A> {
         ensures peak { self.new.peak ≡ (if is_ok result
             then max self.old.peak (held_bytes (length self.old.entries + 1)) else self.old.peak) }
         ensures refused { RisesIf (is_err result) self.old.refused self.new.refused }
+        ensures counted { self.new.refused ≡ (if is_err result then min (self.old.refused + 1) (2 ^ 64 - 1) else self.old.refused) }
     {
         if self.entries.reserve_exact(1).is_err() || self.entries.push(entry).is_err() {
             self.refused = self.refused.saturating_add(1);

@@ -49,6 +49,24 @@ fn a_file_that_shrank_fails(rt: HostRuntime) -> Result<(), Fail> {
     Ok(())
 }
 
+// A file that grew keeps the length found at the open, and an empty one has length 0.
+#[test]
+fn the_length_found_stays(rt: HostRuntime) -> Result<(), Fail> {
+    let path = "growing_file.bin";
+    fs::write(&rt, path, "")?;
+    let mut empty = FileSource::open(&rt, path)?;
+    fs::write(&rt, path, "123")?;
+    assert_eq!(rt; empty.size()?, 0);
+    let mut three = FileSource::open(&rt, path)?;
+    fs::write(&rt, path, "12345")?;
+    assert_eq!(rt; three.size()?, 3);
+    let mut all = [0; 3];
+    assert!(rt; read_at(&mut three, 0, &mut all));
+    assert_eq!(rt; all, *b"123");
+    fs::remove_file(&rt, path)?;
+    Ok(())
+}
+
 #[test]
 fn what_is_no_file_is_refused(rt: HostRuntime) -> Result<(), Fail> {
     assert!(rt; FileSource::open(&rt, "no_such_file").is_err());
