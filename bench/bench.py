@@ -1,16 +1,19 @@
 #!/usr/bin/env python3
-"""Times CRC-32 and the copy of uimg_base over a large file, beside cat, cp and zlib.
+"""Times uimg over a large legacy image, and the calls of uimg_base that move payloads.
 
 Each command runs several times over the same file, which lies in the page cache; the best run
-counts. It prints a table of MB/s (millions of bytes a second) and the ratio to the command beside
-which the row stands.
+counts. It prints a table of MB/s (millions of bytes a second), peak memory, and the time beside the
+last row of the same kind. dumpimage and mkimage are left out where they aren't installed.
 """
 
 import os
+import shutil
+import struct
 import subprocess
 import sys
 import tempfile
 import time
+import zlib
 
 SIZE = 256 * 1024 * 1024
 RUNS = 5
@@ -67,27 +70,56 @@ def measure(command, output):
     return min(seconds(command, output) for _ in range(RUNS)), peak_memory(command, output)
 
 
+def make_image(payload, image):
+    """Makes a legacy image of a payload: a kernel for arm64 Linux, not compressed."""
+    with open(payload, "rb") as file:
+        data = file.read()
+    fields = [0x27051956, 0, 1700000000, len(data), 0x80000, 0x80000, zlib.crc32(data)]
+    codes = bytes([5, 22, 2, 0]) + b"bench".ljust(32, b"\0")
+    header = struct.pack(">7I", *fields) + codes
+    fields[1] = zlib.crc32(header)
+    with open(image, "wb") as file:
+        file.write(struct.pack(">7I", *fields) + codes + data)
+
+
+def rows(uimg, base, folder):
+    """What is timed: its kind, its name, the command, and where its output goes."""
+    file, image = os.path.join(folder, "payload.bin"), os.path.join(folder, "payload.img")
+    text, copy = os.path.join(folder, "text"), os.path.join(folder, "copy.bin")
+    make_file(file)
+    make_image(file, image)
+    extract = ["dumpimage", "-T", "kernel", "-p", "0", "-o", copy, image]
+    yield "read", "cat > /dev/null", ["cat", file], "/dev/null"
+    yield "CRC-32", "uimg_base", [base, "crc", file], text
+    yield "CRC-32", "Python's zlib.crc32", [sys.executable, "-c", ZLIB, file], text
+    yield "copy", "uimg_base", [base, "copy", file], copy
+    yield "copy", "cat > file", ["cat", file], copy
+    yield "copy", "cp", ["cp", file, copy], text
+    yield "list", "uimg dumpimage -l", [uimg, "dumpimage", "-l", image], text
+    yield "list", "mkimage -l", ["mkimage", "-l", image], text
+    yield "list", "dumpimage -l", ["dumpimage", "-l", image], text
+    yield "verify", "uimg verify", [uimg, "verify", image], text
+    yield "verify", "dumpimage -l", ["dumpimage", "-l", image], text
+    yield "extract", "uimg dumpimage -o", [uimg, *extract], text
+    yield "extract", "cp", ["cp", file, copy], text
+    yield "extract", "dumpimage -o", extract, text
+
+
 def main():
-    program = sys.argv[1]
+    uimg, base = (os.path.abspath(path) for path in sys.argv[1:3])
     with tempfile.TemporaryDirectory() as folder:
-        file = os.path.join(folder, "payload.bin")
-        text = os.path.join(folder, "text")
-        copy = os.path.join(folder, "copy.bin")
-        make_file(file)
-        rows = [
-            ("read", "cat > /dev/null", measure(["cat", file], "/dev/null")),
-            ("CRC-32", "uimg_base", measure([program, "crc", file], text)),
-            ("CRC-32", "Python's zlib.crc32", measure([sys.executable, "-c", ZLIB, file], text)),
-            ("copy", "uimg_base", measure([program, "copy", file], copy)),
-            ("copy", "cat > file", measure(["cat", file], copy)),
-            ("copy", "cp", measure(["cp", file, copy], text)),
+        measured = [
+            (kind, name, *measure(command, output))
+            for kind, name, command, output in rows(uimg, base, folder)
+            if shutil.which(command[0])
         ]
-    beside = {what: spent for what, _, (spent, _) in rows}
+    beside = {kind: spent for kind, _, spent, _ in measured}
     print(f"| {'What':8} | {'By':20} | {'MB/s':>6} | {'peak KiB':>8} | {'time, ratio':>11} |")
     print(f"|{'-' * 10}|{'-' * 22}|{'-' * 8}|{'-' * 10}|{'-' * 13}|")
-    for what, by, (spent, peak) in rows:
+    for kind, name, spent, peak in measured:
         rate = SIZE / spent / 1e6
-        print(f"| {what:8} | {by:20} | {rate:6.0f} | {peak:8} | {spent / beside[what]:11.2f} |")
+        ratio = spent / beside[kind]
+        print(f"| {kind:8} | {name:20} | {rate:6.0f} | {peak:8} | {ratio:11.2f} |")
     print(f"\n{SIZE} bytes, best of {RUNS}; the ratio is to the last row of the same kind.")
 
 

@@ -1,4 +1,4 @@
--- The text of a size in bytes.
+-- The text of a size in bytes, rounded half to even (IEEE 754, section 4.3.1).
 use Rattle.std.specs.Prelude.{ℕ, zero, suc, ◌+◌, ◌-◌, ◌*◌, ◌/◌, ◌%◌, Bool, true, false, ◌&&◌, ◌||◌, ◌==◌, nat_lt, List, ◌++◌, codes, decimal}
 use Rattle.uimg_base.specs.Digits.{two_digits}
 
@@ -17,7 +17,7 @@ unfoldable pub first_from : (ℕ → Bool) → ℕ → ℕ → ℕ
 first_from p zero h = h
 first_from p (suc more) h = elim (p h) [ true ↦ h | false ↦ first_from p more (suc h) ]
 
--- the hundredths of n over q: the first number that is nearest, which is at most 100 * n
+-- the hundredths of n over q, where q is not 0: the first number that is nearest, which is at most 100 * n
 unfoldable pub hundredths : ℕ → ℕ → ℕ
 hundredths n q = first_from (is_nearest n q) (100 * n) 0
 

@@ -1,23 +1,23 @@
 //! Sources, output, a room, sums, texts and names for image readers.
 #![tactic(auto)]
 
-pub mod crc;
-pub mod crc_table;
+mod crc;
+mod crc_table;
 mod digits;
-pub mod file_source;
-pub mod fuse_source;
-pub mod fuse_writer;
-pub mod names;
-pub mod output;
-pub mod ranges;
-pub mod room;
-pub mod sizes;
-pub mod source;
-pub mod status;
-pub mod sums;
+mod file_source;
+mod fuse_source;
+mod fuse_writer;
+mod names;
+mod output;
+mod ranges;
+mod room;
+mod sizes;
+mod source;
+mod status;
+mod sums;
 #[cfg(test)]
 mod tests;
-pub mod times;
+mod times;
 
 pub use crc::{Crc, crc_of};
 pub use crc_table::crc_entry;

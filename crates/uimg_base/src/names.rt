@@ -1,7 +1,7 @@
-pub mod arch;
-pub mod comp;
-pub mod kind;
-pub mod os;
+mod arch;
+mod comp;
+mod kind;
+mod os;
 
 pub use arch::{arch_code, arch_text};
 pub use comp::{comp_code, comp_text};

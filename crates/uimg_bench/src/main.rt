@@ -19,7 +19,7 @@ fn main(rt: HostRuntime) -> ExitCode {
 fn run<R: Files + Env + Print + Alloc>(rt: &R) -> io::Result<()> {
     let mut words = env::args(rt)?.skip(1);
     let (Some(command), Some(path)) = (words.next(), words.next()) else {
-        return rt.println("usage: uimg_bench crc|copy FILE");
+        return Err(io::Error::from(io::ErrorKind::InvalidInput));
     };
     match (command.as_str(), FileSource::open(rt, path.as_str())) {
         ("crc", Ok(mut source)) => print_crc(rt, &mut source),

@@ -1,0 +1,72 @@
+ghost use Rattle.std.specs.Prelude.{◌≡◌, ◌↔◌, ◌+◌, ◌-◌, ◌^◌, ◌<◌, ◌≤◌, [], IsTrue, Err};
+ghost use Rattle.uimg_base.specs.Device.{SameDevice, RisesIf};
+ghost use Rattle.uimg_base.specs.Sink.{AppendsFront};
+ghost use Rattle.uimg_base.specs.Outcome.{Tells};
+ghost use Rattle.uimg_tool.specs.Faults.{is_read, is_put, end_of};
+ghost use Rattle.uimg_tool.specs.Headline.{outcome_of, work, ExtractsAhead, Stays, Meets};
+
+use crate::command::{Action, Command};
+use crate::fault::Fault;
+use std::alloc::Allocator;
+use std::io::Write;
+use uimg_base::{Out, Room, Source, Status};
+
+// The command by the engine of legacy images.
+fn run_legacy<S: Source, A: Allocator, W: Write>(
+    action: Action,
+    source: &mut S,
+    room: &mut Room<A>,
+    out: &mut Out<W>,
+) -> Result<Status, Fault>
+    ensures same { SameDevice (S.device source.old) (S.device source.new) }
+    ensures room { room.new ≡ record room.old { entries = [] } }
+    ensures asked { IsTrue (S.device source.old).honest →
+        (S.device source.new).asked ≤ (S.device source.old).asked + work action (S.device source.old).bytes }
+    ensures ahead { IsTrue (S.device source.old).honest →
+        ExtractsAhead action (S.device source.old) (S.device source.new) out.old out.new }
+    ensures failures { RisesIf (is_read result) (S.device source.old).failures (S.device source.new).failures }
+    ensures faults { RisesIf (is_put result) out.old.faults out.new.faults }
+    ensures told { IsTrue (S.device source.old).honest →
+        Tells (end_of result) (outcome_of action (S.device source.old).bytes) out.old out.new }
+{
+    let status = match action {
+        Action::List => uimg_legacy::list(source, room, out)?,
+        Action::Verify => uimg_legacy::verify(source, room, out)?,
+        Action::Extract(position) => uimg_legacy::extract(position, source, room, out)?,
+    };
+    Ok(status)
+}
+
+/// Carries out a command on an image: writes its listing, its verification report or one of its
+/// parts to `out`, and answers the status.
+///
+/// Over a source that answers its bytes, and a writer that takes what it is given, exactly the
+/// outcome of the command is written and answered: all its text, its status or its first fault.
+/// `Fault::Read` comes exactly where a read failed, `Fault::Put` exactly where a write did; what
+/// was written then is a front of that text. At every exit the source was asked for at most `work`
+/// bytes, and the room has grown by nothing.
+pub fn run<S: Source, A: Allocator, W: Write>(
+    command: &Command,
+    source: &mut S,
+    room: &mut Room<A>,
+    out: &mut Out<W>,
+) -> Result<Status, Fault>
+    ensures headline { IsTrue (S.device source.old).honest →
+        Stays (S.device source.old).failures (S.device source.new).failures →
+        Stays out.old.faults out.new.faults →
+        Meets result (outcome_of command.now.action (S.device source.old).bytes) out.old out.new }
+    ensures front { IsTrue (S.device source.old).honest →
+        AppendsFront out.old out.new (outcome_of command.now.action (S.device source.old).bytes).text }
+    ensures read { (S.device source.old).failures < 2 ^ 64 - 1 →
+        (result ≡ Err Fault.Read) ↔ ((S.device source.old).failures < (S.device source.new).failures) }
+    ensures put { out.old.faults < 2 ^ 64 - 1 →
+        (result ≡ Err Fault.Put) ↔ (out.old.faults < out.new.faults) }
+    ensures asked { IsTrue (S.device source.old).honest →
+        (S.device source.new).asked ≤ (S.device source.old).asked + work command.now.action (S.device source.old).bytes }
+    ensures ahead { IsTrue (S.device source.old).honest →
+        ExtractsAhead command.now.action (S.device source.old) (S.device source.new) out.old out.new }
+    ensures room { room.new ≡ record room.old { entries = [] } }
+    ensures same { SameDevice (S.device source.old) (S.device source.new) }
+{
+    run_legacy(command.action, source, room, out)
+}

@@ -1,0 +1,120 @@
+use crate::engine::run;
+use crate::fault::Fault;
+use crate::words::{Request, WordsFault, read_words};
+use std::fmt::Display;
+use std::fs;
+use std::io::Write;
+use std::rt::Files;
+use thiserror::Error;
+use uimg_base::{FileSource, Out, Room, Status};
+
+/// All is done.
+const DONE: u8 = 0;
+
+/// The image is refused, or a checksum isn't right.
+const REFUSED: u8 = 1;
+
+/// The command line is wrong.
+const WRONG_LINE: u8 = 2;
+
+/// A file could not be opened, or a read, a write or memory failed.
+const FAILED: u8 = 3;
+
+// Why a request was not carried out. Its text is the line after `uimg: `.
+#[derive(Debug, Drop, Error)]
+enum RequestFault<'a> {
+    #[error("cannot read {0}")]
+    CannotRead(&'a str),
+
+    #[error("cannot write {0}")]
+    CannotWrite(&'a str),
+
+    #[error("{0}")]
+    Stopped(Fault),
+}
+
+impl<'a> From<Fault> for RequestFault<'a> {
+    fn from(fault: Fault) -> RequestFault<'a> {
+        RequestFault::Stopped(fault)
+    }
+}
+
+/// The program: it carries out the words of a command line, the program's name first, and answers
+/// the exit status.
+///
+/// Listings, reports and help go to `out`. A fault is one line on `err`, and a failed write to
+/// `err` changes nothing.
+pub fn program<R: Files + AllocGlobal, W: Write, V: Write>(
+    rt: &R,
+    words: &[&str],
+    out: &mut W,
+    err: &mut V,
+) -> u8 {
+    match read_words(rt.alloc(), words) {
+        Ok(request) => tell_end(&carry_out(rt, &request, out), err),
+        Err(fault) => tell_words_fault(&fault, out, err),
+    }
+}
+
+// Help and the version are what was asked for; all else is told on standard error.
+fn tell_words_fault<W: Write, V: Write>(fault: &WordsFault, out: &mut W, err: &mut V) -> u8 {
+    match fault {
+        WordsFault::Shown(text) => match write!(out, "{text}") {
+            Ok(()) => DONE,
+            Err(_) => tell(err, &Fault::Put, FAILED),
+        },
+        WordsFault::NoCommand(text) => {
+            let _ = write!(err, "{text}");
+            WRONG_LINE
+        }
+        WordsFault::OutOfMemory => tell(err, fault, FAILED),
+        _ => tell(err, fault, WRONG_LINE),
+    }
+}
+
+fn tell_end<V: Write>(end: &Result<Status, RequestFault<'_>>, err: &mut V) -> u8 {
+    match end {
+        Ok(Status::Done) => DONE,
+        Ok(Status::NotRight) => REFUSED,
+        Err(fault) => tell(err, fault, status_of(fault)),
+    }
+}
+
+// The line of a fault. It answers the status; a failed write changes nothing.
+fn tell<V: Write, D: Display>(err: &mut V, fault: &D, status: u8) -> u8 {
+    let _ = writeln!(err, "uimg: {fault}");
+    status
+}
+
+fn status_of(fault: &RequestFault<'_>) -> u8 {
+    match fault {
+        RequestFault::Stopped(Fault::Legacy(_)) => REFUSED,
+        _ => FAILED,
+    }
+}
+
+fn carry_out<'a, R: Files + AllocGlobal, W: Write>(
+    rt: &R,
+    request: &Request<'a>,
+    out: &mut W,
+) -> Result<Status, RequestFault<'a>> {
+    let Ok(mut source) = FileSource::open(rt, request.image) else {
+        return Err(RequestFault::CannotRead(request.image));
+    };
+    let mut room = Room::new(rt.alloc());
+    let status = match request.outfile {
+        None => run(&request.command, &mut source, &mut room, &mut Out::new(out))?,
+        Some(path) => {
+            let Ok(outfile) = fs::create(rt, path) else {
+                return Err(RequestFault::CannotWrite(path));
+            };
+            run(
+                &request.command,
+                &mut source,
+                &mut room,
+                &mut Out::new(outfile),
+            )?
+        }
+    };
+    Ok(status)
+}

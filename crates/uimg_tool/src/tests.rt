@@ -1,0 +1,62 @@
+//! The program as a user sees it: what each command line prints, writes and answers.
+
+mod extractions;
+mod files;
+mod images;
+mod listings;
+mod reports;
+mod wrong_lines;
+
+use crate::program;
+use std::fs;
+use std::process::Abort;
+use std::rt::Files;
+use std::test::Fail;
+
+// Runs the program on the words behind its name. It gives the exit status, standard output and
+// standard error.
+fn ran_words<R: Files + AllocGlobal>(
+    rt: &R,
+    words: &[&str],
+) -> Result<(u8, Vec<u8>, Vec<u8>), Fail> {
+    let mut all = Vec::new(rt.alloc());
+    all.push("uimg")?;
+    for word in words {
+        all.push(*word)?;
+    }
+    let mut out = Vec::new(rt.alloc());
+    let mut err = Vec::new(rt.alloc());
+    let status = program(rt, &all, &mut out, &mut err);
+    Ok((status, out, err))
+}
+
+// Runs the program, and compares all that it leaves.
+fn expect<R: Files + AllocGlobal + Abort>(
+    rt: &R,
+    words: &[&str],
+    status: u8,
+    out: &str,
+    err: &str,
+) -> Result<(), Fail> {
+    let (end, printed, told) = ran_words(rt, words)?;
+    assert_eq!(rt; printed.as_slice(), out.as_bytes(), "{words:?}");
+    assert_eq!(rt; told.as_slice(), err.as_bytes(), "{words:?}");
+    assert_eq!(rt; end, status, "{words:?}");
+    Ok(())
+}
+
+// The same over a file of these bytes, whose path is the last of the words.
+fn expect_on<R: Files + AllocGlobal + Abort>(
+    rt: &R,
+    image: &[u8],
+    words: &[&str],
+    status: u8,
+    out: &str,
+    err: &str,
+) -> Result<(), Fail> {
+    let path = words.last().copied().unwrap_or("no path");
+    fs::write(rt, path, image)?;
+    expect(rt, words, status, out, err)?;
+    fs::remove_file(rt, path)?;
+    Ok(())
+}

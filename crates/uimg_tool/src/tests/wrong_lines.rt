@@ -1,0 +1,82 @@
+use super::{expect, ran_words};
+use std::test::Fail;
+
+// The program's own checks: each is one line, before any file is opened.
+#[test]
+fn own_faults(rt: HostRuntime) -> Result<(), Fail> {
+    expect(
+        &rt,
+        &["dumpimage", "none.img"],
+        2,
+        "",
+        "uimg: no -l or -o\n",
+    )?;
+    expect(
+        &rt,
+        &["dumpimage", "-T", "x", "none.img"],
+        2,
+        "",
+        "uimg: no -l or -o\n",
+    )?;
+    for name in ["", "Kernel", "flat_dt", "list"] {
+        let words = ["dumpimage", "-l", "-T", name, "none.img"];
+        expect(&rt, &words, 2, "", "uimg: unknown name\n")?;
+        let words = [
+            "dumpimage",
+            "-p",
+            "x",
+            "-o",
+            "none.out",
+            "-T",
+            name,
+            "none.img",
+        ];
+        expect(&rt, &words, 2, "", "uimg: unknown name\n")?;
+    }
+    for number in ["", "x", "+1", "1x", "0x1", "4294967296", " 1"] {
+        let words = ["dumpimage", "-p", number, "-o", "none.out", "none.img"];
+        expect(&rt, &words, 2, "", "uimg: bad number\n")?;
+    }
+    Ok(())
+}
+
+// What the library of command lines answers: its text goes to standard error, with status 2.
+#[test]
+fn no_commands(rt: HostRuntime) -> Result<(), Fail> {
+    let lines = [
+        (
+            ["frob", "none.img", "-l"].as_slice(),
+            "error: unrecognized subcommand 'frob'\n",
+        ),
+        (
+            &["verify"],
+            "error: the following required arguments were not provided:\n",
+        ),
+        (
+            &["verify", "a", "b"],
+            "error: unexpected argument 'b' found\n",
+        ),
+        (
+            &["verify", "-V", "a"],
+            "error: unexpected argument '-V' found\n",
+        ),
+        (
+            &["dumpimage", "-l", "-l", "a"],
+            "error: the argument '-l' cannot be used multiple times\n",
+        ),
+        (
+            &["dumpimage", "a", "-o"],
+            "error: a value is required for '-o <outfile>' but none was supplied\n",
+        ),
+    ];
+    for (words, first_line) in lines {
+        let (status, out, err) = ran_words(&rt, words)?;
+        assert_eq!(rt; status, 2, "{words:?}");
+        assert_eq!(rt; out.len(), 0, "{words:?}");
+        assert!(rt;
+            err.as_slice().starts_with(first_line.as_bytes()),
+            "{words:?}"
+        );
+    }
+    Ok(())
+}
