@@ -1,0 +1,4 @@
+pub mod HeaderLaws
+pub mod PartsLaws
+pub mod LinesLaws
+pub mod Examples

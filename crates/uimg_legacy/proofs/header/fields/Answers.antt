@@ -1,0 +1,7 @@
+use Rattle.uimg_legacy.proofs.HeaderLaws.{spelled-fields}
+use Rattle.uimg_legacy.proofs.header.fields.Goals as goal
+
+pub returns-clause-spelled : goal.returns-clause-spelled
+returns-clause-spelled c = λ m right.
+    rw (c.number_at.ensures, c.number_at-2.ensures, c.number_at-3.ensures, c.number_at-4.ensures, c.number_at-5.ensures, c.copy_from_slice.ensures.after)
+    (spelled-fields c.args.bytes.now c.told-bytes c.fits-bytes m right)

@@ -1,0 +1,44 @@
+-- What the answers of this crate say.
+use Rattle.std.specs.Prelude.{◌≡◌, Result, Ok, Err, Option, Some, None, ⊤, Bool, true, false}
+use Rattle.uimg_base.specs.Outcome.{End, done, not_right, refused}
+use Rattle.uimg_base.specs.declared.status.Status.{Status}
+use Rattle.uimg_base.specs.declared.status.Status.TheVariants.{Done, NotRight}
+use Rattle.uimg_base.specs.declared.ranges.MoveFault.{MoveFault}
+use Rattle.uimg_base.specs.declared.ranges.MoveFault.TheVariants as move
+use Rattle.uimg_legacy.specs.declared.fault.LegacyFault.{LegacyFault}
+use Rattle.uimg_legacy.specs.declared.fault.Fault.{Fault}
+use Rattle.uimg_legacy.specs.declared.fault.Fault.TheVariants.{Legacy, Read, Put}
+
+-- the answer is that a read failed
+abbrev pub is_read : {X : Type 0} → Result X Fault → Bool
+is_read (Ok x) = false
+is_read (Err (Legacy f)) = false
+is_read (Err Read) = true
+is_read (Err Put) = false
+
+-- the answer is that a write failed
+abbrev pub is_put : {X : Type 0} → Result X Fault → Bool
+is_put (Ok x) = false
+is_put (Err (Legacy f)) = false
+is_put (Err Read) = false
+is_put (Err Put) = true
+
+-- the end that an answer tells, where no device failed
+abbrev pub end_of : Result Status Fault → Option (End LegacyFault)
+end_of (Ok Done) = Some done
+end_of (Ok NotRight) = Some not_right
+end_of (Err (Legacy f)) = Some (refused f)
+end_of (Err Read) = None
+end_of (Err Put) = None
+
+-- An answer is the value or the fault of a definition, unless a device failed.
+abbrev pub Gives : {X Y : Type 0} → (X → Y) → Result X Fault → Result Y LegacyFault → Type 0
+Gives view (Ok x) r = r ≡ Ok (view x)
+Gives view (Err (Legacy f)) r = r ≡ Err f
+Gives view (Err Read) r = ⊤
+Gives view (Err Put) r = ⊤
+
+-- a failed copy is a failed read or a failed write
+abbrev pub fault_of : MoveFault → Fault
+fault_of move.Read = Read
+fault_of move.Put = Put

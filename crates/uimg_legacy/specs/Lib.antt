@@ -1,0 +1,9 @@
+pub mod Numbers
+pub mod Header
+pub mod Image
+pub mod Parts
+pub mod Report
+pub mod Extraction
+pub mod Work
+pub mod Listing
+pub mod Faults

@@ -1,0 +1,48 @@
+-- The most bytes that a command asks for.
+use Rattle.std.specs.Prelude.{ℕ, ◌+◌, ◌*◌, List, length, nat_lt, if◌then◌else◌, Result, Ok, Err, Bool, true, false}
+use Rattle.uimg_legacy.specs.declared.header.Header.{Header}
+use Rattle.uimg_legacy.specs.declared.fault.LegacyFault.{LegacyFault}
+use Rattle.uimg_legacy.specs.Header.{header}
+use Rattle.uimg_legacy.specs.Image.{Image, legacy}
+use Rattle.uimg_legacy.specs.Parts.{has_parts, sizes}
+use Rattle.uimg_legacy.specs.Extraction.{extract_of}
+
+-- what a command asks for beside payloads, when it reads so many sizes
+abbrev pub meta : ℕ → ℕ
+meta count = 64 + 16 * (count + 1)
+
+-- how many bytes of data are read: none where the data are cut
+unfoldable pub data_read : List ℕ → Header → ℕ
+data_read image h = if nat_lt (length image) (64 + h.size) then 0 else h.size
+
+abbrev pub data_read_from : List ℕ → Result Header LegacyFault → ℕ
+data_read_from image (Ok h) = data_read image h
+data_read_from image (Err fault) = 0
+
+-- the data's length, or 0 where the header is refused or the data are cut
+abbrev pub data_length : List ℕ → ℕ
+data_length image = data_read_from image (header image)
+
+-- how many sizes are read: those before the zero word, or all whole words where none is zero
+abbrev pub sizes_read_with : Bool → List ℕ → ℕ
+sizes_read_with true payload = length (sizes payload)
+sizes_read_with false payload = 0
+
+abbrev pub sizes_read_from : Result Image LegacyFault → ℕ
+sizes_read_from (Ok image) = sizes_read_with (has_parts image.header.kind) image.payload
+sizes_read_from (Err fault) = 0
+
+abbrev pub sizes_read : List ℕ → ℕ
+sizes_read image = sizes_read_from (legacy image)
+
+-- the most that a report asks for
+abbrev pub verify_work : List ℕ → ℕ
+verify_work image = meta 0 + data_length image
+
+-- the most that a listing asks for
+abbrev pub list_work : List ℕ → ℕ
+list_work image = meta (sizes_read image) + data_length image
+
+-- the most that an extraction asks for: as a listing, and the part that is written
+abbrev pub extract_work : List ℕ → ℕ → ℕ
+extract_work image position = list_work image + length (extract_of image position).text

@@ -1,0 +1,100 @@
+use std::fmt;
+use thiserror::Error;
+use uimg_base::{MoveFault, PutFault, SourceFault};
+
+/// What is wrong with a legacy image, or with the parts that one is to be built from. Its text is
+/// the line that the program prints.
+#[derive(Clone, Copy, Debug, PartialEq, Eq, Error)]
+pub enum LegacyFault {
+    /// The file has fewer than 64 bytes.
+    #[error("L1 too short")]
+    TooShort,
+    /// The file doesn't begin with 27051956.
+    #[error("L2 bad magic")]
+    BadMagic,
+    /// The header's CRC isn't that of its bytes.
+    #[error("L3 bad header CRC")]
+    BadHeaderCrc,
+    /// The data end after the file.
+    #[error("L4 truncated")]
+    Truncated,
+    /// The data's CRC isn't that in the header.
+    #[error("L5 bad data CRC")]
+    BadDataCrc,
+    /// The data end before the zero word that ends the table of sizes.
+    #[error("L6 no table end")]
+    NoTableEnd,
+    /// A component ends after the data.
+    #[error("L7 part outside")]
+    PartOutside,
+    /// There is no component at the position.
+    #[error("L8 no such part")]
+    NoSuchPart,
+    /// A component is empty.
+    #[error("L9 empty part")]
+    EmptyPart,
+    /// The data have more than 4294967295 bytes.
+    #[error("L10 too large")]
+    TooLarge,
+}
+
+/// Why a command stopped.
+#[derive(Clone, Copy, Debug, PartialEq, Eq, Error)]
+pub enum Fault {
+    /// The image is refused.
+    #[error("{0}")]
+    Legacy(LegacyFault),
+    /// A read failed.
+    #[error("read failed")]
+    Read,
+    /// A write failed.
+    #[error("write failed")]
+    Put,
+}
+
+impl From<LegacyFault> for Fault {
+    ghost use Rattle.std.specs.Prelude.{◌≡◌};
+    ghost use Rattle.uimg_legacy.specs.declared.fault.Fault.TheVariants.{Legacy};
+
+    ghost from_gives = { λ f e. e ≡ Legacy f };
+
+    fn from(fault: LegacyFault) -> Fault {
+        Fault::Legacy(fault)
+    }
+}
+
+impl From<SourceFault> for Fault {
+    ghost use Rattle.std.specs.Prelude.{◌≡◌};
+    ghost use Rattle.uimg_legacy.specs.declared.fault.Fault.TheVariants.{Read};
+
+    ghost from_gives = { λ _ e. e ≡ Read };
+
+    fn from(_fault: SourceFault) -> Fault {
+        Fault::Read
+    }
+}
+
+impl From<PutFault> for Fault {
+    ghost use Rattle.std.specs.Prelude.{◌≡◌};
+    ghost use Rattle.uimg_legacy.specs.declared.fault.Fault.TheVariants.{Put};
+
+    ghost from_gives = { λ _ e. e ≡ Put };
+
+    fn from(_fault: PutFault) -> Fault {
+        Fault::Put
+    }
+}
+
+impl From<MoveFault> for Fault {
+    ghost use Rattle.std.specs.Prelude.{◌≡◌};
+    ghost use Rattle.uimg_legacy.specs.Faults.{fault_of};
+
+    ghost from_gives = { λ f e. e ≡ fault_of f };
+
+    fn from(fault: MoveFault) -> Fault {
+        match fault {
+            MoveFault::Read => Fault::Read,
+            MoveFault::Put => Fault::Put,
+        }
+    }
+}

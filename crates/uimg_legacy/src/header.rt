@@ -1,0 +1,164 @@
+ghost use Rattle.std.specs.Prelude.{◌≡◌, ◌+◌, ◌≤◌, true, false, take, IsTrue, IfOk, Ok};
+ghost use Rattle.uimg_base.specs.Device.{RisesIf, SameDevice};
+ghost use Rattle.uimg_legacy.specs.Numbers.{be32};
+ghost use Rattle.uimg_legacy.specs.Header.{magic, head, has_right_crc, fields, header as header_of, spelled_with, spelled, name_of};
+ghost use Rattle.uimg_legacy.specs.Faults.{is_read, is_put, Gives};
+
+use crate::fault::{Fault, LegacyFault};
+use byteorder::{BigEndian, ByteOrder};
+use uimg_base::{Source, crc_of};
+
+const MAGIC: u32 = 0x2705_1956;
+
+/// The fields of a legacy image's header (U-Boot's image.h), but for the magic number and the
+/// header's own CRC.
+#[derive(Clone, Copy, Debug, PartialEq, Eq)]
+pub struct Header {
+    /// Seconds since 1970.
+    pub time: u32,
+    /// How many bytes the data after the header have.
+    pub size: u32,
+    /// Where the data are loaded to.
+    pub load: u32,
+    /// The entry point.
+    pub ep: u32,
+    /// CRC-32 of the data.
+    pub dcrc: u32,
+    /// The operating system's code.
+    pub os: u8,
+    /// The architecture's code.
+    pub arch: u8,
+    /// The image type's code.
+    pub kind: u8,
+    /// The compression's code.
+    pub comp: u8,
+    /// The image's name, ended by its first NUL or by the field's end.
+    pub name: [u8; 32],
+}
+
+#[tactic(auto, unfolding(crate::specs::Numbers::be32))]
+fn number_at(bytes: &[u8; 64], at: usize) -> u32
+    requires { at + 4 ≤ 64 }
+    ensures { result ≡ be32 bytes.now at }
+{
+    BigEndian::read_u32(&bytes[at..at + 4])
+}
+
+// The 64 bytes of the header, if the file has them and they begin with the magic number.
+#[tactic(auto, unfolding(crate::specs::Header::head))]
+pub(crate) fn read_head<S: Source>(source: &mut S) -> Result<[u8; 64], Fault>
+    ensures same { SameDevice (S.device source.old) (S.device source.new) }
+    ensures asked { (S.device source.new).asked ≤ (S.device source.old).asked + 64 }
+    ensures failures { RisesIf (is_read result) (S.device source.old).failures (S.device source.new).failures }
+    ensures no_put { is_put result ≡ false }
+    ensures gives { IsTrue (S.device source.old).honest → Gives (λ x. x) result (head (S.device source.old).bytes) }
+{
+    if source.size()? < 64 {
+        return Err(Fault::Legacy(LegacyFault::TooShort));
+    }
+    let mut bytes = [0; 64];
+    source.fill_at(0, &mut bytes)?;
+    if number_at(&bytes, 0) != MAGIC {
+        return Err(Fault::Legacy(LegacyFault::BadMagic));
+    }
+    Ok(bytes)
+}
+
+#[tactic(auto, unfolding(crate::specs::Header::has_right_crc))]
+pub(crate) fn has_right_crc(bytes: &[u8; 64]) -> bool
+    ensures { result ≡ has_right_crc bytes.now }
+{
+    let mut cleared = *bytes;
+    cleared[4..8].copy_from_slice(&[0; 4]);
+    number_at(bytes, 4) == crc_of(&cleared)
+}
+
+pub(crate) fn fields(bytes: &[u8; 64]) -> Header
+    ensures fields { result ≡ fields bytes.now }
+    ensures spelled { be32 bytes.now 0 ≡ magic → has_right_crc bytes.now ≡ true → spelled result ≡ bytes.now }
+{
+    let mut name = [0; 32];
+    name.copy_from_slice(&bytes[32..]);
+    Header {
+        time: number_at(bytes, 8),
+        size: number_at(bytes, 12),
+        load: number_at(bytes, 16),
+        ep: number_at(bytes, 20),
+        dcrc: number_at(bytes, 24),
+        os: bytes[28],
+        arch: bytes[29],
+        kind: bytes[30],
+        comp: bytes[31],
+        name,
+    }
+}
+
+/// The header of the image: `TooShort` for a source of fewer than 64 bytes, `BadMagic` where they
+/// don't begin with 27051956, `BadHeaderCrc` where the header's CRC isn't that of its bytes with
+/// zeros in its place; the first of these that holds. `Read` where a read failed.
+pub fn read_header<S: Source>(source: &mut S) -> Result<Header, Fault>
+    ensures same { SameDevice (S.device source.old) (S.device source.new) }
+    ensures asked { (S.device source.new).asked ≤ (S.device source.old).asked + 64 }
+    ensures failures { RisesIf (is_read result) (S.device source.old).failures (S.device source.new).failures }
+    ensures no_put { is_put result ≡ false }
+    ensures gives { IsTrue (S.device source.old).honest → Gives (λ x. x) result (header_of (S.device source.old).bytes) }
+    ensures spelled { IsTrue (S.device source.old).honest →
+        IfOk result (λ h. spelled h ≡ take 64 (S.device source.old).bytes) }
+{
+    let bytes = read_head(source)?;
+    if !has_right_crc(&bytes) {
+        return Err(Fault::Legacy(LegacyFault::BadHeaderCrc));
+    }
+    Ok(fields(&bytes))
+}
+
+// The bytes of a header whose CRC field holds a number.
+#[tactic(auto, unfolding(crate::specs::Header::spelled_with))]
+fn spelled_with(sum: u32, header: &Header) -> [u8; 64]
+    ensures bytes { result ≡ spelled_with sum header.now }
+    ensures reads_back { fields (spelled_with sum header.now) ≡ header.now }
+{
+    let Header {
+        time,
+        size,
+        load,
+        ep,
+        dcrc,
+        os,
+        arch,
+        kind,
+        comp,
+        name,
+    } = *header;
+    let mut bytes = [0; 64];
+    BigEndian::write_u32(&mut bytes[0..4], MAGIC);
+    BigEndian::write_u32(&mut bytes[4..8], sum);
+    BigEndian::write_u32(&mut bytes[8..12], time);
+    BigEndian::write_u32(&mut bytes[12..16], size);
+    BigEndian::write_u32(&mut bytes[16..20], load);
+    BigEndian::write_u32(&mut bytes[20..24], ep);
+    BigEndian::write_u32(&mut bytes[24..28], dcrc);
+    bytes[28..32].copy_from_slice(&[os, arch, kind, comp]);
+    bytes[32..64].copy_from_slice(&name);
+    bytes
+}
+
+/// The 64 bytes of a header, with the magic number and the header's CRC. `read_header` of them
+/// gives the header back.
+pub fn header_bytes(header: &Header) -> [u8; 64]
+    ensures bytes { result ≡ spelled header.now }
+    ensures reads_back { header_of result ≡ Ok header.now }
+{
+    let sum = crc_of(&spelled_with(0, header));
+    spelled_with(sum, header)
+}
+
+/// The field of a name: the name cut or padded with zeros to 32 bytes.
+pub fn name_field(name: &[u8]) -> [u8; 32]
+    ensures { result ≡ name_of name.now }
+{
+    let mut field = [0; 32];
+    let length = usize::min(name.len(), 32);
+    field[..length].copy_from_slice(&name[..length]);
+    field
+}

@@ -1,0 +1,169 @@
+ghost use Rattle.std.specs.Prelude.{◌≡◌, ◌++◌, ◌==◌, codes, position, OnOk, is_err};
+ghost use Rattle.uimg_base.specs.Device.{RisesIf};
+ghost use Rattle.uimg_base.specs.Outcome.{line};
+ghost use Rattle.uimg_base.specs.Sink.{AppendsAll, AppendsFront};
+ghost use Rattle.uimg_base.specs.Sizes.{size_text};
+ghost use Rattle.uimg_legacy.specs.Listing.{labelled, name_text, type_text, address_text, name_line, time_line, type_line, size_line, load_line, entry_line, head_text, component_line};
+
+use crate::header::Header;
+use itoa::Buffer;
+use std::io::Write;
+use uimg_base::{Out, PutFault, arch_text, comp_text, kind_text, os_text, size_text, time_text};
+
+// The place of the first NUL.
+fn first_nul(name: &[u8]) -> Option<usize>
+    ensures { result ≡ position (λ b. b == 0) name.now }
+{
+    name.iter().position(|byte| *byte == 0)
+}
+
+// The name up to its first NUL, or the whole field.
+fn name_text(name: &[u8; 32]) -> &[u8]
+    ensures { result.now ≡ name_text name.now }
+{
+    match first_nul(name) {
+        Some(end) => &name[..end],
+        None => name,
+    }
+}
+
+// Eight lower-case hexadecimal digits.
+fn address_text(address: u32) -> [u8; 8]
+    ensures { result ≡ address_text address }
+{
+    let mut text = [0; 8];
+    if hex::encode_to_slice(address.to_be_bytes(), &mut text).is_err() {
+        unreachable!();
+    }
+    text
+}
+
+// A line that ends with a size.
+fn put_size<W: Write>(out: &mut Out<W>, before: &[u8], size: u32) -> Result<(), PutFault>
+    ensures ok { OnOk result (AppendsAll out.old out.new (line (before.now ++ size_text size))) }
+    ensures front { AppendsFront out.old out.new (line (before.now ++ size_text size)) }
+    ensures faults { RisesIf (is_err result) out.old.faults out.new.faults }
+{
+    out.put_all(before)?;
+    size_text(size, out)?;
+    out.put_all(b"\n")
+}
+
+// A line of a label, padded with blanks, and a value.
+fn put_line<W: Write>(out: &mut Out<W>, label: &[u8], value: &[u8]) -> Result<(), PutFault>
+    ensures ok { OnOk result (AppendsAll out.old out.new (line (label.now ++ value.now))) }
+    ensures front { AppendsFront out.old out.new (line (label.now ++ value.now)) }
+    ensures faults { RisesIf (is_err result) out.old.faults out.new.faults }
+{
+    out.put_parts(&[label, value, b"\n"])
+}
+
+// The line of an image's type, by the names of its codes.
+fn put_type_names<W: Write>(
+    out: &mut Out<W>,
+    arch: &str,
+    os: &str,
+    kind: &str,
+    comp: &str,
+) -> Result<(), PutFault>
+    ensures ok { OnOk result (AppendsAll out.old out.new
+        (labelled (codes "Image Type:") (type_text arch.now os.now kind.now comp.now))) }
+    ensures front { AppendsFront out.old out.new
+        (labelled (codes "Image Type:") (type_text arch.now os.now kind.now comp.now)) }
+    ensures faults { RisesIf (is_err result) out.old.faults out.new.faults }
+{
+    out.put_parts(&[
+        b"Image Type:   ",
+        arch.as_bytes(),
+        b" ",
+        os.as_bytes(),
+        b" ",
+        kind.as_bytes(),
+        b" (",
+        comp.as_bytes(),
+        b")\n",
+    ])
+}
+
+#[tactic(auto, unfolding(crate::specs::Listing::type_line))]
+fn put_type<W: Write>(out: &mut Out<W>, header: &Header) -> Result<(), PutFault>
+    ensures ok { OnOk result (AppendsAll out.old out.new (type_line header.now)) }
+    ensures front { AppendsFront out.old out.new (type_line header.now) }
+    ensures faults { RisesIf (is_err result) out.old.faults out.new.faults }
+{
+    let arch = arch_text(header.arch);
+    let os = os_text(header.os);
+    let kind = kind_text(header.kind);
+    let comp = comp_text(header.comp);
+    put_type_names(out, arch, os, kind, comp)
+}
+
+#[tactic(auto, unfolding(crate::specs::Listing::name_line))]
+fn put_name<W: Write>(out: &mut Out<W>, header: &Header) -> Result<(), PutFault>
+    ensures ok { OnOk result (AppendsAll out.old out.new (name_line header.now)) }
+    ensures front { AppendsFront out.old out.new (name_line header.now) }
+    ensures faults { RisesIf (is_err result) out.old.faults out.new.faults }
+{
+    put_line(out, b"Image Name:   ", name_text(&header.name))
+}
+
+#[tactic(auto, unfolding(crate::specs::Listing::time_line))]
+fn put_time<W: Write>(out: &mut Out<W>, header: &Header) -> Result<(), PutFault>
+    ensures ok { OnOk result (AppendsAll out.old out.new (time_line header.now)) }
+    ensures front { AppendsFront out.old out.new (time_line header.now) }
+    ensures faults { RisesIf (is_err result) out.old.faults out.new.faults }
+{
+    put_line(out, b"Created:      ", &time_text(header.time))
+}
+
+#[tactic(auto, unfolding(crate::specs::Listing::size_line))]
+fn put_data_size<W: Write>(out: &mut Out<W>, header: &Header) -> Result<(), PutFault>
+    ensures ok { OnOk result (AppendsAll out.old out.new (size_line header.now)) }
+    ensures front { AppendsFront out.old out.new (size_line header.now) }
+    ensures faults { RisesIf (is_err result) out.old.faults out.new.faults }
+{
+    put_size(out, b"Data Size:    ", header.size)
+}
+
+#[tactic(auto, unfolding(crate::specs::Listing::load_line))]
+fn put_load<W: Write>(out: &mut Out<W>, header: &Header) -> Result<(), PutFault>
+    ensures ok { OnOk result (AppendsAll out.old out.new (load_line header.now)) }
+    ensures front { AppendsFront out.old out.new (load_line header.now) }
+    ensures faults { RisesIf (is_err result) out.old.faults out.new.faults }
+{
+    put_line(out, b"Load Address: ", &address_text(header.load))
+}
+
+#[tactic(auto, unfolding(crate::specs::Listing::entry_line))]
+fn put_entry<W: Write>(out: &mut Out<W>, header: &Header) -> Result<(), PutFault>
+    ensures ok { OnOk result (AppendsAll out.old out.new (entry_line header.now)) }
+    ensures front { AppendsFront out.old out.new (entry_line header.now) }
+    ensures faults { RisesIf (is_err result) out.old.faults out.new.faults }
+{
+    put_line(out, b"Entry Point:  ", &address_text(header.ep))
+}
+
+// The line of a component.
+#[tactic(auto, unfolding(crate::specs::Listing::component_line))]
+pub(crate) fn put_component<W: Write>(out: &mut Out<W>, i: u32, size: u32) -> Result<(), PutFault>
+    ensures ok { OnOk result (AppendsAll out.old out.new (component_line i size)) }
+    ensures front { AppendsFront out.old out.new (component_line i size) }
+    ensures faults { RisesIf (is_err result) out.old.faults out.new.faults }
+{
+    out.put_parts(&[b"   Image ", Buffer::new().format(i).as_bytes(), b": "])?;
+    put_size(out, b"", size)
+}
+
+// The six lines of each image.
+pub(crate) fn put_head<W: Write>(out: &mut Out<W>, header: &Header) -> Result<(), PutFault>
+    ensures ok { OnOk result (AppendsAll out.old out.new (head_text header.now)) }
+    ensures front { AppendsFront out.old out.new (head_text header.now) }
+    ensures faults { RisesIf (is_err result) out.old.faults out.new.faults }
+{
+    put_name(out, header)?;
+    put_time(out, header)?;
+    put_type(out, header)?;
+    put_data_size(out, header)?;
+    put_load(out, header)?;
+    put_entry(out, header)
+}

@@ -1,0 +1,158 @@
+ghost use Rattle.std.specs.Prelude.{◌≡◌, ℕ, ◌+◌, ◌*◌, ◌^◌, ◌<◌, ◌≤◌, false, length, slice_index, IsTrue, IfOk, is_err, List, Ok};
+ghost use Rattle.uimg_base.specs.Device.{part, RisesIf, SameDevice};
+ghost use Rattle.uimg_legacy.specs.Numbers.{be32, up4};
+ghost use Rattle.uimg_legacy.specs.Image.{payload};
+ghost use Rattle.uimg_legacy.specs.Parts.{has_parts, sizes, parts, start};
+ghost use Rattle.uimg_legacy.specs.Extraction.{component_from, sub_image};
+ghost use Rattle.uimg_legacy.specs.Work.{sizes_read_with};
+ghost use Rattle.uimg_legacy.specs.Faults.{is_read, is_put, Gives};
+
+use crate::fault::{Fault, LegacyFault};
+use crate::header::Header;
+use byteorder::{BigEndian, ByteOrder};
+use uimg_base::{Source, SourceFault};
+
+// Whether an image of this type has components.
+#[tactic(auto, unfolding(crate::specs::Parts::has_parts))]
+pub(crate) fn has_parts(kind: u8) -> bool
+    ensures { result ≡ has_parts kind }
+{
+    kind == 4 || kind == 6
+}
+
+// The size rounded up to a multiple of 4.
+pub(crate) fn up4(size: u32) -> u64
+    ensures { result ≡ up4 size }
+{
+    (size as u64 + 3) / 4 * 4
+}
+
+// The size that stands at a place of the table, counted from 0.
+#[tactic(auto, unfolding(crate::specs::Numbers::be32))]
+pub(crate) fn size_at<S: Source>(source: &mut S, i: u32) -> Result<u32, SourceFault>
+    requires { 64 + 4 * (i + 1) ≤ length (S.device source.old).bytes }
+    ensures same { SameDevice (S.device source.old) (S.device source.new) }
+    ensures asked { (S.device source.new).asked ≤ (S.device source.old).asked + 4 }
+    ensures failures { RisesIf (is_err result) (S.device source.old).failures (S.device source.new).failures }
+    ensures size { IsTrue (S.device source.old).honest →
+        IfOk result (λ n. n ≡ be32 (S.device source.old).bytes (64 + 4 * i)) }
+{
+    let mut word = [0; 4];
+    source.fill_at(64 + 4 * i as u64, &mut word)?;
+    Ok(BigEndian::read_u32(&word))
+}
+
+// How many sizes stand before the zero word that ends the table.
+pub(crate) fn count_sizes<S: Source>(source: &mut S, size: u32) -> Result<u32, Fault>
+    requires { 64 + size ≤ length (S.device source.old).bytes }
+    ensures same { SameDevice (S.device source.old) (S.device source.new) }
+    ensures asked { IsTrue (S.device source.old).honest → (S.device source.new).asked
+        ≤ (S.device source.old).asked + 4 * (length (sizes (part (S.device source.old).bytes 64 size)) + 1) }
+    ensures failures { RisesIf (is_read result) (S.device source.old).failures (S.device source.new).failures }
+    ensures no_put { is_put result ≡ false }
+    ensures inside { IfOk result (λ n. 4 * (n + 1) ≤ size) }
+    ensures count { IsTrue (S.device source.old).honest →
+        IfOk result (λ n. n ≡ length (sizes (part (S.device source.old).bytes 64 size))) }
+    ensures gives { IsTrue (S.device source.old).honest → Gives
+        (λ _. sizes (part (S.device source.old).bytes 64 size)) result (parts (part (S.device source.old).bytes 64 size)) }
+{
+    for i in 0..size / 4 {
+        if size_at(source, i)? == 0 {
+            return Ok(i);
+        }
+    }
+    Err(Fault::Legacy(LegacyFault::NoTableEnd))
+}
+
+// Where a component starts, counted from the data's first byte.
+pub(crate) fn start_of<S: Source>(
+    source: &mut S,
+    count: u32,
+    position: u32,
+) -> Result<u64, SourceFault>
+    requires table { 64 + 4 * (count + 1) ≤ length (S.device source.old).bytes }
+    requires small { 4 * (count + 1) < 2 ^ 32 }
+    requires within { position < count }
+    ensures same { SameDevice (S.device source.old) (S.device source.new) }
+    ensures asked { (S.device source.new).asked ≤ (S.device source.old).asked + 4 * position }
+    ensures failures { RisesIf (is_err result) (S.device source.old).failures (S.device source.new).failures }
+    ensures bound { IfOk result (λ at. at ≤ 4 * (count + 1) + 2 ^ 32 * position) }
+    ensures start { IsTrue (S.device source.old).honest → (table : List ℕ) → length table ≡ count →
+        ((i : ℕ) → i < count → slice_index table i ≡ be32 (S.device source.old).bytes (64 + 4 * i)) →
+        IfOk result (λ at. at ≡ start table position) }
+{
+    let mut at = 4 * (count as u64 + 1);
+    for i in 0..position {
+        at += up4(size_at(source, i)?);
+    }
+    Ok(at)
+}
+
+// Where a part of an image stands in its source.
+#[derive(Clone, Copy)]
+pub(crate) struct Place {
+    pub(crate) start: u64,
+    pub(crate) length: u32,
+}
+
+// The place of a component.
+pub(crate) fn find_component<S: Source>(
+    source: &mut S,
+    size: u32,
+    position: u32,
+) -> Result<Place, Fault>
+    requires { 64 + size ≤ length (S.device source.old).bytes }
+    ensures same { SameDevice (S.device source.old) (S.device source.new) }
+    ensures asked { IsTrue (S.device source.old).honest → (S.device source.new).asked
+        ≤ (S.device source.old).asked + 16 * (length (sizes (part (S.device source.old).bytes 64 size)) + 1) }
+    ensures failures { RisesIf (is_read result) (S.device source.old).failures (S.device source.new).failures }
+    ensures no_put { is_put result ≡ false }
+    ensures inside { IfOk result (λ place. place.start + place.length ≤ 64 + size) }
+    ensures gives { IsTrue (S.device source.old).honest → Gives
+        (λ place. part (S.device source.old).bytes place.start place.length) result
+        (component_from (part (S.device source.old).bytes 64 size) position (parts (part (S.device source.old).bytes 64 size))) }
+{
+    let count = count_sizes(source, size)?;
+    if position >= count {
+        return Err(Fault::Legacy(LegacyFault::NoSuchPart));
+    }
+    let start = start_of(source, count, position)?;
+    let length = size_at(source, position)?;
+    if start + length as u64 > size as u64 {
+        return Err(Fault::Legacy(LegacyFault::PartOutside));
+    }
+    Ok(Place {
+        start: 64 + start,
+        length,
+    })
+}
+
+// The place of the part at a position: a component, or the data of a single file.
+#[tactic(auto, unfolding(crate::specs::Extraction::single))]
+pub(crate) fn find_part<S: Source>(
+    source: &mut S,
+    header: &Header,
+    position: u32,
+) -> Result<Place, Fault>
+    requires { 64 + header.now.size ≤ length (S.device source.old).bytes }
+    ensures same { SameDevice (S.device source.old) (S.device source.new) }
+    ensures asked { IsTrue (S.device source.old).honest → (S.device source.new).asked ≤ (S.device source.old).asked
+        + 16 * (sizes_read_with (has_parts header.now.kind) (payload (S.device source.old).bytes header.now) + 1) }
+    ensures failures { RisesIf (is_read result) (S.device source.old).failures (S.device source.new).failures }
+    ensures no_put { is_put result ≡ false }
+    ensures inside { IfOk result (λ place. place.start + place.length ≤ 64 + header.now.size) }
+    ensures gives { IsTrue (S.device source.old).honest → Gives
+        (λ place. part (S.device source.old).bytes place.start place.length) result
+        (sub_image (has_parts header.now.kind) (payload (S.device source.old).bytes header.now) position) }
+{
+    if has_parts(header.kind) {
+        return find_component(source, header.size, position);
+    }
+    if position != 0 {
+        return Err(Fault::Legacy(LegacyFault::NoSuchPart));
+    }
+    Ok(Place {
+        start: 64,
+        length: header.size,
+    })
+}

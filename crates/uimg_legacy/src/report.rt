@@ -1,0 +1,66 @@
+ghost use Rattle.std.specs.Prelude.{◌≡◌, ◌+◌, ◌≤◌, [], IsTrue};
+ghost use Rattle.uimg_base.specs.Device.{RisesIf, SameDevice};
+ghost use Rattle.uimg_base.specs.Outcome.{Tells};
+ghost use Rattle.uimg_legacy.specs.Image.{has_right_data};
+ghost use Rattle.uimg_legacy.specs.Report.{data_report, verify_of};
+ghost use Rattle.uimg_legacy.specs.Work.{data_read, verify_work};
+ghost use Rattle.uimg_legacy.specs.Faults.{is_read, is_put, end_of};
+
+use crate::fault::Fault;
+use crate::header::{Header, fields, has_right_crc, read_head};
+use crate::image::has_right_data;
+use std::alloc::Allocator;
+use std::io::Write;
+use uimg_base::{Out, Room, Source, Status};
+
+fn report_data<S: Source, A: Allocator, W: Write>(
+    source: &mut S,
+    room: &mut Room<A>,
+    out: &mut Out<W>,
+    header: &Header,
+) -> Result<Status, Fault>
+    ensures same { SameDevice (S.device source.old) (S.device source.new) }
+    ensures room { room.new ≡ room.old }
+    ensures asked { (S.device source.new).asked ≤ (S.device source.old).asked + data_read (S.device source.old).bytes header.now }
+    ensures failures { RisesIf (is_read result) (S.device source.old).failures (S.device source.new).failures }
+    ensures faults { RisesIf (is_put result) out.old.faults out.new.faults }
+    ensures told { IsTrue (S.device source.old).honest →
+        Tells (end_of result) (data_report (has_right_data (S.device source.old).bytes header.now)) out.old out.new }
+{
+    if has_right_data(source, room, header)? {
+        out.put_all(b"data crc32 ok\n")?;
+        Ok(Status::Done)
+    } else {
+        out.put_all(b"data crc32 bad\n")?;
+        Ok(Status::NotRight)
+    }
+}
+
+/// Writes the report on the image's checksums: `header crc32 bad`, or `header crc32 ok` and then
+/// `data crc32 ok` or `data crc32 bad`, each with a newline. The answer is `NotRight` after a
+/// line that ends with `bad`. `TooShort` and `BadMagic` come without a line, `Truncated` after the
+/// first line.
+pub fn verify<S: Source, A: Allocator, W: Write>(
+    source: &mut S,
+    room: &mut Room<A>,
+    out: &mut Out<W>,
+) -> Result<Status, Fault>
+    ensures same { SameDevice (S.device source.old) (S.device source.new) }
+    ensures room { room.new ≡ record room.old { entries = [] } }
+    ensures asked { IsTrue (S.device source.old).honest →
+        (S.device source.new).asked ≤ (S.device source.old).asked + verify_work (S.device source.old).bytes }
+    ensures failures { RisesIf (is_read result) (S.device source.old).failures (S.device source.new).failures }
+    ensures faults { RisesIf (is_put result) out.old.faults out.new.faults }
+    ensures told { IsTrue (S.device source.old).honest →
+        Tells (end_of result) (verify_of (S.device source.old).bytes) out.old out.new }
+{
+    room.clear();
+    let bytes = read_head(source)?;
+    if has_right_crc(&bytes) {
+        out.put_all(b"header crc32 ok\n")?;
+        report_data(source, room, out, &fields(&bytes))
+    } else {
+        out.put_all(b"header crc32 bad\n")?;
+        Ok(Status::NotRight)
+    }
+}

@@ -1,0 +1,8 @@
+//! What no clause says: the cases in bytes and text, that calls succeed, and what a failing device
+//! leaves.
+
+mod cases;
+mod commands;
+mod devices;
+mod headers;
+mod images;
