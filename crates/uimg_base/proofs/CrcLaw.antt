@@ -79,7 +79,7 @@ unfolding bit_steps
 bit_steps_fits zero x h = h
 bit_steps_fits (suc k) x h = bit_step_fits (bit_steps k x) (bit_steps_fits k x h)
 
-bit_steps-first : (k x : ℕ) → bit_steps k (bit_step x) ≡ bit_step (bit_steps k x)
+pub bit_steps-first : (k x : ℕ) → bit_steps k (bit_step x) ≡ bit_step (bit_steps k x)
 unfolding bit_steps
 bit_steps-first zero x = refl
 bit_steps-first (suc k) x = ap bit_step (bit_steps-first k x)
@@ -185,7 +185,7 @@ rem_is m all =
     ap (λ (w : List Bool). rem_by (length w - 32) w) inverted
     ∙ rem_by-message zs (add-zeros 32) m 4294967295 (length (add (bits 32 4294967295) all_bits) - 32) all (lit< tt) long
 
-register_fits : (m : List ℕ) (x : ℕ) → AllByRecursion (λ b. b < 256) m → x < 2 ^ 32 → fold byte_step x m < 2 ^ 32
+pub register_fits : (m : List ℕ) (x : ℕ) → AllByRecursion (λ b. b < 256) m → x < 2 ^ 32 → fold byte_step x m < 2 ^ 32
 register_fits [] x all h = h
 register_fits (b ∷ m) x all h = register_fits m (byte_step x b) all.1 (bit_steps_fits 8 (bit_xor x b) (xor_of_32 x b h (omega (arith, all.0))))
 

@@ -17,7 +17,7 @@ table_is = refl
 pub table_at : (i : ℕ) → i < 256 → get_or CRC_TABLE i 0 ≡ bit_steps 8 i
 table_at i h = ap (λ (words : List ℕ). get_or words i 0) table_is ∙ get_or-map-range_with_len (bit_steps 8) 0 256 i i 0 h (omega arith)
 
-xor_swap : (a b c : ℕ) → bit_xor (bit_xor a b) c ≡ bit_xor (bit_xor a c) b
+pub xor_swap : (a b c : ℕ) → bit_xor (bit_xor a b) c ≡ bit_xor (bit_xor a c) b
 xor_swap a b c = xor_assoc a b c ∙ ap (bit_xor a) (xor_comm b c) ∙ sym (xor_assoc a c b)
 
 choose_xor : (odd : Bool) (a b c : ℕ) → cond odd (bit_xor (bit_xor a b) c) (bit_xor a b) ≡ bit_xor (cond odd (bit_xor a c) a) b
@@ -34,7 +34,7 @@ bit_step-xor a b =
     ∙ choose_xor (nat_eq (a % 2) 1) (a / 2) b 0xEDB88320
 
 -- k bit steps only move what stands above the k lowest bits
-bit_steps-xor : (k a b : ℕ) → bit_steps k (bit_xor a (b * 2 ^ k)) ≡ bit_xor (bit_steps k a) b
+pub bit_steps-xor : (k a b : ℕ) → bit_steps k (bit_xor a (b * 2 ^ k)) ≡ bit_xor (bit_steps k a) b
 unfolding bit_steps
 bit_steps-xor zero a b = ap (bit_xor a) (omega arith)
 bit_steps-xor (suc k) a b =

@@ -10,3 +10,5 @@ pub mod CalendarExamples
 pub mod CalendarLaw
 pub mod ClockLaw
 pub mod TimeLine
+pub mod CrcWord
+pub mod CrcLane

@@ -2,9 +2,9 @@ ghost use Rattle.std.specs.Prelude.{◌≡◌, ◌<◌, ℕ, List};
 ghost use Rattle.std.specs.List.{AllByRecursion};
 ghost use Rattle.std.specs.Int.{to_be_bytes, w32};
 ghost use Rattle.uimg_base.specs.Crc.{crc};
-ghost use Rattle.uimg_base.specs.CrcSteps.{byte_step, register_of};
+ghost use Rattle.uimg_base.specs.CrcSteps.{register_of};
 
-use crate::crc_table::crc_entry;
+use crate::crc_steps::{all_word_steps_of, byte_steps_of};
 use crate::sums::Summer;
 
 /// CRC-32 of bytes that come in pieces, a table entry for each byte.
@@ -15,14 +15,6 @@ use crate::sums::Summer;
 #[derive(Drop)]
 pub struct Crc {
     register: u32,
-}
-
-#[tactic(auto, using(crate::proofs::CrcTable::eight_steps))]
-fn byte_step_of(register: u32, byte: u8) -> u32
-    ensures { result ≡ byte_step register byte }
-{
-    let mixed = register ^ byte as u32;
-    crc_entry((mixed % 256) as u8) ^ (mixed >> 8)
 }
 
 impl Crc {
@@ -46,11 +38,9 @@ impl Summer for Crc {
     }
 
     fn feed(&mut self, bytes: &[u8]) {
-        let mut register = self.register;
-        for byte in bytes {
-            register = byte_step_of(register, *byte);
-        }
-        self.register = register;
+        let (words, rest) = bytes.as_chunks::<8>();
+        let register = all_word_steps_of(self.register, words);
+        self.register = byte_steps_of(register, rest);
     }
 
     fn finish(self, to: &mut [u8; 64]) -> usize {
@@ -103,6 +93,21 @@ mod tests {
         for (bytes, want) in cases {
             assert_eq!(rt; crc_of(bytes), want);
             assert_eq!(rt; by_single_bytes(bytes), want);
+        }
+    }
+
+    // Long enough for two lanes and more, cut at each of some places. The value is zlib's.
+    #[test]
+    fn crc_of_long_pieces(rt: HostRuntime) {
+        let mut bytes = [0u8; 5000];
+        for (number, byte) in bytes.iter_mut().enumerate() {
+            *byte = (number % 251) as u8;
+        }
+        for cut in [0, 1, 7, 2047, 2048, 2049, 4096, 4999] {
+            let mut sum = Crc::start();
+            sum.feed(&bytes[..cut]);
+            sum.feed(&bytes[cut..]);
+            assert_eq!(rt; sum.value(), 0xC1607408, "{cut}");
         }
     }
 

@@ -2,6 +2,7 @@
 #![tactic(auto)]
 
 mod crc;
+mod crc_steps;
 mod crc_table;
 mod digits;
 mod file_source;
