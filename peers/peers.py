@@ -82,10 +82,13 @@ def compare(count, uimg, folder, kind, code, name, time, addresses, parts):
         status, _ = output([uimg, *words])
         with open(payload, "rb") as file:
             count.expect(f"part {position} of {case}", (status, file.read()), (0, part))
+        # The real dumpimage wants a type, and takes a script for a single file.
         if kind != "script":
-            output(["dumpimage", *words])
+            os.remove(payload)
+            status, _ = output(["dumpimage", "-T", kind, *words[1:]])
             with open(payload, "rb") as file:
-                count.expect(f"dumpimage's part {position} of {case}", file.read(), part)
+                there = (status, file.read())
+            count.expect(f"dumpimage's part {position} of {case}", there, (0, part))
 
 
 def main():

@@ -1,9 +1,8 @@
 // The program uimg, which is a function of uimg_tool.
 #![tactic(auto)]
 
-use std::env;
-use std::io;
 use std::process::ExitCode;
+use std::{env, io};
 use uimg_tool::program;
 
 fn main(rt: HostRuntime) -> ExitCode {

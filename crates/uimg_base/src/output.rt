@@ -1,4 +1,4 @@
-ghost use Rattle.std.specs.Prelude.{◌≡◌, ◌+◌, ◌-◌, ◌^◌, ◌≤◌, min, length, take, OnOk, is_err, if◌then◌else◌};
+ghost use Rattle.std.specs.Prelude.{◌≡◌, ◌+◌, ◌-◌, ◌^◌, ◌≤◌, min, length, take, OnOk, IfSome, is_err, if◌then◌else◌};
 ghost use Rattle.std.specs.Io.KnownBytes.{Appends};
 ghost use Rattle.std.specs.List.{flat_map};
 ghost use Rattle.uimg_base.specs.Device.{RisesIf};
@@ -65,10 +65,24 @@ impl<W: Write> Out<W> {
         }
     }
 
-    /// Writes several pieces as one text.
+    /// Writes several pieces as one text, in one write where they have at most 256 bytes.
     ///
     /// `PutFault` comes as in `put_all`; then a front of the text was written.
     pub fn put_parts(&mut self, parts: &[&[u8]]) -> Result<(), PutFault>
+        ensures ok { OnOk result (AppendsAll self.old self.new (flat_map (λ part. part.now) parts.now)) }
+        ensures front { AppendsFront self.old self.new (flat_map (λ part. part.now) parts.now) }
+        ensures faults { RisesIf (is_err result) self.old.faults self.new.faults }
+        ensures counted { self.new.faults ≡ (if is_err result then min (self.old.faults + 1) (2 ^ 64 - 1) else self.old.faults) }
+    {
+        let mut line = [0; 256];
+        match gather(parts, &mut line) {
+            Some(length) => self.put_all(&line[..length]),
+            None => self.put_each(parts),
+        }
+    }
+
+    // Writes the pieces one after another.
+    fn put_each(&mut self, parts: &[&[u8]]) -> Result<(), PutFault>
         ensures ok { OnOk result (AppendsAll self.old self.new (flat_map (λ part. part.now) parts.now)) }
         ensures front { AppendsFront self.old self.new (flat_map (λ part. part.now) parts.now) }
         ensures faults { RisesIf (is_err result) self.old.faults self.new.faults }
@@ -79,6 +93,23 @@ impl<W: Write> Out<W> {
         }
         Ok(())
     }
+}
+
+// Puts the pieces one after another at the front of `line`, if it has room for them, and gives their
+// length.
+fn gather(parts: &[&[u8]], line: &mut [u8; 256]) -> Option<usize>
+    ensures bound { IfSome result (λ n. n ≤ 256) }
+    ensures text { IfSome result (λ n. take n line.new ≡ flat_map (λ part. part.now) parts.now) }
+{
+    let mut length = 0;
+    for part in parts {
+        if part.len() > line.len() - length {
+            return None;
+        }
+        line[length..length + part.len()].copy_from_slice(part);
+        length += part.len();
+    }
+    Some(length)
 }
 
 // Writes until all is written or a write fails. It gives the number of bytes written.

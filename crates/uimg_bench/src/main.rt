@@ -3,10 +3,9 @@
 // output.
 #![tactic(auto)]
 
-use std::env;
-use std::io;
 use std::process::ExitCode;
 use std::rt::{Env, Files};
+use std::{env, io};
 use uimg_base::{FileSource, MoveFault, Out, Room, Source, copy_range, crc_range};
 
 fn main(rt: HostRuntime) -> ExitCode {

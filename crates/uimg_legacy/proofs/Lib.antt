@@ -1,4 +1,5 @@
 pub mod HeaderLaws
 pub mod PartsLaws
+pub mod ChunkLaws
 pub mod LinesLaws
 pub mod Examples

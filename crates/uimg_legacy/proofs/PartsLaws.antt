@@ -3,12 +3,12 @@ use Rattle.std.proofs.Common.{◌≡◌, ◌≢◌, ◌≤◌, ◌<◌, ℕ, zer
 use Rattle.std.specs.Prelude.{sum_by}
 use Rattle.std.specs.Int.{from_be_bytes, w32}
 use Rattle.std.specs.List.{prefix_len, list_any}
-use Rattle.std.proofs.lemmas.Bool.{eq-eqb, lt-leb, lt-ltb, le-ltb}
+use Rattle.std.proofs.lemmas.Bool.{not-false, lt-leb, lt-ltb, le-ltb}
 use Rattle.std.proofs.Math.Dec.{eqb-suc-zero}
 use Rattle.std.proofs.lemmas.Grind.{common_steps}
 use Rattle.std.proofs.lemmas.List.{take-take, drop-take, drop-drop, get_or-take, take_more}
 use Rattle.std.proofs.lemmas.List.Folds.{list_any_at}
-use Rattle.std.proofs.lemmas.List.Sums.{prefix_len-le-length, sum_by_push}
+use Rattle.std.proofs.lemmas.List.Sums.{prefix_len-le-length, prefix_len_stops, sum_by_push}
 use Rattle.uimg_base.specs.Device.{part}
 use Rattle.uimg_base.proofs.Parts.{length-part}
 use Rattle.uimg_legacy.specs.declared.fault.LegacyFault.TheVariants.{NoTableEnd, PartOutside, NoSuchPart}
@@ -108,10 +108,15 @@ sizes_end d i h l word =
     let end : prefix_len (λ w. not (w == 0)) (words d) ≡ i = prefix_end (λ w. not (w == 0)) (words d) i (omega arith) l test in
     omega arith
 
-pub parts_end : (d : List ℕ) (i : ℕ) → i < length (words d) → get_or (words d) i 0 ≡ 0 → parts d ≡ Ok (sizes d)
+-- a word is zero where there are fewer sizes than words
+pub parts_some : (d : List ℕ) → length (sizes d) < length (words d) → parts d ≡ Ok (sizes d)
 unfolding parts
-parts_end d i l word =
-    let some : list_any (λ w. w == 0) (words d) ≡ true = list_any_at (λ w. w == 0) (words d) i 0 l (eq-eqb _ _ word) in
+parts_some d h =
+    let p = λ (w : ℕ). not (w == 0) in
+    let i = prefix_len p (words d) in
+    let len = length-sizes d in
+    let stop : not (get_or (words d) i 0 == 0) ≡ false = prefix_len_stops p (words d) 0 (omega arith) in
+    let some : list_any (λ w. w == 0) (words d) ≡ true = list_any_at (λ w. w == 0) (words d) i 0 (omega arith) (not-false _ stop) in
     rw some refl
 
 -- no word is zero
@@ -132,11 +137,15 @@ pub start_first : (table : List ℕ) → start table 0 ≡ 4 * (length table + 1
 unfolding start
 start_first table = omega arith
 
+pub sum_more : (table : List ℕ) (i : ℕ) → i < length table → sum_by up4 (take (i + 1) table) ≡ sum_by up4 (take i table) + up4 (get_or table i 0)
+sum_more table i h =
+    ap (λ (w : List ℕ). sum_by up4 w) (take_more table i 0 h) ∙ sum_by_push up4 (take i table) (get_or table i 0)
+
 pub start_more : (table : List ℕ) (i : ℕ) → i < length table → start table (i + 1) ≡ start table i + up4 (get_or table i 0)
 unfolding start
 start_more table i h =
-    let sum : sum_by up4 (take (i + 1) table) ≡ sum_by up4 (take i table) + up4 (get_or table i 0) = ap (λ (w : List ℕ). sum_by up4 w) (take_more table i 0 h) ∙ sum_by_push up4 (take i table) (get_or table i 0) in
-    omega arith
+    let sum = sum_more table i h in
+    omega (arith, sum)
 
 pub up4_bound : (n : ℕ) → n < 2 ^ 32 → up4 n ≤ 2 ^ 32
 up4_bound n h = omega arith

@@ -14,6 +14,7 @@ component payload table position =
     else if is_outside payload table position then Err PartOutside
     else Ok (part payload (start table position) (slice_index table position))
 
+-- the same where the table has an end, or the fault
 abbrev pub component_from : List ℕ → ℕ → Result (List ℕ) LegacyFault → Result (List ℕ) LegacyFault
 component_from payload position (Ok table) = component payload table position
 component_from payload position (Err fault) = Err fault
@@ -22,10 +23,12 @@ component_from payload position (Err fault) = Err fault
 unfoldable pub single : List ℕ → ℕ → Result (List ℕ) LegacyFault
 single payload position = if position == 0 then Ok payload else Err NoSuchPart
 
+-- a component of a type that has them, or the data of another
 abbrev pub sub_image : Bool → List ℕ → ℕ → Result (List ℕ) LegacyFault
 sub_image true payload position = component_from payload position (parts payload)
 sub_image false payload position = single payload position
 
+-- the same of an image that is not refused, or its fault
 abbrev pub chosen_from : ℕ → Result Image LegacyFault → Result (List ℕ) LegacyFault
 chosen_from position (Ok image) = sub_image (has_parts image.header.kind) image.payload position
 chosen_from position (Err fault) = Err fault
@@ -34,6 +37,7 @@ chosen_from position (Err fault) = Err fault
 abbrev pub chosen : List ℕ → ℕ → Result (List ℕ) LegacyFault
 chosen image position = chosen_from position (legacy image)
 
+-- the bytes and nothing else, or nothing and the fault
 abbrev pub written : Result (List ℕ) LegacyFault → Outcome LegacyFault
 written (Ok bytes) = told bytes done
 written (Err fault) = told [] (refused fault)

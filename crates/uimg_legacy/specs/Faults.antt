@@ -23,6 +23,13 @@ is_put (Err (Legacy f)) = false
 is_put (Err Read) = false
 is_put (Err Put) = true
 
+-- the answer is that the image is refused
+abbrev pub is_refused : {X : Type 0} → Result X Fault → Bool
+is_refused (Ok x) = false
+is_refused (Err (Legacy f)) = true
+is_refused (Err Read) = false
+is_refused (Err Put) = false
+
 -- the end that an answer tells, where no device failed
 abbrev pub end_of : Result Status Fault → Option (End LegacyFault)
 end_of (Ok Done) = Some done

@@ -41,10 +41,12 @@ fields bytes = record {
   name = part bytes 32 32;
 }
 
+-- the fields, where the CRC is right
 abbrev pub header_with : List ℕ → Bool → Result Header LegacyFault
 header_with bytes true = Ok (fields bytes)
 header_with bytes false = Err BadHeaderCrc
 
+-- the same of a head, or its fault
 abbrev pub header_from : Result (List ℕ) LegacyFault → Result Header LegacyFault
 header_from (Ok bytes) = header_with bytes (has_right_crc bytes)
 header_from (Err fault) = Err fault

@@ -22,11 +22,13 @@ has_right_data image h =
     if nat_lt (length image) (64 + h.size) then Err Truncated
     else Ok (crc (payload image h) == h.dcrc)
 
+-- the header and the data, where the data are there and their CRC is right
 abbrev pub with_data : List ℕ → Header → Result Bool LegacyFault → Result Image LegacyFault
 with_data image h (Ok true) = Ok (record { header = h; payload = payload image h })
 with_data image h (Ok false) = Err BadDataCrc
 with_data image h (Err fault) = Err fault
 
+-- the same of a header, or its fault
 abbrev pub legacy_from : List ℕ → Result Header LegacyFault → Result Image LegacyFault
 legacy_from image (Ok h) = with_data image h (has_right_data image h)
 legacy_from image (Err fault) = Err fault

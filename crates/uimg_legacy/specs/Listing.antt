@@ -30,6 +30,7 @@ type_text arch os kind comp =
 abbrev pub address_text : ℕ → List ℕ
 address_text address = encode_lower (to_be_bytes w32 address)
 
+-- each of the six lines is a label and a value
 unfoldable pub name_line : Header → List ℕ
 name_line h = labelled (codes "Image Name:") (name_text h.name)
 
@@ -59,6 +60,7 @@ head_text h = name_line h ++ time_line h ++ type_line h ++ size_line h ++ load_l
 unfoldable pub component_line : ℕ → ℕ → List ℕ
 component_line i size = line (codes "   Image " ++ decimal i ++ codes ": " ++ size_text size)
 
+-- a component's line and the rest, or the refusal before that line
 abbrev pub component_step : Bool → List ℕ → Outcome LegacyFault → Outcome LegacyFault
 component_step true text rest = told [] (refused PartOutside)
 component_step false text rest = after text rest
@@ -79,6 +81,7 @@ abbrev pub tail_with : Bool → List ℕ → Outcome LegacyFault
 tail_with true payload = contents payload (parts payload)
 tail_with false payload = told [] done
 
+-- the six lines and what stands after them, or the fault
 abbrev pub list_from : Result Image LegacyFault → Outcome LegacyFault
 list_from (Ok image) = after (head_text image.header) (tail_with (has_parts image.header.kind) image.payload)
 list_from (Err fault) = told [] (refused fault)

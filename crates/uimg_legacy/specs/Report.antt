@@ -16,6 +16,7 @@ abbrev pub header_report : Bool → Result Bool LegacyFault → Outcome LegacyFa
 header_report true found = after (line (codes "header crc32 ok")) (data_report found)
 header_report false found = told (line (codes "header crc32 bad")) not_right
 
+-- the report on what has a head, or the fault
 abbrev pub report_from : List ℕ → Result (List ℕ) LegacyFault → Outcome LegacyFault
 report_from image (Ok bytes) = header_report (has_right_crc bytes) (has_right_data image (fields bytes))
 report_from image (Err fault) = told [] (refused fault)

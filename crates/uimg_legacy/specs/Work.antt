@@ -15,6 +15,7 @@ meta count = 64 + 16 * (count + 1)
 unfoldable pub data_read : List ℕ → Header → ℕ
 data_read image h = if nat_lt (length image) (64 + h.size) then 0 else h.size
 
+-- the same of a header that is not refused
 abbrev pub data_read_from : List ℕ → Result Header LegacyFault → ℕ
 data_read_from image (Ok h) = data_read image h
 data_read_from image (Err fault) = 0
@@ -28,10 +29,12 @@ abbrev pub sizes_read_with : Bool → List ℕ → ℕ
 sizes_read_with true payload = length (sizes payload)
 sizes_read_with false payload = 0
 
+-- the same of an image that is not refused
 abbrev pub sizes_read_from : Result Image LegacyFault → ℕ
 sizes_read_from (Ok image) = sizes_read_with (has_parts image.header.kind) image.payload
 sizes_read_from (Err fault) = 0
 
+-- how many sizes a listing and an extraction read
 abbrev pub sizes_read : List ℕ → ℕ
 sizes_read image = sizes_read_from (legacy image)
 

@@ -4,7 +4,7 @@ ghost use Rattle.uimg_base.specs.Outcome.{Tells};
 ghost use Rattle.uimg_base.specs.Ranges.{ReadsAhead};
 ghost use Rattle.uimg_legacy.specs.Extraction.{chosen, extract_of};
 ghost use Rattle.uimg_legacy.specs.Work.{list_work, extract_work};
-ghost use Rattle.uimg_legacy.specs.Faults.{is_read, is_put, end_of, Gives};
+ghost use Rattle.uimg_legacy.specs.Faults.{is_read, is_put, is_refused, end_of, Gives};
 
 use crate::fault::Fault;
 use crate::image::read_image;
@@ -31,14 +31,14 @@ fn choose_part<S: Source, A: Allocator>(
         (chosen (S.device source.old).bytes position) }
 {
     let header = read_image(source, room)?;
-    find_part(source, &header, position)
+    find_part(source, room, &header, position)
 }
 
 /// Writes the part of the image at a position, counted from 0: a component of type multi or
 /// script, or the data of any other type at position 0. Refusals come before the first byte:
 /// `TooShort`, `BadMagic`, `BadHeaderCrc`, `Truncated`, `BadDataCrc`, `NoTableEnd`, `NoSuchPart`
-/// and `PartOutside` of the part at that position, in this order. After `Read` or `Put` a front of
-/// the part was written.
+/// and `PartOutside` of the part at that position, in this order. Over an honest source a front of
+/// the part was written after `Read` or `Put`.
 pub fn extract<S: Source, A: Allocator, W: Write>(
     position: u32,
     source: &mut S,
@@ -52,6 +52,7 @@ pub fn extract<S: Source, A: Allocator, W: Write>(
     ensures ahead { IsTrue (S.device source.old).honest → ReadsAhead (list_work (S.device source.old).bytes)
         (S.device source.old) (S.device source.new) out.old out.new (extract_of (S.device source.old).bytes position).text }
     ensures failures { RisesIf (is_read result) (S.device source.old).failures (S.device source.new).failures }
+    ensures untouched { IsTrue (is_refused result) → out.new ≡ out.old }
     ensures faults { RisesIf (is_put result) out.old.faults out.new.faults }
     ensures told { IsTrue (S.device source.old).honest →
         Tells (end_of result) (extract_of (S.device source.old).bytes position) out.old out.new }

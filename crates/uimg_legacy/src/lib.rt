@@ -9,6 +9,7 @@ mod lines;
 mod listing;
 mod parts;
 mod report;
+mod table;
 #[cfg(test)]
 mod tests;
 

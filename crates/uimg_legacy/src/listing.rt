@@ -46,13 +46,15 @@ fn list_components<S: Source, W: Write>(
 }
 
 // The components, unless their table has no end.
-fn list_contents<S: Source, W: Write>(
+fn list_contents<S: Source, A: Allocator, W: Write>(
     source: &mut S,
+    room: &mut Room<A>,
     out: &mut Out<W>,
     size: u32,
 ) -> Result<Status, Fault>
     requires { 64 + size ≤ length (S.device source.old).bytes }
     ensures same { SameDevice (S.device source.old) (S.device source.new) }
+    ensures room { room.new ≡ room.old }
     ensures asked { IsTrue (S.device source.old).honest → (S.device source.new).asked
         ≤ (S.device source.old).asked + 16 * (length (sizes (part (S.device source.old).bytes 64 size)) + 1) }
     ensures failures { RisesIf (is_read result) (S.device source.old).failures (S.device source.new).failures }
@@ -60,19 +62,21 @@ fn list_contents<S: Source, W: Write>(
     ensures told { IsTrue (S.device source.old).honest → Tells (end_of result)
         (contents (part (S.device source.old).bytes 64 size) (parts (part (S.device source.old).bytes 64 size))) out.old out.new }
 {
-    let count = count_sizes(source, size)?;
+    let count = count_sizes(source, room, size)?;
     out.put_all(b"Contents:\n")?;
     list_components(source, out, size, count)
 }
 
 // What stands after the six lines.
-fn list_tail<S: Source, W: Write>(
+fn list_tail<S: Source, A: Allocator, W: Write>(
     source: &mut S,
+    room: &mut Room<A>,
     out: &mut Out<W>,
     header: &Header,
 ) -> Result<Status, Fault>
     requires { 64 + header.now.size ≤ length (S.device source.old).bytes }
     ensures same { SameDevice (S.device source.old) (S.device source.new) }
+    ensures room { room.new ≡ room.old }
     ensures asked { IsTrue (S.device source.old).honest → (S.device source.new).asked ≤ (S.device source.old).asked
         + 16 * (sizes_read_with (has_parts header.now.kind) (payload (S.device source.old).bytes header.now) + 1) }
     ensures failures { RisesIf (is_read result) (S.device source.old).failures (S.device source.new).failures }
@@ -81,7 +85,7 @@ fn list_tail<S: Source, W: Write>(
         (tail_with (has_parts header.now.kind) (payload (S.device source.old).bytes header.now)) out.old out.new }
 {
     if has_parts(header.kind) {
-        list_contents(source, out, header.size)
+        list_contents(source, room, out, header.size)
     } else {
         Ok(Status::Done)
     }
@@ -109,5 +113,5 @@ pub fn list<S: Source, A: Allocator, W: Write>(
     room.clear();
     let header = read_image(source, room)?;
     put_head(out, &header)?;
-    list_tail(source, out, &header)
+    list_tail(source, room, out, &header)
 }

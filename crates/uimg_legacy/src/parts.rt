@@ -9,8 +9,10 @@ ghost use Rattle.uimg_legacy.specs.Faults.{is_read, is_put, Gives};
 
 use crate::fault::{Fault, LegacyFault};
 use crate::header::Header;
+use crate::table::{count_window, sum_window};
 use byteorder::{BigEndian, ByteOrder};
-use uimg_base::{Source, SourceFault};
+use std::alloc::Allocator;
+use uimg_base::{Room, Source, SourceFault};
 
 // Whether an image of this type has components.
 #[tactic(auto, unfolding(crate::specs::Parts::has_parts))]
@@ -42,12 +44,18 @@ pub(crate) fn size_at<S: Source>(source: &mut S, i: u32) -> Result<u32, SourceFa
     Ok(BigEndian::read_u32(&word))
 }
 
-// How many sizes stand before the zero word that ends the table.
-pub(crate) fn count_sizes<S: Source>(source: &mut S, size: u32) -> Result<u32, Fault>
+// How many sizes stand before the zero word that ends the table. A window has at most one word more
+// than were read before it, so that not far past the zero word is read.
+pub(crate) fn count_sizes<S: Source, A: Allocator>(
+    source: &mut S,
+    room: &mut Room<A>,
+    size: u32,
+) -> Result<u32, Fault>
     requires { 64 + size ≤ length (S.device source.old).bytes }
     ensures same { SameDevice (S.device source.old) (S.device source.new) }
+    ensures room { room.new ≡ room.old }
     ensures asked { IsTrue (S.device source.old).honest → (S.device source.new).asked
-        ≤ (S.device source.old).asked + 4 * (length (sizes (part (S.device source.old).bytes 64 size)) + 1) }
+        ≤ (S.device source.old).asked + 8 * (length (sizes (part (S.device source.old).bytes 64 size)) + 1) }
     ensures failures { RisesIf (is_read result) (S.device source.old).failures (S.device source.new).failures }
     ensures no_put { is_put result ≡ false }
     ensures inside { IfOk result (λ n. 4 * (n + 1) ≤ size) }
@@ -56,17 +64,23 @@ pub(crate) fn count_sizes<S: Source>(source: &mut S, size: u32) -> Result<u32, F
     ensures gives { IsTrue (S.device source.old).honest → Gives
         (λ _. sizes (part (S.device source.old).bytes 64 size)) result (parts (part (S.device source.old).bytes 64 size)) }
 {
-    for i in 0..size / 4 {
-        if size_at(source, i)? == 0 {
-            return Ok(i);
+    let words = size / 4;
+    let mut counted = 0;
+    while counted < words {
+        let next = u32::min(u32::min(counted + 1, 2048), words - counted);
+        let found = count_window(source, room, counted, next)?;
+        counted += found;
+        if found < next {
+            return Ok(counted);
         }
     }
     Err(Fault::Legacy(LegacyFault::NoTableEnd))
 }
 
 // Where a component starts, counted from the data's first byte.
-pub(crate) fn start_of<S: Source>(
+pub(crate) fn start_of<S: Source, A: Allocator>(
     source: &mut S,
+    room: &mut Room<A>,
     count: u32,
     position: u32,
 ) -> Result<u64, SourceFault>
@@ -74,6 +88,7 @@ pub(crate) fn start_of<S: Source>(
     requires small { 4 * (count + 1) < 2 ^ 32 }
     requires within { position < count }
     ensures same { SameDevice (S.device source.old) (S.device source.new) }
+    ensures room { room.new ≡ room.old }
     ensures asked { (S.device source.new).asked ≤ (S.device source.old).asked + 4 * position }
     ensures failures { RisesIf (is_err result) (S.device source.old).failures (S.device source.new).failures }
     ensures bound { IfOk result (λ at. at ≤ 4 * (count + 1) + 2 ^ 32 * position) }
@@ -82,8 +97,11 @@ pub(crate) fn start_of<S: Source>(
         IfOk result (λ at. at ≡ start table position) }
 {
     let mut at = 4 * (count as u64 + 1);
-    for i in 0..position {
-        at += up4(size_at(source, i)?);
+    let mut done = 0;
+    while done < position {
+        let next = u32::min(position - done, 2048);
+        at += sum_window(source, room, done, next)?;
+        done += next;
     }
     Ok(at)
 }
@@ -96,13 +114,15 @@ pub(crate) struct Place {
 }
 
 // The place of a component.
-pub(crate) fn find_component<S: Source>(
+pub(crate) fn find_component<S: Source, A: Allocator>(
     source: &mut S,
+    room: &mut Room<A>,
     size: u32,
     position: u32,
 ) -> Result<Place, Fault>
     requires { 64 + size ≤ length (S.device source.old).bytes }
     ensures same { SameDevice (S.device source.old) (S.device source.new) }
+    ensures room { room.new ≡ room.old }
     ensures asked { IsTrue (S.device source.old).honest → (S.device source.new).asked
         ≤ (S.device source.old).asked + 16 * (length (sizes (part (S.device source.old).bytes 64 size)) + 1) }
     ensures failures { RisesIf (is_read result) (S.device source.old).failures (S.device source.new).failures }
@@ -112,11 +132,11 @@ pub(crate) fn find_component<S: Source>(
         (λ place. part (S.device source.old).bytes place.start place.length) result
         (component_from (part (S.device source.old).bytes 64 size) position (parts (part (S.device source.old).bytes 64 size))) }
 {
-    let count = count_sizes(source, size)?;
+    let count = count_sizes(source, room, size)?;
     if position >= count {
         return Err(Fault::Legacy(LegacyFault::NoSuchPart));
     }
-    let start = start_of(source, count, position)?;
+    let start = start_of(source, room, count, position)?;
     let length = size_at(source, position)?;
     if start + length as u64 > size as u64 {
         return Err(Fault::Legacy(LegacyFault::PartOutside));
@@ -129,13 +149,15 @@ pub(crate) fn find_component<S: Source>(
 
 // The place of the part at a position: a component, or the data of a single file.
 #[tactic(auto, unfolding(crate::specs::Extraction::single))]
-pub(crate) fn find_part<S: Source>(
+pub(crate) fn find_part<S: Source, A: Allocator>(
     source: &mut S,
+    room: &mut Room<A>,
     header: &Header,
     position: u32,
 ) -> Result<Place, Fault>
     requires { 64 + header.now.size ≤ length (S.device source.old).bytes }
     ensures same { SameDevice (S.device source.old) (S.device source.new) }
+    ensures room { room.new ≡ room.old }
     ensures asked { IsTrue (S.device source.old).honest → (S.device source.new).asked ≤ (S.device source.old).asked
         + 16 * (sizes_read_with (has_parts header.now.kind) (payload (S.device source.old).bytes header.now) + 1) }
     ensures failures { RisesIf (is_read result) (S.device source.old).failures (S.device source.new).failures }
@@ -146,7 +168,7 @@ pub(crate) fn find_part<S: Source>(
         (sub_image (has_parts header.now.kind) (payload (S.device source.old).bytes header.now) position) }
 {
     if has_parts(header.kind) {
-        return find_component(source, header.size, position);
+        return find_component(source, room, header.size, position);
     }
     if position != 0 {
         return Err(Fault::Legacy(LegacyFault::NoSuchPart));

@@ -6,3 +6,4 @@ mod commands;
 mod devices;
 mod headers;
 mod images;
+mod tables;

@@ -1,5 +1,5 @@
 -- What a command on an image has to write, how it has to end, and how much it may ask for.
-use Rattle.std.specs.Prelude.{◌≡◌, ℕ, ◌-◌, ◌^◌, ◌<◌, List, Result, Some, ⊤}
+use Rattle.std.specs.Prelude.{◌≡◌, ℕ, ◌-◌, ◌^◌, ◌<◌, List, Result, Some, ⊤, Bool, true, false}
 use Rattle.uimg_base.specs.Device.{Device}
 use Rattle.uimg_base.specs.Ranges.{ReadsAhead}
 use Rattle.uimg_base.specs.Sink.{Sink, AppendsAll}
@@ -44,6 +44,13 @@ ExtractsAhead action.List old new s t = ⊤
 ExtractsAhead action.Verify old new s t = ⊤
 ExtractsAhead (action.Extract position) old new s t =
     ReadsAhead (legacy.list_work old.bytes) old new s t (extract_of old.bytes position).text
+
+-- An extraction that is refused has written nothing. Of other actions and answers this says nothing.
+abbrev pub KeepsOutput : Action → Bool → (old new : Sink) → Type 0
+KeepsOutput action.List is_refused old new = ⊤
+KeepsOutput action.Verify is_refused old new = ⊤
+KeepsOutput (action.Extract position) true old new = new ≡ old
+KeepsOutput (action.Extract position) false old new = ⊤
 
 -- a counter was below its greatest value, and did not rise
 abbrev pub Stays : ℕ → ℕ → Type 0

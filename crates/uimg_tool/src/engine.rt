@@ -2,8 +2,8 @@ ghost use Rattle.std.specs.Prelude.{◌≡◌, ◌↔◌, ◌+◌, ◌-◌, ◌^
 ghost use Rattle.uimg_base.specs.Device.{SameDevice, RisesIf};
 ghost use Rattle.uimg_base.specs.Sink.{AppendsFront};
 ghost use Rattle.uimg_base.specs.Outcome.{Tells};
-ghost use Rattle.uimg_tool.specs.Faults.{is_read, is_put, end_of};
-ghost use Rattle.uimg_tool.specs.Headline.{outcome_of, work, ExtractsAhead, Stays, Meets};
+ghost use Rattle.uimg_tool.specs.Faults.{is_read, is_put, is_refused, end_of};
+ghost use Rattle.uimg_tool.specs.Headline.{outcome_of, work, ExtractsAhead, KeepsOutput, Stays, Meets};
 
 use crate::command::{Action, Command};
 use crate::fault::Fault;
@@ -24,6 +24,7 @@ fn run_legacy<S: Source, A: Allocator, W: Write>(
         (S.device source.new).asked ≤ (S.device source.old).asked + work action (S.device source.old).bytes }
     ensures ahead { IsTrue (S.device source.old).honest →
         ExtractsAhead action (S.device source.old) (S.device source.new) out.old out.new }
+    ensures untouched { KeepsOutput action (is_refused result) out.old out.new }
     ensures failures { RisesIf (is_read result) (S.device source.old).failures (S.device source.new).failures }
     ensures faults { RisesIf (is_put result) out.old.faults out.new.faults }
     ensures told { IsTrue (S.device source.old).honest →
@@ -40,11 +41,12 @@ fn run_legacy<S: Source, A: Allocator, W: Write>(
 /// Carries out a command on an image: writes its listing, its verification report or one of its
 /// parts to `out`, and answers the status.
 ///
-/// Over a source that answers its bytes, and a writer that takes what it is given, exactly the
-/// outcome of the command is written and answered: all its text, its status or its first fault.
-/// `Fault::Read` comes exactly where a read failed, `Fault::Put` exactly where a write did; what
-/// was written then is a front of that text. At every exit the source was asked for at most `work`
-/// bytes, and the room has grown by nothing.
+/// Over an honest source, one that answers its bytes, and a writer that takes what it is given,
+/// exactly the outcome of the command is written and answered: all its text, its status or its
+/// first fault. `Fault::Read` comes exactly where a read failed, `Fault::Put` exactly where a write
+/// did; over an honest source what was written then is a front of that text. At every exit an
+/// honest source was asked for at most `work` bytes, and the room has taken no memory. An
+/// extraction that is refused has written nothing.
 pub fn run<S: Source, A: Allocator, W: Write>(
     command: &Command,
     source: &mut S,
@@ -65,6 +67,7 @@ pub fn run<S: Source, A: Allocator, W: Write>(
         (S.device source.new).asked ≤ (S.device source.old).asked + work command.now.action (S.device source.old).bytes }
     ensures ahead { IsTrue (S.device source.old).honest →
         ExtractsAhead command.now.action (S.device source.old) (S.device source.new) out.old out.new }
+    ensures untouched { KeepsOutput command.now.action (is_refused result) out.old out.new }
     ensures room { room.new ≡ record room.old { entries = [] } }
     ensures same { SameDevice (S.device source.old) (S.device source.new) }
 {

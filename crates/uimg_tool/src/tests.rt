@@ -1,7 +1,9 @@
 //! The program as a user sees it: what each command line prints, writes and answers.
 
 mod extractions;
+mod failing_streams;
 mod files;
+mod helps;
 mod images;
 mod listings;
 mod reports;

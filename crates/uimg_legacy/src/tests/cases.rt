@@ -75,16 +75,25 @@ fn abc_kernel(rt: HostRuntime) {
     assert!(rt; gives(alloc, &ABC_KERNEL, Command::Extract(0), done, b"abc"));
 }
 
+// What the cases ask for at most: the metadata, the data once, and for an extraction its part once.
 #[test]
-fn abc_kernel_counts(rt: HostRuntime) {
+fn counts_of_cases(rt: HostRuntime) {
     let alloc = rt.alloc();
-    let mut source = MemSource::new(&ABC_KERNEL);
-    let mut room = Room::new(alloc);
-    let mut out = Out::new(Vec::new(alloc));
-    let end = run(Command::List, &mut source, &mut room, &mut out);
-    assert_eq!(rt; end, Ok(Status::Done));
-    assert!(rt; source.asked() <= 83);
-    assert_eq!(rt; room.held(), 8192);
+    let cases = [
+        (ABC_KERNEL.as_slice(), Command::List, 83),
+        (ABC_KERNEL.as_slice(), Command::Verify, 83),
+        (ABC_KERNEL.as_slice(), Command::Extract(0), 86),
+        (PART_OUTSIDE.as_slice(), Command::List, 129),
+        (PART_OUTSIDE.as_slice(), Command::Extract(0), 132),
+    ];
+    for (image, command, most) in cases {
+        let mut source = MemSource::new(image);
+        let mut room = Room::new(alloc);
+        let mut out = Out::new(Vec::new(alloc));
+        let _ = run(command, &mut source, &mut room, &mut out);
+        assert!(rt; source.asked() <= most);
+        assert_eq!(rt; room.held(), 8192);
+    }
 }
 
 #[test]

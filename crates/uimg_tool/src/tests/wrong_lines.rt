@@ -1,4 +1,5 @@
-use super::{expect, ran_words};
+use super::images::ABC_KERNEL;
+use super::{expect, expect_on, ran_words};
 use std::test::Fail;
 
 // The program's own checks: each is one line, before any file is opened.
@@ -40,6 +41,21 @@ fn own_faults(rt: HostRuntime) -> Result<(), Fail> {
     Ok(())
 }
 
+// A FIT, or what begins as one, is no legacy image.
+#[test]
+fn wrong_forms(rt: HostRuntime) -> Result<(), Fail> {
+    let mut fit = [0; 64];
+    fit[..4].copy_from_slice(b"\xd0\x0d\xfe\xed");
+    let words = ["dumpimage", "-T", "kernel", "-l", "form.img"];
+    expect_on(&rt, &fit, &words, 1, "", "uimg: L2 bad magic\n")?;
+    let words = ["dumpimage", "-l", "form.img"];
+    expect_on(&rt, &fit, &words, 1, "", "uimg: L2 bad magic\n")?;
+    let words = ["dumpimage", "-T", "flat_dt", "-l", "form.img"];
+    expect_on(&rt, &ABC_KERNEL, &words, 2, "", "uimg: unknown name\n")?;
+    let words = ["dumpimage", "form.img"];
+    expect_on(&rt, &ABC_KERNEL, &words, 2, "", "uimg: no -l or -o\n")
+}
+
 // What the library of command lines answers: its text goes to standard error, with status 2.
 #[test]
 fn no_commands(rt: HostRuntime) -> Result<(), Fail> {
@@ -56,6 +72,8 @@ fn no_commands(rt: HostRuntime) -> Result<(), Fail> {
             &["verify", "a", "b"],
             "error: unexpected argument 'b' found\n",
         ),
+        (&["help"], "error: unrecognized subcommand 'help'\n"),
+        (&["-V"], "error: unexpected argument '-V' found\n"),
         (
             &["verify", "-V", "a"],
             "error: unexpected argument '-V' found\n",

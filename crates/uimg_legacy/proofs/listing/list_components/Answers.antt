@@ -30,7 +30,7 @@ loop-i-init g c = record {
 pub returns-in_err-length-clause-told : goal.returns-in_err-length-clause-told
 returns-in_err-length-clause-told g c = λ honest count.
     let p = err_from_is_err_and c.from_residual.result c.from_residual.ensures.1 in
-    rw (p.1, p.2) (c.loop-i.invariant.told honest count None c.loop-i.out (front_none _ _))
+    rw (p.1, p.2) (c.loop-i.invariant.told honest count None c.loop-i.out (front_none c.loop-i.out _))
 
 pub returns-then-start-length-clause-told : goal.returns-then-start-length-clause-told
 returns-then-start-length-clause-told g c = λ honest count.

@@ -1,49 +1,53 @@
-use Rattle.std.proofs.Common.{◌≡◌, ◌≢◌, ◌+◌, ◌*◌, ◌∙◌, ℕ, List, Bool, IsTrue, get_or, subst, sym, arith}
+use Rattle.std.proofs.Common.{◌≡◌, ◌≤◌, ◌+◌, ◌-◌, ◌*◌, ◌∙◌, ℕ, List, Bool, IsTrue, length, min, subst, sym, arith}
 use Rattle.uimg_base.specs.Device.{part}
 use Rattle.uimg_base.proofs.Parts.{length-part}
-use Rattle.uimg_legacy.specs.Numbers.{be32, words}
-use Rattle.uimg_legacy.proofs.PartsLaws.{payload_word, length-words, sizes_more, sizes_end, parts_end, parts_none}
+use Rattle.uimg_legacy.specs.Parts.{sizes}
+use Rattle.uimg_legacy.proofs.PartsLaws.{length-words, parts_some, parts_none}
+use Rattle.uimg_legacy.proofs.ChunkLaws.{sizes_window}
 use Rattle.uimg_legacy.proofs.parts.count_sizes.Goals as goal
 
-pub returns-then-branch-eq0-clause-count : goal.returns-then-branch-eq0-clause-count
-returns-then-branch-eq0-clause-count g c = λ honest.
-    let same = c.loop-i.invariant.same in
-    let now = subst (λ (b : Bool). IsTrue b) (sym same.honest) honest in
-    let image = (g.S.Source.device c.args.source.now).bytes in
-    let word = subst (λ (xs : List ℕ). c.in_ok-size_at.field-0 ≡ be32 xs (64 + 4 * c.loop-i.i)) same.bytes (c.in_ok-size_at.ensures.size now) in
-    let at = payload_word image c.args.size c.loop-i.i c.requires (omega arith) in
-    let few = length-words (part image 64 c.args.size) in
-    sizes_end (part image 64 c.args.size) c.loop-i.i (c.loop-i.invariant.sizes honest) (omega (arith, few.1, length-part image 64 c.args.size c.requires)) (at ∙ sym word ∙ c.if-branch-eq0.true)
+-- as many words as are sizes, of those that are asked for
+found : (image now : List ℕ) (size i n count : ℕ) → now ≡ image → 4 * (i + n) ≤ size → i ≤ length (sizes (part image 64 size)) → count ≡ length (sizes (part now (64 + 4 * i) (4 * n))) → count ≡ min n (length (sizes (part image 64 size)) - i)
+found image now size i n count same inside h e =
+    subst (λ (xs : List ℕ). count ≡ length (sizes (part xs (64 + 4 * i) (4 * n)))) same e
+    ∙ sizes_window image size i n inside h
 
-pub returns-then-branch-eq0-clause-gives : goal.returns-then-branch-eq0-clause-gives
-returns-then-branch-eq0-clause-gives g c = λ honest.
-    let same = c.loop-i.invariant.same in
+pub returns-then-found-next-clause-count : goal.returns-then-found-next-clause-count
+returns-then-found-next-clause-count g c = λ honest.
+    let same = c.loop-counted.invariant.same in
     let now = subst (λ (b : Bool). IsTrue b) (sym same.honest) honest in
-    let image = (g.S.Source.device c.args.source.now).bytes in
-    let word = subst (λ (xs : List ℕ). c.in_ok-size_at.field-0 ≡ be32 xs (64 + 4 * c.loop-i.i)) same.bytes (c.in_ok-size_at.ensures.size now) in
-    let at = payload_word image c.args.size c.loop-i.i c.requires (omega arith) in
-    let few = length-words (part image 64 c.args.size) in
-    parts_end (part image 64 c.args.size) c.loop-i.i (omega (arith, few.1, length-part image 64 c.args.size c.requires)) (at ∙ sym word ∙ c.if-branch-eq0.true)
+    let sizes = c.loop-counted.invariant.sizes honest in
+    let more = found (g.S.Source.device c.args.source.now).bytes _ c.args.size c.loop-counted.counted c.min-next.result c.in_ok-found.found same.bytes (omega arith) sizes (c.in_ok-found.ensures.count now) in
+    omega (arith, more, sizes)
 
-pub loop-i-preserved : goal.loop-i-preserved
-loop-i-preserved g c =
-    let same = c.loop-i.invariant.same in
+pub returns-then-found-next-clause-gives : goal.returns-then-found-next-clause-gives
+returns-then-found-next-clause-gives g c = λ honest.
+    let same = c.loop-counted.invariant.same in
+    let now = subst (λ (b : Bool). IsTrue b) (sym same.honest) honest in
+    let sizes = c.loop-counted.invariant.sizes honest in
+    let more = found (g.S.Source.device c.args.source.now).bytes _ c.args.size c.loop-counted.counted c.min-next.result c.in_ok-found.found same.bytes (omega arith) sizes (c.in_ok-found.ensures.count now) in
+    let d = part (g.S.Source.device c.args.source.now).bytes 64 c.args.size in
+    let few = length-words d in
+    parts_some d (omega (arith, few.1, more, sizes, length-part (g.S.Source.device c.args.source.now).bytes 64 c.args.size c.requires))
+
+pub loop-counted-preserved : goal.loop-counted-preserved
+loop-counted-preserved g c =
+    let same = c.loop-counted.invariant.same in
     record {
-      same = record { bytes = c.size_at.ensures.same.bytes ∙ same.bytes; honest = c.size_at.ensures.same.honest ∙ same.honest };
+      bound = omega (arith, c.in_ok-found.ensures.bound);
+      same = record { bytes = c.count_window.ensures.same.bytes ∙ same.bytes; honest = c.count_window.ensures.same.honest ∙ same.honest };
+      room = c.count_window.ensures.room ∙ c.loop-counted.invariant.room;
       asked = omega arith;
-      failures = omega (arith, c.in_ok-size_at.ensures.failures);
+      failures = omega (arith, c.in_ok-found.ensures.failures);
       sizes = λ honest.
           let now = subst (λ (b : Bool). IsTrue b) (sym same.honest) honest in
-          let image = (g.S.Source.device c.args.source.now).bytes in
-          let word = subst (λ (xs : List ℕ). c.in_ok-size_at.field-0 ≡ be32 xs (64 + 4 * c.loop-i.i)) same.bytes (c.in_ok-size_at.ensures.size now) in
-          let at = payload_word image c.args.size c.loop-i.i c.requires (omega arith) in
-          let few = length-words (part image 64 c.args.size) in
-          let more : get_or (words (part image 64 c.args.size)) c.loop-i.i 0 ≢ 0 = λ e. c.if-branch-eq0.false (word ∙ sym at ∙ e) in
-          sizes_more (part image 64 c.args.size) c.loop-i.i (c.loop-i.invariant.sizes honest) (omega (arith, few.1, length-part image 64 c.args.size c.requires)) more;
+          let sizes = c.loop-counted.invariant.sizes honest in
+          let more = found (g.S.Source.device c.args.source.now).bytes _ c.args.size c.loop-counted.counted c.min-next.result c.in_ok-found.found same.bytes (omega arith) sizes (c.in_ok-found.ensures.count now) in
+          omega (arith, more, sizes);
     }
 
 pub returns-clause-gives : goal.returns-clause-gives
 returns-clause-gives g c = λ honest.
     let image = (g.S.Source.device c.args.source.now).bytes in
     let few = length-words (part image 64 c.args.size) in
-    parts_none (part image 64 c.args.size) (omega (arith, few.0, c.loop-i.invariant.sizes honest, length-part image 64 c.args.size c.requires))
+    parts_none (part image 64 c.args.size) (omega (arith, few.0, c.loop-counted.invariant.sizes honest, length-part image 64 c.args.size c.requires))

@@ -1,15 +1,20 @@
-use Rattle.std.proofs.Common.{◌≡◌, ◌≤◌, ◌+◌, ◌*◌, length, IsTrue}
+use Rattle.std.proofs.Common.{◌≡◌, ◌≤◌, ◌+◌, ◌-◌, ◌*◌, length, IsTrue}
 use Rattle.uimg_base.specs.Device.{SameDevice, part}
 use Rattle.uimg_legacy.specs.Parts.{sizes}
 use Rattle.uimg_legacy.proofs.parts.count_sizes.Given as goal
 
--- no word below i is zero
-abbrev pub invariant-loop-i : goal.invariant-loop-i
-invariant-loop-i g l =
+-- the first words, as many as were asked for, aren't zero
+abbrev pub invariant-loop-counted : goal.invariant-loop-counted
+invariant-loop-counted g l =
     let device = g.S.Source.device in
     record {
+      bound : l.counted ≤ l.words;
       same : SameDevice (device l.fn.source) (device l.source);
-      asked : (device l.source).asked ≤ (device l.fn.source).asked + 4 * l.i;
+      room : l.room ≡ l.fn.room;
+      asked : (device l.source).asked ≤ (device l.fn.source).asked + 4 * l.counted;
       failures : (device l.source).failures ≡ (device l.fn.source).failures;
-      sizes : IsTrue (device l.fn.source).honest → l.i ≤ length (sizes (part (device l.fn.source).bytes 64 l.size));
+      sizes : IsTrue (device l.fn.source).honest → l.counted ≤ length (sizes (part (device l.fn.source).bytes 64 l.size));
     }
+
+abbrev pub decreases-loop-counted : goal.decreases-loop-counted
+decreases-loop-counted g l = l.words - l.counted

@@ -1,29 +1,35 @@
-use Rattle.std.proofs.Common.{◌≡◌, ◌+◌, ◌*◌, ◌∙◌, ap, refl, ℕ, List, Bool, IsTrue, subst, sym, arith}
-use Rattle.uimg_legacy.specs.Numbers.{be32, up4}
-use Rattle.uimg_legacy.proofs.PartsLaws.{start_first, start_more, up4_bound}
+use Rattle.std.proofs.Common.{◌≡◌, ◌+◌, ◌*◌, ◌∙◌, refl, ℕ, List, Bool, IsTrue, subst, sym, arith}
+use Rattle.std.specs.Prelude.{sum_by}
+use Rattle.uimg_base.specs.Device.{part}
+use Rattle.uimg_legacy.specs.Numbers.{words, up4}
+use Rattle.uimg_legacy.proofs.PartsLaws.{start_first}
+use Rattle.uimg_legacy.proofs.ChunkLaws.{start_window}
 use Rattle.uimg_legacy.proofs.parts.start_of.Goals as goal
 
-pub loop-i-init : goal.loop-i-init
-loop-i-init g c = record {
+pub loop-done-init : goal.loop-done-init
+loop-done-init g c = record {
+  within = omega arith;
   same = record { bytes = refl; honest = refl };
+  room = refl;
   asked = omega arith;
   failures = refl;
   bound = omega arith;
   start = λ honest table count words. omega (arith, start_first table, count);
 }
 
-pub loop-i-preserved : goal.loop-i-preserved
-loop-i-preserved g c =
-    let same = c.loop-i.invariant.same in
+pub loop-done-preserved : goal.loop-done-preserved
+loop-done-preserved g c =
+    let same = c.loop-done.invariant.same in
     record {
-      same = record { bytes = c.size_at.ensures.same.bytes ∙ same.bytes; honest = c.size_at.ensures.same.honest ∙ same.honest };
+      within = omega arith;
+      same = record { bytes = c.sum_window.ensures.same.bytes ∙ same.bytes; honest = c.sum_window.ensures.same.honest ∙ same.honest };
+      room = c.sum_window.ensures.room ∙ c.loop-done.invariant.room;
       asked = omega arith;
-      failures = omega (arith, c.in_ok-size_at.ensures.failures);
-      bound = omega (arith, up4_bound c.in_ok-size_at.field-0);
-      start = λ honest table count words.
+      failures = omega (arith, c.in_ok-at.ensures.failures);
+      bound = omega (arith, c.in_ok-at.ensures.bound);
+      start = λ honest table count sizes.
           let now = subst (λ (b : Bool). IsTrue b) (sym same.honest) honest in
-          let word = subst (λ (xs : List ℕ). c.in_ok-size_at.field-0 ≡ be32 xs (64 + 4 * c.loop-i.i)) same.bytes (c.in_ok-size_at.ensures.size now) in
-          let size = word ∙ sym (words c.loop-i.i (omega arith)) in
-          let up = c.up4.ensures ∙ ap up4 size in
-          omega (arith, start_more table c.loop-i.i (omega (arith, count)), c.loop-i.invariant.start honest table count words, up);
+          let image = (g.S.Source.device c.args.source.now).bytes in
+          let sum = subst (λ (xs : List ℕ). c.in_ok-at.field-0 ≡ sum_by up4 (words (part xs (64 + 4 * c.loop-done.done) (4 * c.min-next.result)))) same.bytes (c.in_ok-at.ensures.sum now) in
+          omega (arith, sum, c.loop-done.invariant.start honest table count sizes, start_window image table c.args.count c.loop-done.done c.min-next.result count sizes (omega arith) (omega arith));
     }

@@ -1,7 +1,7 @@
 use Rattle.std.proofs.Common.{◌≡◌, take}
 use Rattle.std.specs.List.{flat_map}
 use Rattle.uimg_base.specs.Sink.{AppendsAll}
-use Rattle.uimg_base.proofs.output.Out.put_parts.Given as goal
+use Rattle.uimg_base.proofs.output.Out.put_each.Given as goal
 
 -- the parts so far were written
 abbrev pub invariant-loop-part : goal.invariant-loop-part

@@ -1,0 +1,21 @@
+use Rattle.std.proofs.Common.{◌≡◌, ◌∙◌, ℕ, length, take, ap, sym, arith}
+use Rattle.std.specs.Prelude.{sum_by}
+use Rattle.std.proofs.Math.Seq.{take-length}
+use Rattle.uimg_legacy.specs.Numbers.{words, up4}
+use Rattle.uimg_legacy.proofs.PartsLaws.{words-at, length-words, up4_bound, sum_more}
+use Rattle.uimg_legacy.proofs.table.rounded_sum.Goals as goal
+
+pub loop-i-preserved : goal.loop-i-preserved
+loop-i-preserved c =
+    let bytes = c.args.bytes.now in
+    let i = c.loop-i.i in
+    let few = length-words bytes in
+    let word = c.up4-sum.ensures ∙ ap up4 (c.word_at.ensures ∙ sym (words-at bytes i (omega arith))) in
+    (omega (arith, up4_bound c.word_at.result), omega (arith, word, sum_more (words bytes) i (omega (arith, few.1)), c.loop-i.invariant.1))
+
+pub returns-clause-sum : goal.returns-clause-sum
+returns-clause-sum c =
+    let bytes = c.args.bytes.now in
+    let few = length-words bytes in
+    let all : c.loop-i.i ≡ length (words bytes) = omega (arith, few.0, few.1) in
+    c.loop-i.invariant.1 ∙ ap (λ (n : ℕ). sum_by up4 (take n (words bytes))) all ∙ ap (sum_by up4) (take-length (words bytes))
