@@ -13,3 +13,4 @@ pub mod Digits
 pub mod Sizes
 pub mod Calendar
 pub mod Times
+pub mod Named

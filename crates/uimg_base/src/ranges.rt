@@ -27,9 +27,9 @@ pub enum MoveFault {
 }
 
 // Copies at most a window.
-fn copy_window<S: Source, W: Write, A: Allocator>(
+fn copy_window<S: Source, W: Write>(
     source: &mut S,
-    room: &mut Room<A>,
+    window: &mut [u8; 8192],
     at: u64,
     len: usize,
     out: &mut Out<W>,
@@ -37,7 +37,6 @@ fn copy_window<S: Source, W: Write, A: Allocator>(
     requires range { at + len ≤ length (S.device source.old).bytes }
     requires window { len ≤ 8192 }
     ensures same { SameDevice (S.device source.old) (S.device source.new) }
-    ensures room { room.new ≡ room.old }
     ensures asked { (S.device source.new).asked ≡ asked_more (S.device source.old).asked len }
     ensures failures { RisesIf (is_read result) (S.device source.old).failures (S.device source.new).failures }
     ensures faults { RisesIf (is_put result) out.old.faults out.new.faults }
@@ -46,7 +45,7 @@ fn copy_window<S: Source, W: Write, A: Allocator>(
     ensures ok { IsTrue (S.device source.old).honest →
         OnOk result (AppendsAll out.old out.new (part (S.device source.old).bytes at len)) }
 {
-    let window = &mut room.window()[..len];
+    let window = &mut window[..len];
     if source.fill_at(at, window).is_err() {
         return Err(MoveFault::Read);
     }
@@ -56,7 +55,39 @@ fn copy_window<S: Source, W: Write, A: Allocator>(
     Ok(())
 }
 
-/// Copies the `len` bytes at the offset `at` of the source to the output, a window at a time.
+/// Copies the `len` bytes at the offset `at` of the source to the output, through a window.
+///
+/// The caller sees to it that the range lies in the source. `MoveFault::Read` comes exactly where a
+/// read failed, `MoveFault::Put` exactly where a write did. Over an honest source, on every exit, a
+/// front of the range was written and at most 8192 bytes more than that were asked for.
+pub fn copy_through<S: Source, W: Write>(
+    source: &mut S,
+    window: &mut [u8; 8192],
+    at: u64,
+    len: u64,
+    out: &mut Out<W>,
+) -> Result<(), MoveFault>
+    requires { at + len ≤ length (S.device source.old).bytes }
+    ensures same { SameDevice (S.device source.old) (S.device source.new) }
+    ensures asked { (S.device source.new).asked ≤ (S.device source.old).asked + len }
+    ensures asked_all { OnOk result ((S.device source.new).asked ≡ asked_more (S.device source.old).asked len) }
+    ensures failures { RisesIf (is_read result) (S.device source.old).failures (S.device source.new).failures }
+    ensures faults { RisesIf (is_put result) out.old.faults out.new.faults }
+    ensures front { IsTrue (S.device source.old).honest →
+        CopiesFront (S.device source.old) (S.device source.new) out.old out.new (part (S.device source.old).bytes at len) }
+    ensures ok { IsTrue (S.device source.old).honest →
+        OnOk result (AppendsAll out.old out.new (part (S.device source.old).bytes at len)) }
+{
+    let mut done = 0;
+    while done < len {
+        let next = u64::min(len - done, 8192);
+        copy_window(source, window, at + done, next as usize, out)?;
+        done += next;
+    }
+    Ok(())
+}
+
+/// Copies the `len` bytes at the offset `at` of the source to the output, through the room's window.
 ///
 /// The caller sees to it that the range lies in the source. `MoveFault::Read` comes exactly where a
 /// read failed, `MoveFault::Put` exactly where a write did. Over an honest source, on every exit, a
@@ -81,35 +112,57 @@ pub fn copy_range<S: Source, W: Write, A: Allocator>(
     ensures ok { IsTrue (S.device source.old).honest →
         OnOk result (AppendsAll out.old out.new (part (S.device source.old).bytes at len)) }
 {
-    let mut done = 0;
-    while done < len {
-        let next = u64::min(len - done, 8192);
-        copy_window(source, room, at + done, next as usize, out)?;
-        done += next;
-    }
-    Ok(())
+    copy_through(source, room.window(), at, len, out)
 }
 
 // Feeds at most a window.
-fn sum_window<M: Summer, S: Source, A: Allocator>(
+fn feed_window<M: Summer, S: Source>(
     sum: &mut M,
     source: &mut S,
-    room: &mut Room<A>,
+    window: &mut [u8; 8192],
     at: u64,
     len: usize,
 ) -> Result<(), SourceFault>
     requires range { at + len ≤ length (S.device source.old).bytes }
     requires window { len ≤ 8192 }
     ensures same { SameDevice (S.device source.old) (S.device source.new) }
-    ensures room { room.new ≡ room.old }
     ensures asked { (S.device source.new).asked ≡ asked_more (S.device source.old).asked len }
     ensures failures { RisesIf (is_err result) (S.device source.old).failures (S.device source.new).failures }
     ensures fed { IsTrue (S.device source.old).honest → OnOk result ((fed : List ℕ) →
         M.holds sum.old fed → M.holds sum.new (fed ++ part (S.device source.old).bytes at len)) }
 {
-    let window = &mut room.window()[..len];
+    let window = &mut window[..len];
     source.fill_at(at, window)?;
     sum.feed(window);
+    Ok(())
+}
+
+/// Feeds the `len` bytes at the offset `at` of the source to the sum, through a window.
+///
+/// The caller sees to it that the range lies in the source. `SourceFault` comes exactly where a
+/// read failed; then some of the range may have been fed. Over an honest source the sum is then
+/// over the range's bytes behind those that it was fed before.
+pub fn feed_through<M: Summer, S: Source>(
+    sum: &mut M,
+    source: &mut S,
+    window: &mut [u8; 8192],
+    at: u64,
+    len: u64,
+) -> Result<(), SourceFault>
+    requires { at + len ≤ length (S.device source.old).bytes }
+    ensures same { SameDevice (S.device source.old) (S.device source.new) }
+    ensures asked { (S.device source.new).asked ≤ (S.device source.old).asked + len }
+    ensures asked_all { OnOk result ((S.device source.new).asked ≡ asked_more (S.device source.old).asked len) }
+    ensures failures { RisesIf (is_err result) (S.device source.old).failures (S.device source.new).failures }
+    ensures fed { IsTrue (S.device source.old).honest → OnOk result ((fed : List ℕ) →
+        M.holds sum.old fed → M.holds sum.new (fed ++ part (S.device source.old).bytes at len)) }
+{
+    let mut done = 0;
+    while done < len {
+        let next = u64::min(len - done, 8192);
+        feed_window(sum, source, window, at + done, next as usize)?;
+        done += next;
+    }
     Ok(())
 }
 
@@ -138,12 +191,7 @@ pub fn sum_range<M: Summer, S: Source, A: Allocator>(
         IfOk result (PutsDigest (M.digest (part (S.device source.old).bytes at len)) to.old to.new) }
 {
     let mut sum = M::start();
-    let mut done = 0;
-    while done < len {
-        let next = u64::min(len - done, 8192);
-        sum_window(&mut sum, source, room, at + done, next as usize)?;
-        done += next;
-    }
+    feed_through(&mut sum, source, room.window(), at, len)?;
     Ok(sum.finish(to))
 }
 

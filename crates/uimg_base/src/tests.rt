@@ -4,4 +4,20 @@
 mod files;
 mod fuses;
 mod moves;
+mod named_files;
 mod rooms;
+mod shelves;
+
+use crate::Source;
+
+// Whether these bytes, at most 1024, lie at an offset of a source.
+fn reads_as<S: Source>(source: &mut S, at: u64, bytes: &[u8]) -> bool {
+    let mut found = [0; 1024];
+    match source.size() {
+        Ok(size) if bytes.len() <= 1024 && at <= size && bytes.len() as u64 <= size - at => {
+            let found = &mut found[..bytes.len()];
+            source.fill_at(at, found).is_ok() && *found == *bytes
+        }
+        _ => false,
+    }
+}

@@ -3,3 +3,11 @@ pub mod PartsLaws
 pub mod ChunkLaws
 pub mod LinesLaws
 pub mod Examples
+pub mod DevicesLaws
+pub mod JoinedLaws
+pub mod EmptyLaws
+pub mod ResultLaws
+pub mod TableLaws
+pub mod ComponentLaws
+pub mod ReadsBackLaw
+pub mod BuildingLaws

@@ -38,6 +38,13 @@ end_of (Err (Legacy f)) = Some (refused f)
 end_of (Err Read) = None
 end_of (Err Put) = None
 
+-- the same of a call that answers no status
+abbrev pub built_end : {X : Type 0} → Result X Fault → Option (End LegacyFault)
+built_end (Ok x) = Some done
+built_end (Err (Legacy f)) = Some (refused f)
+built_end (Err Read) = None
+built_end (Err Put) = None
+
 -- An answer is the value or the fault of a definition, unless a device failed.
 abbrev pub Gives : {X Y : Type 0} → (X → Y) → Result X Fault → Result Y LegacyFault → Type 0
 Gives view (Ok x) r = r ≡ Ok (view x)

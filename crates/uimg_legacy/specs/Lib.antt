@@ -7,3 +7,6 @@ pub mod Extraction
 pub mod Work
 pub mod Listing
 pub mod Faults
+pub mod Devices
+pub mod Building
+pub mod ReadsBack

@@ -1,20 +1,28 @@
-//! Reads legacy images: their header, their listing, a report on their checksums, their data.
+//! Reads and builds legacy images: their header, their listing, a report on their checksums, their data.
 #![tactic(auto)]
 
+mod building;
+mod built_data;
 mod extraction;
 mod fault;
 mod header;
 mod image;
 mod lines;
 mod listing;
+mod measure;
+mod options;
 mod parts;
+mod pieces;
 mod report;
 mod table;
 #[cfg(test)]
 mod tests;
 
+pub use building::build;
 pub use extraction::extract;
 pub use fault::{Fault, LegacyFault};
 pub use header::{Header, header_bytes, name_field, read_header};
 pub use listing::list;
+pub use options::Options;
+pub use parts::has_parts;
 pub use report::verify;

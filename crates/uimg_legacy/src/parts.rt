@@ -14,9 +14,9 @@ use byteorder::{BigEndian, ByteOrder};
 use std::alloc::Allocator;
 use uimg_base::{Room, Source, SourceFault};
 
-// Whether an image of this type has components.
+/// Whether an image of the type of this code has components: multi (4) and script (6) do.
 #[tactic(auto, unfolding(crate::specs::Parts::has_parts))]
-pub(crate) fn has_parts(kind: u8) -> bool
+pub fn has_parts(kind: u8) -> bool
     ensures { result ≡ has_parts kind }
 {
     kind == 4 || kind == 6

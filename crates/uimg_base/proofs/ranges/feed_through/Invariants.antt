@@ -1,6 +1,6 @@
-use Rattle.std.proofs.Common.{◌≡◌, ◌≤◌, ◌-◌, IsTrue}
+use Rattle.std.proofs.Common.{◌≡◌, ◌≤◌, ◌-◌, ◌++◌, ℕ, List, IsTrue}
 use Rattle.uimg_base.specs.Device.{part, SameDevice, asked_more}
-use Rattle.uimg_base.proofs.ranges.sum_range.Given as goal
+use Rattle.uimg_base.proofs.ranges.feed_through.Given as goal
 
 -- the first `done` bytes were asked for and fed
 abbrev pub invariant-loop-done : goal.invariant-loop-done
@@ -9,10 +9,10 @@ invariant-loop-done g l =
     record {
       bound : l.done ≤ l.len;
       same : SameDevice (device l.fn.source) (device l.source);
-      room : l.room ≡ l.fn.room;
       asked : (device l.source).asked ≡ asked_more (device l.fn.source).asked l.done;
       failures : (device l.source).failures ≡ (device l.fn.source).failures;
-      fed : IsTrue (device l.fn.source).honest → g.M.Summer.holds l.sum (part (device l.fn.source).bytes l.at l.done);
+      fed : IsTrue (device l.fn.source).honest → (before : List ℕ) → g.M.Summer.holds l.fn.sum before →
+          g.M.Summer.holds l.sum (before ++ part (device l.fn.source).bytes l.at l.done);
     }
 
 abbrev pub decreases-loop-done : goal.decreases-loop-done

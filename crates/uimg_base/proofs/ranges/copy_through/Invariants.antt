@@ -1,7 +1,7 @@
 use Rattle.std.proofs.Common.{◌≡◌, ◌≤◌, ◌-◌, IsTrue}
 use Rattle.uimg_base.specs.Device.{part, SameDevice, asked_more}
 use Rattle.uimg_base.specs.Sink.{AppendsAll}
-use Rattle.uimg_base.proofs.ranges.copy_range.Given as goal
+use Rattle.uimg_base.proofs.ranges.copy_through.Given as goal
 
 -- the first `done` bytes were asked for and written
 abbrev pub invariant-loop-done : goal.invariant-loop-done
@@ -10,7 +10,6 @@ invariant-loop-done g l =
     record {
       bound : l.done ≤ l.len;
       same : SameDevice (device l.fn.source) (device l.source);
-      room : l.room ≡ l.fn.room;
       asked : (device l.source).asked ≡ asked_more (device l.fn.source).asked l.done;
       failures : (device l.source).failures ≡ (device l.fn.source).failures;
       faults : l.out.faults ≡ l.fn.out.faults;

@@ -2,7 +2,7 @@ use Rattle.std.proofs.Common.{◌+◌, IsTrue, subst, sym, arith, ℕ, List, Boo
 use Rattle.uimg_base.specs.Device.{part}
 use Rattle.uimg_base.specs.Sink.{AppendsFront, AppendsAll}
 use Rattle.uimg_base.proofs.Parts.{AppendsFirst-more, AppendsAll-part}
-use Rattle.uimg_base.proofs.ranges.copy_range.Goals as goal
+use Rattle.uimg_base.proofs.ranges.copy_through.Goals as goal
 
 pub returns-in_err-copy_window-clause-front : goal.returns-in_err-copy_window-clause-front
 returns-in_err-copy_window-clause-front g c = λ honest.
@@ -22,7 +22,6 @@ loop-done-preserved g c =
     record {
       bound = omega arith;
       same = record { bytes = c.copy_window.ensures.same.bytes ∙ same.bytes; honest = c.copy_window.ensures.same.honest ∙ same.honest };
-      room = c.copy_window.ensures.room ∙ c.loop-done.invariant.room;
       asked = omega arith;
       failures = omega (arith, c.in_ok-copy_window.ensures.failures);
       faults = omega (arith, c.in_ok-copy_window.ensures.faults);

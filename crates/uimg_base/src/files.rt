@@ -1,0 +1,37 @@
+ghost use Rattle.std.specs.Prelude.{◌≡◌, ℕ, List, Bool, Option, Some, IfOk, IsTrue, is_err};
+ghost use Rattle.uimg_base.specs.Device.{IsFresh, RisesIf};
+
+use crate::source::{Source, SourceFault};
+
+/// Files by their names, each opened as a source.
+///
+/// Contracts see the bytes at each name, whether the files are honest, and how many opens were
+/// refused. Honest files open honest sources with those bytes. No call changes the bytes or the
+/// honesty, so a name that is opened twice has the same bytes.
+pub trait Files {
+    /// What a file is opened as.
+    type Opened: Source;
+
+    /// The bytes at each name.
+    ghost files: { Self → List ℕ → Option (List ℕ) };
+
+    /// Whether what is opened has those bytes and answers them.
+    ghost honest: { Self → Bool };
+
+    /// How many opens were refused. It stays at its greatest value.
+    ghost refusals: { Self → ℕ };
+
+    /// Opens the file of this name, as a source of which nothing was asked yet.
+    ///
+    /// `SourceFault` comes only where the open was refused: the refusals rose in this call (or
+    /// stood at their greatest value).
+    fn open(&mut self, name: &[u8]) -> Result<Self::Opened, SourceFault>
+        ensures files { files self.new ≡ files self.old }
+        ensures same_honest { honest self.new ≡ honest self.old }
+        ensures refusals { RisesIf (is_err result) (refusals self.old) (refusals self.new) }
+        ensures bytes { IsTrue (honest self.old) → IfOk result (λ opened.
+            files self.old name.now ≡ Some (Self.Opened.device opened).bytes) }
+        ensures honest { IsTrue (honest self.old) → IfOk result (λ opened.
+            IsTrue (Self.Opened.device opened).honest) }
+        ensures fresh { IfOk result (λ opened. IsFresh (Self.Opened.device opened)) };
+}

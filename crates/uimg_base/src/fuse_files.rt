@@ -1,0 +1,83 @@
+ghost use Rattle.std.specs.Prelude.{◌≡◌};
+
+use crate::files::Files;
+use crate::fuse_source::FuseSource;
+use crate::source::SourceFault;
+
+/// Files that are opened so many times and refused from then on, one of them as a source that
+/// fails in its midst: for tests of what a refused open or a failing read leaves.
+#[derive(Drop)]
+pub struct FuseFiles<F: Files> {
+    files: F,
+    from: u64,
+    turn: u64,
+    calls: u64,
+    opens: u64,
+    refusals: u64,
+}
+
+impl<F: Files> FuseFiles<F> {
+    /// A fuse round `files`. Opens are counted from 0, those that `files` refuses too.
+    ///
+    /// The open number `from` and all later ones are refused. The open number `turn` gives a
+    /// source that lets `calls` calls through; each other open gives one that lets through 2^64 - 1.
+    /// No open was refused yet by the fuse, which counts on its own.
+    pub fn new(files: F, from: u64, turn: u64, calls: u64) -> FuseFiles<F>
+        ensures files { ⟦<FuseFiles<F> as Files>⟧.files result ≡ F.files files }
+        ensures honest { ⟦<FuseFiles<F> as Files>⟧.honest result ≡ F.honest files }
+        ensures refusals { ⟦<FuseFiles<F> as Files>⟧.refusals result ≡ 0 }
+    {
+        FuseFiles {
+            files,
+            from,
+            turn,
+            calls,
+            opens: 0,
+            refusals: 0,
+        }
+    }
+}
+
+impl<F: Files> Files for FuseFiles<F> {
+    type Opened = FuseSource<F::Opened>;
+
+    ghost files = { λ s. F.files s.files };
+
+    ghost honest = { λ s. F.honest s.files };
+
+    ghost refusals = { λ s. s.refusals };
+
+    fn open(&mut self, name: &[u8]) -> Result<FuseSource<F::Opened>, SourceFault> {
+        let number = self.opens;
+        self.opens = self.opens.saturating_add(1);
+        if number < self.from
+            && let Ok(source) = self.files.open(name)
+        {
+            let calls = if number == self.turn {
+                self.calls
+            } else {
+                u64::MAX
+            };
+            return Ok(FuseSource::new(source, calls));
+        }
+        self.refusals = self.refusals.saturating_add(1);
+        Err(SourceFault)
+    }
+}
+
+#[cfg(test)]
+mod tests {
+    use super::*;
+    use crate::mem_files::MemFiles;
+
+    // A missing name and an open past the fuse are both counted.
+    #[test]
+    fn each_refused_open_is_counted(rt: HostRuntime) {
+        let named: [(&[u8], &[u8]); 1] = [(b"a", b"bytes")];
+        let mut files = FuseFiles::new(MemFiles::new(&named), 3, 0, 1);
+        for (name, refusals) in [(b"a", 0), (b"b", 1), (b"a", 1), (b"a", 2), (b"b", 3)] {
+            let _ = files.open(name);
+            assert_eq!(rt; files.refusals, refusals);
+        }
+    }
+}

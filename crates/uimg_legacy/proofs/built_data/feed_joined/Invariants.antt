@@ -1,0 +1,18 @@
+use Rattle.std.proofs.Common.{◌≡◌, ◌<◌, ◌%◌, ◌++◌, ℕ, List, length, map, take}
+use Rattle.uimg_legacy.specs.Building.{joined}
+use Rattle.uimg_legacy.specs.Devices.{bytes_of, AreHonest, SameDevices}
+use Rattle.uimg_legacy.proofs.built_data.feed_joined.Given as goal
+
+-- the parts before the index were fed, and end so far past a multiple of 4
+abbrev pub invariant-loop-i : goal.invariant-loop-i
+invariant-loop-i g l =
+    let before = map g.S.Source.device l.fn.parts in
+    let now = map g.S.Source.device l.parts in
+    record {
+      count : length l.parts ≡ length l.fn.parts;
+      same : SameDevices before now;
+      failures : map (λ d. d.failures) now ≡ map (λ d. d.failures) before;
+      small : l.past < 4;
+      past : length (joined (take l.i (bytes_of before))) % 4 ≡ l.past;
+      fed : AreHonest before → (fed : List ℕ) → g.M.Summer.holds l.fn.sum fed → g.M.Summer.holds l.sum (fed ++ joined (take l.i (bytes_of before)));
+    }

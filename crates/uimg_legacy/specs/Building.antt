@@ -1,0 +1,89 @@
+-- What a legacy image is that is built from parts.
+use Rattle.std.specs.Prelude.{◌≡◌, ℕ, ⊤, ◌-◌, List, [], ◌∷◌, ◌++◌, length, replicate, nat_lt, ◌==◌, ◌&&◌, if◌then◌else◌, Result, Ok, Err, Bool, true, false}
+use Rattle.std.specs.Int.{to_be_bytes, w32}
+use Rattle.std.specs.List.{flat_map, list_any}
+use Rattle.uimg_base.specs.Crc.{crc}
+use Rattle.uimg_base.specs.Outcome.{Outcome, done, refused, told}
+use Rattle.uimg_legacy.specs.declared.header.Header.{Header}
+use Rattle.uimg_legacy.specs.declared.options.Options.{Options}
+use Rattle.uimg_legacy.specs.declared.fault.LegacyFault.{LegacyFault}
+use Rattle.uimg_legacy.specs.declared.fault.LegacyFault.TheVariants.{EmptyPart, TooLarge}
+use Rattle.uimg_legacy.specs.declared.fault.Fault.{Fault}
+use Rattle.uimg_legacy.specs.declared.fault.Fault.TheVariants.{Legacy, Read, Put}
+use Rattle.uimg_legacy.specs.Numbers.{up4}
+use Rattle.uimg_legacy.specs.Header.{header, spelled}
+use Rattle.uimg_legacy.specs.Parts.{has_parts}
+
+-- the zeros that bring so many bytes to a multiple of 4
+abbrev pub padding : ℕ → List ℕ
+padding n = replicate (up4 n - n) 0
+
+-- the parts one after another, each but the last padded to a multiple of 4
+unfoldable pub joined : List (List ℕ) → List ℕ
+joined [] = []
+joined (last ∷ []) = last
+joined (part ∷ next ∷ more) = part ++ padding (length part) ++ joined (next ∷ more)
+
+-- the size of each part as a word, and a zero word
+unfoldable pub size_table : List (List ℕ) → List ℕ
+size_table parts = flat_map (λ part. to_be_bytes w32 (length part)) parts ++ to_be_bytes w32 0
+
+-- the data of a type that has components: the table of sizes and the parts; of another: the one file
+abbrev pub data_of : Bool → List (List ℕ) → List ℕ
+data_of true parts = size_table parts ++ joined parts
+data_of false parts = joined parts
+
+-- the header of such data, with the fields that the options give
+abbrev pub header_for : Options → List ℕ → Header
+header_for options payload = record {
+  time = options.time;
+  size = length payload;
+  load = options.load;
+  ep = options.ep;
+  dcrc = crc payload;
+  os = options.os;
+  arch = options.arch;
+  kind = options.kind;
+  comp = options.comp;
+  name = options.name;
+}
+
+-- these are the bytes of a header, and they are read as that header
+pub record IsHead (bytes : List ℕ) (h : Header) : Type 0 where
+  pub spelled : bytes ≡ spelled h
+  pub read : header bytes ≡ Ok h
+
+-- the header's 64 bytes, and the data
+abbrev pub legacy_image : Options → List ℕ → List ℕ
+legacy_image options payload = spelled (header_for options payload) ++ payload
+
+-- the image that is built from parts
+abbrev pub legacy_built : Options → List (List ℕ) → List ℕ
+legacy_built options parts = legacy_image options (data_of (has_parts options.kind) parts)
+
+-- whether one of the parts is empty
+unfoldable pub has_empty : List (List ℕ) → Bool
+has_empty parts = list_any (λ part. length part == 0) parts
+
+-- The data, or the first of: a component is empty, the data have more than 4294967295 bytes.
+unfoldable pub data_to_build : ℕ → List (List ℕ) → Result (List ℕ) LegacyFault
+data_to_build kind parts =
+    if has_parts kind && has_empty parts then Err EmptyPart
+    else if nat_lt 4294967295 (length (data_of (has_parts kind) parts)) then Err TooLarge
+    else Ok (data_of (has_parts kind) parts)
+
+-- the image of the data, or nothing and the fault
+abbrev pub build_from : Options → Result (List ℕ) LegacyFault → Outcome LegacyFault
+build_from options (Ok payload) = told (legacy_image options payload) done
+build_from options (Err fault) = told [] (refused fault)
+
+-- building writes the image, or nothing where the parts are refused
+abbrev pub build_of : Options → List (List ℕ) → Outcome LegacyFault
+build_of options parts = build_from options (data_to_build options.kind parts)
+
+-- An answer is the size of the data, or the fault of parts that are refused, unless a device failed.
+abbrev pub Measures : ℕ → List (List ℕ) → Result ℕ Fault → Type 0
+Measures kind parts (Ok size) = (data_to_build kind parts ≡ Ok (data_of (has_parts kind) parts)) × (size ≡ length (data_of (has_parts kind) parts))
+Measures kind parts (Err (Legacy fault)) = data_to_build kind parts ≡ Err fault
+Measures kind parts (Err Read) = ⊤
+Measures kind parts (Err Put) = ⊤

@@ -1,0 +1,35 @@
+-- What contracts see of several devices.
+use Rattle.std.specs.Prelude.{◌≡◌, ℕ, ◌<◌, List, length, map, slice_index_or, Bool, true, false, IsTrue, All}
+use Rattle.uimg_base.specs.Device.{Device, Rose}
+
+-- the bytes of each device
+abbrev pub bytes_of : List Device → List (List ℕ)
+bytes_of devices = map (λ d. d.bytes) devices
+
+-- each device is honest
+abbrev pub AreHonest : List Device → Type 0
+AreHonest devices = All (λ d. IsTrue d.honest) devices
+
+-- No call changes what the devices are.
+pub record SameDevices (old new : List Device) : Type 0 where
+  pub bytes : map (λ d. d.bytes) new ≡ map (λ d. d.bytes) old
+  pub honest : map (λ d. d.honest) new ≡ map (λ d. d.honest) old
+
+-- how often the device of a number failed
+abbrev pub failures_of : List Device → ℕ → ℕ
+failures_of devices i = slice_index_or (map (λ d. d.failures) devices) i 0
+
+-- The failures of one of the devices rose, or stood at their greatest value.
+pub record OneRose (old new : List Device) : Type 0 where
+  pub number : ℕ
+  pub within : number < length old
+  pub rose : Rose (failures_of old number) (failures_of new number)
+
+-- The failures of a device rose exactly where a test holds.
+abbrev pub OneRisesIf : Bool → List Device → List Device → Type 0
+OneRisesIf true old new = OneRose old new
+OneRisesIf false old new = map (λ d. d.failures) new ≡ map (λ d. d.failures) old
+
+-- how many bytes were asked of each device
+abbrev pub asked_of : List Device → List ℕ
+asked_of devices = map (λ d. d.asked) devices

@@ -1,0 +1,19 @@
+-- What is read of an image that was built.
+use Rattle.std.specs.Prelude.{◌≡◌, ℕ, ◌<◌, List, ◌++◌, length, slice_index_or, codes, []}
+use Rattle.uimg_base.specs.Outcome.{Outcome, done, told, line}
+use Rattle.uimg_legacy.specs.declared.fault.LegacyFault.{LegacyFault}
+use Rattle.uimg_legacy.specs.Report.{verify_of}
+use Rattle.uimg_legacy.specs.Listing.{list_of}
+use Rattle.uimg_legacy.specs.Extraction.{extract_of}
+
+-- the report on an image whose checksums are right
+abbrev pub right_report : Outcome LegacyFault
+right_report = told (line (codes "header crc32 ok") ++ line (codes "data crc32 ok")) done
+
+-- The image's checksums are right, its listing isn't refused, and the part at each position is the part that it was
+-- built from.
+pub record ReadsBack (image : List ℕ) (parts : List (List ℕ)) : Type 0 where
+  pub report : verify_of image ≡ right_report
+  pub listing : (list_of image).end ≡ done
+  pub extraction : (position : ℕ) → position < length parts →
+      extract_of image position ≡ told (slice_index_or parts position []) done

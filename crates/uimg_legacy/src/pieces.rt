@@ -1,0 +1,122 @@
+ghost use Rattle.std.specs.Prelude.{◌≡◌, ℕ, ◌%◌, ◌^◌, ◌<◌, List, ◌++◌, length, map, slice_index_or, [], false, IsTrue, OnOk, IfOk, is_err};
+ghost use Rattle.std.specs.Int.{to_be_bytes, w32};
+ghost use Rattle.uimg_base.specs.Sink.{AppendsAll, AppendsFront};
+ghost use Rattle.uimg_base.specs.Device.{SameDevice, RisesIf};
+ghost use Rattle.uimg_legacy.specs.Building.{padding};
+ghost use Rattle.uimg_legacy.specs.Devices.{bytes_of, asked_of, AreHonest, SameDevices, OneRisesIf};
+ghost use Rattle.uimg_legacy.specs.Faults.{is_read, is_put, is_refused};
+
+use crate::fault::Fault;
+use std::io::Write;
+use uimg_base::{Out, Source, SourceFault, Summer, copy_through, feed_through};
+
+// The zeros behind bytes that end so far past a multiple of 4.
+pub(crate) fn zeros_after(past: u64) -> &'static [u8]
+    requires { past < 4 }
+    ensures { (n : ℕ) → n % 4 ≡ past → result.now ≡ padding n }
+{
+    match past {
+        1 => &[0; 3],
+        2 => &[0; 2],
+        3 => &[0; 1],
+        _ => &[],
+    }
+}
+
+// How many bytes a part has.
+pub(crate) fn part_size<S: Source>(parts: &mut [S], i: usize) -> Result<u64, SourceFault>
+    requires { i < length parts.old }
+    ensures same { SameDevices (map S.device parts.old) (map S.device parts.new) }
+    ensures asked { asked_of (map S.device parts.new) ≡ asked_of (map S.device parts.old) }
+    ensures failures { OneRisesIf (is_err result) (map S.device parts.old) (map S.device parts.new) }
+    ensures size { IfOk result (λ n. n ≡ length (slice_index_or (bytes_of (map S.device parts.old)) i [])) }
+{
+    parts[i].size()
+}
+
+// The size of a part as a word of the table.
+pub(crate) fn size_word<S: Source>(parts: &mut [S], i: usize) -> Result<[u8; 4], SourceFault>
+    requires within { i < length parts.old }
+    requires small { length (slice_index_or (bytes_of (map S.device parts.old)) i []) < 2 ^ 32 }
+    ensures same { SameDevices (map S.device parts.old) (map S.device parts.new) }
+    ensures failures { OneRisesIf (is_err result) (map S.device parts.old) (map S.device parts.new) }
+    ensures word { IfOk result (λ w. w ≡ to_be_bytes w32 (length (slice_index_or (bytes_of (map S.device parts.old)) i []))) }
+{
+    let size = part_size(parts, i)?;
+    Ok((size as u32).to_be_bytes())
+}
+
+// Feeds all of a source to a sum, and gives its size.
+fn feed_whole<M: Summer, S: Source>(
+    sum: &mut M,
+    source: &mut S,
+    window: &mut [u8; 8192],
+) -> Result<u64, SourceFault>
+    ensures same { SameDevice (S.device source.old) (S.device source.new) }
+    ensures failures { RisesIf (is_err result) (S.device source.old).failures (S.device source.new).failures }
+    ensures size { IfOk result (λ n. n ≡ length (S.device source.old).bytes) }
+    ensures fed { IsTrue (S.device source.old).honest → OnOk result ((fed : List ℕ) →
+        M.holds sum.old fed → M.holds sum.new (fed ++ (S.device source.old).bytes)) }
+{
+    let size = source.size()?;
+    feed_through(sum, source, window, 0, size)?;
+    Ok(size)
+}
+
+// Writes all of a source, and gives its size.
+fn put_whole<S: Source, W: Write>(
+    source: &mut S,
+    window: &mut [u8; 8192],
+    out: &mut Out<W>,
+) -> Result<u64, Fault>
+    ensures same { SameDevice (S.device source.old) (S.device source.new) }
+    ensures failures { RisesIf (is_read result) (S.device source.old).failures (S.device source.new).failures }
+    ensures faults { RisesIf (is_put result) out.old.faults out.new.faults }
+    ensures accepted { is_refused result ≡ false }
+    ensures size { IfOk result (λ n. n ≡ length (S.device source.old).bytes) }
+    ensures front { IsTrue (S.device source.old).honest → AppendsFront out.old out.new (S.device source.old).bytes }
+    ensures ok { IsTrue (S.device source.old).honest →
+        OnOk result (AppendsAll out.old out.new (S.device source.old).bytes) }
+{
+    let size = source.size()?;
+    copy_through(source, window, 0, size, out)?;
+    Ok(size)
+}
+
+// Feeds a part to a sum, and gives its size.
+pub(crate) fn feed_part<M: Summer, S: Source>(
+    sum: &mut M,
+    parts: &mut [S],
+    i: usize,
+    window: &mut [u8; 8192],
+) -> Result<u64, SourceFault>
+    requires { i < length parts.old }
+    ensures same { SameDevices (map S.device parts.old) (map S.device parts.new) }
+    ensures failures { OneRisesIf (is_err result) (map S.device parts.old) (map S.device parts.new) }
+    ensures size { IfOk result (λ n. n ≡ length (slice_index_or (bytes_of (map S.device parts.old)) i [])) }
+    ensures fed { AreHonest (map S.device parts.old) → OnOk result ((fed : List ℕ) →
+        M.holds sum.old fed → M.holds sum.new (fed ++ slice_index_or (bytes_of (map S.device parts.old)) i [])) }
+{
+    feed_whole(sum, &mut parts[i], window)
+}
+
+// Writes a part, and gives its size.
+pub(crate) fn put_part<S: Source, W: Write>(
+    parts: &mut [S],
+    i: usize,
+    window: &mut [u8; 8192],
+    out: &mut Out<W>,
+) -> Result<u64, Fault>
+    requires { i < length parts.old }
+    ensures same { SameDevices (map S.device parts.old) (map S.device parts.new) }
+    ensures failures { OneRisesIf (is_read result) (map S.device parts.old) (map S.device parts.new) }
+    ensures faults { RisesIf (is_put result) out.old.faults out.new.faults }
+    ensures accepted { is_refused result ≡ false }
+    ensures size { IfOk result (λ n. n ≡ length (slice_index_or (bytes_of (map S.device parts.old)) i [])) }
+    ensures front { AreHonest (map S.device parts.old) →
+        AppendsFront out.old out.new (slice_index_or (bytes_of (map S.device parts.old)) i []) }
+    ensures ok { AreHonest (map S.device parts.old) →
+        OnOk result (AppendsAll out.old out.new (slice_index_or (bytes_of (map S.device parts.old)) i [])) }
+{
+    put_whole(&mut parts[i], window, out)
+}
