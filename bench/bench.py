@@ -27,6 +27,8 @@ ZLIB = (
     "print(f'{sum:08x}')\n"
 )
 
+ZLIB_AND_COPY = f'{sys.executable} -c "{ZLIB}" "$0" && cp "$0" "$1"'
+
 
 def make_file(path):
     """Fills a file with bytes that don't repeat in short periods."""
@@ -103,6 +105,10 @@ def rows(uimg, base, folder):
     yield "extract", "uimg dumpimage -o", [uimg, *extract], text
     yield "extract", "cp", ["cp", file, copy], text
     yield "extract", "dumpimage -o", extract, text
+    build = ["mkimage", "-A", "arm64", "-C", "none", "-n", "bench", "-d", file, copy]
+    yield "build", "uimg mkimage -d", [uimg, *build], text
+    yield "build", "zlib.crc32, then cp", ["sh", "-c", ZLIB_AND_COPY, file, copy], text
+    yield "build", "mkimage -d", build, text
 
 
 def main():

@@ -2,8 +2,10 @@
 """Compares uimg with the real mkimage and dumpimage, where u-boot-tools is installed.
 
 It makes legacy images of every type with the real mkimage, and shows that uimg lists their fields
-alike, verifies them, and unpacks them to the bytes that went in. It prints a table of what was
-compared, and every difference; it installs nothing.
+alike, verifies them, and unpacks them to the bytes that went in. Then it builds images of every
+type, architecture, operating system and compression with both, and shows that they are the same
+byte for byte, and that the real tools accept them. It prints a table of what was compared, and
+every difference; it installs nothing.
 """
 
 import itertools
@@ -18,6 +20,13 @@ PARTS = ["multi", "script"]
 NAMES = ["", "kernel 6.1", "0123456789012345678901234567890123456789"]
 TIMES = ["0", "1700000000", "4294967295"]
 ADDRESSES = [("0", "0"), ("80000", "80040"), ("fffffff0", "ffffffff")]
+ARCHS = "arm x86 mips mips64 ppc powerpc sandbox arm64 x86_64 riscv".split()
+SYSTEMS = (
+    "netbsd linux vxworks qnx u-boot rtems plan9 arm-trusted-firmware tee opensbi efi".split()
+)
+COMPRESSIONS = "none gzip bzip2 lzma lzo lz4 zstd".split()
+ENTRIES = [(), ("-a", "80000"), ("-a", "0x1000", "-e", "1040"), ("-e", "fffffff0")]
+DATA = [b"abc", b"defg", b"hijkl" * 2000, b"\0", bytes(range(256)) * 33, b"ab"]
 CODES = [
     ("arm", "linux", "none"),
     ("arm64", "linux", "gzip"),
@@ -29,18 +38,23 @@ CODES = [
 ]
 
 
-def real_image(folder, image, kind, code, name, time, addresses, parts):
-    """Makes an image with the real mkimage."""
-    files = []
+def write_parts(folder, parts):
+    """Writes parts to files of their own, and gives the word of -d."""
+    paths = []
     for number, part in enumerate(parts):
         path = os.path.join(folder, f"part{number}")
         with open(path, "wb") as file:
             file.write(part)
-        files.append(path)
+        paths.append(path)
+    return ":".join(paths)
+
+
+def real_image(folder, image, kind, code, name, time, addresses, parts):
+    """Makes an image with the real mkimage."""
     arch, system, compression = code
     load, entry = addresses
     command = ["mkimage", "-A", arch, "-O", system, "-T", kind, "-C", compression]
-    command += ["-a", load, "-e", entry, "-n", name, "-d", ":".join(files), image]
+    command += ["-a", load, "-e", entry, "-n", name, "-d", write_parts(folder, parts), image]
     environment = dict(os.environ, SOURCE_DATE_EPOCH=time, TZ="UTC")
     subprocess.run(command, env=environment, check=True, capture_output=True)
 
@@ -91,24 +105,82 @@ def compare(count, uimg, folder, kind, code, name, time, addresses, parts):
             count.expect(f"dumpimage's part {position} of {case}", there, (0, part))
 
 
+def built(tool, words, time):
+    """What a mkimage answers and prints, and the image that it made."""
+    environment = dict(os.environ, SOURCE_DATE_EPOCH=time, TZ="UTC")
+    done = subprocess.run([*tool, *words], env=environment, capture_output=True)
+    with open(words[-1], "rb") as file:
+        return done.returncode, listing(done.stdout), file.read()
+
+
+def without_addresses(answer):
+    """The same without load address, entry point and header CRC.
+
+    For a TEE the real mkimage takes both addresses from the OP-TEE header that it expects at the
+    front of the file, whether it is one or not, and -a and -e have no effect.
+    """
+    status, lines, image = answer
+    lines = [line for line in lines if not line.startswith((b"Load Address", b"Entry Point"))]
+    return status, lines, image[:4] + image[8:16] + image[24:]
+
+
+def compare_built(count, uimg, folder, kind, codes, words, time):
+    """Builds one image with both, and lists it with the real tools."""
+    count.images += 1
+    own, real = (os.path.join(folder, name) for name in ("own.img", "real.img"))
+    arch, system, compression = codes
+    words = ["-A", arch, "-O", system, "-T", kind, "-C", compression, *words]
+    here = built([uimg, "mkimage"], [*words, own], time)
+    there = built(["mkimage"], [*words, real], time)
+    same = without_addresses if system == "tee" else lambda answer: answer
+    count.expect(f"image by {' '.join(words)} at {time}", same(here), same(there))
+    for tool in (["mkimage", "-l"], ["dumpimage", "-l"]):
+        status, text = output([*tool, own])
+        count.expect(f"{tool[0]} on {' '.join(words)}", (status, listing(text)), (0, here[1]))
+    os.remove(own)
+    os.remove(real)
+
+
+def compare_builds(uimg, kind):
+    """Every architecture, operating system and compression; the other options go round."""
+    count = Count()
+    names, times, entries = (itertools.cycle(values) for values in (NAMES, TIMES, ENTRIES))
+    counts = itertools.cycle([1, 2, 3, 6, 5]) if kind in PARTS else itertools.cycle([1])
+    firsts = itertools.cycle(range(len(DATA)))
+    with tempfile.TemporaryDirectory() as folder:
+        for codes in itertools.product(ARCHS, SYSTEMS, COMPRESSIONS):
+            first, number = next(firsts), next(counts)
+            parts = (DATA[first:] + DATA[:first])[:number]
+            words = [*next(entries), "-n", next(names), "-d", write_parts(folder, parts)]
+            compare_built(count, uimg, folder, kind, codes, words, next(times))
+    return count
+
+
+def compare_reading(uimg, kind):
+    """Images that the real mkimage made, listed, verified and unpacked."""
+    count = Count()
+    parts = [b"abc"] if kind in SINGLE else [b"abc", b"defg", b"hijkl" * 2000]
+    with tempfile.TemporaryDirectory() as folder:
+        for case in itertools.product(CODES, NAMES, TIMES, ADDRESSES):
+            compare(count, uimg, folder, kind, *case, parts)
+    return count
+
+
 def main():
     uimg = os.path.abspath(sys.argv[1])
     if shutil.which("mkimage") is None:
         print("peers: mkimage is not installed (Debian: u-boot-tools); nothing was compared")
         return
-    print("| Type | Images | Differences |")
-    print("|---|---|---|")
+    print("| Type | Images read | Differences | Images built by both | Differences |")
+    print("|---|---|---|---|---|")
     differences = []
     for kind in SINGLE + PARTS:
-        count = Count()
-        parts = [b"abc"] if kind in SINGLE else [b"abc", b"defg", b"hijkl" * 2000]
-        with tempfile.TemporaryDirectory() as folder:
-            for case in itertools.product(CODES, NAMES, TIMES, ADDRESSES):
-                compare(count, uimg, folder, kind, *case, parts)
-        print(f"| {kind} | {count.images} | {len(count.differences)} |")
-        differences += count.differences
+        read, made = compare_reading(uimg, kind), compare_builds(uimg, kind)
+        row = [read.images, len(read.differences), made.images, len(made.differences)]
+        print(f"| {kind} | {' | '.join(str(value) for value in row)} |", flush=True)
+        differences += read.differences + made.differences
     for what, here, there in differences[:10]:
-        print(f"\n{what}\n  uimg: {here}\n  peer: {there}")
+        print(f"\n{what}\n  uimg: {str(here)[:400]}\n  peer: {str(there)[:400]}")
     sys.exit(1 if differences else 0)
 
 

@@ -1,13 +1,14 @@
-ghost use Rattle.std.specs.Prelude.{◌≡◌, ℕ, List, Bool, Option, Some, IfOk, IsTrue, is_err};
+ghost use Rattle.std.specs.Prelude.{◌≡◌, ℕ, List, Bool, Option, Some, None, OnErr, IfOk, IsTrue, is_err};
 ghost use Rattle.uimg_base.specs.Device.{IsFresh, RisesIf};
 
 use crate::source::{Source, SourceFault};
 
 /// Files by their names, each opened as a source.
 ///
-/// Contracts see the bytes at each name, whether the files are honest, and how many opens were
-/// refused. Honest files open honest sources with those bytes. No call changes the bytes or the
-/// honesty, so a name that is opened twice has the same bytes.
+/// Contracts see the bytes at each name, whether the files are honest and complete, and how many
+/// opens were refused. Honest files open honest sources with those bytes; complete ones refuse no
+/// name that has bytes. No call changes any of these, so a name that is opened twice has the same
+/// bytes.
 pub trait Files {
     /// What a file is opened as.
     type Opened: Source;
@@ -17,6 +18,9 @@ pub trait Files {
 
     /// Whether what is opened has those bytes and answers them.
     ghost honest: { Self → Bool };
+
+    /// Whether an open is refused only of a name that has no bytes.
+    ghost complete: { Self → Bool };
 
     /// How many opens were refused. It stays at its greatest value.
     ghost refusals: { Self → ℕ };
@@ -28,6 +32,8 @@ pub trait Files {
     fn open(&mut self, name: &[u8]) -> Result<Self::Opened, SourceFault>
         ensures files { files self.new ≡ files self.old }
         ensures same_honest { honest self.new ≡ honest self.old }
+        ensures same_complete { complete self.new ≡ complete self.old }
+        ensures missing { IsTrue (complete self.old) → OnErr result (files self.old name.now ≡ None) }
         ensures refusals { RisesIf (is_err result) (refusals self.old) (refusals self.new) }
         ensures bytes { IsTrue (honest self.old) → IfOk result (λ opened.
             files self.old name.now ≡ Some (Self.Opened.device opened).bytes) }

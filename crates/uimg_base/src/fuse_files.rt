@@ -1,4 +1,4 @@
-ghost use Rattle.std.specs.Prelude.{◌≡◌};
+ghost use Rattle.std.specs.Prelude.{◌≡◌, false};
 
 use crate::files::Files;
 use crate::fuse_source::FuseSource;
@@ -21,7 +21,8 @@ impl<F: Files> FuseFiles<F> {
     ///
     /// The open number `from` and all later ones are refused. The open number `turn` gives a
     /// source that lets `calls` calls through; each other open gives one that lets through 2^64 - 1.
-    /// No open was refused yet by the fuse, which counts on its own.
+    /// No open was refused yet by the fuse, which counts on its own. Which opens are refused and how
+    /// many calls get through no clause says: tests show it.
     pub fn new(files: F, from: u64, turn: u64, calls: u64) -> FuseFiles<F>
         ensures files { ⟦<FuseFiles<F> as Files>⟧.files result ≡ F.files files }
         ensures honest { ⟦<FuseFiles<F> as Files>⟧.honest result ≡ F.honest files }
@@ -44,6 +45,8 @@ impl<F: Files> Files for FuseFiles<F> {
     ghost files = { λ s. F.files s.files };
 
     ghost honest = { λ s. F.honest s.files };
+
+    ghost complete = { λ _. false };
 
     ghost refusals = { λ s. s.refusals };
 

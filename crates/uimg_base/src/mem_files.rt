@@ -33,6 +33,8 @@ impl<'a> Files for MemFiles<'a> {
 
     ghost honest = { λ _. true };
 
+    ghost complete = { λ _. true };
+
     ghost refusals = { λ s. s.refusals };
 
     /// Opens the first file of this name. `SourceFault` comes only where no file has it.

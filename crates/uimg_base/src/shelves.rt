@@ -1,4 +1,4 @@
-ghost use Rattle.std.specs.Prelude.{◌≡◌, Bool, IfOk, IfSome, IsTrue};
+ghost use Rattle.std.specs.Prelude.{◌≡◌, Bool, Some, IfOk, IsTrue};
 ghost use Rattle.uimg_base.specs.Device.{IsFresh};
 
 use crate::source::{Source, SourceFault};
@@ -12,12 +12,13 @@ pub trait Shelf: Write + Drop {
     /// Whether what is kept is what was written, and answers it.
     ghost honest: { Bool };
 
-    /// Ends the writing, and gives what was written as a source of which nothing was asked yet.
+    /// Ends the writing, and gives what was written as a source of which nothing was asked yet. An
+    /// honest shelf gives an honest source with just the bytes that were written.
     ///
     /// `SourceFault` comes where what was written cannot be read.
     fn keep(self) -> Result<Self::Kept, SourceFault>
         ensures bytes { IsTrue honest → IfOk result (λ kept.
-            IfSome (Self.contents self) (λ written. (Self.Kept.device kept).bytes ≡ written)) }
+            Self.contents self ≡ Some (Self.Kept.device kept).bytes) }
         ensures honest { IsTrue honest → IfOk result (λ kept. IsTrue (Self.Kept.device kept).honest) }
         ensures fresh { IfOk result (λ kept. IsFresh (Self.Kept.device kept)) };
 }

@@ -1,6 +1,6 @@
 -- One of several devices was called.
 use Rattle.std.proofs.Common.{◌≡◌, ◌<◌, ℕ, List, [], length, map, get_or, set, Bool, true, false, IsTrue, ◌∙◌, ap, sym, subst, arith}
-use Rattle.std.proofs.lemmas.List.{map-set, length-map, get_or-map, get_or-set_same}
+use Rattle.std.proofs.lemmas.List.{map-set, length-map, get_or-map, get_or-set_same, get_or-set_other}
 use Rattle.std.proofs.Math.Seq.{map-set_same}
 use Rattle.uimg_base.specs.Device.{Device, SameDevice, Rose, RisesIf}
 use Rattle.uimg_legacy.specs.Devices.{bytes_of, asked_of, failures_of, AreHonest, SameDevices, OneRisesIf}
@@ -49,6 +49,10 @@ rises_after device true xs i x z within rose =
       number = i;
       within = rw (length-map xs device) within;
       rose = subst (λ (n : ℕ). Rose (failures_of (map device xs) i) n) (sym new) (subst (λ (n : ℕ). Rose n (device z).failures) (sym old) rose);
+      others = λ j other.
+          ap (λ ds. get_or (map (λ (d : Device). d.failures) ds) j 0) (map-set device xs i z)
+          ∙ ap (λ ns. get_or ns j 0) (map-set (λ (d : Device). d.failures) (map device xs) i (device z))
+          ∙ get_or-set_other (map (λ (d : Device). d.failures) (map device xs)) i j (device z).failures 0 other;
     }
 
 -- one call after others
@@ -86,4 +90,5 @@ rises_then true o m n count same rose = record {
   number = rose.number;
   within = subst (λ (k : ℕ). rose.number < k) count rose.within;
   rose = subst (λ (ns : List ℕ). Rose (get_or ns rose.number 0) (failures_of n rose.number)) same rose.rose;
+  others = λ j other. subst (λ (ns : List ℕ). failures_of n j ≡ get_or ns j 0) same (rose.others j other);
 }

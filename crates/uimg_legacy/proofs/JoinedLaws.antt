@@ -73,9 +73,9 @@ table_start s t ps i h p = table_front s t t ps i h p (front_none t _)
 pub joined_more : (ps : List (List ℕ)) (i : ℕ) → i < length ps → joined (take (i + 1) ps) ≡ joined (take i ps) ++ (padding (length (joined (take i ps))) ++ get_or ps i [])
 joined_more ps i h = ap joined (take_more ps i [] h) ∙ joined_snoc (take i ps) (get_or ps i [])
 
--- how far past a multiple of 4 they end
-pub past_more : (ps : List (List ℕ)) (i : ℕ) → i < length ps → length (joined (take (i + 1) ps)) % 4 ≡ length (get_or ps i []) % 4
-past_more ps i h =
+-- the remainder of their length by 4
+pub remainder_more : (ps : List (List ℕ)) (i : ℕ) → i < length ps → length (joined (take (i + 1) ps)) % 4 ≡ length (get_or ps i []) % 4
+remainder_more ps i h =
     let all = length-append (joined (take i ps)) (padding (length (joined (take i ps))) ++ get_or ps i []) in
     let rest = length-append (padding (length (joined (take i ps)))) (get_or ps i []) in
     let zeros = length-padding (length (joined (take i ps))) in

@@ -1,5 +1,5 @@
 -- What a legacy image is that is built from parts.
-use Rattle.std.specs.Prelude.{◌≡◌, ℕ, ⊤, ◌-◌, List, [], ◌∷◌, ◌++◌, length, replicate, nat_lt, ◌==◌, ◌&&◌, if◌then◌else◌, Result, Ok, Err, Bool, true, false}
+use Rattle.std.specs.Prelude.{ℕ, ◌-◌, List, [], ◌∷◌, ◌++◌, length, replicate, nat_lt, ◌==◌, ◌&&◌, if◌then◌else◌, Result, Ok, Err, Bool, true, false}
 use Rattle.std.specs.Int.{to_be_bytes, w32}
 use Rattle.std.specs.List.{flat_map, list_any}
 use Rattle.uimg_base.specs.Crc.{crc}
@@ -8,10 +8,8 @@ use Rattle.uimg_legacy.specs.declared.header.Header.{Header}
 use Rattle.uimg_legacy.specs.declared.options.Options.{Options}
 use Rattle.uimg_legacy.specs.declared.fault.LegacyFault.{LegacyFault}
 use Rattle.uimg_legacy.specs.declared.fault.LegacyFault.TheVariants.{EmptyPart, TooLarge}
-use Rattle.uimg_legacy.specs.declared.fault.Fault.{Fault}
-use Rattle.uimg_legacy.specs.declared.fault.Fault.TheVariants.{Legacy, Read, Put}
 use Rattle.uimg_legacy.specs.Numbers.{up4}
-use Rattle.uimg_legacy.specs.Header.{header, spelled}
+use Rattle.uimg_legacy.specs.Header.{spelled}
 use Rattle.uimg_legacy.specs.Parts.{has_parts}
 
 -- the zeros that bring so many bytes to a multiple of 4
@@ -48,11 +46,6 @@ header_for options payload = record {
   name = options.name;
 }
 
--- these are the bytes of a header, and they are read as that header
-pub record IsHead (bytes : List ℕ) (h : Header) : Type 0 where
-  pub spelled : bytes ≡ spelled h
-  pub read : header bytes ≡ Ok h
-
 -- the header's 64 bytes, and the data
 abbrev pub legacy_image : Options → List ℕ → List ℕ
 legacy_image options payload = spelled (header_for options payload) ++ payload
@@ -80,10 +73,3 @@ build_from options (Err fault) = told [] (refused fault)
 -- building writes the image, or nothing where the parts are refused
 abbrev pub build_of : Options → List (List ℕ) → Outcome LegacyFault
 build_of options parts = build_from options (data_to_build options.kind parts)
-
--- An answer is the size of the data, or the fault of parts that are refused, unless a device failed.
-abbrev pub Measures : ℕ → List (List ℕ) → Result ℕ Fault → Type 0
-Measures kind parts (Ok size) = (data_to_build kind parts ≡ Ok (data_of (has_parts kind) parts)) × (size ≡ length (data_of (has_parts kind) parts))
-Measures kind parts (Err (Legacy fault)) = data_to_build kind parts ≡ Err fault
-Measures kind parts (Err Read) = ⊤
-Measures kind parts (Err Put) = ⊤

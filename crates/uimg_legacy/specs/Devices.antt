@@ -1,5 +1,5 @@
 -- What contracts see of several devices.
-use Rattle.std.specs.Prelude.{◌≡◌, ℕ, ◌<◌, List, length, map, slice_index_or, Bool, true, false, IsTrue, All}
+use Rattle.std.specs.Prelude.{◌≡◌, ◌≢◌, ℕ, ◌<◌, List, length, map, slice_index_or, Bool, true, false, IsTrue, All}
 use Rattle.uimg_base.specs.Device.{Device, Rose}
 
 -- the bytes of each device
@@ -19,13 +19,14 @@ pub record SameDevices (old new : List Device) : Type 0 where
 abbrev pub failures_of : List Device → ℕ → ℕ
 failures_of devices i = slice_index_or (map (λ d. d.failures) devices) i 0
 
--- The failures of one of the devices rose, or stood at their greatest value.
+-- The failures of one of the devices rose, or stood at their greatest value. Those of the others are as before.
 pub record OneRose (old new : List Device) : Type 0 where
   pub number : ℕ
   pub within : number < length old
   pub rose : Rose (failures_of old number) (failures_of new number)
+  pub others : (i : ℕ) → i ≢ number → failures_of new i ≡ failures_of old i
 
--- The failures of a device rose exactly where a test holds.
+-- The failures of one of the devices rose where a test holds, and else none changed.
 abbrev pub OneRisesIf : Bool → List Device → List Device → Type 0
 OneRisesIf true old new = OneRose old new
 OneRisesIf false old new = map (λ d. d.failures) new ≡ map (λ d. d.failures) old

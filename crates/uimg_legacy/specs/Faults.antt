@@ -38,7 +38,7 @@ end_of (Err (Legacy f)) = Some (refused f)
 end_of (Err Read) = None
 end_of (Err Put) = None
 
--- the same of a call that answers no status
+-- the end that the answer of a building tells, where no device failed
 abbrev pub built_end : {X : Type 0} → Result X Fault → Option (End LegacyFault)
 built_end (Ok x) = Some done
 built_end (Err (Legacy f)) = Some (refused f)

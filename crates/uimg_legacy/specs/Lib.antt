@@ -9,4 +9,5 @@ pub mod Listing
 pub mod Faults
 pub mod Devices
 pub mod Building
+pub mod BuildingSteps
 pub mod ReadsBack

@@ -1,11 +1,12 @@
-ghost use Rattle.std.specs.Prelude.{◌≡◌, ◌≢◌, ℕ, ◌^◌, ◌<◌, List, ◌++◌, length, map, false, IsTrue, OnOk, IfOk, is_err};
+ghost use Rattle.std.specs.Prelude.{◌≡◌, ◌≢◌, ℕ, ◌^◌, ◌<◌, List, ◌++◌, length, map, false, IsTrue, OnOk, IfOk, is_err, Ok};
 ghost use Rattle.std.specs.List.{All};
 ghost use Rattle.uimg_base.specs.Crc.{crc};
 ghost use Rattle.uimg_base.specs.Device.{RisesIf};
 ghost use Rattle.uimg_base.specs.Sink.{AppendsAll, AppendsFront};
 ghost use Rattle.uimg_base.specs.Outcome.{Tells};
 ghost use Rattle.uimg_legacy.specs.Parts.{has_parts};
-ghost use Rattle.uimg_legacy.specs.Building.{data_of, data_to_build, legacy_built, build_of, header_for, IsHead};
+ghost use Rattle.uimg_legacy.specs.Building.{data_of, data_to_build, legacy_built, build_of, header_for};
+ghost use Rattle.uimg_legacy.specs.BuildingSteps.{IsHead};
 ghost use Rattle.uimg_legacy.specs.ReadsBack.{ReadsBack};
 ghost use Rattle.uimg_legacy.specs.Devices.{bytes_of, asked_of, AreHonest, SameDevices, OneRisesIf};
 ghost use Rattle.uimg_legacy.specs.Faults.{is_read, is_put, is_refused, built_end, Gives};
@@ -85,7 +86,8 @@ fn put_image<S: Source, W: Write>(
 /// Refusals come before the first byte: `EmptyPart` where a part of multi or script is empty, then
 /// `TooLarge` where the data have more than 4294967295 bytes. `Read` comes exactly where a part
 /// failed, `Put` exactly where a write did; over honest parts a front of the image was written then.
-/// No part is held in memory: each is read twice, through a window of 8192 bytes.
+/// No part is held in memory: each goes through a window of 8192 bytes, once for the checksum and
+/// once to be written.
 pub fn build<S: Source, W: Write>(
     options: &Options,
     parts: &mut [S],
@@ -96,8 +98,10 @@ pub fn build<S: Source, W: Write>(
     ensures same { SameDevices (map S.device parts.old) (map S.device parts.new) }
     ensures failures { OneRisesIf (is_read result) (map S.device parts.old) (map S.device parts.new) }
     ensures faults { RisesIf (is_put result) out.old.faults out.new.faults }
-    ensures refused { Gives (λ _. data_of (has_parts options.now.kind) (bytes_of (map S.device parts.old))) result
+    ensures decided { Gives (λ _. data_of (has_parts options.now.kind) (bytes_of (map S.device parts.old))) result
         (data_to_build options.now.kind (bytes_of (map S.device parts.old))) }
+    ensures accepted { IsTrue (is_put result) → data_to_build options.now.kind (bytes_of (map S.device parts.old))
+        ≡ Ok (data_of (has_parts options.now.kind) (bytes_of (map S.device parts.old))) }
     ensures untouched { IsTrue (is_refused result) →
         (out.new ≡ out.old) × (asked_of (map S.device parts.new) ≡ asked_of (map S.device parts.old)) }
     ensures told { AreHonest (map S.device parts.old) →

@@ -38,10 +38,10 @@ fn feed_joined<M: Summer, S: Source>(
     ensures fed { AreHonest (map S.device parts.old) → OnOk result ((fed : List ℕ) →
         M.holds sum.old fed → M.holds sum.new (fed ++ joined (bytes_of (map S.device parts.old)))) }
 {
-    let mut past = 0;
+    let mut remainder = 0;
     for i in 0..parts.len() {
-        sum.feed(zeros_after(past));
-        past = feed_part(sum, parts, i, window)? % 4;
+        sum.feed(zeros_after(remainder));
+        remainder = feed_part(sum, parts, i, window)? % 4;
     }
     Ok(())
 }
@@ -115,10 +115,10 @@ fn put_joined<S: Source, W: Write>(
     ensures ok { AreHonest (map S.device parts.old) →
         OnOk result (AppendsAll out.old out.new (joined (bytes_of (map S.device parts.old)))) }
 {
-    let mut past = 0;
+    let mut remainder = 0;
     for i in 0..parts.len() {
-        out.put_all(zeros_after(past))?;
-        past = put_part(parts, i, window, out)? % 4;
+        out.put_all(zeros_after(remainder))?;
+        remainder = put_part(parts, i, window, out)? % 4;
     }
     Ok(())
 }

@@ -1,6 +1,7 @@
 ghost use Rattle.std.specs.Prelude.{◌≡◌, ◌+◌, ◌%◌, ◌^◌, ◌<◌, ◌≤◌, ◌&&◌, length, map, false, IfOk, is_err};
 ghost use Rattle.uimg_legacy.specs.Parts.{has_parts};
-ghost use Rattle.uimg_legacy.specs.Building.{joined, data_of, has_empty, Measures};
+ghost use Rattle.uimg_legacy.specs.Building.{joined, data_of, has_empty};
+ghost use Rattle.uimg_legacy.specs.BuildingSteps.{Measures};
 ghost use Rattle.uimg_legacy.specs.Devices.{bytes_of, asked_of, SameDevices, OneRisesIf};
 ghost use Rattle.uimg_legacy.specs.Faults.{is_read, is_put};
 

@@ -10,12 +10,12 @@ use crate::fault::Fault;
 use std::io::Write;
 use uimg_base::{Out, Source, SourceFault, Summer, copy_through, feed_through};
 
-// The zeros behind bytes that end so far past a multiple of 4.
-pub(crate) fn zeros_after(past: u64) -> &'static [u8]
-    requires { past < 4 }
-    ensures { (n : ℕ) → n % 4 ≡ past → result.now ≡ padding n }
+// The zeros behind bytes whose number has this remainder by 4.
+pub(crate) fn zeros_after(remainder: u64) -> &'static [u8]
+    requires { remainder < 4 }
+    ensures { (n : ℕ) → n % 4 ≡ remainder → result.now ≡ padding n }
 {
-    match past {
+    match remainder {
         1 => &[0; 3],
         2 => &[0; 2],
         3 => &[0; 1],

@@ -1,8 +1,8 @@
-ghost use Rattle.std.specs.Prelude.{◌≡◌, ◌↔◌, ◌+◌, ◌-◌, ◌^◌, ◌<◌, ◌≤◌, [], IsTrue, Err};
+ghost use Rattle.std.specs.Prelude.{◌≡◌, ◌↔◌, ◌+◌, ◌-◌, ◌^◌, ◌<◌, ◌≤◌, [], false, IsTrue, Err};
 ghost use Rattle.uimg_base.specs.Device.{SameDevice, RisesIf};
 ghost use Rattle.uimg_base.specs.Sink.{AppendsFront};
 ghost use Rattle.uimg_base.specs.Outcome.{Tells};
-ghost use Rattle.uimg_tool.specs.Faults.{is_read, is_put, is_refused, end_of};
+ghost use Rattle.uimg_tool.specs.Faults.{is_read, is_put, is_refused, is_of_making, end_of};
 ghost use Rattle.uimg_tool.specs.Headline.{outcome_of, work, ExtractsAhead, KeepsOutput, Stays, Meets};
 
 use crate::command::{Action, Command};
@@ -12,7 +12,7 @@ use std::io::Write;
 use uimg_base::{Out, Room, Source, Status};
 
 // The command by the engine of legacy images.
-fn run_legacy<S: Source, A: Allocator, W: Write>(
+pub(crate) fn run_legacy<S: Source, A: Allocator, W: Write>(
     action: Action,
     source: &mut S,
     room: &mut Room<A>,
@@ -27,6 +27,7 @@ fn run_legacy<S: Source, A: Allocator, W: Write>(
     ensures untouched { KeepsOutput action (is_refused result) out.old out.new }
     ensures failures { RisesIf (is_read result) (S.device source.old).failures (S.device source.new).failures }
     ensures faults { RisesIf (is_put result) out.old.faults out.new.faults }
+    ensures not_making { is_of_making result ≡ false }
     ensures told { IsTrue (S.device source.old).honest →
         Tells (end_of result) (outcome_of action (S.device source.old).bytes) out.old out.new }
 {
@@ -46,7 +47,7 @@ fn run_legacy<S: Source, A: Allocator, W: Write>(
 /// first fault. `Fault::Read` comes exactly where a read failed, `Fault::Put` exactly where a write
 /// did; over an honest source what was written then is a front of that text. At every exit an
 /// honest source was asked for at most `work` bytes, and the room has taken no memory. An
-/// extraction that is refused has written nothing.
+/// extraction that is refused has written nothing. The faults that only `make` answers never come.
 pub fn run<S: Source, A: Allocator, W: Write>(
     command: &Command,
     source: &mut S,
@@ -63,6 +64,7 @@ pub fn run<S: Source, A: Allocator, W: Write>(
         (result ≡ Err Fault.Read) ↔ ((S.device source.old).failures < (S.device source.new).failures) }
     ensures put { out.old.faults < 2 ^ 64 - 1 →
         (result ≡ Err Fault.Put) ↔ (out.old.faults < out.new.faults) }
+    ensures not_making { is_of_making result ≡ false }
     ensures asked { IsTrue (S.device source.old).honest →
         (S.device source.new).asked ≤ (S.device source.old).asked + work command.now.action (S.device source.old).bytes }
     ensures ahead { IsTrue (S.device source.old).honest →

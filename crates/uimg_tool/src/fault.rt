@@ -1,20 +1,34 @@
+use std::alloc::AllocError;
 use thiserror::Error;
 use uimg_legacy::LegacyFault;
 
-/// Why a command on an image stopped. Its text is the line that the program prints after `uimg: `.
+/// Why a command on an image, or the making of one, stopped. Its text is the line that the program
+/// prints after `uimg: `, but for `NoFile` and `Keep`, where the program prints the path.
 #[derive(Clone, Copy, Debug, PartialEq, Eq, Error)]
 pub enum Fault {
-    /// The legacy image is refused.
+    /// The legacy image, or the parts that one is made from, are refused.
     #[error("{0}")]
     Legacy(LegacyFault),
 
-    /// A read of the image failed.
+    /// A read failed.
     #[error("read failed")]
     Read,
 
-    /// A write of the text or the part failed.
+    /// A write failed.
     #[error("write failed")]
     Put,
+
+    /// The file of this number, counted from 0, could not be opened. Only `make` answers it.
+    #[error("cannot read file {0}")]
+    NoFile(u64),
+
+    /// What was written could not be read. Only `make` answers it.
+    #[error("cannot read what was written")]
+    Keep,
+
+    /// The memory for the opened files was refused. Only `make` answers it.
+    #[error("out of memory")]
+    OutOfMemory,
 }
 
 impl From<uimg_legacy::Fault> for Fault {
@@ -29,5 +43,16 @@ impl From<uimg_legacy::Fault> for Fault {
             uimg_legacy::Fault::Read => Fault::Read,
             uimg_legacy::Fault::Put => Fault::Put,
         }
+    }
+}
+
+impl From<AllocError> for Fault {
+    ghost use Rattle.std.specs.Prelude.{◌≡◌};
+    ghost use Rattle.uimg_tool.specs.declared.fault.Fault.TheVariants.{OutOfMemory};
+
+    ghost from_gives = { λ _ e. e ≡ OutOfMemory };
+
+    fn from(_error: AllocError) -> Fault {
+        Fault::OutOfMemory
     }
 }

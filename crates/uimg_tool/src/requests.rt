@@ -1,12 +1,15 @@
+use crate::disk_files::DiskFiles;
 use crate::engine::run;
 use crate::fault::Fault;
-use crate::words::{Request, WordsFault, read_words};
+use crate::make_command::MakeCommand;
+use crate::making::make;
+use crate::words::{MakeRequest, Request, RunRequest, WordsFault, read_words};
 use std::fmt::Display;
 use std::fs;
 use std::io::Write;
 use std::rt::Files;
 use thiserror::Error;
-use uimg_base::{FileSource, Out, Room, Status};
+use uimg_base::{FileShelf, FileSource, Out, Room, Status};
 
 /// All is done.
 const DONE: u8 = 0;
@@ -42,15 +45,18 @@ impl<'a> From<Fault> for RequestFault<'a> {
 /// The program: it carries out the words of a command line, the program's name first, and answers
 /// the exit status.
 ///
-/// Listings, reports and help go to `out`. A fault is one line on `err`, and a failed write to
-/// `err` changes nothing.
+/// `epoch` is the text of SOURCE_DATE_EPOCH where it is set, and `now` the clock's moment in seconds
+/// since 1970: the time of an image that is made. Listings, reports and help go to `out`. A fault is
+/// one line on `err`, and a failed write to `err` changes nothing.
 pub fn program<R: Files + AllocGlobal, W: Write, V: Write>(
     rt: &R,
     words: &[&str],
+    epoch: Option<&str>,
+    now: u32,
     out: &mut W,
     err: &mut V,
 ) -> u8 {
-    match read_words(rt.alloc(), words) {
+    match read_words(rt.alloc(), words, epoch, now) {
         Ok(request) => tell_end(&carry_out(rt, &request, out), err),
         Err(fault) => tell_words_fault(&fault, out, err),
     }
@@ -95,7 +101,18 @@ fn status_of(fault: &RequestFault<'_>) -> u8 {
 
 fn carry_out<'a, R: Files + AllocGlobal, W: Write>(
     rt: &R,
-    request: &Request<'a>,
+    request: &'a Request<'_>,
+    out: &mut W,
+) -> Result<Status, RequestFault<'a>> {
+    match request {
+        Request::Run(request) => run_request(rt, request, out),
+        Request::Make(request) => make_request(rt, request, out),
+    }
+}
+
+fn run_request<'a, R: Files + AllocGlobal, W: Write>(
+    rt: &R,
+    request: &RunRequest<'a>,
     out: &mut W,
 ) -> Result<Status, RequestFault<'a>> {
     let Ok(mut source) = FileSource::open(rt, request.image) else {
@@ -117,4 +134,37 @@ fn carry_out<'a, R: Files + AllocGlobal, W: Write>(
         }
     };
     Ok(status)
+}
+
+fn make_request<'a, R: Files + AllocGlobal, W: Write>(
+    rt: &R,
+    request: &'a MakeRequest<'_>,
+    out: &mut W,
+) -> Result<Status, RequestFault<'a>> {
+    let made = make(
+        rt.alloc(),
+        &request.command,
+        request.time,
+        &mut DiskFiles::new(rt, ""),
+        FileShelf::new(rt, request.outfile),
+        &mut Room::new(rt.alloc()),
+        &mut Out::new(out),
+    );
+    match made {
+        Ok(_) => Ok(Status::Done),
+        Err(Fault::NoFile(number)) => {
+            Err(RequestFault::CannotRead(file_name(&request.command, number)))
+        }
+        Err(Fault::Keep) => Err(RequestFault::CannotRead(request.outfile)),
+        Err(fault) => Err(RequestFault::Stopped(fault)),
+    }
+}
+
+// The name of a file of a command line, as the line gave it.
+fn file_name(command: &MakeCommand, number: u64) -> &str {
+    let MakeCommand::Parts { options: _, files } = command;
+    match files.get(number as usize) {
+        Some(name) => str::from_utf8(name).unwrap_or(""),
+        None => "",
+    }
 }

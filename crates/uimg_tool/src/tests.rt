@@ -1,11 +1,15 @@
 //! The program as a user sees it: what each command line prints, writes and answers.
 
+mod disk_files;
 mod extractions;
+mod failing_makes;
 mod failing_streams;
 mod files;
 mod helps;
 mod images;
 mod listings;
+mod make_lines;
+mod makes;
 mod reports;
 mod wrong_lines;
 
@@ -15,10 +19,12 @@ use std::process::Abort;
 use std::rt::Files;
 use std::test::Fail;
 
-// Runs the program on the words behind its name. It gives the exit status, standard output and
-// standard error.
-fn ran_words<R: Files + AllocGlobal>(
+// Runs the program on the words behind its name, at a time. It gives the exit status, standard
+// output and standard error.
+fn ran_at<R: Files + AllocGlobal>(
     rt: &R,
+    epoch: Option<&str>,
+    now: u32,
     words: &[&str],
 ) -> Result<(u8, Vec<u8>, Vec<u8>), Fail> {
     let mut all = Vec::new(rt.alloc());
@@ -28,8 +34,16 @@ fn ran_words<R: Files + AllocGlobal>(
     }
     let mut out = Vec::new(rt.alloc());
     let mut err = Vec::new(rt.alloc());
-    let status = program(rt, &all, &mut out, &mut err);
+    let status = program(rt, &all, epoch, now, &mut out, &mut err);
     Ok((status, out, err))
+}
+
+// The same at the beginning of 1970.
+fn ran_words<R: Files + AllocGlobal>(
+    rt: &R,
+    words: &[&str],
+) -> Result<(u8, Vec<u8>, Vec<u8>), Fail> {
+    ran_at(rt, None, 0, words)
 }
 
 // Runs the program, and compares all that it leaves.
@@ -40,7 +54,19 @@ fn expect<R: Files + AllocGlobal + Abort>(
     out: &str,
     err: &str,
 ) -> Result<(), Fail> {
-    let (end, printed, told) = ran_words(rt, words)?;
+    expect_at(rt, None, 0, words, (status, out, err))
+}
+
+// The same at a time: `end` is the exit status, standard output and standard error.
+fn expect_at<R: Files + AllocGlobal + Abort>(
+    rt: &R,
+    epoch: Option<&str>,
+    now: u32,
+    words: &[&str],
+    end: (u8, &str, &str),
+) -> Result<(), Fail> {
+    let (status, out, err) = end;
+    let (end, printed, told) = ran_at(rt, epoch, now, words)?;
     assert_eq!(rt; printed.as_slice(), out.as_bytes(), "{words:?}");
     assert_eq!(rt; told.as_slice(), err.as_bytes(), "{words:?}");
     assert_eq!(rt; end, status, "{words:?}");

@@ -1,16 +1,30 @@
-use crate::command::{Action, Command, Form};
+mod dumpimage;
+mod mkimage;
+mod verify;
+
+use crate::command::Command;
 use clap::error::ErrorKind;
-use clap::{Arg, ArgAction, ArgMatches};
+use clap::{Arg, ArgAction};
+pub use mkimage::MakeRequest;
 use std::alloc::{AllocError, Global};
 use thiserror::Error;
-use uimg_base::kind_code;
 
 // The code of the type flat_dt.
 const FLAT_DT: u8 = 8;
 
 /// What the words of a command line ask for.
+#[derive(Drop)]
+pub enum Request<'a> {
+    /// A command on an image.
+    Run(RunRequest<'a>),
+
+    /// The making of an image.
+    Make(MakeRequest<'a>),
+}
+
+/// A command on an image.
 #[derive(Clone, Copy, Debug, PartialEq, Eq)]
-pub struct Request<'a> {
+pub struct RunRequest<'a> {
     /// What is done with the image.
     pub command: Command,
 
@@ -40,13 +54,33 @@ pub enum WordsFault {
     #[error("no -l or -o")]
     NoListOrOutfile,
 
-    /// The word of -T is no known short name.
+    /// Neither a listing was asked of mkimage, nor are there data or a source.
+    #[error("no -d or -f")]
+    NoDataOrSource,
+
+    /// There are both data and a source.
+    #[error("-d with -f")]
+    DataWithSource,
+
+    /// A source, which can't be compiled yet.
+    #[error("-f is not there yet: image source cannot be compiled")]
+    SourceNotYet,
+
+    /// The word of -A, -O, -T or -C is no known short name.
     #[error("unknown name")]
     UnknownName,
 
-    /// A position isn't a decimal number of 32 bits.
+    /// A FIT was asked for by -d.
+    #[error("flat_dt needs -f")]
+    FlatDtNeedsSource,
+
+    /// A position isn't a decimal number of 32 bits, or an address no hexadecimal one.
     #[error("bad number")]
     BadNumber,
+
+    /// SOURCE_DATE_EPOCH is set and isn't a decimal number of 32 bits.
+    #[error("bad SOURCE_DATE_EPOCH")]
+    BadEpoch,
 
     /// Memory ran out.
     #[error("out of memory")]
@@ -69,19 +103,26 @@ impl From<AllocError> for WordsFault {
     }
 }
 
-/// Reads the words of a command line, the program's name first.
-pub fn read_words<'a>(alloc: Global, words: &'a [&'a str]) -> Result<Request<'a>, WordsFault> {
+/// Reads the words of a command line, the program's name first. `epoch` is SOURCE_DATE_EPOCH where
+/// it is set, and `now` the clock's moment.
+pub fn read_words<'a>(
+    alloc: Global,
+    words: &'a [&'a str],
+    epoch: Option<&str>,
+    now: u32,
+) -> Result<Request<'a>, WordsFault> {
     let matches = commands(alloc)?.try_get_matches_from(words)?;
     match matches.subcommand() {
-        Some(("dumpimage", own)) => dumpimage(own),
-        Some((_, own)) => verify(own),
+        Some(("dumpimage", own)) => Ok(Request::Run(dumpimage::request(own)?)),
+        Some(("mkimage", own)) => mkimage::request(alloc, own, epoch, now),
+        Some((_, own)) => Ok(Request::Run(verify::request(own))),
         None => Err(WordsFault::NoSubcommand),
     }
 }
 
 fn commands<'a>(alloc: Global) -> Result<clap::Command<'a>, AllocError> {
     clap::Command::new(alloc, "uimg")
-        .about("Lists, verifies and unpacks U-Boot images")
+        .about("Makes, lists, verifies and unpacks U-Boot images")
         .version("0.1.0")
         .subcommand_required(true)
         .arg_required_else_help(true)
@@ -93,41 +134,12 @@ fn commands<'a>(alloc: Global) -> Result<clap::Command<'a>, AllocError> {
                 .action(ArgAction::Version)
                 .help("Print the name and the version"),
         )?
-        .subcommand(dumpimage_command(alloc)?)?
-        .subcommand(verify_command(alloc)?)
+        .subcommand(mkimage::command(alloc)?)?
+        .subcommand(dumpimage::command(alloc)?)?
+        .subcommand(verify::command(alloc)?)
 }
 
-fn dumpimage_command<'a>(alloc: Global) -> Result<clap::Command<'a>, AllocError> {
-    clap::Command::new(alloc, "dumpimage")
-        .about("List an image, or extract a part of it")
-        .arg(
-            Arg::new(alloc, "list")
-                .short('l')
-                .action(ArgAction::SetTrue)
-                .help("List the image on standard output"),
-        )?
-        .arg(value(alloc, "type", 'T', "Read the image as one of this type"))?
-        .arg(value(
-            alloc,
-            "position",
-            'p',
-            "Extract the part of this number, counted from 0",
-        ))?
-        .arg(value(
-            alloc,
-            "outfile",
-            'o',
-            "Write the extracted part to this file",
-        ))?
-        .arg(Arg::new(alloc, "image").required(true).help("The image"))
-}
-
-fn verify_command<'a>(alloc: Global) -> Result<clap::Command<'a>, AllocError> {
-    clap::Command::new(alloc, "verify")
-        .about("Check every checksum of an image, and report each")
-        .arg(Arg::new(alloc, "image").required(true).help("The image"))
-}
-
+// An option with a value.
 fn value<'a>(alloc: Global, id: &'a str, short: char, help: &'a str) -> Arg<'a> {
     Arg::new(alloc, id)
         .short(short)
@@ -136,54 +148,15 @@ fn value<'a>(alloc: Global, id: &'a str, short: char, help: &'a str) -> Arg<'a> 
         .help(help)
 }
 
-fn dumpimage<'a>(matches: &ArgMatches<'a>) -> Result<Request<'a>, WordsFault> {
-    let list = matches.get_flag("list");
-    let outfile = matches.get_str("outfile");
-    if !list && outfile.is_none() {
-        return Err(WordsFault::NoListOrOutfile);
-    }
-    let form = match matches.get_str("type") {
-        Some(name) => form_named(name)?,
-        None => Form::Guess,
-    };
-    let action = if list {
-        Action::List
-    } else {
-        Action::Extract(position(matches.get_str("position"))?)
-    };
-    Ok(Request {
-        command: Command { action, form },
-        image: matches.get_str("image").unwrap_or(""),
-        outfile: if list { None } else { outfile },
-    })
+// An option without a value.
+fn flag<'a>(alloc: Global, id: &'a str, short: char, help: &'a str) -> Arg<'a> {
+    Arg::new(alloc, id)
+        .short(short)
+        .action(ArgAction::SetTrue)
+        .help(help)
 }
 
-fn verify<'a>(matches: &ArgMatches<'a>) -> Result<Request<'a>, WordsFault> {
-    Ok(Request {
-        command: Command {
-            action: Action::Verify,
-            form: Form::Guess,
-        },
-        image: matches.get_str("image").unwrap_or(""),
-        outfile: None,
-    })
-}
-
-// The format of an image type's short name. FIT images, which flat_dt asks for, aren't read yet.
-fn form_named(name: &str) -> Result<Form, WordsFault> {
-    match kind_code(name.as_bytes()) {
-        Some(FLAT_DT) | None => Err(WordsFault::UnknownName),
-        Some(_) => Ok(Form::Legacy),
-    }
-}
-
-// A position is one or more decimal digits, and 0 where none is given.
-fn position(text: Option<&str>) -> Result<u32, WordsFault> {
-    let Some(text) = text else {
-        return Ok(0);
-    };
-    if !text.bytes().all(|byte| byte.is_ascii_digit()) {
-        return Err(WordsFault::BadNumber);
-    }
-    text.parse::<u32>().map_err(|_| WordsFault::BadNumber)
+// The image, which each command is about.
+fn image<'a>(alloc: Global, help: &'a str) -> Arg<'a> {
+    Arg::new(alloc, "image").required(true).help(help)
 }

@@ -34,14 +34,14 @@ fn multi() -> Options {
     }
 }
 
-// Builds, where there are as many parts as the type asks for, and is done with no part else.
+// Builds, where there are as many parts as the type asks for.
 fn try_build<S: Source, W: Write>(
     options: &Options,
     parts: &mut [S],
     out: &mut Out<W>,
 ) -> Result<(), Fault> {
     if parts.is_empty() || (!has_parts(options.kind) && parts.len() != 1) {
-        return Ok(());
+        return Err(Fault::Legacy(LegacyFault::NoSuchPart));
     }
     build(options, parts, out)
 }
@@ -166,11 +166,40 @@ fn fails_each(alloc: Global, turn: usize) -> bool {
 #[test]
 fn writer_takes_n(rt: HostRuntime) {
     let alloc = rt.alloc();
-    for n in 0..93usize {
+    for n in 0..=93usize {
         let mut out = Out::new(FuseWriter::new(Vec::new(alloc), n as u64));
         let end = try_build(&multi(), &mut three_parts(), &mut out);
         let image = out.into_inner().into_inner();
-        assert_eq!(rt; end, Err(Fault::Put));
+        let whole = if n == 93 { Ok(()) } else { Err(Fault::Put) };
+        assert_eq!(rt; end, whole);
         assert_eq!(rt; image.as_slice(), &THREE_PART_MULTI[..n]);
+    }
+}
+
+// Parts about the window's length of 8192 bytes and of several windows are built and read back.
+#[test]
+fn long_parts(rt: HostRuntime) {
+    let alloc = rt.alloc();
+    let mut bytes = [0u8; 20000];
+    for (number, byte) in bytes.iter_mut().enumerate() {
+        *byte = (number % 251) as u8;
+    }
+    for length in [8191, 8192, 8193, 20000] {
+        let first = &bytes[..length];
+        let mut parts = [MemSource::new(first), MemSource::new(b"end")];
+        let (end, image) = built(alloc, &multi(), &mut parts);
+        assert_eq!(rt; end, Ok(()));
+        let (end, report) = answer(alloc, Command::Verify, &image);
+        assert_eq!(rt; end, Ok(Status::Done));
+        assert_eq!(rt;
+            report.as_slice(),
+            b"header crc32 ok\ndata crc32 ok\n".as_slice()
+        );
+        let (end, part) = answer(alloc, Command::Extract(0), &image);
+        assert_eq!(rt; end, Ok(Status::Done));
+        assert_eq!(rt; part.as_slice(), first);
+        let (end, part) = answer(alloc, Command::Extract(1), &image);
+        assert_eq!(rt; end, Ok(Status::Done));
+        assert_eq!(rt; part.as_slice(), b"end".as_slice());
     }
 }

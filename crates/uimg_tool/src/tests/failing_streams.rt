@@ -18,7 +18,7 @@ fn expect_cut<R: Files + AllocGlobal + Abort>(
 ) -> Result<(), Fail> {
     let mut printed = FuseWriter::new(Vec::new(rt.alloc()), room.0);
     let mut told = FuseWriter::new(Vec::new(rt.alloc()), room.1);
-    let end = program(rt, words, &mut printed, &mut told);
+    let end = program(rt, words, None, 0, &mut printed, &mut told);
     assert_eq!(rt; end, status, "{words:?}");
     let printed = printed.into_inner();
     assert_eq!(rt; printed.as_slice(), out.as_bytes(), "{words:?}");

@@ -10,6 +10,14 @@ pub(super) const ABC_KERNEL: [u8; 67] = [
     0x61, 0x62, 0x63,
 ];
 
+pub(super) const ABC_LISTING: &str = "Image Name:   01234567890123456789012345678901
+Created:      Tue Nov 14 22:13:20 2023
+Image Type:   AArch64 Linux Kernel Image (uncompressed)
+Data Size:    3 Bytes = 0.00 KiB = 0.00 MiB
+Load Address: 00080000
+Entry Point:  00080000
+";
+
 // SOURCE_DATE_EPOCH=0 mkimage -T multi -d a:b:c, the files holding abc, defg and hijkl (U-Boot's
 // mkimage 2023.01)
 pub(super) const THREE_PART_MULTI: [u8; 93] = [
@@ -20,6 +28,18 @@ pub(super) const THREE_PART_MULTI: [u8; 93] = [
     0x00, 0x00, 0x00, 0x03, 0x00, 0x00, 0x00, 0x04, 0x00, 0x00, 0x00, 0x05, 0x00, 0x00, 0x00, 0x00,
     0x61, 0x62, 0x63, 0x00, 0x64, 0x65, 0x66, 0x67, 0x68, 0x69, 0x6a, 0x6b, 0x6c,
 ];
+
+pub(super) const THREE_PART_LISTING: &str = "Image Name:   
+Created:      Thu Jan  1 00:00:00 1970
+Image Type:   PowerPC Linux Multi-File Image (gzip compressed)
+Data Size:    29 Bytes = 0.03 KiB = 0.00 MiB
+Load Address: 00000000
+Entry Point:  00000000
+Contents:
+   Image 0: 3 Bytes = 0.00 KiB = 0.00 MiB
+   Image 1: 4 Bytes = 0.00 KiB = 0.00 MiB
+   Image 2: 5 Bytes = 0.00 KiB = 0.00 MiB
+";
 
 // A multi image whose second size, 100, passes the data's end; its checksums are right.
 pub(super) const PART_OUTSIDE: [u8; 81] = [

@@ -1,16 +1,9 @@
 use super::expect_on;
 use super::images::{
-    ABC_KERNEL, NO_TABLE_END, PART_OUTSIDE, THREE_PART_MULTI, changed_name, size_too_large,
+    ABC_KERNEL, ABC_LISTING, NO_TABLE_END, PART_OUTSIDE, THREE_PART_LISTING, THREE_PART_MULTI,
+    changed_name, size_too_large,
 };
 use std::test::Fail;
-
-const ABC_LISTING: &str = "Image Name:   01234567890123456789012345678901
-Created:      Tue Nov 14 22:13:20 2023
-Image Type:   AArch64 Linux Kernel Image (uncompressed)
-Data Size:    3 Bytes = 0.00 KiB = 0.00 MiB
-Load Address: 00080000
-Entry Point:  00080000
-";
 
 #[test]
 fn abc_kernel_is_listed(rt: HostRuntime) -> Result<(), Fail> {
@@ -37,23 +30,12 @@ fn abc_kernel_is_listed(rt: HostRuntime) -> Result<(), Fail> {
 
 #[test]
 fn three_part_multi_is_listed(rt: HostRuntime) -> Result<(), Fail> {
-    let listing = "Image Name:   
-Created:      Thu Jan  1 00:00:00 1970
-Image Type:   PowerPC Linux Multi-File Image (gzip compressed)
-Data Size:    29 Bytes = 0.03 KiB = 0.00 MiB
-Load Address: 00000000
-Entry Point:  00000000
-Contents:
-   Image 0: 3 Bytes = 0.00 KiB = 0.00 MiB
-   Image 1: 4 Bytes = 0.00 KiB = 0.00 MiB
-   Image 2: 5 Bytes = 0.00 KiB = 0.00 MiB
-";
     expect_on(
         &rt,
         &THREE_PART_MULTI,
         &["dumpimage", "-l", "three_parts.img"],
         0,
-        listing,
+        THREE_PART_LISTING,
         "",
     )
 }

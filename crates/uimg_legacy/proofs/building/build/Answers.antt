@@ -3,7 +3,8 @@ use Rattle.std.specs.List.{All}
 use Rattle.uimg_base.specs.Sink.{AppendsAll, AppendsFront}
 use Rattle.uimg_legacy.specs.Header.{header, spelled}
 use Rattle.uimg_legacy.specs.Parts.{has_parts}
-use Rattle.uimg_legacy.specs.Building.{data_of, header_for, legacy_image, IsHead}
+use Rattle.uimg_legacy.specs.Building.{data_of, header_for, legacy_image}
+use Rattle.uimg_legacy.specs.BuildingSteps.{IsHead}
 use Rattle.uimg_legacy.specs.Devices.{bytes_of, AreHonest}
 use Rattle.uimg_legacy.proofs.DevicesLaws.{same_then, honest_then, rises_then, count_same, count_bytes}
 use Rattle.uimg_legacy.proofs.ResultLaws.{OnOk-then, OnOk-always}

@@ -3,7 +3,7 @@ use Rattle.uimg_legacy.specs.Building.{joined}
 use Rattle.uimg_legacy.specs.Devices.{bytes_of, AreHonest, SameDevices}
 use Rattle.uimg_legacy.proofs.built_data.feed_joined.Given as goal
 
--- the parts before the index were fed, and end so far past a multiple of 4
+-- the parts before the index were fed, and the number of their bytes has this remainder by 4
 abbrev pub invariant-loop-i : goal.invariant-loop-i
 invariant-loop-i g l =
     let before = map g.S.Source.device l.fn.parts in
@@ -12,7 +12,7 @@ invariant-loop-i g l =
       count : length l.parts ≡ length l.fn.parts;
       same : SameDevices before now;
       failures : map (λ d. d.failures) now ≡ map (λ d. d.failures) before;
-      small : l.past < 4;
-      past : length (joined (take l.i (bytes_of before))) % 4 ≡ l.past;
+      small : l.remainder < 4;
+      remainder : length (joined (take l.i (bytes_of before))) % 4 ≡ l.remainder;
       fed : AreHonest before → (fed : List ℕ) → g.M.Summer.holds l.fn.sum fed → g.M.Summer.holds l.sum (fed ++ joined (take l.i (bytes_of before)));
     }

@@ -4,7 +4,7 @@ use Rattle.uimg_legacy.specs.Building.{joined}
 use Rattle.uimg_legacy.specs.Devices.{bytes_of, AreHonest, SameDevices}
 use Rattle.uimg_legacy.proofs.built_data.put_joined.Given as goal
 
--- the parts before the index were written, and end so far past a multiple of 4
+-- the parts before the index were written, and the number of their bytes has this remainder by 4
 abbrev pub invariant-loop-i : goal.invariant-loop-i
 invariant-loop-i g l =
     let before = map g.S.Source.device l.fn.parts in
@@ -14,7 +14,7 @@ invariant-loop-i g l =
       same : SameDevices before now;
       failures : map (λ d. d.failures) now ≡ map (λ d. d.failures) before;
       faults : l.out.faults ≡ l.fn.out.faults;
-      small : l.past < 4;
-      past : length (joined (take l.i (bytes_of before))) % 4 ≡ l.past;
+      small : l.remainder < 4;
+      remainder : length (joined (take l.i (bytes_of before))) % 4 ≡ l.remainder;
       written : AreHonest before → AppendsAll l.fn.out l.out (joined (take l.i (bytes_of before)));
     }

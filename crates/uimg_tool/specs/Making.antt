@@ -1,0 +1,138 @@
+-- What the making of an image gives.
+use Rattle.std.specs.Prelude.{◌≡◌, ◌≢◌, ℕ, ⊤, ◌<◌, List, length, map, take, Result, Ok, Err, Option, Some, IsSome, IsTrue, All, false, slice_index_or, [], None}
+use Rattle.uimg_base.specs.Device.{Device}
+use Rattle.uimg_base.specs.Sink.{Sink, AppendsAll, AppendsFront}
+use Rattle.uimg_base.specs.Outcome.{done}
+use Rattle.uimg_legacy.specs.declared.fault.LegacyFault.{LegacyFault}
+use Rattle.uimg_legacy.specs.declared.options.Options.{Options}
+use Rattle.uimg_legacy.specs.Parts.{has_parts}
+use Rattle.uimg_legacy.specs.Listing.{list_of}
+use Rattle.uimg_legacy.specs.Building.{data_of, data_to_build, legacy_built}
+use Rattle.uimg_legacy.specs.ReadsBack.{ReadsBack}
+use Rattle.uimg_tool.specs.declared.fault.Fault.{Fault}
+use Rattle.uimg_tool.specs.declared.fault.Fault.TheVariants.{Legacy, Read, Put, NoFile, Keep, OutOfMemory}
+use Rattle.uimg_tool.specs.declared.make_command.MakeCommand.{MakeCommand}
+use Rattle.uimg_tool.specs.declared.make_command.MakeCommand.TheVariants.{Parts}
+
+-- the options of a command
+abbrev pub options_of : MakeCommand → Options
+options_of (Parts options files) = options
+
+-- the names of a command's files
+abbrev pub names_of : MakeCommand → List (List ℕ)
+names_of (Parts options files) = map (λ name. name.items) files.items
+
+-- There is a name, and no second one unless the type is multi or script.
+pub record FitNames (options : Options) (names : List (List ℕ)) : Type 0 where
+  pub some : length names ≢ 0
+  pub single : has_parts options.kind ≡ false → length names ≡ 1
+
+-- the options at the time of the making
+abbrev pub timed : Options → ℕ → Options
+timed options time = record options { time = time }
+
+-- the names have these parts, in order
+abbrev pub HaveParts : (List ℕ → Option (List ℕ)) → List (List ℕ) → List (List ℕ) → Type 0
+HaveParts files names parts = map files names ≡ map Some parts
+
+-- All names have parts.
+pub record AreThere (files : List ℕ → Option (List ℕ)) (names : List (List ℕ)) : Type 0 where
+  pub parts : List (List ℕ)
+  pub have : HaveParts files names parts
+
+-- There is a name of number i, and the names before it have bytes.
+pub record Misses (files : List ℕ → Option (List ℕ)) (names : List (List ℕ)) (i : ℕ) : Type 0 where
+  pub within : i < length names
+  pub before : All (λ name. IsSome (files name)) (take i names)
+
+-- The parts of the names are refused.
+pub record Refuses (options : Options) (files : List ℕ → Option (List ℕ)) (names : List (List ℕ)) (fault : LegacyFault) : Type 0 where
+  pub parts : List (List ℕ)
+  pub have : HaveParts files names parts
+  pub refused : data_to_build options.kind parts ≡ Err fault
+
+-- The names have parts that an image is built from.
+pub record Accepts (options : Options) (files : List ℕ → Option (List ℕ)) (names : List (List ℕ)) : Type 0 where
+  pub parts : List (List ℕ)
+  pub have : HaveParts files names parts
+  pub accepted : data_to_build options.kind parts ≡ Ok (data_of (has_parts options.kind) parts)
+
+-- What is kept is the image of parts, and reads back as such.
+pub record KeepsImage (options : Options) (parts : List (List ℕ)) (kept : Device) : Type 0 where
+  pub accepted : data_to_build options.kind parts ≡ Ok (data_of (has_parts options.kind) parts)
+  pub bytes : kept.bytes ≡ legacy_built options parts
+  pub honest : IsTrue kept.honest
+  pub reads_back : ReadsBack (legacy_built options parts) parts
+
+-- What is kept is the image of the names' parts, and reads back as such.
+pub record Keeps (options : Options) (files : List ℕ → Option (List ℕ)) (names : List (List ℕ)) (kept : Device) : Type 0 where
+  pub parts : List (List ℕ)
+  pub have : HaveParts files names parts
+  pub image : KeepsImage options parts kept
+
+-- The image of the names' parts is kept, its whole listing was appended, and the listing isn't refused.
+pub record Makes (options : Options) (files : List ℕ → Option (List ℕ)) (names : List (List ℕ)) (kept : Device) (s t : Sink) : Type 0 where
+  pub keeps : Keeps options files names kept
+  pub listed : AppendsAll s t (list_of (legacy_built options keeps.parts)).text
+  pub done : (list_of (legacy_built options keeps.parts)).end ≡ done
+
+-- A front of the listing of the image of the names' parts was appended.
+pub record Breaks (options : Options) (files : List ℕ → Option (List ℕ)) (names : List (List ℕ)) (s t : Sink) : Type 0 where
+  pub parts : List (List ℕ)
+  pub have : HaveParts files names parts
+  pub front : AppendsFront s t (list_of (legacy_built options parts)).text
+
+-- why the files of the names aren't opened
+abbrev pub StopsOpening : (List ℕ → Option (List ℕ)) → List (List ℕ) → Fault → Type 0
+StopsOpening files names (Legacy fault) = ⊥
+StopsOpening files names Read = ⊥
+StopsOpening files names Put = ⊥
+StopsOpening files names (NoFile i) = Misses files names i
+StopsOpening files names Keep = ⊥
+StopsOpening files names OutOfMemory = ⊤
+
+-- why parts aren't built and kept
+abbrev pub StopsKeeping : Options → List (List ℕ) → Fault → Type 0
+StopsKeeping options parts (Legacy fault) = data_to_build options.kind parts ≡ Err fault
+StopsKeeping options parts Read = ⊤
+StopsKeeping options parts Put = data_to_build options.kind parts ≡ Ok (data_of (has_parts options.kind) parts)
+StopsKeeping options parts (NoFile i) = ⊥
+StopsKeeping options parts Keep = data_to_build options.kind parts ≡ Ok (data_of (has_parts options.kind) parts)
+StopsKeeping options parts OutOfMemory = ⊥
+
+-- why an image isn't built and kept
+abbrev pub StopsBuilding : Options → (List ℕ → Option (List ℕ)) → List (List ℕ) → Fault → Type 0
+StopsBuilding options files names (Legacy fault) = Refuses options files names fault
+StopsBuilding options files names Read = AreThere files names
+StopsBuilding options files names Put = Accepts options files names
+StopsBuilding options files names (NoFile i) = Misses files names i
+StopsBuilding options files names Keep = Accepts options files names
+StopsBuilding options files names OutOfMemory = ⊤
+
+-- An answer is the kept image, or why it isn't built and kept.
+abbrev pub BuildsAnswer : {K : Type 0} → (K → Device) → Options → (List ℕ → Option (List ℕ)) → List (List ℕ) → Result K Fault → Type 0
+BuildsAnswer device options files names (Ok kept) = Keeps options files names (device kept)
+BuildsAnswer device options files names (Err fault) = StopsBuilding options files names fault
+
+-- what the fault of a making says of what was appended
+abbrev pub StopsMaking : Options → (List ℕ → Option (List ℕ)) → List (List ℕ) → Fault → Sink → Sink → Type 0
+StopsMaking options files names (Legacy fault) s t = Refuses options files names fault × (t ≡ s)
+StopsMaking options files names Read s t = Breaks options files names s t
+StopsMaking options files names Put s t = Accepts options files names × Breaks options files names s t
+StopsMaking options files names (NoFile i) s t = Misses files names i × (t ≡ s)
+StopsMaking options files names Keep s t = Accepts options files names × (t ≡ s)
+StopsMaking options files names OutOfMemory s t = t ≡ s
+
+-- An answer is the kept image with its listing appended, or the fault of a making.
+abbrev pub MakesAnswer : {K : Type 0} → (K → Device) → Options → (List ℕ → Option (List ℕ)) → List (List ℕ) → Result K Fault → Sink → Sink → Type 0
+MakesAnswer device options files names (Ok kept) s t = Makes options files names (device kept) s t
+MakesAnswer device options files names (Err fault) s t = StopsMaking options files names fault s t
+
+-- a name whose open was refused has no bytes; of other faults this says nothing
+abbrev pub Lacks : (List ℕ → Option (List ℕ)) → List (List ℕ) → Fault → Type 0
+Lacks files names (Legacy fault) = ⊤
+Lacks files names Read = ⊤
+Lacks files names Put = ⊤
+Lacks files names (NoFile i) = files (slice_index_or names i []) ≡ None
+Lacks files names Keep = ⊤
+Lacks files names OutOfMemory = ⊤

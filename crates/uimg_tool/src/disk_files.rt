@@ -1,0 +1,72 @@
+ghost use Rattle.std.specs.Prelude.{None, false, IfOk};
+ghost use Rattle.uimg_base.specs.Device.{IsFresh};
+
+use std::rt;
+use uimg_base::{FileSource, Files, Source, SourceFault};
+
+/// The files of a folder, opened by their paths.
+///
+/// A name that begins with `/` is a path of its own, any other name is looked for in the folder.
+/// No contract says what a file has, so the files are not claimed to be honest.
+#[derive(Drop)]
+pub struct DiskFiles<'a, R: rt::Files + AllocGlobal> {
+    rt: &'a R,
+    folder: &'a str,
+    refusals: u64,
+}
+
+impl<'a, R: rt::Files + AllocGlobal> DiskFiles<'a, R> {
+    /// The files of a folder, of which no open was refused yet. An empty text is the current
+    /// folder.
+    pub fn new(rt: &'a R, folder: &'a str) -> DiskFiles<'a, R> {
+        DiskFiles {
+            rt,
+            folder,
+            refusals: 0,
+        }
+    }
+}
+
+impl<'a, R: rt::Files + AllocGlobal> Files for DiskFiles<'a, R> {
+    type Opened = FileSource<R::File>;
+
+    ghost files = { λ _ _. None };
+
+    ghost honest = { λ _. false };
+
+    ghost complete = { λ _. false };
+
+    ghost refusals = { λ s. s.refusals };
+
+    /// Opens the file of this name.
+    ///
+    /// `SourceFault` comes where the name isn't UTF-8, where the memory for the path is refused,
+    /// and as from `FileSource::open`.
+    fn open(&mut self, name: &[u8]) -> Result<FileSource<R::File>, SourceFault> {
+        let opened = open_in(self.rt, self.folder, name);
+        if opened.is_err() {
+            self.refusals = self.refusals.saturating_add(1);
+        }
+        opened
+    }
+}
+
+// Opens the file of a name in a folder.
+fn open_in<R: rt::Files + AllocGlobal>(
+    rt: &R,
+    folder: &str,
+    name: &[u8],
+) -> Result<FileSource<R::File>, SourceFault>
+    ensures { IfOk result (λ source. IsFresh (⟦<FileSource<R::File> as Source>⟧.device source)) }
+{
+    let Ok(name) = str::from_utf8(name) else {
+        return Err(SourceFault);
+    };
+    if folder.is_empty() || name.starts_with('/') {
+        return FileSource::open(rt, name);
+    }
+    match format!(in rt.alloc(); "{folder}/{name}") {
+        Ok(path) => FileSource::open(rt, path.as_str()),
+        Err(_) => Err(SourceFault),
+    }
+}

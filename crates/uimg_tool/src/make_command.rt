@@ -1,0 +1,15 @@
+use uimg_legacy::Options;
+
+/// What an image is made from.
+#[derive(Drop)]
+pub enum MakeCommand {
+    /// A legacy image is built from files.
+    Parts {
+        /// The fields of its header. `time` isn't looked at.
+        options: Options,
+
+        /// The names of the files: at least one, and exactly one unless the type is multi or
+        /// script.
+        files: Vec<Vec<u8>>,
+    },
+}

@@ -1,0 +1,61 @@
+use super::{FLAT_DT, RunRequest, WordsFault, flag, image, value};
+use crate::command::{Action, Command, Form};
+use crate::numbers::decimal;
+use clap::ArgMatches;
+use std::alloc::{AllocError, Global};
+use uimg_base::kind_code;
+
+pub(super) fn command<'a>(alloc: Global) -> Result<clap::Command<'a>, AllocError> {
+    clap::Command::new(alloc, "dumpimage")
+        .about("List an image, or extract a part of it")
+        .arg(flag(alloc, "list", 'l', "List the image on standard output"))?
+        .arg(value(alloc, "type", 'T', "Read the image as one of this type"))?
+        .arg(value(
+            alloc,
+            "position",
+            'p',
+            "Extract the part of this number, counted from 0",
+        ))?
+        .arg(value(
+            alloc,
+            "outfile",
+            'o',
+            "Write the extracted part to this file",
+        ))?
+        .arg(image(alloc, "The image"))
+}
+
+pub(super) fn request<'a>(matches: &ArgMatches<'a>) -> Result<RunRequest<'a>, WordsFault> {
+    let list = matches.get_flag("list");
+    let outfile = matches.get_str("outfile");
+    if !list && outfile.is_none() {
+        return Err(WordsFault::NoListOrOutfile);
+    }
+    let form = match matches.get_str("type") {
+        Some(name) => form_named(name)?,
+        None => Form::Guess,
+    };
+    let action = if list {
+        Action::List
+    } else {
+        Action::Extract(position(matches.get_str("position"))?)
+    };
+    Ok(RunRequest {
+        command: Command { action, form },
+        image: matches.get_str("image").unwrap_or(""),
+        outfile: if list { None } else { outfile },
+    })
+}
+
+// The format of an image type's short name. FIT images, which flat_dt asks for, aren't read yet.
+fn form_named(name: &str) -> Result<Form, WordsFault> {
+    match kind_code(name.as_bytes()) {
+        Some(FLAT_DT) | None => Err(WordsFault::UnknownName),
+        Some(_) => Ok(Form::Legacy),
+    }
+}
+
+// A position is 0 where none is given.
+fn position(text: Option<&str>) -> Result<u32, WordsFault> {
+    decimal(text.unwrap_or("0")).ok_or(WordsFault::BadNumber)
+}

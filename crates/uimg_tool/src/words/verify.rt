@@ -1,0 +1,21 @@
+use super::{RunRequest, image};
+use crate::command::{Action, Command, Form};
+use clap::ArgMatches;
+use std::alloc::{AllocError, Global};
+
+pub(super) fn command<'a>(alloc: Global) -> Result<clap::Command<'a>, AllocError> {
+    clap::Command::new(alloc, "verify")
+        .about("Check every checksum of an image, and report each")
+        .arg(image(alloc, "The image"))
+}
+
+pub(super) fn request<'a>(matches: &ArgMatches<'a>) -> RunRequest<'a> {
+    RunRequest {
+        command: Command {
+            action: Action::Verify,
+            form: Form::Guess,
+        },
+        image: matches.get_str("image").unwrap_or(""),
+        outfile: None,
+    }
+}
