@@ -25,7 +25,8 @@ demo: bin/uimg
 test:
 	$(RT) ci
 
-install: bin/uimg
+install:
+	test -x bin/uimg || $(MAKE) bin/uimg
 	install -D -m 755 bin/uimg $(DESTDIR)$(PREFIX)/bin/uimg
 	install -D -m 644 docs/uimg.1 $(DESTDIR)$(PREFIX)/share/man/man1/uimg.1
 

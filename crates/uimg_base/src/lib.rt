@@ -1,4 +1,5 @@
-//! Sources, output, a room, sums, texts and names for image readers.
+//! What every engine stands on: sources, files and shelves, output, a room, sums, ranges, texts and
+//! names.
 #![tactic(auto)]
 
 mod crc;

@@ -20,6 +20,7 @@ impl<'a> MemFiles<'a> {
         ensures files { (name : List ℕ) →
             ⟦<MemFiles<'a> as Files>⟧.files result name ≡ bytes_named name files.now }
         ensures honest { ⟦<MemFiles<'a> as Files>⟧.honest result ≡ true }
+        ensures complete { ⟦<MemFiles<'a> as Files>⟧.complete result ≡ true }
         ensures refusals { ⟦<MemFiles<'a> as Files>⟧.refusals result ≡ 0 }
     {
         MemFiles { files, refusals: 0 }

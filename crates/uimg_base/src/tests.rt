@@ -5,6 +5,7 @@ mod files;
 mod fuses;
 mod moves;
 mod named_files;
+mod outputs;
 mod rooms;
 mod shelves;
 

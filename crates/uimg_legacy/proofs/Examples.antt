@@ -6,13 +6,14 @@ use Rattle.uimg_base.specs.Crc.{crc, bits, number_of, add, polynomial, rem_by, r
 use Rattle.uimg_base.specs.Outcome.{done, refused, told, after, line}
 use Rattle.uimg_base.specs.Calendar.{civil_date}
 use Rattle.uimg_base.specs.Times.{time_text}
-use Rattle.uimg_legacy.specs.declared.fault.LegacyFault.TheVariants.{NoTableEnd, PartOutside, NoSuchPart}
+use Rattle.uimg_legacy.specs.declared.fault.LegacyFault.TheVariants.{NoTableEnd, PartOutside, NoSuchPart, EmptyPart}
 use Rattle.uimg_legacy.specs.Numbers.{be32, words}
-use Rattle.uimg_legacy.specs.Header.{head, has_right_crc, fields, header}
+use Rattle.uimg_legacy.specs.Header.{head, has_right_crc, fields, header, spelled_with}
 use Rattle.uimg_legacy.specs.Image.{has_right_data}
 use Rattle.uimg_legacy.specs.Parts.{has_parts, sizes, parts, start, is_outside}
 use Rattle.uimg_legacy.specs.Report.{verify_of}
 use Rattle.uimg_legacy.specs.Extraction.{component, single, extract_of}
+use Rattle.uimg_legacy.specs.Building.{joined, size_table, data_of, has_empty, data_to_build, legacy_built}
 use Rattle.uimg_legacy.specs.Listing.{name_line, time_line, type_line, load_line, entry_line, head_text, component_line, component_lines, list_of}
 
 -- components of 3, 4 and 5 bytes, each but the last padded to a multiple of 4
@@ -72,3 +73,17 @@ pub known_lines : (name_line (fields kernel) ≡ line (codes "Image Name:   0123
     × (entry_line (fields outside_image) ≡ line (codes "Entry Point:  00000000"))
 unfolding name_line time_line type_line load_line entry_line be32 time_text civil_date encode_with
 known_lines = (refl, refl, refl, refl, refl)
+
+-- the data of three parts, and of one that is empty
+pub three_built : (data_to_build 4 (codes "abc" ∷ codes "defg" ∷ codes "hijkl" ∷ []) ≡ Ok three)
+    × (data_to_build 6 (codes "abc" ∷ [] ∷ []) ≡ Err EmptyPart)
+    × (data_to_build 2 ([] ∷ []) ≡ Ok [])
+unfolding data_to_build has_parts has_empty joined size_table
+three_built = (refl, refl, refl)
+
+-- the kernel is what is built of `abc`
+pub kernel_built : legacy_built
+    (record { time = 1700000000; load = 524288; ep = 524288; os = 5; arch = 22; kind = 2; comp = 0; name = codes "01234567890123456789012345678901" })
+    (codes "abc" ∷ []) ≡ kernel
+unfolding has_parts joined spelled_with crc bits number_of add polynomial rem_by rem dividend invert_front
+kernel_built = refl

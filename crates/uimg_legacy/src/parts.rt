@@ -14,12 +14,17 @@ use byteorder::{BigEndian, ByteOrder};
 use std::alloc::Allocator;
 use uimg_base::{Room, Source, SourceFault};
 
+// The codes of the types multi and script.
+const MULTI: u8 = 4;
+
+const SCRIPT: u8 = 6;
+
 /// Whether an image of the type of this code has components: multi (4) and script (6) do.
 #[tactic(auto, unfolding(crate::specs::Parts::has_parts))]
 pub fn has_parts(kind: u8) -> bool
     ensures { result ≡ has_parts kind }
 {
-    kind == 4 || kind == 6
+    kind == MULTI || kind == SCRIPT
 }
 
 // The size rounded up to a multiple of 4.

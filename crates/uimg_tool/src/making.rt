@@ -103,6 +103,7 @@ fn keep_parts<F: Files, H: Shelf, A: Allocator>(
     ensures opens { RisesIf (is_no_file result) (F.refusals files.old) (F.refusals files.new) }
     ensures files { F.files files.new ≡ F.files files.old }
     ensures same_honest { F.honest files.new ≡ F.honest files.old }
+    ensures same_complete { F.complete files.new ≡ F.complete files.old }
     ensures missing { IsTrue (F.complete files.old) → IfErr result (Lacks (F.files files.old) (map (λ name. name.items) names.now)) }
 {
     let mut parts = open_all(alloc, names, files)?;
@@ -124,6 +125,7 @@ fn keep_image<F: Files, H: Shelf, A: Allocator>(
     ensures opens { RisesIf (is_no_file result) (F.refusals files.old) (F.refusals files.new) }
     ensures files { F.files files.new ≡ F.files files.old }
     ensures same_honest { F.honest files.new ≡ F.honest files.old }
+    ensures same_complete { F.complete files.new ≡ F.complete files.old }
     ensures missing { IsTrue (F.complete files.old) → IfErr result (Lacks (F.files files.old) (names_of command.now)) }
 {
     match command {
@@ -144,7 +146,8 @@ fn keep_image<F: Files, H: Shelf, A: Allocator>(
 /// file could not be opened; `Fault::Legacy`: the parts are refused, as `uimg_legacy::build` says;
 /// `Fault::Keep`: what was written could not be read. With these nothing is listed. `Fault::Read` and
 /// `Fault::Put` come where a read or a write failed, of the parts, the shelf or the listing; over
-/// honest ones a front of the listing was written then.
+/// honest ones a front of the listing was written then. Where a shelf keeps other bytes than were
+/// written, `Fault::Legacy` may also be what the listing says of them, after some of its lines.
 pub fn make<F: Files, H: Shelf, W: Write, A: Allocator, B: Allocator>(
     alloc: A,
     command: &MakeCommand,
@@ -163,6 +166,7 @@ pub fn make<F: Files, H: Shelf, W: Write, A: Allocator, B: Allocator>(
     ensures puts { is_put result ≡ false → out.new.faults ≡ out.old.faults }
     ensures files { F.files files.new ≡ F.files files.old }
     ensures same_honest { F.honest files.new ≡ F.honest files.old }
+    ensures same_complete { F.complete files.new ≡ F.complete files.old }
     ensures missing { IsTrue (F.complete files.old) → IfErr result (Lacks (F.files files.old) (names_of command.now)) }
     ensures put { out.old.faults < 2 ^ 64 - 1 → IsTrue (is_put result) →
         out.new.faults ≡ out.old.faults → out.new ≡ out.old }

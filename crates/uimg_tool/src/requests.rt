@@ -152,11 +152,16 @@ fn make_request<'a, R: Files + AllocGlobal, W: Write>(
     );
     match made {
         Ok(_) => Ok(Status::Done),
-        Err(Fault::NoFile(number)) => {
-            Err(RequestFault::CannotRead(file_name(&request.command, number)))
-        }
-        Err(Fault::Keep) => Err(RequestFault::CannotRead(request.outfile)),
-        Err(fault) => Err(RequestFault::Stopped(fault)),
+        Err(fault) => Err(stopped_making(request, fault)),
+    }
+}
+
+// Why a making stopped, with the path that the command line gave.
+fn stopped_making<'a>(request: &'a MakeRequest<'_>, fault: Fault) -> RequestFault<'a> {
+    match fault {
+        Fault::NoFile(number) => RequestFault::CannotRead(file_name(&request.command, number)),
+        Fault::Keep => RequestFault::CannotRead(request.outfile),
+        _ => RequestFault::Stopped(fault),
     }
 }
 
@@ -166,5 +171,93 @@ fn file_name(command: &MakeCommand, number: u64) -> &str {
     match files.get(number as usize) {
         Some(name) => str::from_utf8(name).unwrap_or(""),
         None => "",
+    }
+}
+
+#[cfg(test)]
+mod tests {
+    use super::*;
+    use std::test::Fail;
+    use uimg_legacy::LegacyFault;
+
+    // Each end has its line on standard error, or none, and its status.
+    #[test]
+    fn ends_have_their_lines(rt: HostRuntime) {
+        let ends = [
+            (Ok(Status::Done), "", 0u8),
+            (Ok(Status::NotRight), "", 1),
+            (
+                Err(RequestFault::Stopped(Fault::Legacy(LegacyFault::EmptyPart))),
+                "uimg: L9 empty part\n",
+                1,
+            ),
+            (
+                Err(RequestFault::Stopped(Fault::Read)),
+                "uimg: read failed\n",
+                3,
+            ),
+            (
+                Err(RequestFault::Stopped(Fault::Put)),
+                "uimg: write failed\n",
+                3,
+            ),
+            (
+                Err(RequestFault::Stopped(Fault::OutOfMemory)),
+                "uimg: out of memory\n",
+                3,
+            ),
+            (
+                Err(RequestFault::CannotRead("a b")),
+                "uimg: cannot read a b\n",
+                3,
+            ),
+            (
+                Err(RequestFault::CannotWrite("c")),
+                "uimg: cannot write c\n",
+                3,
+            ),
+        ];
+        for (end, line, status) in ends.iter() {
+            let mut err = Vec::new(rt.alloc());
+            assert_eq!(rt; tell_end(end, &mut err), *status, "{line}");
+            assert_eq!(rt; err.as_slice(), line.as_bytes());
+        }
+    }
+
+    // So do words that ask for nothing; nothing goes to standard output.
+    #[test]
+    fn words_have_their_lines(rt: HostRuntime) {
+        let faults = [
+            (WordsFault::NoSubcommand, "uimg: no command\n", 2u8),
+            (WordsFault::OutOfMemory, "uimg: out of memory\n", 3),
+        ];
+        for (fault, line, status) in faults.iter() {
+            let (mut out, mut err) = (Vec::new(rt.alloc()), Vec::new(rt.alloc()));
+            assert_eq!(rt; tell_words_fault(fault, &mut out, &mut err), *status);
+            assert_eq!(rt; err.as_slice(), line.as_bytes());
+            assert_eq!(rt; out.len(), 0);
+        }
+    }
+
+    // What can't be opened or read back is told by its path, as the command line gave it.
+    #[test]
+    fn makings_name_their_paths(rt: HostRuntime) -> Result<(), Fail> {
+        let words = ["uimg", "mkimage", "-T", "multi", "-d", "a:b", "c.img"];
+        let Ok(Request::Make(request)) = read_words(rt.alloc(), &words, None, 0) else {
+            panic!(rt; "no making");
+        };
+        let faults = [
+            (Fault::NoFile(0), "uimg: cannot read a\n"),
+            (Fault::NoFile(1), "uimg: cannot read b\n"),
+            (Fault::Keep, "uimg: cannot read c.img\n"),
+            (Fault::Put, "uimg: write failed\n"),
+        ];
+        for (fault, line) in faults {
+            let mut err = Vec::new(rt.alloc());
+            let end = Err(stopped_making(&request, fault));
+            assert_eq!(rt; tell_end(&end, &mut err), 3);
+            assert_eq!(rt; err.as_slice(), line.as_bytes());
+        }
+        Ok(())
     }
 }

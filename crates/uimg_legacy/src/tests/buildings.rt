@@ -176,7 +176,8 @@ fn writer_takes_n(rt: HostRuntime) {
     }
 }
 
-// Parts about the window's length of 8192 bytes and of several windows are built and read back.
+// Parts about the window's length of 8192 bytes and of several windows are read twice, built and
+// read back.
 #[test]
 fn long_parts(rt: HostRuntime) {
     let alloc = rt.alloc();
@@ -189,6 +190,10 @@ fn long_parts(rt: HostRuntime) {
         let mut parts = [MemSource::new(first), MemSource::new(b"end")];
         let (end, image) = built(alloc, &multi(), &mut parts);
         assert_eq!(rt; end, Ok(()));
+        assert_eq!(rt;
+            (parts[0].asked(), parts[1].asked()),
+            (2 * length as u128, 6)
+        );
         let (end, report) = answer(alloc, Command::Verify, &image);
         assert_eq!(rt; end, Ok(Status::Done));
         assert_eq!(rt;

@@ -50,16 +50,15 @@ impl<H: Shelf> Shelf for CutShelf<H> {
     }
 }
 
-// What the making of three-part-multi from these files answers, and what it lists.
-fn made<R: AllocGlobal + Abort, A: Allocator, F: Files, H: Shelf>(
+// What the making of the words from these files answers, and what it lists.
+fn made_by<R: AllocGlobal + Abort, A: Allocator, F: Files, H: Shelf>(
     rt: &R,
     alloc: A,
-    data: &str,
+    words: &[&str],
     files: &mut F,
     shelf: H,
 ) -> Result<(Option<Fault>, Vec<u8>), Fail> {
-    let words = ["uimg", "mkimage", "-T", "multi", "-d", data, "image"];
-    let Ok(Request::Make(request)) = read_words(rt.alloc(), &words, None, 0) else {
+    let Ok(Request::Make(request)) = read_words(rt.alloc(), words, None, 0) else {
         panic!(rt; "no making");
     };
     let mut room = Room::new(rt.alloc());
@@ -74,6 +73,18 @@ fn made<R: AllocGlobal + Abort, A: Allocator, F: Files, H: Shelf>(
         &mut out,
     );
     Ok((answer.err(), out.into_inner()))
+}
+
+// The same of an image of type multi.
+fn made<R: AllocGlobal + Abort, A: Allocator, F: Files, H: Shelf>(
+    rt: &R,
+    alloc: A,
+    data: &str,
+    files: &mut F,
+    shelf: H,
+) -> Result<(Option<Fault>, Vec<u8>), Fail> {
+    let words = ["uimg", "mkimage", "-T", "multi", "-d", data, "image"];
+    made_by(rt, alloc, &words, files, shelf)
 }
 
 // The same with a fuse round the files: opens are refused from a number on, and the source of the
@@ -193,23 +204,30 @@ fn failing_shelves(rt: HostRuntime) -> Result<(), Fail> {
     Ok(())
 }
 
+// The kernel of abc on a shelf that takes all its bytes and can't be read back.
 #[test]
-fn a_shelf_that_keeps_nothing(rt: HostRuntime) -> Result<(), Fail> {
-    let shelf = CutShelf {
-        shelf: FuseWriter::new(MemShelf::new(rt.alloc()), 93),
-        keeps: false,
-    };
-    let (fault, listed) = made(&rt, rt.alloc(), "a:b:c", &mut MemFiles::new(&NAMED), shelf)?;
-    assert_eq!(rt; fault, Some(Fault::Keep));
-    assert_eq!(rt; listed.len(), 0);
+fn growth_fails_in_keep(rt: HostRuntime) -> Result<(), Fail> {
+    let words = [
+        "uimg", "mkimage", "-A", "arm64", "-C", "none", "-a", "80000", "-d", "abc.bin", "u.img",
+    ];
+    let files: [(&[u8], &[u8]); 1] = [(b"abc.bin", b"abc")];
+    for keeps in [false, true] {
+        let shelf = CutShelf {
+            shelf: FuseWriter::new(MemShelf::new(rt.alloc()), 67),
+            keeps,
+        };
+        let (fault, listed) = made_by(&rt, rt.alloc(), &words, &mut MemFiles::new(&files), shelf)?;
+        assert_eq!(rt; fault, if keeps { None } else { Some(Fault::Keep) });
+        assert_eq!(rt; listed.is_empty(), !keeps);
+    }
     Ok(())
 }
 
-// A heap of 1024 bytes has place for three opened files, and none for 40. The memory is asked for
-// before the first open.
+// `make` grows once, for the opened files, before the first open. A heap of 1024 bytes has place for
+// three of them, and none for 40.
 #[test]
-fn refused_memory(rt: HostRuntime) -> Result<(), Fail> {
-    let path = "refused_memory.img";
+fn growth_fails(rt: HostRuntime) -> Result<(), Fail> {
+    let path = "growth_fails.img";
     let heap = LocalHeap::new(rt.alloc(), 1024)?;
     let many = "a:a:a:a:a:a:a:a:a:a:a:a:a:a:a:a:a:a:a:a:a:a:a:a:a:a:a:a:a:a:a:a:a:a:a:a:a:a:a:a";
     for from in [0, 100] {

@@ -20,7 +20,7 @@ const MKIMAGE_HELP: &str = "Make an image from files, or list one
 Usage: uimg mkimage [OPTIONS] <image>
 
 Arguments:
-  <image>  The image
+  <image>  The image to make, or with -l to list
 
 Options:
   -A <arch>      The architecture [default: ppc]
@@ -31,9 +31,9 @@ Options:
   -e <entry>     The entry point, hexadecimal [default: the load address]
   -n <name>      The image's name
   -d <data>      The data's file; for multi and script several, with colons between them
-  -f <source>    The image source
-  -E             Place the data after the tree
-  -p <position>  Place the data at this position, hexadecimal
+  -f <source>    Image source, which cannot be compiled yet
+  -E             With -f: place the data after the tree
+  -p <position>  With -f and -E: place the data at this position, hexadecimal
   -l             List the image, and make none
   -h, --help     Print help
 ";

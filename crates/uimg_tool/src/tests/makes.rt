@@ -100,6 +100,41 @@ fn three_part_multi(rt: HostRuntime) -> Result<(), Fail> {
     )
 }
 
+// An image of many files, about a window's length and of several windows, is made, verified and
+// unpacked.
+#[test]
+fn many_long_files(rt: HostRuntime) -> Result<(), Fail> {
+    let mut bytes = [0u8; 40000];
+    for (number, byte) in bytes.iter_mut().enumerate() {
+        *byte = (number % 251) as u8;
+    }
+    let files = [
+        ("0", "make_many.a", 8191),
+        ("1", "make_many.b", 8192),
+        ("2", "make_many.c", 8193),
+        ("3", "make_many.d", 1),
+        ("4", "make_many.e", 20000),
+        ("5", "make_many.f", 40000),
+    ];
+    for (_, path, length) in files {
+        fs::write(&rt, path, &bytes[..length])?;
+    }
+    let data = "make_many.a:make_many.b:make_many.c:make_many.d:make_many.e:make_many.f";
+    let (image, outfile) = ("make_many.img", "make_many.out");
+    let words = ["mkimage", "-T", "multi", "-d", data, image];
+    let (status, _, err) = ran_at(&rt, None, 0, &words)?;
+    assert_eq!(rt; (status, err.len()), (0, 0));
+    let report = "header crc32 ok\ndata crc32 ok\n";
+    expect(&rt, &["verify", image], 0, report, "")?;
+    for (position, path, length) in files {
+        let words = ["dumpimage", "-p", position, "-o", outfile, image];
+        expect(&rt, &words, 0, "", "")?;
+        assert_eq!(rt; fs::read(&rt, outfile)?.as_slice(), &bytes[..length]);
+        fs::remove_file(&rt, path)?;
+    }
+    remove_all(&rt, &[image, outfile])
+}
+
 // An empty part of a script is refused before the outfile is created.
 #[test]
 fn empty_parts(rt: HostRuntime) -> Result<(), Fail> {

@@ -34,7 +34,7 @@ pub(super) fn command<'a>(alloc: Global) -> Result<clap::Command<'a>, AllocError
     let command = source_options(alloc, command)?;
     command
         .arg(flag(alloc, "list", 'l', "List the image, and make none"))?
-        .arg(image(alloc, "The image"))
+        .arg(image(alloc, "The image to make, or with -l to list"))
 }
 
 // The options of an image that is made from data.
@@ -79,13 +79,23 @@ fn source_options<'a>(
     command: clap::Command<'a>,
 ) -> Result<clap::Command<'a>, AllocError> {
     command
-        .arg(value(alloc, "source", 'f', "The image source"))?
-        .arg(flag(alloc, "external", 'E', "Place the data after the tree"))?
+        .arg(value(
+            alloc,
+            "source",
+            'f',
+            "Image source, which cannot be compiled yet",
+        ))?
+        .arg(flag(
+            alloc,
+            "external",
+            'E',
+            "With -f: place the data after the tree",
+        ))?
         .arg(value(
             alloc,
             "position",
             'p',
-            "Place the data at this position, hexadecimal",
+            "With -f and -E: place the data at this position, hexadecimal",
         ))
 }
 
