@@ -12,3 +12,5 @@ pub mod ClockLaw
 pub mod TimeLine
 pub mod CrcWord
 pub mod CrcLane
+pub mod DigestSizes
+pub mod BundleLaws

@@ -14,3 +14,6 @@ pub mod Sizes
 pub mod Calendar
 pub mod Times
 pub mod Named
+pub mod Algorithms
+pub mod AnySum
+pub mod Bundle

@@ -2,9 +2,13 @@
 //! names.
 #![tactic(auto)]
 
+mod algo;
+mod any_sum;
+mod bundle;
 mod crc;
 mod crc_steps;
 mod crc_table;
+mod digests;
 mod digits;
 mod file_shelf;
 mod file_source;
@@ -27,8 +31,11 @@ mod sums;
 mod tests;
 mod times;
 
+pub use algo::Algo;
+pub use bundle::Bundle;
 pub use crc::{Crc, crc_of};
 pub use crc_table::crc_entry;
+pub use digests::{Md5Sum, Sha1Sum, Sha256Sum, Sha384Sum, Sha512Sum};
 pub use file_shelf::FileShelf;
 pub use file_source::FileSource;
 pub use files::Files;
