@@ -13,7 +13,7 @@ use Rattle.uimg_legacy.specs.Image.{has_right_data}
 use Rattle.uimg_legacy.specs.Parts.{has_parts, sizes, parts, start, is_outside}
 use Rattle.uimg_legacy.specs.Report.{verify_of}
 use Rattle.uimg_legacy.specs.Extraction.{component, single, extract_of}
-use Rattle.uimg_legacy.specs.Building.{joined, size_table, data_of, has_empty, data_to_build, legacy_built}
+use Rattle.uimg_legacy.specs.Building.{joined, size_table, has_empty, data_to_build, legacy_built}
 use Rattle.uimg_legacy.specs.Listing.{name_line, time_line, type_line, load_line, entry_line, head_text, component_line, component_lines, list_of}
 
 -- components of 3, 4 and 5 bytes, each but the last padded to a multiple of 4

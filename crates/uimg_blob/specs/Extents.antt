@@ -1,0 +1,33 @@
+-- Where the blocks of a blob lie.
+use Rattle.std.specs.Prelude.{◌≡◌, ℕ, ◌+◌, ◌%◌, ◌^◌, ◌<◌, ◌≤◌, List, Result, Ok, Err, ⊤}
+use Rattle.uimg_blob.specs.declared.fault.IndexFault.{IndexFault}
+use Rattle.uimg_blob.specs.declared.fault.IndexFault.TheVariants.{Blob, Read}
+use Rattle.uimg_blob.specs.declared.extent.Extent.{Extent}
+use Rattle.uimg_blob.specs.Numbers.{be32}
+use Rattle.uimg_blob.specs.Tokens.{Blocks}
+use Rattle.uimg_blob.specs.Blob.{blocks}
+
+-- the blocks that lie so in a file
+abbrev pub blocks_of : List ℕ → Extent → Blocks
+blocks_of file x = record {
+  bytes = file;
+  structure = x.structure;
+  structure_end = x.structure_end;
+  strings = x.strings;
+  strings_size = x.strings_size;
+}
+
+-- Both blocks lie in the blob and the blob in a file of a size; the structure block stands at a multiple of 4.
+pub record IsInside (x : Extent) (size : ℕ) : Type 0 where
+  pub ordered : x.structure ≤ x.structure_end
+  pub structure_within : x.structure_end ≤ x.totalsize
+  pub strings_within : x.strings + x.strings_size ≤ x.totalsize
+  pub within : x.totalsize ≤ size
+  pub fits : x.totalsize < 2 ^ 32
+  pub aligned : x.structure % 4 ≡ 0
+
+-- An answer is where the blocks of a file lie, and its totalsize, or the header's first fault, unless a read failed.
+abbrev pub GivesBlocks : List ℕ → Result Extent IndexFault → Type 0
+GivesBlocks file (Ok x) = (blocks file ≡ Ok (blocks_of file x)) × (x.totalsize ≡ be32 file 4)
+GivesBlocks file (Err (Blob fault at)) = blocks file ≡ Err (fault, at)
+GivesBlocks file (Err Read) = ⊤

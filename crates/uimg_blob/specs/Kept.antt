@@ -1,0 +1,82 @@
+-- What is kept of a tree: an entry of 16 words for each node, in reading order.
+use Rattle.std.specs.Option.{option_map}
+use Rattle.std.specs.Str.{bytes_eq}
+use Rattle.std.specs.Prelude.{ℕ, suc, if◌then◌else◌, ◌+◌, ◌*◌, ◌-◌, ◌^◌, List, [], ◌∷◌, ◌++◌, length, map, replicate, Option, Some, None}
+use Rattle.uimg_blob.specs.declared.keys.Key.{Key}
+use Rattle.uimg_blob.specs.declared.roles.Role.{Role}
+use Rattle.uimg_blob.specs.declared.roles.Role.TheVariants.{Root, Images, Image, Hash, Configurations, Configuration, Other}
+use Rattle.uimg_blob.specs.Tokens.{Property}
+use Rattle.uimg_blob.specs.Grammar.{Siblings, none, node}
+use Rattle.uimg_blob.specs.Keys.{name_of}
+use Rattle.uimg_blob.specs.LookUps.{first}
+use Rattle.uimg_blob.specs.Roles.{Level, top, role_at, level_in, level_after, keys_of}
+use Rattle.uimg_blob.specs.Rows.{size}
+
+-- A node: its offset, name, properties and role, the number of its parent, and the number of the first node that is neither
+-- it nor below it.
+pub record Kept : Type 0 where
+  pub at : ℕ
+  pub name : List ℕ
+  pub own : List Property
+  pub role : Role
+  pub parent : Option ℕ
+  pub end : ℕ
+
+-- the place of a name among those of some keys, if it is there
+abbrev pub position : List ℕ → List Key → Option ℕ
+position name [] = None
+position name (key ∷ keys) = if bytes_eq (name_of key) name then Some 0 else option_map suc (position name keys)
+
+-- what is kept of nodes that are numbered from i on, under a parent
+unfoldable pub kept : Level → Option ℕ → ℕ → Siblings → List Kept
+kept level parent i none = []
+kept level parent i (node at name own below after) =
+    record {
+      at = at;
+      name = name;
+      own = own;
+      role = role_at level name;
+      parent = parent;
+      end = i + (1 + size below);
+    }
+    ∷ (kept (level_in (role_at level name)) (Some i) (i + 1) below
+    ++ kept (level_after level name) parent (i + (1 + size below)) after)
+
+-- what is kept of a tree
+abbrev pub kept_of : Siblings → List Kept
+kept_of t = kept top None 0 t
+
+-- a place and a length of 32 bits in one word; no place is 0
+abbrev pub span_word : ℕ → ℕ → ℕ
+span_word place length = place * 2 ^ 32 + length
+
+-- the word of a value, 0 where there is none
+abbrev pub value_word : Option Property → ℕ
+value_word (Some p) = span_word p.place (length p.value)
+value_word None = 0
+
+-- the word of a number, 0 where there is none
+abbrev pub number_word : Option ℕ → ℕ
+number_word (Some i) = i + 1
+number_word None = 0
+
+abbrev pub role_word : Role → ℕ
+role_word Root = 0
+role_word Images = 1
+role_word Image = 2
+role_word Hash = 3
+role_word Configurations = 4
+role_word Configuration = 5
+role_word Other = 6
+
+-- the words of the first property of each key, and zeros up to eleven
+abbrev pub value_words : List Key → List Property → List ℕ
+value_words keys own = map (λ key. value_word (first own (name_of key))) keys ++ replicate (11 - length keys) 0
+
+-- the entry of a node: its name, parent, end and role, a zero, and the values of its keys
+abbrev pub entry_of : Kept → List ℕ
+entry_of k = span_word (k.at + 4) (length k.name) ∷ number_word k.parent ∷ k.end ∷ role_word k.role ∷ 0 ∷ value_words (keys_of k.role) k.own
+
+-- the entries of a tree
+abbrev pub entries : Siblings → List (List ℕ)
+entries t = map entry_of (kept_of t)

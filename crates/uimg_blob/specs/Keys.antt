@@ -1,0 +1,49 @@
+-- The properties that FIT gives a meaning (Flattened Image Tree format, "Root node", "'/images' node", "'/configurations' node").
+use Rattle.std.specs.Prelude.{ℕ, List, [], ◌∷◌, Option, Bool, codes, find}
+use Rattle.std.specs.List.{list_any}
+use Rattle.std.specs.Str.{bytes_eq}
+use Rattle.uimg_blob.specs.declared.keys.Key.{Key}
+use Rattle.uimg_blob.specs.declared.keys.Key.TheVariants.{Description, Timestamp, Data, Kind, Arch, Os, Compression, Load, Entry, DataSize, DataOffset, DataPosition, Algo, Value, Default, Kernel, Ramdisk, Fdt, Loadables}
+
+-- the name of a key's property
+abbrev pub name_of : Key → List ℕ
+name_of Description = codes "description"
+name_of Timestamp = codes "timestamp"
+name_of Data = codes "data"
+name_of Kind = codes "type"
+name_of Arch = codes "arch"
+name_of Os = codes "os"
+name_of Compression = codes "compression"
+name_of Load = codes "load"
+name_of Entry = codes "entry"
+name_of DataSize = codes "data-size"
+name_of DataOffset = codes "data-offset"
+name_of DataPosition = codes "data-position"
+name_of Algo = codes "algo"
+name_of Value = codes "value"
+name_of Default = codes "default"
+name_of Kernel = codes "kernel"
+name_of Ramdisk = codes "ramdisk"
+name_of Fdt = codes "fdt"
+name_of Loadables = codes "loadables"
+
+-- all keys
+abbrev pub all_keys : List Key
+all_keys =
+    Description ∷ Timestamp ∷ Data ∷ Kind ∷ Arch ∷ Os ∷ Compression
+    ∷ Load ∷ Entry ∷ DataSize ∷ DataOffset ∷ DataPosition ∷ Algo ∷ Value
+    ∷ Default ∷ Kernel ∷ Ramdisk ∷ Fdt ∷ Loadables ∷ []
+
+-- the key of a property's name, if it has one
+abbrev pub key_named : List ℕ → Option Key
+key_named name = find (λ key. bytes_eq name (name_of key)) all_keys
+
+-- the names of the properties whose values are texts
+abbrev pub text_names : List (List ℕ)
+text_names =
+    codes "description" ∷ codes "type" ∷ codes "arch" ∷ codes "os" ∷ codes "compression" ∷ codes "algo" ∷ codes "value"
+    ∷ codes "default" ∷ codes "kernel" ∷ codes "ramdisk" ∷ codes "fdt" ∷ codes "loadables" ∷ []
+
+-- whether a property's name is one of these
+abbrev pub is_text : List ℕ → Bool
+is_text name = list_any (bytes_eq name) text_names

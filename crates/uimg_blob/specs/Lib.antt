@@ -1,0 +1,17 @@
+pub mod Numbers
+pub mod Reading
+pub mod Tokens
+pub mod Grammar
+pub mod Blob
+pub mod Counts
+pub mod Keys
+pub mod Roles
+pub mod Rows
+pub mod LookUps
+pub mod Faults
+pub mod Extents
+pub mod Labels
+pub mod Seen
+pub mod Walk
+pub mod Kept
+pub mod SoFar

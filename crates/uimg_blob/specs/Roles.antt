@@ -1,0 +1,73 @@
+-- What a node is, by its place in the tree (Flattened Image Tree format, "Root node", "'/images' node", "'/configurations'
+-- node", "Hash nodes").
+use Rattle.std.specs.Prelude.{ℕ, ◌==◌, ◌||◌, List, [], ◌∷◌, Bool, true, false, codes, if◌then◌else◌}
+use Rattle.std.specs.List.{starts_with}
+use Rattle.std.specs.Str.{bytes_eq}
+use Rattle.uimg_blob.specs.declared.keys.Key.{Key}
+use Rattle.uimg_blob.specs.declared.keys.Key.TheVariants.{Description, Timestamp, Data, Kind, Arch, Os, Compression, Load, Entry, DataSize, DataOffset, DataPosition, Algo, Value, Default, Kernel, Ramdisk, Fdt, Loadables}
+use Rattle.uimg_blob.specs.declared.roles.Role.{Role}
+use Rattle.uimg_blob.specs.declared.roles.Role.TheVariants.{Root, Images, Image, Hash, Configurations, Configuration, Other}
+
+-- Where siblings stand: the root alone, the root's children (and whether an `images` and a `configurations` stand before
+-- them), the children of these two, those of an image, and those of any other node.
+pub data Level : Type 0 where
+  top : Level
+  in_root : Bool → Bool → Level
+  in_images : Level
+  in_image : Level
+  in_configurations : Level
+  elsewhere : Level
+
+abbrev pub is_images : List ℕ → Bool
+is_images name = bytes_eq name (codes "images")
+
+abbrev pub is_configurations : List ℕ → Bool
+is_configurations name = bytes_eq name (codes "configurations")
+
+-- a hash node's name begins so
+abbrev pub is_hash : List ℕ → Bool
+is_hash name = starts_with (λ a b. a == b) name (codes "hash")
+
+-- the first child of the root of each of the two names has a meaning
+abbrev pub root_child : Bool → Bool → Bool → Bool → Role
+root_child had_images had_configurations true named_configurations = if had_images then Other else Images
+root_child had_images had_configurations false true = if had_configurations then Other else Configurations
+root_child had_images had_configurations false false = Other
+
+-- what a node of a name is
+abbrev pub role_at : Level → List ℕ → Role
+role_at top name = Root
+role_at (in_root had_images had_configurations) name = root_child had_images had_configurations (is_images name) (is_configurations name)
+role_at in_images name = Image
+role_at in_image name = if is_hash name then Hash else Other
+role_at in_configurations name = Configuration
+role_at elsewhere name = Other
+
+-- where the children of a node stand
+abbrev pub level_in : Role → Level
+level_in Root = in_root false false
+level_in Images = in_images
+level_in Image = in_image
+level_in Hash = elsewhere
+level_in Configurations = in_configurations
+level_in Configuration = elsewhere
+level_in Other = elsewhere
+
+-- where the nodes after one of a name stand
+abbrev pub level_after : Level → List ℕ → Level
+level_after top name = top
+level_after (in_root had_images had_configurations) name = in_root (had_images || is_images name) (had_configurations || is_configurations name)
+level_after in_images name = in_images
+level_after in_image name = in_image
+level_after in_configurations name = in_configurations
+level_after elsewhere name = elsewhere
+
+-- the keys that are kept of a node
+abbrev pub keys_of : Role → List Key
+keys_of Root = Description ∷ Timestamp ∷ []
+keys_of Images = []
+keys_of Image = Description ∷ Data ∷ Kind ∷ Arch ∷ Os ∷ Compression ∷ Load ∷ Entry ∷ DataSize ∷ DataOffset ∷ DataPosition ∷ []
+keys_of Hash = Algo ∷ Value ∷ []
+keys_of Configurations = Default ∷ []
+keys_of Configuration = Description ∷ Kernel ∷ Ramdisk ∷ Fdt ∷ Loadables ∷ []
+keys_of Other = []

@@ -1,0 +1,46 @@
+-- The nodes of a tree in reading order, each with its links.
+use Rattle.std.specs.Prelude.{ℕ, ◌+◌, List, [], ◌∷◌, ◌++◌, Option, Some, None}
+use Rattle.uimg_blob.specs.declared.roles.Role.{Role}
+use Rattle.uimg_blob.specs.Tokens.{Property}
+use Rattle.uimg_blob.specs.Grammar.{Siblings, none, node}
+use Rattle.uimg_blob.specs.Roles.{Level, top, role_at, level_in, level_after}
+
+-- A node: its offset, name, properties and role, and the numbers of its parent, its first child and its next sibling.
+pub record Row : Type 0 where
+  pub at : ℕ
+  pub name : List ℕ
+  pub own : List Property
+  pub role : Role
+  pub parent : Option ℕ
+  pub first_child : Option ℕ
+  pub next_sibling : Option ℕ
+
+-- how many nodes there are
+abbrev pub size : Siblings → ℕ
+size none = 0
+size (node at name own below after) = 1 + size below + size after
+
+-- the number of the first of some nodes, if there is one
+abbrev pub first_of : ℕ → Siblings → Option ℕ
+first_of i none = None
+first_of i (node at name own below after) = Some i
+
+-- the rows of nodes that are numbered from i on, under a parent
+unfoldable pub rows : Level → Option ℕ → ℕ → Siblings → List Row
+rows level parent i none = []
+rows level parent i (node at name own below after) =
+    record {
+      at = at;
+      name = name;
+      own = own;
+      role = role_at level name;
+      parent = parent;
+      first_child = first_of (i + 1) below;
+      next_sibling = first_of (i + (1 + size below)) after;
+    }
+    ∷ (rows (level_in (role_at level name)) (Some i) (i + 1) below
+    ++ rows (level_after level name) parent (i + (1 + size below)) after)
+
+-- the table of a tree
+abbrev pub table : Siblings → List Row
+table t = rows top None 0 t

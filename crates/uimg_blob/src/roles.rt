@@ -1,0 +1,11 @@
+/// What a node is, by its place in the tree.
+#[derive(Clone, Copy, Debug, PartialEq, Eq)]
+pub(crate) enum Role {
+    Root,
+    Images,
+    Image,
+    Hash,
+    Configurations,
+    Configuration,
+    Other,
+}

@@ -1,0 +1,9 @@
+//! What no clause says: outside bytes and names, the texts of the faults, and what a failing source
+//! leaves.
+
+mod entries;
+mod extents;
+mod faults;
+mod images;
+mod names;
+mod tokens;
