@@ -1,41 +1,50 @@
-# make          proves what the program stands on, and builds bin/uimg
-# make demo     the same, and lists a real image
-# make test     the gate: proves every crate from nothing, tries the wrong bodies, runs the tests
-# make install  puts the program and its manual page below PREFIX
-# make bench    times the program beside dumpimage, mkimage, cat and cp
-# make peers    compares it with the real mkimage and dumpimage, where they are installed
+# uimg: `make help` lists the targets. The programs in bin/ are built again only where a source of
+# a crate that they stand on is newer.
 RT ?= rt
 PREFIX ?= /usr/local
+export RT
 
-.PHONY: all demo test install bench peers clean
+.PHONY: all demo test install peers bench clean help
+.NOTPARALLEL:
 
+## make          proves what the program stands on, and builds bin/uimg
 all: bin/uimg
+	@echo "bin/uimg is up to date"
 
-bin/uimg: FORCE
-	cd crates/uimg && $(RT) run -- --version > out.log 2>&1 || { cat out.log; rm -f out.log; exit 1; }
-	rm -f crates/uimg/out.log
-	mkdir -p bin
-	cp crates/uimg/out/uimg bin/uimg
+bin/uimg: $(shell scripts/sources.sh uimg)
+	@scripts/build.sh uimg --version
 
-FORCE:
+bin/uimg_bench: $(shell scripts/sources.sh uimg_bench)
+	@scripts/build.sh uimg_bench crc data/nine.bin
 
+## make demo     the same, and lists a real image
 demo: bin/uimg
 	bin/uimg dumpimage -l examples/abc-kernel.img
 
+## make test     the gate: proves every crate from nothing, tries the wrong bodies, runs the tests
 test:
+	@scripts/needs.sh rt python3
 	$(RT) ci
 
-install:
-	test -x bin/uimg || $(MAKE) bin/uimg
+## make install  puts the program and its manual page below PREFIX, which is /usr/local
+install: bin/uimg
 	install -D -m 755 bin/uimg $(DESTDIR)$(PREFIX)/bin/uimg
 	install -D -m 644 docs/uimg.1 $(DESTDIR)$(PREFIX)/share/man/man1/uimg.1
 
-bench: bin/uimg
-	cd crates/uimg_bench && $(RT) run -- crc data/nine.bin > /dev/null
-	python3 bench/bench.py bin/uimg crates/uimg_bench/out/uimg_bench
-
+## make peers    compares it with the real mkimage and dumpimage, where they are installed
 peers: bin/uimg
+	@scripts/needs.sh python3
 	python3 peers/peers.py bin/uimg
 
+## make bench    times the program beside dumpimage, mkimage, cat and cp
+bench: bin/uimg bin/uimg_bench
+	@scripts/needs.sh python3
+	python3 bench/bench.py bin/uimg bin/uimg_bench
+
+## make clean    removes all that was built, and what the prover kept
 clean:
-	rm -rf bin crates/*/out out
+	rm -rf bin out crates/*/out
+
+## make help     lists the targets
+help:
+	@sed -n 's/^## //p' Makefile

@@ -3,7 +3,7 @@
 
 Each command runs several times over the same file, which lies in the page cache; the best run
 counts. It prints a table of MB/s (millions of bytes a second), peak memory, and the time beside the
-last row of the same kind. dumpimage and mkimage are left out where they aren't installed.
+last row of the same kind. dumpimage and mkimage are left out where they are not installed.
 """
 
 import os
@@ -31,7 +31,7 @@ ZLIB_AND_COPY = f'{sys.executable} -c "{ZLIB}" "$0" && cp "$0" "$1"'
 
 
 def make_file(path):
-    """Fills a file with bytes that don't repeat in short periods."""
+    """Fills a file with bytes that do not repeat in short periods."""
     state = 1
     block = bytearray()
     while len(block) < 1024 * 1024:

@@ -1,0 +1,10 @@
+#!/bin/sh
+# scripts/sources.sh PROGRAM: the files that a program is made from, and their folders, by which
+# make sees that a file went away.
+echo crates.txt
+for crate in $(scripts/crates.sh "$1"); do
+    for part in src specs proofs; do
+        test ! -d "crates/$crate/$part" ||
+            find "crates/$crate/$part" -type d -o -name '[!.]*.rt' -o -name '[!.]*.antt'
+    done
+done
