@@ -39,8 +39,8 @@ fn run(rt: &HostRuntime) -> io::Result<u8> {
     ))
 }
 
-// The text of SOURCE_DATE_EPOCH where it is set. One that isn't UTF-8 is a wrong one, as the empty
-// text is.
+// The text of SOURCE_DATE_EPOCH where it is set. One that is not UTF-8 is a wrong one, as the
+// empty text is.
 fn epoch(rt: &HostRuntime) -> io::Result<Option<String>> {
     match env::var(rt, "SOURCE_DATE_EPOCH") {
         Ok(text) => Ok(Some(text)),

@@ -1,7 +1,7 @@
--- The parts of a size's line, joined.
+-- The pieces of a size's line, joined.
 use Rattle.std.proofs.Common.{◌≡◌, ℕ, ◌/◌, ◌%◌, List, [], ◌++◌, codes, decimal, append_assoc, append-nil}
-use Rattle.uimg_base.specs.Digits.{two_digits}
-use Rattle.uimg_base.specs.Sizes.{hundredths, two_decimals, size_text}
+use Rattle.uimg_texts.specs.Digits.{two_digits}
+use Rattle.uimg_texts.specs.Sizes.{hundredths, two_decimals, size_text}
 
 -- a number of hundredths among other parts
 two_decimals-parts : (h : ℕ) (rest : List ℕ) → decimal (h / 100) ++ (codes "." ++ (two_digits (h % 100) ++ rest)) ≡ two_decimals h ++ rest

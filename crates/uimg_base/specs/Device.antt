@@ -1,5 +1,5 @@
 -- What contracts see of a device that may fail.
-use Rattle.std.specs.Prelude.{◌≡◌, ℕ, ◌+◌, ◌-◌, ◌^◌, ◌<◌, ◌≤◌, min, max, List, take, drop, Bool, true, false}
+use Rattle.std.specs.Prelude.{◌≡◌, ℕ, ◌+◌, ◌-◌, ◌^◌, ◌<◌, ◌≤◌, min, max, List, Bool, true, false}
 
 -- What a source is: its bytes, whether its answers are those bytes, and two counters.
 pub record Device : Type 0 where
@@ -7,10 +7,6 @@ pub record Device : Type 0 where
   pub honest : Bool
   pub asked : ℕ
   pub failures : ℕ
-
--- the n bytes at a place
-abbrev pub part : List ℕ → ℕ → ℕ → List ℕ
-part bytes at n = take n (drop at bytes)
 
 -- A counter of 64 bits rose, or stood at its greatest value.
 abbrev pub Rose : ℕ → ℕ → Type 0

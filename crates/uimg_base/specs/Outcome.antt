@@ -1,6 +1,6 @@
 -- What a command writes, and how it ends. F is the type of its faults.
-use Rattle.std.specs.Prelude.{◌≡◌, ℕ, List, ◌++◌, ◌∷◌, [], Option, Some, None}
-use Rattle.uimg_base.specs.Sink.{Sink, AppendsAll, AppendsFront}
+use Rattle.std.specs.Prelude.{◌≡◌, ℕ, List, ◌++◌, ◌∷◌, [], Option, Some, None, Result, Ok, Err}
+use Rattle.uimg_base.specs.Sink.{Sink, AppendsAll, AppendsPrefix}
 
 -- the end of a command: done, not right, or refused with one fault
 pub data End (F : Type 0) : Type 0 where
@@ -21,12 +21,17 @@ told text end = record { text = text; end = end }
 abbrev pub after : {F : Type 0} → List ℕ → Outcome F → Outcome F
 after text o = record { text = text ++ o.text; end = o.end }
 
+-- what is told of what was found, or nothing and the refusal
+abbrev pub unless_refused : {X F : Type 0} → Result X F → (X → Outcome F) → Outcome F
+unless_refused (Ok x) tell = tell x
+unless_refused (Err fault) tell = told [] (refused fault)
+
 -- a text and its newline byte
 abbrev pub line : List ℕ → List ℕ
 line text = text ++ 10 ∷ []
 
 -- An answer tells an outcome: its end is the outcome's, and the outcome's text was appended. The answer of
--- a failed device has no end, and then a front of the text was appended.
+-- a failed device has no end, and then a prefix of the text was appended.
 abbrev pub Tells : {F : Type 0} → Option (End F) → Outcome F → Sink → Sink → Type 0
 Tells (Some e) o s t = (o.end ≡ e) × AppendsAll s t o.text
-Tells None o s t = AppendsFront s t o.text
+Tells None o s t = AppendsPrefix s t o.text

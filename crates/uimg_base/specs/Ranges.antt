@@ -1,28 +1,33 @@
 -- What a copy from a source to an output does.
 use Rattle.std.specs.Prelude.{ℕ, ◌+◌, ◌≤◌, List, Result, Ok, Err, Bool, true, false}
+use Rattle.std.specs.Bool.{OnFalse}
 use Rattle.uimg_base.specs.Device.{Device}
-use Rattle.uimg_base.specs.Sink.{Sink, AppendsFirst}
+use Rattle.uimg_base.specs.Sink.{Sink, AppendsFirst, AppendsAll}
 use Rattle.uimg_base.specs.declared.ranges.MoveFault.{MoveFault}
 use Rattle.uimg_base.specs.declared.ranges.MoveFault.TheVariants.{Read, Put}
 
--- the answer is that a read failed, or a write
+-- the answer is that a read failed
 abbrev pub is_read : {X : Type 0} → Result X MoveFault → Bool
-is_read (Ok x) = false
 is_read (Err Read) = true
-is_read (Err Put) = false
+is_read _ = false
 
+-- the answer is that a write failed
 abbrev pub is_put : {X : Type 0} → Result X MoveFault → Bool
-is_put (Ok x) = false
-is_put (Err Read) = false
 is_put (Err Put) = true
+is_put _ = false
 
--- A front of the bytes was appended, and at most a window more was asked for.
-pub record CopiesFront (d e : Device) (s t : Sink) (bytes : List ℕ) : Type 0 where
+-- A prefix of the bytes was appended, and at most a window more was asked for.
+pub record CopiesPrefix (d e : Device) (s t : Sink) (bytes : List ℕ) : Type 0 where
   pub count : ℕ
   pub first : AppendsFirst count s t bytes
   pub ahead : e.asked ≤ d.asked + (count + 8192)
 
--- A front of the bytes was appended, and no more than so many, and those and a window, was asked for.
+-- The same, and all was appended unless a device failed.
+pub record Copies (failed : Bool) (d e : Device) (s t : Sink) (bytes : List ℕ) : Type 0 where
+  pub prefix : CopiesPrefix d e s t bytes
+  pub all : OnFalse failed (AppendsAll s t bytes)
+
+-- A prefix of the bytes was appended, and no more than so many, and those and a window, was asked for.
 pub record ReadsAhead (most : ℕ) (d e : Device) (s t : Sink) (bytes : List ℕ) : Type 0 where
   pub count : ℕ
   pub first : AppendsFirst count s t bytes

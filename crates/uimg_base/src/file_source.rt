@@ -12,10 +12,11 @@ use std::rt::Files;
 ///
 /// It keeps the length that was found when it was opened. No contract says which bytes a file
 /// gives, so it is not claimed to be honest: that its reads answer the bytes of one unchanging
-/// file is the user's premise. Contracts see zeros in the place of its bytes.
+/// file is the user's premise. Contracts see zeros in place of its bytes.
 #[derive(Drop)]
 pub struct FileSource<F: Read + Seek> {
     file: F,
+    position: Option<u64>,
     length: u64,
     asked: u128,
     failures: u64,
@@ -42,6 +43,7 @@ impl<F: Read + Seek + OpenFile + Drop> FileSource<F> {
         };
         Ok(FileSource {
             file,
+            position: Some(length),
             length,
             asked: 0,
             failures: 0,
@@ -49,14 +51,8 @@ impl<F: Read + Seek + OpenFile + Drop> FileSource<F> {
     }
 }
 
-// Reads at an offset until `to` is full, and says whether it is. Each turn reads at least one byte.
-fn fill_from<F: Read + Seek>(file: &mut F, at: u64, to: &mut [u8]) -> bool {
-    if to.is_empty() {
-        return true;
-    }
-    if file.seek(SeekFrom::Start(at)).is_err() {
-        return false;
-    }
+// Reads until `to` is full, and says whether it is. Each turn reads at least one byte.
+fn fill<F: Read>(file: &mut F, to: &mut [u8]) -> bool {
     let mut filled = 0;
     for _turn in 0..to.len() {
         match file.read(&mut to[filled..]) {
@@ -67,7 +63,31 @@ fn fill_from<F: Read + Seek>(file: &mut F, at: u64, to: &mut [u8]) -> bool {
             return true;
         }
     }
-    false
+    to.is_empty()
+}
+
+// Reads at an offset until `to` is full, and says whether it is. `position` is where the file stands,
+// or none where that is not known; a file that stands at the offset is not moved there.
+fn fill_from<F: Read + Seek>(
+    file: &mut F,
+    position: &mut Option<u64>,
+    at: u64,
+    to: &mut [u8],
+) -> bool {
+    if to.is_empty() {
+        return true;
+    }
+    if *position != Some(at) && file.seek(SeekFrom::Start(at)).is_err() {
+        *position = None;
+        return false;
+    }
+    let full = fill(file, to);
+    *position = if full {
+        at.checked_add(to.len() as u64)
+    } else {
+        None
+    };
+    full
 }
 
 impl<F: Read + Seek + Drop> Source for FileSource<F> {
@@ -81,7 +101,7 @@ impl<F: Read + Seek + Drop> Source for FileSource<F> {
 
     fn fill_at(&mut self, at: u64, to: &mut [u8]) -> Result<(), SourceFault> {
         self.asked = self.asked.saturating_add(to.len() as u128);
-        if fill_from(&mut self.file, at, to) {
+        if fill_from(&mut self.file, &mut self.position, at, to) {
             Ok(())
         } else {
             self.failures = self.failures.saturating_add(1);
@@ -157,7 +177,7 @@ mod tests {
         for (most, turns) in [(1, 5), (2, 3), (5, 1), (100, 1)] {
             let mut file = slow(most, 100, false);
             let mut to = [b'x'; 5];
-            assert!(rt; fill_from(&mut file, 3, &mut to));
+            assert!(rt; fill_from(&mut file, &mut None, 3, &mut to));
             assert_eq!(rt; to, *b"34567");
             assert_eq!(rt; file.turns, turns);
         }
@@ -168,7 +188,7 @@ mod tests {
         for fails in [false, true] {
             let mut file = slow(2, 6, fails);
             let mut to = [b'x'; 5];
-            assert!(rt; !fill_from(&mut file, 3, &mut to));
+            assert!(rt; !fill_from(&mut file, &mut None, 3, &mut to));
             assert_eq!(rt; file.turns, 3);
         }
     }
@@ -176,7 +196,7 @@ mod tests {
     #[test]
     fn an_empty_slice_takes_no_turn(rt: HostRuntime) {
         let mut file = slow(2, 0, true);
-        assert!(rt; fill_from(&mut file, 3, &mut []));
+        assert!(rt; fill_from(&mut file, &mut None, 3, &mut []));
         assert_eq!(rt; file.turns, 0);
     }
 }

@@ -24,9 +24,8 @@ impl<F: Files> FuseFiles<F> {
     /// No open was refused yet by the fuse, which counts on its own. Which opens are refused and how
     /// many calls get through no clause says: tests show it.
     pub fn new(files: F, from: u64, turn: u64, calls: u64) -> FuseFiles<F>
-        ensures files { ⟦<FuseFiles<F> as Files>⟧.files result ≡ F.files files }
-        ensures honest { ⟦<FuseFiles<F> as Files>⟧.honest result ≡ F.honest files }
-        ensures refusals { ⟦<FuseFiles<F> as Files>⟧.refusals result ≡ 0 }
+        ensures { ⟦<FuseFiles<F> as Files>⟧.map result
+            ≡ record (F.map files) { complete = false; refusals = 0 } }
     {
         FuseFiles {
             files,
@@ -42,13 +41,7 @@ impl<F: Files> FuseFiles<F> {
 impl<F: Files> Files for FuseFiles<F> {
     type Opened = FuseSource<F::Opened>;
 
-    ghost files = { λ s. F.files s.files };
-
-    ghost honest = { λ s. F.honest s.files };
-
-    ghost complete = { λ _. false };
-
-    ghost refusals = { λ s. s.refusals };
+    ghost map = { λ s. record (F.map s.files) { complete = false; refusals = s.refusals } };
 
     fn open(&mut self, name: &[u8]) -> Result<FuseSource<F::Opened>, SourceFault> {
         let number = self.opens;

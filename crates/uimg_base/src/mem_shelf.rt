@@ -61,7 +61,8 @@ impl<A: Allocator> Shelf for MemShelf<A> {
     fn keep(self) -> Result<MemKept<A>, SourceFault>
         ensures ok { IsOk result }
         ensures bytes { IfOk result (λ kept.
-            ⟦<MemShelf<A> as Write>⟧.contents self ≡ Some (⟦<MemKept<A> as Source>⟧.device kept).bytes) }
+            ⟦<MemShelf<A> as Write>⟧.contents self
+            ≡ Some (⟦<MemKept<A> as Source>⟧.device kept).bytes) }
         ensures honest { IfOk result (λ kept. IsTrue (⟦<MemKept<A> as Source>⟧.device kept).honest) }
         ensures fresh { IfOk result (λ kept. IsFresh (⟦<MemKept<A> as Source>⟧.device kept)) }
     {

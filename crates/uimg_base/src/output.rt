@@ -1,8 +1,7 @@
-ghost use Rattle.std.specs.Prelude.{◌≡◌, ◌+◌, ◌-◌, ◌^◌, ◌≤◌, min, length, take, OnOk, IfSome, is_err, if◌then◌else◌};
+ghost use Rattle.std.specs.Prelude.{◌≡◌, ◌+◌, ◌-◌, ◌^◌, ◌≤◌, min, length, take, IfSome, is_err, if◌then◌else◌};
 ghost use Rattle.std.specs.Io.KnownBytes.{Appends};
 ghost use Rattle.std.specs.List.{flat_map};
-ghost use Rattle.uimg_base.specs.Device.{RisesIf};
-ghost use Rattle.uimg_base.specs.Sink.{AppendsAll, AppendsFront};
+ghost use Rattle.uimg_base.specs.Writing.{Writes};
 
 use std::io::Write;
 use std::marker::Model;
@@ -49,13 +48,12 @@ impl<W: Write> Out<W> {
 
     /// Writes all the bytes.
     ///
-    /// `PutFault` comes where `write` answers an error or takes nothing; then a front of the bytes
+    /// `PutFault` comes where `write` answers an error or takes nothing; then a prefix of the bytes
     /// was written.
     pub fn put_all(&mut self, bytes: &[u8]) -> Result<(), PutFault>
-        ensures ok { OnOk result (AppendsAll self.old self.new bytes.now) }
-        ensures front { AppendsFront self.old self.new bytes.now }
-        ensures faults { RisesIf (is_err result) self.old.faults self.new.faults }
-        ensures counted { self.new.faults ≡ (if is_err result then min (self.old.faults + 1) (2 ^ 64 - 1) else self.old.faults) }
+        ensures writes { Writes (is_err result) self.old self.new bytes.now }
+        ensures counted { self.new.faults ≡ (if is_err result then min (self.old.faults + 1)
+            (2 ^ 64 - 1) else self.old.faults) }
     {
         if write_until_fault(&mut self.writer, bytes) == bytes.len() {
             Ok(())
@@ -67,47 +65,47 @@ impl<W: Write> Out<W> {
 
     /// Writes several pieces as one text, in one write where they have at most 256 bytes.
     ///
-    /// `PutFault` comes as in `put_all`; then a front of the text was written.
-    pub fn put_parts(&mut self, parts: &[&[u8]]) -> Result<(), PutFault>
-        ensures ok { OnOk result (AppendsAll self.old self.new (flat_map (λ part. part.now) parts.now)) }
-        ensures front { AppendsFront self.old self.new (flat_map (λ part. part.now) parts.now) }
-        ensures faults { RisesIf (is_err result) self.old.faults self.new.faults }
-        ensures counted { self.new.faults ≡ (if is_err result then min (self.old.faults + 1) (2 ^ 64 - 1) else self.old.faults) }
+    /// `PutFault` comes as in `put_all`; then a prefix of the text was written.
+    pub fn put_pieces(&mut self, pieces: &[&[u8]]) -> Result<(), PutFault>
+        ensures writes { Writes (is_err result) self.old self.new
+            (flat_map (λ piece. piece.now) pieces.now) }
+        ensures counted { self.new.faults ≡ (if is_err result then min (self.old.faults + 1)
+            (2 ^ 64 - 1) else self.old.faults) }
     {
         let mut line = [0; 256];
-        match gather(parts, &mut line) {
+        match gather(pieces, &mut line) {
             Some(length) => self.put_all(&line[..length]),
-            None => self.put_each(parts),
+            None => self.put_each(pieces),
         }
     }
 
     // Writes the pieces one after another.
-    fn put_each(&mut self, parts: &[&[u8]]) -> Result<(), PutFault>
-        ensures ok { OnOk result (AppendsAll self.old self.new (flat_map (λ part. part.now) parts.now)) }
-        ensures front { AppendsFront self.old self.new (flat_map (λ part. part.now) parts.now) }
-        ensures faults { RisesIf (is_err result) self.old.faults self.new.faults }
-        ensures counted { self.new.faults ≡ (if is_err result then min (self.old.faults + 1) (2 ^ 64 - 1) else self.old.faults) }
+    fn put_each(&mut self, pieces: &[&[u8]]) -> Result<(), PutFault>
+        ensures writes { Writes (is_err result) self.old self.new
+            (flat_map (λ piece. piece.now) pieces.now) }
+        ensures counted { self.new.faults ≡ (if is_err result then min (self.old.faults + 1)
+            (2 ^ 64 - 1) else self.old.faults) }
     {
-        for part in parts {
-            self.put_all(part)?;
+        for piece in pieces {
+            self.put_all(piece)?;
         }
         Ok(())
     }
 }
 
-// Puts the pieces one after another at the front of `line`, if it has room for them, and gives their
+// Puts the pieces one after another at the beginning of `line`, if it has room for them, and gives their
 // length.
-fn gather(parts: &[&[u8]], line: &mut [u8; 256]) -> Option<usize>
+fn gather(pieces: &[&[u8]], line: &mut [u8; 256]) -> Option<usize>
     ensures bound { IfSome result (λ n. n ≤ 256) }
-    ensures text { IfSome result (λ n. take n line.new ≡ flat_map (λ part. part.now) parts.now) }
+    ensures text { IfSome result (λ n. take n line.new ≡ flat_map (λ piece. piece.now) pieces.now) }
 {
     let mut length = 0;
-    for part in parts {
-        if part.len() > line.len() - length {
+    for piece in pieces {
+        if piece.len() > line.len() - length {
             return None;
         }
-        line[length..length + part.len()].copy_from_slice(part);
-        length += part.len();
+        line[length..length + piece.len()].copy_from_slice(piece);
+        length += piece.len();
     }
     Some(length)
 }
@@ -115,7 +113,7 @@ fn gather(parts: &[&[u8]], line: &mut [u8; 256]) -> Option<usize>
 // Writes until all is written or a write fails. It gives the number of bytes written.
 fn write_until_fault<W: Write>(writer: &mut W, bytes: &[u8]) -> usize
     ensures bound { result ≤ length bytes.now }
-    ensures front { Appends (W.contents writer.old) (W.contents writer.new) (take result bytes.now) }
+    ensures prefix { Appends (W.contents writer.old) (W.contents writer.new) (take result bytes.now) }
 {
     let mut at = 0;
     while at < bytes.len() {

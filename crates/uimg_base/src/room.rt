@@ -5,6 +5,9 @@ ghost use Rattle.uimg_base.specs.Held.{held_bytes};
 use std::alloc::{AllocError, Allocator};
 use std::marker::Model;
 
+/// How many bytes the window of a room has, through which payloads go.
+pub const WINDOW: usize = 8192;
+
 /// The words of an entry.
 pub type Entry = [u64; 16];
 
@@ -14,7 +17,7 @@ pub type Entry = [u64; 16];
 /// refused to grow.
 #[derive(Drop)]
 pub struct Room<A: Allocator> {
-    window: [u8; 8192],
+    window: [u8; WINDOW],
     entries: Vec<Entry, A>,
     peak: u128,
     refused: u64,
@@ -40,15 +43,15 @@ impl<A: Allocator> Room<A> {
         ensures { result ≡ record { entries = []; peak = 8192; refused = 0 } }
     {
         Room {
-            window: [0; 8192],
+            window: [0; WINDOW],
             entries: Vec::new(alloc),
-            peak: 8192,
+            peak: WINDOW as u128,
             refused: 0,
         }
     }
 
     /// The window, to write to. Nothing else of the room changes.
-    pub fn window(&mut self) -> &mut [u8; 8192]
+    pub fn window(&mut self) -> &mut [u8; WINDOW]
         ensures* { sem 𝓛 (LendsWindow A.row A.Allocator self.entry result) }
     {
         &mut self.window
@@ -72,24 +75,26 @@ impl<A: Allocator> Room<A> {
     pub fn held(&self) -> u128
         ensures { result ≡ held_bytes (length self.now.entries) }
     {
-        8192 + 128 * self.entries.len() as u128
+        WINDOW as u128 + 128 * self.entries.len() as u128
     }
 
     /// Adds an entry at the end, taking memory for just that one.
     ///
     /// `AllocError` comes where the memory was refused; then all entries stay.
     pub fn add(&mut self, entry: Entry) -> Result<(), AllocError>
-        ensures entries { self.new.entries ≡ (if is_ok result then self.old.entries ++ entry ∷ [] else self.old.entries) }
+        ensures entries { self.new.entries ≡ (if is_ok result then self.old.entries ++ entry ∷ []
+            else self.old.entries) }
         ensures peak { self.new.peak ≡ (if is_ok result
             then max self.old.peak (held_bytes (length self.old.entries + 1)) else self.old.peak) }
         ensures refused { RisesIf (is_err result) self.old.refused self.new.refused }
-        ensures counted { self.new.refused ≡ (if is_err result then min (self.old.refused + 1) (2 ^ 64 - 1) else self.old.refused) }
+        ensures counted { self.new.refused ≡ (if is_err result then min (self.old.refused + 1)
+            (2 ^ 64 - 1) else self.old.refused) }
     {
         if self.entries.reserve_exact(1).is_err() || self.entries.push(entry).is_err() {
             self.refused = self.refused.saturating_add(1);
             return Err(AllocError);
         }
-        self.peak = u128::max(self.peak, 8192 + 128 * self.entries.len() as u128);
+        self.peak = u128::max(self.peak, WINDOW as u128 + 128 * self.entries.len() as u128);
         Ok(())
     }
 
@@ -101,11 +106,11 @@ impl<A: Allocator> Room<A> {
         self.entries[number]
     }
 
-    /// Puts an entry in the place of the one of number `place`, counted from 0.
-    pub fn set(&mut self, place: usize, entry: Entry)
-        requires { place < length self.old.entries }
-        ensures { self.new ≡ record self.old { entries = slice_set self.old.entries place entry } }
+    /// Puts an entry in place of the one of a number below `count`, counted from 0.
+    pub fn set(&mut self, number: usize, entry: Entry)
+        requires { number < length self.old.entries }
+        ensures { self.new ≡ record self.old { entries = slice_set self.old.entries number entry } }
     {
-        self.entries[place] = entry;
+        self.entries[number] = entry;
     }
 }

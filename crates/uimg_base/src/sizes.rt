@@ -1,43 +1,21 @@
-ghost use Rattle.std.specs.Prelude.{◌≡◌, ◌<◌, IsTrue, OnOk, is_err};
-ghost use Rattle.uimg_base.specs.Device.{RisesIf};
-ghost use Rattle.uimg_base.specs.Sink.{AppendsAll, AppendsFront};
-ghost use Rattle.uimg_base.specs.Sizes.{is_nearest, hundredths, size_text};
+ghost use Rattle.std.specs.Prelude.{is_err};
+ghost use Rattle.uimg_base.specs.Writing.{Writes};
+ghost use Rattle.uimg_texts.specs.Sizes.{size_text};
 
-use crate::digits::two_digits;
 use crate::output::{Out, PutFault};
 use itoa::Buffer;
 use std::io::Write;
-
-// The hundredths of n over a unit, rounded to the nearest, a tie to the even one.
-fn hundredths(n: u32, unit: u32) -> u64
-    requires { 0 < unit }
-    ensures value { result ≡ hundredths n unit }
-    ensures nearest { IsTrue (is_nearest n unit result) }
-{
-    let scaled = 100 * n as u64;
-    let unit = unit as u64;
-    let whole = scaled / unit;
-    let twice_rest = 2 * (scaled % unit);
-    if twice_rest == unit {
-        whole + whole % 2
-    } else if twice_rest > unit {
-        whole + 1
-    } else {
-        whole
-    }
-}
+use uimg_texts::{hundredths, two_digits};
 
 /// Writes a size of n bytes: `<n> Bytes = <k> KiB = <m> MiB`, k being n/1024 and m n/1048576, each
 /// with two decimals, rounded to the nearest hundredth, a tie to the even hundredth. Where a write
-/// fails, the answer is `PutFault`, and a front of the text was written.
+/// fails, the answer is `PutFault`, and a prefix of the text was written.
 pub fn size_text<W: Write>(n: u32, out: &mut Out<W>) -> Result<(), PutFault>
-    ensures ok { OnOk result (AppendsAll out.old out.new (size_text n)) }
-    ensures front { AppendsFront out.old out.new (size_text n) }
-    ensures faults { RisesIf (is_err result) out.old.faults out.new.faults }
+    ensures { Writes (is_err result) out.old out.new (size_text n) }
 {
     let kib = hundredths(n, 1024);
     let mib = hundredths(n, 1_048_576);
-    out.put_parts(&[
+    out.put_pieces(&[
         Buffer::new().format(n).as_bytes(),
         b" Bytes = ",
         Buffer::new().format(kib / 100).as_bytes(),

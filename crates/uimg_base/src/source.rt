@@ -1,5 +1,6 @@
 ghost use Rattle.std.specs.Prelude.{◌≡◌, ℕ, ◌+◌, ◌^◌, ◌<◌, ◌≤◌, List, true, length, IsTrue, OnOk, IfOk, is_err};
-ghost use Rattle.uimg_base.specs.Device.{Device, part, RisesIf, SameDevice, asked_more};
+ghost use Rattle.uimg_base.specs.Device.{Device, RisesIf, SameDevice, asked_more};
+ghost use Rattle.uimg_texts.specs.Slices.{slice};
 
 use thiserror::Error;
 
@@ -8,7 +9,7 @@ use thiserror::Error;
 #[error("read failed")]
 pub struct SourceFault;
 
-/// A device with a fixed list of bytes, read at any place.
+/// A device with a fixed list of bytes, read at any offset.
 ///
 /// Contracts see a source as a `Device`: its bytes, whether its answers are honest (are those
 /// bytes), how many bytes were asked for, and how many calls failed. No call changes the bytes or
@@ -25,7 +26,8 @@ pub trait Source: Drop {
         ensures length { IfOk result (λ n. n ≡ length (device self.old).bytes) }
         ensures same { SameDevice (device self.old) (device self.new) }
         ensures asked { (device self.new).asked ≡ (device self.old).asked }
-        ensures failures { RisesIf (is_err result) (device self.old).failures (device self.new).failures };
+        ensures failures { RisesIf (is_err result) (device self.old).failures
+            (device self.new).failures };
 
     /// Fills `to` with the bytes that begin at the offset `at`.
     ///
@@ -36,11 +38,12 @@ pub trait Source: Drop {
     fn fill_at(&mut self, at: u64, to: &mut [u8]) -> Result<(), SourceFault>
         requires { at + length to.old ≤ length (device self.old).bytes }
         ensures bytes { IsTrue (device self.old).honest →
-            OnOk result (to.new ≡ part (device self.old).bytes at (length to.old)) }
+            OnOk result (to.new ≡ slice (device self.old).bytes at (length to.old)) }
         ensures same { SameDevice (device self.old) (device self.new) }
         ensures asked { (device self.new).asked
             ≡ asked_more (device self.old).asked (length to.old) }
-        ensures failures { RisesIf (is_err result) (device self.old).failures (device self.new).failures };
+        ensures failures { RisesIf (is_err result) (device self.old).failures
+            (device self.new).failures };
 
     /// How many bytes were asked for by `fill_at`, failed calls too. It stays at its greatest
     /// value.

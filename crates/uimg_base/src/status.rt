@@ -4,6 +4,6 @@ pub enum Status {
     /// All is done, and every checksum that was looked at is right.
     Done,
 
-    /// The report is written, and something in it isn't right.
+    /// The report is written, and something in it is not right.
     NotRight,
 }

@@ -3,8 +3,9 @@ use Rattle.std.specs.Prelude.{◌≡◌, ℕ, List, [], ◌∷◌, ◌++◌, ref
 use Rattle.uimg_blob.specs.declared.fault.BlobFault.TheVariants.{BadNesting}
 use Rattle.uimg_blob.specs.declared.keys.Key.TheVariants as key
 use Rattle.uimg_blob.specs.declared.roles.Role.TheVariants as role
-use Rattle.uimg_blob.specs.Numbers.{be32}
-use Rattle.uimg_blob.specs.Tokens.{tokens_from, token_at, before_nul}
+use Rattle.uimg_texts.specs.Numbers.{be32}
+use Rattle.uimg_texts.specs.Nul.{before_nul}
+use Rattle.uimg_blob.specs.Tokens.{tokens_from, token_at}
 use Rattle.uimg_blob.specs.Grammar.{Siblings, none, node, root, properties, children, without_nops}
 use Rattle.uimg_blob.specs.Blob.{tree, blocks, up_to}
 use Rattle.uimg_blob.specs.Counts.{nodes_met, nops_met, meta, before}

@@ -15,10 +15,10 @@ use Rattle.uimg_blob.specs.Keys.{name_of}
 use Rattle.uimg_blob.specs.LookUps.{first}
 use Rattle.uimg_blob.specs.Roles.{role_at, keys_of}
 use Rattle.uimg_blob.specs.Walk.{Open, opened}
-use Rattle.uimg_blob.specs.Kept.{Kept, kept, entry_of, position, value_word, span_word, number_word, role_word}
+use Rattle.uimg_blob.specs.Kept.{Kept, kept, entry_of, slot, value_word, span_word, number_word, role_word}
 use Rattle.uimg_blob.specs.SoFar.{count, next_level, open_row, so_far, entries_so_far}
 use Rattle.uimg_blob.proofs.SoFarLaws.{Seam, length_so_far}
-use Rattle.uimg_blob.proofs.ValueLaws.{words_of, are_apart, repeated, stored, word_at, position_below}
+use Rattle.uimg_blob.proofs.ValueLaws.{words_of, are_apart, repeated, stored, word_at, slot_below}
 use Rattle.uimg_blob.proofs.EntryLaws.{seam_put, length_entries}
 
 last_row : (ls : List Open) (at : ℕ) (name : List ℕ) (own : List Property) → so_far (opened at name own none ∷ ls) ≡ so_far ls ++ open_row ls at name own ∷ []
@@ -78,13 +78,13 @@ first_placed (q ∷ own) name placed = at_first (bytes_eq name q.name) q own nam
 -- the value's place is kept
 pub changed : (ls : List Open) (at number j : ℕ) (name : List ℕ) (own : List Property) (p : Property) (es : List (List ℕ)) (e : List ℕ)
     → es ≡ entries_so_far (opened at name own none ∷ ls) → number ≡ count ls → slice_get es number ≡ Some e
-    → position p.name (keys_of (role_at (next_level ls) name)) ≡ Some j → AllByRecursion (λ q. 0 < q.place) own → get_or e (j + 5) 0 ≡ 0
+    → slot p.name (keys_of (role_at (next_level ls) name)) ≡ Some j → AllByRecursion (λ q. 0 < q.place) own → get_or e (j + 5) 0 ≡ 0
     → set es number (set e (j + 5) (span_word p.place (length p.value))) ≡ entries_so_far (opened at name (own ++ p ∷ []) none ∷ ls)
 changed ls at number j name own p es e old is read place placed zero =
     let role : Role = role_at (next_level ls) name in
     let row : Kept = open_row ls at name own in
     let w : ℕ = span_word p.place (length p.value) in
-    let below : j < length (words_of (keys_of role) own) = omega (arith, position_below (keys_of role) p.name j place, length_words (keys_of role) own) in
+    let below : j < length (words_of (keys_of role) own) = omega (arith, slot_below (keys_of role) p.name j place, length_words (keys_of role) own) in
     let s : Seam (count ls) (λ k. record k { own = k.own ++ p ∷ [] }) (so_far (opened at name own none ∷ ls)) (so_far (opened at name (own ++ p ∷ []) none ∷ ls)) = record {
       before = so_far ls;
       row = row;
@@ -107,7 +107,7 @@ changed ls at number j name own p es e old is read place placed zero =
 
 -- the property's name came before
 pub again : (ls : List Open) (at j : ℕ) (name : List ℕ) (own : List Property) (p : Property)
-    → position p.name (keys_of (role_at (next_level ls) name)) ≡ Some j
+    → slot p.name (keys_of (role_at (next_level ls) name)) ≡ Some j
     → (value_word (first own p.name) ≡ 0 → ⊥)
     → entries_so_far (opened at name own none ∷ ls) ≡ entries_so_far (opened at name (own ++ p ∷ []) none ∷ ls)
 again ls at j name own p place some = had (first own p.name) refl
@@ -118,18 +118,18 @@ again ls at j name own p place some = had (first own p.name) refl
 
 -- the place of a key, where the role and the name are known by other names
 pub placed_at : (p : Property) (role : Role) (key : Key) (o : Option ℕ) (ls : List Open) (name : List ℕ) → role ≡ role_at (next_level ls) name → name_of key ≡ p.name
-    → position (name_of key) (keys_of role) ≡ o → position p.name (keys_of (role_at (next_level ls) name)) ≡ o
+    → slot (name_of key) (keys_of role) ≡ o → slot p.name (keys_of (role_at (next_level ls) name)) ≡ o
 placed_at p role key o ls name same named place =
-    sym (ap (λ (r : Role). position (name_of key) (keys_of r)) same ∙ ap (λ (n : List ℕ). position n (keys_of (role_at (next_level ls) name))) named) ∙ place
+    sym (ap (λ (r : Role). slot (name_of key) (keys_of r)) same ∙ ap (λ (n : List ℕ). slot n (keys_of (role_at (next_level ls) name))) named) ∙ place
 
 -- the word of a value in the innermost node's entry
 pub kept_word : (ls : List Open) (at number j : ℕ) (name : List ℕ) (own : List Property) (p : Property) (es : List (List ℕ)) (e : List ℕ)
     → es ≡ entries_so_far (opened at name own none ∷ ls) → number ≡ count ls → slice_get es number ≡ Some e
-    → position p.name (keys_of (role_at (next_level ls) name)) ≡ Some j → get_or e (j + 5) 0 ≡ value_word (first own p.name)
+    → slot p.name (keys_of (role_at (next_level ls) name)) ≡ Some j → get_or e (j + 5) 0 ≡ value_word (first own p.name)
 kept_word ls at number j name own p es e old is read place =
     let role : Role = role_at (next_level ls) name in
     let row : Kept = open_row ls at name own in
-    let below : j < length (words_of (keys_of role) own) = omega (arith, position_below (keys_of role) p.name j place, length_words (keys_of role) own) in
+    let below : j < length (words_of (keys_of role) own) = omega (arith, slot_below (keys_of role) p.name j place, length_words (keys_of role) own) in
     let five : j + 5 ≡ suc (suc (suc (suc (suc j)))) = omega arith in
     let long : length (entries_so_far ls) ≡ count ls = length_entries (so_far ls) ∙ length_so_far ls in
     let entry : e ≡ entry_of row = sym (get_or_from_slice_get es number e [] read)

@@ -1,8 +1,15 @@
 pub mod NumberLaws
-pub mod NameLaws
 pub mod Examples
 pub mod WalkLaws
 pub mod SoFarLaws
 pub mod EntryLaws
 pub mod ValueLaws
 pub mod KeepLaws
+pub mod PhaseLaws
+pub mod RoleLaws
+pub mod KeyLaws
+pub mod PassLaws
+pub mod IndexLaws
+pub mod CostLaws
+pub mod LinkLaws
+pub mod PlaceLaws

@@ -8,7 +8,7 @@ use Rattle.uimg_blob.specs.declared.keys.Key.{Key}
 use Rattle.uimg_blob.specs.Tokens.{Property}
 use Rattle.uimg_blob.specs.Keys.{name_of}
 use Rattle.uimg_blob.specs.LookUps.{first}
-use Rattle.uimg_blob.specs.Kept.{position, value_word}
+use Rattle.uimg_blob.specs.Kept.{slot, value_word}
 
 -- the words of the values of keys
 abbrev pub words_of : List Key → List Property → List ℕ
@@ -68,10 +68,10 @@ some_of (Some i) j h = (i, refl, sym (some_some (suc i) j h))
 
 -- the place of a name among a key and others
 at_key : (name : List ℕ) (key : Key) (keys : List Key) (b : Bool) → bytes_eq (name_of key) name ≡ b
-    → position name (key ∷ keys) ≡ (if b then Some 0 else option_map suc (position name keys))
-at_key name key keys b is = ap (λ (c : Bool). if c then Some 0 else option_map suc (position name keys)) is
+    → slot name (key ∷ keys) ≡ (if b then Some 0 else option_map suc (slot name keys))
+at_key name key keys b is = ap (λ (c : Bool). if c then Some 0 else option_map suc (slot name keys)) is
 
-apart_absent : (key : Key) (keys : List Key) → is_apart key keys ≡ true → position (name_of key) keys ≡ None
+apart_absent : (key : Key) (keys : List Key) → is_apart key keys ≡ true → slot (name_of key) keys ≡ None
 apart_absent key [] h = refl
 apart_absent key (next ∷ keys) h = by_bool (bytes_eq (name_of next) (name_of key))
     (λ same_name. absurd (true_false (sym h ∙ ap (λ (b : Bool). cond b false (is_apart key keys)) same_name)))
@@ -79,7 +79,7 @@ apart_absent key (next ∷ keys) h = by_bool (bytes_eq (name_of next) (name_of k
     ∙ ap (option_map suc) (apart_absent key keys (sym (ap (λ (b : Bool). cond b false (is_apart key keys)) other) ∙ h)))
 
 -- a property whose name is other key's
-pub absent : (keys : List Key) (own : List Property) (p : Property) → position p.name keys ≡ None → words_of keys (own ++ p ∷ []) ≡ words_of keys own
+pub absent : (keys : List Key) (own : List Property) (p : Property) → slot p.name keys ≡ None → words_of keys (own ++ p ∷ []) ≡ words_of keys own
 absent [] own p h = refl
 absent (key ∷ keys) own p h = by_bool (bytes_eq (name_of key) p.name)
     (λ same_name. absurd (some_none (sym (at_key p.name key keys true same_name) ∙ h)))
@@ -97,7 +97,7 @@ repeated (key ∷ keys) own p q h =
     ∙ ap (λ (ws : List ℕ). value_word (first own (name_of key)) ∷ ws) (repeated keys own p q h)
 
 -- the first property of its name, where that is a key's
-pub stored : (keys : List Key) (own : List Property) (p : Property) (j : ℕ) → position p.name keys ≡ Some j → are_apart keys ≡ true → first own p.name ≡ None
+pub stored : (keys : List Key) (own : List Property) (p : Property) (j : ℕ) → slot p.name keys ≡ Some j → are_apart keys ≡ true → first own p.name ≡ None
     → words_of keys (own ++ p ∷ []) ≡ set (words_of keys own) j (value_word (Some p))
 stored [] own p j h apart none = absurd (some_none (sym h))
 stored (key ∷ keys) own p j h apart none = by_bool (bytes_eq (name_of key) p.name)
@@ -105,7 +105,7 @@ stored (key ∷ keys) own p j h apart none = by_bool (bytes_eq (name_of key) p.n
     let same : name_of key ≡ p.name = (bytes_eq-Decides (name_of key) p.name).0 same_name in
     let here : j ≡ 0 = sym (some_some 0 j (sym (at_key p.name key keys true same_name) ∙ h)) in
     let alone : is_apart key keys ≡ true = by_bool (is_apart key keys) (λ a. a) (λ a. absurd (true_false (sym apart ∙ ap (λ (b : Bool). cond b (are_apart keys) false) a))) in
-    let gone : position p.name keys ≡ None = ap (λ (n : List ℕ). position n keys) (sym same) ∙ apart_absent key keys alone in
+    let gone : slot p.name keys ≡ None = ap (λ (n : List ℕ). slot n keys) (sym same) ∙ apart_absent key keys alone in
     ap (λ (o : Option Property). value_word o ∷ words_of keys (own ++ p ∷ [])) (had_none own p (name_of key) (ap (first own) same ∙ none) same_name)
     ∙ ap (λ (ws : List ℕ). value_word (Some p) ∷ ws) (absent keys own p gone)
     ∙ ap (λ (i : ℕ). set (words_of (key ∷ keys) own) i (value_word (Some p))) (sym here))
@@ -118,7 +118,7 @@ stored (key ∷ keys) own p j h apart none = by_bool (bytes_eq (name_of key) p.n
     ∙ ap (λ (i : ℕ). set (words_of (key ∷ keys) own) i (value_word (Some p))) (sym x.2))
 
 -- the word of a key's value
-pub word_at : (keys : List Key) (own : List Property) (name : List ℕ) (j : ℕ) → position name keys ≡ Some j
+pub word_at : (keys : List Key) (own : List Property) (name : List ℕ) (j : ℕ) → slot name keys ≡ Some j
     → get_or (words_of keys own) j 0 ≡ value_word (first own name)
 word_at [] own name j h = absurd (some_none (sym h))
 word_at (key ∷ keys) own name j h = by_bool (bytes_eq (name_of key) name)
@@ -127,8 +127,8 @@ word_at (key ∷ keys) own name j h = by_bool (bytes_eq (name_of key) name)
     (λ other. let x = some_of _ j (sym (at_key name key keys false other) ∙ h) in
     ap (λ (i : ℕ). get_or (words_of (key ∷ keys) own) i 0) x.2 ∙ word_at keys own name x.0 x.1)
 
-pub position_below : (keys : List Key) (name : List ℕ) (j : ℕ) → position name keys ≡ Some j → j < length keys
-position_below [] name j h = absurd (some_none (sym h))
-position_below (key ∷ keys) name j h = by_bool (bytes_eq (name_of key) name)
+pub slot_below : (keys : List Key) (name : List ℕ) (j : ℕ) → slot name keys ≡ Some j → j < length keys
+slot_below [] name j h = absurd (some_none (sym h))
+slot_below (key ∷ keys) name j h = by_bool (bytes_eq (name_of key) name)
     (λ same_name. omega (arith, some_some 0 j (sym (at_key name key keys true same_name) ∙ h)))
-    (λ other. let x = some_of _ j (sym (at_key name key keys false other) ∙ h) in omega (arith, position_below keys name x.0 x.1, x.2))
+    (λ other. let x = some_of _ j (sym (at_key name key keys false other) ∙ h) in omega (arith, slot_below keys name x.0 x.1, x.2))

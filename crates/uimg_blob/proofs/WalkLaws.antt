@@ -1,7 +1,8 @@
 -- One pass with the open nodes is the grammar.
 use Rattle.std.proofs.Common.{◌≡◌, ◌≤◌, ℕ, zero, suc, List, [], ◌∷◌, ◌++◌, length, Result, Ok, Err, refl, ap, sym, ◌∙◌, append_assoc, arith}
 use Rattle.std.specs.Bool.{⊤}
-use Rattle.uimg_blob.specs.Reading.{Fault, ◌>>=◌}
+use Rattle.uimg_base.specs.Results.{◌>>=◌}
+use Rattle.uimg_blob.specs.Reading.{Fault}
 use Rattle.uimg_blob.specs.Tokens.{Property, Token, begin_node, end_node, prop, nop, last, stray}
 use Rattle.uimg_blob.specs.Grammar.{Siblings, none, node, Reads, properties, end, inside, children, ended, root, without_nops}
 use Rattle.uimg_blob.specs.Walk.{Open, opened, join, with_child, finished, walk, begun}

@@ -1,8 +1,9 @@
 -- A flattened devicetree blob (Devicetree Specification, chapter 5).
 use Rattle.std.specs.Prelude.{ℕ, ◌+◌, ◌%◌, List, [], ◌∷◌, length, Result, Ok, Err, Bool, nat_lt, ◌==◌, if◌then◌else◌, not}
 use Rattle.uimg_blob.specs.declared.fault.BlobFault.TheVariants.{TooShort, BadMagic, BadVersion, BlockOutside}
-use Rattle.uimg_blob.specs.Numbers.{be32}
-use Rattle.uimg_blob.specs.Reading.{Fault, ◌>>=◌}
+use Rattle.uimg_texts.specs.Numbers.{be32}
+use Rattle.uimg_base.specs.Results.{◌>>=◌}
+use Rattle.uimg_blob.specs.Reading.{Fault}
 use Rattle.uimg_blob.specs.Tokens.{Token, Blocks, offset, tokens}
 use Rattle.uimg_blob.specs.Grammar.{Siblings, root, without_nops}
 

@@ -1,5 +1,5 @@
 -- What the reading of a blob is counted by.
-use Rattle.std.specs.Prelude.{ℕ, ◌+◌, ◌*◌, List, [], ◌∷◌, length, Result, Ok, Err, Bool, true, false, nat_lt, if◌then◌else◌}
+use Rattle.std.specs.Prelude.{ℕ, ◌+◌, ◌*◌, List, [], ◌∷◌, length, Result, Ok, Err, Bool, true, false, nat_lt, if◌then◌else◌, cond}
 use Rattle.std.specs.List.{count_by, sum_by}
 use Rattle.uimg_blob.specs.declared.fault.BlobFault.{BlobFault}
 use Rattle.uimg_blob.specs.Reading.{Fault}
@@ -78,3 +78,16 @@ texts_met file = sum_by text_length (sound_in (tree file) (met file))
 -- the most bytes that are asked for beside payloads
 abbrev pub meta : List ℕ → ℕ
 meta file = 64 + 1024 * (nodes_met file + properties_met file) + 4 * (texts_met file + nops_met file)
+
+-- a node that a token begins
+abbrev pub begun_by : Token → ℕ
+begun_by t = cond (is_begin t) 1 0
+
+-- the most bytes that are asked for at a token, and 4 for the end of each node
+abbrev pub weight : Token → ℕ
+weight (begin_node at name) = 264
+weight (end_node at) = 0
+weight (prop at property) = 268
+weight (nop at) = 4
+weight (last at) = 0
+weight (stray at fault) = 0

@@ -3,7 +3,7 @@ use Rattle.std.specs.Prelude.{◌≡◌, ℕ, ◌+◌, ◌%◌, ◌^◌, ◌<◌
 use Rattle.uimg_blob.specs.declared.fault.IndexFault.{IndexFault}
 use Rattle.uimg_blob.specs.declared.fault.IndexFault.TheVariants.{Blob, Read}
 use Rattle.uimg_blob.specs.declared.extent.Extent.{Extent}
-use Rattle.uimg_blob.specs.Numbers.{be32}
+use Rattle.uimg_texts.specs.Numbers.{be32}
 use Rattle.uimg_blob.specs.Tokens.{Blocks}
 use Rattle.uimg_blob.specs.Blob.{blocks}
 

@@ -1,7 +1,8 @@
 -- The grammar of the structure block (Devicetree Specification, section 5.4.2).
 use Rattle.std.specs.Prelude.{ℕ, suc, List, [], ◌∷◌, length, Result, Ok, Err}
 use Rattle.uimg_blob.specs.declared.fault.BlobFault.TheVariants.{BadNesting}
-use Rattle.uimg_blob.specs.Reading.{Fault, ◌>>=◌}
+use Rattle.uimg_base.specs.Results.{◌>>=◌}
+use Rattle.uimg_blob.specs.Reading.{Fault}
 use Rattle.uimg_blob.specs.Tokens.{Property, Token, begin_node, end_node, prop, nop, last, stray}
 
 -- Nodes that follow one another: none, or one, with its offset, name, properties and children, and those after it.
@@ -9,7 +10,7 @@ pub data Siblings : Type 0 where
   none : Siblings
   node : ℕ → List ℕ → List Property → Siblings → Siblings → Siblings
 
--- What is read from the front of a list of tokens, and the tokens after it.
+-- What is read from the beginning of a list of tokens, and the tokens after it.
 abbrev pub Reads : Type 0 → Type 0
 Reads A = List Token → Result (A × List Token) Fault
 
@@ -27,7 +28,7 @@ abbrev pub misplaced_first : {A : Type 0} → List Token → Result A Fault
 misplaced_first [] = Err (BadNesting, 0)
 misplaced_first (t ∷ ts) = Err (misplaced t)
 
--- properties: a property and properties, or nothing where the next token isn't one
+-- properties: a property and properties, or nothing where the next token is not one
 unfoldable pub properties : Reads (List Property)
 properties (prop at (Ok p) ∷ ts) = do
   more ← properties ts

@@ -23,9 +23,9 @@ pub record Kept : Type 0 where
   pub end : ℕ
 
 -- the place of a name among those of some keys, if it is there
-abbrev pub position : List ℕ → List Key → Option ℕ
-position name [] = None
-position name (key ∷ keys) = if bytes_eq (name_of key) name then Some 0 else option_map suc (position name keys)
+abbrev pub slot : List ℕ → List Key → Option ℕ
+slot name [] = None
+slot name (key ∷ keys) = if bytes_eq (name_of key) name then Some 0 else option_map suc (slot name keys)
 
 -- what is kept of nodes that are numbered from i on, under a parent
 unfoldable pub kept : Level → Option ℕ → ℕ → Siblings → List Kept

@@ -1,6 +1,8 @@
 -- The properties that FIT gives a meaning (Flattened Image Tree format, "Root node", "'/images' node", "'/configurations' node").
 use Rattle.std.specs.Prelude.{ℕ, List, [], ◌∷◌, Option, Bool, codes, find}
+use Rattle.std.specs.Borrow.{Bor}
 use Rattle.std.specs.List.{list_any}
+use Rattle.std.specs.Option.{option_map}
 use Rattle.std.specs.Str.{bytes_eq}
 use Rattle.uimg_blob.specs.declared.keys.Key.{Key}
 use Rattle.uimg_blob.specs.declared.keys.Key.TheVariants.{Description, Timestamp, Data, Kind, Arch, Os, Compression, Load, Entry, DataSize, DataOffset, DataPosition, Algo, Value, Default, Kernel, Ramdisk, Fdt, Loadables}
@@ -33,6 +35,19 @@ all_keys =
     Description ∷ Timestamp ∷ Data ∷ Kind ∷ Arch ∷ Os ∷ Compression
     ∷ Load ∷ Entry ∷ DataSize ∷ DataOffset ∷ DataPosition ∷ Algo ∷ Value
     ∷ Default ∷ Kernel ∷ Ramdisk ∷ Fdt ∷ Loadables ∷ []
+
+-- a name and its key
+pub record KeyRow : Type 0 where
+  pub name : List ℕ
+  pub key : Key
+
+-- the key of the first row of that name
+abbrev pub key_of_name : List KeyRow → List ℕ → Option Key
+key_of_name table name = option_map (λ r. r.key) (find (λ r. bytes_eq name r.name) table)
+
+-- a row of the code's table
+abbrev pub key_row_of : Bor (List ℕ) × Key → KeyRow
+key_row_of r = record { name = r.0.now; key = r.1 }
 
 -- the key of a property's name, if it has one
 abbrev pub key_named : List ℕ → Option Key

@@ -1,4 +1,3 @@
-pub mod Numbers
 pub mod Reading
 pub mod Tokens
 pub mod Grammar
@@ -11,7 +10,8 @@ pub mod LookUps
 pub mod Faults
 pub mod Extents
 pub mod Labels
-pub mod Seen
+pub mod ReadTokens
 pub mod Walk
 pub mod Kept
 pub mod SoFar
+pub mod Passes

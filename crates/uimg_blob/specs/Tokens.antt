@@ -1,9 +1,10 @@
 -- The structure block as a list of tokens (Devicetree Specification, section 5.4.1).
 use Rattle.std.specs.Prelude.{ℕ, zero, suc, ◌+◌, ◌-◌, List, [], ◌∷◌, length, take, drop, Option, Some, None, Result, Ok, Err, nat_lt, ◌==◌, if◌then◌else◌}
-use Rattle.uimg_base.specs.Device.{part}
+use Rattle.uimg_texts.specs.Nul.{before_nul}
+use Rattle.uimg_texts.specs.Slices.{slice}
 use Rattle.uimg_blob.specs.declared.fault.BlobFault.{BlobFault}
 use Rattle.uimg_blob.specs.declared.fault.BlobFault.TheVariants.{BadToken, Truncated, BadNodeName, BadPropertyName}
-use Rattle.uimg_blob.specs.Numbers.{be32, up4}
+use Rattle.uimg_texts.specs.Numbers.{be32, up4}
 
 -- A property: its name, where its value stands in the file, and the value.
 pub record Property : Type 0 where
@@ -37,12 +38,6 @@ pub record Blocks : Type 0 where
   pub strings : ℕ
   pub strings_size : ℕ
 
--- the bytes before the first NUL, if there is one
-unfoldable pub before_nul : List ℕ → Option (List ℕ)
-before_nul [] = None
-before_nul (zero ∷ bytes) = Some []
-before_nul (suc b ∷ bytes) = elim (before_nul bytes) as (λ _. Option (List ℕ)) [ None ↦ None | Some name ↦ Some (suc b ∷ name) ]
-
 -- the bytes from a place that lie below an end, at most 256: a name and its NUL
 abbrev pub reach : List ℕ → ℕ → ℕ → List ℕ
 reach bytes at end = take 256 (take (end - at) (drop at bytes))
@@ -64,7 +59,7 @@ property b at =
     else if nat_lt b.structure_end (at + 12 + be32 b.bytes (at + 4)) then Err Truncated
     else if nat_lt (be32 b.bytes (at + 8)) b.strings_size then
     named (before_nul (reach b.bytes (b.strings + be32 b.bytes (at + 8)) (b.strings + b.strings_size)))
-    (at + 12) (part b.bytes (at + 12) (be32 b.bytes (at + 4)))
+    (at + 12) (slice b.bytes (at + 12) (be32 b.bytes (at + 4)))
     else Err BadPropertyName
 
 -- the token that begins a node, from the bytes after it

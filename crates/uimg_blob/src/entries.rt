@@ -1,6 +1,6 @@
 ghost use Rattle.std.specs.Prelude.{◌≡◌, ◌+◌, ◌-◌, ◌^◌, ◌<◌, ◌*◌, ℕ, max, min, [], ◌∷◌, ◌++◌, List, length, OnOk, IfSome, is_ok, is_err, if◌then◌else◌};
-ghost use Rattle.uimg_base.specs.Device.{RisesIf};
-ghost use Rattle.uimg_base.specs.Held.{held_bytes};
+ghost use Rattle.std.specs.Bool.{OnFalse};
+ghost use Rattle.uimg_base.specs.Held.{SameSize, AddsOne};
 ghost use Rattle.std.specs.List.{AllByRecursion};
 ghost use Rattle.uimg_blob.specs.Tokens.{Property};
 ghost use Rattle.uimg_blob.specs.Keys.{name_of};
@@ -11,16 +11,21 @@ ghost use Rattle.uimg_blob.specs.Kept.{span_word, number_word, role_word, entrie
 ghost use Rattle.uimg_blob.specs.SoFar.{count, innermost, next_level, entries_so_far};
 
 use crate::keys::Key;
-use crate::places::place_of;
 use crate::roles::Role;
+use crate::slots::slot_of;
 use std::alloc::{AllocError, Allocator};
 use uimg_base::Room;
 
-// The place of an entry's word that has the number of the first node that is neither it nor below
-// it.
+// The words of an entry: where the node's name stands, its parent's number, the number of the first
+// node that is neither it nor below it, its role, and where the values of its keys stand.
+const NAME: usize = 0;
+
+pub(crate) const PARENT: usize = 1;
+
 const END: usize = 2;
 
-// The place of an entry's first value.
+pub(crate) const ROLE: usize = 3;
+
 const VALUES: usize = 5;
 
 // A place and a length in one word.
@@ -69,27 +74,25 @@ pub(crate) fn enter<A: Allocator>(
     ensures entered { (ls : List Open) (name : List ℕ) → room.old.entries ≡ entries_so_far ls →
         parent ≡ innermost ls → role ≡ role_at (next_level ls) name → name_length ≡ length name →
         OnOk result (room.new.entries ≡ entries_so_far (opened at name [] none ∷ ls)) }
-    ensures count { length room.new.entries ≡ (if is_ok result then length room.old.entries + 1 else length room.old.entries) }
-    ensures peak { room.new.peak ≡ (if is_ok result
-        then max room.old.peak (held_bytes (length room.old.entries + 1)) else room.old.peak) }
-    ensures refused { RisesIf (is_err result) room.old.refused room.new.refused }
+    ensures stay { OnFalse (is_ok result) (room.new.entries ≡ room.old.entries) }
+    ensures size { AddsOne (is_ok result) (is_err result) room.old room.new }
 {
-    let name = span_word(at + 4, name_length);
-    let parent = number_word(parent);
-    let role = role_word(role);
-    room.add([name, parent, 0, role, 0, 0, 0, 0, 0, 0, 0, 0, 0, 0, 0, 0])
+    let mut entry = [0; 16];
+    entry[NAME] = span_word(at + 4, name_length);
+    entry[PARENT] = number_word(parent);
+    entry[ROLE] = role_word(role);
+    room.add(entry)
 }
 
 // Ends the node of a number: all entries after it are of nodes below it.
 pub(crate) fn leave<A: Allocator>(room: &mut Room<A>, number: usize)
     requires { number < length room.old.entries }
-    ensures inner { (o parent : Open) (ls : List Open) → room.old.entries ≡ entries_so_far (o ∷ parent ∷ ls) →
+    ensures inner { (o parent : Open) (ls : List Open) →
+        room.old.entries ≡ entries_so_far (o ∷ parent ∷ ls) →
         number ≡ count (parent ∷ ls) → room.new.entries ≡ entries_so_far (close o parent ∷ ls) }
     ensures root { (o : Open) → room.old.entries ≡ entries_so_far (o ∷ []) → number ≡ 0 →
         room.new.entries ≡ entries (as_node o) }
-    ensures count { length room.new.entries ≡ length room.old.entries }
-    ensures peak { room.new.peak ≡ room.old.peak }
-    ensures refused { room.new.refused ≡ room.old.refused }
+    ensures size { SameSize room.old room.new }
 {
     let mut entry = room.entry(number);
     entry[END] = room.count() as u64;
@@ -110,13 +113,13 @@ pub(crate) fn keep<A: Allocator>(
     requires place { place < 2 ^ 32 }
     ensures kept { (at : ℕ) (name : List ℕ) (own : List Property) (p : Property) (ls : List Open) →
         room.old.entries ≡ entries_so_far (opened at name own none ∷ ls) → number ≡ count ls →
-        role ≡ role_at (next_level ls) name → name_of key ≡ p.name → place ≡ p.place → value_length ≡ length p.value →
-        AllByRecursion (λ q. 0 < q.place) own → room.new.entries ≡ entries_so_far (opened at name (own ++ p ∷ []) none ∷ ls) }
-    ensures count { length room.new.entries ≡ length room.old.entries }
-    ensures peak { room.new.peak ≡ room.old.peak }
-    ensures refused { room.new.refused ≡ room.old.refused }
+        role ≡ role_at (next_level ls) name → name_of key ≡ p.name → place ≡ p.place →
+        value_length ≡ length p.value →
+        AllByRecursion (λ q. 0 < q.place) own →
+        room.new.entries ≡ entries_so_far (opened at name (own ++ p ∷ []) none ∷ ls) }
+    ensures size { SameSize room.old room.new }
 {
-    let Some(i) = place_of(role, key) else {
+    let Some(i) = slot_of(role, key) else {
         return;
     };
     let mut entry = room.entry(number);

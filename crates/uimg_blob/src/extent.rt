@@ -1,11 +1,11 @@
 ghost use Rattle.std.specs.Prelude.{◌≡◌, ℕ, ◌+◌, ◌≤◌, List, length, false, IsTrue, IfOk};
-ghost use Rattle.uimg_base.specs.Device.{part, RisesIf, SameDevice};
+ghost use Rattle.uimg_texts.specs.Slices.{slice};
 ghost use Rattle.uimg_blob.specs.Extents.{IsInside, GivesBlocks};
 ghost use Rattle.uimg_blob.specs.Faults.{is_read, is_out_of_memory};
+ghost use Rattle.uimg_base.specs.Using.{Asks};
 
 use crate::fault::{BlobFault, IndexFault};
-use crate::numbers::number_at;
-use uimg_base::Source;
+use uimg_base::{Source, number_at};
 
 const MAGIC: u32 = 0xd00d_feed;
 
@@ -32,7 +32,8 @@ fn extent_in(bytes: &[u8; 40], size: u64) -> Result<Extent, IndexFault>
     requires { 40 ≤ size }
     ensures no_read { is_read result ≡ false }
     ensures no_memory { is_out_of_memory result ≡ false }
-    ensures gives { (file : List ℕ) → bytes.now ≡ part file 0 40 → size ≡ length file → GivesBlocks file result }
+    ensures gives { (file : List ℕ) → bytes.now ≡ slice file 0 40 → size ≡ length file →
+        GivesBlocks file result }
     ensures inside { IfOk result (λ extent. IsInside extent size) }
 {
     let totalsize = number_at(bytes, 4) as u64;
@@ -69,16 +70,15 @@ fn extent_in(bytes: &[u8; 40], size: u64) -> Result<Extent, IndexFault>
 
 // Where the blocks of a blob lie, by its header (Devicetree Specification, section 5.2), which is
 // read at once. The first that holds is the fault: `TooShort` for a source of fewer than 40 bytes,
-// `BadMagic` where they don't begin with d00dfeed, `BadVersion` for a version below 17 or a last
+// `BadMagic` where they do not begin with `0xd00dfeed`, `BadVersion` for a version below 17 or a last
 // compatible version above 17, `BlockOutside` where the blob lies outside the source, a block
 // outside the blob, or the structure block not at a multiple of 4. `Read` where a read failed.
 #[tactic(auto, unfolding(crate::specs::Blob::blocks))]
 pub(crate) fn read_extent<S: Source>(source: &mut S) -> Result<Extent, IndexFault>
-    ensures same { SameDevice (S.device source.old) (S.device source.new) }
-    ensures asked { (S.device source.new).asked ≤ (S.device source.old).asked + 40 }
-    ensures failures { RisesIf (is_read result) (S.device source.old).failures (S.device source.new).failures }
+    ensures uses { Asks 40 (is_read result) (S.device source.old) (S.device source.new) }
     ensures no_memory { is_out_of_memory result ≡ false }
-    ensures gives { IsTrue (S.device source.old).honest → GivesBlocks (S.device source.old).bytes result }
+    ensures gives { IsTrue (S.device source.old).honest →
+        GivesBlocks (S.device source.old).bytes result }
     ensures inside { IfOk result (λ extent. IsInside extent (length (S.device source.old).bytes)) }
 {
     let size = source.size()?;

@@ -8,7 +8,7 @@ pub enum BlobFault {
     /// The file has fewer than 40 bytes.
     #[error("B1 too short")]
     TooShort,
-    /// The file doesn't begin with d00dfeed.
+    /// The file does not begin with `0xd00dfeed`.
     #[error("B2 bad magic")]
     BadMagic,
     /// The version is below 17, or the last compatible version above 17.
@@ -29,7 +29,7 @@ pub enum BlobFault {
     /// A token stands where it may not.
     #[error("B8 bad nesting")]
     BadNesting,
-    /// A property's name has more than 255 bytes, or a NUL, or isn't among the strings.
+    /// A property's name has more than 255 bytes, or a NUL, or is not among the strings.
     #[error("B9 bad property name")]
     BadPropertyName,
     /// The blob has more than 4294967295 bytes.

@@ -1,5 +1,5 @@
-ghost use Rattle.std.specs.Prelude.{◌≡◌};
-ghost use Rattle.uimg_blob.specs.Keys.{key_named};
+ghost use Rattle.std.specs.Prelude.{◌≡◌, map};
+ghost use Rattle.uimg_blob.specs.Keys.{key_of_name, key_row_of, key_named};
 
 /// A property that FIT gives a meaning. Each variant is named after its property.
 #[derive(Clone, Copy, Debug, PartialEq, Eq)]
@@ -44,49 +44,44 @@ pub enum Key {
     Loadables,
 }
 
+// The names of the properties that FIT gives a meaning.
+const NAMES: [(&str, Key); 19] = [
+    ("description", Key::Description),
+    ("timestamp", Key::Timestamp),
+    ("data", Key::Data),
+    ("type", Key::Kind),
+    ("arch", Key::Arch),
+    ("os", Key::Os),
+    ("compression", Key::Compression),
+    ("load", Key::Load),
+    ("entry", Key::Entry),
+    ("data-size", Key::DataSize),
+    ("data-offset", Key::DataOffset),
+    ("data-position", Key::DataPosition),
+    ("algo", Key::Algo),
+    ("value", Key::Value),
+    ("default", Key::Default),
+    ("kernel", Key::Kernel),
+    ("ramdisk", Key::Ramdisk),
+    ("fdt", Key::Fdt),
+    ("loadables", Key::Loadables),
+];
+
+// The key of the first row of a name.
+fn key_in(rows: &[(&str, Key)], name: &[u8]) -> Option<Key>
+    ensures { result ≡ key_of_name (map key_row_of rows.now) name.now }
+{
+    for (known, key) in rows {
+        if name == known.as_bytes() {
+            return Some(*key);
+        }
+    }
+    None
+}
+
 // The key of a property's name, `None` for a name that FIT gives no meaning.
 pub(crate) fn key_named(name: &[u8]) -> Option<Key>
     ensures { result ≡ key_named name.now }
 {
-    if name == b"description".as_slice() {
-        Some(Key::Description)
-    } else if name == b"timestamp".as_slice() {
-        Some(Key::Timestamp)
-    } else if name == b"data".as_slice() {
-        Some(Key::Data)
-    } else if name == b"type".as_slice() {
-        Some(Key::Kind)
-    } else if name == b"arch".as_slice() {
-        Some(Key::Arch)
-    } else if name == b"os".as_slice() {
-        Some(Key::Os)
-    } else if name == b"compression".as_slice() {
-        Some(Key::Compression)
-    } else if name == b"load".as_slice() {
-        Some(Key::Load)
-    } else if name == b"entry".as_slice() {
-        Some(Key::Entry)
-    } else if name == b"data-size".as_slice() {
-        Some(Key::DataSize)
-    } else if name == b"data-offset".as_slice() {
-        Some(Key::DataOffset)
-    } else if name == b"data-position".as_slice() {
-        Some(Key::DataPosition)
-    } else if name == b"algo".as_slice() {
-        Some(Key::Algo)
-    } else if name == b"value".as_slice() {
-        Some(Key::Value)
-    } else if name == b"default".as_slice() {
-        Some(Key::Default)
-    } else if name == b"kernel".as_slice() {
-        Some(Key::Kernel)
-    } else if name == b"ramdisk".as_slice() {
-        Some(Key::Ramdisk)
-    } else if name == b"fdt".as_slice() {
-        Some(Key::Fdt)
-    } else if name == b"loadables".as_slice() {
-        Some(Key::Loadables)
-    } else {
-        None
-    }
+    key_in(&NAMES, name)
 }

@@ -1,20 +1,21 @@
-//! Flattened devicetree blobs: their header, the tokens of the structure block, and the entries of a
-//! table of the nodes. The loop that makes the table of these isn't there yet.
+//! Flattened devicetree blobs: their header, the tokens of the structure block, and the index of
+//! their nodes.
 #![tactic(auto)]
 
 mod entries;
 mod extent;
 mod fault;
+mod indexing;
 mod keys;
 mod labels;
-mod names;
-mod numbers;
-mod places;
 mod reads;
 mod roles;
+mod slots;
+mod states;
 #[cfg(test)]
 mod tests;
 mod tokens;
 
 pub use fault::{BlobFault, IndexFault};
+pub use indexing::{Blob, index};
 pub use keys::Key;

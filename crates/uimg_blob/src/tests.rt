@@ -5,5 +5,6 @@ mod entries;
 mod extents;
 mod faults;
 mod images;
+mod index;
 mod names;
 mod tokens;

@@ -6,11 +6,12 @@ use Rattle.std.specs.List.{prefix_len}
 use Rattle.std.proofs.Math.Seq.{take-add}
 use Rattle.std.proofs.lemmas.List.{ext_get_or, get_or-take, get_or-drop}
 use Rattle.std.proofs.lemmas.List.Sums.{prefix_len-le-length, sum_by-append}
-use Rattle.uimg_base.specs.Device.{part}
-use Rattle.uimg_base.proofs.Parts.{length-part}
-use Rattle.uimg_legacy.specs.Numbers.{be32, words, up4}
+use Rattle.uimg_texts.specs.Slices.{slice}
+use Rattle.uimg_base.proofs.Slices.{length-slice}
+use Rattle.uimg_texts.specs.Numbers.{be32, up4}
+use Rattle.uimg_legacy.specs.Words.{words}
 use Rattle.uimg_legacy.specs.Parts.{sizes, start}
-use Rattle.uimg_legacy.proofs.PartsLaws.{part-part, words-at, length-words, length-sizes}
+use Rattle.uimg_legacy.proofs.PartsLaws.{slice-slice, words-at, length-words, length-sizes}
 
 -- the words from a place on
 words-drop : (d : List ℕ) (i : ℕ) → words (drop (4 * i) d) ≡ drop i (words d)
@@ -45,8 +46,8 @@ words-take (a ∷ b ∷ c ∷ d ∷ rest) (suc n) =
     rw e (ap (λ (ws : List ℕ). be32 (a ∷ b ∷ c ∷ d ∷ []) 0 ∷ ws) (words-take rest n))
 
 -- the words of a window
-pub words-part : (d : List ℕ) (i n : ℕ) → words (part d (4 * i) (4 * n)) ≡ take n (drop i (words d))
-words-part d i n = words-take (drop (4 * i) d) n ∙ ap (λ (ws : List ℕ). take n ws) (words-drop d i)
+pub words-slice : (d : List ℕ) (i n : ℕ) → words (slice d (4 * i) (4 * n)) ≡ take n (drop i (words d))
+words-slice d i n = words-take (drop (4 * i) d) n ∙ ap (λ (ws : List ℕ). take n ws) (words-drop d i)
 
 -- a prefix after some of its elements
 cond_le : (b : Bool) (n i : ℕ) → suc i ≤ cond b (1 + n) 0 → (b ≡ true) × (i ≤ n)
@@ -73,18 +74,18 @@ prefix_len-take p (x ∷ xs) (suc n) =
     cond_min (p x) (prefix_len p (take n xs)) (prefix_len p xs) n (prefix_len-take p xs n)
 
 -- the sizes of a window that begins before the table's end
-pub sizes_window : (image : List ℕ) (size i n : ℕ) → 4 * (i + n) ≤ size → i ≤ length (sizes (part image 64 size)) → length (sizes (part image (64 + 4 * i) (4 * n))) ≡ min n (length (sizes (part image 64 size)) - i)
+pub sizes_window : (image : List ℕ) (size i n : ℕ) → 4 * (i + n) ≤ size → i ≤ length (sizes (slice image 64 size)) → length (sizes (slice image (64 + 4 * i) (4 * n))) ≡ min n (length (sizes (slice image 64 size)) - i)
 sizes_window image size i n inside h =
     let p = λ (w : ℕ). not (w == 0) in
-    let d = part image 64 size in
+    let d = slice image 64 size in
     let all = length-sizes d in
-    let window : part image (64 + 4 * i) (4 * n) ≡ part d (4 * i) (4 * n) = sym (part-part image 64 size (4 * i) (4 * n) (omega arith)) in
-    let front = prefix_len-take p (drop i (words d)) n in
+    let window : slice image (64 + 4 * i) (4 * n) ≡ slice d (4 * i) (4 * n) = sym (slice-slice image 64 size (4 * i) (4 * n) (omega arith)) in
+    let prefix = prefix_len-take p (drop i (words d)) n in
     let rest = prefix_len-rest p (words d) i (omega arith) in
     ap (λ (w : List ℕ). length (sizes w)) window
-    ∙ length-sizes (part d (4 * i) (4 * n))
-    ∙ ap (λ (ws : List ℕ). prefix_len p ws) (words-part d i n)
-    ∙ omega (arith, front, rest, all)
+    ∙ length-sizes (slice d (4 * i) (4 * n))
+    ∙ ap (λ (ws : List ℕ). prefix_len p ws) (words-slice d i n)
+    ∙ omega (arith, prefix, rest, all)
 
 -- no more sizes than words
 pub sizes-le-words : (d : List ℕ) → length (sizes d) ≤ length (words d)
@@ -93,25 +94,25 @@ sizes-le-words d =
     omega (arith, length-sizes d, most)
 
 -- the words of a window are the sizes of the table at its place
-table_window : (image table : List ℕ) (count i n : ℕ) → length table ≡ count → ((k : ℕ) → k < count → get_or table k 0 ≡ be32 image (64 + 4 * k)) → i + n ≤ count → 64 + 4 * count ≤ length image → take n (drop i table) ≡ words (part image (64 + 4 * i) (4 * n))
+table_window : (image table : List ℕ) (count i n : ℕ) → length table ≡ count → ((k : ℕ) → k < count → get_or table k 0 ≡ be32 image (64 + 4 * k)) → i + n ≤ count → 64 + 4 * count ≤ length image → take n (drop i table) ≡ words (slice image (64 + 4 * i) (4 * n))
 unfolding be32
 table_window image table count i n len same inside fits =
-    let window = part image (64 + 4 * i) (4 * n) in
-    let size = length-part image (64 + 4 * i) (4 * n) (omega arith) in
+    let window = slice image (64 + 4 * i) (4 * n) in
+    let size = length-slice image (64 + 4 * i) (4 * n) (omega arith) in
     let few = length-words window in
-    let front : length (take n (drop i table)) ≡ n = simp (length-take, length-drop) (omega arith) in
-    ext_get_or 0 (take n (drop i table)) (words window) (omega (arith, front, size, few.0, few.1)) (λ k h.
-    let here : k < n = omega (arith, front) in
+    let prefix : length (take n (drop i table)) ≡ n = simp (length-take, length-drop) (omega arith) in
+    ext_get_or 0 (take n (drop i table)) (words window) (omega (arith, prefix, size, few.0, few.1)) (λ k h.
+    let here : k < n = omega (arith, prefix) in
     let place : 64 + 4 * (i + k) ≡ 64 + 4 * i + 4 * k = omega arith in
     get_or-take n (drop i table) k 0 here
     ∙ get_or-drop i table k 0
     ∙ same (i + k) (omega arith)
-    ∙ ap (λ (at : ℕ). from_be_bytes w32 (part image at 4)) place
-    ∙ ap (λ (w : List ℕ). from_be_bytes w32 w) (sym (part-part image (64 + 4 * i) (4 * n) (4 * k) 4 (omega arith)))
+    ∙ ap (λ (at : ℕ). from_be_bytes w32 (slice image at 4)) place
+    ∙ ap (λ (w : List ℕ). from_be_bytes w32 w) (sym (slice-slice image (64 + 4 * i) (4 * n) (4 * k) 4 (omega arith)))
     ∙ sym (words-at window k (omega (arith, size))))
 
--- where a component starts, from where one before it does
-pub start_window : (image table : List ℕ) (count i n : ℕ) → length table ≡ count → ((k : ℕ) → k < count → get_or table k 0 ≡ be32 image (64 + 4 * k)) → i + n ≤ count → 64 + 4 * count ≤ length image → start table (i + n) ≡ start table i + sum_by up4 (words (part image (64 + 4 * i) (4 * n)))
+-- where a part starts, from where one before it does
+pub start_window : (image table : List ℕ) (count i n : ℕ) → length table ≡ count → ((k : ℕ) → k < count → get_or table k 0 ≡ be32 image (64 + 4 * k)) → i + n ≤ count → 64 + 4 * count ≤ length image → start table (i + n) ≡ start table i + sum_by up4 (words (slice image (64 + 4 * i) (4 * n)))
 unfolding start
 start_window image table count i n len same inside fits =
     let sum : sum_by up4 (take (i + n) table) ≡ sum_by up4 (take i table) + sum_by up4 (take n (drop i table)) = ap (λ (w : List ℕ). sum_by up4 w) (take-add i n table) ∙ sum_by-append up4 (take i table) (take n (drop i table)) in

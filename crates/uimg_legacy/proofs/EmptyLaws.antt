@@ -13,7 +13,7 @@ not_empty : (n : ℕ) → n ≢ 0 → (n == 0) ≡ false
 not_empty zero h = absurd (h refl)
 not_empty (suc n) h = eqb-suc-zero n
 
--- one more part that isn't empty
+-- one more part that is not empty
 pub full_more : (ps : List (List ℕ)) (i : ℕ) → i < length ps → has_empty (take i ps) ≡ false → length (get_or ps i []) ≢ 0 → has_empty (take (i + 1) ps) ≡ false
 unfolding has_empty
 full_more ps i h full part =

@@ -2,43 +2,45 @@
 use Rattle.std.proofs.Common.{◌≡◌, ℕ, List, [], ◌∷◌, ◌++◌, Ok, Err, refl}
 use Rattle.std.specs.Prelude.{codes}
 use Rattle.hex.specs.Hex.{encode_with}
-use Rattle.uimg_base.specs.Crc.{crc, bits, number_of, add, polynomial, rem_by, rem, dividend, invert_front}
+use Rattle.uimg_sums.specs.Crc.{crc, bits, number_of, xor_bits, polynomial, rem_by, rem, dividend, invert_prefix}
 use Rattle.uimg_base.specs.Outcome.{done, refused, told, after, line}
-use Rattle.uimg_base.specs.Calendar.{civil_date}
-use Rattle.uimg_base.specs.Times.{time_text}
+use Rattle.uimg_texts.specs.Calendar.{civil_date}
+use Rattle.uimg_texts.specs.Times.{time_text}
 use Rattle.uimg_legacy.specs.declared.fault.LegacyFault.TheVariants.{NoTableEnd, PartOutside, NoSuchPart, EmptyPart}
-use Rattle.uimg_legacy.specs.Numbers.{be32, words}
+use Rattle.uimg_texts.specs.Numbers.{be32}
+use Rattle.uimg_texts.specs.Nul.{before_nul, text}
+use Rattle.uimg_legacy.specs.Words.{words}
 use Rattle.uimg_legacy.specs.Header.{head, has_right_crc, fields, header, spelled_with}
 use Rattle.uimg_legacy.specs.Image.{has_right_data}
-use Rattle.uimg_legacy.specs.Parts.{has_parts, sizes, parts, start, is_outside}
+use Rattle.uimg_legacy.specs.Parts.{has_parts, sizes, part_sizes, start, is_outside}
 use Rattle.uimg_legacy.specs.Report.{verify_of}
-use Rattle.uimg_legacy.specs.Extraction.{component, single, extract_of}
+use Rattle.uimg_legacy.specs.Extraction.{listed_part, single, extract_of}
 use Rattle.uimg_legacy.specs.Building.{joined, size_table, has_empty, data_to_build, legacy_built}
-use Rattle.uimg_legacy.specs.Listing.{name_line, time_line, type_line, load_line, entry_line, head_text, component_line, component_lines, list_of}
+use Rattle.uimg_legacy.specs.Listing.{name_line, time_line, type_line, load_line, entry_line, head_text, part_line, part_lines, list_of}
 
--- components of 3, 4 and 5 bytes, each but the last padded to a multiple of 4
+-- parts of 3, 4 and 5 bytes, each but the last padded to a multiple of 4
 abbrev three : List ℕ
 three = 0 ∷ 0 ∷ 0 ∷ 3 ∷ 0 ∷ 0 ∷ 0 ∷ 4 ∷ 0 ∷ 0 ∷ 0 ∷ 5 ∷ 0 ∷ 0 ∷ 0 ∷ 0 ∷ 97 ∷ 98 ∷ 99 ∷ 0 ∷ 100 ∷ 101 ∷ 102 ∷ 103 ∷ 104 ∷ 105 ∷ 106 ∷ 107 ∷ 108 ∷ []
 
-pub three_parts : (parts three ≡ Ok (3 ∷ 4 ∷ 5 ∷ [])) × (start (3 ∷ 4 ∷ 5 ∷ []) 0 ≡ 16) × (start (3 ∷ 4 ∷ 5 ∷ []) 1 ≡ 20) × (start (3 ∷ 4 ∷ 5 ∷ []) 2 ≡ 24)
-unfolding parts sizes words be32 start
+pub three_parts : (part_sizes three ≡ Ok (3 ∷ 4 ∷ 5 ∷ [])) × (start (3 ∷ 4 ∷ 5 ∷ []) 0 ≡ 16) × (start (3 ∷ 4 ∷ 5 ∷ []) 1 ≡ 20) × (start (3 ∷ 4 ∷ 5 ∷ []) 2 ≡ 24)
+unfolding part_sizes sizes words be32 start
 three_parts = (refl, refl, refl, refl)
 
-pub three_components : (component three (3 ∷ 4 ∷ 5 ∷ []) 1 ≡ Ok (codes "defg")) × (component three (3 ∷ 4 ∷ 5 ∷ []) 2 ≡ Ok (codes "hijkl")) × (component three (3 ∷ 4 ∷ 5 ∷ []) 3 ≡ Err NoSuchPart)
-unfolding component is_outside start
-three_components = (refl, refl, refl)
+pub three_listed : (listed_part three (3 ∷ 4 ∷ 5 ∷ []) 1 ≡ Ok (codes "defg")) × (listed_part three (3 ∷ 4 ∷ 5 ∷ []) 2 ≡ Ok (codes "hijkl")) × (listed_part three (3 ∷ 4 ∷ 5 ∷ []) 3 ≡ Err NoSuchPart)
+unfolding listed_part is_outside start
+three_listed = (refl, refl, refl)
 
--- a component of 3 bytes, and one of 100 in 17 bytes of data
+-- a part of 3 bytes, and one of 100 in 17 bytes of data
 abbrev outside : List ℕ
 outside = 0 ∷ 0 ∷ 0 ∷ 3 ∷ 0 ∷ 0 ∷ 0 ∷ 100 ∷ 0 ∷ 0 ∷ 0 ∷ 0 ∷ 97 ∷ 98 ∷ 99 ∷ 0 ∷ 100 ∷ []
 
-pub part_outside : (parts outside ≡ Ok (3 ∷ 100 ∷ [])) × (component_lines outside (3 ∷ 100 ∷ []) 2 0 ≡ after (component_line 0 3) (told [] (refused PartOutside)))
-unfolding parts sizes words be32 component_lines is_outside start
+pub part_outside : (part_sizes outside ≡ Ok (3 ∷ 100 ∷ [])) × (part_lines outside (3 ∷ 100 ∷ []) 2 0 ≡ after (part_line 0 3) (told [] (refused PartOutside)))
+unfolding part_sizes sizes words be32 part_lines is_outside start
 part_outside = (refl, refl)
 
 -- a table without a zero word
-pub no_table_end : parts (0 ∷ 0 ∷ 0 ∷ 3 ∷ []) ≡ Err NoTableEnd
-unfolding parts sizes words be32
+pub no_table_end : part_sizes (0 ∷ 0 ∷ 0 ∷ 3 ∷ []) ≡ Err NoTableEnd
+unfolding part_sizes sizes words be32
 no_table_end = refl
 
 -- the 67 bytes of a kernel of `abc`
@@ -46,23 +48,23 @@ abbrev kernel : List ℕ
 kernel = 39 ∷ 5 ∷ 25 ∷ 86 ∷ 249 ∷ 241 ∷ 65 ∷ 222 ∷ 101 ∷ 83 ∷ 241 ∷ 0 ∷ 0 ∷ 0 ∷ 0 ∷ 3 ∷ 0 ∷ 8 ∷ 0 ∷ 0 ∷ 0 ∷ 8 ∷ 0 ∷ 0 ∷ 53 ∷ 36 ∷ 65 ∷ 194 ∷ 5 ∷ 22 ∷ 2 ∷ 0 ∷ 48 ∷ 49 ∷ 50 ∷ 51 ∷ 52 ∷ 53 ∷ 54 ∷ 55 ∷ 56 ∷ 57 ∷ 48 ∷ 49 ∷ 50 ∷ 51 ∷ 52 ∷ 53 ∷ 54 ∷ 55 ∷ 56 ∷ 57 ∷ 48 ∷ 49 ∷ 50 ∷ 51 ∷ 52 ∷ 53 ∷ 54 ∷ 55 ∷ 56 ∷ 57 ∷ 48 ∷ 49 ∷ 97 ∷ 98 ∷ 99 ∷ []
 
 pub kernel_header : header kernel ≡ Ok (record { time = 1700000000; size = 3; load = 524288; ep = 524288; dcrc = 891568578; os = 5; arch = 22; kind = 2; comp = 0; name = codes "01234567890123456789012345678901" })
-unfolding head has_right_crc be32 crc bits number_of add polynomial rem_by rem dividend invert_front
+unfolding head has_right_crc be32 crc bits number_of xor_bits polynomial rem_by rem dividend invert_prefix
 kernel_header = refl
 
 pub kernel_report : verify_of kernel ≡ told (codes "header crc32 ok" ++ 10 ∷ [] ++ (codes "data crc32 ok" ++ 10 ∷ [])) done
-unfolding head has_right_crc has_right_data be32 crc bits number_of add polynomial rem_by rem dividend invert_front
+unfolding head has_right_crc has_right_data be32 crc bits number_of xor_bits polynomial rem_by rem dividend invert_prefix
 kernel_report = refl
 
 pub kernel_positions : (extract_of kernel 0 ≡ told (codes "abc") done) × (extract_of kernel 1 ≡ told [] (refused NoSuchPart))
-unfolding head has_right_crc has_right_data has_parts single be32 crc bits number_of add polynomial rem_by rem dividend invert_front
+unfolding head has_right_crc has_right_data has_parts single be32 crc bits number_of xor_bits polynomial rem_by rem dividend invert_prefix
 kernel_positions = (refl, refl)
 
 -- the image whose data are those 17 bytes
 abbrev outside_image : List ℕ
 outside_image = 39 ∷ 5 ∷ 25 ∷ 86 ∷ 70 ∷ 56 ∷ 204 ∷ 175 ∷ 0 ∷ 0 ∷ 0 ∷ 0 ∷ 0 ∷ 0 ∷ 0 ∷ 17 ∷ 0 ∷ 0 ∷ 0 ∷ 0 ∷ 0 ∷ 0 ∷ 0 ∷ 0 ∷ 88 ∷ 177 ∷ 193 ∷ 33 ∷ 5 ∷ 7 ∷ 4 ∷ 1 ∷ 0 ∷ 0 ∷ 0 ∷ 0 ∷ 0 ∷ 0 ∷ 0 ∷ 0 ∷ 0 ∷ 0 ∷ 0 ∷ 0 ∷ 0 ∷ 0 ∷ 0 ∷ 0 ∷ 0 ∷ 0 ∷ 0 ∷ 0 ∷ 0 ∷ 0 ∷ 0 ∷ 0 ∷ 0 ∷ 0 ∷ 0 ∷ 0 ∷ 0 ∷ 0 ∷ 0 ∷ 0 ∷ 0 ∷ 0 ∷ 0 ∷ 3 ∷ 0 ∷ 0 ∷ 0 ∷ 100 ∷ 0 ∷ 0 ∷ 0 ∷ 0 ∷ 97 ∷ 98 ∷ 99 ∷ 0 ∷ 100 ∷ []
 
-pub outside_listing : list_of outside_image ≡ after (head_text (fields outside_image)) (after (line (codes "Contents:")) (after (component_line 0 3) (told [] (refused PartOutside))))
-unfolding head has_right_crc has_right_data has_parts parts sizes words be32 start is_outside component_lines crc bits number_of add polynomial rem_by rem dividend invert_front
+pub outside_listing : list_of outside_image ≡ after (head_text (fields outside_image)) (after (line (codes "Contents:")) (after (part_line 0 3) (told [] (refused PartOutside))))
+unfolding head has_right_crc has_right_data has_parts part_sizes sizes words be32 start is_outside part_lines crc bits number_of xor_bits polynomial rem_by rem dividend invert_prefix
 outside_listing = refl
 
 -- lines of the kernel, and of an image of the first second of 1970
@@ -71,7 +73,7 @@ pub known_lines : (name_line (fields kernel) ≡ line (codes "Image Name:   0123
     × (type_line (fields kernel) ≡ line (codes "Image Type:   AArch64 Linux Kernel Image (uncompressed)"))
     × (load_line (fields kernel) ≡ line (codes "Load Address: 00080000"))
     × (entry_line (fields outside_image) ≡ line (codes "Entry Point:  00000000"))
-unfolding name_line time_line type_line load_line entry_line be32 time_text civil_date encode_with
+unfolding before_nul text name_line time_line type_line load_line entry_line be32 time_text civil_date encode_with
 known_lines = (refl, refl, refl, refl, refl)
 
 -- the data of three parts, and of one that is empty
@@ -85,5 +87,5 @@ three_built = (refl, refl, refl)
 pub kernel_built : legacy_built
     (record { time = 1700000000; load = 524288; ep = 524288; os = 5; arch = 22; kind = 2; comp = 0; name = codes "01234567890123456789012345678901" })
     (codes "abc" ∷ []) ≡ kernel
-unfolding has_parts joined spelled_with crc bits number_of add polynomial rem_by rem dividend invert_front
+unfolding has_parts joined spelled_with crc bits number_of xor_bits polynomial rem_by rem dividend invert_prefix
 kernel_built = refl

@@ -5,41 +5,41 @@ use Rattle.std.proofs.lemmas.Nat.{be_bytes_4, from_be_bytes-to_be_bytes_4}
 use Rattle.std.proofs.lemmas.List.{take_all, take-append-le, take-replicate, drop-replicate, drop-drop, get_or-take, get_or-drop, drop_more, get_or_past}
 use Rattle.std.proofs.lemmas.Bool.{cases_lt, eq-eqb, eqb-true}
 use Rattle.std.proofs.Math.Seq.{take-append-add}
-use Rattle.uimg_base.specs.Device.{part}
-use Rattle.uimg_base.proofs.Parts.{length-part}
-use Rattle.uimg_base.specs.Crc.{crc}
-use Rattle.uimg_base.proofs.CrcLaw.{crc_fits}
+use Rattle.uimg_texts.specs.Slices.{slice}
+use Rattle.uimg_base.proofs.Slices.{length-slice}
+use Rattle.uimg_sums.specs.Crc.{crc}
+use Rattle.uimg_sums.proofs.CrcLaw.{crc_fits}
 use Rattle.uimg_legacy.specs.declared.header.Header.{Header}
 use Rattle.uimg_legacy.specs.declared.fault.LegacyFault.TheVariants.{TooShort, BadMagic}
-use Rattle.uimg_legacy.specs.Numbers.{be32}
+use Rattle.uimg_texts.specs.Numbers.{be32}
 use Rattle.uimg_legacy.specs.Header.{magic, head, has_right_crc, without_crc, fields, header, spelled_with, spelled, name_of}
 
 -- a part of a list, and what stands after it
-pub part-drop : (xs : List ℕ) (at n : ℕ) → drop at xs ≡ part xs at n ++ drop (at + n) xs
-part-drop xs at n = sym (take-append-drop n (drop at xs)) ∙ ap (λ (w : List ℕ). part xs at n ++ w) (drop-drop n at xs)
+pub slice-drop : (xs : List ℕ) (at n : ℕ) → drop at xs ≡ slice xs at n ++ drop (at + n) xs
+slice-drop xs at n = sym (take-append-drop n (drop at xs)) ∙ ap (λ (w : List ℕ). slice xs at n ++ w) (drop-drop n at xs)
 
 -- the bytes of a part are bytes
-small_part : (bytes : List ℕ) (at n : ℕ) → ((i : ℕ) → get_or bytes i 0 < 256) → (i : ℕ) → get_or (part bytes at n) i 0 < 256
-small_part bytes at n small i = elim (cases_lt i n) [ inl h ↦ rw (get_or-take n (drop at bytes) i 0 h, get_or-drop at bytes i 0) (small (at + i)) | inr h ↦ rw (get_or_past (part bytes at n) i 0 (simp length-take (omega arith))) (lit< tt) ]
+small_part : (bytes : List ℕ) (at n : ℕ) → ((i : ℕ) → get_or bytes i 0 < 256) → (i : ℕ) → get_or (slice bytes at n) i 0 < 256
+small_part bytes at n small i = elim (cases_lt i n) [ inl h ↦ rw (get_or-take n (drop at bytes) i 0 h, get_or-drop at bytes i 0) (small (at + i)) | inr h ↦ rw (get_or_past (slice bytes at n) i 0 (simp length-take (omega arith))) (lit< tt) ]
 
 -- the four bytes of a number that was read
-pub bytes-be32 : (bytes : List ℕ) (at : ℕ) → at + 4 ≤ length bytes → ((i : ℕ) → get_or bytes i 0 < 256) → to_be_bytes w32 (be32 bytes at) ≡ part bytes at 4
+pub bytes-be32 : (bytes : List ℕ) (at : ℕ) → at + 4 ≤ length bytes → ((i : ℕ) → get_or bytes i 0 < 256) → to_be_bytes w32 (be32 bytes at) ≡ slice bytes at 4
 unfolding be32
-bytes-be32 bytes at h small = be_bytes_4 (part bytes at 4) (be32 bytes at) (length-part bytes at 4 h) (small_part bytes at 4 small) refl
+bytes-be32 bytes at h small = be_bytes_4 (slice bytes at 4) (be32 bytes at) (length-slice bytes at 4 h) (small_part bytes at 4 small) refl
 
 -- what stands behind the header's CRC, field by field
-rest_parts : (bytes : List ℕ) → length bytes ≡ 64 → drop 8 bytes ≡ part bytes 8 4 ++ (part bytes 12 4 ++ (part bytes 16 4 ++ (part bytes 20 4 ++ (part bytes 24 4 ++ (get_or bytes 28 0 ∷ get_or bytes 29 0 ∷ get_or bytes 30 0 ∷ get_or bytes 31 0 ∷ part bytes 32 32)))))
+rest_parts : (bytes : List ℕ) → length bytes ≡ 64 → drop 8 bytes ≡ slice bytes 8 4 ++ (slice bytes 12 4 ++ (slice bytes 16 4 ++ (slice bytes 20 4 ++ (slice bytes 24 4 ++ (get_or bytes 28 0 ∷ get_or bytes 29 0 ∷ get_or bytes 30 0 ∷ get_or bytes 31 0 ∷ slice bytes 32 32)))))
 rest_parts bytes len =
     let e28 : drop 28 bytes ≡ get_or bytes 28 0 ∷ drop 29 bytes = drop_more bytes 28 0 (omega arith) in
     let e29 : drop 29 bytes ≡ get_or bytes 29 0 ∷ drop 30 bytes = drop_more bytes 29 0 (omega arith) in
     let e30 : drop 30 bytes ≡ get_or bytes 30 0 ∷ drop 31 bytes = drop_more bytes 30 0 (omega arith) in
     let e31 : drop 31 bytes ≡ get_or bytes 31 0 ∷ drop 32 bytes = drop_more bytes 31 0 (omega arith) in
-    let e32 : part bytes 32 32 ≡ drop 32 bytes = take_all 32 (drop 32 bytes) (simp length-drop (omega arith)) in
-    let e8 : drop 8 bytes ≡ part bytes 8 4 ++ drop 12 bytes = part-drop bytes 8 4 in
-    let e12 : drop 12 bytes ≡ part bytes 12 4 ++ drop 16 bytes = part-drop bytes 12 4 in
-    let e16 : drop 16 bytes ≡ part bytes 16 4 ++ drop 20 bytes = part-drop bytes 16 4 in
-    let e20 : drop 20 bytes ≡ part bytes 20 4 ++ drop 24 bytes = part-drop bytes 20 4 in
-    let e24 : drop 24 bytes ≡ part bytes 24 4 ++ drop 28 bytes = part-drop bytes 24 4 in
+    let e32 : slice bytes 32 32 ≡ drop 32 bytes = take_all 32 (drop 32 bytes) (simp length-drop (omega arith)) in
+    let e8 : drop 8 bytes ≡ slice bytes 8 4 ++ drop 12 bytes = slice-drop bytes 8 4 in
+    let e12 : drop 12 bytes ≡ slice bytes 12 4 ++ drop 16 bytes = slice-drop bytes 12 4 in
+    let e16 : drop 16 bytes ≡ slice bytes 16 4 ++ drop 20 bytes = slice-drop bytes 16 4 in
+    let e20 : drop 20 bytes ≡ slice bytes 20 4 ++ drop 24 bytes = slice-drop bytes 20 4 in
+    let e24 : drop 24 bytes ≡ slice bytes 24 4 ++ drop 28 bytes = slice-drop bytes 24 4 in
     cc
 
 -- the same pieces, joined from the left
@@ -64,7 +64,7 @@ unfolding has_right_crc
 spelled-fields bytes len small m right =
     let cleared : spelled_with 0 (fields bytes) ≡ without_crc bytes = spelled_with-fields 0 bytes len small m in
     let sum : be32 bytes 4 ≡ crc (without_crc bytes) = eqb-true _ _ right in
-    let e4 : drop 4 bytes ≡ part bytes 4 4 ++ drop 8 bytes = part-drop bytes 4 4 in
+    let e4 : drop 4 bytes ≡ slice bytes 4 4 ++ drop 8 bytes = slice-drop bytes 4 4 in
     ap (λ (w : List ℕ). spelled_with (crc w) (fields bytes)) cleared
     ∙ ap (λ (n : ℕ). spelled_with n (fields bytes)) (sym sum)
     ∙ spelled_with-fields (be32 bytes 4) bytes len small m
@@ -133,8 +133,8 @@ name_padded name field n all few cut =
     let fill : take (n + (32 - n)) (name ++ zeros) ≡ name ++ take (32 - n) zeros = rw all (take-append-add name zeros (32 - length name)) in
     let count : n + (32 - n) ≡ 32 = omega arith in
     let left : drop n zeros ≡ replicate (32 - n) 0 = drop-replicate n 32 0 in
-    let front : take (32 - n) zeros ≡ replicate (32 - n) 0 = take-replicate (32 - n) 32 0 (omega arith) in
-    rw (whole, left, sym front, sym fill, count) refl
+    let prefix : take (32 - n) zeros ≡ replicate (32 - n) 0 = take-replicate (32 - n) 32 0 (omega arith) in
+    rw (whole, left, sym prefix, sym fill, count) refl
 
 -- a cut name before what is left of the zeros
 pub name_cut : (name field : List ℕ) (n : ℕ) → n ≡ min (length name) 32 → field ≡ take n name → field ++ drop n (replicate 32 0) ≡ name_of name

@@ -3,9 +3,9 @@ use Rattle.std.proofs.Common.{◌≡◌, ◌≤◌, ◌<◌, ℕ, zero, suc, ◌
 use Rattle.std.specs.Int.{to_be_bytes, w32}
 use Rattle.std.proofs.lemmas.Grind.{flat_map-append}
 use Rattle.std.proofs.lemmas.List.{take_more, take_all, length-replicate}
-use Rattle.uimg_base.specs.Sink.{Sink, AppendsAll, AppendsFront}
-use Rattle.uimg_base.proofs.SinkLaws.{front_none, front_all, front_first, front_then, front_at}
-use Rattle.uimg_legacy.specs.Numbers.{up4}
+use Rattle.uimg_base.specs.Sink.{Sink, AppendsAll, AppendsPrefix}
+use Rattle.uimg_base.proofs.SinkLaws.{prefix_none, prefix_all, prefix_first, prefix_then, prefix_at}
+use Rattle.uimg_texts.specs.Numbers.{up4}
 use Rattle.uimg_legacy.specs.Building.{padding, joined, size_table}
 use Rattle.uimg_legacy.proofs.TableLaws.{size_words}
 
@@ -17,9 +17,9 @@ length-padding n = length-replicate {A = ℕ} (up4 n - n) 0
 padding_behind : (first n : List ℕ) → padding (length (first ++ padding (length first) ++ n)) ≡ padding (length n)
 padding_behind first n =
     let all = length-append (first ++ padding (length first)) n in
-    let front = length-append first (padding (length first)) in
+    let prefix = length-append first (padding (length first)) in
     let zeros = length-padding (length first) in
-    let same : up4 (length (first ++ padding (length first) ++ n)) - length (first ++ padding (length first) ++ n) ≡ up4 (length n) - length n = omega (arith, all, front, zeros) in
+    let same : up4 (length (first ++ padding (length first) ++ n)) - length (first ++ padding (length first) ++ n) ≡ up4 (length n) - length n = omega (arith, all, prefix, zeros) in
     ap (λ (k : ℕ). replicate k 0) same
 
 -- no parts
@@ -37,11 +37,11 @@ unfolding joined
 joined_snoc [] p = refl
 joined_snoc (x ∷ []) p = append_assoc x (padding (length x)) p
 joined_snoc (x ∷ z ∷ zs) p =
-    let front = x ++ padding (length x) in
+    let prefix = x ++ padding (length x) in
     let rest = joined (z ∷ zs) in
-    ap (λ (w : List ℕ). front ++ w) (joined_snoc (z ∷ zs) p)
-    ∙ ap (λ (w : List ℕ). front ++ (rest ++ (w ++ p))) (sym (padding_behind x rest))
-    ∙ sym (append_assoc front rest (padding (length (front ++ rest)) ++ p))
+    ap (λ (w : List ℕ). prefix ++ w) (joined_snoc (z ∷ zs) p)
+    ∙ ap (λ (w : List ℕ). prefix ++ (rest ++ (w ++ p))) (sym (padding_behind x rest))
+    ∙ sym (append_assoc prefix rest (padding (length (prefix ++ rest)) ++ p))
 
 -- the words of the first sizes and one more
 pub words_more : (ps : List (List ℕ)) (i : ℕ) → i < length ps → size_words (take (i + 1) ps) ≡ size_words (take i ps) ++ to_be_bytes w32 (length (get_or ps i []))
@@ -59,15 +59,15 @@ table_whole ps = refl
 pub words_all : (ps : List (List ℕ)) (n : ℕ) → length ps ≤ n → size_words (take n ps) ≡ size_words ps
 words_all ps n h = ap size_words (take_all n ps h)
 
--- a front of one size's word, after the words before it
-pub table_front : (s m t : Sink) (ps : List (List ℕ)) (i : ℕ) → i < length ps → AppendsAll s m (size_words (take i ps)) → AppendsFront m t (to_be_bytes w32 (length (get_or ps i []))) → AppendsFront s t (size_table ps)
-table_front s m t ps i h p q =
-    subst (λ (w : List ℕ). AppendsFront s t w) (sym (table_whole ps))
-    (front_first s t (size_words ps) (to_be_bytes w32 0) (front_at s m t (λ p. to_be_bytes w32 (length p)) ps i [] h p q))
+-- a prefix of one size's word, after the words before it
+pub table_prefix : (s m t : Sink) (ps : List (List ℕ)) (i : ℕ) → i < length ps → AppendsAll s m (size_words (take i ps)) → AppendsPrefix m t (to_be_bytes w32 (length (get_or ps i []))) → AppendsPrefix s t (size_table ps)
+table_prefix s m t ps i h p q =
+    subst (λ (w : List ℕ). AppendsPrefix s t w) (sym (table_whole ps))
+    (prefix_first s t (size_words ps) (to_be_bytes w32 0) (prefix_at s m t (λ p. to_be_bytes w32 (length p)) ps i [] h p q))
 
--- the words before a size are a front of the table
-pub table_start : (s t : Sink) (ps : List (List ℕ)) (i : ℕ) → i < length ps → AppendsAll s t (size_words (take i ps)) → AppendsFront s t (size_table ps)
-table_start s t ps i h p = table_front s t t ps i h p (front_none t _)
+-- the words before a size are a prefix of the table
+pub table_start : (s t : Sink) (ps : List (List ℕ)) (i : ℕ) → i < length ps → AppendsAll s t (size_words (take i ps)) → AppendsPrefix s t (size_table ps)
+table_start s t ps i h p = table_prefix s t t ps i h p (prefix_none t _)
 
 -- the first parts and one more
 pub joined_more : (ps : List (List ℕ)) (i : ℕ) → i < length ps → joined (take (i + 1) ps) ≡ joined (take i ps) ++ (padding (length (joined (take i ps))) ++ get_or ps i [])
@@ -105,20 +105,20 @@ joined_rest (p ∷ []) (suc (suc n)) = ([], sym (append-nil p))
 joined_rest (p ∷ q ∷ more) (suc zero) =
     (padding (length p) ++ joined (q ∷ more), append_assoc p (padding (length p)) (joined (q ∷ more)))
 joined_rest (p ∷ q ∷ more) (suc (suc n)) =
-    let front = p ++ padding (length p) in
+    let prefix = p ++ padding (length p) in
     let others = joined_rest (q ∷ more) (suc n) in
-    (others.0, ap (λ (w : List ℕ). front ++ w) others.1 ∙ sym (append_assoc front (joined (q ∷ take n more)) others.0))
+    (others.0, ap (λ (w : List ℕ). prefix ++ w) others.1 ∙ sym (append_assoc prefix (joined (q ∷ take n more)) others.0))
 
--- the parts before one are a front of all
-pub joined_start : (s t : Sink) (ps : List (List ℕ)) (i : ℕ) → AppendsAll s t (joined (take i ps)) → AppendsFront s t (joined ps)
+-- the parts before one are a prefix of all
+pub joined_start : (s t : Sink) (ps : List (List ℕ)) (i : ℕ) → AppendsAll s t (joined (take i ps)) → AppendsPrefix s t (joined ps)
 joined_start s t ps i p =
     let rest = joined_rest ps i in
-    subst (λ (w : List ℕ). AppendsFront s t w) (sym rest.1) (front_first s t (joined (take i ps)) rest.0 (front_all s t (joined (take i ps)) p))
+    subst (λ (w : List ℕ). AppendsPrefix s t w) (sym rest.1) (prefix_first s t (joined (take i ps)) rest.0 (prefix_all s t (joined (take i ps)) p))
 
--- a front of the zeros before a part, and of that part, after the parts before it
-pub joined_front : (s m t : Sink) (ps : List (List ℕ)) (i : ℕ) → i < length ps → AppendsAll s m (joined (take i ps)) → AppendsFront m t (padding (length (joined (take i ps))) ++ get_or ps i []) → AppendsFront s t (joined ps)
-joined_front s m t ps i h p q =
-    let more = front_then s m t (joined (take i ps)) (padding (length (joined (take i ps))) ++ get_or ps i []) p q in
-    let here : AppendsFront s t (joined (take (i + 1) ps)) = subst (λ (w : List ℕ). AppendsFront s t w) (sym (joined_more ps i h)) more in
+-- a prefix of the zeros before a part, and of that part, after the parts before it
+pub joined_prefix : (s m t : Sink) (ps : List (List ℕ)) (i : ℕ) → i < length ps → AppendsAll s m (joined (take i ps)) → AppendsPrefix m t (padding (length (joined (take i ps))) ++ get_or ps i []) → AppendsPrefix s t (joined ps)
+joined_prefix s m t ps i h p q =
+    let more = prefix_then s m t (joined (take i ps)) (padding (length (joined (take i ps))) ++ get_or ps i []) p q in
+    let here : AppendsPrefix s t (joined (take (i + 1) ps)) = subst (λ (w : List ℕ). AppendsPrefix s t w) (sym (joined_more ps i h)) more in
     let rest = joined_rest ps (i + 1) in
-    subst (λ (w : List ℕ). AppendsFront s t w) (sym rest.1) (front_first s t (joined (take (i + 1) ps)) rest.0 here)
+    subst (λ (w : List ℕ). AppendsPrefix s t w) (sym rest.1) (prefix_first s t (joined (take (i + 1) ps)) rest.0 here)

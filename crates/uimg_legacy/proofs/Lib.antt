@@ -8,6 +8,6 @@ pub mod JoinedLaws
 pub mod EmptyLaws
 pub mod ResultLaws
 pub mod TableLaws
-pub mod ComponentLaws
+pub mod PlacedPartsLaws
 pub mod ReadsBackLaw
 pub mod BuildingLaws

@@ -1,4 +1,4 @@
--- The table of sizes: its words, its end, and where components start.
+-- The table of sizes: its words, its end, and where parts start.
 use Rattle.std.proofs.Common.{◌≡◌, ◌≢◌, ◌≤◌, ◌<◌, ℕ, zero, suc, ◌+◌, ◌-◌, ◌*◌, ◌^◌, List, [], ◌∷◌, length, take, drop, get_or, Bool, true, false, not, cond, nat_lt, nat_le, ◌==◌, Ok, Err, ◌∙◌, ap, sym, subst, refl, arith, length-take}
 use Rattle.std.specs.Prelude.{sum_by}
 use Rattle.std.specs.Int.{from_be_bytes, w32}
@@ -9,12 +9,13 @@ use Rattle.std.proofs.lemmas.Grind.{common_steps}
 use Rattle.std.proofs.lemmas.List.{take-take, drop-take, drop-drop, get_or-take, take_more}
 use Rattle.std.proofs.lemmas.List.Folds.{list_any_at}
 use Rattle.std.proofs.lemmas.List.Sums.{prefix_len-le-length, prefix_len_stops, sum_by_push}
-use Rattle.uimg_base.specs.Device.{part}
-use Rattle.uimg_base.proofs.Parts.{length-part}
+use Rattle.uimg_texts.specs.Slices.{slice}
+use Rattle.uimg_base.proofs.Slices.{length-slice}
 use Rattle.uimg_legacy.specs.declared.fault.LegacyFault.TheVariants.{NoTableEnd, PartOutside, NoSuchPart}
-use Rattle.uimg_legacy.specs.Numbers.{be32, words, up4}
-use Rattle.uimg_legacy.specs.Parts.{sizes, parts, start, is_outside}
-use Rattle.uimg_legacy.specs.Extraction.{component}
+use Rattle.uimg_texts.specs.Numbers.{be32, up4}
+use Rattle.uimg_legacy.specs.Words.{words}
+use Rattle.uimg_legacy.specs.Parts.{sizes, part_sizes, start, is_outside}
+use Rattle.uimg_legacy.specs.Extraction.{listed_part}
 
 -- word i is the number at its place
 pub words-at : (d : List ℕ) (i : ℕ) → 4 * i + 4 ≤ length d → get_or (words d) i 0 ≡ be32 d (4 * i)
@@ -38,18 +39,18 @@ length-words (a ∷ b ∷ c ∷ []) = (omega arith, omega arith)
 length-words (a ∷ b ∷ c ∷ d ∷ rest) = let h = length-words rest in (omega (arith, h.0), omega (arith, h.1))
 
 -- a part of a part
-pub part-part : (xs : List ℕ) (at n from m : ℕ) → from + m ≤ n → part (part xs at n) from m ≡ part xs (at + from) m
-part-part xs at n from m h =
+pub slice-slice : (xs : List ℕ) (at n from m : ℕ) → from + m ≤ n → slice (slice xs at n) from m ≡ slice xs (at + from) m
+slice-slice xs at n from m h =
     let whole : from + (n - from) ≡ n = omega arith in
-    let back : drop from (part xs at n) ≡ take (n - from) (drop from (drop at xs)) = subst (λ (k : ℕ). drop from (take k (drop at xs)) ≡ take (n - from) (drop from (drop at xs))) whole (drop-take from (n - from) (drop at xs)) in
+    let back : drop from (slice xs at n) ≡ take (n - from) (drop from (drop at xs)) = subst (λ (k : ℕ). drop from (take k (drop at xs)) ≡ take (n - from) (drop from (drop at xs))) whole (drop-take from (n - from) (drop at xs)) in
     ap (λ (w : List ℕ). take m w) back ∙ take-take m (n - from) (drop from (drop at xs)) (omega arith) ∙ ap (λ (w : List ℕ). take m w) (drop-drop from at xs)
 
 -- word i of the data, in the image
-pub payload_word : (image : List ℕ) (size i : ℕ) → 64 + size ≤ length image → 4 * i + 4 ≤ size → get_or (words (part image 64 size)) i 0 ≡ be32 image (64 + 4 * i)
+pub payload_word : (image : List ℕ) (size i : ℕ) → 64 + size ≤ length image → 4 * i + 4 ≤ size → get_or (words (slice image 64 size)) i 0 ≡ be32 image (64 + 4 * i)
 unfolding be32
 payload_word image size i inside h =
-    words-at (part image 64 size) i (omega (arith, length-part image 64 size inside))
-    ∙ ap (λ (w : List ℕ). from_be_bytes w32 w) (part-part image 64 size (4 * i) 4 (omega arith))
+    words-at (slice image 64 size) i (omega (arith, length-slice image 64 size inside))
+    ∙ ap (λ (w : List ℕ). from_be_bytes w32 w) (slice-slice image 64 size (4 * i) 4 (omega arith))
 
 -- a prefix one longer, and a prefix that ends
 cond_le : (b : Bool) (n i : ℕ) → suc i ≤ cond b (1 + n) 0 → (b ≡ true) × (i ≤ n)
@@ -92,7 +93,7 @@ pub length-sizes : (d : List ℕ) → length (sizes d) ≡ prefix_len (λ w. not
 unfolding sizes
 length-sizes d = let h = prefix_len-le-length (λ w. not (w == 0)) (words d) in simp length-take (omega arith)
 
--- a word that isn't zero is one more size
+-- a word that is not zero is one more size
 pub sizes_more : (d : List ℕ) (i : ℕ) → i ≤ length (sizes d) → i < length (words d) → get_or (words d) i 0 ≢ 0 → i + 1 ≤ length (sizes d)
 sizes_more d i h l word =
     let len = length-sizes d in
@@ -109,8 +110,8 @@ sizes_end d i h l word =
     omega arith
 
 -- a word is zero where there are fewer sizes than words
-pub parts_some : (d : List ℕ) → length (sizes d) < length (words d) → parts d ≡ Ok (sizes d)
-unfolding parts
+pub parts_some : (d : List ℕ) → length (sizes d) < length (words d) → part_sizes d ≡ Ok (sizes d)
+unfolding part_sizes
 parts_some d h =
     let p = λ (w : ℕ). not (w == 0) in
     let i = prefix_len p (words d) in
@@ -120,8 +121,8 @@ parts_some d h =
     rw some refl
 
 -- no word is zero
-pub parts_none : (d : List ℕ) → length (words d) ≤ length (sizes d) → parts d ≡ Err NoTableEnd
-unfolding parts
+pub parts_none : (d : List ℕ) → length (words d) ≤ length (sizes d) → part_sizes d ≡ Err NoTableEnd
+unfolding part_sizes
 parts_none d h =
     let len = length-sizes d in
     let none : list_any (λ w. w == 0) (words d) ≡ false = any_none (λ w. w == 0) (words d) (omega arith) in
@@ -132,7 +133,7 @@ pub sizes-at : (d : List ℕ) (i : ℕ) → i < length (sizes d) → get_or (siz
 unfolding sizes
 sizes-at d i h = let len = length-sizes d in get_or-take _ (words d) i 0 (omega arith)
 
--- where the components start
+-- where the parts start
 pub start_first : (table : List ℕ) → start table 0 ≡ 4 * (length table + 1)
 unfolding start
 start_first table = omega arith
@@ -151,34 +152,34 @@ pub up4_bound : (n : ℕ) → n < 2 ^ 32 → up4 n ≤ 2 ^ 32
 up4_bound n h = omega arith
 
 -- the words of the table, in the image
-pub table_words : (image : List ℕ) (size : ℕ) → 64 + size ≤ length image → (i : ℕ) → i < length (sizes (part image 64 size)) → get_or (sizes (part image 64 size)) i 0 ≡ be32 image (64 + 4 * i)
+pub table_words : (image : List ℕ) (size : ℕ) → 64 + size ≤ length image → (i : ℕ) → i < length (sizes (slice image 64 size)) → get_or (sizes (slice image 64 size)) i 0 ≡ be32 image (64 + 4 * i)
 table_words image size inside i h =
-    let len = length-sizes (part image 64 size) in
-    let most = prefix_len-le-length (λ w. not (w == 0)) (words (part image 64 size)) in
-    let few = length-words (part image 64 size) in
-    sizes-at (part image 64 size) i h
-    ∙ payload_word image size i inside (omega (arith, few.0, length-part image 64 size inside))
+    let len = length-sizes (slice image 64 size) in
+    let most = prefix_len-le-length (λ w. not (w == 0)) (words (slice image 64 size)) in
+    let few = length-words (slice image 64 size) in
+    sizes-at (slice image 64 size) i h
+    ∙ payload_word image size i inside (omega (arith, few.0, length-slice image 64 size inside))
 
--- a component after the last
-pub component_missing : (payload table : List ℕ) (position : ℕ) → length table ≤ position → component payload table position ≡ Err NoSuchPart
-unfolding component
-component_missing payload table position h = grind (arith, common_steps)
+-- a part after the last
+pub part_missing : (payload table : List ℕ) (position : ℕ) → length table ≤ position → listed_part payload table position ≡ Err NoSuchPart
+unfolding listed_part
+part_missing payload table position h = grind (arith, common_steps)
 
--- a component that ends after the data
-pub component_outside : (image table : List ℕ) (size position at n : ℕ) → 64 + size ≤ length image → position < length table → at ≡ start table position → n ≡ get_or table position 0 → size < at + n → component (part image 64 size) table position ≡ Err PartOutside
-unfolding component is_outside
-component_outside image table size position at n inside h a e far =
-    let len = length-part image 64 size inside in
+-- a part that ends after the data
+pub part_outside : (image table : List ℕ) (size position at n : ℕ) → 64 + size ≤ length image → position < length table → at ≡ start table position → n ≡ get_or table position 0 → size < at + n → listed_part (slice image 64 size) table position ≡ Err PartOutside
+unfolding listed_part is_outside
+part_outside image table size position at n inside h a e far =
+    let len = length-slice image 64 size inside in
     let there : nat_le (length table) position ≡ false = lt-leb _ _ h in
-    let ends : nat_lt (length (part image 64 size)) (start table position + get_or table position 0) ≡ true = lt-ltb _ _ (omega arith) in
+    let ends : nat_lt (length (slice image 64 size)) (start table position + get_or table position 0) ≡ true = lt-ltb _ _ (omega arith) in
     rw (there, ends) refl
 
--- a component that ends inside the data
-pub component_inside : (image table : List ℕ) (size position at n : ℕ) → 64 + size ≤ length image → position < length table → at ≡ start table position → n ≡ get_or table position 0 → at + n ≤ size → component (part image 64 size) table position ≡ Ok (part image (64 + at) n)
-unfolding component is_outside
-component_inside image table size position at n inside h a e near =
-    let len = length-part image 64 size inside in
+-- a part that ends inside the data
+pub part_inside : (image table : List ℕ) (size position at n : ℕ) → 64 + size ≤ length image → position < length table → at ≡ start table position → n ≡ get_or table position 0 → at + n ≤ size → listed_part (slice image 64 size) table position ≡ Ok (slice image (64 + at) n)
+unfolding listed_part is_outside
+part_inside image table size position at n inside h a e near =
+    let len = length-slice image 64 size inside in
     let there : nat_le (length table) position ≡ false = lt-leb _ _ h in
-    let ends : nat_lt (length (part image 64 size)) (start table position + get_or table position 0) ≡ false = le-ltb _ _ (omega arith) in
-    let same : part (part image 64 size) (start table position) (get_or table position 0) ≡ part image (64 + at) n = rw (sym a, sym e) (part-part image 64 size at n (omega arith)) in
+    let ends : nat_lt (length (slice image 64 size)) (start table position + get_or table position 0) ≡ false = le-ltb _ _ (omega arith) in
+    let same : slice (slice image 64 size) (start table position) (get_or table position 0) ≡ slice image (64 + at) n = rw (sym a, sym e) (slice-slice image 64 size at n (omega arith)) in
     rw (there, ends, same) refl

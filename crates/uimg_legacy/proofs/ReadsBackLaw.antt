@@ -3,21 +3,22 @@ use Rattle.std.proofs.Common.{◌≡◌, ◌≤◌, ◌<◌, ℕ, zero, suc, ◌
 use Rattle.std.proofs.lemmas.Bool.{le-ltb, ltb-false, eq-eqb}
 use Rattle.std.proofs.lemmas.List.{take_all, take_at, drop_at, length-map}
 use Rattle.uimg_base.specs.Outcome.{done}
-use Rattle.uimg_base.specs.Crc.{crc}
+use Rattle.uimg_base.specs.Results.{◌>>=◌}
+use Rattle.uimg_sums.specs.Crc.{crc}
 use Rattle.uimg_legacy.specs.declared.header.Header.{Header}
 use Rattle.uimg_legacy.specs.declared.options.Options.{Options}
 use Rattle.uimg_legacy.specs.declared.fault.LegacyFault.{LegacyFault}
 use Rattle.uimg_legacy.specs.declared.fault.LegacyFault.TheVariants.{EmptyPart, TooLarge}
-use Rattle.uimg_legacy.specs.Header.{head, has_right_crc, fields, header_with, header_from, header, spelled}
+use Rattle.uimg_legacy.specs.Header.{head, has_right_crc, fields, header_with, header, spelled}
 use Rattle.uimg_legacy.specs.Image.{payload, has_right_data, legacy}
 use Rattle.uimg_legacy.specs.Parts.{has_parts, is_outside}
 use Rattle.uimg_legacy.specs.Report.{verify_of}
-use Rattle.uimg_legacy.specs.Listing.{component_lines, tail_with}
-use Rattle.uimg_legacy.specs.Extraction.{single, sub_image}
+use Rattle.uimg_legacy.specs.Listing.{part_lines, tail_with}
+use Rattle.uimg_legacy.specs.Extraction.{single, part_of_data}
 use Rattle.uimg_legacy.specs.Building.{joined, size_table, data_of, header_for, legacy_image, has_empty, data_to_build}
 use Rattle.uimg_legacy.specs.ReadsBack.{right_report, ReadsBack}
 use Rattle.uimg_legacy.proofs.TableLaws.{parts-table}
-use Rattle.uimg_legacy.proofs.ComponentLaws.{part_inside, component-part}
+use Rattle.uimg_legacy.proofs.PlacedPartsLaws.{part_inside, part-slice}
 
 -- the head of 64 bytes is that of an image that begins with them
 head-append : (bytes rest : List ℕ) → length bytes ≡ 64 → head (bytes ++ rest) ≡ head bytes
@@ -33,11 +34,17 @@ with_cases : (bytes : List ℕ) (right : Bool) (h : Header) → header_with byte
 with_cases bytes true h e = (refl, cc)
 with_cases bytes false h e = absurd (cc)
 
+-- the header of a head, or its fault
+abbrev header_from : Result (List ℕ) LegacyFault → Result Header LegacyFault
+header_from found = do
+  bytes ← found
+  header_with bytes (has_right_crc bytes)
+
 from_cases : (found : Result (List ℕ) LegacyFault) (h : Header) → header_from found ≡ Ok h → (bytes : List ℕ) × (found ≡ Ok bytes) × (has_right_crc bytes ≡ true) × (fields bytes ≡ h)
 from_cases (Ok bytes) h e = let f = with_cases bytes (has_right_crc bytes) h e in (bytes, refl, f.0, f.1)
 from_cases (Err fault) h e = absurd (cc)
 
--- the parts that are built: no component is empty, and the data are not too many
+-- the parts that are built: no part is empty, and the data are not too many
 data_cases : (empty large : Bool) (body made : List ℕ) → (if empty then Err EmptyPart else if large then Err TooLarge else Ok body) ≡ Ok made → (empty ≡ false) × (large ≡ false) × (body ≡ made)
 data_cases true large body made e = absurd (cc)
 data_cases false true body made e = absurd (cc)
@@ -74,13 +81,13 @@ module _ (h : Header) (body : List ℕ) (read : header (spelled h) ≡ Ok h) (le
       let f = from_cases (head (spelled h ++ body)) h header-image in
       rw (f.1, f.2, f.3, data-image) refl
 
--- the lines of components that end inside the data
-lines-done : (body table : List ℕ) (n i : ℕ) → ((k : ℕ) → k < i + n → is_outside body table k ≡ false) → (component_lines body table n i).end ≡ done
-unfolding component_lines
+-- the lines of parts that end inside the data
+lines-done : (body table : List ℕ) (n i : ℕ) → ((k : ℕ) → k < i + n → is_outside body table k ≡ false) → (part_lines body table n i).end ≡ done
+unfolding part_lines
 lines-done body table zero i inside = refl
 lines-done body table (suc n) i inside = rw (inside i (omega arith)) (lines-done body table n (suc i) (λ k h. inside k (omega arith)))
 
--- the listing's end, and each part, by whether the type has components
+-- the listing's end, and each part, by whether the type has parts
 tail-done : (has : Bool) (ps : List (List ℕ)) → (has && has_empty ps) ≡ false → length (data_of has ps) ≤ 4294967295 → (tail_with has (data_of has ps)).end ≡ done
 tail-done true ps none small =
     let all = length-append (size_table ps) (joined ps) in
@@ -89,16 +96,16 @@ tail-done true ps none small =
     rw table (lines-done (size_table ps ++ joined ps) (map length ps) (length (map length ps)) 0 (λ k h. part_inside ps k (omega (arith, count))))
 tail-done false ps none small = refl
 
-sub-part : (has : Bool) (ps : List (List ℕ)) (i : ℕ) → (has && has_empty ps) ≡ false → length (data_of has ps) ≤ 4294967295 → (has ≡ false → length ps ≡ 1) → i < length ps → sub_image has (data_of has ps) i ≡ Ok (get_or ps i [])
+sub-slice : (has : Bool) (ps : List (List ℕ)) (i : ℕ) → (has && has_empty ps) ≡ false → length (data_of has ps) ≤ 4294967295 → (has ≡ false → length ps ≡ 1) → i < length ps → part_of_data has (data_of has ps) i ≡ Ok (get_or ps i [])
 unfolding single joined
-sub-part true ps i none small one h =
+sub-slice true ps i none small one h =
     let all = length-append (size_table ps) (joined ps) in
     let table = parts-table ps (joined ps) none (omega (arith, all)) in
-    rw table (component-part ps i h)
-sub-part false [] i none small one h = absurd (omega arith)
-sub-part false (p ∷ []) zero none small one h = refl
-sub-part false (p ∷ []) (suc i) none small one h = absurd (omega arith)
-sub-part false (p ∷ q ∷ more) i none small one h = absurd (let e = one refl in omega (arith, e))
+    rw table (part-slice ps i h)
+sub-slice false [] i none small one h = absurd (omega arith)
+sub-slice false (p ∷ []) zero none small one h = refl
+sub-slice false (p ∷ []) (suc i) none small one h = absurd (omega arith)
+sub-slice false (p ∷ q ∷ more) i none small one h = absurd (let e = one refl in omega (arith, e))
 
 -- what is built reads back
 pub reads_back : (options : Options) (parts : List (List ℕ)) (payload : List ℕ) → data_to_build options.kind parts ≡ Ok payload → header (spelled (header_for options payload)) ≡ Ok (header_for options payload) → length (spelled (header_for options payload)) ≡ 64 → (has_parts options.kind ≡ false → length parts ≡ 1) → ReadsBack (legacy_image options payload) parts
@@ -110,5 +117,5 @@ reads_back options ps body built read len one =
     record {
       report = verify-image h body read len refl refl;
       listing = rw (whole, ← f.2) (tail-done (has_parts options.kind) ps f.0 small);
-      extraction = λ i inside. rw (whole, ← f.2, sub-part (has_parts options.kind) ps i f.0 small one inside) refl;
+      extraction = λ i inside. rw (whole, ← f.2, sub-slice (has_parts options.kind) ps i f.0 small one inside) refl;
     }

@@ -4,8 +4,9 @@ use Rattle.std.specs.Int.{to_be_bytes, w32}
 use Rattle.std.specs.List.{flat_map, list_any, before_first}
 use Rattle.std.proofs.lemmas.Nat.{from_be_bytes-to_be_bytes_4}
 use Rattle.std.proofs.lemmas.Bool.{or_parts}
-use Rattle.uimg_legacy.specs.Numbers.{be32, words}
-use Rattle.uimg_legacy.specs.Parts.{sizes, parts}
+use Rattle.uimg_texts.specs.Numbers.{be32}
+use Rattle.uimg_legacy.specs.Words.{words}
+use Rattle.uimg_legacy.specs.Parts.{sizes, part_sizes}
 use Rattle.uimg_legacy.specs.Building.{padding, joined, size_table, has_empty}
 use Rattle.uimg_legacy.proofs.PartsLaws.{parts_some}
 
@@ -24,8 +25,8 @@ unfolding joined
 joined_first p q more =
     let rest = joined (q ∷ more) in
     let all = length-append (p ++ padding (length p)) rest in
-    let front = length-append p (padding (length p)) in
-    (omega (arith, all, front), omega (arith, all, front))
+    let prefix = length-append p (padding (length p)) in
+    (omega (arith, all, prefix), omega (arith, all, prefix))
 
 -- the words of the sizes of parts that are short together
 words-sizes : (ps : List (List ℕ)) (rest : List ℕ) → length (joined ps) < 2 ^ 32 → words (size_words ps ++ rest) ≡ map length ps ++ words rest
@@ -62,15 +63,15 @@ lengths_above (p ∷ ps) h =
     rw f.0 (lengths_above ps f.1)
 
 -- the table is read as the parts' lengths
-pub parts-table : (ps : List (List ℕ)) (rest : List ℕ) → has_empty ps ≡ false → length (joined ps) < 2 ^ 32 → parts (size_table ps ++ rest) ≡ Ok (map length ps)
+pub parts-table : (ps : List (List ℕ)) (rest : List ℕ) → has_empty ps ≡ false → length (joined ps) < 2 ^ 32 → part_sizes (size_table ps ++ rest) ≡ Ok (map length ps)
 unfolding sizes
 parts-table ps rest none h =
     let d = size_table ps ++ rest in
     let all = words-table ps rest h in
     let same : sizes d ≡ map length ps = rw all (before_first-append (λ w. w == 0) (map length ps) 0 (words rest) (lengths_above ps none) refl) in
-    let front = ap (λ (w : List ℕ). length w) same in
+    let prefix = ap (λ (w : List ℕ). length w) same in
     let whole = ap (λ (w : List ℕ). length w) all ∙ length-append (map length ps) (0 ∷ words rest) in
-    parts_some d (omega (arith, front, whole)) ∙ ap (λ (w : List ℕ). Ok w) same
+    parts_some d (omega (arith, prefix, whole)) ∙ ap (λ (w : List ℕ). Ok w) same
 
 -- four bytes for each part
 length-size_words : (ps : List (List ℕ)) → length (size_words ps) ≡ 4 * length ps

@@ -2,13 +2,13 @@
 use Rattle.std.specs.Prelude.{ℕ, ◌-◌, List, [], ◌∷◌, ◌++◌, length, replicate, nat_lt, ◌==◌, ◌&&◌, if◌then◌else◌, Result, Ok, Err, Bool, true, false}
 use Rattle.std.specs.Int.{to_be_bytes, w32}
 use Rattle.std.specs.List.{flat_map, list_any}
-use Rattle.uimg_base.specs.Crc.{crc}
-use Rattle.uimg_base.specs.Outcome.{Outcome, done, refused, told}
+use Rattle.uimg_sums.specs.Crc.{crc}
+use Rattle.uimg_base.specs.Outcome.{Outcome, done, told, unless_refused}
 use Rattle.uimg_legacy.specs.declared.header.Header.{Header}
 use Rattle.uimg_legacy.specs.declared.options.Options.{Options}
 use Rattle.uimg_legacy.specs.declared.fault.LegacyFault.{LegacyFault}
 use Rattle.uimg_legacy.specs.declared.fault.LegacyFault.TheVariants.{EmptyPart, TooLarge}
-use Rattle.uimg_legacy.specs.Numbers.{up4}
+use Rattle.uimg_texts.specs.Numbers.{up4}
 use Rattle.uimg_legacy.specs.Header.{spelled}
 use Rattle.uimg_legacy.specs.Parts.{has_parts}
 
@@ -26,7 +26,7 @@ joined (part ∷ next ∷ more) = part ++ padding (length part) ++ joined (next 
 unfoldable pub size_table : List (List ℕ) → List ℕ
 size_table parts = flat_map (λ part. to_be_bytes w32 (length part)) parts ++ to_be_bytes w32 0
 
--- the data of a type that has components: the table of sizes and the parts; of another: the one file
+-- the data of a type that has parts: the table of sizes and the parts; of another: the one file
 abbrev pub data_of : Bool → List (List ℕ) → List ℕ
 data_of true parts = size_table parts ++ joined parts
 data_of false parts = joined parts
@@ -58,18 +58,13 @@ legacy_built options parts = legacy_image options (data_of (has_parts options.ki
 unfoldable pub has_empty : List (List ℕ) → Bool
 has_empty parts = list_any (λ part. length part == 0) parts
 
--- The data, or the first of: a component is empty, the data have more than 4294967295 bytes.
+-- The data, or the first of: a part is empty, the data have more than 4294967295 bytes.
 unfoldable pub data_to_build : ℕ → List (List ℕ) → Result (List ℕ) LegacyFault
 data_to_build kind parts =
     if has_parts kind && has_empty parts then Err EmptyPart
     else if nat_lt 4294967295 (length (data_of (has_parts kind) parts)) then Err TooLarge
     else Ok (data_of (has_parts kind) parts)
 
--- the image of the data, or nothing and the fault
-abbrev pub build_from : Options → Result (List ℕ) LegacyFault → Outcome LegacyFault
-build_from options (Ok payload) = told (legacy_image options payload) done
-build_from options (Err fault) = told [] (refused fault)
-
 -- building writes the image, or nothing where the parts are refused
 abbrev pub build_of : Options → List (List ℕ) → Outcome LegacyFault
-build_of options parts = build_from options (data_to_build options.kind parts)
+build_of options parts = unless_refused (data_to_build options.kind parts) (λ payload. told (legacy_image options payload) done)

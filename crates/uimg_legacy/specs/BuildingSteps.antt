@@ -2,7 +2,7 @@
 use Rattle.std.specs.Prelude.{◌≡◌, ℕ, ⊤, List, length, Result, Ok, Err}
 use Rattle.uimg_legacy.specs.declared.header.Header.{Header}
 use Rattle.uimg_legacy.specs.declared.fault.Fault.{Fault}
-use Rattle.uimg_legacy.specs.declared.fault.Fault.TheVariants.{Legacy, Read, Put}
+use Rattle.uimg_legacy.specs.declared.fault.Fault.TheVariants.{Legacy}
 use Rattle.uimg_legacy.specs.Header.{header, spelled}
 use Rattle.uimg_legacy.specs.Parts.{has_parts}
 use Rattle.uimg_legacy.specs.Building.{data_of, data_to_build}
@@ -11,8 +11,7 @@ use Rattle.uimg_legacy.specs.Building.{data_of, data_to_build}
 abbrev pub Measures : ℕ → List (List ℕ) → Result ℕ Fault → Type 0
 Measures kind parts (Ok size) = (data_to_build kind parts ≡ Ok (data_of (has_parts kind) parts)) × (size ≡ length (data_of (has_parts kind) parts))
 Measures kind parts (Err (Legacy fault)) = data_to_build kind parts ≡ Err fault
-Measures kind parts (Err Read) = ⊤
-Measures kind parts (Err Put) = ⊤
+Measures kind parts (Err _) = ⊤
 
 -- these are the bytes of a header, and they are read as that header
 pub record IsHead (bytes : List ℕ) (h : Header) : Type 0 where

@@ -34,3 +34,14 @@ OneRisesIf false old new = map (λ d. d.failures) new ≡ map (λ d. d.failures)
 -- how many bytes were asked of each device
 abbrev pub asked_of : List Device → List ℕ
 asked_of devices = map (λ d. d.asked) devices
+
+-- The devices are what they were, and a failure of one was counted exactly where a read failed.
+pub record UsesAll (failed : Bool) (old new : List Device) : Type 0 where
+  pub same : SameDevices old new
+  pub failures : OneRisesIf failed old new
+
+-- The same, and none was asked for a byte.
+pub record AsksNone (failed : Bool) (old new : List Device) : Type 0 where
+  pub same : SameDevices old new
+  pub failures : OneRisesIf failed old new
+  pub asked : asked_of new ≡ asked_of old

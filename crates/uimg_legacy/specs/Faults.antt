@@ -11,46 +11,37 @@ use Rattle.uimg_legacy.specs.declared.fault.Fault.TheVariants.{Legacy, Read, Put
 
 -- the answer is that a read failed
 abbrev pub is_read : {X : Type 0} → Result X Fault → Bool
-is_read (Ok x) = false
-is_read (Err (Legacy f)) = false
 is_read (Err Read) = true
-is_read (Err Put) = false
+is_read _ = false
 
 -- the answer is that a write failed
 abbrev pub is_put : {X : Type 0} → Result X Fault → Bool
-is_put (Ok x) = false
-is_put (Err (Legacy f)) = false
-is_put (Err Read) = false
 is_put (Err Put) = true
+is_put _ = false
 
 -- the answer is that the image is refused
 abbrev pub is_refused : {X : Type 0} → Result X Fault → Bool
-is_refused (Ok x) = false
-is_refused (Err (Legacy f)) = true
-is_refused (Err Read) = false
-is_refused (Err Put) = false
+is_refused (Err (Legacy fault)) = true
+is_refused _ = false
 
 -- the end that an answer tells, where no device failed
 abbrev pub end_of : Result Status Fault → Option (End LegacyFault)
 end_of (Ok Done) = Some done
 end_of (Ok NotRight) = Some not_right
-end_of (Err (Legacy f)) = Some (refused f)
-end_of (Err Read) = None
-end_of (Err Put) = None
+end_of (Err (Legacy fault)) = Some (refused fault)
+end_of (Err _) = None
 
 -- the end that the answer of a building tells, where no device failed
 abbrev pub built_end : {X : Type 0} → Result X Fault → Option (End LegacyFault)
 built_end (Ok x) = Some done
-built_end (Err (Legacy f)) = Some (refused f)
-built_end (Err Read) = None
-built_end (Err Put) = None
+built_end (Err (Legacy fault)) = Some (refused fault)
+built_end (Err _) = None
 
 -- An answer is the value or the fault of a definition, unless a device failed.
 abbrev pub Gives : {X Y : Type 0} → (X → Y) → Result X Fault → Result Y LegacyFault → Type 0
 Gives view (Ok x) r = r ≡ Ok (view x)
-Gives view (Err (Legacy f)) r = r ≡ Err f
-Gives view (Err Read) r = ⊤
-Gives view (Err Put) r = ⊤
+Gives view (Err (Legacy fault)) r = r ≡ Err fault
+Gives view (Err _) r = ⊤
 
 -- a failed copy is a failed read or a failed write
 abbrev pub fault_of : MoveFault → Fault

@@ -1,12 +1,13 @@
 -- The header of a legacy image (U-Boot's image.h, `struct legacy_img_hdr`).
 use Rattle.std.specs.Prelude.{ℕ, List, ◌∷◌, ◌++◌, length, take, drop, replicate, slice_index, nat_lt, ◌==◌, if◌then◌else◌, Result, Ok, Err, Bool, true, false}
 use Rattle.std.specs.Int.{to_be_bytes, w32}
-use Rattle.uimg_base.specs.Device.{part}
-use Rattle.uimg_base.specs.Crc.{crc}
+use Rattle.uimg_base.specs.Results.{◌>>=◌}
+use Rattle.uimg_texts.specs.Slices.{slice}
+use Rattle.uimg_sums.specs.Crc.{crc}
 use Rattle.uimg_legacy.specs.declared.header.Header.{Header}
 use Rattle.uimg_legacy.specs.declared.fault.LegacyFault.{LegacyFault}
 use Rattle.uimg_legacy.specs.declared.fault.LegacyFault.TheVariants.{TooShort, BadMagic, BadHeaderCrc}
-use Rattle.uimg_legacy.specs.Numbers.{be32}
+use Rattle.uimg_texts.specs.Numbers.{be32}
 
 -- the number that each legacy image begins with
 abbrev pub magic : ℕ
@@ -38,7 +39,7 @@ fields bytes = record {
   arch = slice_index bytes 29;
   kind = slice_index bytes 30;
   comp = slice_index bytes 31;
-  name = part bytes 32 32;
+  name = slice bytes 32 32;
 }
 
 -- the fields, where the CRC is right
@@ -46,14 +47,11 @@ abbrev pub header_with : List ℕ → Bool → Result Header LegacyFault
 header_with bytes true = Ok (fields bytes)
 header_with bytes false = Err BadHeaderCrc
 
--- the same of a head, or its fault
-abbrev pub header_from : Result (List ℕ) LegacyFault → Result Header LegacyFault
-header_from (Ok bytes) = header_with bytes (has_right_crc bytes)
-header_from (Err fault) = Err fault
-
 -- the header of an image, or the first of: too short, bad magic, bad header CRC
 abbrev pub header : List ℕ → Result Header LegacyFault
-header image = header_from (head image)
+header image = do
+  bytes ← head image
+  header_with bytes (has_right_crc bytes)
 
 -- the 64 bytes of a header whose CRC field holds a number
 unfoldable pub spelled_with : ℕ → Header → List ℕ

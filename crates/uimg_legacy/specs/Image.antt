@@ -1,7 +1,8 @@
 -- A legacy image: its header, and the data after it.
 use Rattle.std.specs.Prelude.{ℕ, ◌+◌, List, length, nat_lt, ◌==◌, if◌then◌else◌, Result, Ok, Err, Bool, true, false}
-use Rattle.uimg_base.specs.Device.{part}
-use Rattle.uimg_base.specs.Crc.{crc}
+use Rattle.uimg_base.specs.Results.{◌>>=◌}
+use Rattle.uimg_texts.specs.Slices.{slice}
+use Rattle.uimg_sums.specs.Crc.{crc}
 use Rattle.uimg_legacy.specs.declared.header.Header.{Header}
 use Rattle.uimg_legacy.specs.declared.fault.LegacyFault.{LegacyFault}
 use Rattle.uimg_legacy.specs.declared.fault.LegacyFault.TheVariants.{Truncated, BadDataCrc}
@@ -14,7 +15,7 @@ pub record Image : Type 0 where
 
 -- the bytes after the header, as many as it says, whether the image has them or not
 abbrev pub payload : List ℕ → Header → List ℕ
-payload image h = part image 64 h.size
+payload image h = slice image 64 h.size
 
 -- whether the data's CRC is that in the header, if the image has the data
 unfoldable pub has_right_data : List ℕ → Header → Result Bool LegacyFault
@@ -22,18 +23,15 @@ has_right_data image h =
     if nat_lt (length image) (64 + h.size) then Err Truncated
     else Ok (crc (payload image h) == h.dcrc)
 
--- the header and the data, where the data are there and their CRC is right
-abbrev pub with_data : List ℕ → Header → Result Bool LegacyFault → Result Image LegacyFault
-with_data image h (Ok true) = Ok (record { header = h; payload = payload image h })
-with_data image h (Ok false) = Err BadDataCrc
-with_data image h (Err fault) = Err fault
-
--- the same of a header, or its fault
-abbrev pub legacy_from : List ℕ → Result Header LegacyFault → Result Image LegacyFault
-legacy_from image (Ok h) = with_data image h (has_right_data image h)
-legacy_from image (Err fault) = Err fault
+-- the header and the data, where their CRC is right
+abbrev pub with_data : List ℕ → Header → Bool → Result Image LegacyFault
+with_data image h true = Ok (record { header = h; payload = payload image h })
+with_data image h false = Err BadDataCrc
 
 -- The header and the data of an image, or the first of: too short, bad magic, bad header CRC, truncated, bad
 -- data CRC. Bytes after the data are accepted.
 abbrev pub legacy : List ℕ → Result Image LegacyFault
-legacy image = legacy_from image (header image)
+legacy image = do
+  h ← header image
+  right ← has_right_data image h
+  with_data image h right

@@ -1,7 +1,8 @@
-pub mod Numbers
+pub mod Words
 pub mod Header
 pub mod Image
 pub mod Parts
+pub mod Tables
 pub mod Report
 pub mod Extraction
 pub mod Work

@@ -1,25 +1,21 @@
 -- The listing of a legacy image.
-use Rattle.std.specs.Prelude.{ℕ, zero, suc, List, [], ◌++◌, length, take, replicate, slice_index, codes, decimal, ◌==◌, Result, Ok, Err, Bool, true, false}
-use Rattle.std.specs.List.{before_first}
+use Rattle.std.specs.Prelude.{ℕ, zero, suc, List, [], ◌++◌, length, take, replicate, slice_index, codes, decimal, Bool, true, false}
 use Rattle.std.specs.Int.{to_be_bytes, w32}
 use Rattle.hex.specs.Hex.{encode_lower}
-use Rattle.uimg_base.specs.Outcome.{Outcome, done, refused, told, after, line}
-use Rattle.uimg_base.specs.Names.{printed, os_table, arch_table, kind_table, comp_table}
-use Rattle.uimg_base.specs.Sizes.{size_text}
-use Rattle.uimg_base.specs.Times.{time_text}
+use Rattle.uimg_base.specs.Outcome.{Outcome, done, refused, told, after, unless_refused, line}
+use Rattle.uimg_texts.specs.Nul.{text}
+use Rattle.uimg_texts.specs.Names.{printed, os_table, arch_table, kind_table, comp_table}
+use Rattle.uimg_texts.specs.Sizes.{size_text}
+use Rattle.uimg_texts.specs.Times.{time_text}
 use Rattle.uimg_legacy.specs.declared.header.Header.{Header}
 use Rattle.uimg_legacy.specs.declared.fault.LegacyFault.{LegacyFault}
 use Rattle.uimg_legacy.specs.declared.fault.LegacyFault.TheVariants.{PartOutside}
-use Rattle.uimg_legacy.specs.Image.{Image, legacy}
-use Rattle.uimg_legacy.specs.Parts.{has_parts, parts, is_outside}
+use Rattle.uimg_legacy.specs.Image.{legacy}
+use Rattle.uimg_legacy.specs.Parts.{has_parts, part_sizes, is_outside}
 
 -- a value behind its label, which is padded with blanks to 14 bytes
 abbrev pub labelled : List ℕ → List ℕ → List ℕ
 labelled label value = line (take 14 (label ++ replicate 14 32) ++ value)
-
--- the name up to its first NUL, or all 32 bytes, as they stand
-abbrev pub name_text : List ℕ → List ℕ
-name_text name = before_first (λ b. b == 0) name
 
 -- the architecture, the operating system, the image type, and the compression in parentheses
 abbrev pub type_text : (arch os kind comp : List ℕ) → List ℕ
@@ -32,7 +28,7 @@ address_text address = encode_lower (to_be_bytes w32 address)
 
 -- each of the six lines is a label and a value
 unfoldable pub name_line : Header → List ℕ
-name_line h = labelled (codes "Image Name:") (name_text h.name)
+name_line h = labelled (codes "Image Name:") (text h.name)
 
 unfoldable pub time_line : Header → List ℕ
 time_line h = labelled (codes "Created:") (time_text h.time)
@@ -56,36 +52,30 @@ entry_line h = labelled (codes "Entry Point:") (address_text h.ep)
 abbrev pub head_text : Header → List ℕ
 head_text h = name_line h ++ time_line h ++ type_line h ++ size_line h ++ load_line h ++ entry_line h
 
--- the line of a component
-unfoldable pub component_line : ℕ → ℕ → List ℕ
-component_line i size = line (codes "   Image " ++ decimal i ++ codes ": " ++ size_text size)
+-- the line of a part
+unfoldable pub part_line : ℕ → ℕ → List ℕ
+part_line i size = line (codes "   Image " ++ decimal i ++ codes ": " ++ size_text size)
 
--- a component's line and the rest, or the refusal before that line
-abbrev pub component_step : Bool → List ℕ → Outcome LegacyFault → Outcome LegacyFault
-component_step true text rest = told [] (refused PartOutside)
-component_step false text rest = after text rest
+-- a part's line and the rest, or the refusal before that line
+abbrev pub part_step : Bool → List ℕ → Outcome LegacyFault → Outcome LegacyFault
+part_step true text rest = told [] (refused PartOutside)
+part_step false text rest = after text rest
 
--- the lines of so many components from the i-th on, up to one that ends after the data
-unfoldable pub component_lines : List ℕ → List ℕ → ℕ → ℕ → Outcome LegacyFault
-component_lines payload table zero i = told [] done
-component_lines payload table (suc n) i =
-    component_step (is_outside payload table i) (component_line i (slice_index table i)) (component_lines payload table n (suc i))
+-- the lines of so many parts from the i-th on, up to one that ends after the data
+unfoldable pub part_lines : List ℕ → List ℕ → ℕ → ℕ → Outcome LegacyFault
+part_lines payload table zero i = told [] done
+part_lines payload table (suc n) i =
+    part_step (is_outside payload table i) (part_line i (slice_index table i)) (part_lines payload table n (suc i))
 
--- the components, unless their table has no end
-abbrev pub contents : List ℕ → Result (List ℕ) LegacyFault → Outcome LegacyFault
-contents payload (Ok table) = after (line (codes "Contents:")) (component_lines payload table (length table) 0)
-contents payload (Err fault) = told [] (refused fault)
+-- the parts, unless their table has no end
+abbrev pub contents : List ℕ → Outcome LegacyFault
+contents payload = unless_refused (part_sizes payload) (λ table. after (line (codes "Contents:")) (part_lines payload table (length table) 0))
 
 -- what stands after the six lines
 abbrev pub tail_with : Bool → List ℕ → Outcome LegacyFault
-tail_with true payload = contents payload (parts payload)
+tail_with true payload = contents payload
 tail_with false payload = told [] done
 
--- the six lines and what stands after them, or the fault
-abbrev pub list_from : Result Image LegacyFault → Outcome LegacyFault
-list_from (Ok image) = after (head_text image.header) (tail_with (has_parts image.header.kind) image.payload)
-list_from (Err fault) = told [] (refused fault)
-
--- the listing of an image; one that is refused has no line
+-- the six lines of an image and what stands after them; one that is refused has no line
 abbrev pub list_of : List ℕ → Outcome LegacyFault
-list_of image = list_from (legacy image)
+list_of image = unless_refused (legacy image) (λ it. after (head_text it.header) (tail_with (has_parts it.header.kind) it.payload))

@@ -1,11 +1,12 @@
--- The components of the data of type multi and script: a table of sizes ended by a zero word, and the components.
+-- The parts of the data of type multi and script: a table of sizes ended by a zero word, and the parts.
 use Rattle.std.specs.Prelude.{ℕ, ◌+◌, ◌*◌, List, length, take, slice_index, sum_by, nat_lt, ◌==◌, ◌||◌, if◌then◌else◌, Result, Ok, Err, Bool}
 use Rattle.std.specs.List.{before_first, list_any}
 use Rattle.uimg_legacy.specs.declared.fault.LegacyFault.{LegacyFault}
 use Rattle.uimg_legacy.specs.declared.fault.LegacyFault.TheVariants.{NoTableEnd}
-use Rattle.uimg_legacy.specs.Numbers.{words, up4}
+use Rattle.uimg_texts.specs.Numbers.{up4}
+use Rattle.uimg_legacy.specs.Words.{words}
 
--- whether an image of this type has components: multi is 4, script is 6
+-- whether an image of this type has parts: multi is 4, script is 6
 unfoldable pub has_parts : ℕ → Bool
 has_parts kind = kind == 4 || kind == 6
 
@@ -13,14 +14,14 @@ has_parts kind = kind == 4 || kind == 6
 unfoldable pub sizes : List ℕ → List ℕ
 sizes payload = before_first (λ w. w == 0) (words payload)
 
--- the sizes of the components, if a zero word ends their table
-unfoldable pub parts : List ℕ → Result (List ℕ) LegacyFault
-parts payload = if list_any (λ w. w == 0) (words payload) then Ok (sizes payload) else Err NoTableEnd
+-- the sizes of the parts, if a zero word ends their table
+unfoldable pub part_sizes : List ℕ → Result (List ℕ) LegacyFault
+part_sizes payload = if list_any (λ w. w == 0) (words payload) then Ok (sizes payload) else Err NoTableEnd
 
--- Component i starts after the table, its zero word and the components before it, each rounded up to a multiple of 4.
+-- Part i starts after the table, its zero word and the parts before it, each rounded up to a multiple of 4.
 unfoldable pub start : List ℕ → ℕ → ℕ
 start table i = 4 * (length table + 1) + sum_by up4 (take i table)
 
--- component i ends after the data
+-- part i ends after the data
 unfoldable pub is_outside : List ℕ → List ℕ → ℕ → Bool
 is_outside payload table i = nat_lt (length payload) (start table i + slice_index table i)

@@ -1,28 +1,29 @@
 ghost use Rattle.std.specs.Prelude.{◌≡◌, ◌≢◌, ℕ, ◌^◌, ◌<◌, List, ◌++◌, length, map, false, IsTrue, OnOk, IfOk, is_err, Ok};
 ghost use Rattle.std.specs.List.{All};
-ghost use Rattle.uimg_base.specs.Crc.{crc};
+ghost use Rattle.uimg_sums.specs.Crc.{crc};
 ghost use Rattle.uimg_base.specs.Device.{RisesIf};
-ghost use Rattle.uimg_base.specs.Sink.{AppendsAll, AppendsFront};
+ghost use Rattle.uimg_base.specs.Writing.{Written};
 ghost use Rattle.uimg_base.specs.Outcome.{Tells};
 ghost use Rattle.uimg_legacy.specs.Parts.{has_parts};
 ghost use Rattle.uimg_legacy.specs.Building.{data_of, data_to_build, legacy_built, build_of, header_for};
 ghost use Rattle.uimg_legacy.specs.BuildingSteps.{IsHead};
 ghost use Rattle.uimg_legacy.specs.ReadsBack.{ReadsBack};
-ghost use Rattle.uimg_legacy.specs.Devices.{bytes_of, asked_of, AreHonest, SameDevices, OneRisesIf};
+ghost use Rattle.uimg_legacy.specs.Devices.{bytes_of, asked_of, AreHonest, UsesAll};
 ghost use Rattle.uimg_legacy.specs.Faults.{is_read, is_put, is_refused, built_end, Gives};
 
 use crate::built_data::{data_crc, put_data};
 use crate::fault::Fault;
-use crate::header::{Header, header_bytes};
+use crate::header::{HEADER_LEN, Header, header_bytes};
 use crate::measure::measure;
 use crate::options::Options;
 use crate::parts::has_parts;
 use std::io::Write;
-use uimg_base::{Out, Source, SourceFault};
+use uimg_base::{Out, Source, SourceFault, WINDOW};
 
 // The header of data of this size and CRC.
 fn header_for(options: &Options, size: u32, dcrc: u32) -> Header
-    ensures { (payload : List ℕ) → size ≡ length payload → dcrc ≡ crc payload → result ≡ header_for options.now payload }
+    ensures { (payload : List ℕ) → size ≡ length payload → dcrc ≡ crc payload →
+        result ≡ header_for options.now payload }
 {
     Header {
         time: options.time,
@@ -43,14 +44,15 @@ fn head_of<S: Source>(
     options: &Options,
     size: u32,
     parts: &mut [S],
-    window: &mut [u8; 8192],
-) -> Result<[u8; 64], SourceFault>
+    window: &mut [u8; WINDOW],
+) -> Result<[u8; HEADER_LEN], SourceFault>
     requires small { All (λ part. length part < 2 ^ 32) (bytes_of (map S.device parts.old)) }
-    requires size { size ≡ length (data_of (has_parts options.now.kind) (bytes_of (map S.device parts.old))) }
-    ensures same { SameDevices (map S.device parts.old) (map S.device parts.new) }
-    ensures failures { OneRisesIf (is_err result) (map S.device parts.old) (map S.device parts.new) }
+    requires size { size ≡ length (data_of (has_parts options.now.kind)
+        (bytes_of (map S.device parts.old))) }
+    ensures uses { UsesAll (is_err result) (map S.device parts.old) (map S.device parts.new) }
     ensures head { AreHonest (map S.device parts.old) → IfOk result (λ bytes. IsHead bytes
-        (header_for options.now (data_of (has_parts options.now.kind) (bytes_of (map S.device parts.old))))) }
+        (header_for options.now (data_of (has_parts options.now.kind)
+        (bytes_of (map S.device parts.old))))) }
 {
     let dcrc = data_crc(has_parts(options.kind), parts, window)?;
     Ok(header_bytes(&header_for(options, size, dcrc)))
@@ -58,21 +60,18 @@ fn head_of<S: Source>(
 
 // Writes the header's bytes and the data.
 fn put_image<S: Source, W: Write>(
-    head: &[u8; 64],
+    head: &[u8; HEADER_LEN],
     has_parts: bool,
     parts: &mut [S],
-    window: &mut [u8; 8192],
+    window: &mut [u8; WINDOW],
     out: &mut Out<W>,
 ) -> Result<(), Fault>
     requires small { All (λ part. length part < 2 ^ 32) (bytes_of (map S.device parts.old)) }
-    ensures same { SameDevices (map S.device parts.old) (map S.device parts.new) }
-    ensures failures { OneRisesIf (is_read result) (map S.device parts.old) (map S.device parts.new) }
+    ensures uses { UsesAll (is_read result) (map S.device parts.old) (map S.device parts.new) }
     ensures faults { RisesIf (is_put result) out.old.faults out.new.faults }
     ensures accepted { is_refused result ≡ false }
-    ensures front { AreHonest (map S.device parts.old) →
-        AppendsFront out.old out.new (head.now ++ data_of has_parts (bytes_of (map S.device parts.old))) }
-    ensures ok { AreHonest (map S.device parts.old) →
-        OnOk result (AppendsAll out.old out.new (head.now ++ data_of has_parts (bytes_of (map S.device parts.old)))) }
+    ensures written { AreHonest (map S.device parts.old) → Written (is_err result) out.old out.new
+        (head.now ++ data_of has_parts (bytes_of (map S.device parts.old))) }
 {
     out.put_all(head)?;
     put_data(has_parts, parts, window, out)
@@ -85,7 +84,7 @@ fn put_image<S: Source, W: Write>(
 /// The caller gives at least one part, and exactly one where the type is neither multi nor script.
 /// Refusals come before the first byte: `EmptyPart` where a part of multi or script is empty, then
 /// `TooLarge` where the data have more than 4294967295 bytes. `Read` comes exactly where a part
-/// failed, `Put` exactly where a write did; over honest parts a front of the image was written then.
+/// failed, `Put` exactly where a write did; over honest parts a prefix of the image was written then.
 /// No part is held in memory: each goes through a window of 8192 bytes, once for the checksum and
 /// once to be written.
 pub fn build<S: Source, W: Write>(
@@ -95,22 +94,26 @@ pub fn build<S: Source, W: Write>(
 ) -> Result<(), Fault>
     requires some { length parts.old ≢ 0 }
     requires single { has_parts options.now.kind ≡ false → length parts.old ≡ 1 }
-    ensures same { SameDevices (map S.device parts.old) (map S.device parts.new) }
-    ensures failures { OneRisesIf (is_read result) (map S.device parts.old) (map S.device parts.new) }
+    ensures uses { UsesAll (is_read result) (map S.device parts.old) (map S.device parts.new) }
     ensures faults { RisesIf (is_put result) out.old.faults out.new.faults }
-    ensures decided { Gives (λ _. data_of (has_parts options.now.kind) (bytes_of (map S.device parts.old))) result
+    ensures decided { Gives (λ _. data_of (has_parts options.now.kind)
+        (bytes_of (map S.device parts.old))) result
         (data_to_build options.now.kind (bytes_of (map S.device parts.old))) }
-    ensures accepted { IsTrue (is_put result) → data_to_build options.now.kind (bytes_of (map S.device parts.old))
+    ensures accepted { IsTrue (is_put result) →
+        data_to_build options.now.kind (bytes_of (map S.device parts.old))
         ≡ Ok (data_of (has_parts options.now.kind) (bytes_of (map S.device parts.old))) }
     ensures untouched { IsTrue (is_refused result) →
-        (out.new ≡ out.old) × (asked_of (map S.device parts.new) ≡ asked_of (map S.device parts.old)) }
+        (out.new ≡ out.old) × (asked_of (map S.device parts.new)
+        ≡ asked_of (map S.device parts.old)) }
     ensures told { AreHonest (map S.device parts.old) →
-        Tells (built_end result) (build_of options.now (bytes_of (map S.device parts.old))) out.old out.new }
+        Tells (built_end result) (build_of options.now (bytes_of (map S.device parts.old))) out.old
+        out.new }
     ensures reads_back { AreHonest (map S.device parts.old) → OnOk result (ReadsBack
-        (legacy_built options.now (bytes_of (map S.device parts.old))) (bytes_of (map S.device parts.old))) }
+        (legacy_built options.now (bytes_of (map S.device parts.old)))
+        (bytes_of (map S.device parts.old))) }
 {
     let size = measure(options.kind, parts)?;
-    let mut window = [0; 8192];
+    let mut window = [0; WINDOW];
     let head = head_of(options, size, parts, &mut window)?;
     put_image(&head, has_parts(options.kind), parts, &mut window, out)
 }

@@ -1,24 +1,24 @@
 ghost use Rattle.std.specs.Prelude.{◌≡◌, ℕ, ◌^◌, ◌<◌, List, ◌++◌, length, map, false, OnOk, IfOk, is_err};
 ghost use Rattle.std.specs.List.{All};
-ghost use Rattle.uimg_base.specs.Crc.{crc};
+ghost use Rattle.uimg_sums.specs.Crc.{crc};
 ghost use Rattle.uimg_base.specs.Device.{RisesIf};
-ghost use Rattle.uimg_base.specs.Sink.{AppendsAll, AppendsFront};
+ghost use Rattle.uimg_base.specs.Writing.{Written};
 ghost use Rattle.uimg_legacy.specs.Building.{size_table, joined, data_of};
-ghost use Rattle.uimg_legacy.specs.Devices.{bytes_of, AreHonest, SameDevices, OneRisesIf};
+ghost use Rattle.uimg_legacy.specs.Devices.{bytes_of, AreHonest, UsesAll};
 ghost use Rattle.uimg_legacy.specs.Faults.{is_read, is_put, is_refused};
 
 use crate::fault::Fault;
-use crate::pieces::{feed_part, put_part, size_word, zeros_after};
+use crate::one_part::{feed_part, put_part, size_word, zeros_after};
 use std::io::Write;
-use uimg_base::{Crc, Out, Source, SourceFault, Summer};
+use uimg_base::{Crc, Out, Source, SourceFault, Summer, WINDOW};
 
 // Feeds the table of sizes to a sum.
 fn feed_table<M: Summer, S: Source>(sum: &mut M, parts: &mut [S]) -> Result<(), SourceFault>
     requires small { All (λ part. length part < 2 ^ 32) (bytes_of (map S.device parts.old)) }
-    ensures same { SameDevices (map S.device parts.old) (map S.device parts.new) }
-    ensures failures { OneRisesIf (is_err result) (map S.device parts.old) (map S.device parts.new) }
+    ensures uses { UsesAll (is_err result) (map S.device parts.old) (map S.device parts.new) }
     ensures fed { OnOk result ((fed : List ℕ) →
-        M.holds sum.old fed → M.holds sum.new (fed ++ size_table (bytes_of (map S.device parts.old)))) }
+        M.holds sum.old fed → M.holds sum.new (fed ++ size_table
+        (bytes_of (map S.device parts.old)))) }
 {
     for i in 0..parts.len() {
         sum.feed(&size_word(parts, i)?);
@@ -31,10 +31,9 @@ fn feed_table<M: Summer, S: Source>(sum: &mut M, parts: &mut [S]) -> Result<(), 
 fn feed_joined<M: Summer, S: Source>(
     sum: &mut M,
     parts: &mut [S],
-    window: &mut [u8; 8192],
+    window: &mut [u8; WINDOW],
 ) -> Result<(), SourceFault>
-    ensures same { SameDevices (map S.device parts.old) (map S.device parts.new) }
-    ensures failures { OneRisesIf (is_err result) (map S.device parts.old) (map S.device parts.new) }
+    ensures uses { UsesAll (is_err result) (map S.device parts.old) (map S.device parts.new) }
     ensures fed { AreHonest (map S.device parts.old) → OnOk result ((fed : List ℕ) →
         M.holds sum.old fed → M.holds sum.new (fed ++ joined (bytes_of (map S.device parts.old)))) }
 {
@@ -51,13 +50,13 @@ fn feed_data<M: Summer, S: Source>(
     sum: &mut M,
     has_parts: bool,
     parts: &mut [S],
-    window: &mut [u8; 8192],
+    window: &mut [u8; WINDOW],
 ) -> Result<(), SourceFault>
     requires small { All (λ part. length part < 2 ^ 32) (bytes_of (map S.device parts.old)) }
-    ensures same { SameDevices (map S.device parts.old) (map S.device parts.new) }
-    ensures failures { OneRisesIf (is_err result) (map S.device parts.old) (map S.device parts.new) }
+    ensures uses { UsesAll (is_err result) (map S.device parts.old) (map S.device parts.new) }
     ensures fed { AreHonest (map S.device parts.old) → OnOk result ((fed : List ℕ) →
-        M.holds sum.old fed → M.holds sum.new (fed ++ data_of has_parts (bytes_of (map S.device parts.old)))) }
+        M.holds sum.old fed → M.holds sum.new (fed ++ data_of has_parts
+        (bytes_of (map S.device parts.old)))) }
 {
     if !has_parts {
         return feed_joined(sum, parts, window);
@@ -70,11 +69,10 @@ fn feed_data<M: Summer, S: Source>(
 pub(crate) fn data_crc<S: Source>(
     has_parts: bool,
     parts: &mut [S],
-    window: &mut [u8; 8192],
+    window: &mut [u8; WINDOW],
 ) -> Result<u32, SourceFault>
     requires small { All (λ part. length part < 2 ^ 32) (bytes_of (map S.device parts.old)) }
-    ensures same { SameDevices (map S.device parts.old) (map S.device parts.new) }
-    ensures failures { OneRisesIf (is_err result) (map S.device parts.old) (map S.device parts.new) }
+    ensures uses { UsesAll (is_err result) (map S.device parts.old) (map S.device parts.new) }
     ensures crc { AreHonest (map S.device parts.old) →
         IfOk result (λ n. n ≡ crc (data_of has_parts (bytes_of (map S.device parts.old)))) }
 {
@@ -86,12 +84,11 @@ pub(crate) fn data_crc<S: Source>(
 // Writes the table of sizes.
 fn put_table<S: Source, W: Write>(parts: &mut [S], out: &mut Out<W>) -> Result<(), Fault>
     requires small { All (λ part. length part < 2 ^ 32) (bytes_of (map S.device parts.old)) }
-    ensures same { SameDevices (map S.device parts.old) (map S.device parts.new) }
-    ensures failures { OneRisesIf (is_read result) (map S.device parts.old) (map S.device parts.new) }
+    ensures uses { UsesAll (is_read result) (map S.device parts.old) (map S.device parts.new) }
     ensures faults { RisesIf (is_put result) out.old.faults out.new.faults }
     ensures accepted { is_refused result ≡ false }
-    ensures front { AppendsFront out.old out.new (size_table (bytes_of (map S.device parts.old))) }
-    ensures ok { OnOk result (AppendsAll out.old out.new (size_table (bytes_of (map S.device parts.old)))) }
+    ensures written { Written (is_err result) out.old out.new
+        (size_table (bytes_of (map S.device parts.old))) }
 {
     for i in 0..parts.len() {
         out.put_all(&size_word(parts, i)?)?;
@@ -103,17 +100,14 @@ fn put_table<S: Source, W: Write>(parts: &mut [S], out: &mut Out<W>) -> Result<(
 // Writes the parts, each but the last padded to a multiple of 4.
 fn put_joined<S: Source, W: Write>(
     parts: &mut [S],
-    window: &mut [u8; 8192],
+    window: &mut [u8; WINDOW],
     out: &mut Out<W>,
 ) -> Result<(), Fault>
-    ensures same { SameDevices (map S.device parts.old) (map S.device parts.new) }
-    ensures failures { OneRisesIf (is_read result) (map S.device parts.old) (map S.device parts.new) }
+    ensures uses { UsesAll (is_read result) (map S.device parts.old) (map S.device parts.new) }
     ensures faults { RisesIf (is_put result) out.old.faults out.new.faults }
     ensures accepted { is_refused result ≡ false }
-    ensures front { AreHonest (map S.device parts.old) →
-        AppendsFront out.old out.new (joined (bytes_of (map S.device parts.old))) }
-    ensures ok { AreHonest (map S.device parts.old) →
-        OnOk result (AppendsAll out.old out.new (joined (bytes_of (map S.device parts.old)))) }
+    ensures written { AreHonest (map S.device parts.old) → Written (is_err result) out.old out.new
+        (joined (bytes_of (map S.device parts.old))) }
 {
     let mut remainder = 0;
     for i in 0..parts.len() {
@@ -127,18 +121,15 @@ fn put_joined<S: Source, W: Write>(
 pub(crate) fn put_data<S: Source, W: Write>(
     has_parts: bool,
     parts: &mut [S],
-    window: &mut [u8; 8192],
+    window: &mut [u8; WINDOW],
     out: &mut Out<W>,
 ) -> Result<(), Fault>
     requires small { All (λ part. length part < 2 ^ 32) (bytes_of (map S.device parts.old)) }
-    ensures same { SameDevices (map S.device parts.old) (map S.device parts.new) }
-    ensures failures { OneRisesIf (is_read result) (map S.device parts.old) (map S.device parts.new) }
+    ensures uses { UsesAll (is_read result) (map S.device parts.old) (map S.device parts.new) }
     ensures faults { RisesIf (is_put result) out.old.faults out.new.faults }
     ensures accepted { is_refused result ≡ false }
-    ensures front { AreHonest (map S.device parts.old) →
-        AppendsFront out.old out.new (data_of has_parts (bytes_of (map S.device parts.old))) }
-    ensures ok { AreHonest (map S.device parts.old) →
-        OnOk result (AppendsAll out.old out.new (data_of has_parts (bytes_of (map S.device parts.old)))) }
+    ensures written { AreHonest (map S.device parts.old) → Written (is_err result) out.old out.new
+        (data_of has_parts (bytes_of (map S.device parts.old))) }
 {
     if !has_parts {
         return put_joined(parts, window, out);

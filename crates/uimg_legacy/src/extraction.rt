@@ -1,43 +1,44 @@
 ghost use Rattle.std.specs.Prelude.{◌≡◌, ◌+◌, ◌≤◌, [], false, length, IsTrue, IfOk};
-ghost use Rattle.uimg_base.specs.Device.{part, RisesIf, SameDevice};
+ghost use Rattle.uimg_base.specs.Device.{RisesIf};
+ghost use Rattle.uimg_texts.specs.Slices.{slice};
+ghost use Rattle.uimg_base.specs.Using.{UsesAtMost};
 ghost use Rattle.uimg_base.specs.Outcome.{Tells};
 ghost use Rattle.uimg_base.specs.Ranges.{ReadsAhead};
-ghost use Rattle.uimg_legacy.specs.Extraction.{chosen, extract_of};
+ghost use Rattle.uimg_legacy.specs.Extraction.{part_at, extract_of};
 ghost use Rattle.uimg_legacy.specs.Work.{list_work, extract_work};
 ghost use Rattle.uimg_legacy.specs.Faults.{is_read, is_put, is_refused, end_of, Gives};
 
 use crate::fault::Fault;
 use crate::image::read_image;
-use crate::parts::{Place, find_part};
+use crate::parts::{Span, find_part};
 use std::alloc::Allocator;
 use std::io::Write;
 use uimg_base::{Out, Room, Source, Status, copy_range};
 
-// The place of the part at a position of an image whose checksums are right.
-fn choose_part<S: Source, A: Allocator>(
+// Where the part at a position stands, of an image whose checksums are right.
+fn locate_part<S: Source, A: Allocator>(
     source: &mut S,
     room: &mut Room<A>,
     position: u32,
-) -> Result<Place, Fault>
-    ensures same { SameDevice (S.device source.old) (S.device source.new) }
+) -> Result<Span, Fault>
+    ensures uses { UsesAtMost (list_work (S.device source.old).bytes)
+        (is_read result) (S.device source.old) (S.device source.new) }
     ensures room { room.new ≡ room.old }
-    ensures asked { IsTrue (S.device source.old).honest →
-        (S.device source.new).asked ≤ (S.device source.old).asked + list_work (S.device source.old).bytes }
-    ensures failures { RisesIf (is_read result) (S.device source.old).failures (S.device source.new).failures }
     ensures no_put { is_put result ≡ false }
-    ensures inside { IfOk result (λ place. place.start + place.length ≤ length (S.device source.old).bytes) }
+    ensures inside { IfOk result (λ span. span.start + span.length
+        ≤ length (S.device source.old).bytes) }
     ensures gives { IsTrue (S.device source.old).honest → Gives
-        (λ place. part (S.device source.old).bytes place.start place.length) result
-        (chosen (S.device source.old).bytes position) }
+        (λ span. slice (S.device source.old).bytes span.start span.length) result
+        (part_at (S.device source.old).bytes position) }
 {
     let header = read_image(source, room)?;
     find_part(source, room, &header, position)
 }
 
-/// Writes the part of the image at a position, counted from 0: a component of type multi or
+/// Writes the part of the image at a position, counted from 0: a part of type multi or
 /// script, or the data of any other type at position 0. Refusals come before the first byte:
 /// `TooShort`, `BadMagic`, `BadHeaderCrc`, `Truncated`, `BadDataCrc`, `NoTableEnd`, `NoSuchPart`
-/// and `PartOutside` of the part at that position, in this order. Over an honest source a front of
+/// and `PartOutside` of the part at that position, in this order. Over an honest source a prefix of
 /// the part was written after `Read` or `Put`.
 pub fn extract<S: Source, A: Allocator, W: Write>(
     position: u32,
@@ -45,20 +46,20 @@ pub fn extract<S: Source, A: Allocator, W: Write>(
     room: &mut Room<A>,
     out: &mut Out<W>,
 ) -> Result<Status, Fault>
-    ensures same { SameDevice (S.device source.old) (S.device source.new) }
+    ensures uses { UsesAtMost (extract_work (S.device source.old).bytes position)
+        (is_read result) (S.device source.old) (S.device source.new) }
     ensures room { room.new ≡ record room.old { entries = [] } }
-    ensures asked { IsTrue (S.device source.old).honest →
-        (S.device source.new).asked ≤ (S.device source.old).asked + extract_work (S.device source.old).bytes position }
-    ensures ahead { IsTrue (S.device source.old).honest → ReadsAhead (list_work (S.device source.old).bytes)
-        (S.device source.old) (S.device source.new) out.old out.new (extract_of (S.device source.old).bytes position).text }
-    ensures failures { RisesIf (is_read result) (S.device source.old).failures (S.device source.new).failures }
+    ensures ahead { IsTrue (S.device source.old).honest →
+        ReadsAhead (list_work (S.device source.old).bytes)
+        (S.device source.old) (S.device source.new) out.old out.new
+        (extract_of (S.device source.old).bytes position).text }
     ensures untouched { IsTrue (is_refused result) → out.new ≡ out.old }
     ensures faults { RisesIf (is_put result) out.old.faults out.new.faults }
     ensures told { IsTrue (S.device source.old).honest →
         Tells (end_of result) (extract_of (S.device source.old).bytes position) out.old out.new }
 {
     room.clear();
-    let place = choose_part(source, room, position)?;
-    copy_range(source, room, place.start, place.length as u64, out)?;
+    let span = locate_part(source, room, position)?;
+    copy_range(source, room, span.start, span.length as u64, out)?;
     Ok(Status::Done)
 }

@@ -9,28 +9,28 @@ pub enum LegacyFault {
     /// The file has fewer than 64 bytes.
     #[error("L1 too short")]
     TooShort,
-    /// The file doesn't begin with 27051956.
+    /// The file does not begin with `0x27051956`.
     #[error("L2 bad magic")]
     BadMagic,
-    /// The header's CRC isn't that of its bytes.
+    /// The header's CRC is not that of its bytes.
     #[error("L3 bad header CRC")]
     BadHeaderCrc,
     /// The data end after the file.
     #[error("L4 truncated")]
     Truncated,
-    /// The data's CRC isn't that in the header.
+    /// The data's CRC is not that in the header.
     #[error("L5 bad data CRC")]
     BadDataCrc,
     /// The data end before the zero word that ends the table of sizes.
     #[error("L6 no table end")]
     NoTableEnd,
-    /// A component ends after the data.
+    /// A part ends after the data.
     #[error("L7 part outside")]
     PartOutside,
-    /// There is no component at the position.
+    /// There is no part at the position.
     #[error("L8 no such part")]
     NoSuchPart,
-    /// A component is empty.
+    /// A part is empty.
     #[error("L9 empty part")]
     EmptyPart,
     /// The data have more than 4294967295 bytes.

@@ -1,14 +1,18 @@
 ghost use Rattle.std.specs.Prelude.{◌≡◌, ◌+◌, ◌≤◌, true, false, take, IsTrue, IfOk, Ok};
-ghost use Rattle.uimg_base.specs.Device.{RisesIf, SameDevice};
-ghost use Rattle.uimg_legacy.specs.Numbers.{be32};
+ghost use Rattle.uimg_texts.specs.Numbers.{be32};
 ghost use Rattle.uimg_legacy.specs.Header.{magic, head, has_right_crc, fields, header as header_of, spelled_with, spelled, name_of};
+ghost use Rattle.uimg_base.specs.Using.{Asks, Uses};
 ghost use Rattle.uimg_legacy.specs.Faults.{is_read, is_put, Gives};
 
 use crate::fault::{Fault, LegacyFault};
 use byteorder::{BigEndian, ByteOrder};
-use uimg_base::{Source, crc_of};
+use uimg_base::{Source, crc_of, number_at};
 
+// The number that each legacy image begins with.
 const MAGIC: u32 = 0x2705_1956;
+
+/// How many bytes the header of a legacy image has.
+pub const HEADER_LEN: usize = 64;
 
 /// The fields of a legacy image's header (U-Boot's image.h), but for the magic number and the
 /// header's own CRC.
@@ -36,27 +40,18 @@ pub struct Header {
     pub name: [u8; 32],
 }
 
-#[tactic(auto, unfolding(crate::specs::Numbers::be32))]
-fn number_at(bytes: &[u8; 64], at: usize) -> u32
-    requires { at + 4 ≤ 64 }
-    ensures { result ≡ be32 bytes.now at }
-{
-    BigEndian::read_u32(&bytes[at..at + 4])
-}
-
 // The 64 bytes of the header, if the file has them and they begin with the magic number.
 #[tactic(auto, unfolding(crate::specs::Header::head))]
-pub(crate) fn read_head<S: Source>(source: &mut S) -> Result<[u8; 64], Fault>
-    ensures same { SameDevice (S.device source.old) (S.device source.new) }
-    ensures asked { (S.device source.new).asked ≤ (S.device source.old).asked + 64 }
-    ensures failures { RisesIf (is_read result) (S.device source.old).failures (S.device source.new).failures }
+pub(crate) fn read_head<S: Source>(source: &mut S) -> Result<[u8; HEADER_LEN], Fault>
+    ensures uses { Asks 64 (is_read result) (S.device source.old) (S.device source.new) }
     ensures no_put { is_put result ≡ false }
-    ensures gives { IsTrue (S.device source.old).honest → Gives (λ x. x) result (head (S.device source.old).bytes) }
+    ensures gives { IsTrue (S.device source.old).honest →
+        Gives (λ x. x) result (head (S.device source.old).bytes) }
 {
-    if source.size()? < 64 {
+    if source.size()? < HEADER_LEN as u64 {
         return Err(Fault::Legacy(LegacyFault::TooShort));
     }
-    let mut bytes = [0; 64];
+    let mut bytes = [0; HEADER_LEN];
     source.fill_at(0, &mut bytes)?;
     if number_at(&bytes, 0) != MAGIC {
         return Err(Fault::Legacy(LegacyFault::BadMagic));
@@ -65,7 +60,7 @@ pub(crate) fn read_head<S: Source>(source: &mut S) -> Result<[u8; 64], Fault>
 }
 
 #[tactic(auto, unfolding(crate::specs::Header::has_right_crc))]
-pub(crate) fn has_right_crc(bytes: &[u8; 64]) -> bool
+pub(crate) fn has_right_crc(bytes: &[u8; HEADER_LEN]) -> bool
     ensures { result ≡ has_right_crc bytes.now }
 {
     let mut cleared = *bytes;
@@ -73,9 +68,10 @@ pub(crate) fn has_right_crc(bytes: &[u8; 64]) -> bool
     number_at(bytes, 4) == crc_of(&cleared)
 }
 
-pub(crate) fn fields(bytes: &[u8; 64]) -> Header
+pub(crate) fn fields(bytes: &[u8; HEADER_LEN]) -> Header
     ensures fields { result ≡ fields bytes.now }
-    ensures spelled { be32 bytes.now 0 ≡ magic → has_right_crc bytes.now ≡ true → spelled result ≡ bytes.now }
+    ensures spelled { be32 bytes.now 0 ≡ magic → has_right_crc bytes.now ≡ true →
+        spelled result ≡ bytes.now }
 {
     let mut name = [0; 32];
     name.copy_from_slice(&bytes[32..]);
@@ -94,14 +90,13 @@ pub(crate) fn fields(bytes: &[u8; 64]) -> Header
 }
 
 /// The header of the image: `TooShort` for a source of fewer than 64 bytes, `BadMagic` where they
-/// don't begin with 27051956, `BadHeaderCrc` where the header's CRC isn't that of its bytes with
+/// do not begin with `0x27051956`, `BadHeaderCrc` where the header's CRC is not that of its bytes with
 /// zeros in its place; the first of these that holds. `Read` where a read failed.
 pub fn read_header<S: Source>(source: &mut S) -> Result<Header, Fault>
-    ensures same { SameDevice (S.device source.old) (S.device source.new) }
-    ensures asked { (S.device source.new).asked ≤ (S.device source.old).asked + 64 }
-    ensures failures { RisesIf (is_read result) (S.device source.old).failures (S.device source.new).failures }
+    ensures uses { Asks 64 (is_read result) (S.device source.old) (S.device source.new) }
     ensures no_put { is_put result ≡ false }
-    ensures gives { IsTrue (S.device source.old).honest → Gives (λ x. x) result (header_of (S.device source.old).bytes) }
+    ensures gives { IsTrue (S.device source.old).honest →
+        Gives (λ x. x) result (header_of (S.device source.old).bytes) }
     ensures spelled { IsTrue (S.device source.old).honest →
         IfOk result (λ h. spelled h ≡ take 64 (S.device source.old).bytes) }
 {
@@ -114,7 +109,7 @@ pub fn read_header<S: Source>(source: &mut S) -> Result<Header, Fault>
 
 // The bytes of a header whose CRC field holds a number.
 #[tactic(auto, unfolding(crate::specs::Header::spelled_with))]
-fn spelled_with(sum: u32, header: &Header) -> [u8; 64]
+fn spelled_with(sum: u32, header: &Header) -> [u8; HEADER_LEN]
     ensures bytes { result ≡ spelled_with sum header.now }
     ensures reads_back { fields (spelled_with sum header.now) ≡ header.now }
 {
@@ -130,7 +125,7 @@ fn spelled_with(sum: u32, header: &Header) -> [u8; 64]
         comp,
         name,
     } = *header;
-    let mut bytes = [0; 64];
+    let mut bytes = [0; HEADER_LEN];
     BigEndian::write_u32(&mut bytes[0..4], MAGIC);
     BigEndian::write_u32(&mut bytes[4..8], sum);
     BigEndian::write_u32(&mut bytes[8..12], time);
@@ -145,7 +140,7 @@ fn spelled_with(sum: u32, header: &Header) -> [u8; 64]
 
 /// The 64 bytes of a header, with the magic number and the header's CRC. `read_header` of them
 /// gives the header back.
-pub fn header_bytes(header: &Header) -> [u8; 64]
+pub fn header_bytes(header: &Header) -> [u8; HEADER_LEN]
     ensures bytes { result ≡ spelled header.now }
     ensures reads_back { header_of result ≡ Ok header.now }
 {

@@ -1,7 +1,7 @@
 ghost use Rattle.std.specs.Prelude.{◌≡◌, ◌+◌, ◌≤◌, false, length, IsTrue, OnOk, IfOk, Ok};
-ghost use Rattle.uimg_base.specs.Device.{RisesIf, SameDevice};
 ghost use Rattle.uimg_legacy.specs.Image.{Image, payload, has_right_data, legacy};
 ghost use Rattle.uimg_legacy.specs.Work.{data_read, data_length};
+ghost use Rattle.uimg_base.specs.Using.{Asks, UsesAtMost};
 ghost use Rattle.uimg_legacy.specs.Faults.{is_read, is_put, Gives};
 
 use crate::fault::{Fault, LegacyFault};
@@ -16,10 +16,9 @@ pub(crate) fn has_right_data<S: Source, A: Allocator>(
     room: &mut Room<A>,
     header: &Header,
 ) -> Result<bool, Fault>
-    ensures same { SameDevice (S.device source.old) (S.device source.new) }
+    ensures uses { Asks (data_read (S.device source.old).bytes header.now) (is_read result)
+        (S.device source.old) (S.device source.new) }
     ensures room { room.new ≡ room.old }
-    ensures asked { (S.device source.new).asked ≤ (S.device source.old).asked + data_read (S.device source.old).bytes header.now }
-    ensures failures { RisesIf (is_read result) (S.device source.old).failures (S.device source.new).failures }
     ensures no_put { is_put result ≡ false }
     ensures inside { OnOk result (64 + header.now.size ≤ length (S.device source.old).bytes) }
     ensures gives { IsTrue (S.device source.old).honest →
@@ -37,15 +36,14 @@ pub(crate) fn read_image<S: Source, A: Allocator>(
     source: &mut S,
     room: &mut Room<A>,
 ) -> Result<Header, Fault>
-    ensures same { SameDevice (S.device source.old) (S.device source.new) }
+    ensures uses { UsesAtMost (64 + data_length (S.device source.old).bytes)
+        (is_read result) (S.device source.old) (S.device source.new) }
     ensures room { room.new ≡ room.old }
-    ensures asked { IsTrue (S.device source.old).honest →
-        (S.device source.new).asked ≤ (S.device source.old).asked + (64 + data_length (S.device source.old).bytes) }
-    ensures failures { RisesIf (is_read result) (S.device source.old).failures (S.device source.new).failures }
     ensures no_put { is_put result ≡ false }
     ensures inside { IfOk result (λ h. 64 + h.size ≤ length (S.device source.old).bytes) }
     ensures gives { IsTrue (S.device source.old).honest → Gives
-        (λ h. record { header = h; payload = payload (S.device source.old).bytes h }) result (legacy (S.device source.old).bytes) }
+        (λ h. record { header = h; payload = payload (S.device source.old).bytes h }) result
+        (legacy (S.device source.old).bytes) }
 {
     let header = read_header(source)?;
     if !has_right_data(source, room, &header)? {

@@ -1,31 +1,15 @@
-ghost use Rattle.std.specs.Prelude.{◌≡◌, ◌++◌, ◌==◌, codes, position, OnOk, is_err};
-ghost use Rattle.uimg_base.specs.Device.{RisesIf};
+ghost use Rattle.std.specs.Prelude.{◌≡◌, ◌++◌, codes, is_err};
 ghost use Rattle.uimg_base.specs.Outcome.{line};
-ghost use Rattle.uimg_base.specs.Sink.{AppendsAll, AppendsFront};
-ghost use Rattle.uimg_base.specs.Sizes.{size_text};
-ghost use Rattle.uimg_legacy.specs.Listing.{labelled, name_text, type_text, address_text, name_line, time_line, type_line, size_line, load_line, entry_line, head_text, component_line};
+ghost use Rattle.uimg_base.specs.Writing.{Writes};
+ghost use Rattle.uimg_texts.specs.Sizes.{size_text};
+ghost use Rattle.uimg_legacy.specs.Listing.{labelled, type_text, address_text, name_line, time_line, type_line, size_line, load_line, entry_line, head_text, part_line};
 
 use crate::header::Header;
 use itoa::Buffer;
 use std::io::Write;
-use uimg_base::{Out, PutFault, arch_text, comp_text, kind_text, os_text, size_text, time_text};
-
-// The place of the first NUL.
-fn first_nul(name: &[u8]) -> Option<usize>
-    ensures { result ≡ position (λ b. b == 0) name.now }
-{
-    name.iter().position(|byte| *byte == 0)
-}
-
-// The name up to its first NUL, or the whole field.
-fn name_text(name: &[u8; 32]) -> &[u8]
-    ensures { result.now ≡ name_text name.now }
-{
-    match first_nul(name) {
-        Some(end) => &name[..end],
-        None => name,
-    }
-}
+use uimg_base::{
+    Out, PutFault, arch_text, before_nul, comp_text, kind_text, os_text, size_text, time_text,
+};
 
 // Eight lower-case hexadecimal digits.
 fn address_text(address: u32) -> [u8; 8]
@@ -39,10 +23,9 @@ fn address_text(address: u32) -> [u8; 8]
 }
 
 // A line that ends with a size.
+#[tactic(auto, using(uimg_base::proofs::WritingLaws::writing))]
 fn put_size<W: Write>(out: &mut Out<W>, before: &[u8], size: u32) -> Result<(), PutFault>
-    ensures ok { OnOk result (AppendsAll out.old out.new (line (before.now ++ size_text size))) }
-    ensures front { AppendsFront out.old out.new (line (before.now ++ size_text size)) }
-    ensures faults { RisesIf (is_err result) out.old.faults out.new.faults }
+    ensures { Writes (is_err result) out.old out.new (line (before.now ++ size_text size)) }
 {
     out.put_all(before)?;
     size_text(size, out)?;
@@ -51,11 +34,9 @@ fn put_size<W: Write>(out: &mut Out<W>, before: &[u8], size: u32) -> Result<(), 
 
 // A line of a label, padded with blanks, and a value.
 fn put_line<W: Write>(out: &mut Out<W>, label: &[u8], value: &[u8]) -> Result<(), PutFault>
-    ensures ok { OnOk result (AppendsAll out.old out.new (line (label.now ++ value.now))) }
-    ensures front { AppendsFront out.old out.new (line (label.now ++ value.now)) }
-    ensures faults { RisesIf (is_err result) out.old.faults out.new.faults }
+    ensures { Writes (is_err result) out.old out.new (line (label.now ++ value.now)) }
 {
-    out.put_parts(&[label, value, b"\n"])
+    out.put_pieces(&[label, value, b"\n"])
 }
 
 // The line of an image's type, by the names of its codes.
@@ -66,13 +47,10 @@ fn put_type_names<W: Write>(
     kind: &str,
     comp: &str,
 ) -> Result<(), PutFault>
-    ensures ok { OnOk result (AppendsAll out.old out.new
-        (labelled (codes "Image Type:") (type_text arch.now os.now kind.now comp.now))) }
-    ensures front { AppendsFront out.old out.new
+    ensures { Writes (is_err result) out.old out.new
         (labelled (codes "Image Type:") (type_text arch.now os.now kind.now comp.now)) }
-    ensures faults { RisesIf (is_err result) out.old.faults out.new.faults }
 {
-    out.put_parts(&[
+    out.put_pieces(&[
         b"Image Type:   ",
         arch.as_bytes(),
         b" ",
@@ -87,9 +65,7 @@ fn put_type_names<W: Write>(
 
 #[tactic(auto, unfolding(crate::specs::Listing::type_line))]
 fn put_type<W: Write>(out: &mut Out<W>, header: &Header) -> Result<(), PutFault>
-    ensures ok { OnOk result (AppendsAll out.old out.new (type_line header.now)) }
-    ensures front { AppendsFront out.old out.new (type_line header.now) }
-    ensures faults { RisesIf (is_err result) out.old.faults out.new.faults }
+    ensures { Writes (is_err result) out.old out.new (type_line header.now) }
 {
     let arch = arch_text(header.arch);
     let os = os_text(header.os);
@@ -100,65 +76,52 @@ fn put_type<W: Write>(out: &mut Out<W>, header: &Header) -> Result<(), PutFault>
 
 #[tactic(auto, unfolding(crate::specs::Listing::name_line))]
 fn put_name<W: Write>(out: &mut Out<W>, header: &Header) -> Result<(), PutFault>
-    ensures ok { OnOk result (AppendsAll out.old out.new (name_line header.now)) }
-    ensures front { AppendsFront out.old out.new (name_line header.now) }
-    ensures faults { RisesIf (is_err result) out.old.faults out.new.faults }
+    ensures { Writes (is_err result) out.old out.new (name_line header.now) }
 {
-    put_line(out, b"Image Name:   ", name_text(&header.name))
+    put_line(out, b"Image Name:   ", before_nul(&header.name))
 }
 
 #[tactic(auto, unfolding(crate::specs::Listing::time_line))]
 fn put_time<W: Write>(out: &mut Out<W>, header: &Header) -> Result<(), PutFault>
-    ensures ok { OnOk result (AppendsAll out.old out.new (time_line header.now)) }
-    ensures front { AppendsFront out.old out.new (time_line header.now) }
-    ensures faults { RisesIf (is_err result) out.old.faults out.new.faults }
+    ensures { Writes (is_err result) out.old out.new (time_line header.now) }
 {
     put_line(out, b"Created:      ", &time_text(header.time))
 }
 
 #[tactic(auto, unfolding(crate::specs::Listing::size_line))]
 fn put_data_size<W: Write>(out: &mut Out<W>, header: &Header) -> Result<(), PutFault>
-    ensures ok { OnOk result (AppendsAll out.old out.new (size_line header.now)) }
-    ensures front { AppendsFront out.old out.new (size_line header.now) }
-    ensures faults { RisesIf (is_err result) out.old.faults out.new.faults }
+    ensures { Writes (is_err result) out.old out.new (size_line header.now) }
 {
     put_size(out, b"Data Size:    ", header.size)
 }
 
 #[tactic(auto, unfolding(crate::specs::Listing::load_line))]
 fn put_load<W: Write>(out: &mut Out<W>, header: &Header) -> Result<(), PutFault>
-    ensures ok { OnOk result (AppendsAll out.old out.new (load_line header.now)) }
-    ensures front { AppendsFront out.old out.new (load_line header.now) }
-    ensures faults { RisesIf (is_err result) out.old.faults out.new.faults }
+    ensures { Writes (is_err result) out.old out.new (load_line header.now) }
 {
     put_line(out, b"Load Address: ", &address_text(header.load))
 }
 
 #[tactic(auto, unfolding(crate::specs::Listing::entry_line))]
 fn put_entry<W: Write>(out: &mut Out<W>, header: &Header) -> Result<(), PutFault>
-    ensures ok { OnOk result (AppendsAll out.old out.new (entry_line header.now)) }
-    ensures front { AppendsFront out.old out.new (entry_line header.now) }
-    ensures faults { RisesIf (is_err result) out.old.faults out.new.faults }
+    ensures { Writes (is_err result) out.old out.new (entry_line header.now) }
 {
     put_line(out, b"Entry Point:  ", &address_text(header.ep))
 }
 
-// The line of a component.
-#[tactic(auto, unfolding(crate::specs::Listing::component_line))]
-pub(crate) fn put_component<W: Write>(out: &mut Out<W>, i: u32, size: u32) -> Result<(), PutFault>
-    ensures ok { OnOk result (AppendsAll out.old out.new (component_line i size)) }
-    ensures front { AppendsFront out.old out.new (component_line i size) }
-    ensures faults { RisesIf (is_err result) out.old.faults out.new.faults }
+// The line of a part.
+#[tactic(auto, unfolding(crate::specs::Listing::part_line))]
+pub(crate) fn put_part_line<W: Write>(out: &mut Out<W>, i: u32, size: u32) -> Result<(), PutFault>
+    ensures { Writes (is_err result) out.old out.new (part_line i size) }
 {
-    out.put_parts(&[b"   Image ", Buffer::new().format(i).as_bytes(), b": "])?;
+    out.put_pieces(&[b"   Image ", Buffer::new().format(i).as_bytes(), b": "])?;
     put_size(out, b"", size)
 }
 
 // The six lines of each image.
+#[tactic(auto, using(uimg_base::proofs::WritingLaws::writing))]
 pub(crate) fn put_head<W: Write>(out: &mut Out<W>, header: &Header) -> Result<(), PutFault>
-    ensures ok { OnOk result (AppendsAll out.old out.new (head_text header.now)) }
-    ensures front { AppendsFront out.old out.new (head_text header.now) }
-    ensures faults { RisesIf (is_err result) out.old.faults out.new.faults }
+    ensures { Writes (is_err result) out.old out.new (head_text header.now) }
 {
     put_name(out, header)?;
     put_time(out, header)?;

@@ -2,19 +2,17 @@ ghost use Rattle.std.specs.Prelude.{◌≡◌, ◌+◌, ◌%◌, ◌^◌, ◌<�
 ghost use Rattle.uimg_legacy.specs.Parts.{has_parts};
 ghost use Rattle.uimg_legacy.specs.Building.{joined, data_of, has_empty};
 ghost use Rattle.uimg_legacy.specs.BuildingSteps.{Measures};
-ghost use Rattle.uimg_legacy.specs.Devices.{bytes_of, asked_of, SameDevices, OneRisesIf};
+ghost use Rattle.uimg_legacy.specs.Devices.{bytes_of, AsksNone};
 ghost use Rattle.uimg_legacy.specs.Faults.{is_read, is_put};
 
 use crate::fault::{Fault, LegacyFault};
+use crate::one_part::part_size;
 use crate::parts::has_parts;
-use crate::pieces::part_size;
 use uimg_base::{Source, SourceFault};
 
 // Whether one of the parts is empty.
 fn has_empty<S: Source>(parts: &mut [S]) -> Result<bool, SourceFault>
-    ensures same { SameDevices (map S.device parts.old) (map S.device parts.new) }
-    ensures asked { asked_of (map S.device parts.new) ≡ asked_of (map S.device parts.old) }
-    ensures failures { OneRisesIf (is_err result) (map S.device parts.old) (map S.device parts.new) }
+    ensures uses { AsksNone (is_err result) (map S.device parts.old) (map S.device parts.new) }
     ensures empty { IfOk result (λ b. b ≡ has_empty (bytes_of (map S.device parts.old))) }
 {
     for i in 0..parts.len() {
@@ -29,11 +27,11 @@ fn has_empty<S: Source>(parts: &mut [S]) -> Result<bool, SourceFault>
 // 2^32 or more may be too small.
 fn end_of_parts<S: Source>(parts: &mut [S], start: u128) -> Result<u128, SourceFault>
     requires aligned { start % 4 ≡ 0 }
-    ensures same { SameDevices (map S.device parts.old) (map S.device parts.new) }
-    ensures asked { asked_of (map S.device parts.new) ≡ asked_of (map S.device parts.old) }
-    ensures failures { OneRisesIf (is_err result) (map S.device parts.old) (map S.device parts.new) }
-    ensures most { IfOk result (λ n. n ≤ start + length (joined (bytes_of (map S.device parts.old)))) }
-    ensures exact { IfOk result (λ n. n < 2 ^ 32 → n ≡ start + length (joined (bytes_of (map S.device parts.old)))) }
+    ensures uses { AsksNone (is_err result) (map S.device parts.old) (map S.device parts.new) }
+    ensures most { IfOk result (λ n. n ≤ start + length
+        (joined (bytes_of (map S.device parts.old)))) }
+    ensures exact { IfOk result (λ n. n < 2 ^ 32 →
+        n ≡ start + length (joined (bytes_of (map S.device parts.old)))) }
 {
     let mut end = start;
     for i in 0..parts.len() {
@@ -43,12 +41,11 @@ fn end_of_parts<S: Source>(parts: &mut [S], start: u128) -> Result<u128, SourceF
     Ok(end)
 }
 
-// Whether a component is empty.
-fn has_empty_component<S: Source>(kind: u8, parts: &mut [S]) -> Result<bool, SourceFault>
-    ensures same { SameDevices (map S.device parts.old) (map S.device parts.new) }
-    ensures asked { asked_of (map S.device parts.new) ≡ asked_of (map S.device parts.old) }
-    ensures failures { OneRisesIf (is_err result) (map S.device parts.old) (map S.device parts.new) }
-    ensures empty { IfOk result (λ b. b ≡ (has_parts kind && has_empty (bytes_of (map S.device parts.old)))) }
+// Whether a part is empty.
+fn has_empty_part<S: Source>(kind: u8, parts: &mut [S]) -> Result<bool, SourceFault>
+    ensures uses { AsksNone (is_err result) (map S.device parts.old) (map S.device parts.new) }
+    ensures empty { IfOk result (λ b. b ≡ (has_parts kind && has_empty
+        (bytes_of (map S.device parts.old)))) }
 {
     if has_parts(kind) {
         has_empty(parts)
@@ -60,11 +57,11 @@ fn has_empty_component<S: Source>(kind: u8, parts: &mut [S]) -> Result<bool, Sou
 // How many bytes the data have, with the table of sizes where there is one. A size of 2^32 or more
 // may be too small.
 fn data_size<S: Source>(kind: u8, parts: &mut [S]) -> Result<u128, SourceFault>
-    ensures same { SameDevices (map S.device parts.old) (map S.device parts.new) }
-    ensures asked { asked_of (map S.device parts.new) ≡ asked_of (map S.device parts.old) }
-    ensures failures { OneRisesIf (is_err result) (map S.device parts.old) (map S.device parts.new) }
-    ensures most { IfOk result (λ n. n ≤ length (data_of (has_parts kind) (bytes_of (map S.device parts.old)))) }
-    ensures exact { IfOk result (λ n. n < 2 ^ 32 → n ≡ length (data_of (has_parts kind) (bytes_of (map S.device parts.old)))) }
+    ensures uses { AsksNone (is_err result) (map S.device parts.old) (map S.device parts.new) }
+    ensures most { IfOk result (λ n. n ≤ length
+        (data_of (has_parts kind) (bytes_of (map S.device parts.old)))) }
+    ensures exact { IfOk result (λ n. n < 2 ^ 32 →
+        n ≡ length (data_of (has_parts kind) (bytes_of (map S.device parts.old)))) }
 {
     if has_parts(kind) {
         let table = 4 * (parts.len() as u128 + 1);
@@ -77,13 +74,11 @@ fn data_size<S: Source>(kind: u8, parts: &mut [S]) -> Result<u128, SourceFault>
 // How many bytes the data have that are built from the parts, or why the parts are refused.
 #[tactic(auto, unfolding(crate::specs::Building::data_to_build))]
 pub(crate) fn measure<S: Source>(kind: u8, parts: &mut [S]) -> Result<u32, Fault>
-    ensures same { SameDevices (map S.device parts.old) (map S.device parts.new) }
-    ensures asked { asked_of (map S.device parts.new) ≡ asked_of (map S.device parts.old) }
-    ensures failures { OneRisesIf (is_read result) (map S.device parts.old) (map S.device parts.new) }
+    ensures uses { AsksNone (is_read result) (map S.device parts.old) (map S.device parts.new) }
     ensures no_put { is_put result ≡ false }
     ensures measures { Measures kind (bytes_of (map S.device parts.old)) result }
 {
-    if has_empty_component(kind, parts)? {
+    if has_empty_part(kind, parts)? {
         return Err(Fault::Legacy(LegacyFault::EmptyPart));
     }
     let size = data_size(kind, parts)?;

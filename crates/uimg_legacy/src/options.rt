@@ -11,7 +11,7 @@ pub struct Options {
     pub os: u8,
     /// The architecture's code.
     pub arch: u8,
-    /// The image type's code. The types multi (4) and script (6) have components.
+    /// The image type's code. The types multi (4) and script (6) have parts.
     pub kind: u8,
     /// The compression's code.
     pub comp: u8,

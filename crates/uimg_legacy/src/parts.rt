@@ -1,25 +1,21 @@
-ghost use Rattle.std.specs.Prelude.{◌≡◌, ℕ, ◌+◌, ◌*◌, ◌^◌, ◌<◌, ◌≤◌, false, length, slice_index, IsTrue, IfOk, is_err, List, Ok};
-ghost use Rattle.uimg_base.specs.Device.{part, RisesIf, SameDevice};
-ghost use Rattle.uimg_legacy.specs.Numbers.{be32, up4};
+ghost use Rattle.std.specs.Prelude.{◌≡◌, ℕ, ◌+◌, ◌*◌, ◌^◌, ◌<◌, ◌≤◌, true, false, length, slice_index, IsTrue, IfOk, is_err, List, Ok};
+ghost use Rattle.uimg_texts.specs.Slices.{slice};
+ghost use Rattle.uimg_base.specs.Using.{Asks, UsesAtMost};
+ghost use Rattle.uimg_texts.specs.Numbers.{be32};
 ghost use Rattle.uimg_legacy.specs.Image.{payload};
-ghost use Rattle.uimg_legacy.specs.Parts.{has_parts, sizes, parts, start};
-ghost use Rattle.uimg_legacy.specs.Extraction.{component_from, sub_image};
+ghost use Rattle.uimg_legacy.specs.Parts.{has_parts, sizes, start};
+ghost use Rattle.uimg_legacy.specs.Extraction.{part_of_data};
 ghost use Rattle.uimg_legacy.specs.Work.{sizes_read_with};
 ghost use Rattle.uimg_legacy.specs.Faults.{is_read, is_put, Gives};
+ghost use Rattle.uimg_legacy.specs.Tables.{CountsSizes};
 
 use crate::fault::{Fault, LegacyFault};
 use crate::header::Header;
 use crate::table::{count_window, sum_window};
-use byteorder::{BigEndian, ByteOrder};
 use std::alloc::Allocator;
-use uimg_base::{Room, Source, SourceFault};
+use uimg_base::{MULTI, Room, SCRIPT, Source, SourceFault, number_at};
 
-// The codes of the types multi and script.
-const MULTI: u8 = 4;
-
-const SCRIPT: u8 = 6;
-
-/// Whether an image of the type of this code has components: multi (4) and script (6) do.
+/// Whether an image of the type of this code has parts: multi (4) and script (6) do.
 #[tactic(auto, unfolding(crate::specs::Parts::has_parts))]
 pub fn has_parts(kind: u8) -> bool
     ensures { result ≡ has_parts kind }
@@ -27,26 +23,17 @@ pub fn has_parts(kind: u8) -> bool
     kind == MULTI || kind == SCRIPT
 }
 
-// The size rounded up to a multiple of 4.
-pub(crate) fn up4(size: u32) -> u64
-    ensures { result ≡ up4 size }
-{
-    (size as u64 + 3) / 4 * 4
-}
-
-// The size that stands at a place of the table, counted from 0.
-#[tactic(auto, unfolding(crate::specs::Numbers::be32))]
+// The size of a number in the table, counted from 0.
+#[tactic(auto, unfolding(uimg_texts::specs::Numbers::be32))]
 pub(crate) fn size_at<S: Source>(source: &mut S, i: u32) -> Result<u32, SourceFault>
     requires { 64 + 4 * (i + 1) ≤ length (S.device source.old).bytes }
-    ensures same { SameDevice (S.device source.old) (S.device source.new) }
-    ensures asked { (S.device source.new).asked ≤ (S.device source.old).asked + 4 }
-    ensures failures { RisesIf (is_err result) (S.device source.old).failures (S.device source.new).failures }
+    ensures uses { Asks 4 (is_err result) (S.device source.old) (S.device source.new) }
     ensures size { IsTrue (S.device source.old).honest →
         IfOk result (λ n. n ≡ be32 (S.device source.old).bytes (64 + 4 * i)) }
 {
     let mut word = [0; 4];
     source.fill_at(64 + 4 * i as u64, &mut word)?;
-    Ok(BigEndian::read_u32(&word))
+    Ok(number_at(&word, 0))
 }
 
 // How many sizes stand before the zero word that ends the table. A window has at most one word more
@@ -57,17 +44,13 @@ pub(crate) fn count_sizes<S: Source, A: Allocator>(
     size: u32,
 ) -> Result<u32, Fault>
     requires { 64 + size ≤ length (S.device source.old).bytes }
-    ensures same { SameDevice (S.device source.old) (S.device source.new) }
+    ensures uses { UsesAtMost (8 * (length (sizes (slice (S.device source.old).bytes 64 size)) + 1))
+        (is_read result) (S.device source.old) (S.device source.new) }
     ensures room { room.new ≡ room.old }
-    ensures asked { IsTrue (S.device source.old).honest → (S.device source.new).asked
-        ≤ (S.device source.old).asked + 8 * (length (sizes (part (S.device source.old).bytes 64 size)) + 1) }
-    ensures failures { RisesIf (is_read result) (S.device source.old).failures (S.device source.new).failures }
     ensures no_put { is_put result ≡ false }
     ensures inside { IfOk result (λ n. 4 * (n + 1) ≤ size) }
-    ensures count { IsTrue (S.device source.old).honest →
-        IfOk result (λ n. n ≡ length (sizes (part (S.device source.old).bytes 64 size))) }
-    ensures gives { IsTrue (S.device source.old).honest → Gives
-        (λ _. sizes (part (S.device source.old).bytes 64 size)) result (parts (part (S.device source.old).bytes 64 size)) }
+    ensures counts { IsTrue (S.device source.old).honest →
+        CountsSizes (slice (S.device source.old).bytes 64 size) result }
 {
     let words = size / 4;
     let mut counted = 0;
@@ -82,7 +65,7 @@ pub(crate) fn count_sizes<S: Source, A: Allocator>(
     Err(Fault::Legacy(LegacyFault::NoTableEnd))
 }
 
-// Where a component starts, counted from the data's first byte.
+// Where a part starts, counted from the data's first byte.
 pub(crate) fn start_of<S: Source, A: Allocator>(
     source: &mut S,
     room: &mut Room<A>,
@@ -92,13 +75,12 @@ pub(crate) fn start_of<S: Source, A: Allocator>(
     requires table { 64 + 4 * (count + 1) ≤ length (S.device source.old).bytes }
     requires small { 4 * (count + 1) < 2 ^ 32 }
     requires within { position < count }
-    ensures same { SameDevice (S.device source.old) (S.device source.new) }
+    ensures uses { Asks (4 * position) (is_err result) (S.device source.old) (S.device source.new) }
     ensures room { room.new ≡ room.old }
-    ensures asked { (S.device source.new).asked ≤ (S.device source.old).asked + 4 * position }
-    ensures failures { RisesIf (is_err result) (S.device source.old).failures (S.device source.new).failures }
     ensures bound { IfOk result (λ at. at ≤ 4 * (count + 1) + 2 ^ 32 * position) }
     ensures start { IsTrue (S.device source.old).honest → (table : List ℕ) → length table ≡ count →
-        ((i : ℕ) → i < count → slice_index table i ≡ be32 (S.device source.old).bytes (64 + 4 * i)) →
+        ((i : ℕ) → i < count → slice_index table i
+        ≡ be32 (S.device source.old).bytes (64 + 4 * i)) →
         IfOk result (λ at. at ≡ start table position) }
 {
     let mut at = 4 * (count as u64 + 1);
@@ -113,29 +95,28 @@ pub(crate) fn start_of<S: Source, A: Allocator>(
 
 // Where a part of an image stands in its source.
 #[derive(Clone, Copy)]
-pub(crate) struct Place {
+pub(crate) struct Span {
     pub(crate) start: u64,
     pub(crate) length: u32,
 }
 
-// The place of a component.
-pub(crate) fn find_component<S: Source, A: Allocator>(
+// Where a part stands that the table has.
+pub(crate) fn find_listed_part<S: Source, A: Allocator>(
     source: &mut S,
     room: &mut Room<A>,
     size: u32,
     position: u32,
-) -> Result<Place, Fault>
+) -> Result<Span, Fault>
     requires { 64 + size ≤ length (S.device source.old).bytes }
-    ensures same { SameDevice (S.device source.old) (S.device source.new) }
+    ensures uses { UsesAtMost (16 * (length (sizes (slice (S.device source.old).bytes 64 size))
+        + 1))
+        (is_read result) (S.device source.old) (S.device source.new) }
     ensures room { room.new ≡ room.old }
-    ensures asked { IsTrue (S.device source.old).honest → (S.device source.new).asked
-        ≤ (S.device source.old).asked + 16 * (length (sizes (part (S.device source.old).bytes 64 size)) + 1) }
-    ensures failures { RisesIf (is_read result) (S.device source.old).failures (S.device source.new).failures }
     ensures no_put { is_put result ≡ false }
-    ensures inside { IfOk result (λ place. place.start + place.length ≤ 64 + size) }
+    ensures inside { IfOk result (λ span. span.start + span.length ≤ 64 + size) }
     ensures gives { IsTrue (S.device source.old).honest → Gives
-        (λ place. part (S.device source.old).bytes place.start place.length) result
-        (component_from (part (S.device source.old).bytes 64 size) position (parts (part (S.device source.old).bytes 64 size))) }
+        (λ span. slice (S.device source.old).bytes span.start span.length) result
+        (part_of_data true (slice (S.device source.old).bytes 64 size) position) }
 {
     let count = count_sizes(source, room, size)?;
     if position >= count {
@@ -146,39 +127,39 @@ pub(crate) fn find_component<S: Source, A: Allocator>(
     if start + length as u64 > size as u64 {
         return Err(Fault::Legacy(LegacyFault::PartOutside));
     }
-    Ok(Place {
+    Ok(Span {
         start: 64 + start,
         length,
     })
 }
 
-// The place of the part at a position: a component, or the data of a single file.
+// Where the part at a position stands: one that the table has, or the data of a single file.
 #[tactic(auto, unfolding(crate::specs::Extraction::single))]
 pub(crate) fn find_part<S: Source, A: Allocator>(
     source: &mut S,
     room: &mut Room<A>,
     header: &Header,
     position: u32,
-) -> Result<Place, Fault>
+) -> Result<Span, Fault>
     requires { 64 + header.now.size ≤ length (S.device source.old).bytes }
-    ensures same { SameDevice (S.device source.old) (S.device source.new) }
+    ensures uses { UsesAtMost (16 * (sizes_read_with (has_parts header.now.kind)
+        (payload (S.device source.old).bytes header.now) + 1))
+        (is_read result) (S.device source.old) (S.device source.new) }
     ensures room { room.new ≡ room.old }
-    ensures asked { IsTrue (S.device source.old).honest → (S.device source.new).asked ≤ (S.device source.old).asked
-        + 16 * (sizes_read_with (has_parts header.now.kind) (payload (S.device source.old).bytes header.now) + 1) }
-    ensures failures { RisesIf (is_read result) (S.device source.old).failures (S.device source.new).failures }
     ensures no_put { is_put result ≡ false }
-    ensures inside { IfOk result (λ place. place.start + place.length ≤ 64 + header.now.size) }
+    ensures inside { IfOk result (λ span. span.start + span.length ≤ 64 + header.now.size) }
     ensures gives { IsTrue (S.device source.old).honest → Gives
-        (λ place. part (S.device source.old).bytes place.start place.length) result
-        (sub_image (has_parts header.now.kind) (payload (S.device source.old).bytes header.now) position) }
+        (λ span. slice (S.device source.old).bytes span.start span.length) result
+        (part_of_data (has_parts header.now.kind) (payload (S.device source.old).bytes header.now)
+        position) }
 {
     if has_parts(header.kind) {
-        return find_component(source, room, header.size, position);
+        return find_listed_part(source, room, header.size, position);
     }
     if position != 0 {
         return Err(Fault::Legacy(LegacyFault::NoSuchPart));
     }
-    Ok(Place {
+    Ok(Span {
         start: 64,
         length: header.size,
     })

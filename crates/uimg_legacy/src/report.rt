@@ -1,9 +1,10 @@
 ghost use Rattle.std.specs.Prelude.{◌≡◌, ◌+◌, ◌≤◌, [], IsTrue};
-ghost use Rattle.uimg_base.specs.Device.{RisesIf, SameDevice};
+ghost use Rattle.uimg_base.specs.Device.{RisesIf};
 ghost use Rattle.uimg_base.specs.Outcome.{Tells};
 ghost use Rattle.uimg_legacy.specs.Image.{has_right_data};
 ghost use Rattle.uimg_legacy.specs.Report.{data_report, verify_of};
 ghost use Rattle.uimg_legacy.specs.Work.{data_read, verify_work};
+ghost use Rattle.uimg_base.specs.Using.{Asks, UsesAtMost};
 ghost use Rattle.uimg_legacy.specs.Faults.{is_read, is_put, end_of};
 
 use crate::fault::Fault;
@@ -19,13 +20,13 @@ fn report_data<S: Source, A: Allocator, W: Write>(
     out: &mut Out<W>,
     header: &Header,
 ) -> Result<Status, Fault>
-    ensures same { SameDevice (S.device source.old) (S.device source.new) }
+    ensures uses { Asks (data_read (S.device source.old).bytes header.now) (is_read result)
+        (S.device source.old) (S.device source.new) }
     ensures room { room.new ≡ room.old }
-    ensures asked { (S.device source.new).asked ≤ (S.device source.old).asked + data_read (S.device source.old).bytes header.now }
-    ensures failures { RisesIf (is_read result) (S.device source.old).failures (S.device source.new).failures }
     ensures faults { RisesIf (is_put result) out.old.faults out.new.faults }
     ensures told { IsTrue (S.device source.old).honest →
-        Tells (end_of result) (data_report (has_right_data (S.device source.old).bytes header.now)) out.old out.new }
+        Tells (end_of result) (data_report (has_right_data (S.device source.old).bytes header.now))
+        out.old out.new }
 {
     if has_right_data(source, room, header)? {
         out.put_all(b"data crc32 ok\n")?;
@@ -45,11 +46,9 @@ pub fn verify<S: Source, A: Allocator, W: Write>(
     room: &mut Room<A>,
     out: &mut Out<W>,
 ) -> Result<Status, Fault>
-    ensures same { SameDevice (S.device source.old) (S.device source.new) }
+    ensures uses { UsesAtMost (verify_work (S.device source.old).bytes)
+        (is_read result) (S.device source.old) (S.device source.new) }
     ensures room { room.new ≡ record room.old { entries = [] } }
-    ensures asked { IsTrue (S.device source.old).honest →
-        (S.device source.new).asked ≤ (S.device source.old).asked + verify_work (S.device source.old).bytes }
-    ensures failures { RisesIf (is_read result) (S.device source.old).failures (S.device source.new).failures }
     ensures faults { RisesIf (is_put result) out.old.faults out.new.faults }
     ensures told { IsTrue (S.device source.old).honest →
         Tells (end_of result) (verify_of (S.device source.old).bytes) out.old out.new }

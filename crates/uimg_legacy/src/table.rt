@@ -1,21 +1,12 @@
 ghost use Rattle.std.specs.Prelude.{◌≡◌, ℕ, ◌+◌, ◌*◌, ◌/◌, ◌^◌, ◌≤◌, length, sum_by, IsTrue, IfOk, is_err};
-ghost use Rattle.uimg_base.specs.Device.{part, RisesIf, SameDevice};
-ghost use Rattle.uimg_legacy.specs.Numbers.{be32, words, up4};
+ghost use Rattle.uimg_base.specs.Using.{Asks};
+ghost use Rattle.uimg_texts.specs.Slices.{slice};
+ghost use Rattle.uimg_texts.specs.Numbers.{up4};
+ghost use Rattle.uimg_legacy.specs.Words.{words};
 ghost use Rattle.uimg_legacy.specs.Parts.{sizes};
 
-use crate::parts::up4;
-use byteorder::{BigEndian, ByteOrder};
 use std::alloc::Allocator;
-use uimg_base::{Room, Source, SourceFault};
-
-// A word of the bytes, counted from 0.
-#[tactic(auto, unfolding(crate::specs::Numbers::be32))]
-fn word_at(bytes: &[u8], i: usize) -> u32
-    requires { 4 * i + 4 ≤ length bytes.now }
-    ensures { result ≡ be32 bytes.now (4 * i) }
-{
-    BigEndian::read_u32(&bytes[4 * i..4 * i + 4])
-}
+use uimg_base::{Room, Source, SourceFault, number_at, up4};
 
 // How many words of the bytes stand before the first zero word.
 fn leading_sizes(bytes: &[u8]) -> usize
@@ -24,7 +15,7 @@ fn leading_sizes(bytes: &[u8]) -> usize
 {
     let count = bytes.len() / 4;
     for i in 0..count {
-        if word_at(bytes, i) == 0 {
+        if number_at(bytes, 4 * i) == 0 {
             return i;
         }
     }
@@ -40,13 +31,11 @@ pub(crate) fn count_window<S: Source, A: Allocator>(
 ) -> Result<u32, SourceFault>
     requires range { 64 + 4 * (first + count) ≤ length (S.device source.old).bytes }
     requires window { count ≤ 2048 }
-    ensures same { SameDevice (S.device source.old) (S.device source.new) }
+    ensures uses { Asks (4 * count) (is_err result) (S.device source.old) (S.device source.new) }
     ensures room { room.new ≡ room.old }
-    ensures asked { (S.device source.new).asked ≤ (S.device source.old).asked + 4 * count }
-    ensures failures { RisesIf (is_err result) (S.device source.old).failures (S.device source.new).failures }
     ensures bound { IfOk result (λ n. n ≤ count) }
     ensures count { IsTrue (S.device source.old).honest → IfOk result (λ n.
-        n ≡ length (sizes (part (S.device source.old).bytes (64 + 4 * first) (4 * count)))) }
+        n ≡ length (sizes (slice (S.device source.old).bytes (64 + 4 * first) (4 * count)))) }
 {
     let window = &mut room.window()[..4 * count as usize];
     source.fill_at(64 + 4 * first as u64, window)?;
@@ -61,7 +50,9 @@ fn rounded_sum(bytes: &[u8]) -> u64
 {
     let mut sum = 0;
     for i in 0..bytes.len() / 4 {
-        sum += up4(word_at(bytes, i));
+        let size = number_at(bytes, 4 * i) as u64;
+        let rounded = up4(size);
+        sum += rounded;
     }
     sum
 }
@@ -75,13 +66,11 @@ pub(crate) fn sum_window<S: Source, A: Allocator>(
 ) -> Result<u64, SourceFault>
     requires range { 64 + 4 * (first + count) ≤ length (S.device source.old).bytes }
     requires window { count ≤ 2048 }
-    ensures same { SameDevice (S.device source.old) (S.device source.new) }
+    ensures uses { Asks (4 * count) (is_err result) (S.device source.old) (S.device source.new) }
     ensures room { room.new ≡ room.old }
-    ensures asked { (S.device source.new).asked ≤ (S.device source.old).asked + 4 * count }
-    ensures failures { RisesIf (is_err result) (S.device source.old).failures (S.device source.new).failures }
     ensures bound { IfOk result (λ n. n ≤ 2 ^ 32 * count) }
     ensures sum { IsTrue (S.device source.old).honest → IfOk result (λ n.
-        n ≡ sum_by up4 (words (part (S.device source.old).bytes (64 + 4 * first) (4 * count)))) }
+        n ≡ sum_by up4 (words (slice (S.device source.old).bytes (64 + 4 * first) (4 * count)))) }
 {
     let window = &mut room.window()[..4 * count as usize];
     source.fill_at(64 + 4 * first as u64, window)?;

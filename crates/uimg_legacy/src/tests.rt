@@ -6,6 +6,5 @@ mod cases;
 mod commands;
 mod devices;
 mod headers;
-mod images;
 mod tables;
 mod zeros;

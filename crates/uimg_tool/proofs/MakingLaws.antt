@@ -7,7 +7,7 @@ use Rattle.uimg_base.specs.Sink.{Sink, AppendsAll}
 use Rattle.uimg_base.specs.Outcome.{Outcome, Tells}
 use Rattle.uimg_base.specs.declared.status.Status.{Status}
 use Rattle.uimg_base.specs.declared.status.Status.TheVariants.{Done, NotRight}
-use Rattle.uimg_base.proofs.SinkLaws.{front_none}
+use Rattle.uimg_base.proofs.SinkLaws.{prefix_none}
 use Rattle.uimg_legacy.specs.declared.options.Options.{Options}
 use Rattle.uimg_legacy.specs.Listing.{list_of}
 use Rattle.uimg_tool.specs.declared.fault.Fault.{Fault}
@@ -22,11 +22,11 @@ have_files files [] parts have = All-nil (λ name. IsSome (files name))
 have_files files (name ∷ names) [] have = absurd (suc-ne-zero _ (ap (λ (xs : List (Option (List ℕ))). length xs) have))
 have_files files (name ∷ names) (part ∷ parts) have = All-cons (λ name. IsSome (files name)) name names (subst (λ (p : Option (List ℕ)). IsSome p) (sym (ap (λ (xs : List (Option (List ℕ))). get_or xs 0 None) have)) refl) (have_files files names parts (ap (λ (xs : List (Option (List ℕ))). drop 1 xs) have))
 
--- why an image isn't built, where nothing was appended
+-- why an image is not built, where nothing was appended
 pub building_stops : (options : Options) (files : List ℕ → Option (List ℕ)) (names : List (List ℕ)) (f : Fault) (s : Sink) → StopsBuilding options files names f → StopsMaking options files names f s s
 building_stops options files names (Legacy f) s stop = (stop, refl)
-building_stops options files names Read s stop = record { parts = stop.parts; have = stop.have; front = front_none s _ }
-building_stops options files names Put s stop = (stop, record { parts = stop.parts; have = stop.have; front = front_none s _ })
+building_stops options files names Read s stop = record { parts = stop.parts; have = stop.have; prefix = prefix_none s _ }
+building_stops options files names Put s stop = (stop, record { parts = stop.parts; have = stop.have; prefix = prefix_none s _ })
 building_stops options files names (NoFile i) s stop = (stop, refl)
 building_stops options files names Keep s stop = (stop, refl)
 building_stops options files names OutOfMemory s stop = refl

@@ -1,16 +1,19 @@
 -- What the making of an image gives.
-use Rattle.std.specs.Prelude.{◌≡◌, ◌≢◌, ℕ, ⊤, ◌<◌, List, length, map, take, Result, Ok, Err, Option, Some, IsSome, IsTrue, All, false, slice_index_or, [], None}
-use Rattle.uimg_base.specs.Device.{Device}
-use Rattle.uimg_base.specs.Sink.{Sink, AppendsAll, AppendsFront}
+use Rattle.std.specs.Prelude.{◌≡◌, ◌≢◌, ℕ, ⊤, ◌<◌, List, length, map, take, Result, Ok, Err, Option, Some, IsSome, IsTrue, IfErr, All, false, slice_index_or, [], None}
+use Rattle.uimg_base.specs.Device.{Device, RisesIf}
+use Rattle.uimg_base.specs.Named.{FileMap, SameFiles}
+use Rattle.uimg_base.specs.Sink.{Sink, AppendsAll, AppendsPrefix}
 use Rattle.uimg_base.specs.Outcome.{done}
 use Rattle.uimg_legacy.specs.declared.fault.LegacyFault.{LegacyFault}
 use Rattle.uimg_legacy.specs.declared.options.Options.{Options}
 use Rattle.uimg_legacy.specs.Parts.{has_parts}
 use Rattle.uimg_legacy.specs.Listing.{list_of}
 use Rattle.uimg_legacy.specs.Building.{data_of, data_to_build, legacy_built}
+use Rattle.uimg_legacy.specs.Devices.{bytes_of, AreHonest}
 use Rattle.uimg_legacy.specs.ReadsBack.{ReadsBack}
 use Rattle.uimg_tool.specs.declared.fault.Fault.{Fault}
 use Rattle.uimg_tool.specs.declared.fault.Fault.TheVariants.{Legacy, Read, Put, NoFile, Keep, OutOfMemory}
+use Rattle.uimg_tool.specs.Faults.{is_no_file}
 use Rattle.uimg_tool.specs.declared.make_command.MakeCommand.{MakeCommand}
 use Rattle.uimg_tool.specs.declared.make_command.MakeCommand.TheVariants.{Parts}
 
@@ -70,37 +73,38 @@ pub record Keeps (options : Options) (files : List ℕ → Option (List ℕ)) (n
   pub have : HaveParts files names parts
   pub image : KeepsImage options parts kept
 
--- The image of the names' parts is kept, its whole listing was appended, and the listing isn't refused.
+-- The image of the names' parts is kept, its whole listing was appended, and the listing is not refused.
 pub record Makes (options : Options) (files : List ℕ → Option (List ℕ)) (names : List (List ℕ)) (kept : Device) (s t : Sink) : Type 0 where
   pub keeps : Keeps options files names kept
   pub listed : AppendsAll s t (list_of (legacy_built options keeps.parts)).text
   pub done : (list_of (legacy_built options keeps.parts)).end ≡ done
 
--- A front of the listing of the image of the names' parts was appended.
+-- A prefix of the listing of the image of the names' parts was appended.
 pub record Breaks (options : Options) (files : List ℕ → Option (List ℕ)) (names : List (List ℕ)) (s t : Sink) : Type 0 where
   pub parts : List (List ℕ)
   pub have : HaveParts files names parts
-  pub front : AppendsFront s t (list_of (legacy_built options parts)).text
+  pub prefix : AppendsPrefix s t (list_of (legacy_built options parts)).text
 
--- why the files of the names aren't opened
+-- why the files of the names are not opened
 abbrev pub StopsOpening : (List ℕ → Option (List ℕ)) → List (List ℕ) → Fault → Type 0
-StopsOpening files names (Legacy fault) = ⊥
-StopsOpening files names Read = ⊥
-StopsOpening files names Put = ⊥
 StopsOpening files names (NoFile i) = Misses files names i
-StopsOpening files names Keep = ⊥
 StopsOpening files names OutOfMemory = ⊤
+StopsOpening files names _ = ⊥
 
--- why parts aren't built and kept
+-- An answer is the opened files, honest sources of the names' bytes, or why they are not all opened.
+abbrev pub OpensAnswer : {V : Type 0} → (V → List Device) → (List ℕ → Option (List ℕ)) → List (List ℕ) → Result V Fault → Type 0
+OpensAnswer devices files names (Ok opened) = HaveParts files names (bytes_of (devices opened)) × AreHonest (devices opened)
+OpensAnswer devices files names (Err fault) = StopsOpening files names fault
+
+-- why parts are not built and kept
 abbrev pub StopsKeeping : Options → List (List ℕ) → Fault → Type 0
 StopsKeeping options parts (Legacy fault) = data_to_build options.kind parts ≡ Err fault
 StopsKeeping options parts Read = ⊤
 StopsKeeping options parts Put = data_to_build options.kind parts ≡ Ok (data_of (has_parts options.kind) parts)
-StopsKeeping options parts (NoFile i) = ⊥
 StopsKeeping options parts Keep = data_to_build options.kind parts ≡ Ok (data_of (has_parts options.kind) parts)
-StopsKeeping options parts OutOfMemory = ⊥
+StopsKeeping options parts _ = ⊥
 
--- why an image isn't built and kept
+-- why an image is not built and kept
 abbrev pub StopsBuilding : Options → (List ℕ → Option (List ℕ)) → List (List ℕ) → Fault → Type 0
 StopsBuilding options files names (Legacy fault) = Refuses options files names fault
 StopsBuilding options files names Read = AreThere files names
@@ -109,7 +113,7 @@ StopsBuilding options files names (NoFile i) = Misses files names i
 StopsBuilding options files names Keep = Accepts options files names
 StopsBuilding options files names OutOfMemory = ⊤
 
--- An answer is the kept image, or why it isn't built and kept.
+-- An answer is the kept image, or why it is not built and kept.
 abbrev pub BuildsAnswer : {K : Type 0} → (K → Device) → Options → (List ℕ → Option (List ℕ)) → List (List ℕ) → Result K Fault → Type 0
 BuildsAnswer device options files names (Ok kept) = Keeps options files names (device kept)
 BuildsAnswer device options files names (Err fault) = StopsBuilding options files names fault
@@ -130,9 +134,12 @@ MakesAnswer device options files names (Err fault) s t = StopsMaking options fil
 
 -- a name whose open was refused has no bytes; of other faults this says nothing
 abbrev pub Lacks : (List ℕ → Option (List ℕ)) → List (List ℕ) → Fault → Type 0
-Lacks files names (Legacy fault) = ⊤
-Lacks files names Read = ⊤
-Lacks files names Put = ⊤
 Lacks files names (NoFile i) = files (slice_index_or names i []) ≡ None
-Lacks files names Keep = ⊤
-Lacks files names OutOfMemory = ⊤
+Lacks files names _ = ⊤
+
+-- The files are what they were, a refusal was counted exactly where the answer is that a file could not be opened, and
+-- complete files refuse only a name that has no bytes.
+pub record OpensNames {X : Type 0} (names : List (List ℕ)) (result : Result X Fault) (old new : FileMap) : Type 0 where
+  pub same : SameFiles old new
+  pub refusals : RisesIf (is_no_file result) old.refusals new.refusals
+  pub missing : IsTrue old.complete → IfErr result (Lacks old.bytes names)

@@ -30,17 +30,16 @@ impl<'a, R: rt::Files + AllocGlobal> DiskFiles<'a, R> {
 impl<'a, R: rt::Files + AllocGlobal> Files for DiskFiles<'a, R> {
     type Opened = FileSource<R::File>;
 
-    ghost files = { λ _ _. None };
-
-    ghost honest = { λ _. false };
-
-    ghost complete = { λ _. false };
-
-    ghost refusals = { λ s. s.refusals };
+    ghost map = { λ s. record {
+      bytes = λ _. None;
+      honest = false;
+      complete = false;
+      refusals = s.refusals;
+    } };
 
     /// Opens the file of this name.
     ///
-    /// `SourceFault` comes where the name isn't UTF-8, where the memory for the path is refused,
+    /// `SourceFault` comes where the name is not UTF-8, where the memory for the path is refused,
     /// and as from `FileSource::open`.
     fn open(&mut self, name: &[u8]) -> Result<FileSource<R::File>, SourceFault> {
         let opened = open_in(self.rt, self.folder, name);

@@ -1,6 +1,7 @@
 ghost use Rattle.std.specs.Prelude.{◌≡◌, ◌↔◌, ◌+◌, ◌-◌, ◌^◌, ◌<◌, ◌≤◌, [], false, IsTrue, Err};
 ghost use Rattle.uimg_base.specs.Device.{SameDevice, RisesIf};
-ghost use Rattle.uimg_base.specs.Sink.{AppendsFront};
+ghost use Rattle.uimg_base.specs.Using.{UsesAtMost};
+ghost use Rattle.uimg_base.specs.Sink.{AppendsPrefix};
 ghost use Rattle.uimg_base.specs.Outcome.{Tells};
 ghost use Rattle.uimg_tool.specs.Faults.{is_read, is_put, is_refused, is_of_making, end_of};
 ghost use Rattle.uimg_tool.specs.Headline.{outcome_of, work, ExtractsAhead, KeepsOutput, Stays, Meets};
@@ -18,14 +19,12 @@ pub(crate) fn run_legacy<S: Source, A: Allocator, W: Write>(
     room: &mut Room<A>,
     out: &mut Out<W>,
 ) -> Result<Status, Fault>
-    ensures same { SameDevice (S.device source.old) (S.device source.new) }
+    ensures uses { UsesAtMost (work action (S.device source.old).bytes)
+        (is_read result) (S.device source.old) (S.device source.new) }
     ensures room { room.new ≡ record room.old { entries = [] } }
-    ensures asked { IsTrue (S.device source.old).honest →
-        (S.device source.new).asked ≤ (S.device source.old).asked + work action (S.device source.old).bytes }
     ensures ahead { IsTrue (S.device source.old).honest →
         ExtractsAhead action (S.device source.old) (S.device source.new) out.old out.new }
     ensures untouched { KeepsOutput action (is_refused result) out.old out.new }
-    ensures failures { RisesIf (is_read result) (S.device source.old).failures (S.device source.new).failures }
     ensures faults { RisesIf (is_put result) out.old.faults out.new.faults }
     ensures not_making { is_of_making result ≡ false }
     ensures told { IsTrue (S.device source.old).honest →
@@ -45,7 +44,7 @@ pub(crate) fn run_legacy<S: Source, A: Allocator, W: Write>(
 /// Over an honest source, one that answers its bytes, and a writer that takes what it is given,
 /// exactly the outcome of the command is written and answered: all its text, its status or its
 /// first fault. `Fault::Read` comes exactly where a read failed, `Fault::Put` exactly where a write
-/// did; over an honest source what was written then is a front of that text. At every exit an
+/// did; over an honest source what was written then is a prefix of that text. At every exit an
 /// honest source was asked for at most `work` bytes, and the room has taken no memory. An
 /// extraction that is refused has written nothing. The faults that only `make` answers never come.
 pub fn run<S: Source, A: Allocator, W: Write>(
@@ -58,15 +57,18 @@ pub fn run<S: Source, A: Allocator, W: Write>(
         Stays (S.device source.old).failures (S.device source.new).failures →
         Stays out.old.faults out.new.faults →
         Meets result (outcome_of command.now.action (S.device source.old).bytes) out.old out.new }
-    ensures front { IsTrue (S.device source.old).honest →
-        AppendsFront out.old out.new (outcome_of command.now.action (S.device source.old).bytes).text }
+    ensures prefix { IsTrue (S.device source.old).honest →
+        AppendsPrefix out.old out.new (outcome_of command.now.action
+        (S.device source.old).bytes).text }
     ensures read { (S.device source.old).failures < 2 ^ 64 - 1 →
-        (result ≡ Err Fault.Read) ↔ ((S.device source.old).failures < (S.device source.new).failures) }
+        (result ≡ Err Fault.Read) ↔ ((S.device source.old).failures
+        < (S.device source.new).failures) }
     ensures put { out.old.faults < 2 ^ 64 - 1 →
         (result ≡ Err Fault.Put) ↔ (out.old.faults < out.new.faults) }
     ensures not_making { is_of_making result ≡ false }
     ensures asked { IsTrue (S.device source.old).honest →
-        (S.device source.new).asked ≤ (S.device source.old).asked + work command.now.action (S.device source.old).bytes }
+        (S.device source.new).asked ≤ (S.device source.old).asked + work command.now.action
+        (S.device source.old).bytes }
     ensures ahead { IsTrue (S.device source.old).honest →
         ExtractsAhead command.now.action (S.device source.old) (S.device source.new) out.old out.new }
     ensures untouched { KeepsOutput command.now.action (is_refused result) out.old out.new }

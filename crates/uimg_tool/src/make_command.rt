@@ -5,7 +5,7 @@ use uimg_legacy::Options;
 pub enum MakeCommand {
     /// A legacy image is built from files.
     Parts {
-        /// The fields of its header. `time` isn't looked at.
+        /// The fields of its header. `time` is not looked at.
         options: Options,
 
         /// The names of the files: at least one, and exactly one unless the type is multi or

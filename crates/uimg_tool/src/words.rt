@@ -1,16 +1,16 @@
+mod complaints;
 mod dumpimage;
+mod help_notes;
 mod mkimage;
 mod verify;
 
 use crate::command::Command;
 use clap::error::ErrorKind;
-use clap::{Arg, ArgAction};
+use clap::{Arg, ArgAction, ArgMatches};
+use complaints::complaint;
 pub use mkimage::MakeRequest;
 use std::alloc::{AllocError, Global};
 use thiserror::Error;
-
-// The code of the type flat_dt.
-const FLAT_DT: u8 = 8;
 
 /// What the words of a command line ask for.
 #[derive(Drop)]
@@ -20,6 +20,9 @@ pub enum Request<'a> {
 
     /// The making of an image.
     Make(MakeRequest<'a>),
+
+    /// Help or the version, which is this text.
+    Show(clap::Error),
 }
 
 /// A command on an image.
@@ -38,13 +41,9 @@ pub struct RunRequest<'a> {
 /// Why the words of a command line ask for nothing.
 #[derive(Debug, Drop, Error)]
 pub enum WordsFault {
-    /// Help or the version was asked for, and this is its text.
+    /// The words are not those of a command, as this text says.
     #[error("{0}")]
-    Shown(clap::Error),
-
-    /// The words aren't those of a command.
-    #[error("{0}")]
-    NoCommand(clap::Error),
+    NoCommand(String),
 
     /// There is no subcommand. The library of command lines tells this itself.
     #[error("no command")]
@@ -62,7 +61,7 @@ pub enum WordsFault {
     #[error("-d with -f")]
     DataWithSource,
 
-    /// A source, which can't be compiled yet.
+    /// A source, which cannot be compiled yet.
     #[error("-f is not there yet: image source cannot be compiled")]
     SourceNotYet,
 
@@ -74,27 +73,17 @@ pub enum WordsFault {
     #[error("flat_dt needs -f")]
     FlatDtNeedsSource,
 
-    /// A position isn't a decimal number of 32 bits, or an address no hexadecimal one.
+    /// A position is not a decimal number of 32 bits, or an address no hexadecimal one.
     #[error("bad number")]
     BadNumber,
 
-    /// SOURCE_DATE_EPOCH is set and isn't a decimal number of 32 bits.
+    /// SOURCE_DATE_EPOCH is set and is not a decimal number of 32 bits.
     #[error("bad SOURCE_DATE_EPOCH")]
     BadEpoch,
 
     /// Memory ran out.
     #[error("out of memory")]
     OutOfMemory,
-}
-
-impl From<clap::Error> for WordsFault {
-    fn from(error: clap::Error) -> WordsFault {
-        match error.kind() {
-            ErrorKind::DisplayHelp | ErrorKind::DisplayVersion => WordsFault::Shown(error),
-            ErrorKind::OutOfMemory => WordsFault::OutOfMemory,
-            _ => WordsFault::NoCommand(error),
-        }
-    }
 }
 
 impl From<AllocError> for WordsFault {
@@ -111,12 +100,33 @@ pub fn read_words<'a>(
     epoch: Option<&str>,
     now: u32,
 ) -> Result<Request<'a>, WordsFault> {
-    let matches = commands(alloc)?.try_get_matches_from(words)?;
+    match commands(alloc)?.try_get_matches_from(words) {
+        Ok(matches) => request_of(alloc, &matches, epoch, now),
+        Err(error) => without_matches(alloc, error),
+    }
+}
+
+fn request_of<'a>(
+    alloc: Global,
+    matches: &ArgMatches<'a>,
+    epoch: Option<&str>,
+    now: u32,
+) -> Result<Request<'a>, WordsFault> {
     match matches.subcommand() {
         Some(("dumpimage", own)) => Ok(Request::Run(dumpimage::request(own)?)),
         Some(("mkimage", own)) => mkimage::request(alloc, own, epoch, now),
         Some((_, own)) => Ok(Request::Run(verify::request(own))),
         None => Err(WordsFault::NoSubcommand),
+    }
+}
+
+// What the library of command lines answers where it finds no command: help and the version were
+// asked for, and all else is a fault.
+fn without_matches<'a>(alloc: Global, error: clap::Error) -> Result<Request<'a>, WordsFault> {
+    match error.kind() {
+        ErrorKind::DisplayHelp | ErrorKind::DisplayVersion => Ok(Request::Show(error)),
+        ErrorKind::OutOfMemory => Err(WordsFault::OutOfMemory),
+        _ => Err(WordsFault::NoCommand(complaint(alloc, &error)?)),
     }
 }
 

@@ -26,7 +26,7 @@ fn a_writer_fails_past_its_fuse(rt: HostRuntime) -> Result<(), Fail> {
     for bytes in 0..8u64 {
         let mut out = Out::new(FuseWriter::new(Vec::new(rt.alloc()), bytes));
         let first = out.put_all(b"abc");
-        let second = out.put_parts(&[b"de", b"", b"f"]);
+        let second = out.put_pieces(&[b"de", b"", b"f"]);
         assert_eq!(rt; first.is_ok(), bytes >= 3);
         assert_eq!(rt; second.is_ok(), bytes >= 6);
         let text = out.into_inner().into_inner();

@@ -1,7 +1,7 @@
 use crate::entries::{enter, keep, leave};
 use crate::keys::Key;
-use crate::places::place_of;
 use crate::roles::Role;
+use crate::slots::slot_of;
 use std::test::Fail;
 use uimg_base::Room;
 
@@ -32,7 +32,7 @@ fn entries_of_two_nodes(rt: HostRuntime) -> Result<(), Fail> {
     Ok(())
 }
 
-// Of two properties of one name the first is kept, and none of a key that the role doesn't have.
+// Of two properties of one name the first is kept, and none of a key that the role does not have.
 #[test]
 fn the_first_property_is_kept(rt: HostRuntime) -> Result<(), Fail> {
     let mut room = Room::new(rt.alloc());
@@ -69,6 +69,6 @@ fn places_of_keys(rt: HostRuntime) {
         (Role::Other, Key::Description, None),
     ];
     for (role, key, place) in places {
-        assert_eq!(rt; place_of(role, key), place);
+        assert_eq!(rt; slot_of(role, key), place);
     }
 }

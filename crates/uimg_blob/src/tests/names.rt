@@ -1,7 +1,6 @@
 use crate::Key;
 use crate::keys::key_named;
 use crate::labels::{Label, label_of};
-use crate::names::nul_in;
 
 #[test]
 fn keys_have_their_names(rt: HostRuntime) {
@@ -57,12 +56,4 @@ fn labels_of_names(rt: HostRuntime) {
     ] {
         assert_eq!(rt; label_of(name.as_bytes()), label);
     }
-}
-
-#[test]
-fn the_first_nul(rt: HostRuntime) {
-    assert_eq!(rt; nul_in(b""), None);
-    assert_eq!(rt; nul_in(b"abc"), None);
-    assert_eq!(rt; nul_in(b"\0abc"), Some(0));
-    assert_eq!(rt; nul_in(b"abc\0\0"), Some(3));
 }

@@ -4,23 +4,23 @@ ghost use Rattle.uimg_blob.specs.Extents.{IsInside};
 use super::images::{MIXED_VALUES, PROPERTY_AFTER_CHILD};
 use crate::extent::{Extent, read_extent};
 use crate::labels::Label;
-use crate::tokens::{Seen, see};
+use crate::tokens::{ReadToken, read_token};
 use crate::{BlobFault, Key};
 use std::alloc::Global;
 use uimg_base::{FuseSource, MemSource, Room, Source};
 
-// What is seen at a place of a blob, if its header is right.
-fn seen_at(alloc: Global, blob: &[u8], at: u64) -> Option<Seen>
+// What is read at a place of a blob, if its header is right.
+fn seen_at(alloc: Global, blob: &[u8], at: u64) -> Option<ReadToken>
     requires { at < 2 ^ 40 }
 {
     let mut source = MemSource::new(blob);
     let extent = read_extent(&mut source).ok()?;
     let mut room = Room::new(alloc);
-    see(&mut source, &mut room, extent, at).ok()
+    read_token(&mut source, &mut room, extent, at).ok()
 }
 
-// What is seen at a place of mixed-values with another word at another place.
-fn changed(alloc: Global, word_at: usize, word: u32, at: u64) -> Option<Seen>
+// What is read at a place of mixed-values with another word at another place.
+fn changed(alloc: Global, word_at: usize, word: u32, at: u64) -> Option<ReadToken>
     requires within { word_at + 4 ≤ 112 }
     requires place { at < 2 ^ 40 }
 {
@@ -32,37 +32,40 @@ fn changed(alloc: Global, word_at: usize, word: u32, at: u64) -> Option<Seen>
 #[test]
 fn mixed_values(rt: HostRuntime) {
     let alloc = rt.alloc();
-    let root = Seen::Begin {
+    let root = ReadToken::BeginNode {
         length: 0,
         label: Label::Other,
     };
-    let values = Seen::Prop {
+    let values = ReadToken::Prop {
         length: 12,
         key: None,
     };
-    let empty = Seen::Prop {
+    let empty = ReadToken::Prop {
         length: 0,
         key: None,
     };
     assert_eq!(rt; seen_at(alloc, &MIXED_VALUES, 56), Some(root));
     assert_eq!(rt; seen_at(alloc, &MIXED_VALUES, 64), Some(values));
     assert_eq!(rt; seen_at(alloc, &MIXED_VALUES, 88), Some(empty));
-    assert_eq!(rt; seen_at(alloc, &MIXED_VALUES, 100), Some(Seen::EndNode));
-    assert_eq!(rt; seen_at(alloc, &MIXED_VALUES, 104), Some(Seen::Last));
+    assert_eq!(rt;
+        seen_at(alloc, &MIXED_VALUES, 100),
+        Some(ReadToken::EndNode)
+    );
+    assert_eq!(rt; seen_at(alloc, &MIXED_VALUES, 104), Some(ReadToken::End));
 }
 
 #[test]
 fn property_after_child_blob(rt: HostRuntime) {
     let alloc = rt.alloc();
-    let root = Seen::Begin {
+    let root = ReadToken::BeginNode {
         length: 0,
         label: Label::Other,
     };
-    let child = Seen::Begin {
+    let child = ReadToken::BeginNode {
         length: 1,
         label: Label::Other,
     };
-    let late = Seen::Prop {
+    let late = ReadToken::Prop {
         length: 0,
         key: Some(Key::Data),
     };
@@ -70,21 +73,21 @@ fn property_after_child_blob(rt: HostRuntime) {
     assert_eq!(rt; seen_at(alloc, &PROPERTY_AFTER_CHILD, 64), Some(child));
     assert_eq!(rt;
         seen_at(alloc, &PROPERTY_AFTER_CHILD, 72),
-        Some(Seen::EndNode)
+        Some(ReadToken::EndNode)
     );
     assert_eq!(rt; seen_at(alloc, &PROPERTY_AFTER_CHILD, 76), Some(late));
     let mut blob = PROPERTY_AFTER_CHILD;
     blob[76..88].copy_from_slice(&[0, 0, 0, 4, 0, 0, 0, 2, 0, 0, 0, 9]);
-    assert_eq!(rt; seen_at(alloc, &blob, 76), Some(Seen::Nop));
-    assert_eq!(rt; seen_at(alloc, &blob, 80), Some(Seen::EndNode));
-    assert_eq!(rt; seen_at(alloc, &blob, 84), Some(Seen::Last));
+    assert_eq!(rt; seen_at(alloc, &blob, 76), Some(ReadToken::Nop));
+    assert_eq!(rt; seen_at(alloc, &blob, 80), Some(ReadToken::EndNode));
+    assert_eq!(rt; seen_at(alloc, &blob, 84), Some(ReadToken::End));
 }
 
 #[test]
 fn no_tokens(rt: HostRuntime) {
     let alloc = rt.alloc();
-    let bad = Some(Seen::Stray(BlobFault::BadToken));
-    let cut = Some(Seen::Stray(BlobFault::Truncated));
+    let bad = Some(ReadToken::Stray(BlobFault::BadToken));
+    let cut = Some(ReadToken::Stray(BlobFault::Truncated));
     assert_eq!(rt; changed(alloc, 56, 0, 56), bad);
     assert_eq!(rt; changed(alloc, 56, 5, 56), bad);
     assert_eq!(rt; changed(alloc, 56, 0x01000000, 56), bad);
@@ -96,11 +99,11 @@ fn no_tokens(rt: HostRuntime) {
 #[test]
 fn values_at_the_edge(rt: HostRuntime) {
     let alloc = rt.alloc();
-    let last = Seen::Prop {
+    let last = ReadToken::Prop {
         length: 32,
         key: None,
     };
-    let cut = Some(Seen::BadProp(BlobFault::Truncated));
+    let cut = Some(ReadToken::BadProp(BlobFault::Truncated));
     assert_eq!(rt; changed(alloc, 68, 32, 64), Some(last));
     assert_eq!(rt; changed(alloc, 68, 33, 64), cut);
     assert_eq!(rt; changed(alloc, 68, 0xffffffff, 64), cut);
@@ -110,19 +113,19 @@ fn values_at_the_edge(rt: HostRuntime) {
 #[test]
 fn names_among_the_strings(rt: HostRuntime) {
     let alloc = rt.alloc();
-    let nameless = Seen::Prop {
+    let nameless = ReadToken::Prop {
         length: 12,
         key: None,
     };
-    let outside = Some(Seen::BadProp(BlobFault::BadPropertyName));
+    let outside = Some(ReadToken::BadProp(BlobFault::BadPropertyName));
     assert_eq!(rt; changed(alloc, 72, 3, 64), Some(nameless));
     assert_eq!(rt; changed(alloc, 72, 4, 64), outside);
     assert_eq!(rt; changed(alloc, 72, 0xffffffff, 64), outside);
     assert_eq!(rt; changed(alloc, 108, 0x76007878, 88), outside);
 }
 
-// What is seen of a node whose name has so many bytes, in a block that ends there.
-fn node_of(alloc: Global, length: usize, structure_end: u64) -> Option<Seen>
+// What is read of a node whose name has so many bytes, in a block that ends there.
+fn node_of(alloc: Global, length: usize, structure_end: u64) -> Option<ReadToken>
     requires length { length < 260 }
     requires end { structure_end ≤ 264 }
 {
@@ -136,11 +139,11 @@ fn node_of(alloc: Global, length: usize, structure_end: u64) -> Option<Seen>
         strings: 264,
         strings_size: 0,
     };
-    see(&mut MemSource::new(&blob), &mut Room::new(alloc), extent, 0).ok()
+    read_token(&mut MemSource::new(&blob), &mut Room::new(alloc), extent, 0).ok()
 }
 
-// What is seen of a property whose name has so many bytes.
-fn property_of(alloc: Global, length: usize) -> Option<Seen>
+// What is read of a property whose name has so many bytes.
+fn property_of(alloc: Global, length: usize) -> Option<ReadToken>
     requires { length < 260 }
 {
     let mut blob = [b'n'; 272];
@@ -153,13 +156,13 @@ fn property_of(alloc: Global, length: usize) -> Option<Seen>
         strings: 12,
         strings_size: 260,
     };
-    see(&mut MemSource::new(&blob), &mut Room::new(alloc), extent, 0).ok()
+    read_token(&mut MemSource::new(&blob), &mut Room::new(alloc), extent, 0).ok()
 }
 
 #[test]
 fn long_name(rt: HostRuntime) {
     let alloc = rt.alloc();
-    let longest = Seen::Begin {
+    let longest = ReadToken::BeginNode {
         length: 255,
         label: Label::Other,
     };
@@ -167,25 +170,25 @@ fn long_name(rt: HostRuntime) {
     assert_eq!(rt; node_of(alloc, 255, 260), Some(longest));
     assert_eq!(rt;
         node_of(alloc, 255, 259),
-        Some(Seen::BadBegin(BlobFault::Truncated))
+        Some(ReadToken::BadBeginNode(BlobFault::Truncated))
     );
     assert_eq!(rt;
         node_of(alloc, 256, 264),
-        Some(Seen::BadBegin(BlobFault::BadNodeName))
+        Some(ReadToken::BadBeginNode(BlobFault::BadNodeName))
     );
 }
 
 #[test]
 fn long_property_name(rt: HostRuntime) {
     let alloc = rt.alloc();
-    let longest = Seen::Prop {
+    let longest = ReadToken::Prop {
         length: 0,
         key: None,
     };
     assert_eq!(rt; property_of(alloc, 255), Some(longest));
     assert_eq!(rt;
         property_of(alloc, 256),
-        Some(Seen::BadProp(BlobFault::BadPropertyName))
+        Some(ReadToken::BadProp(BlobFault::BadPropertyName))
     );
 }
 
@@ -196,14 +199,14 @@ fn no_value_is_read(rt: HostRuntime) {
     assert!(rt; extent.is_ok());
     if let Ok(extent) = extent {
         let mut room = Room::new(rt.alloc());
-        assert!(rt; see(&mut source, &mut room, extent, 64).is_ok());
+        assert!(rt; read_token(&mut source, &mut room, extent, 64).is_ok());
         assert_eq!(rt; source.asked(), 40 + 4 + 8 + 4);
     }
 }
 
-// What is seen at a place of mixed-values by a source that lets so many calls through, and its
+// What is read at a place of mixed-values by a source that lets so many calls through, and its
 // failures.
-fn seen_until(alloc: Global, calls: u64, at: u64) -> (Option<Seen>, u64)
+fn read_until(alloc: Global, calls: u64, at: u64) -> (Option<ReadToken>, u64)
     requires { at < 2 ^ 40 }
 {
     let mut source = FuseSource::new(MemSource::new(&MIXED_VALUES), calls);
@@ -214,8 +217,8 @@ fn seen_until(alloc: Global, calls: u64, at: u64) -> (Option<Seen>, u64)
         strings: 108,
         strings_size: 4,
     };
-    let seen = see(&mut source, &mut Room::new(alloc), extent, at).ok();
-    (seen, source.failures())
+    let token = read_token(&mut source, &mut Room::new(alloc), extent, at).ok();
+    (token, source.failures())
 }
 
 #[test]
@@ -223,14 +226,14 @@ fn reads_of_a_token_fail(rt: HostRuntime) {
     let alloc = rt.alloc();
     for (at, reads) in [(56, 2), (64, 3), (100, 1), (104, 1)] {
         for calls in 0..reads {
-            assert_eq!(rt; seen_until(alloc, calls, at), (None, 1));
+            assert_eq!(rt; read_until(alloc, calls, at), (None, 1));
         }
-        let (seen, failures) = seen_until(alloc, reads, at);
-        assert!(rt; seen.is_some());
+        let (token, failures) = read_until(alloc, reads, at);
+        assert!(rt; token.is_some());
         assert_eq!(rt; failures, 0);
     }
     assert_eq!(rt;
-        seen_until(alloc, 0, 108),
-        (Some(Seen::Stray(BlobFault::Truncated)), 0)
+        read_until(alloc, 0, 108),
+        (Some(ReadToken::Stray(BlobFault::Truncated)), 0)
     );
 }

@@ -1,6 +1,6 @@
 use super::commands::{Command, answer};
-use super::images::{ABC_KERNEL, THREE_PART_MULTI};
 use super::zeros::ZeroSource;
+use crate::samples::{ABC_KERNEL, THREE_PART_MULTI};
 use crate::{Fault, LegacyFault, Options, build, has_parts, name_field};
 use std::alloc::Global;
 use std::io::Write;
@@ -20,7 +20,7 @@ fn kernel() -> Options {
     }
 }
 
-// The options of an image of three components.
+// The options of an image of three parts.
 fn multi() -> Options {
     Options {
         time: 0,
@@ -79,7 +79,7 @@ fn three_part_multi(rt: HostRuntime) {
     assert_eq!(rt; image.as_slice(), THREE_PART_MULTI.as_slice());
 }
 
-// A part of a component type that has no byte is refused; a file of none is an image.
+// A part of a part type that has no byte is refused; a file of none is an image.
 #[test]
 fn empty_parts(rt: HostRuntime) {
     let alloc = rt.alloc();
@@ -128,7 +128,7 @@ fn too_large_parts(rt: HostRuntime) {
     assert_eq!(rt; end, Err(Fault::Legacy(LegacyFault::EmptyPart)));
 }
 
-// Where the k-th call of a part fails, that is answered, and a front of the image was written.
+// Where the k-th call of a part fails, that is answered, and a prefix of the image was written.
 #[test]
 fn part_fails_k(rt: HostRuntime) {
     let alloc = rt.alloc();
@@ -137,7 +137,7 @@ fn part_fails_k(rt: HostRuntime) {
     }
 }
 
-// Whether each failing call of a part is answered, up to a part that doesn't fail.
+// Whether each failing call of a part is answered, up to a part that does not fail.
 fn fails_each(alloc: Global, turn: usize) -> bool {
     for k in 0..40u64 {
         let [first, second, third] = three_parts();

@@ -1,5 +1,5 @@
 use super::commands::{Command, answer, run};
-use super::images::{ABC_KERNEL, NO_TABLE_END, PART_OUTSIDE, SIZE_TOO_LARGE, THREE_PART_MULTI};
+use crate::samples::{ABC_KERNEL, NO_TABLE_END, PART_OUTSIDE, SIZE_TOO_LARGE, THREE_PART_MULTI};
 use crate::{Fault, LegacyFault};
 use std::alloc::Global;
 use uimg_base::{MemSource, Out, Room, Source, Status};

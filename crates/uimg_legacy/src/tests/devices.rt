@@ -1,6 +1,6 @@
 use super::commands::{Command, answer, run};
-use super::images::{ABC_KERNEL, THREE_PART_MULTI};
 use crate::Fault;
+use crate::samples::{ABC_KERNEL, THREE_PART_MULTI};
 use std::alloc::Global;
 use uimg_base::{FuseSource, FuseWriter, MemSource, Out, Room, Source, Status};
 
@@ -44,7 +44,7 @@ fn writer_takes_n(rt: HostRuntime) {
     assert_eq!(rt; text.len(), 232);
 }
 
-// Where the k-th call of the source fails, the command answers that, and a front was written.
+// Where the k-th call of the source fails, the command answers that, and a prefix was written.
 #[test]
 fn read_fails_k(rt: HostRuntime) {
     let alloc = rt.alloc();
@@ -86,7 +86,7 @@ fn takes_each(alloc: Global, command: Command, image: &[u8]) -> bool {
     false
 }
 
-// Whether each source that fails is answered by that, up to one that doesn't fail.
+// Whether each source that fails is answered by that, up to one that does not fail.
 fn fails_each(alloc: Global, command: Command, image: &[u8]) -> bool {
     let (whole_end, whole) = answer(alloc, command, image);
     for k in 0..40u64 {

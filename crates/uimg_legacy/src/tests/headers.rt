@@ -1,4 +1,4 @@
-use super::images::ABC_KERNEL;
+use crate::samples::ABC_KERNEL;
 use crate::{Fault, Header, LegacyFault, header_bytes, name_field, read_header};
 use std::test::Fail;
 use uimg_base::MemSource;

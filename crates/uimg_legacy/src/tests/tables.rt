@@ -4,8 +4,8 @@ use std::alloc::Global;
 use std::test::Fail;
 use uimg_base::{MemSource, Out, Room, Source, Status, crc_of};
 
-// A multi image of 5000 components of a byte each, in four but for the last: the remainder of the
-// component's number by 251.
+// A multi image of 5000 parts of a byte each, in four but for the last: the remainder of the
+// part's number by 251.
 fn long_table(alloc: Global) -> Result<Vec<u8>, Fail> {
     let mut data = Vec::new(alloc);
     for _ in 0..5000 {

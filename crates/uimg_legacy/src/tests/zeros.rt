@@ -3,7 +3,7 @@ ghost use Rattle.uimg_base.specs.Zeros.{zeros, zeros_short};
 
 use uimg_base::{Source, SourceFault};
 
-/// So many zeros, that take no memory. It isn't claimed to be honest.
+/// So many zeros, that take no memory. It is not claimed to be honest.
 #[derive(Drop)]
 pub struct ZeroSource {
     length: u64,

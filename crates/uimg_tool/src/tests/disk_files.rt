@@ -43,7 +43,7 @@ fn names_of_a_folder(rt: HostRuntime) -> Result<(), Fail> {
     Ok(())
 }
 
-// A name that begins with a slash isn't looked for in the folder.
+// A name that begins with a slash is not looked for in the folder.
 #[test]
 fn names_from_the_root(rt: HostRuntime) -> Result<(), Fail> {
     for folder in ["", "none", "/none"] {

@@ -120,8 +120,8 @@ fn is_whole(image: &Option<Vec<u8>>) -> bool {
     }
 }
 
-// A file that was never written is a front too.
-fn is_front(image: &Option<Vec<u8>>) -> bool {
+// A file that was never written is a prefix too.
+fn is_prefix(image: &Option<Vec<u8>>) -> bool {
     match image {
         Some(bytes) => THREE_PART_MULTI.as_slice().starts_with(bytes),
         None => true,
@@ -150,7 +150,7 @@ fn refused_opens(rt: HostRuntime) -> Result<(), Fail> {
     Ok(())
 }
 
-// Each call of each part fails in turn: nothing is listed, and the file is a front of the image.
+// Each call of each part fails in turn: nothing is listed, and the file is a prefix of the image.
 #[test]
 fn failing_reads(rt: HostRuntime) -> Result<(), Fail> {
     let path = "failing_reads.img";
@@ -177,7 +177,7 @@ fn failing_reads(rt: HostRuntime) -> Result<(), Fail> {
             }
             assert_eq!(rt; fault, Some(Fault::Read));
             assert_eq!(rt; listed.len(), 0);
-            assert!(rt; is_front(&image));
+            assert!(rt; is_prefix(&image));
         }
         assert!(rt; ended);
     }
@@ -204,7 +204,7 @@ fn failing_shelves(rt: HostRuntime) -> Result<(), Fail> {
     Ok(())
 }
 
-// The kernel of abc on a shelf that takes all its bytes and can't be read back.
+// The kernel of abc on a shelf that takes all its bytes and cannot be read back.
 #[test]
 fn growth_fails_in_keep(rt: HostRuntime) -> Result<(), Fail> {
     let words = [

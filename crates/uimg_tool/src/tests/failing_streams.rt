@@ -32,8 +32,8 @@ fn writer_takes_20(rt: HostRuntime) -> Result<(), Fail> {
     let path = "takes_20.img";
     fs::write(&rt, path, ABC_KERNEL.as_slice())?;
     let words = ["uimg", "dumpimage", "-l", path];
-    let front = "Image Name:   012345";
-    expect_cut(&rt, &words, (20, 100), 3, front, "uimg: write failed\n")?;
+    let prefix = "Image Name:   012345";
+    expect_cut(&rt, &words, (20, 100), 3, prefix, "uimg: write failed\n")?;
     fs::remove_file(&rt, path)?;
     Ok(())
 }

@@ -36,6 +36,27 @@ Options:
   -p <position>  With -f and -E: place the data at this position, hexadecimal
   -l             List the image, and make none
   -h, --help     Print help
+
+Short names:
+  <arch>  arm x86 mips mips64 ppc powerpc sandbox arm64 x86_64 riscv
+  <os>    netbsd linux vxworks qnx u-boot rtems plan9 arm-trusted-firmware tee
+          opensbi efi
+  <type>  standalone kernel ramdisk multi firmware script filesystem
+          flat_dt (not for -d) kernel_noload
+  <comp>  none gzip bzip2 lzma lzo lz4 zstd
+
+A value that begins with '-' stands right behind its option, as in -n-x.
+FIT images are not made or read yet: -l answers 'L2 bad magic' for one.
+
+Examples:
+  uimg mkimage -A arm64 -C none -a 80000 -n 'kernel 6.1' -d Image uImage
+  uimg mkimage -A arm -T multi -d zImage:initrd.gz multi.img
+
+Exit status:
+  0  The image was made, or listed
+  1  The image or a part is refused
+  2  The command line is wrong
+  3  A file cannot be opened, or a read, a write or memory failed
 ";
 
 const DUMPIMAGE_HELP: &str = "List an image, or extract a part of it
@@ -47,10 +68,28 @@ Arguments:
 
 Options:
   -l             List the image on standard output
-  -T <type>      Read the image as one of this type
+  -T <type>      Ask for a legacy image, by any of the short names below
   -p <position>  Extract the part of this number, counted from 0
   -o <outfile>   Write the extracted part to this file
   -h, --help     Print help
+
+Short names:
+  <type>  standalone kernel ramdisk multi firmware script filesystem
+          kernel_noload
+
+Each of them asks for a legacy image, whatever type its header has.
+FIT images, for which flat_dt will ask, are not read yet: 'L2 bad magic' is
+answered for one.
+
+Examples:
+  uimg dumpimage -l uImage
+  uimg dumpimage -p 1 -o initrd.gz multi.img
+
+Exit status:
+  0  The image was listed, or the part extracted
+  1  The image or the part is refused
+  2  The command line is wrong
+  3  A file cannot be opened, or a read, a write or memory failed
 ";
 
 const VERIFY_HELP: &str = "Check every checksum of an image, and report each
@@ -62,6 +101,20 @@ Arguments:
 
 Options:
   -h, --help  Print help
+
+The checksums are those of the header and of the data. The table of sizes of
+the types multi and script is not checked: dumpimage -l reads it.
+FIT images are not read yet: 'L2 bad magic' is answered for one.
+
+Examples:
+  uimg verify uImage
+  uimg verify uImage && cp uImage /boot
+
+Exit status:
+  0  Both checksums are right
+  1  A checksum is not right, or the image is refused
+  2  The command line is wrong
+  3  A file cannot be opened, or a read, a write or memory failed
 ";
 
 #[test]

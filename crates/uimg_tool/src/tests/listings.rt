@@ -95,7 +95,7 @@ Entry Point:  00000000
     )
 }
 
-// The refusal comes before the line of the component that it is about.
+// The refusal comes before the line of the part that it is about.
 #[test]
 fn part_outside(rt: HostRuntime) -> Result<(), Fail> {
     let listing = "Image Name:   

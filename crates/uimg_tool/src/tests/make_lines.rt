@@ -99,7 +99,7 @@ fn bad_epochs(rt: HostRuntime) -> Result<(), Fail> {
     Ok(())
 }
 
-// With a source the options of a legacy image aren't checked.
+// With a source the options of a legacy image are not checked.
 #[test]
 fn a_source(rt: HostRuntime) -> Result<(), Fail> {
     let lines: [&[&str]; 3] = [

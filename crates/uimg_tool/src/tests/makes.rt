@@ -188,6 +188,21 @@ fn codes_by_their_names(rt: HostRuntime) -> Result<(), Fail> {
     Ok(())
 }
 
+// A value that begins with `-` stands right behind its option, or behind a `=` there.
+#[test]
+fn names_that_begin_with_a_dash(rt: HostRuntime) -> Result<(), Fail> {
+    for (option, name) in [
+        ("-n-x", *b"-x\0"),
+        ("-n=-x", *b"-x\0"),
+        ("-n--", *b"--\0"),
+        ("-n==x", *b"=x\0"),
+    ] {
+        let image = made(&rt, "make_dash", None, 0, &[option])?;
+        assert_eq!(rt; image.get(32..35), Some(name.as_slice()), "{option}");
+    }
+    Ok(())
+}
+
 // The entry point is the load address unless it is given.
 #[test]
 fn addresses(rt: HostRuntime) -> Result<(), Fail> {
@@ -232,7 +247,7 @@ fn times(rt: HostRuntime) -> Result<(), Fail> {
     Ok(())
 }
 
-// The placement of a FIT's data has no effect with -d, and its number isn't checked.
+// The placement of a FIT's data has no effect with -d, and its number is not checked.
 #[test]
 fn options_without_effect(rt: HostRuntime) -> Result<(), Fail> {
     let plain = made(&rt, "make_plain", None, 0, &[])?;

@@ -98,3 +98,47 @@ fn no_commands(rt: HostRuntime) -> Result<(), Fail> {
     }
     Ok(())
 }
+
+// The tip of the library of command lines to put such a word behind a `--` is left out: a word there
+// is the image, and never the value of an option.
+#[test]
+fn values_that_begin_with_a_dash(rt: HostRuntime) -> Result<(), Fail> {
+    let text = "error: unexpected argument '-x' found
+
+Usage: uimg mkimage [OPTIONS] <image>
+
+For more information, try '--help'.
+";
+    let words = ["mkimage", "-n", "-x", "-d", "none.bin", "none.img"];
+    expect(&rt, &words, 2, "", text)?;
+    let text = "error: unexpected argument '--xy' found
+
+Usage: uimg verify <image>
+
+For more information, try '--help'.
+";
+    expect(&rt, &["verify", "--xy", "none.img"], 2, "", text)
+}
+
+// A tip that helps is kept.
+#[test]
+fn names_that_are_nearly_right(rt: HostRuntime) -> Result<(), Fail> {
+    let text = "error: unexpected argument '--hepl' found
+
+  tip: a similar argument exists: '--help'
+
+Usage: uimg verify --help <image>
+
+For more information, try '--help'.
+";
+    expect(&rt, &["verify", "--hepl", "none.img"], 2, "", text)?;
+    let text = "error: unrecognized subcommand 'verfy'
+
+  tip: a similar subcommand exists: 'verify'
+
+Usage: uimg <COMMAND>
+
+For more information, try '--help'.
+";
+    expect(&rt, &["verfy", "none.img"], 2, "", text)
+}

@@ -1,15 +1,22 @@
-use super::{FLAT_DT, RunRequest, WordsFault, flag, image, value};
+use super::help_notes::DUMPIMAGE_NOTES;
+use super::{RunRequest, WordsFault, flag, image, value};
 use crate::command::{Action, Command, Form};
-use crate::numbers::decimal;
+use crate::number_words::decimal;
 use clap::ArgMatches;
 use std::alloc::{AllocError, Global};
-use uimg_base::kind_code;
+use uimg_base::{FLAT_DT, kind_code};
 
 pub(super) fn command<'a>(alloc: Global) -> Result<clap::Command<'a>, AllocError> {
     clap::Command::new(alloc, "dumpimage")
         .about("List an image, or extract a part of it")
+        .after_help(DUMPIMAGE_NOTES)
         .arg(flag(alloc, "list", 'l', "List the image on standard output"))?
-        .arg(value(alloc, "type", 'T', "Read the image as one of this type"))?
+        .arg(value(
+            alloc,
+            "type",
+            'T',
+            "Ask for a legacy image, by any of the short names below",
+        ))?
         .arg(value(
             alloc,
             "position",
@@ -47,7 +54,7 @@ pub(super) fn request<'a>(matches: &ArgMatches<'a>) -> Result<RunRequest<'a>, Wo
     })
 }
 
-// The format of an image type's short name. FIT images, which flat_dt asks for, aren't read yet.
+// The format of an image type's short name. FIT images, which flat_dt asks for, are not read yet.
 fn form_named(name: &str) -> Result<Form, WordsFault> {
     match kind_code(name.as_bytes()) {
         Some(FLAT_DT) | None => Err(WordsFault::UnknownName),

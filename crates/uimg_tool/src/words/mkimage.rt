@@ -2,13 +2,14 @@ ghost use Rattle.std.specs.Prelude.{◌≡◌, ◌≢◌, false, length, IfOk};
 ghost use Rattle.uimg_legacy.specs.Parts.{has_parts};
 ghost use Rattle.uimg_tool.specs.Making.{FitNames, options_of, names_of};
 
-use super::{FLAT_DT, Request, RunRequest, WordsFault, flag, image, value};
+use super::help_notes::MKIMAGE_NOTES;
+use super::{Request, RunRequest, WordsFault, flag, image, value};
 use crate::command::{Action, Command, Form};
 use crate::make_command::MakeCommand;
-use crate::numbers::{decimal, hexadecimal};
+use crate::number_words::{decimal, hexadecimal};
 use clap::ArgMatches;
 use std::alloc::{AllocError, Global};
-use uimg_base::{arch_code, comp_code, kind_code, os_code};
+use uimg_base::{FLAT_DT, arch_code, comp_code, kind_code, os_code};
 use uimg_legacy::{Options, has_parts, name_field};
 
 /// The making of an image.
@@ -27,9 +28,9 @@ pub struct MakeRequest<'a> {
 }
 
 pub(super) fn command<'a>(alloc: Global) -> Result<clap::Command<'a>, AllocError> {
-    let command = clap::Command::new(alloc, "mkimage").about(
-        "Make an image from files, or list one",
-    );
+    let command = clap::Command::new(alloc, "mkimage")
+        .about("Make an image from files, or list one")
+        .after_help(MKIMAGE_NOTES);
     let command = header_options(alloc, command)?;
     let command = source_options(alloc, command)?;
     command
@@ -123,13 +124,13 @@ pub(super) fn request<'a>(
         (Some(data), None) => {
             let options = options(matches)?;
             let time = time(epoch, now)?;
-            Ok(Request::Make(make_request(alloc, options, data, time, image)?))
+            Ok(Request::Make(parts_request(alloc, options, data, time, image)?))
         }
     }
 }
 
 // The making of an image from the files of the word of -d.
-fn make_request<'a>(
+fn parts_request<'a>(
     alloc: Global,
     options: Options,
     data: &str,

@@ -1,3 +1,4 @@
+use super::help_notes::VERIFY_NOTES;
 use super::{RunRequest, image};
 use crate::command::{Action, Command, Form};
 use clap::ArgMatches;
@@ -6,6 +7,7 @@ use std::alloc::{AllocError, Global};
 pub(super) fn command<'a>(alloc: Global) -> Result<clap::Command<'a>, AllocError> {
     clap::Command::new(alloc, "verify")
         .about("Check every checksum of an image, and report each")
+        .after_help(VERIFY_NOTES)
         .arg(image(alloc, "The image"))
 }
 

@@ -8,5 +8,5 @@ loop-at-preserved g c =
     let few : c.in-Ok.count ≤ length xs - c.loop-at.at = omega (arith, simp (length-take, length-drop) at c.in-Ok.ensures.bound) in
     record {
       bound = omega arith;
-      front = Appends-next _ _ _ xs _ _ few c.loop-at.invariant.front c.in-Ok.ensures.bytes;
+      prefix = Appends-next _ _ _ xs _ _ few c.loop-at.invariant.prefix c.in-Ok.ensures.bytes;
     }

@@ -1,5 +1,6 @@
 use Rattle.std.proofs.Common.{◌≡◌, ◌≤◌, ◌-◌, IsTrue}
-use Rattle.uimg_base.specs.Device.{part, SameDevice, asked_more}
+use Rattle.uimg_base.specs.Device.{SameDevice, asked_more}
+use Rattle.uimg_texts.specs.Slices.{slice}
 use Rattle.uimg_base.specs.Sink.{AppendsAll}
 use Rattle.uimg_base.proofs.ranges.copy_through.Given as goal
 
@@ -13,7 +14,7 @@ invariant-loop-done g l =
       asked : (device l.source).asked ≡ asked_more (device l.fn.source).asked l.done;
       failures : (device l.source).failures ≡ (device l.fn.source).failures;
       faults : l.out.faults ≡ l.fn.out.faults;
-      front : IsTrue (device l.fn.source).honest → AppendsAll l.fn.out l.out (part (device l.fn.source).bytes l.at l.done);
+      prefix : IsTrue (device l.fn.source).honest → AppendsAll l.fn.out l.out (slice (device l.fn.source).bytes l.at l.done);
     }
 
 abbrev pub decreases-loop-done : goal.decreases-loop-done

@@ -1,6 +1,6 @@
 use Rattle.std.proofs.Common.{◌≡◌, ◌+◌, ◌∙◌, ◌++◌, IsTrue, subst, sym, ap, arith, ℕ, List, Bool, append-nil, append_assoc, refl}
-use Rattle.uimg_base.specs.Device.{part}
-use Rattle.uimg_base.proofs.Parts.{part-add}
+use Rattle.uimg_texts.specs.Slices.{slice}
+use Rattle.uimg_base.proofs.Slices.{slice-add}
 use Rattle.uimg_base.proofs.ranges.feed_through.Goals as goal
 
 pub loop-done-init : goal.loop-done-init
@@ -22,19 +22,19 @@ loop-done-preserved g c =
     let next = c.min-next.result in
     record {
       bound = omega arith;
-      same = record { bytes = c.feed_window.ensures.same.bytes ∙ same.bytes; honest = c.feed_window.ensures.same.honest ∙ same.honest };
+      same = record { bytes = c.feed_window.ensures.uses.same.bytes ∙ same.bytes; honest = c.feed_window.ensures.uses.same.honest ∙ same.honest };
       asked = omega arith;
-      failures = omega (arith, c.in_ok-feed_window.ensures.failures);
+      failures = omega (arith, c.in_ok-feed_window.ensures.uses.failures);
       fed = λ honest before held.
           let now = subst (λ (b : Bool). IsTrue b) (sym same.honest) honest in
           let fed = c.in_ok-feed_window.ensures.fed now _ (c.loop-done.invariant.fed honest before held) in
-          let here = subst (λ (xs : List ℕ). g.M.Summer.holds c.feed_window.new.sum ((before ++ part bytes at done) ++ part xs (at + done) next)) same.bytes fed in
-          let joined : (before ++ part bytes at done) ++ part bytes (at + done) next ≡ before ++ part bytes at (done + next) =
-          append_assoc before (part bytes at done) (part bytes (at + done) next) ∙ ap (λ (w : List ℕ). before ++ w) (sym (part-add bytes at done next)) in
+          let here = subst (λ (xs : List ℕ). g.M.Summer.holds c.feed_window.new.sum ((before ++ slice bytes at done) ++ slice xs (at + done) next)) same.bytes fed in
+          let joined : (before ++ slice bytes at done) ++ slice bytes (at + done) next ≡ before ++ slice bytes at (done + next) =
+          append_assoc before (slice bytes at done) (slice bytes (at + done) next) ∙ ap (λ (w : List ℕ). before ++ w) (sym (slice-add bytes at done next)) in
           subst (λ (w : List ℕ). g.M.Summer.holds c.feed_window.new.sum w) joined here;
     }
 
 pub returns-clause-fed : goal.returns-clause-fed
 returns-clause-fed g c = λ honest before held.
     let all : c.loop-done.done ≡ c.args.len = omega arith in
-    subst (λ (n : ℕ). g.M.Summer.holds c.loop-done.sum (before ++ part (g.S.Source.device c.args.source.now).bytes c.args.at n)) all (c.loop-done.invariant.fed honest before held)
+    subst (λ (n : ℕ). g.M.Summer.holds c.loop-done.sum (before ++ slice (g.S.Source.device c.args.source.now).bytes c.args.at n)) all (c.loop-done.invariant.fed honest before held)

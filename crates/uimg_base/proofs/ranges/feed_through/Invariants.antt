@@ -1,5 +1,6 @@
 use Rattle.std.proofs.Common.{◌≡◌, ◌≤◌, ◌-◌, ◌++◌, ℕ, List, IsTrue}
-use Rattle.uimg_base.specs.Device.{part, SameDevice, asked_more}
+use Rattle.uimg_base.specs.Device.{SameDevice, asked_more}
+use Rattle.uimg_texts.specs.Slices.{slice}
 use Rattle.uimg_base.proofs.ranges.feed_through.Given as goal
 
 -- the first `done` bytes were asked for and fed
@@ -12,7 +13,7 @@ invariant-loop-done g l =
       asked : (device l.source).asked ≡ asked_more (device l.fn.source).asked l.done;
       failures : (device l.source).failures ≡ (device l.fn.source).failures;
       fed : IsTrue (device l.fn.source).honest → (before : List ℕ) → g.M.Summer.holds l.fn.sum before →
-          g.M.Summer.holds l.sum (before ++ part (device l.fn.source).bytes l.at l.done);
+          g.M.Summer.holds l.sum (before ++ slice (device l.fn.source).bytes l.at l.done);
     }
 
 abbrev pub decreases-loop-done : goal.decreases-loop-done

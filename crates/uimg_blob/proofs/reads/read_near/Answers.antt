@@ -1,7 +1,7 @@
 use Rattle.std.proofs.Common.{◌≡◌, ◌∙◌, ℕ, ◌-◌, length, take, min, length-take, ap, sym, arith}
 use Rattle.std.proofs.lemmas.List.{take-append-le, take_all}
-use Rattle.uimg_base.specs.Device.{part}
-use Rattle.uimg_blob.proofs.NumberLaws.{reach-part}
+use Rattle.uimg_texts.specs.Slices.{slice}
+use Rattle.uimg_blob.proofs.NumberLaws.{reach-slice}
 use Rattle.uimg_blob.proofs.reads.read_near.Goals as goal
 
 pub returns-clause-near : goal.returns-clause-near
@@ -11,5 +11,5 @@ returns-clause-near g c = λ honest.
     take-append-le _ c.fill_at.new.to _ (omega arith)
     ∙ take_all _ c.fill_at.new.to (omega arith)
     ∙ c.in_ok-fill_at.ensures.bytes honest
-    ∙ ap (λ (n : ℕ). part bytes c.args.at n) size
-    ∙ sym (reach-part bytes c.args.at c.args.end)
+    ∙ ap (λ (n : ℕ). slice bytes c.args.at n) size
+    ∙ sym (reach-slice bytes c.args.at c.args.end)

@@ -1,5 +1,5 @@
 use Rattle.std.proofs.Common.{◌≡◌, ◌∙◌, ap, refl, map, Ok}
-use Rattle.uimg_base.specs.Crc.{crc}
+use Rattle.uimg_sums.specs.Crc.{crc}
 use Rattle.uimg_legacy.specs.declared.header.Header.{Header}
 use Rattle.uimg_legacy.specs.Header.{spelled}
 use Rattle.uimg_legacy.specs.Parts.{has_parts}

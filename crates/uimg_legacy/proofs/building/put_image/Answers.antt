@@ -1,5 +1,5 @@
-use Rattle.uimg_base.proofs.SinkLaws.{front_then}
+use Rattle.uimg_base.proofs.WritingLaws.{written_then}
 use Rattle.uimg_legacy.proofs.building.put_image.Goals as goal
 
-pub returns-clause-front : goal.returns-clause-front
-returns-clause-front g c = λ honest. front_then _ _ _ _ _ c.in_ok-put_all.ensures.ok (c.put_data.ensures.front honest)
+pub returns-clause-written : goal.returns-clause-written
+returns-clause-written g c = λ honest. written_then _ _ _ _ _ _ c.in_ok-put_all.ensures.writes.all (c.put_data.ensures.written honest)

@@ -10,9 +10,9 @@ returns-clause-fed g c = λ honest.
     let device = g.S.Source.device in
     let bytes = bytes_of (map device c.args.parts.now) in
     let later = bytes_of (map device c.feed_table.new.parts) in
-    let now = honest_then (map device c.args.parts.now) (map device c.feed_table.new.parts) c.feed_table.ensures.same honest in
+    let now = honest_then (map device c.args.parts.now) (map device c.feed_table.new.parts) c.feed_table.ensures.uses.same honest in
     let held = g.M.Summer.holds c.feed_joined-2.new.sum in
     OnOk-then c.feed_joined-2.result _ _ (λ more fed before.
     let all : (fed ++ size_table bytes) ++ joined later ≡ fed ++ data_of c.args.has_parts bytes =
-    rw (c.if-not-has_parts.false, c.feed_table.ensures.same.bytes) (append_assoc fed (size_table bytes) (joined bytes)) in
+    rw (c.if-not-has_parts.false, c.feed_table.ensures.uses.same.bytes) (append_assoc fed (size_table bytes) (joined bytes)) in
     subst (λ (w : List ℕ). held w) all (more _ (c.in_ok-feed_table.ensures.fed fed before))) (c.feed_joined-2.ensures.fed now)

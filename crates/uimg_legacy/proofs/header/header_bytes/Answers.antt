@@ -1,5 +1,5 @@
 use Rattle.std.proofs.Common.{◌∙◌, ap, List, ℕ, arith}
-use Rattle.uimg_base.specs.Crc.{crc}
+use Rattle.uimg_sums.specs.Crc.{crc}
 use Rattle.uimg_legacy.proofs.HeaderLaws.{header-spelled}
 use Rattle.uimg_legacy.proofs.header.header_bytes.Goals as goal
 

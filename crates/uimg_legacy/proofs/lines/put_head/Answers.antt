@@ -1,24 +1,22 @@
-use Rattle.std.proofs.lemmas.Result.{on_ok_weaker}
-use Rattle.uimg_base.proofs.SinkLaws.{all_then, front_then, front_first}
+use Rattle.std.proofs.Common.{rules, ◌≡◌, true}
+use Rattle.std.specs.Prelude.{is_err}
+use Rattle.uimg_base.proofs.WritingLaws.{stops, ◌▷◌}
 use Rattle.uimg_legacy.proofs.lines.put_head.Goals as goal
 
-pub returns-in_err-put_name-clause-front : goal.returns-in_err-put_name-clause-front
-returns-in_err-put_name-clause-front g c = front_first _ _ _ _ (front_first _ _ _ _ (front_first _ _ _ _ (front_first _ _ _ _ (front_first _ _ _ _ c.in_err-put_name.ensures.front))))
+pub returns-in_err-put_type : goal.returns-in_err-put_type
+returns-in_err-put_type g c =
+    let failed : is_err c.from_residual-in_err-put_type.result ≡ true = search rules in
+    rw failed (stops _ _ _ _ (stops _ _ _ _ (stops _ _ _ _ (c.in_ok-put_name.ensures ▷ c.in_ok-put_time.ensures ▷ c.in_err-put_type.ensures))))
 
-pub returns-in_err-put_time-clause-front : goal.returns-in_err-put_time-clause-front
-returns-in_err-put_time-clause-front g c = front_first _ _ _ _ (front_first _ _ _ _ (front_first _ _ _ _ (front_first _ _ _ _ (front_then _ _ _ _ _ c.in_ok-put_name.ensures.ok c.in_err-put_time.ensures.front))))
+pub returns-in_err-put_data_size : goal.returns-in_err-put_data_size
+returns-in_err-put_data_size g c =
+    let failed : is_err c.from_residual-in_err-put_data_size.result ≡ true = search rules in
+    rw failed (stops _ _ _ _ (stops _ _ _ _ (c.in_ok-put_name.ensures ▷ c.in_ok-put_time.ensures ▷ c.in_ok-put_type.ensures ▷ c.in_err-put_data_size.ensures)))
 
-pub returns-in_err-put_type-clause-front : goal.returns-in_err-put_type-clause-front
-returns-in_err-put_type-clause-front g c = front_first _ _ _ _ (front_first _ _ _ _ (front_first _ _ _ _ (front_then _ _ _ _ _ (all_then _ _ _ _ _ c.in_ok-put_name.ensures.ok c.in_ok-put_time.ensures.ok) c.in_err-put_type.ensures.front)))
+pub returns-in_err-put_load : goal.returns-in_err-put_load
+returns-in_err-put_load g c =
+    let failed : is_err c.from_residual-in_err-put_load.result ≡ true = search rules in
+    rw failed (stops _ _ _ _ (c.in_ok-put_name.ensures ▷ c.in_ok-put_time.ensures ▷ c.in_ok-put_type.ensures ▷ c.in_ok-put_data_size.ensures ▷ c.in_err-put_load.ensures))
 
-pub returns-in_err-put_data_size-clause-front : goal.returns-in_err-put_data_size-clause-front
-returns-in_err-put_data_size-clause-front g c = front_first _ _ _ _ (front_first _ _ _ _ (front_then _ _ _ _ _ (all_then _ _ _ _ _ (all_then _ _ _ _ _ c.in_ok-put_name.ensures.ok c.in_ok-put_time.ensures.ok) c.in_ok-put_type.ensures.ok) c.in_err-put_data_size.ensures.front))
-
-pub returns-in_err-put_load-clause-front : goal.returns-in_err-put_load-clause-front
-returns-in_err-put_load-clause-front g c = front_first _ _ _ _ (front_then _ _ _ _ _ (all_then _ _ _ _ _ (all_then _ _ _ _ _ (all_then _ _ _ _ _ c.in_ok-put_name.ensures.ok c.in_ok-put_time.ensures.ok) c.in_ok-put_type.ensures.ok) c.in_ok-put_data_size.ensures.ok) c.in_err-put_load.ensures.front)
-
-pub returns-clause-ok : goal.returns-clause-ok
-returns-clause-ok g c = on_ok_weaker c.put_entry.result (λ last. all_then _ _ _ _ _ (all_then _ _ _ _ _ (all_then _ _ _ _ _ (all_then _ _ _ _ _ (all_then _ _ _ _ _ c.in_ok-put_name.ensures.ok c.in_ok-put_time.ensures.ok) c.in_ok-put_type.ensures.ok) c.in_ok-put_data_size.ensures.ok) c.in_ok-put_load.ensures.ok) last) c.put_entry.ensures.ok
-
-pub returns-clause-front : goal.returns-clause-front
-returns-clause-front g c = front_then _ _ _ _ _ (all_then _ _ _ _ _ (all_then _ _ _ _ _ (all_then _ _ _ _ _ (all_then _ _ _ _ _ c.in_ok-put_name.ensures.ok c.in_ok-put_time.ensures.ok) c.in_ok-put_type.ensures.ok) c.in_ok-put_data_size.ensures.ok) c.in_ok-put_load.ensures.ok) c.put_entry.ensures.front
+pub returns : goal.returns
+returns g c = c.in_ok-put_name.ensures ▷ c.in_ok-put_time.ensures ▷ c.in_ok-put_type.ensures ▷ c.in_ok-put_data_size.ensures ▷ c.in_ok-put_load.ensures ▷ c.put_entry.ensures

@@ -1,14 +1,10 @@
-use Rattle.std.proofs.Common.{ℕ, List, subst, OnOk}
-use Rattle.uimg_base.specs.Sink.{AppendsAll, AppendsFront}
+use Rattle.std.proofs.Common.{ℕ, List, subst}
+use Rattle.std.specs.Prelude.{is_err}
+use Rattle.uimg_base.specs.Writing.{Writes}
 use Rattle.uimg_legacy.proofs.LinesLaws.{type_line_of}
 use Rattle.uimg_legacy.proofs.lines.put_type_names.Goals as goal
 
-pub returns-clause-ok : goal.returns-clause-ok
-returns-clause-ok g c =
+pub returns : goal.returns
+returns g c =
     let pieces = type_line_of _ _ _ _ _ _ _ _ c.as_bytes.ensures.value c.as_bytes-2.ensures.value c.as_bytes-3.ensures.value c.as_bytes-4.ensures.value in
-    subst (λ (w : List ℕ). OnOk c.put_parts.result (AppendsAll c.args.out.now c.put_parts.new.self w)) pieces c.put_parts.ensures.ok
-
-pub returns-clause-front : goal.returns-clause-front
-returns-clause-front g c =
-    let pieces = type_line_of _ _ _ _ _ _ _ _ c.as_bytes.ensures.value c.as_bytes-2.ensures.value c.as_bytes-3.ensures.value c.as_bytes-4.ensures.value in
-    subst (λ (w : List ℕ). AppendsFront c.args.out.now c.put_parts.new.self w) pieces c.put_parts.ensures.front
+    subst (λ (w : List ℕ). Writes (is_err c.put_pieces.result) c.args.out.now c.put_pieces.new.self w) pieces c.put_pieces.ensures.writes

@@ -11,13 +11,13 @@ pub loop-i-preserved : goal.loop-i-preserved
 loop-i-preserved g c =
     let device = g.S.Source.device in
     let bytes = bytes_of (map device c.args.parts.now) in
-    let same = same_then (map device c.args.parts.now) (map device c.loop-i.parts) (map device c.part_size.new.parts) c.loop-i.invariant.same c.part_size.ensures.same in
+    let same = same_then (map device c.args.parts.now) (map device c.loop-i.parts) (map device c.part_size.new.parts) c.loop-i.invariant.same c.part_size.ensures.uses.same in
     let size : c.in_ok-part_size.field-0 ≡ length (get_or bytes c.loop-i.i []) = c.in_ok-part_size.ensures.size ∙ ap (λ (ps : List (List ℕ)). length (get_or ps c.loop-i.i [])) c.loop-i.invariant.same.bytes in
     record {
       count = count_parts device c.args.parts.now c.part_size.new.parts same;
       same = same;
-      asked = c.part_size.ensures.asked ∙ c.loop-i.invariant.asked;
-      failures = c.in_ok-part_size.ensures.failures ∙ c.loop-i.invariant.failures;
+      asked = c.part_size.ensures.uses.asked ∙ c.loop-i.invariant.asked;
+      failures = c.in_ok-part_size.ensures.uses.failures ∙ c.loop-i.invariant.failures;
       full = full_more bytes c.loop-i.i (omega (arith, count_bytes device c.args.parts.now)) c.loop-i.invariant.full (λ none. absurd (omega (arith, size, none)));
     }
 

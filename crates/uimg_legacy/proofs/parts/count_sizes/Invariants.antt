@@ -1,9 +1,10 @@
 use Rattle.std.proofs.Common.{◌≡◌, ◌≤◌, ◌+◌, ◌-◌, ◌*◌, length, IsTrue}
-use Rattle.uimg_base.specs.Device.{SameDevice, part}
+use Rattle.uimg_base.specs.Device.{SameDevice}
+use Rattle.uimg_texts.specs.Slices.{slice}
 use Rattle.uimg_legacy.specs.Parts.{sizes}
 use Rattle.uimg_legacy.proofs.parts.count_sizes.Given as goal
 
--- the first words, as many as were asked for, aren't zero
+-- the first words, as many as were asked for, are not zero
 abbrev pub invariant-loop-counted : goal.invariant-loop-counted
 invariant-loop-counted g l =
     let device = g.S.Source.device in
@@ -13,7 +14,7 @@ invariant-loop-counted g l =
       room : l.room ≡ l.fn.room;
       asked : (device l.source).asked ≤ (device l.fn.source).asked + 4 * l.counted;
       failures : (device l.source).failures ≡ (device l.fn.source).failures;
-      sizes : IsTrue (device l.fn.source).honest → l.counted ≤ length (sizes (part (device l.fn.source).bytes 64 l.size));
+      sizes : IsTrue (device l.fn.source).honest → l.counted ≤ length (sizes (slice (device l.fn.source).bytes 64 l.size));
     }
 
 abbrev pub decreases-loop-counted : goal.decreases-loop-counted

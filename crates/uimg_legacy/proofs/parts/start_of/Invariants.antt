@@ -1,11 +1,11 @@
 use Rattle.std.proofs.Common.{◌≡◌, ◌≤◌, ◌<◌, ◌+◌, ◌-◌, ◌*◌, ◌^◌, ℕ, List, length, IsTrue}
 use Rattle.std.specs.Prelude.{slice_index}
 use Rattle.uimg_base.specs.Device.{SameDevice}
-use Rattle.uimg_legacy.specs.Numbers.{be32}
+use Rattle.uimg_texts.specs.Numbers.{be32}
 use Rattle.uimg_legacy.specs.Parts.{start}
 use Rattle.uimg_legacy.proofs.parts.start_of.Given as goal
 
--- the component of number `done` starts here
+-- the part of number `done` starts here
 abbrev pub invariant-loop-done : goal.invariant-loop-done
 invariant-loop-done g l =
     let device = g.S.Source.device in

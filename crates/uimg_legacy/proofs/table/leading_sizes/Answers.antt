@@ -1,23 +1,23 @@
 use Rattle.std.proofs.Common.{◌≢◌, ◌∙◌, get_or, sym, arith}
-use Rattle.uimg_legacy.specs.Numbers.{words}
+use Rattle.uimg_legacy.specs.Words.{words}
 use Rattle.uimg_legacy.proofs.PartsLaws.{words-at, length-words, sizes_more, sizes_end}
 use Rattle.uimg_legacy.proofs.ChunkLaws.{sizes-le-words}
 use Rattle.uimg_legacy.proofs.table.leading_sizes.Goals as goal
 
-pub returns-then-word_at-eq0-clause-count : goal.returns-then-word_at-eq0-clause-count
-returns-then-word_at-eq0-clause-count c =
+pub returns-then-number_at-eq0-clause-count : goal.returns-then-number_at-eq0-clause-count
+returns-then-number_at-eq0-clause-count c =
     let bytes = c.args.bytes.now in
     let i = c.loop-i.i in
     let few = length-words bytes in
     sizes_end bytes i c.loop-i.invariant (omega (arith, few.1))
-    (words-at bytes i (omega arith) ∙ sym c.word_at.ensures ∙ c.if-word_at-eq0.true)
+    (words-at bytes i (omega arith) ∙ sym c.number_at.ensures ∙ c.if-number_at-eq0.true)
 
 pub loop-i-preserved : goal.loop-i-preserved
 loop-i-preserved c =
     let bytes = c.args.bytes.now in
     let i = c.loop-i.i in
     let few = length-words bytes in
-    let more : get_or (words bytes) i 0 ≢ 0 = λ e. c.if-word_at-eq0.false (c.word_at.ensures ∙ sym (words-at bytes i (omega arith)) ∙ e) in
+    let more : get_or (words bytes) i 0 ≢ 0 = λ e. c.if-number_at-eq0.false (c.number_at.ensures ∙ sym (words-at bytes i (omega arith)) ∙ e) in
     sizes_more bytes i c.loop-i.invariant (omega (arith, few.1)) more
 
 pub returns-clause-count : goal.returns-clause-count

@@ -1,7 +1,8 @@
 use Rattle.std.proofs.Common.{◌≡◌, ◌∙◌, ℕ, length, take, ap, sym, arith}
 use Rattle.std.specs.Prelude.{sum_by}
 use Rattle.std.proofs.Math.Seq.{take-length}
-use Rattle.uimg_legacy.specs.Numbers.{words, up4}
+use Rattle.uimg_texts.specs.Numbers.{up4}
+use Rattle.uimg_legacy.specs.Words.{words}
 use Rattle.uimg_legacy.proofs.PartsLaws.{words-at, length-words, up4_bound, sum_more}
 use Rattle.uimg_legacy.proofs.table.rounded_sum.Goals as goal
 
@@ -10,8 +11,8 @@ loop-i-preserved c =
     let bytes = c.args.bytes.now in
     let i = c.loop-i.i in
     let few = length-words bytes in
-    let word = c.up4-sum.ensures ∙ ap up4 (c.word_at.ensures ∙ sym (words-at bytes i (omega arith))) in
-    (omega (arith, up4_bound c.word_at.result), omega (arith, word, sum_more (words bytes) i (omega (arith, few.1)), c.loop-i.invariant.1))
+    let word = c.up4-rounded.ensures ∙ ap up4 (c.number_at-size.ensures ∙ sym (words-at bytes i (omega arith))) in
+    (omega (arith, up4_bound c.number_at-size.result), omega (arith, word, sum_more (words bytes) i (omega (arith, few.1)), c.loop-i.invariant.1))
 
 pub returns-clause-sum : goal.returns-clause-sum
 returns-clause-sum c =

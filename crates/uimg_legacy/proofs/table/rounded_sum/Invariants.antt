@@ -1,6 +1,7 @@
 use Rattle.std.proofs.Common.{◌≡◌, ◌≤◌, ◌*◌, ◌^◌, take}
 use Rattle.std.specs.Prelude.{sum_by}
-use Rattle.uimg_legacy.specs.Numbers.{words, up4}
+use Rattle.uimg_texts.specs.Numbers.{up4}
+use Rattle.uimg_legacy.specs.Words.{words}
 use Rattle.uimg_legacy.proofs.table.rounded_sum.Given as goal
 
 -- the sum of the first i words

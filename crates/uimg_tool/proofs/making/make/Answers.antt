@@ -11,4 +11,4 @@ returns-in_err-kept-clause-made g c = λ files shelf empty.
 pub returns-clause-made : goal.returns-clause-made
 returns-clause-made g c = λ files shelf empty.
     let keeps = c.in_ok-kept.ensures.built files shelf empty in
-    listing_makes (timed (options_of c.args.command.now) c.args.time) _ _ _ _ c.in_ok-run_legacy.field-0 _ _ keeps c.run_legacy.ensures.same (c.in_ok-run_legacy.ensures.told keeps.image.honest)
+    listing_makes (timed (options_of c.args.command.now) c.args.time) _ _ _ _ c.in_ok-run_legacy.field-0 _ _ keeps c.run_legacy.ensures.uses.same (c.in_ok-run_legacy.ensures.told keeps.image.honest)

@@ -3,8 +3,8 @@ use Rattle.std.proofs.Math.ListN.{length-map}
 use Rattle.uimg_tool.proofs.MakingLaws.{have_files}
 use Rattle.uimg_tool.proofs.making.open_all.Goals as goal
 
-pub returns-in_default-clause-stops : goal.returns-in_default-clause-stops
-returns-in_default-clause-stops g c = λ honest. record {
+pub returns-in_default-clause-opened : goal.returns-in_default-clause-opened
+returns-in_default-clause-opened g c = λ honest. record {
   within = rw length-map c.loop-i-test.true;
   before = rw (take-map (λ name. name.items) c.loop-i.i c.args.names.now) (have_files _ _ _ (c.loop-i.invariant.parts honest));
 }

@@ -1,4 +1,5 @@
 use Rattle.std.proofs.Common.{◌≡◌, length, map, take, IsTrue}
+use Rattle.uimg_base.specs.Named.{SameFiles}
 use Rattle.uimg_legacy.specs.Devices.{bytes_of, AreHonest}
 use Rattle.uimg_tool.specs.Making.{HaveParts}
 use Rattle.uimg_tool.proofs.making.open_all.Given as goal
@@ -7,12 +8,11 @@ use Rattle.uimg_tool.proofs.making.open_all.Given as goal
 abbrev pub invariant-loop-i : goal.invariant-loop-i
 invariant-loop-i g l =
     let device = g.F.Opened.Source.device in
+    let files = g.F.Files.map in
     record {
-      files : g.F.Files.files l.files ≡ g.F.Files.files l.fn.files;
-      same_honest : g.F.Files.honest l.files ≡ g.F.Files.honest l.fn.files;
-      same_complete : g.F.Files.complete l.files ≡ g.F.Files.complete l.fn.files;
-      refusals : g.F.Files.refusals l.files ≡ g.F.Files.refusals l.fn.files;
+      same : SameFiles (files l.fn.files) (files l.files);
+      refusals : (files l.files).refusals ≡ (files l.fn.files).refusals;
       count : length l.opened.items ≡ l.i;
-      parts : IsTrue (g.F.Files.honest l.fn.files) → HaveParts (g.F.Files.files l.fn.files) (map (λ name. name.items) (take l.i l.names)) (bytes_of (map device l.opened.items));
-      honest : IsTrue (g.F.Files.honest l.fn.files) → AreHonest (map device l.opened.items);
+      parts : IsTrue (files l.fn.files).honest → HaveParts (files l.fn.files).bytes (map (λ name. name.items) (take l.i l.names)) (bytes_of (map device l.opened.items));
+      honest : IsTrue (files l.fn.files).honest → AreHonest (map device l.opened.items);
     }

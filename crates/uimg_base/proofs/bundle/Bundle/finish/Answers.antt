@@ -1,8 +1,0 @@
-use Rattle.std.proofs.Common.{arith}
-use Rattle.uimg_base.proofs.BundleLaws.{entries_of-each}
-use Rattle.uimg_base.proofs.bundle.Bundle.finish.Goals as goal
-
-pub returns : goal.returns
-returns c = λ algos fed held.
-    entries_of-each c.args.self.sums algos fed c.map.result held.order (omega (arith, c.map.ensures.items.long))
-    (λ i d e h. let called = c.map.ensures.items.at i d e (omega arith) in called.2.met fed (held.each i d h))

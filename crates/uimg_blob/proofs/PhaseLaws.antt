@@ -1,0 +1,183 @@
+-- What a phase of a pass is, and what a token may do in it.
+use Rattle.std.proofs.Common.{◌≡◌, ◌<◌, ◌≤◌, ◌+◌, ℕ, suc, List, [], ◌∷◌, ◌++◌, length, map, find, Option, Some, None, Result, Ok, Err, Bool, true, false, IsTrue, refl, ap, sym, ◌∙◌, subst, cond, if◌then◌else◌, get_or, ◌||◌, codes, nat_lt, IfSome, OnOk, is_ok, replicate, arith}
+use Rattle.std.specs.List.{slice_get, AllByRecursion}
+use Rattle.std.specs.Option.{option_map, is_some}
+use Rattle.std.specs.Str.{bytes_eq}
+use Rattle.std.proofs.lemmas.List.{map-append, length-replicate}
+use Rattle.std.proofs.lemmas.Option.{get_or_from_slice_get}
+use Rattle.std.proofs.lemmas.Slice.Eq.{bytes_eq-Decides}
+use Rattle.std.proofs.Math.Seq.{get_or-append_seam}
+use Rattle.std.proofs.lemmas.Bool.{lt-ltb}
+use Rattle.uimg_blob.specs.declared.fault.BlobFault.{BlobFault}
+use Rattle.uimg_blob.specs.declared.fault.BlobFault.TheVariants.{BadNesting}
+use Rattle.uimg_blob.specs.declared.fault.IndexFault.{IndexFault}
+use Rattle.uimg_blob.specs.declared.fault.IndexFault.TheVariants.{Blob, Read}
+use Rattle.uimg_blob.specs.declared.keys.Key.{Key}
+use Rattle.uimg_blob.specs.declared.keys.Key.TheVariants as key
+use Rattle.uimg_blob.specs.declared.labels.Label.{Label}
+use Rattle.uimg_blob.specs.declared.tokens.ReadToken.{ReadToken}
+use Rattle.uimg_blob.specs.declared.tokens.ReadToken.TheVariants as read
+use Rattle.uimg_blob.specs.ReadTokens.{IsReadAs, IsSound}
+use Rattle.uimg_blob.specs.declared.labels.Label.TheVariants as label
+use Rattle.uimg_blob.specs.declared.states.State.{State}
+use Rattle.uimg_blob.specs.declared.roles.Role.{Role}
+use Rattle.uimg_blob.specs.declared.roles.Role.TheVariants.{Root, Images, Image, Hash, Configurations, Configuration, Other}
+use Rattle.uimg_blob.specs.Tokens.{Property, Token, Blocks, token_at, begin_node, end_node, prop, nop, last, stray}
+use Rattle.uimg_blob.specs.Grammar.{Siblings, none, node}
+use Rattle.uimg_blob.specs.Keys.{name_of, key_named, all_keys}
+use Rattle.uimg_blob.specs.Labels.{label_of}
+use Rattle.uimg_blob.specs.Roles.{Level, top, in_root, in_images, in_image, in_configurations, elsewhere, role_at, root_child, level_in, level_after, keys_of, is_images, is_configurations, is_hash}
+use Rattle.uimg_blob.specs.Rows.{size}
+use Rattle.uimg_blob.specs.Walk.{Open, opened, close, join, as_node, walk, begun, finished}
+use Rattle.uimg_blob.specs.Kept.{Kept, kept, kept_of, entry_of, entries, slot, number_word, role_word}
+use Rattle.uimg_blob.specs.SoFar.{count, innermost, level_past, next_level, open_row, so_far, entries_so_far}
+use Rattle.uimg_blob.specs.Passes.{Phase, inside, after, left, step, then_left, Step, on, stop, begins_in, ends_in, prop_in, last_in, is_after, is_done, bare, root_level, child_level, label_marked, level_marked, Holds, Goes, Acts, Refuses, IsPlaced}
+use Rattle.uimg_blob.proofs.SoFarLaws.{length_so_far}
+use Rattle.uimg_blob.proofs.EntryLaws.{length_entries}
+use Rattle.uimg_blob.proofs.KeepLaws.{unchanged}
+use Rattle.uimg_blob.proofs.ValueLaws.{absent}
+
+-- A token, and then the tokens after it.
+pub left_is : (p : Phase) (t : Token) (ts : List Token) → left p (t ∷ ts) ≡ then_left (step p t) ts
+unfolding walk begun finished
+left_is (inside []) (begin_node at (Ok name)) ts = refl
+left_is (inside []) (begin_node at (Err f)) ts = refl
+left_is (inside []) (end_node at) ts = refl
+left_is (inside []) (prop at p) ts = refl
+left_is (inside []) (nop at) ts = refl
+left_is (inside []) (last at) ts = refl
+left_is (inside []) (stray at f) ts = refl
+left_is (inside (o ∷ ls)) (begin_node at (Ok name)) ts = refl
+left_is (inside (o ∷ ls)) (begin_node at (Err f)) ts = refl
+left_is (inside (o ∷ [])) (end_node at) ts = refl
+left_is (inside (o ∷ parent ∷ ls)) (end_node at) ts = refl
+left_is (inside (opened place name own none ∷ ls)) (prop at (Ok p)) ts = refl
+left_is (inside (opened place name own none ∷ ls)) (prop at (Err f)) ts = refl
+left_is (inside (opened place name own (node a b c d e) ∷ ls)) (prop at p) ts = refl
+left_is (inside (o ∷ ls)) (nop at) ts = refl
+left_is (inside (o ∷ ls)) (last at) ts = refl
+left_is (inside (o ∷ ls)) (stray at f) ts = refl
+left_is (after o) (begin_node at name) ts = refl
+left_is (after o) (end_node at) ts = refl
+left_is (after o) (prop at p) ts = refl
+left_is (after o) (nop at) ts = refl
+left_is (after o) (last at) ts = refl
+left_is (after o) (stray at f) ts = refl
+
+pub some_none : {X : Type 0} {x : X} → Some x ≡ None → ⊥
+some_none h = grind (arith, h)
+
+pub by_bool : {P : Type 0} (b : Bool) → (b ≡ true → P) → (b ≡ false → P) → P
+by_bool true when other = when refl
+by_bool false when other = other refl
+
+pub some_some : {X : Type 0} (x y : X) → Some x ≡ Some y → x ≡ y
+some_some x y h = cc
+
+pub true_false : true ≡ false → ⊥
+true_false h = grind (arith, h)
+
+pub count_is : (ls : List Open) (es : List (List ℕ)) → es ≡ entries_so_far ls → length es ≡ count ls
+count_is ls es is = ap length is ∙ length_entries (so_far ls) ∙ length_so_far ls
+
+pub count_after : (o : Open) (es : List (List ℕ)) → es ≡ entries (as_node o) → 0 < length es
+unfolding kept
+count_after (opened at name own below) es is = omega (arith, ap length is ∙ length_entries (kept_of (as_node (opened at name own below))))
+
+-- a property may stand where the innermost node is the last
+pub bare_some : (p : Phase) (s : State) (es : List (List ℕ)) (n : ℕ) → Holds p s es → s.current ≡ Some n → length es ≡ n + 1 → Some n ≡ bare p
+unfolding count
+bare_some (inside []) s es n h is one = absurd (some_none (sym is ∙ h.current))
+bare_some (inside (opened at name own none ∷ ls)) s es n h is one = sym is ∙ h.current
+bare_some (inside (opened at name own (node a b c d e) ∷ ls)) s es n h is one =
+    let same : n ≡ count ls = some_some n (count ls) (sym is ∙ h.current) in
+    absurd (omega (arith, one, same, count_is _ es h.entries))
+bare_some (after o) s es n h is one = absurd (some_none (sym is ∙ h.current))
+
+pub bare_none : (p : Phase) (s : State) (es : List (List ℕ)) (n : ℕ) → Holds p s es → s.current ≡ Some n → (length es ≡ n + 1 → ⊥) → None ≡ bare p
+unfolding count
+bare_none (inside []) s es n h is more = refl
+bare_none (inside (opened at name own none ∷ ls)) s es n h is more =
+    let same : n ≡ count ls = some_some n (count ls) (sym is ∙ h.current) in
+    absurd (more (omega (arith, same, count_is _ es h.entries)))
+bare_none (inside (opened at name own (node a b c d e) ∷ ls)) s es n h is more = refl
+bare_none (after o) s es n h is more = refl
+
+pub bare_out : (p : Phase) (s : State) (es : List (List ℕ)) → Holds p s es → s.current ≡ None → None ≡ bare p
+bare_out (inside []) s es h is = refl
+bare_out (inside (opened at name own none ∷ ls)) s es h is = absurd (some_none (sym h.current ∙ is))
+bare_out (inside (opened at name own (node a b c d e) ∷ ls)) s es h is = refl
+bare_out (after o) s es h is = refl
+
+-- where a property may not stand
+pub prop_out : (p : Phase) (at : ℕ) (x : Result Property BlobFault) → None ≡ bare p → prop_in p at x ≡ stop (Err (BadNesting, at))
+prop_out (inside []) at x h = refl
+prop_out (inside (opened place name own none ∷ ls)) at x h = absurd (some_none (sym h))
+prop_out (inside (opened place name own (node a b c d e) ∷ ls)) at x h = refl
+prop_out (after o) at x h = refl
+
+-- a faulty property where one may stand
+pub prop_bad : (p : Phase) (at n : ℕ) (f : BlobFault) → Some n ≡ bare p → prop_in p at (Err f) ≡ stop (Err (f, at))
+prop_bad (inside []) at n f h = absurd (some_none h)
+prop_bad (inside (opened place name own none ∷ ls)) at n f h = refl
+prop_bad (inside (opened place name own (node a b c d e) ∷ ls)) at n f h = absurd (some_none h)
+prop_bad (after o) at n f h = absurd (some_none h)
+
+-- a node may not end where none is open
+pub end_out : (p : Phase) (s : State) (es : List (List ℕ)) (at : ℕ) → Holds p s es → s.current ≡ None → ends_in p at ≡ stop (Err (BadNesting, at))
+end_out (inside []) s es at h is = refl
+end_out (inside (o ∷ ls)) s es at h is = absurd (some_none (sym h.current ∙ is))
+end_out (after o) s es at h is = refl
+
+lt_zero : (n : ℕ) → 0 < n → nat_lt 0 n ≡ true
+lt_zero n h = lt-ltb 0 n h
+
+-- the root has ended where no node is open and there are entries
+pub is_after_by : (p : Phase) (s : State) (es : List (List ℕ)) (n : ℕ) → Holds p s es → s.current ≡ None → n ≡ length es → nat_lt 0 n ≡ is_after p
+unfolding count
+is_after_by (inside []) s es n h is number = ap (λ (k : ℕ). nat_lt 0 k) (number ∙ count_is [] es h.entries)
+is_after_by (inside (o ∷ ls)) s es n h is number = absurd (some_none (sym h.current ∙ is))
+is_after_by (after o) s es n h is number = lt_zero n (omega (arith, number, count_after o es h.entries))
+
+-- the innermost node has an entry
+pub holds_within : (p : Phase) (s : State) (es : List (List ℕ)) → Holds p s es → IfSome s.current (λ i. i < length es)
+unfolding count
+holds_within (inside []) s es h = subst (λ (o : Option ℕ). IfSome o (λ i. i < length es)) (sym h.current) tt
+holds_within (inside (opened at name own below ∷ ls)) s es h =
+    let inside_it : count ls < length es = omega (arith, count_is (opened at name own below ∷ ls) es h.entries) in
+    subst (λ (o : Option ℕ). IfSome o (λ i. i < length es)) (sym h.current) inside_it
+holds_within (after o) s es h = subst (λ (o : Option ℕ). IfSome o (λ i. i < length es)) (sym h.current) tt
+
+-- no node may begin after the root
+pub begin_out : (p : Phase) (at : ℕ) (name : Result (List ℕ) BlobFault) → true ≡ is_after p → begins_in p at name ≡ stop (Err (BadNesting, at))
+begin_out (inside ls) at name h = absurd (true_false h)
+begin_out (after o) at name h = refl
+
+-- a faulty name, not after the root
+pub begin_bad : (p : Phase) (at : ℕ) (f : BlobFault) → false ≡ is_after p → begins_in p at (Err f) ≡ stop (Err (f, at))
+begin_bad (inside ls) at f h = refl
+begin_bad (after o) at f h = absurd (true_false (sym h))
+
+-- a token that is not the last after the root
+pub done_not : (p : Phase) (at : ℕ) → is_done p (last at) ≡ false → last_in p at ≡ stop (Err (BadNesting, at))
+done_not (inside ls) at h = refl
+done_not (after o) at h = absurd (true_false h)
+
+-- the last token after the root
+pub done_goes : (p : Phase) (s : State) (es : List (List ℕ)) (t : Token) → Holds p s es → is_done p t ≡ true → (o : Open) × (step p t ≡ stop (Ok (as_node o))) × (es ≡ entries (as_node o))
+done_goes (inside ls) s es t h is = absurd (true_false (sym is))
+done_goes (after o) s es (last at) h is = (o, refl, h.entries)
+done_goes (after o) s es (begin_node at name) h is = absurd (true_false (sym is))
+done_goes (after o) s es (end_node at) h is = absurd (true_false (sym is))
+done_goes (after o) s es (prop at p) h is = absurd (true_false (sym is))
+done_goes (after o) s es (nop at) h is = absurd (true_false (sym is))
+done_goes (after o) s es (stray at f) h is = absurd (true_false (sym is))
+
+-- the last token stands after the root
+pub last_out : (p : Phase) (at : ℕ) → false ≡ is_after p → last_in p at ≡ stop (Err (BadNesting, at))
+last_out (inside ls) at h = refl
+last_out (after o) at h = absurd (true_false (sym h))
+
+pub last_goes : (p : Phase) (s : State) (es : List (List ℕ)) (at : ℕ) → Holds p s es → true ≡ is_after p → (o : Open) × (last_in p at ≡ stop (Ok (as_node o))) × (es ≡ entries (as_node o))
+last_goes (inside ls) s es at h is = absurd (true_false is)
+last_goes (after o) s es at h is = (o, refl, h.entries)

@@ -1,0 +1,253 @@
+-- How far a pass over the tokens is, and what a token does.
+use Rattle.std.specs.Prelude.{IfSome, map, ◌≡◌, ◌+◌, ℕ, zero, suc, ◌*◌, ◌-◌, ◌≤◌, ◌<◌, List, [], ◌∷◌, ◌++◌, length, Option, Some, None, Result, Ok, Err, Bool, true, false, IsTrue, ⊤}
+use Rattle.std.specs.List.{AllByRecursion, sum_by}
+use Rattle.uimg_blob.specs.declared.fault.BlobFault.{BlobFault}
+use Rattle.uimg_blob.specs.declared.fault.BlobFault.TheVariants.{BadNesting}
+use Rattle.uimg_blob.specs.declared.fault.IndexFault.{IndexFault}
+use Rattle.uimg_blob.specs.declared.fault.IndexFault.TheVariants.{Blob, Read}
+use Rattle.uimg_blob.specs.declared.states.State.{State}
+use Rattle.uimg_blob.specs.declared.labels.Label.{Label}
+use Rattle.uimg_blob.specs.declared.labels.Label.TheVariants as label
+use Rattle.uimg_blob.specs.declared.keys.Key.{Key}
+use Rattle.uimg_blob.specs.Keys.{key_named}
+use Rattle.uimg_blob.specs.Reading.{Fault}
+use Rattle.uimg_blob.specs.Tokens.{Property, Token, Blocks, token_at, tokens_from, tokens, next, begin_node, end_node, prop, nop, last, stray}
+use Rattle.uimg_blob.specs.Grammar.{Siblings, none, node}
+use Rattle.uimg_blob.specs.Blob.{met_in}
+use Rattle.uimg_blob.specs.Counts.{weight, begun_by}
+use Rattle.uimg_blob.specs.Faults.{refuses_memory}
+use Rattle.uimg_blob.specs.Roles.{Level, in_root, in_images, in_image, in_configurations, elsewhere, level_after}
+use Rattle.uimg_blob.specs.declared.roles.Role.{Role}
+use Rattle.uimg_blob.specs.declared.roles.Role.TheVariants.{Root, Images, Image, Hash, Configurations, Configuration, Other}
+use Rattle.uimg_blob.specs.Walk.{Open, opened, close, as_node, walk, begun, finished}
+use Rattle.uimg_blob.specs.Kept.{Kept, kept_of, entry_of, entries}
+use Rattle.uimg_blob.specs.SoFar.{so_far, count, innermost, next_level, entries_so_far}
+
+-- inside open nodes, at first none, or after the root
+pub data Phase : Type 0 where
+  inside : List Open → Phase
+  after : Open → Phase
+
+-- what the tokens give from here on
+abbrev pub left : Phase → List Token → Result Siblings Fault
+left (inside []) ts = begun ts
+left (inside (o ∷ ls)) ts = walk o ls ts
+left (after o) ts = finished (as_node o) ts
+
+-- the entries so far
+abbrev pub entries_at : Phase → List (List ℕ)
+entries_at (inside ls) = entries_so_far ls
+entries_at (after o) = entries (as_node o)
+
+-- the nodes so far
+abbrev pub nodes_at : Phase → List Kept
+nodes_at (inside ls) = so_far ls
+nodes_at (after o) = kept_of (as_node o)
+
+-- the place of the node that a token begins
+abbrev pub begin_place : Token → List ℕ
+begin_place (begin_node at name) = at ∷ []
+begin_place (end_node at) = []
+begin_place (prop at p) = []
+begin_place (nop at) = []
+begin_place (last at) = []
+begin_place (stray at fault) = []
+
+-- the places of the nodes that some tokens begin
+abbrev pub begin_places : List Token → List ℕ
+begin_places [] = []
+begin_places (t ∷ ts) = begin_place t ++ begin_places ts
+
+-- the open nodes
+abbrev pub stack : Phase → List Open
+stack (inside ls) = ls
+stack (after o) = []
+
+-- a token goes on, or is the last
+pub data Step : Type 0 where
+  on : Phase → Step
+  stop : Result Siblings Fault → Step
+
+abbrev pub begins_in : Phase → ℕ → Result (List ℕ) BlobFault → Step
+begins_in (inside ls) at (Ok name) = on (inside (opened at name [] none ∷ ls))
+begins_in (inside ls) at (Err fault) = stop (Err (fault, at))
+begins_in (after o) at name = stop (Err (BadNesting, at))
+
+abbrev pub ends_in : Phase → ℕ → Step
+ends_in (inside []) at = stop (Err (BadNesting, at))
+ends_in (inside (o ∷ [])) at = on (after o)
+ends_in (inside (o ∷ parent ∷ ls)) at = on (inside (close o parent ∷ ls))
+ends_in (after o) at = stop (Err (BadNesting, at))
+
+abbrev pub prop_in : Phase → ℕ → Result Property BlobFault → Step
+prop_in (inside []) at p = stop (Err (BadNesting, at))
+prop_in (inside (opened place name own none ∷ ls)) at (Ok p) = on (inside (opened place name (own ++ p ∷ []) none ∷ ls))
+prop_in (inside (opened place name own none ∷ ls)) at (Err fault) = stop (Err (fault, at))
+prop_in (inside (opened place name own (node a b c d e) ∷ ls)) at p = stop (Err (BadNesting, at))
+prop_in (after o) at p = stop (Err (BadNesting, at))
+
+abbrev pub last_in : Phase → ℕ → Step
+last_in (inside ls) at = stop (Err (BadNesting, at))
+last_in (after o) at = stop (Ok (as_node o))
+
+-- what a token does
+abbrev pub step : Phase → Token → Step
+step p (begin_node at name) = begins_in p at name
+step p (end_node at) = ends_in p at
+step p (prop at x) = prop_in p at x
+step p (nop at) = on p
+step p (last at) = last_in p at
+step p (stray at fault) = stop (Err (fault, at))
+
+-- what a step and the tokens after it give
+abbrev pub then_left : Step → List Token → Result Siblings Fault
+then_left (on p) ts = left p ts
+then_left (stop r) ts = r
+
+-- the root has ended
+abbrev pub is_after : Phase → Bool
+is_after (inside ls) = false
+is_after (after o) = true
+
+-- the token ends the tree
+abbrev pub is_done : Phase → Token → Bool
+is_done (inside ls) t = false
+is_done (after o) (begin_node at name) = false
+is_done (after o) (end_node at) = false
+is_done (after o) (prop at p) = false
+is_done (after o) (nop at) = false
+is_done (after o) (last at) = true
+is_done (after o) (stray at fault) = false
+
+-- the innermost node's number, where a property may stand
+abbrev pub bare : Phase → Option ℕ
+bare (inside []) = None
+bare (inside (opened at name own none ∷ ls)) = Some (count ls)
+bare (inside (opened at name own (node a b c d e) ∷ ls)) = None
+bare (after o) = None
+
+-- where children of the root stand, once the open one is done
+abbrev pub root_level : List Open → Level
+root_level [] = in_root false false
+root_level (o ∷ []) = next_level (o ∷ [])
+root_level (opened at name own below ∷ p ∷ []) = level_after (next_level (p ∷ [])) name
+root_level (o ∷ p ∷ q ∷ ls) = root_level (p ∷ q ∷ ls)
+
+-- where the children of a node stand, by its role and the children that the root had
+abbrev pub child_level : Role → Bool → Bool → Level
+child_level Root had_images had_configurations = in_root had_images had_configurations
+child_level Images had_images had_configurations = in_images
+child_level Image had_images had_configurations = in_image
+child_level Hash had_images had_configurations = elsewhere
+child_level Configurations had_images had_configurations = in_configurations
+child_level Configuration had_images had_configurations = elsewhere
+child_level Other had_images had_configurations = elsewhere
+
+-- what the root had, with a child of a label more
+abbrev pub label_marked : Label → Bool → Bool → Level
+label_marked label.Images had_images had_configurations = in_root true had_configurations
+label_marked label.Configurations had_images had_configurations = in_root had_images true
+label_marked label.Hash had_images had_configurations = in_root had_images had_configurations
+label_marked label.Other had_images had_configurations = in_root had_images had_configurations
+
+-- what the root had, after a child of a label began inside the node of a number
+abbrev pub level_marked : Option ℕ → Label → Bool → Bool → Level
+level_marked None label had_images had_configurations = in_root had_images had_configurations
+level_marked (Some zero) label had_images had_configurations = label_marked label had_images had_configurations
+level_marked (Some (suc n)) label had_images had_configurations = in_root had_images had_configurations
+
+-- all kept places are above 0
+abbrev pub IsPlaced : Open → Type 0
+IsPlaced (opened at name own below) = AllByRecursion (λ q. 0 < q.place) own
+
+abbrev pub IsMarked : Phase → State → Type 0
+IsMarked (inside ls) s = root_level ls ≡ in_root s.had_images s.had_configurations
+IsMarked (after o) s = ⊤
+
+-- The state and the entries are those of a phase.
+pub record Holds (p : Phase) (s : State) (es : List (List ℕ)) : Type 0 where
+  pub entries : es ≡ entries_at p
+  pub current : s.current ≡ innermost (stack p)
+  pub marks : IsMarked p s
+  pub placed : AllByRecursion IsPlaced (stack p)
+  pub few : 8 * length es ≤ s.at
+
+-- The key of a name.
+pub record IsKeyOf (key : Option Key) (name : List ℕ) : Type 0 where
+  pub is : key ≡ key_named name
+
+-- An answer is what a step does, unless memory was refused: then the entries stay.
+abbrev pub Goes : Step → Option ℕ → Result State IndexFault → List (List ℕ) → List (List ℕ) → Type 0
+Goes x following (Ok s) old new = (q : Phase) × (x ≡ on q) × (following ≡ Some s.at) × Holds q s new
+Goes x following (Err (Blob fault at)) old new = (new ≡ old) × (refuses_memory fault ≡ false → x ≡ stop (Err (fault, at)))
+Goes x following (Err Read) old new = new ≡ old
+
+-- The same, where the last token ends the pass.
+abbrev pub Acts : Step → Option ℕ → Result (Option State) IndexFault → List (List ℕ) → List (List ℕ) → Type 0
+Acts x following (Ok (Some s)) old new = Goes x following (Ok s) old new
+Acts x following (Ok None) old new = (o : Open) × (x ≡ stop (Ok (as_node o))) × (new ≡ entries (as_node o)) × (new ≡ old)
+Acts x following (Err e) old new = Goes x following (Err e) old new
+
+-- Memory is refused where a node begins, at its place.
+abbrev pub Refuses : {X : Type 0} → Token → Result X IndexFault → Type 0
+Refuses t (Ok x) = ⊤
+Refuses t (Err (Blob fault at)) = refuses_memory fault ≡ true → begin_place t ≡ at ∷ []
+Refuses t (Err Read) = ⊤
+
+-- What a token did, whichever a source that is not honest told.
+pub record Steps (honest : Bool) (b : Blocks) (p : Phase) (at : ℕ) (result : Result (Option State) IndexFault) (old new : List (List ℕ)) : Type 0 where
+  pub token : Token
+  pub is : IsTrue honest → token ≡ token_at b at
+  pub acts : Acts (step p token) (next token) result old new
+  pub refuses : Refuses token result
+
+-- An answer is a tree, whose entries these are, or its first fault, unless a read failed or memory was refused.
+abbrev pub Indexes : {X : Type 0} → Result Siblings Fault → Result X IndexFault → List (List ℕ) → Type 0
+Indexes whole (Ok x) es = (t : Siblings) × (whole ≡ Ok t) × (es ≡ entries t)
+Indexes whole (Err (Blob fault at)) es = refuses_memory fault ≡ false → whole ≡ Err (fault, at)
+Indexes whole (Err Read) es = ⊤
+
+-- The nodes from number i on have their parents before them, and end after themselves, at most at n.
+abbrev pub AreLinked : ℕ → ℕ → List Kept → Type 0
+AreLinked i n [] = ⊤
+AreLinked i n (k ∷ ks) = IfSome k.parent (λ p. p < i) × (i < k.end) × (k.end ≤ n) × AreLinked (i + 1) n ks
+
+-- The entries are those of a tree, whose links lead to later entries, or past the last.
+abbrev pub AreEntries : List (List ℕ) → Type 0
+AreEntries es = (t : Siblings) × (es ≡ entries t) × AreLinked 0 (length es) (kept_of t)
+
+-- a sum over the tokens that are met from a place on, and over all
+abbrev pub sum_from : (Token → ℕ) → Result Siblings Fault → List Token → ℕ
+sum_from f whole ts = sum_by f (met_in whole ts)
+
+-- What the tokens from a place on give is what all give; what was asked for and will be, is what all tokens are counted for.
+pub record Rest (b : Blocks) (whole : Result Siblings Fault) (p : Phase) (at base asked nodes : ℕ) : Type 0 where
+  pub fuel : ℕ
+  pub enough : b.structure_end - at < fuel
+  pub is : whole ≡ left p (tokens_from fuel b (Some at))
+  pub costs : asked + 4 * length (stack p) + sum_from weight whole (tokens_from fuel b (Some at)) ≤ base + sum_from weight whole (tokens b)
+  pub places : begin_places (tokens b) ≡ map (λ k. k.at) (nodes_at p) ++ begin_places (tokens_from fuel b (Some at))
+  pub begun : nodes + sum_from begun_by whole (tokens_from fuel b (Some at)) ≤ sum_from begun_by whole (tokens b)
+
+-- A pass is here: some phase holds, and where the source is honest, the rest of its tokens gives what all give.
+pub record Pass (honest : Bool) (b : Blocks) (whole : Result Siblings Fault) (s : State) (es : List (List ℕ)) (base asked : ℕ) : Type 0 where
+  pub phase : Phase
+  pub holds : Holds phase s es
+  pub rest : IsTrue honest → Rest b whole phase s.at base asked (length es)
+
+-- What a pass asked for and kept is within what the tokens are counted for.
+pub record Within (b : Blocks) (whole : Result Siblings Fault) (base asked : ℕ) (es : List (List ℕ)) : Type 0 where
+  pub costs : asked ≤ base + 4 + sum_from weight whole (tokens b)
+  pub nodes : length es ≤ sum_from begun_by whole (tokens b)
+
+-- the tokens of a file; none where the header is refused
+abbrev pub tokens_in : Result Blocks Fault → List Token
+tokens_in (Ok b) = tokens b
+tokens_in (Err e) = []
+
+-- Where memory was refused, the entries are of nodes whose places are a prefix of all, and the fault's is the next.
+abbrev pub IsPrefix : {X : Type 0} → List Token → Result X IndexFault → List (List ℕ) → Type 0
+IsPrefix ts (Ok x) es = ⊤
+IsPrefix ts (Err (Blob fault at)) es = refuses_memory fault ≡ true
+    → (ks : List Kept) × (es ≡ map entry_of ks) × (more : List ℕ) × (begin_places ts ≡ map (λ k. k.at) ks ++ at ∷ more)
+IsPrefix ts (Err Read) es = ⊤

@@ -1,0 +1,73 @@
+-- What is read of a token, and what that costs.
+use Rattle.std.specs.Prelude.{◌≡◌, ℕ, ◌+◌, ◌<◌, ◌≤◌, List, length, Option, Ok, Err, false, ⊤}
+use Rattle.uimg_blob.specs.declared.keys.Key.{Key}
+use Rattle.uimg_blob.specs.declared.labels.Label.{Label}
+use Rattle.uimg_blob.specs.declared.tokens.ReadToken.{ReadToken}
+use Rattle.uimg_blob.specs.declared.tokens.ReadToken.TheVariants.{BeginNode, BadBeginNode, EndNode, Prop, BadProp, Nop, End, Stray}
+use Rattle.uimg_blob.specs.Keys.{key_named}
+use Rattle.uimg_blob.specs.Faults.{refuses_memory}
+use Rattle.uimg_blob.specs.Labels.{label_of}
+use Rattle.uimg_blob.specs.Tokens.{Token, Property, begin_node, end_node, prop, nop, last, stray}
+
+-- the most bytes that are asked for to read a token: its word, and 256 of a name, and a property's length and name offset
+abbrev pub cost : Token → ℕ
+cost (begin_node at name) = 260
+cost (end_node at) = 4
+cost (prop at property) = 268
+cost (nop at) = 4
+cost (last at) = 4
+cost (stray at fault) = 4
+
+-- The token begins a node whose name has so many bytes and this label.
+pub record ReadsBeginNode (at : ℕ) (token : Token) (size : ℕ) (label : Label) : Type 0 where
+  pub name : List ℕ
+  pub is : token ≡ begin_node at (Ok name)
+  pub sized : size ≡ length name
+  pub labelled : label ≡ label_of name
+
+-- The token is a property whose value has so many bytes, and this key.
+pub record ReadsProp (at : ℕ) (token : Token) (size : ℕ) (key : Option Key) : Type 0 where
+  pub property : Property
+  pub is : token ≡ prop at (Ok property)
+  pub place : property.place ≡ at + 12
+  pub sized : size ≡ length property.value
+  pub keyed : key ≡ key_named property.name
+
+-- This is read of a token at a place.
+abbrev pub IsReadAs : ℕ → Token → ReadToken → Type 0
+IsReadAs at token (BeginNode size label) = ReadsBeginNode at token size label
+IsReadAs at token (BadBeginNode fault) = token ≡ begin_node at (Err fault)
+IsReadAs at token EndNode = token ≡ end_node at
+IsReadAs at token (Prop size key) = ReadsProp at token size key
+IsReadAs at token (BadProp fault) = token ≡ prop at (Err fault)
+IsReadAs at token Nop = token ≡ nop at
+IsReadAs at token End = token ≡ last at
+IsReadAs at token (Stray fault) = token ≡ stray at fault
+
+-- What was read at a place lies below an end, whatever the source said; a name has fewer than 256 bytes.
+abbrev pub Stands : ℕ → ℕ → ReadToken → Type 0
+Stands end at (BeginNode size label) = (size < 256) × (at + 4 + size + 1 ≤ end)
+Stands end at (BadBeginNode fault) = ⊤
+Stands end at EndNode = at + 4 ≤ end
+Stands end at (Prop size key) = at + 12 + size ≤ end
+Stands end at (BadProp fault) = ⊤
+Stands end at Nop = at + 4 ≤ end
+Stands end at End = at + 4 ≤ end
+Stands end at (Stray fault) = ⊤
+
+-- Some name has so many bytes and this label.
+pub record HasName (size : ℕ) (label : Label) : Type 0 where
+  pub name : List ℕ
+  pub sized : size ≡ length name
+  pub labelled : label ≡ label_of name
+
+-- What was found is what some token is found as, whatever the source said; a fault is not want of memory.
+abbrev pub IsSound : ReadToken → Type 0
+IsSound (BeginNode size label) = HasName size label
+IsSound (BadBeginNode fault) = refuses_memory fault ≡ false
+IsSound EndNode = ⊤
+IsSound (Prop size key) = ⊤
+IsSound (BadProp fault) = refuses_memory fault ≡ false
+IsSound Nop = ⊤
+IsSound End = ⊤
+IsSound (Stray fault) = refuses_memory fault ≡ false

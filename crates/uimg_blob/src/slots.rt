@@ -1,0 +1,88 @@
+ghost use Rattle.std.specs.Prelude.{◌≡◌, ◌<◌, IfSome};
+ghost use Rattle.uimg_blob.specs.Keys.{name_of};
+ghost use Rattle.uimg_blob.specs.Roles.{keys_of};
+ghost use Rattle.uimg_blob.specs.Kept.{slot};
+
+use crate::keys::Key;
+use crate::roles::Role;
+
+// Where a key's value stands among those that are kept of a role.
+pub(crate) fn slot_of(role: Role, key: Key) -> Option<usize>
+    ensures within { IfSome result (λ i. i < 11) }
+    ensures slot { result ≡ slot (name_of key) (keys_of role) }
+{
+    match role {
+        Role::Root => root_slot(key),
+        Role::Image => image_slot(key),
+        Role::Hash => hash_slot(key),
+        Role::Configurations => configurations_slot(key),
+        Role::Configuration => configuration_slot(key),
+        Role::Images | Role::Other => None,
+    }
+}
+
+fn root_slot(key: Key) -> Option<usize>
+    ensures within { IfSome result (λ i. i < 11) }
+    ensures slot { result ≡ slot (name_of key) (keys_of Role.Root) }
+{
+    match key {
+        Key::Description => Some(0),
+        Key::Timestamp => Some(1),
+        _ => None,
+    }
+}
+
+fn image_slot(key: Key) -> Option<usize>
+    ensures within { IfSome result (λ i. i < 11) }
+    ensures slot { result ≡ slot (name_of key) (keys_of Role.Image) }
+{
+    match key {
+        Key::Description => Some(0),
+        Key::Data => Some(1),
+        Key::Kind => Some(2),
+        Key::Arch => Some(3),
+        Key::Os => Some(4),
+        Key::Compression => Some(5),
+        Key::Load => Some(6),
+        Key::Entry => Some(7),
+        Key::DataSize => Some(8),
+        Key::DataOffset => Some(9),
+        Key::DataPosition => Some(10),
+        _ => None,
+    }
+}
+
+fn hash_slot(key: Key) -> Option<usize>
+    ensures within { IfSome result (λ i. i < 11) }
+    ensures slot { result ≡ slot (name_of key) (keys_of Role.Hash) }
+{
+    match key {
+        Key::Algo => Some(0),
+        Key::Value => Some(1),
+        _ => None,
+    }
+}
+
+fn configurations_slot(key: Key) -> Option<usize>
+    ensures within { IfSome result (λ i. i < 11) }
+    ensures slot { result ≡ slot (name_of key) (keys_of Role.Configurations) }
+{
+    match key {
+        Key::Default => Some(0),
+        _ => None,
+    }
+}
+
+fn configuration_slot(key: Key) -> Option<usize>
+    ensures within { IfSome result (λ i. i < 11) }
+    ensures slot { result ≡ slot (name_of key) (keys_of Role.Configuration) }
+{
+    match key {
+        Key::Description => Some(0),
+        Key::Kernel => Some(1),
+        Key::Ramdisk => Some(2),
+        Key::Fdt => Some(3),
+        Key::Loadables => Some(4),
+        _ => None,
+    }
+}

@@ -1,0 +1,26 @@
+use Rattle.std.proofs.Common.{◌≡◌, ◌∙◌, ◌++◌, ◌-◌, ℕ, List, ap, replicate}
+use Rattle.std.proofs.lemmas.List.{drop-replicate}
+use Rattle.uimg_sums.specs.AnySum.{padded_digest}
+use Rattle.uimg_sums.specs.Digest.{PutsDigest}
+use Rattle.uimg_sums.proofs.any_sum.AnySum.finish.Goals as goal
+
+-- a digest that was put over zeros has zeros behind it
+padded_digest-puts : (digest new : List ℕ) (n : ℕ) → PutsDigest digest (replicate 64 0) new n → ◌≡◌ {A = List ℕ × ℕ} (new, n) (padded_digest digest)
+padded_digest-puts digest new n puts =
+    let bytes : new ≡ digest ++ replicate (64 - n) 0 = puts.1 ∙ ap (λ (w : List ℕ). digest ++ w) (drop-replicate n 64 0) in
+    ap (λ (w : List ℕ). let e : List ℕ × ℕ = (w, n) in e) bytes ∙ ap (λ (k : ℕ). let e : List ℕ × ℕ = (digest ++ replicate (64 - k) 0, k) in e) puts.0
+
+pub returns-in-Md5 : goal.returns-in-Md5
+returns-in-Md5 c = rw c.in-Md5.is (λ fed held. padded_digest-puts _ _ _ (c.finish-length-in-Md5.ensures.digest fed held))
+
+pub returns-in-Sha1 : goal.returns-in-Sha1
+returns-in-Sha1 c = rw c.in-Sha1.is (λ fed held. padded_digest-puts _ _ _ (c.finish-length-in-Sha1.ensures.digest fed held))
+
+pub returns-in-Sha256 : goal.returns-in-Sha256
+returns-in-Sha256 c = rw c.in-Sha256.is (λ fed held. padded_digest-puts _ _ _ (c.finish-length-in-Sha256.ensures.digest fed held))
+
+pub returns-in-Sha384 : goal.returns-in-Sha384
+returns-in-Sha384 c = rw c.in-Sha384.is (λ fed held. padded_digest-puts _ _ _ (c.finish-length-in-Sha384.ensures.digest fed held))
+
+pub returns-in-Sha512 : goal.returns-in-Sha512
+returns-in-Sha512 c = rw c.in-Sha512.is (λ fed held. padded_digest-puts _ _ _ (c.finish-length-in-Sha512.ensures.digest fed held))

@@ -1,0 +1,62 @@
+-- The algorithms of checksums and hashes: their names, the length of their digests, and the digests.
+use Rattle.std.specs.Prelude.{ℕ, List, [], ◌∷◌, Option, codes, find}
+use Rattle.std.specs.Borrow.{Bor}
+use Rattle.std.specs.Int.{to_be_bytes, w32}
+use Rattle.std.specs.Option.{option_map}
+use Rattle.std.specs.Str.{bytes_eq}
+use Rattle.md5.specs.Md5.{md5}
+use Rattle.sha1.specs.Sha1.{sha1}
+use Rattle.sha2.specs.Sha256.{sha256}
+use Rattle.sha2.specs.Sha512.{sha384, sha512}
+use Rattle.uimg_sums.specs.Crc.{crc}
+use Rattle.uimg_sums.specs.declared.algo.Algo.{Algo}
+use Rattle.uimg_sums.specs.declared.algo.Algo.TheVariants.{Crc32, Md5, Sha1, Sha256, Sha384, Sha512}
+
+-- a name and its algorithm
+pub record AlgoRow : Type 0 where
+  pub name : List ℕ
+  pub algo : Algo
+
+abbrev algo_row : List ℕ → Algo → AlgoRow
+algo_row name algo = record { name = name; algo = algo }
+
+-- the names as the hash nodes of a FIT image spell them, and U-Boot's hash.c
+abbrev pub algo_table : List AlgoRow
+algo_table =
+    algo_row (codes "crc32") Crc32
+    ∷ algo_row (codes "md5") Md5
+    ∷ algo_row (codes "sha1") Sha1
+    ∷ algo_row (codes "sha256") Sha256
+    ∷ algo_row (codes "sha384") Sha384
+    ∷ algo_row (codes "sha512") Sha512
+    ∷ []
+
+-- the algorithm of the first row of that name
+abbrev pub algo_of_name : List AlgoRow → List ℕ → Option Algo
+algo_of_name table name = option_map (λ r. r.algo) (find (λ r. bytes_eq name r.name) table)
+
+-- the same by that table
+abbrev pub algo_named : List ℕ → Option Algo
+algo_named name = algo_of_name algo_table name
+
+-- a row of the code's table
+abbrev pub algo_row_of : Bor (List ℕ) × Algo → AlgoRow
+algo_row_of r = algo_row r.0.now r.1
+
+-- the length of a digest in bytes (RFC 1321, section 3.5; FIPS 180-4, section 1, figure 1)
+abbrev pub digest_size : Algo → ℕ
+digest_size Crc32 = 4
+digest_size Md5 = 16
+digest_size Sha1 = 20
+digest_size Sha256 = 32
+digest_size Sha384 = 48
+digest_size Sha512 = 64
+
+-- the digest of a message; that of CRC-32 is the number in four bytes, the highest first
+abbrev pub digest_by : Algo → List ℕ → List ℕ
+digest_by Crc32 message = to_be_bytes w32 (crc message)
+digest_by Md5 message = md5 message
+digest_by Sha1 message = sha1 message
+digest_by Sha256 message = sha256 message
+digest_by Sha384 message = sha384 message
+digest_by Sha512 message = sha512 message

@@ -1,0 +1,32 @@
+-- Several sums over the same bytes.
+use Rattle.std.specs.Prelude.{◌≡◌, ◌-◌, ℕ, List, [], ◌++◌, map, length, replicate, Option, Some, None, IfSome}
+use Rattle.std.specs.List.{All}
+use Rattle.std.specs.Option.{option_map}
+use Rattle.uimg_sums.specs.Algorithms.{digest_by}
+use Rattle.uimg_sums.specs.AnySum.{algo_of, SumHolds, padded_digest}
+use Rattle.uimg_sums.specs.declared.algo.Algo.{Algo}
+use Rattle.uimg_sums.specs.declared.any_sum.AnySum.{AnySum}
+use Rattle.uimg_sums.specs.declared.bundle.Bundle.{Bundle}
+
+-- the algorithms, and `None` for each slot that is left of eight
+abbrev pub eight_slots : List Algo → List (Option Algo)
+eight_slots algos = map Some algos ++ replicate (8 - length algos) None
+
+-- Where the slot has a sum, those bytes may have been fed to it.
+abbrev pub SlotHolds : List ℕ → Option AnySum → Type 0
+SlotHolds fed slot = IfSome slot (λ sum. SumHolds sum fed)
+
+-- The sums are by these algorithms, in this order, and those bytes may have been fed to each.
+pub record Holds (bundle : Bundle) (algos : List Algo) (fed : List ℕ) : Type 0 where
+  pub order : map (option_map algo_of) bundle.sums ≡ eight_slots algos
+  pub count : bundle.count ≡ length algos
+  pub each : All (SlotHolds fed) bundle.sums
+
+-- the digest by the algorithm of a slot, or nothing where it has none
+abbrev pub digest_at : List ℕ → Option Algo → List ℕ
+digest_at fed None = []
+digest_at fed (Some algo) = digest_by algo fed
+
+-- The digest of each of the eight slots.
+abbrev pub padded_digests : List Algo → List ℕ → List (List ℕ × ℕ)
+padded_digests algos fed = map (λ slot. padded_digest (digest_at fed slot)) (eight_slots algos)

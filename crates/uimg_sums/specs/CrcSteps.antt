@@ -1,0 +1,18 @@
+-- The register of the CRC, a bit and a byte at a time.
+use Rattle.std.specs.Prelude.{ℕ, zero, suc, ◌-◌, ◌^◌, ◌/◌, ◌%◌, List, bit_xor, ◌==◌, if◌then◌else◌}
+use Rattle.std.specs.List.{fold}
+
+-- Half the number, whole. Where its lowest bit was 1, that half XOR the polynomial.
+abbrev pub bit_step : ℕ → ℕ
+bit_step x = if x % 2 == 1 then bit_xor (x / 2) 0xEDB88320 else x / 2
+
+unfoldable pub bit_steps : ℕ → ℕ → ℕ
+bit_steps zero x = x
+bit_steps (suc n) x = bit_step (bit_steps n x)
+
+abbrev pub byte_step : ℕ → ℕ → ℕ
+byte_step x byte = bit_steps 8 (bit_xor x byte)
+
+-- the register after a message
+abbrev pub register_of : List ℕ → ℕ
+register_of message = fold byte_step (2 ^ 32 - 1) message

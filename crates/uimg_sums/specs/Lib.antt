@@ -1,0 +1,6 @@
+pub mod Digest
+pub mod Crc
+pub mod CrcSteps
+pub mod Algorithms
+pub mod AnySum
+pub mod Bundle

@@ -1,0 +1,91 @@
+ghost use Rattle.std.specs.Prelude.{◌≡◌, map};
+ghost use Rattle.uimg_sums.specs.Algorithms.{algo_of_name, algo_row_of, algo_named, digest_size};
+
+/// The algorithm of a checksum or a hash, by ITU-T V.42 (CRC-32), RFC 1321 (MD5) or FIPS 180-4.
+#[derive(Clone, Copy, Debug, PartialEq, Eq)]
+pub enum Algo {
+    Crc32,
+    Md5,
+    Sha1,
+    Sha256,
+    Sha384,
+    Sha512,
+}
+
+// The names, spelled as in the `algo` property of a FIT image's hash nodes, and in U-Boot's `hash.c`.
+const NAMES: [(&str, Algo); 6] = [
+    ("crc32", Algo::Crc32),
+    ("md5", Algo::Md5),
+    ("sha1", Algo::Sha1),
+    ("sha256", Algo::Sha256),
+    ("sha384", Algo::Sha384),
+    ("sha512", Algo::Sha512),
+];
+
+// The algorithm of the first row of a name.
+fn algo_in(rows: &[(&str, Algo)], name: &[u8]) -> Option<Algo>
+    ensures { result ≡ algo_of_name (map algo_row_of rows.now) name.now }
+{
+    for (known, algo) in rows {
+        if name == known.as_bytes() {
+            return Some(*algo);
+        }
+    }
+    None
+}
+
+impl Algo {
+    /// The algorithm of a name, `None` for a name outside the table.
+    ///
+    /// The names are spelled as in the `algo` property of a FIT image's hash nodes, and in U-Boot's
+    /// `hash.c`. Case counts.
+    pub fn named(name: &[u8]) -> Option<Algo>
+        ensures { result ≡ algo_named name.now }
+    {
+        algo_in(&NAMES, name)
+    }
+
+    /// The length of a digest, in bytes.
+    pub fn len(self) -> usize
+        ensures { result ≡ digest_size self }
+    {
+        match self {
+            Algo::Crc32 => 4,
+            Algo::Md5 => 16,
+            Algo::Sha1 => 20,
+            Algo::Sha256 => 32,
+            Algo::Sha384 => 48,
+            Algo::Sha512 => 64,
+        }
+    }
+}
+
+#[cfg(test)]
+mod tests {
+    use super::*;
+
+    #[test]
+    fn algo_rows(rt: HostRuntime) {
+        let rows = [
+            ("crc32", Algo::Crc32, 4),
+            ("md5", Algo::Md5, 16),
+            ("sha1", Algo::Sha1, 20),
+            ("sha256", Algo::Sha256, 32),
+            ("sha384", Algo::Sha384, 48),
+            ("sha512", Algo::Sha512, 64),
+        ];
+        for (name, algo, length) in rows {
+            assert_eq!(rt; Algo::named(name.as_bytes()), Some(algo));
+            assert_eq!(rt; algo.len(), length);
+        }
+    }
+
+    #[test]
+    fn outside_algo_rows(rt: HostRuntime) {
+        for name in [
+            "", "crc", "CRC32", "sha3", "sha256 ", "sha256\0", "sha", "md",
+        ] {
+            assert_eq!(rt; Algo::named(name.as_bytes()), None);
+        }
+    }
+}

@@ -1,0 +1,106 @@
+ghost use Rattle.std.specs.Prelude.{◌≡◌, ◌==◌, ◌<◌, ℕ, List, [], ◌∷◌, ◌++◌, length, false, IsTrue, ◌↔◌};
+ghost use Rattle.std.specs.Option.{option_map};
+ghost use Rattle.uimg_sums.specs.AnySum.{algo_of, padded_digest};
+ghost use Rattle.uimg_sums.specs.Bundle.{Holds, SlotHolds, digest_at, padded_digests};
+ghost use Rattle.uimg_sums.specs.declared.algo.Algo.{Algo};
+
+use crate::algo::Algo;
+use crate::any_sum::AnySum;
+
+/// Up to eight sums over the same bytes, each by an algorithm of its own.
+///
+/// Sums are added first, and then all are fed at once. An algorithm may be added more than once.
+/// No call takes memory, and none but `add` refuses.
+#[derive(Drop)]
+pub struct Bundle {
+    sums: [Option<AnySum>; 8],
+    count: usize,
+}
+
+impl Bundle {
+    /// A bundle of no sums.
+    pub fn new() -> Bundle
+        ensures { Holds result [] [] }
+    {
+        Bundle {
+            sums: [None, None, None, None, None, None, None, None],
+            count: 0,
+        }
+    }
+
+    /// Adds a sum by an algorithm after those that are there, before anything is fed.
+    ///
+    /// It gives `false` where eight sums are there; then nothing changes.
+    pub fn add(&mut self, algo: Algo) -> bool
+        ensures room { (algos : List Algo) (fed : List ℕ) → Holds self.old algos fed →
+            (IsTrue result ↔ (length algos < 8)) }
+        ensures added { (algos : List Algo) → Holds self.old algos [] → length algos < 8 →
+            Holds self.new (algos ++ algo ∷ []) [] }
+        ensures full { result ≡ false → self.new ≡ self.old }
+    {
+        if self.count >= 8 {
+            return false;
+        }
+        self.sums[self.count] = Some(AnySum::start(algo));
+        self.count += 1;
+        true
+    }
+
+    /// How many sums there are.
+    pub fn len(&self) -> usize
+        ensures { (algos : List Algo) (fed : List ℕ) → Holds self.now algos fed →
+            result ≡ length algos }
+    {
+        self.count
+    }
+
+    /// Whether there is no sum.
+    pub fn is_empty(&self) -> bool
+        ensures { (algos : List Algo) (fed : List ℕ) → Holds self.now algos fed →
+            result ≡ (length algos == 0) }
+    {
+        self.len() == 0
+    }
+
+    /// Feeds the bytes to each sum, after those that were fed.
+    pub fn feed(&mut self, bytes: &[u8])
+        ensures { (algos : List Algo) (fed : List ℕ) → Holds self.old algos fed →
+            Holds self.new algos (fed ++ bytes.now) }
+    {
+        for slot in self.sums.iter_mut() {
+            feed_slot(slot, bytes);
+        }
+    }
+
+    /// The digest of all that was fed by each algorithm, in the order in which they were added.
+    ///
+    /// A digest lies in the first of its 64 bytes, with zeros behind it, and its length in bytes is
+    /// beside it. The slots past `len` have zeros and length 0.
+    pub fn finish(self) -> [([u8; 64], usize); 8]
+        ensures { (algos : List Algo) (fed : List ℕ) → Holds self algos fed →
+            result ≡ padded_digests algos fed }
+    {
+        self.sums.map(digest_of)
+    }
+}
+
+// Feeds the bytes to the sum of a slot, where it has one.
+fn feed_slot(slot: &mut Option<AnySum>, bytes: &[u8])
+    ensures algo { option_map algo_of slot.new ≡ option_map algo_of slot.old }
+    ensures fed { (fed : List ℕ) → SlotHolds fed slot.old → SlotHolds (fed ++ bytes.now) slot.new }
+{
+    if let Some(sum) = slot {
+        sum.feed(bytes);
+    }
+}
+
+// The digest of the sum of a slot, or zeros and length 0 where it has none.
+fn digest_of(slot: Option<AnySum>) -> ([u8; 64], usize)
+    ensures { (fed : List ℕ) → SlotHolds fed slot →
+        result ≡ padded_digest (digest_at fed (option_map algo_of slot)) }
+{
+    match slot {
+        Some(sum) => sum.finish(),
+        None => ([0; 64], 0),
+    }
+}

@@ -1,0 +1,21 @@
+//! Checksums and hashes over bytes that come in pieces: CRC-32, MD5 and the SHAs, by their names, and
+//! several at once.
+#![tactic(auto)]
+
+mod algo;
+mod any_sum;
+mod bundle;
+mod crc;
+mod crc_steps;
+mod crc_table;
+mod digests;
+mod sums;
+#[cfg(test)]
+mod tests;
+
+pub use algo::Algo;
+pub use bundle::Bundle;
+pub use crc::{Crc, crc_of};
+pub use crc_table::crc_entry;
+pub use digests::{Md5Sum, Sha1Sum, Sha256Sum, Sha384Sum, Sha512Sum};
+pub use sums::Summer;

@@ -1,0 +1,7 @@
+pub mod SizeExamples
+pub mod Nearest
+pub mod CalendarExamples
+pub mod CalendarLaw
+pub mod ClockLaw
+pub mod TimeLine
+pub mod NulLaws

@@ -1,0 +1,9 @@
+pub mod Slices
+pub mod Numbers
+pub mod Nul
+pub mod Digits
+pub mod Sizes
+pub mod Calendar
+pub mod Times
+pub mod Names
+pub mod CodeRows

@@ -1,0 +1,32 @@
+ghost use Rattle.std.specs.Prelude.{◌≡◌, codes};
+ghost use Rattle.uimg_texts.specs.Names.{code_of, printed, arch_table};
+
+use crate::codes::{CodeRow, code_in, printed_in};
+
+/// The architectures that are known, by the `IH_ARCH_` codes of U-Boot's `image.h`.
+pub const ARCHITECTURES: [CodeRow; 10] = [
+    ("arm", 2, "ARM"),
+    ("x86", 3, "Intel x86"),
+    ("mips", 5, "MIPS"),
+    ("mips64", 6, "MIPS 64 Bit"),
+    ("ppc", 7, "PowerPC"),
+    ("powerpc", 7, "PowerPC"),
+    ("sandbox", 19, "Sandbox"),
+    ("arm64", 22, "AArch64"),
+    ("x86_64", 24, "AMD x86_64"),
+    ("riscv", 26, "RISC-V"),
+];
+
+/// The code of an architecture by its short name, `None` for a name outside the table.
+pub fn arch_code(name: &[u8]) -> Option<u8>
+    ensures { result ≡ code_of arch_table name.now }
+{
+    code_in(&ARCHITECTURES, name)
+}
+
+/// The printed name of an architecture by its code, `Unknown Architecture` for a code outside the table.
+pub fn arch_text(code: u8) -> &'static str
+    ensures { result.now ≡ printed arch_table (codes "Unknown Architecture") code }
+{
+    printed_in(&ARCHITECTURES, "Unknown Architecture", code)
+}

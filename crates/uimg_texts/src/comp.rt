@@ -1,0 +1,29 @@
+ghost use Rattle.std.specs.Prelude.{◌≡◌, codes};
+ghost use Rattle.uimg_texts.specs.Names.{code_of, printed, comp_table};
+
+use crate::codes::{CodeRow, code_in, printed_in};
+
+/// The compressions that are known, by the `IH_COMP_` codes of U-Boot's `image.h`.
+pub const COMPRESSIONS: [CodeRow; 7] = [
+    ("none", 0, "uncompressed"),
+    ("gzip", 1, "gzip compressed"),
+    ("bzip2", 2, "bzip2 compressed"),
+    ("lzma", 3, "lzma compressed"),
+    ("lzo", 4, "lzo compressed"),
+    ("lz4", 5, "lz4 compressed"),
+    ("zstd", 6, "zstd compressed"),
+];
+
+/// The code of a compression by its short name, `None` for a name outside the table.
+pub fn comp_code(name: &[u8]) -> Option<u8>
+    ensures { result ≡ code_of comp_table name.now }
+{
+    code_in(&COMPRESSIONS, name)
+}
+
+/// The printed name of a compression by its code, `Unknown Compression` for a code outside the table.
+pub fn comp_text(code: u8) -> &'static str
+    ensures { result.now ≡ printed comp_table (codes "Unknown Compression") code }
+{
+    printed_in(&COMPRESSIONS, "Unknown Compression", code)
+}

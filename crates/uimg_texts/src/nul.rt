@@ -1,0 +1,45 @@
+ghost use Rattle.std.specs.Prelude.{◌≡◌, ◌<◌, length, take, Some, None, IfSome, MatchOption};
+ghost use Rattle.uimg_texts.specs.Nul.{before_nul, text};
+
+/// Where the first NUL stands, which ends a text; `None` where there is none.
+pub fn first_nul(bytes: &[u8]) -> Option<usize>
+    ensures within { IfSome result (λ n. n < length bytes.now) }
+    ensures text { MatchOption result (before_nul bytes.now ≡ None)
+        (λ n. before_nul bytes.now ≡ Some (take n bytes.now)) }
+{
+    for (i, byte) in bytes.iter().enumerate() {
+        if *byte == 0 {
+            return Some(i);
+        }
+    }
+    None
+}
+
+/// The bytes before the first NUL, or all where there is none.
+#[tactic(auto, unfolding(crate::specs::Nul::text))]
+pub fn before_nul(bytes: &[u8]) -> &[u8]
+    ensures { result.now ≡ text bytes.now }
+{
+    match first_nul(bytes) {
+        Some(end) => &bytes[..end],
+        None => bytes,
+    }
+}
+
+#[cfg(test)]
+mod tests {
+    use super::*;
+
+    #[test]
+    fn the_first_nul_ends_a_text(rt: HostRuntime) {
+        for (bytes, place, text) in [
+            (b"".as_slice(), None, b"".as_slice()),
+            (b"abc", None, b"abc"),
+            (b"ab\0c\0", Some(2), b"ab"),
+            (b"\0", Some(0), b""),
+        ] {
+            assert_eq!(rt; first_nul(bytes), place);
+            assert_eq!(rt; before_nul(bytes), text);
+        }
+    }
+}

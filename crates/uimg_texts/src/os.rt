@@ -1,0 +1,33 @@
+ghost use Rattle.std.specs.Prelude.{◌≡◌, codes};
+ghost use Rattle.uimg_texts.specs.Names.{code_of, printed, os_table};
+
+use crate::codes::{CodeRow, code_in, printed_in};
+
+/// The operating systems that are known, by the `IH_OS_` codes of U-Boot's `image.h`.
+pub const OPERATING_SYSTEMS: [CodeRow; 11] = [
+    ("netbsd", 2, "NetBSD"),
+    ("linux", 5, "Linux"),
+    ("vxworks", 14, "VxWorks"),
+    ("qnx", 16, "QNX"),
+    ("u-boot", 17, "U-Boot"),
+    ("rtems", 18, "RTEMS"),
+    ("plan9", 23, "Plan 9"),
+    ("arm-trusted-firmware", 25, "ARM Trusted Firmware"),
+    ("tee", 26, "Trusted Execution Environment"),
+    ("opensbi", 27, "RISC-V OpenSBI"),
+    ("efi", 28, "EFI Firmware"),
+];
+
+/// The code of an operating system by its short name, `None` for a name outside the table.
+pub fn os_code(name: &[u8]) -> Option<u8>
+    ensures { result ≡ code_of os_table name.now }
+{
+    code_in(&OPERATING_SYSTEMS, name)
+}
+
+/// The printed name of an operating system by its code, `Unknown OS` for a code outside the table.
+pub fn os_text(code: u8) -> &'static str
+    ensures { result.now ≡ printed os_table (codes "Unknown OS") code }
+{
+    printed_in(&OPERATING_SYSTEMS, "Unknown OS", code)
+}

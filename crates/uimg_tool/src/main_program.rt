@@ -1,0 +1,287 @@
+//! The function `program`, the whole program: it opens the files that a command line names, has its
+//! request carried out, and turns the end into a line and an exit status.
+use crate::disk_files::DiskFiles;
+use crate::engine::run;
+use crate::fault::Fault;
+use crate::make_command::MakeCommand;
+use crate::making::make;
+use crate::words::{MakeRequest, Request, RunRequest, WordsFault, read_words};
+use std::fmt::Display;
+use std::fs;
+use std::io::{BufWriter, Write};
+use std::rt::Files;
+use thiserror::Error;
+use uimg_base::{FileShelf, FileSource, Out, Room, Status};
+
+/// All is done.
+const DONE: u8 = 0;
+
+/// The image is refused, or a checksum is not right.
+const REFUSED: u8 = 1;
+
+/// The command line is wrong.
+const WRONG_LINE: u8 = 2;
+
+/// A file could not be opened, or a read, a write or memory failed.
+const FAILED: u8 = 3;
+
+// Why a request was not carried out. Its text is the line after `uimg: `.
+#[derive(Debug, Drop, Error)]
+enum RequestFault<'a> {
+    #[error("cannot read {0}")]
+    CannotRead(&'a str),
+
+    #[error("cannot write {0}")]
+    CannotWrite(&'a str),
+
+    #[error("out of memory")]
+    OutOfMemory,
+
+    #[error("{0}")]
+    Stopped(Fault),
+}
+
+impl<'a> From<Fault> for RequestFault<'a> {
+    fn from(fault: Fault) -> RequestFault<'a> {
+        RequestFault::Stopped(fault)
+    }
+}
+
+/// The program: it carries out the words of a command line, the program's name first, and answers
+/// the exit status.
+///
+/// `epoch` is the text of SOURCE_DATE_EPOCH where it is set, and `now` the clock's moment in seconds
+/// since 1970: the time of an image that is made. Listings, reports and help go to `out`. They are
+/// gathered and written in large pieces, and all is written before a fault is told. A fault is one
+/// line on `err`, and a failed write to `err` changes nothing.
+pub fn program<R: Files + AllocGlobal, W: Write, V: Write>(
+    rt: &R,
+    words: &[&str],
+    epoch: Option<&str>,
+    now: u32,
+    out: &mut W,
+    err: &mut V,
+) -> u8 {
+    match read_words(rt.alloc(), words, epoch, now) {
+        Ok(request) => tell_end(&carry_out(rt, &request, out), err),
+        Err(fault) => tell_words_fault(&fault, err),
+    }
+}
+
+fn tell_words_fault<V: Write>(fault: &WordsFault, err: &mut V) -> u8 {
+    match fault {
+        WordsFault::NoCommand(text) => {
+            let _ = write!(err, "{text}");
+            WRONG_LINE
+        }
+        WordsFault::OutOfMemory => tell(err, fault, FAILED),
+        _ => tell(err, fault, WRONG_LINE),
+    }
+}
+
+fn tell_end<V: Write>(end: &Result<Status, RequestFault<'_>>, err: &mut V) -> u8 {
+    match end {
+        Ok(Status::Done) => DONE,
+        Ok(Status::NotRight) => REFUSED,
+        Err(fault) => tell(err, fault, status_of(fault)),
+    }
+}
+
+// The line of a fault. It answers the status; a failed write changes nothing.
+fn tell<V: Write, D: Display>(err: &mut V, fault: &D, status: u8) -> u8 {
+    let _ = writeln!(err, "uimg: {fault}");
+    status
+}
+
+fn status_of(fault: &RequestFault<'_>) -> u8 {
+    match fault {
+        RequestFault::Stopped(Fault::Legacy(_)) => REFUSED,
+        _ => FAILED,
+    }
+}
+
+// Carries out a request. What it prints is gathered, and the rest of it written at the end. A failure
+// there comes before any other end, since the text stands before what ended the request.
+fn carry_out<'a, R: Files + AllocGlobal, W: Write>(
+    rt: &R,
+    request: &'a Request<'_>,
+    out: &mut W,
+) -> Result<Status, RequestFault<'a>> {
+    let Ok(mut gathered) = BufWriter::new(rt.alloc(), out) else {
+        return Err(RequestFault::OutOfMemory);
+    };
+    let end = match request {
+        Request::Run(request) => run_command(rt, request, &mut gathered),
+        Request::Make(request) => make_image(rt, request, &mut gathered),
+        Request::Show(text) => show(text, &mut gathered),
+    };
+    let written = gathered.flush();
+    // A failed write leaves text in it, and its drop would try once more to write that.
+    let (_, _) = gathered.into_parts();
+    match written {
+        Ok(()) => end,
+        Err(_) => Err(RequestFault::Stopped(Fault::Put)),
+    }
+}
+
+// Prints help or the version.
+fn show<'a, W: Write, D: Display>(text: &D, out: &mut W) -> Result<Status, RequestFault<'a>> {
+    match write!(out, "{text}") {
+        Ok(()) => Ok(Status::Done),
+        Err(_) => Err(RequestFault::Stopped(Fault::Put)),
+    }
+}
+
+// Runs a command on the image of a request.
+fn run_command<'a, R: Files + AllocGlobal, W: Write>(
+    rt: &R,
+    request: &RunRequest<'a>,
+    out: &mut W,
+) -> Result<Status, RequestFault<'a>> {
+    let Ok(mut source) = FileSource::open(rt, request.image) else {
+        return Err(RequestFault::CannotRead(request.image));
+    };
+    let mut room = Room::new(rt.alloc());
+    let status = match request.outfile {
+        None => run(&request.command, &mut source, &mut room, &mut Out::new(out))?,
+        Some(path) => {
+            let Ok(outfile) = fs::create(rt, path) else {
+                return Err(RequestFault::CannotWrite(path));
+            };
+            run(
+                &request.command,
+                &mut source,
+                &mut room,
+                &mut Out::new(outfile),
+            )?
+        }
+    };
+    Ok(status)
+}
+
+// Makes the image of a request.
+fn make_image<'a, R: Files + AllocGlobal, W: Write>(
+    rt: &R,
+    request: &'a MakeRequest<'_>,
+    out: &mut W,
+) -> Result<Status, RequestFault<'a>> {
+    let made = make(
+        rt.alloc(),
+        &request.command,
+        request.time,
+        &mut DiskFiles::new(rt, ""),
+        FileShelf::new(rt, request.outfile),
+        &mut Room::new(rt.alloc()),
+        &mut Out::new(out),
+    );
+    match made {
+        Ok(_) => Ok(Status::Done),
+        Err(fault) => Err(stopped_making(request, fault)),
+    }
+}
+
+// Why a making stopped, with the path that the command line gave.
+fn stopped_making<'a>(request: &'a MakeRequest<'_>, fault: Fault) -> RequestFault<'a> {
+    match fault {
+        Fault::NoFile(number) => RequestFault::CannotRead(file_name(&request.command, number)),
+        Fault::Keep => RequestFault::CannotRead(request.outfile),
+        _ => RequestFault::Stopped(fault),
+    }
+}
+
+// The name of a file of a command line, as the line gave it.
+fn file_name(command: &MakeCommand, number: u64) -> &str {
+    let MakeCommand::Parts { options: _, files } = command;
+    match files.get(number as usize) {
+        Some(name) => str::from_utf8(name).unwrap_or(""),
+        None => "",
+    }
+}
+
+#[cfg(test)]
+mod tests {
+    use super::*;
+    use std::test::Fail;
+    use uimg_legacy::LegacyFault;
+
+    // Each end has its line on standard error, or none, and its status.
+    #[test]
+    fn ends_have_their_lines(rt: HostRuntime) {
+        let ends = [
+            (Ok(Status::Done), "", 0u8),
+            (Ok(Status::NotRight), "", 1),
+            (
+                Err(RequestFault::Stopped(Fault::Legacy(LegacyFault::EmptyPart))),
+                "uimg: L9 empty part\n",
+                1,
+            ),
+            (
+                Err(RequestFault::Stopped(Fault::Read)),
+                "uimg: read failed\n",
+                3,
+            ),
+            (
+                Err(RequestFault::Stopped(Fault::Put)),
+                "uimg: write failed\n",
+                3,
+            ),
+            (
+                Err(RequestFault::Stopped(Fault::OutOfMemory)),
+                "uimg: out of memory\n",
+                3,
+            ),
+            (
+                Err(RequestFault::CannotRead("a b")),
+                "uimg: cannot read a b\n",
+                3,
+            ),
+            (
+                Err(RequestFault::CannotWrite("c")),
+                "uimg: cannot write c\n",
+                3,
+            ),
+            (Err(RequestFault::OutOfMemory), "uimg: out of memory\n", 3),
+        ];
+        for (end, line, status) in ends.iter() {
+            let mut err = Vec::new(rt.alloc());
+            assert_eq!(rt; tell_end(end, &mut err), *status, "{line}");
+            assert_eq!(rt; err.as_slice(), line.as_bytes());
+        }
+    }
+
+    // So do words that ask for nothing.
+    #[test]
+    fn words_have_their_lines(rt: HostRuntime) {
+        let faults = [
+            (WordsFault::NoSubcommand, "uimg: no command\n", 2u8),
+            (WordsFault::OutOfMemory, "uimg: out of memory\n", 3),
+        ];
+        for (fault, line, status) in faults.iter() {
+            let mut err = Vec::new(rt.alloc());
+            assert_eq!(rt; tell_words_fault(fault, &mut err), *status);
+            assert_eq!(rt; err.as_slice(), line.as_bytes());
+        }
+    }
+
+    // What cannot be opened or read back is told by its path, as the command line gave it.
+    #[test]
+    fn makings_name_their_paths(rt: HostRuntime) -> Result<(), Fail> {
+        let words = ["uimg", "mkimage", "-T", "multi", "-d", "a:b", "c.img"];
+        let Ok(Request::Make(request)) = read_words(rt.alloc(), &words, None, 0) else {
+            panic!(rt; "no making");
+        };
+        let faults = [
+            (Fault::NoFile(0), "uimg: cannot read a\n"),
+            (Fault::NoFile(1), "uimg: cannot read b\n"),
+            (Fault::Keep, "uimg: cannot read c.img\n"),
+            (Fault::Put, "uimg: write failed\n"),
+        ];
+        for (fault, line) in faults {
+            let mut err = Vec::new(rt.alloc());
+            let end = Err(stopped_making(&request, fault));
+            assert_eq!(rt; tell_end(&end, &mut err), 3);
+            assert_eq!(rt; err.as_slice(), line.as_bytes());
+        }
+        Ok(())
+    }
+}
