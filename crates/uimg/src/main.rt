@@ -1,7 +1,11 @@
 // The program uimg, which is a function of uimg_tool.
 #![tactic(auto)]
 
-use std::env::VarError;
+#[cfg(test)]
+mod tests;
+
+use std::alloc::Alloc;
+use std::env::{Env, VarError};
 use std::process::ExitCode;
 use std::time::{Clock, SystemTime};
 use std::{env, io};
@@ -41,7 +45,7 @@ fn run(rt: &HostRuntime) -> io::Result<u8> {
 
 // The text of SOURCE_DATE_EPOCH where it is set. One that is not UTF-8 is a wrong one, as the
 // empty text is.
-fn epoch(rt: &HostRuntime) -> io::Result<Option<String>> {
+fn epoch<R: Env + Alloc>(rt: &R) -> io::Result<Option<String<R::A>>> {
     match env::var(rt, "SOURCE_DATE_EPOCH") {
         Ok(text) => Ok(Some(text)),
         Err(VarError::NotPresent) => Ok(None),

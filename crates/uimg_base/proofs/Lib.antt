@@ -3,3 +3,5 @@ pub mod Slices
 pub mod OutcomeLaws
 pub mod SizeLine
 pub mod WritingLaws
+pub mod StreamLaws
+pub mod DeviceLaws

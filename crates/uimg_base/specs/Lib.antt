@@ -9,3 +9,5 @@ pub mod Results
 pub mod Named
 pub mod Writing
 pub mod Using
+pub mod Streams
+pub mod Shelves

@@ -1,4 +1,5 @@
 ghost use Rattle.std.specs.Prelude.{false};
+ghost use Rattle.uimg_base.specs.Shelves.{contents_of};
 
 use crate::file_source::FileSource;
 use crate::shelves::Shelf;
@@ -7,7 +8,8 @@ use std::io::Write;
 use std::rt::Files;
 use std::{fs, io};
 
-/// A shelf that is a file. No contract says what a file has, so it is not claimed to be honest.
+/// A shelf that is a file. What is written to it is written to the file, byte for byte. That a disk
+/// keeps what a file was given no contract says, so the shelf is not claimed to be honest.
 ///
 /// The first write (of no bytes too) creates the file, or empties it where it exists; a file that
 /// cannot be created is a failed write. Until then nothing is done to the path.
@@ -30,11 +32,13 @@ impl<'a, R: Files> FileShelf<'a, R> {
 }
 
 impl<'a, R: Files> Write for FileShelf<'a, R> {
+    ghost contents = { λ s. contents_of R.File.contents s.file };
+
     fn write(&mut self, buf: &[u8]) -> io::Result<usize> {
-        if let Some(file) = &mut self.file {
-            return file.write(buf);
-        }
-        let mut file = fs::create(self.rt, self.path)?;
+        let mut file = match self.file.take() {
+            Some(file) => file,
+            None => fs::create(self.rt, self.path)?,
+        };
         let count = file.write(buf);
         self.file = Some(file);
         count

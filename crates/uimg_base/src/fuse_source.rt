@@ -1,3 +1,4 @@
+ghost use Rattle.std.proofs.Common.{rules};
 ghost use Rattle.std.specs.Prelude.{◌≡◌, ◌-◌, ◌==◌};
 
 use crate::source::{Source, SourceFault};
@@ -51,6 +52,8 @@ impl<S: Source> Source for FuseSource<S> {
       asked = s.asked;
       failures = s.failures;
     } };
+
+    ghost never_failed = { λ s always. Prim.search rules };
 
     ghost short = { λ s. S.short s.source };
 

@@ -2,6 +2,7 @@ ghost use Rattle.std.specs.Prelude.{◌≡◌, ◌^◌, ◌<◌, [], true, Some,
 ghost use Rattle.std.specs.Io.{WritesAtMost};
 ghost use Rattle.std.specs.Io.KnownBytes.{Keeps, WriteAppends};
 ghost use Rattle.std.specs.IoError.{error_kind};
+ghost use Rattle.std.proofs.Common.{refl};
 ghost use Rattle.uimg_base.specs.Device.{IsFresh};
 
 use crate::shelves::Shelf;
@@ -57,6 +58,8 @@ impl<A: Allocator> Shelf for MemShelf<A> {
 
     ghost honest = { true };
 
+    ghost steady = { true };
+
     /// Keeps what was written. It never fails.
     fn keep(self) -> Result<MemKept<A>, SourceFault>
         ensures ok { IsOk result }
@@ -81,6 +84,10 @@ pub struct MemKept<A: Allocator> {
 
 impl<A: Allocator> Source for MemKept<A> {
     ghost device = { λ s. record { bytes = s.bytes.items; honest = true; asked = s.asked; failures = 0 } };
+
+    ghost steady = { true };
+
+    ghost never_failed = { λ s always. refl };
 
     ghost short = { λ s. s.short };
 

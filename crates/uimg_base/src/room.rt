@@ -14,7 +14,8 @@ pub type Entry = [u64; 16];
 /// All the memory of an engine: a window of 8192 bytes, and a list of entries of 128 bytes.
 ///
 /// Contracts see it as `Held`: its entries, the most bytes that it ever held, and how often it
-/// refused to grow.
+/// refused to grow. What it holds is what it has taken: memory for more entries than there ever
+/// were is not taken.
 #[derive(Drop)]
 pub struct Room<A: Allocator> {
     window: [u8; WINDOW],
@@ -24,14 +25,15 @@ pub struct Room<A: Allocator> {
 }
 
 impl<A: Allocator> Model for Room<A> {
-    ghost use Rattle.std.specs.Prelude.{◌≤◌, length};
+    ghost use Rattle.std.specs.Prelude.{◌≤◌};
+    ghost use Rattle.std.specs.Vec.{vec_capacity};
     ghost use Rattle.uimg_base.specs.Held.{Held, held_bytes};
 
     ghost Value = { Held };
 
     ghost view = { λ r. record { entries = r.entries.items; peak = r.peak; refused = r.refused } };
 
-    ghost invariant = { λ r. held_bytes (length r.entries.items) ≤ r.peak };
+    ghost invariant = { λ r. held_bytes (vec_capacity r.entries) ≤ r.peak };
 }
 
 impl<A: Allocator> Room<A> {
@@ -90,10 +92,11 @@ impl<A: Allocator> Room<A> {
         ensures counted { self.new.refused ≡ (if is_err result then min (self.old.refused + 1)
             (2 ^ 64 - 1) else self.old.refused) }
     {
-        if self.entries.reserve_exact(1).is_err() || self.entries.push(entry).is_err() {
+        if self.entries.reserve_exact(1).is_err() {
             self.refused = self.refused.saturating_add(1);
             return Err(AllocError);
         }
+        self.entries.push_reserved(entry);
         self.peak = u128::max(self.peak, WINDOW as u128 + 128 * self.entries.len() as u128);
         Ok(())
     }

@@ -1,4 +1,4 @@
-ghost use Rattle.std.specs.Prelude.{◌≡◌, Bool, Some, IfOk, IsTrue};
+ghost use Rattle.std.specs.Prelude.{◌≡◌, Bool, false, Some, IsOk, IfOk, IsTrue};
 ghost use Rattle.uimg_base.specs.Device.{IsFresh};
 
 use crate::source::{Source, SourceFault};
@@ -12,6 +12,9 @@ pub trait Shelf: Write + Drop {
     /// Whether what is kept is what was written, and answers it.
     ghost honest: { Bool };
 
+    /// Whether `keep` always answers. It is a fact of the type; a shelf in memory is steady.
+    ghost steady: { Bool } = { false };
+
     /// Ends the writing, and gives what was written as a source of which nothing was asked yet. An
     /// honest shelf gives an honest source with just the bytes that were written.
     ///
@@ -20,5 +23,6 @@ pub trait Shelf: Write + Drop {
         ensures bytes { IsTrue honest → IfOk result (λ kept.
             Self.contents self ≡ Some (Self.Kept.device kept).bytes) }
         ensures honest { IsTrue honest → IfOk result (λ kept. IsTrue (Self.Kept.device kept).honest) }
+        ensures steady { IsTrue steady → IsOk result }
         ensures fresh { IfOk result (λ kept. IsFresh (Self.Kept.device kept)) };
 }

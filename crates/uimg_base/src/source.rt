@@ -1,4 +1,5 @@
-ghost use Rattle.std.specs.Prelude.{◌≡◌, ℕ, ◌+◌, ◌^◌, ◌<◌, ◌≤◌, List, true, length, IsTrue, OnOk, IfOk, is_err};
+ghost use Rattle.std.specs.Prelude.{◌≡◌, ℕ, ◌+◌, ◌^◌, ◌<◌, ◌≤◌, List, Bool, true, false, length, IsTrue, OnOk, IfOk, is_err};
+ghost use Rattle.std.proofs.Common.{refl};
 ghost use Rattle.uimg_base.specs.Device.{Device, RisesIf, SameDevice, asked_more};
 ghost use Rattle.uimg_texts.specs.Slices.{slice};
 
@@ -17,6 +18,9 @@ pub struct SourceFault;
 pub trait Source: Drop {
     /// What contracts see of the source.
     ghost device: { Self → Device };
+
+    /// Whether each call answers. It is a fact of the type: sources in memory are steady.
+    ghost steady: { Bool } = { false };
 
     /// How many bytes the source has.
     ///
@@ -54,6 +58,9 @@ pub trait Source: Drop {
     fn failures(&self) -> u64
         ensures { result ≡ (device self.now).failures };
 
+    /// A steady source never failed.
+    ghost never_failed: { (s : Self) → IsTrue steady → (device s).failures ≡ 0 };
+
     /// A source has fewer than 2^64 bytes.
     ghost short: { (s : Self) → length (device s).bytes < 2 ^ 64 };
 }
@@ -78,6 +85,10 @@ impl<'a> MemSource<'a> {
 
 impl<'a> Source for MemSource<'a> {
     ghost device = { λ s. record { bytes = s.bytes.now; honest = true; asked = s.asked; failures = 0 } };
+
+    ghost steady = { true };
+
+    ghost never_failed = { λ s always. refl };
 
     ghost short = { λ s. s.short };
 

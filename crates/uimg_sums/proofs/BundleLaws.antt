@@ -26,7 +26,7 @@ set-eight_slots algos algo h =
     ∙ ap (λ (n : ℕ). map Some (algos ++ algo ∷ []) ++ replicate n None) (sym after)
 
 -- a new sum in the first free slot
-pub Holds-added : (bundle : Bundle) (algos : List Algo) (algo : Algo) (sum : AnySum) → Holds bundle algos [] → length algos < 8 → algo_of sum ≡ algo → SumHolds sum [] → Holds (record { sums = set bundle.sums bundle.count (Some sum); count = bundle.count + 1 }) (algos ++ algo ∷ []) []
+pub Holds-added : (bundle : Bundle) (algos : List Algo) (algo : Algo) (sum : AnySum) → Holds bundle algos [] → length algos < 8 → algo_of sum ≡ algo → SumHolds sum [] → Holds (record { sums = set bundle.sums bundle.count (Some sum); count = bundle.count + 1; has_fed = bundle.has_fed }) (algos ++ algo ∷ []) []
 Holds-added bundle algos algo sum held h is_algo fresh = record {
   order = map-set (option_map algo_of) bundle.sums bundle.count (Some sum)
       ∙ ap (λ (w : List (Option Algo)). set w bundle.count (Some (algo_of sum))) held.order
@@ -34,6 +34,7 @@ Holds-added bundle algos algo sum held h is_algo fresh = record {
       ∙ ap (λ (a : Algo). set (eight_slots algos) (length algos) (Some a)) is_algo
       ∙ set-eight_slots algos algo h;
   count = omega (arith, held.count, length-append algos (algo ∷ []));
+  has_fed = held.has_fed;
   each = All-set (SlotHolds []) bundle.sums bundle.count (Some sum) fresh held.each;
 }
 

@@ -1,5 +1,5 @@
 -- Several sums over the same bytes.
-use Rattle.std.specs.Prelude.{◌≡◌, ◌-◌, ℕ, List, [], ◌++◌, map, length, replicate, Option, Some, None, IfSome}
+use Rattle.std.specs.Prelude.{◌≡◌, ◌-◌, ℕ, List, [], ◌∷◌, ◌++◌, Bool, true, false, map, length, replicate, Option, Some, None, IfSome}
 use Rattle.std.specs.List.{All}
 use Rattle.std.specs.Option.{option_map}
 use Rattle.uimg_sums.specs.Algorithms.{digest_by}
@@ -16,10 +16,16 @@ eight_slots algos = map Some algos ++ replicate (8 - length algos) None
 abbrev pub SlotHolds : List ℕ → Option AnySum → Type 0
 SlotHolds fed slot = IfSome slot (λ sum. SumHolds sum fed)
 
+-- whether there is a byte
+abbrev pub has_bytes : List ℕ → Bool
+has_bytes [] = false
+has_bytes (b ∷ bytes) = true
+
 -- The sums are by these algorithms, in this order, and those bytes may have been fed to each.
 pub record Holds (bundle : Bundle) (algos : List Algo) (fed : List ℕ) : Type 0 where
   pub order : map (option_map algo_of) bundle.sums ≡ eight_slots algos
   pub count : bundle.count ≡ length algos
+  pub has_fed : bundle.has_fed ≡ has_bytes fed
   pub each : All (SlotHolds fed) bundle.sums
 
 -- the digest by the algorithm of a slot, or nothing where it has none

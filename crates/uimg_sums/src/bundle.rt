@@ -15,6 +15,7 @@ use crate::any_sum::AnySum;
 pub struct Bundle {
     sums: [Option<AnySum>; 8],
     count: usize,
+    has_fed: bool,
 }
 
 impl Bundle {
@@ -25,19 +26,23 @@ impl Bundle {
         Bundle {
             sums: [None, None, None, None, None, None, None, None],
             count: 0,
+            has_fed: false,
         }
     }
 
-    /// Adds a sum by an algorithm after those that are there, before anything is fed.
+    /// Adds a sum by an algorithm after those that are there, before any byte is fed.
     ///
-    /// It gives `false` where eight sums are there; then nothing changes.
+    /// It gives `false` where eight sums are there, or a byte was fed; then nothing changes.
     pub fn add(&mut self, algo: Algo) -> bool
         ensures room { (algos : List Algo) (fed : List ℕ) → Holds self.old algos fed →
-            (IsTrue result ↔ (length algos < 8)) }
+            (IsTrue result ↔ (length algos < 8) × (fed ≡ [])) }
         ensures added { (algos : List Algo) → Holds self.old algos [] → length algos < 8 →
             Holds self.new (algos ++ algo ∷ []) [] }
         ensures full { result ≡ false → self.new ≡ self.old }
     {
+        if self.has_fed {
+            return false;
+        }
         if self.count >= 8 {
             return false;
         }
@@ -67,6 +72,9 @@ impl Bundle {
         ensures { (algos : List Algo) (fed : List ℕ) → Holds self.old algos fed →
             Holds self.new algos (fed ++ bytes.now) }
     {
+        if !bytes.is_empty() {
+            self.has_fed = true;
+        }
         for slot in self.sums.iter_mut() {
             feed_slot(slot, bytes);
         }

@@ -1,5 +1,5 @@
 -- The files of names, and what a making leaves.
-use Rattle.std.proofs.Common.{◌∷◌, [], ℕ, List, Option, IsSome, None, Ok, Bool, IsTrue, length, drop, get_or, All, ◌∙◌, ap, sym, subst, refl}
+use Rattle.std.proofs.Common.{◌≡◌, ◌∷◌, [], ℕ, List, Option, IsSome, None, Some, Result, Ok, Err, Bool, true, false, IsTrue, zero, suc, map, length, drop, get_or, All, ◌∙◌, ap, sym, subst, refl}
 use Rattle.std.proofs.Math.Nat.{suc-ne-zero}
 use Rattle.std.proofs.lemmas.List.Elements.{All-nil, All-cons}
 use Rattle.uimg_base.specs.Device.{Device, SameDevice}
@@ -7,14 +7,19 @@ use Rattle.uimg_base.specs.Sink.{Sink, AppendsAll}
 use Rattle.uimg_base.specs.Outcome.{Outcome, Tells}
 use Rattle.uimg_base.specs.declared.status.Status.{Status}
 use Rattle.uimg_base.specs.declared.status.Status.TheVariants.{Done, NotRight}
-use Rattle.uimg_base.proofs.SinkLaws.{prefix_none}
+use Rattle.uimg_base.proofs.SinkLaws.{prefix_none, appended_to_nothing}
+use Rattle.uimg_base.proofs.DeviceLaws.{never_rises}
 use Rattle.uimg_legacy.specs.declared.options.Options.{Options}
+use Rattle.uimg_legacy.specs.Devices.{failures_of, OneRisesIf}
 use Rattle.uimg_legacy.specs.Listing.{list_of}
 use Rattle.uimg_tool.specs.declared.fault.Fault.{Fault}
 use Rattle.uimg_tool.specs.declared.fault.Fault.TheVariants.{Legacy, Read, Put, NoFile, Keep, OutOfMemory}
-use Rattle.uimg_tool.specs.Faults.{end_of}
+use Rattle.uimg_legacy.specs.declared.fault.Fault.TheVariants as legacy
+use Rattle.uimg_legacy.specs.declared.fault.Fault.{Fault as LegacyEngineFault}
+use Rattle.uimg_legacy.specs.Faults.{is_read as legacy_is_read}
+use Rattle.uimg_tool.specs.Faults.{end_of, is_read, is_keep, fault_of}
 use Rattle.uimg_tool.specs.Headline.{legacy_outcome}
-use Rattle.uimg_tool.specs.Making.{HaveParts, Keeps, Makes, StopsBuilding, StopsMaking}
+use Rattle.uimg_tool.specs.Making.{HaveParts, Keeps, Makes, BuildsNames, StopsMaking, MakesAnswer}
 
 -- names that have parts have files
 pub have_files : (files : List ℕ → Option (List ℕ)) (names parts : List (List ℕ)) → HaveParts files names parts → All (λ name. IsSome (files name)) names
@@ -22,14 +27,31 @@ have_files files [] parts have = All-nil (λ name. IsSome (files name))
 have_files files (name ∷ names) [] have = absurd (suc-ne-zero _ (ap (λ (xs : List (Option (List ℕ))). length xs) have))
 have_files files (name ∷ names) (part ∷ parts) have = All-cons (λ name. IsSome (files name)) name names (subst (λ (p : Option (List ℕ)). IsSome p) (sym (ap (λ (xs : List (Option (List ℕ))). get_or xs 0 None) have)) refl) (have_files files names parts (ap (λ (xs : List (Option (List ℕ))). drop 1 xs) have))
 
--- why an image is not built, where nothing was appended
-pub building_stops : (options : Options) (files : List ℕ → Option (List ℕ)) (names : List (List ℕ)) (f : Fault) (s : Sink) → StopsBuilding options files names f → StopsMaking options files names f s s
-building_stops options files names (Legacy f) s stop = (stop, refl)
-building_stops options files names Read s stop = record { parts = stop.parts; have = stop.have; prefix = prefix_none s _ }
-building_stops options files names Put s stop = (stop, record { parts = stop.parts; have = stop.have; prefix = prefix_none s _ })
-building_stops options files names (NoFile i) s stop = (stop, refl)
-building_stops options files names Keep s stop = (stop, refl)
-building_stops options files names OutOfMemory s stop = refl
+-- why an image is not built, where nothing is listed
+pub building_stops : (X : Type 0) (options : Options) (files : List ℕ → Option (List ℕ)) (names : List (List ℕ)) (f : Fault) (image built : Sink) (s : Sink) → is_keep {X = X} (Err f) ≡ false → BuildsNames {X = X} options files names (Err f) image built → StopsMaking options files names f s s
+building_stops X options files names (Legacy f) image built s never stop = (record { parts = stop.parts; have = stop.have; refused = stop.builds }, refl)
+building_stops X options files names Read image built s never stop = record { parts = stop.parts; have = stop.have; prefix = prefix_none s _ }
+building_stops X options files names Put image built s never stop = (
+  record { parts = stop.parts; have = stop.have; accepted = stop.builds.0 },
+  record { parts = stop.parts; have = stop.have; prefix = prefix_none s _ },
+)
+building_stops X options files names (NoFile i) image built s never stop = (stop, refl)
+building_stops X options files names Keep image built s never stop = absurd stop.builds
+building_stops X options files names OutOfMemory image built s never stop = refl
+
+-- an image that was built on an empty shelf, and kept
+pub keeping : (X : Type 0) (options : Options) (files : List ℕ → Option (List ℕ)) (names : List (List ℕ)) (x : X) (image built : Sink) (kept : Device) → BuildsNames options files names (Ok x) image built → image.contents ≡ Some [] → built.contents ≡ Some kept.bytes → IsTrue kept.honest → Keeps options files names kept
+keeping X options files names x image built kept builds empty whole honest =
+    record {
+      parts = builds.parts;
+      have = builds.have;
+      image = record {
+        accepted = builds.builds.accepted;
+        bytes = appended_to_nothing image built kept.bytes _ empty whole builds.builds.written;
+        honest = honest;
+        reads_back = builds.builds.reads_back;
+      };
+    }
 
 -- all of a text that some end tells
 all_told : (status : Status) (o : Outcome Fault) (s t : Sink) → Tells (end_of (Ok status)) o s t → AppendsAll s t o.text
@@ -54,3 +76,25 @@ listing_makes options files names kept now status s t keeps same told =
       listed = subst (λ (image : List ℕ). AppendsAll s t (list_of image).text) keeps.image.bytes listed;
       done = keeps.image.reads_back.listing;
     }
+
+-- devices that never fail have no failure at any number
+pub no_failures : {S : Type 0} (device : S → Device) → ((s : S) → (device s).failures ≡ 0) → (sources : List S) (i : ℕ) → failures_of (map device sources) i ≡ 0
+no_failures device never [] i = refl
+no_failures device never (s ∷ sources) zero = never s
+no_failures device never (s ∷ sources) (suc i) = no_failures device never sources i
+
+-- so no read of them fails
+pub none_fails : {S : Type 0} (device : S → Device) → ((s : S) → (device s).failures ≡ 0) → (failed : Bool) (old new : List S) → OneRisesIf failed (map device old) (map device new) → failed ≡ false
+none_fails device never false old new rises = refl
+none_fails device never true old new rises =
+    never_rises true _ _ rises.rose (no_failures device never old rises.number) (no_failures device never new rises.number)
+
+-- the fault of a building that is no failed read
+pub no_read_kept : (X Y : Type 0) (fault : LegacyEngineFault) → legacy_is_read {X = X} (Err fault) ≡ false → is_read {X = Y} (Err (fault_of fault)) ≡ false
+no_read_kept X Y (legacy.Legacy f) e = refl
+no_read_kept X Y legacy.Read e = e
+no_read_kept X Y legacy.Put e = refl
+
+-- an answer over files is one over the same files
+pub made_of_same : {K : Type 0} (device : K → Device) (options : Options) (a b : List ℕ → Option (List ℕ)) (names : List (List ℕ)) (result : Result K Fault) (s t : Sink) → a ≡ b → MakesAnswer device options a names result s t → MakesAnswer device options b names result s t
+made_of_same device options a b names result s t same made = subst (λ (files : List ℕ → Option (List ℕ)). MakesAnswer device options files names result s t) same made

@@ -29,6 +29,18 @@ abbrev pub is_refused : {X : Type 0} → Result X Fault → Bool
 is_refused (Err (Legacy fault)) = true
 is_refused _ = false
 
+-- the answer is that what was written could not be read
+abbrev pub is_keep : {X : Type 0} → Result X Fault → Bool
+is_keep (Err Keep) = true
+is_keep _ = false
+
+-- the answer is that the image, the files, or the memory for them were refused: nothing is written then
+abbrev pub is_before_building : {X : Type 0} → Result X Fault → Bool
+is_before_building (Err (Legacy fault)) = true
+is_before_building (Err (NoFile i)) = true
+is_before_building (Err OutOfMemory) = true
+is_before_building _ = false
+
 -- the answer is that a file could not be opened
 abbrev pub is_no_file : {X : Type 0} → Result X Fault → Bool
 is_no_file (Err (NoFile i)) = true

@@ -8,7 +8,7 @@ use Rattle.uimg_legacy.specs.declared.fault.LegacyFault.{LegacyFault}
 use Rattle.uimg_legacy.specs.declared.options.Options.{Options}
 use Rattle.uimg_legacy.specs.Parts.{has_parts}
 use Rattle.uimg_legacy.specs.Listing.{list_of}
-use Rattle.uimg_legacy.specs.Building.{data_of, data_to_build, legacy_built}
+use Rattle.uimg_legacy.specs.Building.{data_of, data_to_build, legacy_built, build_of}
 use Rattle.uimg_legacy.specs.Devices.{bytes_of, AreHonest}
 use Rattle.uimg_legacy.specs.ReadsBack.{ReadsBack}
 use Rattle.uimg_tool.specs.declared.fault.Fault.{Fault}
@@ -38,11 +38,6 @@ timed options time = record options { time = time }
 abbrev pub HaveParts : (List ℕ → Option (List ℕ)) → List (List ℕ) → List (List ℕ) → Type 0
 HaveParts files names parts = map files names ≡ map Some parts
 
--- All names have parts.
-pub record AreThere (files : List ℕ → Option (List ℕ)) (names : List (List ℕ)) : Type 0 where
-  pub parts : List (List ℕ)
-  pub have : HaveParts files names parts
-
 -- There is a name of number i, and the names before it have bytes.
 pub record Misses (files : List ℕ → Option (List ℕ)) (names : List (List ℕ)) (i : ℕ) : Type 0 where
   pub within : i < length names
@@ -59,6 +54,12 @@ pub record Accepts (options : Options) (files : List ℕ → Option (List ℕ)) 
   pub parts : List (List ℕ)
   pub have : HaveParts files names parts
   pub accepted : data_to_build options.kind parts ≡ Ok (data_of (has_parts options.kind) parts)
+
+-- The image of parts was appended, and reads back as such.
+pub record BuildsImage (options : Options) (parts : List (List ℕ)) (s t : Sink) : Type 0 where
+  pub accepted : data_to_build options.kind parts ≡ Ok (data_of (has_parts options.kind) parts)
+  pub written : AppendsAll s t (legacy_built options parts)
+  pub reads_back : ReadsBack (legacy_built options parts) parts
 
 -- What is kept is the image of parts, and reads back as such.
 pub record KeepsImage (options : Options) (parts : List (List ℕ)) (kept : Device) : Type 0 where
@@ -96,27 +97,27 @@ abbrev pub OpensAnswer : {V : Type 0} → (V → List Device) → (List ℕ → 
 OpensAnswer devices files names (Ok opened) = HaveParts files names (bytes_of (devices opened)) × AreHonest (devices opened)
 OpensAnswer devices files names (Err fault) = StopsOpening files names fault
 
--- why parts are not built and kept
-abbrev pub StopsKeeping : Options → List (List ℕ) → Fault → Type 0
-StopsKeeping options parts (Legacy fault) = data_to_build options.kind parts ≡ Err fault
-StopsKeeping options parts Read = ⊤
-StopsKeeping options parts Put = data_to_build options.kind parts ≡ Ok (data_of (has_parts options.kind) parts)
-StopsKeeping options parts Keep = data_to_build options.kind parts ≡ Ok (data_of (has_parts options.kind) parts)
-StopsKeeping options parts _ = ⊥
+-- What the answer of a building says of the parts, and of what was appended: the image, or why not; where a read or a
+-- write failed, a prefix of it.
+abbrev pub BuildsParts : {X : Type 0} → Options → List (List ℕ) → Result X Fault → Sink → Sink → Type 0
+BuildsParts options parts (Ok x) s t = BuildsImage options parts s t
+BuildsParts options parts (Err (Legacy fault)) s t = data_to_build options.kind parts ≡ Err fault
+BuildsParts options parts (Err Read) s t = AppendsPrefix s t (build_of options parts).text
+BuildsParts options parts (Err Put) s t =
+    (data_to_build options.kind parts ≡ Ok (data_of (has_parts options.kind) parts)) × AppendsPrefix s t (build_of options parts).text
+BuildsParts options parts (Err _) s t = ⊥
 
--- why an image is not built and kept
-abbrev pub StopsBuilding : Options → (List ℕ → Option (List ℕ)) → List (List ℕ) → Fault → Type 0
-StopsBuilding options files names (Legacy fault) = Refuses options files names fault
-StopsBuilding options files names Read = AreThere files names
-StopsBuilding options files names Put = Accepts options files names
-StopsBuilding options files names (NoFile i) = Misses files names i
-StopsBuilding options files names Keep = Accepts options files names
-StopsBuilding options files names OutOfMemory = ⊤
+-- The names have parts, of which the answer of a building says what it says.
+pub record BuildsThese {X : Type 0} (options : Options) (files : List ℕ → Option (List ℕ)) (names : List (List ℕ)) (result : Result X Fault) (s t : Sink) : Type 0 where
+  pub parts : List (List ℕ)
+  pub have : HaveParts files names parts
+  pub builds : BuildsParts options parts result s t
 
--- An answer is the kept image, or why it is not built and kept.
-abbrev pub BuildsAnswer : {K : Type 0} → (K → Device) → Options → (List ℕ → Option (List ℕ)) → List (List ℕ) → Result K Fault → Type 0
-BuildsAnswer device options files names (Ok kept) = Keeps options files names (device kept)
-BuildsAnswer device options files names (Err fault) = StopsBuilding options files names fault
+-- What the answer of a building says of the files of the names, and of what was appended.
+abbrev pub BuildsNames : {X : Type 0} → Options → (List ℕ → Option (List ℕ)) → List (List ℕ) → Result X Fault → Sink → Sink → Type 0
+BuildsNames options files names (Err (NoFile i)) s t = Misses files names i
+BuildsNames options files names (Err OutOfMemory) s t = ⊤
+BuildsNames options files names result s t = BuildsThese options files names result s t
 
 -- what the fault of a making says of what was appended
 abbrev pub StopsMaking : Options → (List ℕ → Option (List ℕ)) → List (List ℕ) → Fault → Sink → Sink → Type 0

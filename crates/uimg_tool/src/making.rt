@@ -1,8 +1,9 @@
-ghost use Rattle.std.specs.Prelude.{◌≡◌, ◌≢◌, ◌<◌, ◌^◌, ◌-◌, false, length, map, Some, [], IsTrue, OnOk, IfOk, IfErr, Ok};
+ghost use Rattle.std.specs.Prelude.{◌≡◌, ◌≢◌, ◌<◌, ◌^◌, ◌-◌, false, length, map, Some, [], IsTrue, IsOk, IfOk, IfErr, Err};
+ghost use Rattle.uimg_base.specs.Device.{RisesIf};
 ghost use Rattle.uimg_legacy.specs.Parts.{has_parts};
 ghost use Rattle.uimg_legacy.specs.Devices.{bytes_of, AreHonest};
-ghost use Rattle.uimg_tool.specs.Faults.{is_put, is_of_making};
-ghost use Rattle.uimg_tool.specs.Making.{options_of, names_of, FitNames, timed, KeepsImage, StopsKeeping, OpensNames, OpensAnswer, BuildsAnswer, MakesAnswer};
+ghost use Rattle.uimg_tool.specs.Faults.{is_read, is_put, is_keep, is_before_building, is_of_making};
+ghost use Rattle.uimg_tool.specs.Making.{options_of, names_of, FitNames, timed, OpensNames, OpensAnswer, BuildsParts, BuildsNames, MakesAnswer};
 
 use crate::command::Action;
 use crate::engine::run_legacy;
@@ -22,6 +23,8 @@ fn open_all<F: Files, A: Allocator>(
     ensures files { OpensNames (map (λ name. name.items) names.now) result (F.map files.old)
         (F.map files.new) }
     ensures count { IfOk result (λ opened. length opened.items ≡ length names.now) }
+    ensures only_opens { (is_read result ≡ false) × (is_put result ≡ false)
+        × (is_keep result ≡ false) }
     ensures opened { IsTrue (F.map files.old).honest →
         OpensAnswer (λ opened. map F.Opened.device opened.items)
         (F.map files.old).bytes (map (λ name. name.items) names.now) result }
@@ -38,41 +41,50 @@ fn open_all<F: Files, A: Allocator>(
     Ok(opened)
 }
 
-// Builds a legacy image from its parts on a shelf, and keeps it.
-fn keep_built<S: Source, H: Shelf>(
+// Builds a legacy image from its parts.
+fn build_parts<S: Source, W: Write>(
     options: &Options,
     parts: &mut [S],
-    shelf: H,
-) -> Result<H::Kept, Fault>
+    image: &mut Out<W>,
+) -> Result<(), Fault>
     requires some { length parts.old ≢ 0 }
     requires single { has_parts options.now.kind ≡ false → length parts.old ≡ 1 }
-    ensures kept { AreHonest (map S.device parts.old) → IsTrue H.honest →
-        H.contents shelf ≡ Some [] →
-        IfOk result (λ kept.
-        KeepsImage options.now (bytes_of (map S.device parts.old)) (H.Kept.device kept)) }
-    ensures stops { IfErr result (StopsKeeping options.now (bytes_of (map S.device parts.old))) }
+    ensures built { AreHonest (map S.device parts.old) → BuildsParts options.now
+        (bytes_of (map S.device parts.old)) result image.old image.new }
+    ensures untouched { IsTrue (is_before_building result) → image.new ≡ image.old }
+    ensures reads { IsTrue S.steady → is_read result ≡ false }
+    ensures faults { RisesIf (is_put result) image.old.faults image.new.faults }
+    ensures not_making { is_of_making result ≡ false }
 {
-    let mut image = Out::new(shelf);
-    build(options, parts, &mut image)?;
-    match image.into_inner().keep() {
-        Ok(kept) => Ok(kept),
-        Err(_) => Err(Fault::Keep),
-    }
+    build(options, parts, image)?;
+    Ok(())
 }
 
-// Opens the files of a command, builds their image on a shelf, and keeps it.
-fn keep_image<F: Files, H: Shelf, A: Allocator>(
+/// Builds the image of a command at a time, in seconds since 1970: it opens the files of the command
+/// in order, and appends the image to `image`.
+///
+/// Over honest files what is appended is the image of the files' bytes, and it reads back: its
+/// checksums are right, and each part is found in it. Refusals come before the first byte, in the
+/// order of the work: `Fault::OutOfMemory`, the memory for the opened files; `Fault::NoFile`, a file
+/// could not be opened; `Fault::Legacy`, the parts are refused, as `uimg_legacy::build` says.
+/// `Fault::Read` and `Fault::Put` come where a read or a write failed; over honest files a prefix of
+/// the image was appended then.
+pub fn build_image<F: Files, W: Write, A: Allocator>(
     alloc: A,
     command: &MakeCommand,
     time: u32,
     files: &mut F,
-    shelf: H,
-) -> Result<H::Kept, Fault>
+    image: &mut Out<W>,
+) -> Result<(), Fault>
     requires fit { FitNames (options_of command.now) (names_of command.now) }
-    ensures built { IsTrue (F.map files.old).honest → IsTrue H.honest → H.contents shelf ≡ Some [] →
-        BuildsAnswer H.Kept.device (timed (options_of command.now) time)
-        (F.map files.old).bytes (names_of command.now) result }
+    ensures built { IsTrue (F.map files.old).honest →
+        BuildsNames (timed (options_of command.now) time) (F.map files.old).bytes
+        (names_of command.now) result image.old image.new }
     ensures files { OpensNames (names_of command.now) result (F.map files.old) (F.map files.new) }
+    ensures untouched { IsTrue (is_before_building result) → image.new ≡ image.old }
+    ensures reads { IsTrue F.Opened.steady → is_read result ≡ false }
+    ensures faults { RisesIf (is_put result) image.old.faults image.new.faults }
+    ensures never_keep { is_keep result ≡ false }
 {
     match command {
         MakeCommand::Parts {
@@ -81,8 +93,21 @@ fn keep_image<F: Files, H: Shelf, A: Allocator>(
         } => {
             let mut parts = open_all(alloc, names, files)?;
             let options = Options { time, ..*options };
-            keep_built(&options, &mut parts, shelf)
+            build_parts(&options, &mut parts, image)
         }
+    }
+}
+
+// Keeps what was written to a shelf.
+fn keep<H: Shelf>(image: Out<H>) -> Result<H::Kept, Fault>
+    ensures kept { IsTrue H.honest → IfOk result (λ kept.
+        (image.contents ≡ Some (H.Kept.device kept).bytes) × IsTrue (H.Kept.device kept).honest) }
+    ensures fault { IfErr result (λ fault. fault ≡ Fault.Keep) }
+    ensures steady { IsTrue H.steady → IsOk result }
+{
+    match image.into_inner().keep() {
+        Ok(kept) => Ok(kept),
+        Err(_) => Err(Fault::Keep),
     }
 }
 
@@ -116,10 +141,14 @@ pub fn make<F: Files, H: Shelf, W: Write, A: Allocator, B: Allocator>(
     ensures puts { is_put result ≡ false → out.new.faults ≡ out.old.faults }
     ensures put { out.old.faults < 2 ^ 64 - 1 → IsTrue (is_put result) →
         out.new.faults ≡ out.old.faults → out.new ≡ out.old }
+    ensures steady_reads { IsTrue F.Opened.steady → IsTrue H.Kept.steady → is_read result ≡ false }
+    ensures steady_keeps { IsTrue H.steady → is_keep result ≡ false }
     ensures room { room.new ≡ record room.old { entries = [] } }
 {
     room.clear();
-    let mut kept = keep_image(alloc, command, time, files, shelf)?;
+    let mut image = Out::new(shelf);
+    build_image(alloc, command, time, files, &mut image)?;
+    let mut kept = keep(image)?;
     run_legacy(Action::List, &mut kept, room, out)?;
     Ok(kept)
 }

@@ -10,6 +10,7 @@ mod images;
 mod listings;
 mod make_lines;
 mod makes;
+mod memory;
 mod pieces;
 mod reports;
 mod wrong_lines;

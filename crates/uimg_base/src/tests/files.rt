@@ -1,6 +1,7 @@
-use crate::{FileSource, Room, Source, crc_range};
+use super::reads_as;
+use crate::{FileSource, Room, SeekSource, Source, crc_range};
 use std::fs;
-use std::io::Write;
+use std::io::{Cursor, Seek, SeekFrom, Write};
 use std::test::Fail;
 
 #[test]
@@ -16,6 +17,35 @@ fn a_real_file_is_read_at_any_place(rt: HostRuntime) -> Result<(), Fail> {
     assert_eq!(rt; source.asked(), 3);
     assert_eq!(rt; source.failures(), 0);
     fs::remove_file(&rt, path)?;
+    Ok(())
+}
+
+// No bit of a far offset is lost. The file has a hole before its last three bytes.
+#[test]
+fn a_far_offset_of_a_real_file_is_read_there(rt: HostRuntime) -> Result<(), Fail> {
+    let path = "far_file.bin";
+    let mut file = fs::create(&rt, path)?;
+    file.seek(SeekFrom::Start(4294967299))?;
+    file.write_all(b"xyz")?;
+    let mut source = FileSource::open(&rt, path)?;
+    assert_eq!(rt; source.size()?, 4294967302);
+    let mut last = [0; 3];
+    assert!(rt; read_at(&mut source, 4294967299, &mut last));
+    assert_eq!(rt; last, *b"xyz");
+    fs::remove_file(&rt, path)?;
+    Ok(())
+}
+
+// A slice as a file is read as any file is.
+#[test]
+fn a_cursor_is_read_at_any_place(rt: HostRuntime) -> Result<(), Fail> {
+    let mut source = SeekSource::new(Cursor::new(b"123456789".as_slice()))?;
+    assert_eq!(rt; source.size()?, 9);
+    for (at, part) in [(3, b"456".as_slice()), (6, b"789"), (0, b"12"), (9, b"")] {
+        assert!(rt; reads_as(&mut source, at, part));
+    }
+    assert_eq!(rt; source.asked(), 8);
+    assert_eq!(rt; source.failures(), 0);
     Ok(())
 }
 

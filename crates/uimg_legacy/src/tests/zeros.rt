@@ -1,4 +1,5 @@
 ghost use Rattle.std.specs.Prelude.{◌≡◌, ◌^◌, ◌<◌, false};
+ghost use Rattle.std.proofs.Common.{rules};
 ghost use Rattle.uimg_base.specs.Zeros.{zeros, zeros_short};
 
 use uimg_base::{Source, SourceFault};
@@ -19,6 +20,8 @@ impl ZeroSource {
 
 impl Source for ZeroSource {
     ghost device = { λ s. record { bytes = zeros s.length; honest = false; asked = s.asked; failures = 0 } };
+
+    ghost never_failed = { λ s always. Prim.search rules };
 
     ghost short = { λ s. zeros_short s.length s.short };
 

@@ -73,3 +73,18 @@ fn a_ninth_sum_is_refused(rt: HostRuntime) {
         assert!(rt; is_entry(&entry, CRC32));
     }
 }
+
+// After a byte was fed no sum is added, and the digests are those of the sums that were there.
+#[test]
+fn a_late_sum_is_refused(rt: HostRuntime) {
+    let mut bundle = Bundle::new();
+    bundle.feed(b"");
+    assert!(rt; bundle.add(Algo::Crc32));
+    bundle.feed(&counted());
+    assert!(rt; !bundle.add(Algo::Md5));
+    assert_eq!(rt; bundle.len(), 1);
+    let digests = [CRC32, "", "", "", "", "", "", ""];
+    for (entry, hex) in bundle.finish().iter().zip(digests) {
+        assert!(rt; is_entry(entry, hex));
+    }
+}

@@ -188,6 +188,14 @@ fn codes_by_their_names(rt: HostRuntime) -> Result<(), Fail> {
     Ok(())
 }
 
+// Blanks stay, at both ends too.
+#[test]
+fn a_name_keeps_its_blanks(rt: HostRuntime) -> Result<(), Fail> {
+    let image = made(&rt, "make_blanks", None, 0, &["-n", "  a  name "])?;
+    assert_eq!(rt; image.get(32..43), Some(b"  a  name \0".as_slice()));
+    Ok(())
+}
+
 // A value that begins with `-` stands right behind its option, or behind a `=` there.
 #[test]
 fn names_that_begin_with_a_dash(rt: HostRuntime) -> Result<(), Fail> {

@@ -1,0 +1,234 @@
+ghost use Rattle.std.specs.Prelude.{◌≡◌, ◌≤◌, length, is_err, true, IfOk, IfSome, IsTrue, OnOk};
+ghost use Rattle.uimg_base.specs.Device.{RisesIf, asked_more};
+ghost use Rattle.uimg_base.specs.Streams.{StandsAt, SameBytes, HoldsFrom, HasLength, ReadsOn};
+
+use crate::seek_read::SeekRead;
+use crate::source::SourceFault;
+use std::io::ErrorKind;
+
+/// How an open file is read: where it stands, where that is known, its length, and the counters of a
+/// source.
+#[derive(Drop)]
+pub(crate) struct Reading {
+    pub(crate) position: Option<u64>,
+    pub(crate) length: u64,
+    pub(crate) asked: u128,
+    pub(crate) failures: u64,
+}
+
+impl Reading {
+    // Finds the length of a file, of which nothing was asked yet.
+    pub(crate) fn of<F: SeekRead>(file: &mut F) -> Result<Reading, SourceFault>
+        ensures same { SameBytes (F.stream file.old) (F.stream file.new) }
+        ensures stands { IfOk result (λ r. StandsAt r.position (F.stream file.new)) }
+        ensures whole { IfOk result (λ r. HasLength r.length (F.stream file.new)) }
+        ensures asked { IfOk result (λ r. r.asked ≡ 0) }
+        ensures failures { IfOk result (λ r. r.failures ≡ 0) }
+    {
+        let Ok(length) = file.move_to_end() else {
+            return Err(SourceFault);
+        };
+        Ok(Reading {
+            position: Some(length),
+            length,
+            asked: 0,
+            failures: 0,
+        })
+    }
+
+    // Fills `to` with the bytes of a file from an offset on, and counts what was asked for, and a
+    // failure.
+    pub(crate) fn fill_at<F: SeekRead>(
+        &mut self,
+        file: &mut F,
+        at: u64,
+        to: &mut [u8],
+    ) -> Result<(), SourceFault>
+        requires stands { StandsAt self.old.position (F.stream file.old) }
+        ensures stands { StandsAt self.new.position (F.stream file.new) }
+        ensures same { SameBytes (F.stream file.old) (F.stream file.new) }
+        ensures length { self.new.length ≡ self.old.length }
+        ensures bytes { OnOk result (HoldsFrom at (F.stream file.old) to.new) }
+        ensures asked { self.new.asked ≡ asked_more self.old.asked (length to.old) }
+        ensures failures { RisesIf (is_err result) self.old.failures self.new.failures }
+    {
+        self.asked = self.asked.saturating_add(to.len() as u128);
+        if fill_from(file, &mut self.position, at, to) {
+            Ok(())
+        } else {
+            self.failures = self.failures.saturating_add(1);
+            Err(SourceFault)
+        }
+    }
+}
+
+// Reads once, and gives how many bytes came: none where a signal interrupted it. At the file's end and
+// after any other error it gives no number.
+fn read_some<F: SeekRead>(file: &mut F, to: &mut [u8]) -> Option<usize>
+    ensures same { SameBytes (F.stream file.old) (F.stream file.new) }
+    ensures bound { IfSome result (λ n. n ≤ length to.old) }
+    ensures reads { IfSome result (λ n. ReadsOn n (F.stream file.old) (F.stream file.new) to.new) }
+{
+    match file.read_on(to) {
+        Ok(0) => None,
+        Ok(count) => Some(count),
+        Err(error) if error.kind() == ErrorKind::Interrupted => Some(0),
+        Err(_) => None,
+    }
+}
+
+// Reads on until `to` is full, and says whether it is. It takes at most one turn for each byte.
+fn fill<F: SeekRead>(file: &mut F, to: &mut [u8]) -> bool
+    ensures same { SameBytes (F.stream file.old) (F.stream file.new) }
+    ensures filled { IsTrue result → ReadsOn (length to.old) (F.stream file.old)
+        (F.stream file.new) to.new }
+{
+    let mut filled = 0;
+    for _turn in 0..to.len() {
+        let Some(count) = read_some(file, &mut to[filled..]) else {
+            return false;
+        };
+        filled += count;
+        if filled == to.len() {
+            return true;
+        }
+    }
+    to.is_empty()
+}
+
+// Reads at an offset until `to` is full, and says whether it is. `position` is where the file stands,
+// or none where that is not known; a file that stands at the offset is not moved there.
+fn fill_from<F: SeekRead>(file: &mut F, position: &mut Option<u64>, at: u64, to: &mut [u8]) -> bool
+    requires stands { StandsAt position.old (F.stream file.old) }
+    ensures stands { StandsAt position.new (F.stream file.new) }
+    ensures same { SameBytes (F.stream file.old) (F.stream file.new) }
+    ensures filled { IsTrue result → HoldsFrom at (F.stream file.old) to.new }
+{
+    if to.is_empty() {
+        return true;
+    }
+    if *position != Some(at) && file.move_to(at).is_err() {
+        *position = None;
+        return false;
+    }
+    let full = fill(file, to);
+    *position = if full {
+        at.checked_add(to.len() as u64)
+    } else {
+        None
+    };
+    full
+}
+
+#[cfg(test)]
+mod tests {
+    use super::*;
+    use crate::seek_read::DiskFile;
+    use std::io;
+    use std::io::{Read, Seek, SeekFrom};
+
+    // A file of digits that gives at most so many bytes at a read, and none or an error past an
+    // offset.
+    #[derive(Drop)]
+    struct SlowFile {
+        at: u64,
+        most: usize,
+        end: u64,
+        fails: bool,
+        turns: u64,
+        interrupts: u64,
+    }
+
+    impl Read for SlowFile {
+        fn read(&mut self, buf: &mut [u8]) -> io::Result<usize> {
+            self.turns = self.turns.saturating_add(1);
+            if self.interrupts > 0 {
+                self.interrupts -= 1;
+                return Err(io::Error::from(io::ErrorKind::Interrupted));
+            }
+            if self.at >= self.end {
+                return match self.fails {
+                    true => Err(io::Error::from(io::ErrorKind::Other)),
+                    false => Ok(0),
+                };
+            }
+            let count = usize::min(buf.len(), self.most);
+            for byte in buf[..count].iter_mut() {
+                *byte = b'0' + (self.at % 10) as u8;
+                self.at = self.at.saturating_add(1);
+            }
+            Ok(count)
+        }
+    }
+
+    impl Seek for SlowFile {
+        fn seek(&mut self, to: SeekFrom) -> io::Result<u64> {
+            if let SeekFrom::Start(at) = to {
+                self.at = at;
+            }
+            Ok(self.at)
+        }
+    }
+
+    fn slow(most: usize, end: u64, fails: bool) -> DiskFile<SlowFile> {
+        let file = SlowFile {
+            at: 0,
+            most,
+            end,
+            fails,
+            turns: 0,
+            interrupts: 0,
+        };
+        DiskFile { file }
+    }
+
+    // No bit of an offset is lost.
+    #[test]
+    fn a_far_offset_is_read_there(rt: HostRuntime) {
+        let mut file = slow(2, u64::MAX, false);
+        let mut to = [b'x'; 3];
+        assert!(rt; fill_from(&mut file, &mut None, 4294967299, &mut to));
+        assert_eq!(rt; to, *b"901");
+    }
+
+    // A read that answers fewer bytes goes on, at most one turn for each byte.
+    #[test]
+    fn short_reads_go_on(rt: HostRuntime) {
+        for (most, turns) in [(1, 5), (2, 3), (5, 1), (100, 1)] {
+            let mut file = slow(most, 100, false);
+            let mut to = [b'x'; 5];
+            assert!(rt; fill_from(&mut file, &mut None, 3, &mut to));
+            assert_eq!(rt; to, *b"34567");
+            assert_eq!(rt; file.file.turns, turns);
+        }
+    }
+
+    // A read that a signal interrupted is tried again, while a turn is left.
+    #[test]
+    fn an_interrupted_read_goes_on(rt: HostRuntime) {
+        for (interrupts, full) in [(1, true), (4, true), (5, false)] {
+            let mut file = slow(100, 100, false);
+            file.file.interrupts = interrupts;
+            let mut to = [b'x'; 5];
+            assert_eq!(rt; fill_from(&mut file, &mut None, 3, &mut to), full);
+            assert_eq!(rt; to == *b"34567", full);
+        }
+    }
+
+    #[test]
+    fn a_read_of_nothing_fails(rt: HostRuntime) {
+        for fails in [false, true] {
+            let mut file = slow(2, 6, fails);
+            let mut to = [b'x'; 5];
+            assert!(rt; !fill_from(&mut file, &mut None, 3, &mut to));
+            assert_eq!(rt; file.file.turns, 3);
+        }
+    }
+
+    #[test]
+    fn an_empty_slice_takes_no_turn(rt: HostRuntime) {
+        let mut file = slow(2, 0, true);
+        assert!(rt; fill_from(&mut file, &mut None, 3, &mut []));
+        assert_eq!(rt; file.file.turns, 0);
+    }
+}

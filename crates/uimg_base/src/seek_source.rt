@@ -1,0 +1,71 @@
+ghost use Rattle.std.specs.Prelude.{◌≡◌, ◌^◌, ◌<◌, true, IfOk, IfSome, is_some};
+ghost use Rattle.std.proofs.Common.{rules};
+ghost use Rattle.std.proofs.Props.{props};
+ghost use Rattle.uimg_base.specs.Device.{IsFresh};
+ghost use Rattle.uimg_base.specs.Streams.{StandsAt, HasLength, bytes_of, short_bytes};
+
+use crate::reading::Reading;
+use crate::seek_read::SeekRead;
+use crate::source::{Source, SourceFault};
+
+/// An open file as a source, read by seek and read.
+///
+/// It keeps the length that was found when it was made. Over a file whose bytes contracts know it is
+/// an honest source of these bytes; over any other, contracts see zeros in place of its bytes, and it
+/// is not claimed to be honest.
+#[derive(Drop)]
+pub struct SeekSource<F: SeekRead> {
+    file: F,
+    reading: Reading,
+    ghost short: { reading.length < 2 ^ 64 },
+    ghost stands: { StandsAt reading.position (F.stream file) } by { Prim.hlevel props },
+    ghost whole: { HasLength reading.length (F.stream file) } by { Prim.hlevel props },
+}
+
+impl<F: SeekRead> SeekSource<F> {
+    /// A source of an open file, of which nothing was asked yet.
+    ///
+    /// `SourceFault` comes where the file does not tell its length (a pipe).
+    pub fn new(mut file: F) -> Result<SeekSource<F>, SourceFault>
+        ensures fresh { IfOk result (λ s. IsFresh (⟦<SeekSource<F> as Source>⟧.device s)) }
+        ensures known { IfSome (F.stream file) (λ stream.
+            IfOk result (λ s. ⟦<SeekSource<F> as Source>⟧.device s ≡ record {
+              bytes = stream.bytes;
+              honest = true;
+              asked = 0;
+              failures = 0;
+            })) }
+    {
+        let reading = Reading::of(&mut file)?;
+        Ok(SeekSource { file, reading })
+    }
+}
+
+impl<F: SeekRead> Source for SeekSource<F> {
+    ghost device = { λ s. record {
+      bytes = bytes_of s.reading.length (F.stream s.file);
+      honest = is_some (F.stream s.file);
+      asked = s.reading.asked;
+      failures = s.reading.failures;
+    } };
+
+    ghost never_failed = { λ s always. Prim.search rules };
+
+    ghost short = { λ s. short_bytes s.reading.length (F.stream s.file) s.short s.whole };
+
+    fn size(&mut self) -> Result<u64, SourceFault> {
+        Ok(self.reading.length)
+    }
+
+    fn fill_at(&mut self, at: u64, to: &mut [u8]) -> Result<(), SourceFault> {
+        self.reading.fill_at(&mut self.file, at, to)
+    }
+
+    fn asked(&self) -> u128 {
+        self.reading.asked
+    }
+
+    fn failures(&self) -> u64 {
+        self.reading.failures
+    }
+}

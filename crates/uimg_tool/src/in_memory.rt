@@ -1,0 +1,74 @@
+//! `run` and `make` over memory alone, where nothing but memory can fail.
+ghost use Rattle.std.specs.Prelude.{◌≡◌, false, Some, IfErr};
+ghost use Rattle.uimg_base.specs.Named.{bytes_named};
+ghost use Rattle.uimg_tool.specs.Faults.{is_read, is_put, is_keep, end_of};
+ghost use Rattle.uimg_tool.specs.Headline.{outcome_of};
+ghost use Rattle.uimg_tool.specs.Making.{options_of, names_of, FitNames, Lacks, timed, MakesAnswer};
+
+use crate::command::Command;
+use crate::engine::run;
+use crate::fault::Fault;
+use crate::make_command::MakeCommand;
+use crate::making::make;
+use std::alloc::Allocator;
+use std::io::Write;
+use uimg_base::{MemFiles, MemKept, MemShelf, MemSource, Out, Room, Source, Status};
+
+/// Carries out a command on the bytes of an image: the answer of `run`, and all that was written.
+///
+/// The answer and the text are exactly the outcome of the command, unless it is `Fault::Put`: the
+/// memory for the text was refused then. `Fault::Read` never comes.
+pub fn run_in_memory<A: Allocator, B: Allocator>(
+    alloc: B,
+    command: &Command,
+    image: &[u8],
+    room: &mut Room<A>,
+) -> (Result<Status, Fault>, Vec<u8, B>)
+    ensures text { is_put result.0 ≡ false →
+        result.1.items ≡ (outcome_of command.now.action image.now).text }
+    ensures end { is_put result.0 ≡ false →
+        end_of result.0 ≡ Some (outcome_of command.now.action image.now).end }
+    ensures read { is_read result.0 ≡ false }
+{
+    let mut source = MemSource::new(image);
+    let mut out = Out::new(Vec::new(alloc));
+    let end = run(command, &mut source, room, &mut out);
+    (end, out.into_inner())
+}
+
+/// Makes an image at a time, in seconds since 1970, from files in memory, pairs of a name and its
+/// bytes, and gives it as a source: what `make` does over these.
+///
+/// It is the image of the files' bytes, which reads back, and exactly its listing was written.
+/// `Fault::NoFile` comes only for a name that no file has, and neither `Fault::Read` nor
+/// `Fault::Keep` ever comes. `Fault::OutOfMemory` comes where the memory for the opened files was
+/// refused, `Fault::Put` where a write of the listing failed, or the memory for the image was
+/// refused.
+pub fn make_in_memory<W: Write, A: Allocator, B: Allocator, H: Allocator>(
+    alloc: A,
+    command: &MakeCommand,
+    time: u32,
+    files: &[(&[u8], &[u8])],
+    shelf: H,
+    room: &mut Room<B>,
+    out: &mut Out<W>,
+) -> Result<MemKept<H>, Fault>
+    requires fit { FitNames (options_of command.now) (names_of command.now) }
+    ensures made { MakesAnswer (⟦<MemKept<H> as Source>⟧.device)
+        (timed (options_of command.now) time) (λ name. bytes_named name files.now)
+        (names_of command.now) result out.old out.new }
+    ensures missing { IfErr result (Lacks (λ name. bytes_named name files.now)
+        (names_of command.now)) }
+    ensures read { is_read result ≡ false }
+    ensures keep { is_keep result ≡ false }
+{
+    make(
+        alloc,
+        command,
+        time,
+        &mut MemFiles::new(files),
+        MemShelf::new(shelf),
+        room,
+        out,
+    )
+}
