@@ -8,7 +8,10 @@ pub mod KeepLaws
 pub mod PhaseLaws
 pub mod RoleLaws
 pub mod KeyLaws
+pub mod NoteLaws
 pub mod PassLaws
+pub mod LieLaws
+pub mod NumberedLaws
 pub mod IndexLaws
 pub mod CostLaws
 pub mod LinkLaws

@@ -1,7 +1,8 @@
 -- What is kept of a tree: an entry of 16 words for each node, in reading order.
+use Rattle.std.specs.List.{AllByRecursion}
 use Rattle.std.specs.Option.{option_map}
 use Rattle.std.specs.Str.{bytes_eq}
-use Rattle.std.specs.Prelude.{ℕ, suc, if◌then◌else◌, ◌+◌, ◌*◌, ◌-◌, ◌^◌, List, [], ◌∷◌, ◌++◌, length, map, replicate, Option, Some, None}
+use Rattle.std.specs.Prelude.{ℕ, suc, ◌<◌, ◌≤◌, Bool, if◌then◌else◌, ◌+◌, ◌*◌, ◌-◌, ◌^◌, List, [], ◌∷◌, ◌++◌, length, map, replicate, Option, Some, None}
 use Rattle.uimg_blob.specs.declared.keys.Key.{Key}
 use Rattle.uimg_blob.specs.declared.roles.Role.{Role}
 use Rattle.uimg_blob.specs.declared.roles.Role.TheVariants.{Root, Images, Image, Hash, Configurations, Configuration, Other}
@@ -80,3 +81,13 @@ entry_of k = span_word (k.at + 4) (length k.name) ∷ number_word k.parent ∷ k
 -- the entries of a tree
 abbrev pub entries : Siblings → List (List ℕ)
 entries t = map entry_of (kept_of t)
+
+-- the number of the first of some nodes, numbered from i on, whose role is such
+abbrev pub number_of_role : (Role → Bool) → ℕ → List Kept → Option ℕ
+number_of_role is_it i [] = None
+number_of_role is_it i (k ∷ ks) = if is_it k.role then Some i else number_of_role is_it (i + 1) ks
+
+-- A node's name and values end at most at a place; no value stands at the file's first byte.
+pub record LiesIn (limit : ℕ) (k : Kept) : Type 0 where
+  pub named : k.at + 4 + length k.name ≤ limit
+  pub valued : AllByRecursion (λ p. (0 < p.place) × (p.place + length p.value ≤ limit)) k.own

@@ -8,6 +8,7 @@ mod fault;
 mod indexing;
 mod keys;
 mod labels;
+mod nodes;
 mod reads;
 mod roles;
 mod slots;
@@ -17,5 +18,6 @@ mod tests;
 mod tokens;
 
 pub use fault::{BlobFault, IndexFault};
-pub use indexing::{Blob, index};
+pub use indexing::index;
 pub use keys::Key;
+pub use nodes::Blob;
