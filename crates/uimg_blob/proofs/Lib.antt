@@ -12,6 +12,7 @@ pub mod NoteLaws
 pub mod PassLaws
 pub mod LieLaws
 pub mod NumberedLaws
+pub mod LookLaws
 pub mod IndexLaws
 pub mod CostLaws
 pub mod LinkLaws

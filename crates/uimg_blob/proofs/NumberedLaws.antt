@@ -6,9 +6,8 @@ use Rattle.std.proofs.lemmas.Slice.Eq.{bytes_eq-Decides}
 use Rattle.uimg_blob.specs.declared.roles.Role.{Role}
 use Rattle.uimg_blob.specs.declared.roles.Role.TheVariants.{Root, Hash, Other}
 use Rattle.uimg_blob.specs.Grammar.{Siblings, none, node}
-use Rattle.uimg_blob.specs.Rows.{size}
+use Rattle.uimg_blob.specs.Rows.{size, number_named, child_number}
 use Rattle.uimg_blob.specs.Roles.{Level, top, in_root, in_images, in_image, in_configurations, elsewhere, role_at, root_child, level_in, level_after, is_images, is_configurations, is_hash, is_images_role, is_configurations_role}
-use Rattle.uimg_blob.specs.LookUps.{number_named, child_number}
 use Rattle.uimg_blob.specs.Walk.{Open, opened, as_node}
 use Rattle.uimg_blob.specs.Kept.{Kept, kept, kept_of, number_of_role}
 use Rattle.uimg_blob.proofs.SoFarLaws.{length_kept}

@@ -16,7 +16,7 @@ use Rattle.uimg_blob.specs.Blob.{met_in}
 use Rattle.uimg_blob.specs.Counts.{weight, begun_by}
 use Rattle.uimg_blob.specs.Faults.{refuses_memory}
 use Rattle.uimg_blob.specs.Roles.{Level, in_root, in_images, in_image, in_configurations, elsewhere, level_after, is_images, is_configurations, is_images_role, is_configurations_role}
-use Rattle.uimg_blob.specs.LookUps.{child_number}
+use Rattle.uimg_blob.specs.Rows.{child_number}
 use Rattle.uimg_blob.specs.declared.roles.Role.{Role}
 use Rattle.uimg_blob.specs.declared.roles.Role.TheVariants.{Root, Images, Image, Hash, Configurations, Configuration, Other}
 use Rattle.uimg_blob.specs.Walk.{Open, opened, close, as_node, walk, begun, finished}

@@ -15,9 +15,11 @@ mod slots;
 mod states;
 #[cfg(test)]
 mod tests;
+mod texts;
 mod tokens;
 
 pub use fault::{BlobFault, IndexFault};
 pub use indexing::index;
 pub use keys::Key;
 pub use nodes::Blob;
+pub use texts::Span;
