@@ -18,3 +18,4 @@ pub mod Passes
 pub mod Plain
 pub mod Spots
 pub mod Indexed
+pub mod Texts

@@ -22,4 +22,4 @@ pub use fault::{BlobFault, IndexFault};
 pub use indexing::index;
 pub use keys::Key;
 pub use nodes::Blob;
-pub use texts::Span;
+pub use texts::{Span, put_text, short_text};
