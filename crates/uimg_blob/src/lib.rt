@@ -11,6 +11,7 @@ mod labels;
 mod nodes;
 mod reads;
 mod roles;
+pub mod samples;
 mod slots;
 mod states;
 #[cfg(test)]
