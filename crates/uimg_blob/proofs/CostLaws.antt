@@ -31,7 +31,7 @@ on_same p q h = cc
 stop_err : (x e : Fault) → stop (Err x) ≡ stop (Err e) → x ≡ e
 stop_err x e h = cc
 
-stop_ok : {t : Siblings} {e : Fault} → stop (Ok t) ≡ stop (Err e) → ⊥
+pub stop_ok : {t : Siblings} {e : Fault} → stop (Ok t) ≡ stop (Err e) → ⊥
 stop_ok h = grind (arith, h)
 
 err_at : (f : BlobFault) (at : ℕ) (e : Fault) → stop (Err (f, at)) ≡ stop (Err e) → e.1 ≡ at
@@ -191,7 +191,7 @@ cost_weight (nop at) = omega arith
 cost_weight (last at) = omega arith
 cost_weight (stray at f) = omega arith
 
-counted : (t : Token) → weight t ≤ 1024 * (cond (is_begin t) 1 0 + cond (is_prop t) 1 0) + 4 * cond (is_nop t) 1 0
+counted : (t : Token) → weight t ≡ 264 * cond (is_begin t) 1 0 + 268 * cond (is_prop t) 1 0 + 4 * cond (is_nop t) 1 0
 counted (begin_node at name) = omega arith
 counted (end_node at) = omega arith
 counted (prop at x) = omega arith
@@ -199,7 +199,7 @@ counted (nop at) = omega arith
 counted (last at) = omega arith
 counted (stray at f) = omega arith
 
-pub weight_counts : (ts : List Token) → sum_by weight ts ≤ 1024 * (count_by is_begin ts + count_by is_prop ts) + 4 * count_by is_nop ts
+pub weight_counts : (ts : List Token) → sum_by weight ts ≡ 264 * count_by is_begin ts + 268 * count_by is_prop ts + 4 * count_by is_nop ts
 weight_counts [] = omega arith
 weight_counts (t ∷ ts) = omega (
   arith,

@@ -1,5 +1,5 @@
 -- One step of a pass, and its end.
-use Rattle.std.proofs.Common.{append_assoc, map, ◌++◌, ◌∷◌, ◌≡◌, ◌<◌, ◌≤◌, ◌+◌, ◌-◌, ℕ, zero, suc, List, [], Option, Some, None, Result, Ok, Err, Bool, false, IsTrue, refl, ap, sym, ◌∙◌, subst, length, arith}
+use Rattle.std.proofs.Common.{append_assoc, map, ◌++◌, ◌∷◌, ◌≡◌, ◌<◌, ◌≤◌, ◌+◌, ◌-◌, ◌*◌, ℕ, zero, suc, List, [], Option, Some, None, Result, Ok, Err, Bool, false, IsTrue, refl, ap, sym, ◌∙◌, subst, length, arith}
 use Rattle.uimg_blob.specs.declared.fault.IndexFault.{IndexFault}
 use Rattle.uimg_blob.specs.declared.fault.IndexFault.TheVariants.{Blob, Read}
 use Rattle.uimg_blob.specs.declared.states.State.{State}
@@ -14,19 +14,24 @@ use Rattle.uimg_blob.specs.Tokens.{Token, Blocks, token_at, tokens_from, tokens,
 use Rattle.uimg_blob.specs.Grammar.{Siblings, root, without_nops}
 use Rattle.uimg_blob.specs.Walk.{as_node, begun}
 use Rattle.uimg_blob.specs.SoFar.{so_far}
-use Rattle.uimg_blob.specs.Passes.{Phase, inside, left, Step, stop, step, then_left, Steps, Indexes, AreEntries, Pass}
+use Rattle.uimg_blob.specs.Passes.{Phase, inside, left, Step, stop, step, then_left, Steps, Indexes, Pass}
 use Rattle.std.specs.List.{sum_by}
 use Rattle.uimg_blob.specs.Blob.{met_in, met_from, met}
-use Rattle.uimg_blob.specs.Counts.{weight, begun_by, meta, nodes_met}
+use Rattle.uimg_blob.specs.Counts.{weight, begun_by, meta, index_cost, nodes_met, properties_met, texts_met}
 use Rattle.uimg_blob.specs.ReadTokens.{cost}
 use Rattle.uimg_blob.specs.Passes.{sum_from, Within, entries_at}
 use Rattle.uimg_blob.specs.Tokens.{offset}
 use Rattle.uimg_blob.proofs.PhaseLaws.{left_is, true_false}
 use Rattle.uimg_blob.specs.Faults.{is_out_of_memory}
-use Rattle.uimg_blob.specs.Kept.{entry_of, kept_of}
-use Rattle.uimg_blob.specs.Passes.{AreLinked}
-use Rattle.uimg_blob.proofs.EntryLaws.{length_entries}
-use Rattle.uimg_blob.proofs.LinkLaws.{tree_linked}
+use Rattle.uimg_blob.specs.Kept.{entry_of, kept_of, LiesIn, number_of_role}
+use Rattle.uimg_blob.specs.Walk.{Open}
+use Rattle.uimg_blob.specs.Roles.{is_images_role, is_configurations_role}
+use Rattle.uimg_blob.specs.Passes.{Passed}
+use Rattle.uimg_blob.specs.Indexed.{Finds}
+use Rattle.uimg_blob.specs.Extents.{IsInside}
+use Rattle.std.specs.List.{AllByRecursion}
+use Rattle.uimg_blob.proofs.LieLaws.{lies_more, last_nodes, lies_within}
+use Rattle.uimg_blob.proofs.NumberedLaws.{images_number, configurations_number}
 use Rattle.uimg_blob.specs.Passes.{after, tokens_in, nodes_at, begin_places, IsPrefix}
 use Rattle.uimg_blob.specs.Tokens.{begin_node, end_node, prop, nop, last, stray}
 use Rattle.uimg_blob.proofs.PlaceLaws.{places_more}
@@ -84,6 +89,7 @@ pub goes_on : (honest : Bool) (b : Blocks) (whole : Result Siblings Fault) (s mo
 goes_on honest b whole s more es new base asked now pass steps ahead near paid = record {
   phase = steps.acts.0;
   holds = steps.acts.3;
+  lies = lies_more b.structure_end pass.phase steps.token steps.acts.0 steps.acts.1 steps.lies pass.lies;
   rest = λ sure.
       let t : Token = steps.token in
       let r = pass.rest sure in
@@ -155,12 +161,20 @@ pub ends_ok : {X : Type 0} (honest : Bool) (b : Blocks) (whole : Result Siblings
 ends_ok honest b whole s es new x base asked pass steps sure =
     (as_node steps.acts.0, stops honest b whole s es base asked pass steps.token (Ok (as_node steps.acts.0)) steps.is steps.acts.1 sure, steps.acts.2)
 
-pub ends_some : (honest : Bool) (b : Blocks) (whole : Result Siblings Fault) (s : State) (es new : List (List ℕ)) (base asked : ℕ) (pass : Pass honest b whole s es base asked)
-    → Steps honest b pass.phase s.at (Ok None) es new → AreEntries new
-ends_some honest b whole s es new base asked pass steps =
-    let t : Siblings = as_node steps.acts.0 in
-    let many : length new ≡ length (kept_of t) = ap length steps.acts.2 ∙ length_entries (kept_of t) in
-    (t, steps.acts.2, subst (λ (n : ℕ). AreLinked 0 n (kept_of t)) (sym many) (tree_linked t))
+-- what is known when the tree ends, whichever the source
+pub ends_passed : (honest : Bool) (b : Blocks) (s : State) (es new : List (List ℕ)) (base asked : ℕ) (pass : Pass honest b (begun (tokens b)) s es base asked)
+    → Steps honest b pass.phase s.at (Ok None) es new → Passed honest b s new
+ends_passed honest b s es new base asked pass steps =
+    let o : Open = steps.acts.0 in
+    let nodes : nodes_at pass.phase ≡ kept_of (as_node o) = last_nodes pass.phase steps.token (as_node o) steps.acts.1 in
+    record {
+      nodes = as_node o;
+      is = λ sure. stops honest b (begun (tokens b)) s es base asked pass steps.token (Ok (as_node o)) steps.is steps.acts.1 sure;
+      kept = steps.acts.2;
+      images = pass.holds.images ∙ ap (number_of_role is_images_role 0) nodes ∙ images_number o;
+      configurations = pass.holds.configurations ∙ ap (number_of_role is_configurations_role 0) nodes ∙ configurations_number o;
+      lies = subst (AllByRecursion (LiesIn b.structure_end)) nodes pass.lies;
+    }
 
 -- a fault
 pub ends_err : {X : Type 0} (honest : Bool) (b : Blocks) (whole : Result Siblings Fault) (s : State) (es new : List (List ℕ)) (e : IndexFault) (r : Result X IndexFault) (base asked : ℕ) (pass : Pass honest b whole s es base asked)
@@ -171,11 +185,12 @@ ends_err {X = X} honest b whole s es new Read r base asked pass is steps sure = 
 
 -- a pass begins
 pub begins : (honest : Bool) (b : Blocks) (at base : ℕ) (es : List (List ℕ)) → es ≡ [] → at ≡ b.structure
-    → Pass honest b (begun (tokens b)) (record { at = at; current = None; had_images = false; had_configurations = false }) es base base
+    → Pass honest b (begun (tokens b)) (record { at = at; current = None; images = None; configurations = None }) es base base
 unfolding so_far
 begins honest b at base es empty start = record {
   phase = inside [];
-  holds = record { entries = empty; current = refl; marks = refl; placed = tt; few = omega (arith, ap length empty) };
+  holds = record { entries = empty; current = refl; marks = refl; placed = tt; few = omega (arith, ap length empty); images = refl; configurations = refl };
+  lies = tt;
   rest = λ sure. record {
     fuel = suc (b.structure_end - b.structure);
     enough = omega (arith, start);
@@ -225,14 +240,35 @@ indexed_err {X = X} file bytes x e k r es header same was is given =
     subst (λ (w : Result Siblings Fault). Indexes w r es) (tree_is file bytes x header same) (err_same (begun (tokens (blocks_of bytes x))) e k r es was is given)
 
 -- what a pass asked for and kept, by what the file's tokens are counted for
-pub within_meta : (file bytes : List ℕ) (x : Extent) (base asked : ℕ) (es : List (List ℕ)) → blocks file ≡ Ok (blocks_of file x) → bytes ≡ file
-    → Within (blocks_of bytes x) (begun (tokens (blocks_of bytes x))) base asked es → (asked + 60 ≤ base + meta file) × (length es ≤ nodes_met file)
-within_meta file bytes x base asked es header same given =
+pub within_cost : (file bytes : List ℕ) (x : Extent) (base asked : ℕ) (es : List (List ℕ)) → blocks file ≡ Ok (blocks_of file x) → bytes ≡ file
+    → Within (blocks_of bytes x) (begun (tokens (blocks_of bytes x))) base asked es → (asked + 40 ≤ base + index_cost file) × (length es ≤ nodes_met file)
+within_cost file bytes x base asked es header same given =
     let b : Blocks = blocks_of file x in
     let w : Within b (begun (tokens b)) base asked es = subst (λ (f : List ℕ). Within (blocks_of f x) (begun (tokens (blocks_of f x))) base asked es) same given in
     let all : met_in (begun (tokens b)) (tokens b) ≡ met file =
     ap (λ (r : Result Siblings Fault). met_in r (tokens b)) (begun_is (tokens b)) ∙ sym (ap met_from header) in
     (omega (arith, w.costs, ap (sum_by weight) all, weight_counts (met file)), omega (arith, w.nodes, ap (sum_by begun_by) all))
+
+-- what a file's index asks for, and what the rest of its metadata leaves
+pub meta_rest : (file : List ℕ) → index_cost file + (20 + 760 * nodes_met file + 756 * properties_met file + 4 * texts_met file) ≡ meta file
+meta_rest file = omega arith
+
+-- what a pass found is what the file has
+pub finds : (d e : Device) (x : Extent) (s : State) (es : List (List ℕ)) (size : ℕ) → SameDevice d e → (IsTrue d.honest → GivesBlocks d.bytes (Ok x)) → IsInside x (length d.bytes)
+    → size ≡ x.totalsize → Passed e.honest (blocks_of e.bytes x) s es
+    → Finds d (record { totalsize = size; images = s.images; configurations = s.configurations }) es
+finds d e x s es size same header inside_it sized passed = record {
+  nodes = passed.nodes;
+  is = λ sure. sym (tree_is d.bytes e.bytes x (header sure).0 same.bytes) ∙ passed.is (subst (λ (b : Bool). IsTrue b) (sym same.honest) sure);
+  indexed = record {
+    kept = passed.kept;
+    images = passed.images;
+    configurations = passed.configurations;
+    lies = lies_within x.structure_end size (kept_of passed.nodes) (omega (arith, inside_it.structure_within, sized)) passed.lies;
+    small = omega (arith, inside_it.fits, sized);
+  };
+  within = omega (arith, inside_it.within, sized);
+}
 
 prefix_same : {X Y : Type 0} (ts : List Token) (e : IndexFault) (k : Result Y IndexFault) (r : Result X IndexFault) (es : List (List ℕ)) → k ≡ Err e → r ≡ Err e → IsPrefix ts k es → IsPrefix ts r es
 prefix_same {X = X} {Y = Y} ts (Blob fault at) k r es was is h =

@@ -12,10 +12,9 @@ use Rattle.uimg_blob.specs.declared.keys.Key.{Key}
 use Rattle.uimg_blob.specs.Tokens.{Property}
 use Rattle.uimg_blob.specs.Grammar.{none}
 use Rattle.uimg_blob.specs.Keys.{name_of}
-use Rattle.uimg_blob.specs.LookUps.{first}
 use Rattle.uimg_blob.specs.Roles.{role_at, keys_of}
 use Rattle.uimg_blob.specs.Walk.{Open, opened}
-use Rattle.uimg_blob.specs.Kept.{Kept, kept, entry_of, slot, value_word, span_word, number_word, role_word}
+use Rattle.uimg_blob.specs.Kept.{property_named, Kept, kept, entry_of, slot, value_word, span_word, number_word, role_word}
 use Rattle.uimg_blob.specs.SoFar.{count, next_level, open_row, so_far, entries_so_far}
 use Rattle.uimg_blob.proofs.SoFarLaws.{Seam, length_so_far}
 use Rattle.uimg_blob.proofs.ValueLaws.{words_of, are_apart, repeated, stored, word_at, slot_below}
@@ -25,7 +24,7 @@ last_row : (ls : List Open) (at : ℕ) (name : List ℕ) (own : List Property) �
 unfolding so_far kept
 last_row ls at name own = refl
 
-length_words : (keys : List Key) (own : List Property) → length (words_of keys own) ≡ length keys
+pub length_words : (keys : List Key) (own : List Property) → length (words_of keys own) ≡ length keys
 length_words [] own = refl
 length_words (key ∷ keys) own = ap suc (length_words keys own)
 
@@ -67,11 +66,11 @@ zero_word : (o : Option Property) → IfSome o (λ q. 0 < q.place) → value_wor
 zero_word None placed h = refl
 zero_word (Some q) placed h = absurd (omega (arith, placed, h))
 
-first_placed : (own : List Property) (name : List ℕ) → AllByRecursion (λ q. 0 < q.place) own → IfSome (first own name) (λ q. 0 < q.place)
+first_placed : (own : List Property) (name : List ℕ) → AllByRecursion (λ q. 0 < q.place) own → IfSome (property_named own name) (λ q. 0 < q.place)
 first_placed [] name placed = tt
 first_placed (q ∷ own) name placed = at_first (bytes_eq name q.name) q own name placed.0 (first_placed own name placed.1)
   where
-    at_first : (b : Bool) (q : Property) (own : List Property) (name : List ℕ) → 0 < q.place → IfSome (first own name) (λ q. 0 < q.place) → IfSome (cond b (Some q) (first own name)) (λ q. 0 < q.place)
+    at_first : (b : Bool) (q : Property) (own : List Property) (name : List ℕ) → 0 < q.place → IfSome (property_named own name) (λ q. 0 < q.place) → IfSome (cond b (Some q) (property_named own name)) (λ q. 0 < q.place)
     at_first true q own name here rest = here
     at_first false q own name here rest = rest
 
@@ -98,7 +97,7 @@ changed ls at number j name own p es e old is read place placed zero =
     let five : j + 5 ≡ suc (suc (suc (suc (suc j)))) = omega arith in
     let word : get_or (padded role (words_of (keys_of role) own)) j 0 ≡ 0 =
     ap (λ (i : ℕ). get_or (entry_of row) i 0) (sym five) ∙ sym (ap (λ (x : List ℕ). get_or x (j + 5) 0) entry) ∙ zero in
-    let without : first own p.name ≡ None = zero_word (first own p.name) (first_placed own p.name placed)
+    let without : property_named own p.name ≡ None = zero_word (property_named own p.name) (first_placed own p.name placed)
     (sym (word_at (keys_of role) own p.name j place) ∙ sym (get_or-append (words_of (keys_of role) own) (replicate (11 - length (keys_of role)) 0) 0 j below) ∙ word) in
     ap (λ (x : List ℕ). set x (j + 5) w) entry
     ∙ ap (λ (i : ℕ). set (entry_of row) i w) five
@@ -108,11 +107,11 @@ changed ls at number j name own p es e old is read place placed zero =
 -- the property's name came before
 pub again : (ls : List Open) (at j : ℕ) (name : List ℕ) (own : List Property) (p : Property)
     → slot p.name (keys_of (role_at (next_level ls) name)) ≡ Some j
-    → (value_word (first own p.name) ≡ 0 → ⊥)
+    → (value_word (property_named own p.name) ≡ 0 → ⊥)
     → entries_so_far (opened at name own none ∷ ls) ≡ entries_so_far (opened at name (own ++ p ∷ []) none ∷ ls)
-again ls at j name own p place some = had (first own p.name) refl
+again ls at j name own p place some = had (property_named own p.name) refl
   where
-    had : (o : Option Property) → first own p.name ≡ o → entries_so_far (opened at name own none ∷ ls) ≡ entries_so_far (opened at name (own ++ p ∷ []) none ∷ ls)
+    had : (o : Option Property) → property_named own p.name ≡ o → entries_so_far (opened at name own none ∷ ls) ≡ entries_so_far (opened at name (own ++ p ∷ []) none ∷ ls)
     had None is = absurd (some (ap value_word is))
     had (Some q) is = unchanged ls at name own p (repeated (keys_of (role_at (next_level ls) name)) own p q is)
 
@@ -125,7 +124,7 @@ placed_at p role key o ls name same named place =
 -- the word of a value in the innermost node's entry
 pub kept_word : (ls : List Open) (at number j : ℕ) (name : List ℕ) (own : List Property) (p : Property) (es : List (List ℕ)) (e : List ℕ)
     → es ≡ entries_so_far (opened at name own none ∷ ls) → number ≡ count ls → slice_get es number ≡ Some e
-    → slot p.name (keys_of (role_at (next_level ls) name)) ≡ Some j → get_or e (j + 5) 0 ≡ value_word (first own p.name)
+    → slot p.name (keys_of (role_at (next_level ls) name)) ≡ Some j → get_or e (j + 5) 0 ≡ value_word (property_named own p.name)
 kept_word ls at number j name own p es e old is read place =
     let role : Role = role_at (next_level ls) name in
     let row : Kept = open_row ls at name own in

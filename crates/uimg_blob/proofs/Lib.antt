@@ -8,7 +8,12 @@ pub mod KeepLaws
 pub mod PhaseLaws
 pub mod RoleLaws
 pub mod KeyLaws
+pub mod NoteLaws
 pub mod PassLaws
+pub mod LieLaws
+pub mod NumberedLaws
+pub mod LookLaws
+pub mod TextLaws
 pub mod IndexLaws
 pub mod CostLaws
 pub mod LinkLaws

@@ -1,11 +1,16 @@
 -- The links of a tree's nodes: parents stand before, ends after.
 use Rattle.std.proofs.Common.{◌≡◌, ◌<◌, ◌≤◌, ◌+◌, ℕ, suc, List, [], ◌∷◌, ◌++◌, Option, Some, None, IfSome, length, subst, arith}
+use Rattle.std.specs.Prelude.{⊤}
 use Rattle.uimg_blob.specs.Grammar.{Siblings, none, node}
 use Rattle.uimg_blob.specs.Rows.{size}
 use Rattle.uimg_blob.specs.Roles.{Level, top, role_at, level_in, level_after}
 use Rattle.uimg_blob.specs.Kept.{Kept, kept, kept_of}
-use Rattle.uimg_blob.specs.Passes.{AreLinked}
 use Rattle.uimg_blob.proofs.SoFarLaws.{length_kept}
+
+-- The nodes from number i on have their parents before them, and end after themselves, at most at n.
+abbrev pub AreLinked : ℕ → ℕ → List Kept → Type 0
+AreLinked i n [] = ⊤
+AreLinked i n (k ∷ ks) = IfSome k.parent (λ p. p < i) × (i < k.end) × (k.end ≤ n) × AreLinked (i + 1) n ks
 
 joined : (a b : List Kept) (i n : ℕ) → AreLinked i n a → AreLinked (i + length a) n b → AreLinked i n (a ++ b)
 joined [] b i n h more = let e : i + 0 ≡ i = omega arith in subst (λ (j : ℕ). AreLinked j n b) e more

@@ -1,42 +1,21 @@
 -- What a token does to the phase of a pass.
-use Rattle.std.proofs.Common.{◌≡◌, ◌<◌, ◌≤◌, ◌+◌, ℕ, suc, List, [], ◌∷◌, ◌++◌, length, map, find, Option, Some, None, Result, Ok, Err, Bool, true, false, IsTrue, refl, ap, sym, ◌∙◌, subst, cond, if◌then◌else◌, get_or, ◌||◌, codes, nat_lt, IfSome, OnOk, is_ok, replicate, arith}
+use Rattle.std.proofs.Common.{◌≡◌, ◌<◌, ◌≤◌, ◌+◌, ℕ, List, [], ◌∷◌, ◌++◌, length, Option, Some, None, Result, Ok, Err, Bool, false, refl, ap, sym, ◌∙◌, subst, get_or, arith}
 use Rattle.std.specs.List.{slice_get, AllByRecursion}
-use Rattle.std.specs.Option.{option_map, is_some}
-use Rattle.std.specs.Str.{bytes_eq}
-use Rattle.std.proofs.lemmas.List.{map-append, length-replicate}
-use Rattle.std.proofs.lemmas.Option.{get_or_from_slice_get}
-use Rattle.std.proofs.lemmas.Slice.Eq.{bytes_eq-Decides}
-use Rattle.std.proofs.Math.Seq.{get_or-append_seam}
-use Rattle.std.proofs.lemmas.Bool.{lt-ltb}
-use Rattle.uimg_blob.specs.declared.fault.BlobFault.{BlobFault}
-use Rattle.uimg_blob.specs.declared.fault.BlobFault.TheVariants.{BadNesting}
+use Rattle.std.specs.Option.{is_some}
 use Rattle.uimg_blob.specs.declared.fault.IndexFault.{IndexFault}
 use Rattle.uimg_blob.specs.declared.fault.IndexFault.TheVariants.{Blob, Read}
-use Rattle.uimg_blob.specs.declared.keys.Key.{Key}
-use Rattle.uimg_blob.specs.declared.keys.Key.TheVariants as key
-use Rattle.uimg_blob.specs.declared.labels.Label.{Label}
-use Rattle.uimg_blob.specs.declared.tokens.ReadToken.{ReadToken}
-use Rattle.uimg_blob.specs.declared.tokens.ReadToken.TheVariants as read
-use Rattle.uimg_blob.specs.ReadTokens.{IsReadAs, IsSound}
-use Rattle.uimg_blob.specs.declared.labels.Label.TheVariants as label
 use Rattle.uimg_blob.specs.declared.states.State.{State}
 use Rattle.uimg_blob.specs.declared.roles.Role.{Role}
-use Rattle.uimg_blob.specs.declared.roles.Role.TheVariants.{Root, Images, Image, Hash, Configurations, Configuration, Other}
-use Rattle.uimg_blob.specs.Tokens.{Property, Token, Blocks, token_at, begin_node, end_node, prop, nop, last, stray}
+use Rattle.uimg_blob.specs.Tokens.{Property, Token}
 use Rattle.uimg_blob.specs.Grammar.{Siblings, none, node}
-use Rattle.uimg_blob.specs.Keys.{name_of, key_named, all_keys}
-use Rattle.uimg_blob.specs.Labels.{label_of}
-use Rattle.uimg_blob.specs.Roles.{Level, top, in_root, in_images, in_image, in_configurations, elsewhere, role_at, root_child, level_in, level_after, keys_of, is_images, is_configurations, is_hash}
-use Rattle.uimg_blob.specs.Rows.{size}
-use Rattle.uimg_blob.specs.Walk.{Open, opened, close, join, as_node, walk, begun, finished}
-use Rattle.uimg_blob.specs.Kept.{Kept, kept, kept_of, entry_of, entries, slot, number_word, role_word}
+use Rattle.uimg_blob.specs.Roles.{Level, top, in_root, role_at, level_in, level_after, is_images_role, is_configurations_role}
+use Rattle.uimg_blob.specs.Walk.{Open, opened, close, join, as_node}
+use Rattle.uimg_blob.specs.Kept.{entry_of, entries, number_word, number_of_role}
 use Rattle.uimg_blob.specs.SoFar.{count, innermost, level_past, next_level, open_row, so_far, entries_so_far}
-use Rattle.uimg_blob.specs.Passes.{Phase, inside, after, left, step, then_left, Step, on, stop, begins_in, ends_in, prop_in, last_in, is_after, is_done, bare, root_level, child_level, label_marked, level_marked, Holds, Goes, Acts, Refuses, IsPlaced}
-use Rattle.uimg_blob.proofs.SoFarLaws.{length_so_far}
-use Rattle.uimg_blob.proofs.EntryLaws.{length_entries}
-use Rattle.uimg_blob.proofs.KeepLaws.{unchanged}
-use Rattle.uimg_blob.proofs.ValueLaws.{absent}
-use Rattle.uimg_blob.proofs.PhaseLaws.{some_none, some_some}
+use Rattle.uimg_blob.specs.Passes.{Phase, inside, after, Step, on, begins_in, ends_in, prop_in, is_after, bare, root_level, noted_images, noted_configurations, Holds, Goes, Acts, Refuses, IsPlaced}
+use Rattle.uimg_blob.proofs.SoFarLaws.{length_so_far, property_row, end_row, root_row}
+use Rattle.uimg_blob.proofs.PhaseLaws.{some_none, some_some, true_false, count_is}
+use Rattle.uimg_blob.proofs.NoteLaws.{seam_number, images_begun, configurations_begun, marks_begin}
 use Rattle.uimg_blob.proofs.RoleLaws.{row_at}
 
 number_same : (a b : Option ℕ) → number_word a ≡ number_word b → a ≡ b
@@ -59,12 +38,43 @@ marks_end (opened at name own below) (opened at' name' own' below') (q ∷ r ∷
 placed_end : (o parent : Open) → IsPlaced parent → IsPlaced (close o parent)
 placed_end (opened at name own below) (opened at' name' own' below') h = h
 
+number_end : (is_it : Role → Bool) (o parent : Open) (ls : List Open) → number_of_role is_it 0 (so_far (o ∷ parent ∷ ls)) ≡ number_of_role is_it 0 (so_far (close o parent ∷ ls))
+number_end is_it (opened at name own below) (opened at' name' own' below') ls =
+    seam_number is_it _ _ _ _ (λ k. refl) (end_row at name own below at' name' own' below' ls)
+
+-- a node begins
+pub begin_goes : (p : Phase) (s : State) (es new : List (List ℕ)) (name : List ℕ) (role : Role) (at n : ℕ) (images configurations : Option ℕ)
+    → Holds p s es → false ≡ is_after p
+    → ((ls : List Open) → es ≡ entries_so_far ls → s.current ≡ innermost ls → root_level ls ≡ in_root (is_some s.images) (is_some s.configurations) → role ≡ role_at (next_level ls) name)
+    → ((ls : List Open) → es ≡ entries_so_far ls → s.current ≡ innermost ls → role ≡ role_at (next_level ls) name → new ≡ entries_so_far (opened s.at name [] none ∷ ls))
+    → images ≡ noted_images role n s.images → configurations ≡ noted_configurations role n s.configurations
+    → s.at + 8 ≤ at → length new ≡ length es + 1 → n ≡ length es
+    → (q : Phase) × (begins_in p s.at (Ok name) ≡ on q) × Holds q (record { at = at; current = Some n; images = images; configurations = configurations }) new
+begin_goes (inside ls) s es new name role at n images configurations h is known put its_images its_configurations ahead more number =
+    let role_is : role ≡ role_at (next_level ls) name = known ls h.entries h.current h.marks in
+    let many : n ≡ length (so_far ls) = number ∙ count_is ls es h.entries ∙ sym (length_so_far ls) in (
+      inside (opened s.at name [] none ∷ ls),
+      refl,
+      record {
+        entries = put ls h.entries h.current role_is;
+        current = ap (λ (k : ℕ). Some k) (number ∙ count_is ls es h.entries);
+        marks = marks_begin ls s.at n name role s.images s.configurations role_is h.marks
+            ∙ ap (λ (o : Option ℕ). in_root (is_some o) (is_some (noted_configurations role n s.configurations))) (sym its_images)
+            ∙ ap (λ (o : Option ℕ). in_root (is_some images) (is_some o)) (sym its_configurations);
+        placed = (tt, h.placed);
+        few = omega (arith, h.few, ahead, more);
+        images = its_images ∙ images_begun ls s.at n name role s.images (is_some s.configurations) role_is h.marks h.images many;
+        configurations = its_configurations ∙ configurations_begun ls s.at n name role s.configurations (is_some s.images) role_is h.marks h.configurations many;
+      },
+    )
+begin_goes (after o) s es new name role at n images configurations h is known put its_images its_configurations ahead more number = absurd (true_false (sym is))
+
 pub end_goes : (p : Phase) (s : State) (es new : List (List ℕ)) (n : ℕ) (e : List ℕ) (parent : Option ℕ)
     → Holds p s es → s.current ≡ Some n → slice_get es n ≡ Some e → get_or e 1 0 ≡ number_word parent
     → ((o outer : Open) (ls : List Open) → es ≡ entries_so_far (o ∷ outer ∷ ls) → n ≡ count (outer ∷ ls) → new ≡ entries_so_far (close o outer ∷ ls))
     → ((o : Open) → es ≡ entries_so_far (o ∷ []) → n ≡ 0 → new ≡ entries (as_node o))
     → length new ≡ length es
-    → (q : Phase) × (ends_in p s.at ≡ on q) × Holds q (record { at = s.at + 4; current = parent; had_images = s.had_images; had_configurations = s.had_configurations }) new
+    → (q : Phase) × (ends_in p s.at ≡ on q) × Holds q (record { at = s.at + 4; current = parent; images = s.images; configurations = s.configurations }) new
 unfolding count
 end_goes (inside []) s es new n e parent h is read word inner root same = absurd (some_none (sym is ∙ h.current))
 end_goes (inside (opened at name own below ∷ [])) s es new n e parent h is read word inner root same =
@@ -78,6 +88,8 @@ end_goes (inside (opened at name own below ∷ [])) s es new n e parent h is rea
         marks = tt;
         placed = tt;
         few = omega (arith, h.few, same);
+        images = h.images ∙ seam_number is_images_role _ _ _ _ (λ k. refl) (root_row at name own below);
+        configurations = h.configurations ∙ seam_number is_configurations_role _ _ _ _ (λ k. refl) (root_row at name own below);
       },
     )
 end_goes (inside (opened at name own below ∷ outer ∷ ls)) s es new n e parent h is read word inner root same =
@@ -91,6 +103,8 @@ end_goes (inside (opened at name own below ∷ outer ∷ ls)) s es new n e paren
         marks = marks_end (opened at name own below) outer ls ∙ h.marks;
         placed = (placed_end (opened at name own below) outer h.placed.1.0, h.placed.1.1);
         few = omega (arith, h.few, same);
+        images = h.images ∙ number_end is_images_role (opened at name own below) outer ls;
+        configurations = h.configurations ∙ number_end is_configurations_role (opened at name own below) outer ls;
       },
     )
 end_goes (after o) s es new n e parent h is read word inner root same = absurd (some_none (sym is ∙ h.current))
@@ -109,7 +123,7 @@ pub prop_goes : (p : Phase) (s : State) (es new : List (List ℕ)) (n : ℕ) (x 
     → Holds p s es → Some n ≡ bare p → 0 < x.place
     → ((at : ℕ) (name : List ℕ) (own : List Property) (ls : List Open) → es ≡ entries_so_far (opened at name own none ∷ ls) → n ≡ count ls → AllByRecursion (λ q. 0 < q.place) own → new ≡ entries_so_far (opened at name (own ++ x ∷ []) none ∷ ls))
     → length new ≡ length es → s.at ≤ at
-    → (q : Phase) × (prop_in p s.at (Ok x) ≡ on q) × Holds q (record { at = at; current = s.current; had_images = s.had_images; had_configurations = s.had_configurations }) new
+    → (q : Phase) × (prop_in p s.at (Ok x) ≡ on q) × Holds q (record { at = at; current = s.current; images = s.images; configurations = s.configurations }) new
 prop_goes (inside []) s es new n x at h is place put same ahead = absurd (some_none is)
 prop_goes (inside (opened place' name own none ∷ ls)) s es new n x at h is place put same ahead = (
   inside (opened place' name (own ++ x ∷ []) none ∷ ls),
@@ -120,6 +134,8 @@ prop_goes (inside (opened place' name own none ∷ ls)) s es new n x at h is pla
     marks = marks_prop ls place' name own (own ++ x ∷ []) none ∙ h.marks;
     placed = (all_more own x h.placed.0 place, h.placed.1);
     few = omega (arith, h.few, same, ahead);
+    images = h.images ∙ seam_number is_images_role _ _ _ _ (λ k. refl) (property_row ls place' name own x);
+    configurations = h.configurations ∙ seam_number is_configurations_role _ _ _ _ (λ k. refl) (property_row ls place' name own x);
   },
 )
 prop_goes (inside (opened place' name own (node a b c d e) ∷ ls)) s es new n x at h is place put same ahead = absurd (some_none is)

@@ -1,41 +1,17 @@
 -- What a phase of a pass is, and what a token may do in it.
-use Rattle.std.proofs.Common.{◌≡◌, ◌<◌, ◌≤◌, ◌+◌, ℕ, suc, List, [], ◌∷◌, ◌++◌, length, map, find, Option, Some, None, Result, Ok, Err, Bool, true, false, IsTrue, refl, ap, sym, ◌∙◌, subst, cond, if◌then◌else◌, get_or, ◌||◌, codes, nat_lt, IfSome, OnOk, is_ok, replicate, arith}
-use Rattle.std.specs.List.{slice_get, AllByRecursion}
-use Rattle.std.specs.Option.{option_map, is_some}
-use Rattle.std.specs.Str.{bytes_eq}
-use Rattle.std.proofs.lemmas.List.{map-append, length-replicate}
-use Rattle.std.proofs.lemmas.Option.{get_or_from_slice_get}
-use Rattle.std.proofs.lemmas.Slice.Eq.{bytes_eq-Decides}
-use Rattle.std.proofs.Math.Seq.{get_or-append_seam}
+use Rattle.std.proofs.Common.{◌≡◌, ◌<◌, ◌+◌, ℕ, List, [], ◌∷◌, length, Option, Some, None, Result, Ok, Err, Bool, true, false, refl, ap, sym, ◌∙◌, subst, nat_lt, IfSome, arith}
 use Rattle.std.proofs.lemmas.Bool.{lt-ltb}
 use Rattle.uimg_blob.specs.declared.fault.BlobFault.{BlobFault}
 use Rattle.uimg_blob.specs.declared.fault.BlobFault.TheVariants.{BadNesting}
-use Rattle.uimg_blob.specs.declared.fault.IndexFault.{IndexFault}
-use Rattle.uimg_blob.specs.declared.fault.IndexFault.TheVariants.{Blob, Read}
-use Rattle.uimg_blob.specs.declared.keys.Key.{Key}
-use Rattle.uimg_blob.specs.declared.keys.Key.TheVariants as key
-use Rattle.uimg_blob.specs.declared.labels.Label.{Label}
-use Rattle.uimg_blob.specs.declared.tokens.ReadToken.{ReadToken}
-use Rattle.uimg_blob.specs.declared.tokens.ReadToken.TheVariants as read
-use Rattle.uimg_blob.specs.ReadTokens.{IsReadAs, IsSound}
-use Rattle.uimg_blob.specs.declared.labels.Label.TheVariants as label
 use Rattle.uimg_blob.specs.declared.states.State.{State}
-use Rattle.uimg_blob.specs.declared.roles.Role.{Role}
-use Rattle.uimg_blob.specs.declared.roles.Role.TheVariants.{Root, Images, Image, Hash, Configurations, Configuration, Other}
-use Rattle.uimg_blob.specs.Tokens.{Property, Token, Blocks, token_at, begin_node, end_node, prop, nop, last, stray}
-use Rattle.uimg_blob.specs.Grammar.{Siblings, none, node}
-use Rattle.uimg_blob.specs.Keys.{name_of, key_named, all_keys}
-use Rattle.uimg_blob.specs.Labels.{label_of}
-use Rattle.uimg_blob.specs.Roles.{Level, top, in_root, in_images, in_image, in_configurations, elsewhere, role_at, root_child, level_in, level_after, keys_of, is_images, is_configurations, is_hash}
-use Rattle.uimg_blob.specs.Rows.{size}
-use Rattle.uimg_blob.specs.Walk.{Open, opened, close, join, as_node, walk, begun, finished}
-use Rattle.uimg_blob.specs.Kept.{Kept, kept, kept_of, entry_of, entries, slot, number_word, role_word}
-use Rattle.uimg_blob.specs.SoFar.{count, innermost, level_past, next_level, open_row, so_far, entries_so_far}
-use Rattle.uimg_blob.specs.Passes.{Phase, inside, after, left, step, then_left, Step, on, stop, begins_in, ends_in, prop_in, last_in, is_after, is_done, bare, root_level, child_level, label_marked, level_marked, Holds, Goes, Acts, Refuses, IsPlaced}
+use Rattle.uimg_blob.specs.Tokens.{Property, Token, begin_node, end_node, prop, nop, last, stray}
+use Rattle.uimg_blob.specs.Grammar.{none, node}
+use Rattle.uimg_blob.specs.Walk.{Open, opened, as_node, walk, begun, finished}
+use Rattle.uimg_blob.specs.Kept.{kept, kept_of, entries}
+use Rattle.uimg_blob.specs.SoFar.{count, so_far, entries_so_far}
+use Rattle.uimg_blob.specs.Passes.{Phase, inside, after, left, step, then_left, stop, begins_in, ends_in, prop_in, last_in, is_after, is_done, bare, Holds}
 use Rattle.uimg_blob.proofs.SoFarLaws.{length_so_far}
 use Rattle.uimg_blob.proofs.EntryLaws.{length_entries}
-use Rattle.uimg_blob.proofs.KeepLaws.{unchanged}
-use Rattle.uimg_blob.proofs.ValueLaws.{absent}
 
 -- A token, and then the tokens after it.
 pub left_is : (p : Phase) (t : Token) (ts : List Token) → left p (t ∷ ts) ≡ then_left (step p t) ts

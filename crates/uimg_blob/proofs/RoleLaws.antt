@@ -1,42 +1,21 @@
 -- The roles of the nodes that a pass enters.
-use Rattle.std.proofs.Common.{◌≡◌, ◌<◌, ◌≤◌, ◌+◌, ℕ, suc, List, [], ◌∷◌, ◌++◌, length, map, find, Option, Some, None, Result, Ok, Err, Bool, true, false, IsTrue, refl, ap, sym, ◌∙◌, subst, cond, if◌then◌else◌, get_or, ◌||◌, codes, nat_lt, IfSome, OnOk, is_ok, replicate, arith}
-use Rattle.std.specs.List.{slice_get, AllByRecursion}
-use Rattle.std.specs.Option.{option_map, is_some}
-use Rattle.std.specs.Str.{bytes_eq}
-use Rattle.std.proofs.lemmas.List.{map-append, length-replicate}
+use Rattle.std.proofs.Common.{◌≡◌, ◌+◌, ℕ, List, [], ◌∷◌, ◌++◌, length, map, Some, None, Bool, true, false, refl, ap, sym, ◌∙◌, if◌then◌else◌, get_or}
+use Rattle.std.specs.List.{slice_get}
+use Rattle.std.proofs.lemmas.List.{map-append}
 use Rattle.std.proofs.lemmas.Option.{get_or_from_slice_get}
-use Rattle.std.proofs.lemmas.Slice.Eq.{bytes_eq-Decides}
 use Rattle.std.proofs.Math.Seq.{get_or-append_seam}
-use Rattle.std.proofs.lemmas.Bool.{lt-ltb}
-use Rattle.uimg_blob.specs.declared.fault.BlobFault.{BlobFault}
-use Rattle.uimg_blob.specs.declared.fault.BlobFault.TheVariants.{BadNesting}
-use Rattle.uimg_blob.specs.declared.fault.IndexFault.{IndexFault}
-use Rattle.uimg_blob.specs.declared.fault.IndexFault.TheVariants.{Blob, Read}
-use Rattle.uimg_blob.specs.declared.keys.Key.{Key}
-use Rattle.uimg_blob.specs.declared.keys.Key.TheVariants as key
-use Rattle.uimg_blob.specs.declared.labels.Label.{Label}
-use Rattle.uimg_blob.specs.declared.tokens.ReadToken.{ReadToken}
-use Rattle.uimg_blob.specs.declared.tokens.ReadToken.TheVariants as read
-use Rattle.uimg_blob.specs.ReadTokens.{IsReadAs, IsSound}
-use Rattle.uimg_blob.specs.declared.labels.Label.TheVariants as label
-use Rattle.uimg_blob.specs.declared.states.State.{State}
 use Rattle.uimg_blob.specs.declared.roles.Role.{Role}
 use Rattle.uimg_blob.specs.declared.roles.Role.TheVariants.{Root, Images, Image, Hash, Configurations, Configuration, Other}
-use Rattle.uimg_blob.specs.Tokens.{Property, Token, Blocks, token_at, begin_node, end_node, prop, nop, last, stray}
+use Rattle.uimg_blob.specs.Tokens.{Property}
 use Rattle.uimg_blob.specs.Grammar.{Siblings, none, node}
-use Rattle.uimg_blob.specs.Keys.{name_of, key_named, all_keys}
-use Rattle.uimg_blob.specs.Labels.{label_of}
-use Rattle.uimg_blob.specs.Roles.{Level, top, in_root, in_images, in_image, in_configurations, elsewhere, role_at, root_child, level_in, level_after, keys_of, is_images, is_configurations, is_hash}
-use Rattle.uimg_blob.specs.Rows.{size}
-use Rattle.uimg_blob.specs.Walk.{Open, opened, close, join, as_node, walk, begun, finished}
-use Rattle.uimg_blob.specs.Kept.{Kept, kept, kept_of, entry_of, entries, slot, number_word, role_word}
+use Rattle.uimg_blob.specs.Roles.{Level, top, in_root, in_images, in_image, in_configurations, elsewhere, role_at, root_child, level_in, level_after, is_images, is_configurations, is_hash}
+use Rattle.uimg_blob.specs.Walk.{Open, opened}
+use Rattle.uimg_blob.specs.Kept.{Kept, kept, entry_of, role_word}
 use Rattle.uimg_blob.specs.SoFar.{count, innermost, level_past, next_level, open_row, so_far, entries_so_far}
-use Rattle.uimg_blob.specs.Passes.{Phase, inside, after, left, step, then_left, Step, on, stop, begins_in, ends_in, prop_in, last_in, is_after, is_done, bare, root_level, child_level, label_marked, level_marked, Holds, Goes, Acts, Refuses, IsPlaced}
+use Rattle.uimg_blob.specs.Passes.{root_level, child_level}
 use Rattle.uimg_blob.proofs.SoFarLaws.{length_so_far}
 use Rattle.uimg_blob.proofs.EntryLaws.{length_entries}
-use Rattle.uimg_blob.proofs.KeepLaws.{unchanged}
-use Rattle.uimg_blob.proofs.ValueLaws.{absent}
-use Rattle.uimg_blob.proofs.PhaseLaws.{some_none, some_some, true_false, count_is}
+use Rattle.uimg_blob.proofs.PhaseLaws.{some_none, some_some, true_false}
 
 -- the entry of the innermost node
 pub row_at : (ls : List Open) (at n : ℕ) (name : List ℕ) (own : List Property) (below : Siblings) (es : List (List ℕ)) (e : List ℕ)
@@ -59,7 +38,7 @@ is_top in_image = false
 is_top in_configurations = false
 is_top elsewhere = false
 
-abbrev is_root : Role → Bool
+abbrev pub is_root : Role → Bool
 is_root Root = true
 is_root Images = false
 is_root Image = false
@@ -123,6 +102,12 @@ past_child Configurations b hi hc h = past_same in_configurations b (λ name. re
 past_child Configuration b hi hc h = past_same elsewhere b (λ name. refl)
 past_child Other b hi hc h = past_same elsewhere b (λ name. refl)
 
+pub inner_not_root : (ls : List Open) (at : ℕ) (name : List ℕ) (own : List Property) (below : Siblings) (inner : List ℕ)
+    → is_root (role_at (next_level (opened at name own below ∷ ls)) inner) ≡ false
+unfolding next_level
+inner_not_root ls at name own below inner =
+    role_not_root (next_level (opened at name own below ∷ ls)) inner (past_not_top (level_in (role_at (next_level ls) name)) below (in_not_top (role_at (next_level ls) name)))
+
 -- where the innermost node's children stand, by its role and what the root had
 pub level_is : (ls : List Open) (at : ℕ) (name : List ℕ) (own : List Property) (below : Siblings) (hi hc : Bool)
     → root_level (opened at name own below ∷ ls) ≡ in_root hi hc → next_level (opened at name own below ∷ ls) ≡ child_level (role_at (next_level ls) name) hi hc
@@ -147,53 +132,3 @@ pub root_is : (ls : List Open) (name : List ℕ) → None ≡ innermost ls → R
 unfolding next_level
 root_is [] name h = refl
 root_is (o ∷ ls) name h = absurd (some_none (sym h))
-
--- the children that the root had, with a node more
-or_true : (x : Bool) → (x || true) ≡ true
-or_true true = refl
-or_true false = refl
-
-or_false : (x : Bool) → (x || false) ≡ x
-or_false true = refl
-or_false false = refl
-
-marked_by : (a b h hi hc : Bool) → (a ≡ true → b ≡ false)
-    → in_root (hi || a) (hc || b) ≡ label_marked (if a then label.Images else if b then label.Configurations else if h then label.Hash else label.Other) hi hc
-marked_by true true h hi hc other = absurd (true_false (other refl))
-marked_by true false h hi hc other = ap (λ (x : Bool). in_root x (hc || false)) (or_true hi) ∙ ap (λ (x : Bool). in_root true x) (or_false hc)
-marked_by false true h hi hc other = ap (λ (x : Bool). in_root x (hc || true)) (or_false hi) ∙ ap (λ (x : Bool). in_root hi x) (or_true hc)
-marked_by false false true hi hc other = ap (λ (x : Bool). in_root x (hc || false)) (or_false hi) ∙ ap (λ (x : Bool). in_root hi x) (or_false hc)
-marked_by false false false hi hc other = ap (λ (x : Bool). in_root x (hc || false)) (or_false hi) ∙ ap (λ (x : Bool). in_root hi x) (or_false hc)
-
-images_not : (name : List ℕ) → is_images name ≡ true → is_configurations name ≡ false
-images_not name h = ap is_configurations ((bytes_eq-Decides name (codes "images")).0 h)
-
-marks_begin : (ls : List Open) (at : ℕ) (name : List ℕ) (hi hc : Bool) → root_level ls ≡ in_root hi hc
-    → root_level (opened at name [] none ∷ ls) ≡ level_marked (innermost ls) (label_of name) hi hc
-unfolding next_level level_past count
-marks_begin [] at name hi hc h = h
-marks_begin (o ∷ []) at name hi hc h = ap (λ (l : Level). level_after l name) h ∙ marked_by (is_images name) (is_configurations name) (is_hash name) hi hc (images_not name)
-marks_begin (o ∷ opened at' name' own' below' ∷ ls) at name hi hc h =
-    let big : count (opened at' name' own' below' ∷ ls) ≡ suc (count ls + size below') = omega arith in
-    h ∙ ap (λ (n : ℕ). level_marked (Some n) (label_of name) hi hc) (sym big)
-
-pub begin_goes : (p : Phase) (s : State) (es new : List (List ℕ)) (name : List ℕ) (l : Label) (at n : ℕ) (hi hc : Bool)
-    → Holds p s es → false ≡ is_after p → l ≡ label_of name
-    → ((ls : List Open) → es ≡ entries_so_far ls → s.current ≡ innermost ls → root_level ls ≡ in_root s.had_images s.had_configurations → new ≡ entries_so_far (opened s.at name [] none ∷ ls))
-    → in_root hi hc ≡ level_marked s.current l s.had_images s.had_configurations
-    → s.at + 8 ≤ at → length new ≡ length es + 1 → n ≡ length es
-    → (q : Phase) × (begins_in p s.at (Ok name) ≡ on q) × Holds q (record { at = at; current = Some n; had_images = hi; had_configurations = hc }) new
-begin_goes (inside ls) s es new name l at n hi hc h is labelled put marks ahead more number = (
-  inside (opened s.at name [] none ∷ ls),
-  refl,
-  record {
-    entries = put ls h.entries h.current h.marks;
-    current = ap (λ (k : ℕ). Some k) (number ∙ count_is ls es h.entries);
-    marks = marks_begin ls s.at name s.had_images s.had_configurations h.marks
-        ∙ ap (λ (o : Option ℕ). level_marked o (label_of name) s.had_images s.had_configurations) (sym h.current)
-        ∙ ap (λ (k : Label). level_marked s.current k s.had_images s.had_configurations) (sym labelled) ∙ sym marks;
-    placed = (tt, h.placed);
-    few = omega (arith, h.few, ahead, more);
-  },
-)
-begin_goes (after o) s es new name l at n hi hc h is labelled put marks ahead more number = absurd (true_false (sym is))

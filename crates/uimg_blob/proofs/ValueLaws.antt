@@ -7,12 +7,11 @@ use Rattle.std.proofs.lemmas.Slice.Eq.{bytes_eq-Decides}
 use Rattle.uimg_blob.specs.declared.keys.Key.{Key}
 use Rattle.uimg_blob.specs.Tokens.{Property}
 use Rattle.uimg_blob.specs.Keys.{name_of}
-use Rattle.uimg_blob.specs.LookUps.{first}
-use Rattle.uimg_blob.specs.Kept.{slot, value_word}
+use Rattle.uimg_blob.specs.Kept.{property_named, slot, value_word}
 
 -- the words of the values of keys
 abbrev pub words_of : List Key → List Property → List ℕ
-words_of keys own = map (λ key. value_word (first own (name_of key))) keys
+words_of keys own = map (λ key. value_word (property_named own (name_of key))) keys
 
 -- whether a key's name is that of none of others
 abbrev pub is_apart : Key → List Key → Bool
@@ -29,18 +28,18 @@ or_none None = refl
 or_none (Some x) = refl
 
 -- the first property of a name, with a property more
-first_more : (own : List Property) (p : Property) (name : List ℕ) → first (own ++ p ∷ []) name ≡ option_or (first own name) (cond (bytes_eq name p.name) (Some p) None)
+first_more : (own : List Property) (p : Property) (name : List ℕ) → property_named (own ++ p ∷ []) name ≡ option_or (property_named own name) (cond (bytes_eq name p.name) (Some p) None)
 first_more own p name = find-append (λ (q : Property). bytes_eq name q.name) own (p ∷ [])
 
-other_name : (own : List Property) (p : Property) (name : List ℕ) → bytes_eq name p.name ≡ false → first (own ++ p ∷ []) name ≡ first own name
+other_name : (own : List Property) (p : Property) (name : List ℕ) → bytes_eq name p.name ≡ false → property_named (own ++ p ∷ []) name ≡ property_named own name
 other_name own p name differs = first_more own p name
-    ∙ ap (λ (b : Bool). option_or (first own name) (cond b (Some p) None)) differs ∙ or_none (first own name)
+    ∙ ap (λ (b : Bool). option_or (property_named own name) (cond b (Some p) None)) differs ∙ or_none (property_named own name)
 
-had_one : (own : List Property) (p q : Property) (name : List ℕ) → first own name ≡ Some q → first (own ++ p ∷ []) name ≡ first own name
+had_one : (own : List Property) (p q : Property) (name : List ℕ) → property_named own name ≡ Some q → property_named (own ++ p ∷ []) name ≡ property_named own name
 had_one own p q name had = first_more own p name
     ∙ ap (λ (o : Option Property). option_or o (cond (bytes_eq name p.name) (Some p) None)) had ∙ sym had
 
-had_none : (own : List Property) (p : Property) (name : List ℕ) → first own name ≡ None → bytes_eq name p.name ≡ true → first (own ++ p ∷ []) name ≡ Some p
+had_none : (own : List Property) (p : Property) (name : List ℕ) → property_named own name ≡ None → bytes_eq name p.name ≡ true → property_named (own ++ p ∷ []) name ≡ Some p
 had_none own p name none same = first_more own p name
     ∙ ap (λ (o : Option Property). option_or o (cond (bytes_eq name p.name) (Some p) None)) none
     ∙ ap (λ (b : Bool). option_or None (cond b (Some p) None)) same
@@ -84,20 +83,20 @@ absent [] own p h = refl
 absent (key ∷ keys) own p h = by_bool (bytes_eq (name_of key) p.name)
     (λ same_name. absurd (some_none (sym (at_key p.name key keys true same_name) ∙ h)))
     (λ other. ap (λ (o : Option Property). value_word o ∷ words_of keys (own ++ p ∷ [])) (other_name own p (name_of key) other)
-    ∙ ap (λ (ws : List ℕ). value_word (first own (name_of key)) ∷ ws)
+    ∙ ap (λ (ws : List ℕ). value_word (property_named own (name_of key)) ∷ ws)
     (absent keys own p (none_of _ (sym (at_key p.name key keys false other) ∙ h))))
 
 -- a property after one of its name
-pub repeated : (keys : List Key) (own : List Property) (p q : Property) → first own p.name ≡ Some q → words_of keys (own ++ p ∷ []) ≡ words_of keys own
+pub repeated : (keys : List Key) (own : List Property) (p q : Property) → property_named own p.name ≡ Some q → words_of keys (own ++ p ∷ []) ≡ words_of keys own
 repeated [] own p q h = refl
 repeated (key ∷ keys) own p q h =
     ap (λ (o : Option Property). value_word o ∷ words_of keys (own ++ p ∷ [])) (by_bool (bytes_eq (name_of key) p.name)
-    (λ same_name. had_one own p q (name_of key) (ap (first own) ((bytes_eq-Decides (name_of key) p.name).0 same_name) ∙ h))
+    (λ same_name. had_one own p q (name_of key) (ap (property_named own) ((bytes_eq-Decides (name_of key) p.name).0 same_name) ∙ h))
     (λ other. other_name own p (name_of key) other))
-    ∙ ap (λ (ws : List ℕ). value_word (first own (name_of key)) ∷ ws) (repeated keys own p q h)
+    ∙ ap (λ (ws : List ℕ). value_word (property_named own (name_of key)) ∷ ws) (repeated keys own p q h)
 
 -- the first property of its name, where that is a key's
-pub stored : (keys : List Key) (own : List Property) (p : Property) (j : ℕ) → slot p.name keys ≡ Some j → are_apart keys ≡ true → first own p.name ≡ None
+pub stored : (keys : List Key) (own : List Property) (p : Property) (j : ℕ) → slot p.name keys ≡ Some j → are_apart keys ≡ true → property_named own p.name ≡ None
     → words_of keys (own ++ p ∷ []) ≡ set (words_of keys own) j (value_word (Some p))
 stored [] own p j h apart none = absurd (some_none (sym h))
 stored (key ∷ keys) own p j h apart none = by_bool (bytes_eq (name_of key) p.name)
@@ -106,7 +105,7 @@ stored (key ∷ keys) own p j h apart none = by_bool (bytes_eq (name_of key) p.n
     let here : j ≡ 0 = sym (some_some 0 j (sym (at_key p.name key keys true same_name) ∙ h)) in
     let alone : is_apart key keys ≡ true = by_bool (is_apart key keys) (λ a. a) (λ a. absurd (true_false (sym apart ∙ ap (λ (b : Bool). cond b (are_apart keys) false) a))) in
     let gone : slot p.name keys ≡ None = ap (λ (n : List ℕ). slot n keys) (sym same) ∙ apart_absent key keys alone in
-    ap (λ (o : Option Property). value_word o ∷ words_of keys (own ++ p ∷ [])) (had_none own p (name_of key) (ap (first own) same ∙ none) same_name)
+    ap (λ (o : Option Property). value_word o ∷ words_of keys (own ++ p ∷ [])) (had_none own p (name_of key) (ap (property_named own) same ∙ none) same_name)
     ∙ ap (λ (ws : List ℕ). value_word (Some p) ∷ ws) (absent keys own p gone)
     ∙ ap (λ (i : ℕ). set (words_of (key ∷ keys) own) i (value_word (Some p))) (sym here))
     (λ other.
@@ -114,16 +113,16 @@ stored (key ∷ keys) own p j h apart none = by_bool (bytes_eq (name_of key) p.n
     let alone : is_apart key keys ≡ true = by_bool (is_apart key keys) (λ a. a) (λ a. absurd (true_false (sym apart ∙ ap (λ (b : Bool). cond b (are_apart keys) false) a))) in
     let more : are_apart keys ≡ true = sym (ap (λ (b : Bool). cond b (are_apart keys) false) alone) ∙ apart in
     ap (λ (o : Option Property). value_word o ∷ words_of keys (own ++ p ∷ [])) (other_name own p (name_of key) other)
-    ∙ ap (λ (ws : List ℕ). value_word (first own (name_of key)) ∷ ws) (stored keys own p x.0 x.1 more none)
+    ∙ ap (λ (ws : List ℕ). value_word (property_named own (name_of key)) ∷ ws) (stored keys own p x.0 x.1 more none)
     ∙ ap (λ (i : ℕ). set (words_of (key ∷ keys) own) i (value_word (Some p))) (sym x.2))
 
 -- the word of a key's value
 pub word_at : (keys : List Key) (own : List Property) (name : List ℕ) (j : ℕ) → slot name keys ≡ Some j
-    → get_or (words_of keys own) j 0 ≡ value_word (first own name)
+    → get_or (words_of keys own) j 0 ≡ value_word (property_named own name)
 word_at [] own name j h = absurd (some_none (sym h))
 word_at (key ∷ keys) own name j h = by_bool (bytes_eq (name_of key) name)
     (λ same_name. ap (λ (i : ℕ). get_or (words_of (key ∷ keys) own) i 0) (sym (some_some 0 j (sym (at_key name key keys true same_name) ∙ h)))
-    ∙ ap (λ (n : List ℕ). value_word (first own n)) ((bytes_eq-Decides (name_of key) name).0 same_name))
+    ∙ ap (λ (n : List ℕ). value_word (property_named own n)) ((bytes_eq-Decides (name_of key) name).0 same_name))
     (λ other. let x = some_of _ j (sym (at_key name key keys false other) ∙ h) in
     ap (λ (i : ℕ). get_or (words_of (key ∷ keys) own) i 0) x.2 ∙ word_at keys own name x.0 x.1)
 

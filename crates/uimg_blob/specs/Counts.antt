@@ -79,6 +79,11 @@ texts_met file = sum_by text_length (sound_in (tree file) (met file))
 abbrev pub meta : List ℕ → ℕ
 meta file = 64 + 1024 * (nodes_met file + properties_met file) + 4 * (texts_met file + nops_met file)
 
+-- the most bytes that the index of a blob is asked for: its header, a word and at most 256 bytes of a name for each token, and
+-- the words of lengths and ends
+abbrev pub index_cost : List ℕ → ℕ
+index_cost file = 44 + 264 * nodes_met file + 268 * properties_met file + 4 * nops_met file
+
 -- a node that a token begins
 abbrev pub begun_by : Token → ℕ
 begun_by t = cond (is_begin t) 1 0

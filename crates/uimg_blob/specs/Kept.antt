@@ -1,14 +1,14 @@
 -- What is kept of a tree: an entry of 16 words for each node, in reading order.
+use Rattle.std.specs.List.{AllByRecursion}
 use Rattle.std.specs.Option.{option_map}
 use Rattle.std.specs.Str.{bytes_eq}
-use Rattle.std.specs.Prelude.{ℕ, suc, if◌then◌else◌, ◌+◌, ◌*◌, ◌-◌, ◌^◌, List, [], ◌∷◌, ◌++◌, length, map, replicate, Option, Some, None}
+use Rattle.std.specs.Prelude.{ℕ, suc, ◌<◌, ◌≤◌, Bool, if◌then◌else◌, ◌+◌, ◌*◌, ◌-◌, ◌^◌, List, [], ◌∷◌, ◌++◌, length, map, replicate, Option, Some, None, find, get_or, ◌==◌}
 use Rattle.uimg_blob.specs.declared.keys.Key.{Key}
 use Rattle.uimg_blob.specs.declared.roles.Role.{Role}
 use Rattle.uimg_blob.specs.declared.roles.Role.TheVariants.{Root, Images, Image, Hash, Configurations, Configuration, Other}
 use Rattle.uimg_blob.specs.Tokens.{Property}
 use Rattle.uimg_blob.specs.Grammar.{Siblings, none, node}
 use Rattle.uimg_blob.specs.Keys.{name_of}
-use Rattle.uimg_blob.specs.LookUps.{first}
 use Rattle.uimg_blob.specs.Roles.{Level, top, role_at, level_in, level_after, keys_of}
 use Rattle.uimg_blob.specs.Rows.{size}
 
@@ -46,6 +46,10 @@ kept level parent i (node at name own below after) =
 abbrev pub kept_of : Siblings → List Kept
 kept_of t = kept top None 0 t
 
+-- the first property of a name
+abbrev pub property_named : List Property → List ℕ → Option Property
+property_named own name = find (λ p. bytes_eq name p.name) own
+
 -- a place and a length of 32 bits in one word; no place is 0
 abbrev pub span_word : ℕ → ℕ → ℕ
 span_word place length = place * 2 ^ 32 + length
@@ -71,7 +75,7 @@ role_word Other = 6
 
 -- the words of the first property of each key, and zeros up to eleven
 abbrev pub value_words : List Key → List Property → List ℕ
-value_words keys own = map (λ key. value_word (first own (name_of key))) keys ++ replicate (11 - length keys) 0
+value_words keys own = map (λ key. value_word (property_named own (name_of key))) keys ++ replicate (11 - length keys) 0
 
 -- the entry of a node: its name, parent, end and role, a zero, and the values of its keys
 abbrev pub entry_of : Kept → List ℕ
@@ -80,3 +84,18 @@ entry_of k = span_word (k.at + 4) (length k.name) ∷ number_word k.parent ∷ k
 -- the entries of a tree
 abbrev pub entries : Siblings → List (List ℕ)
 entries t = map entry_of (kept_of t)
+
+-- the number of the first of some nodes, numbered from i on, whose role is such
+abbrev pub number_of_role : (Role → Bool) → ℕ → List Kept → Option ℕ
+number_of_role is_it i [] = None
+number_of_role is_it i (k ∷ ks) = if is_it k.role then Some i else number_of_role is_it (i + 1) ks
+
+-- A node's name and values end at most at a place; no value stands at the file's first byte.
+pub record LiesIn (limit : ℕ) (k : Kept) : Type 0 where
+  pub named : k.at + 4 + length k.name ≤ limit
+  pub valued : AllByRecursion (λ p. (0 < p.place) × (p.place + length p.value ≤ limit)) k.own
+
+-- a number, if its entry has a parent's word
+abbrev pub entry_under : ℕ → ℕ → Option (List ℕ) → Option ℕ
+entry_under number parent None = None
+entry_under number parent (Some e) = if get_or e 1 0 == parent then Some number else None

@@ -15,3 +15,7 @@ pub mod Walk
 pub mod Kept
 pub mod SoFar
 pub mod Passes
+pub mod Plain
+pub mod Spots
+pub mod Indexed
+pub mod Texts

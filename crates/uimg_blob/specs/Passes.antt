@@ -1,13 +1,12 @@
 -- How far a pass over the tokens is, and what a token does.
-use Rattle.std.specs.Prelude.{IfSome, map, ◌≡◌, ◌+◌, ℕ, zero, suc, ◌*◌, ◌-◌, ◌≤◌, ◌<◌, List, [], ◌∷◌, ◌++◌, length, Option, Some, None, Result, Ok, Err, Bool, true, false, IsTrue, ⊤}
+use Rattle.std.specs.Prelude.{map, ◌≡◌, ◌+◌, ℕ, ◌*◌, ◌-◌, ◌≤◌, ◌<◌, List, [], ◌∷◌, ◌++◌, length, Option, Some, None, Result, Ok, Err, Bool, true, false, IsTrue, OnOk, ⊤}
 use Rattle.std.specs.List.{AllByRecursion, sum_by}
+use Rattle.std.specs.Option.{is_some}
 use Rattle.uimg_blob.specs.declared.fault.BlobFault.{BlobFault}
 use Rattle.uimg_blob.specs.declared.fault.BlobFault.TheVariants.{BadNesting}
 use Rattle.uimg_blob.specs.declared.fault.IndexFault.{IndexFault}
 use Rattle.uimg_blob.specs.declared.fault.IndexFault.TheVariants.{Blob, Read}
 use Rattle.uimg_blob.specs.declared.states.State.{State}
-use Rattle.uimg_blob.specs.declared.labels.Label.{Label}
-use Rattle.uimg_blob.specs.declared.labels.Label.TheVariants as label
 use Rattle.uimg_blob.specs.declared.keys.Key.{Key}
 use Rattle.uimg_blob.specs.Keys.{key_named}
 use Rattle.uimg_blob.specs.Reading.{Fault}
@@ -16,11 +15,12 @@ use Rattle.uimg_blob.specs.Grammar.{Siblings, none, node}
 use Rattle.uimg_blob.specs.Blob.{met_in}
 use Rattle.uimg_blob.specs.Counts.{weight, begun_by}
 use Rattle.uimg_blob.specs.Faults.{refuses_memory}
-use Rattle.uimg_blob.specs.Roles.{Level, in_root, in_images, in_image, in_configurations, elsewhere, level_after}
+use Rattle.uimg_blob.specs.Roles.{Level, in_root, in_images, in_image, in_configurations, elsewhere, level_after, is_images, is_configurations, is_images_role, is_configurations_role}
+use Rattle.uimg_blob.specs.Rows.{child_number}
 use Rattle.uimg_blob.specs.declared.roles.Role.{Role}
 use Rattle.uimg_blob.specs.declared.roles.Role.TheVariants.{Root, Images, Image, Hash, Configurations, Configuration, Other}
 use Rattle.uimg_blob.specs.Walk.{Open, opened, close, as_node, walk, begun, finished}
-use Rattle.uimg_blob.specs.Kept.{Kept, kept_of, entry_of, entries}
+use Rattle.uimg_blob.specs.Kept.{Kept, kept_of, entry_of, entries, LiesIn, number_of_role}
 use Rattle.uimg_blob.specs.SoFar.{so_far, count, innermost, next_level, entries_so_far}
 
 -- inside open nodes, at first none, or after the root
@@ -143,25 +143,32 @@ child_level Configurations had_images had_configurations = in_configurations
 child_level Configuration had_images had_configurations = elsewhere
 child_level Other had_images had_configurations = elsewhere
 
--- what the root had, with a child of a label more
-abbrev pub label_marked : Label → Bool → Bool → Level
-label_marked label.Images had_images had_configurations = in_root true had_configurations
-label_marked label.Configurations had_images had_configurations = in_root had_images true
-label_marked label.Hash had_images had_configurations = in_root had_images had_configurations
-label_marked label.Other had_images had_configurations = in_root had_images had_configurations
+-- the number of the node `images`, with a node of a role and a number more
+abbrev pub noted_images : Role → ℕ → Option ℕ → Option ℕ
+noted_images Root n found = found
+noted_images Images n found = Some n
+noted_images Image n found = found
+noted_images Hash n found = found
+noted_images Configurations n found = found
+noted_images Configuration n found = found
+noted_images Other n found = found
 
--- what the root had, after a child of a label began inside the node of a number
-abbrev pub level_marked : Option ℕ → Label → Bool → Bool → Level
-level_marked None label had_images had_configurations = in_root had_images had_configurations
-level_marked (Some zero) label had_images had_configurations = label_marked label had_images had_configurations
-level_marked (Some (suc n)) label had_images had_configurations = in_root had_images had_configurations
+-- the number of the node `configurations`, with a node of a role and a number more
+abbrev pub noted_configurations : Role → ℕ → Option ℕ → Option ℕ
+noted_configurations Root n found = found
+noted_configurations Images n found = found
+noted_configurations Image n found = found
+noted_configurations Hash n found = found
+noted_configurations Configurations n found = Some n
+noted_configurations Configuration n found = found
+noted_configurations Other n found = found
 
 -- all kept places are above 0
 abbrev pub IsPlaced : Open → Type 0
 IsPlaced (opened at name own below) = AllByRecursion (λ q. 0 < q.place) own
 
 abbrev pub IsMarked : Phase → State → Type 0
-IsMarked (inside ls) s = root_level ls ≡ in_root s.had_images s.had_configurations
+IsMarked (inside ls) s = root_level ls ≡ in_root (is_some s.images) (is_some s.configurations)
 IsMarked (after o) s = ⊤
 
 -- The state and the entries are those of a phase.
@@ -171,6 +178,8 @@ pub record Holds (p : Phase) (s : State) (es : List (List ℕ)) : Type 0 where
   pub marks : IsMarked p s
   pub placed : AllByRecursion IsPlaced (stack p)
   pub few : 8 * length es ≤ s.at
+  pub images : s.images ≡ number_of_role is_images_role 0 (nodes_at p)
+  pub configurations : s.configurations ≡ number_of_role is_configurations_role 0 (nodes_at p)
 
 -- The key of a name.
 pub record IsKeyOf (key : Option Key) (name : List ℕ) : Type 0 where
@@ -194,27 +203,30 @@ Refuses t (Ok x) = ⊤
 Refuses t (Err (Blob fault at)) = refuses_memory fault ≡ true → begin_place t ≡ at ∷ []
 Refuses t (Err Read) = ⊤
 
+-- What a token names ends at most at a place; no value stands at the file's first byte.
+abbrev pub TokenLies : ℕ → Token → Type 0
+TokenLies limit (begin_node at (Ok name)) = at + 4 + length name ≤ limit
+TokenLies limit (begin_node at (Err fault)) = ⊤
+TokenLies limit (end_node at) = ⊤
+TokenLies limit (prop at (Ok p)) = (0 < p.place) × (p.place + length p.value ≤ limit)
+TokenLies limit (prop at (Err fault)) = ⊤
+TokenLies limit (nop at) = ⊤
+TokenLies limit (last at) = ⊤
+TokenLies limit (stray at fault) = ⊤
+
 -- What a token did, whichever a source that is not honest told.
 pub record Steps (honest : Bool) (b : Blocks) (p : Phase) (at : ℕ) (result : Result (Option State) IndexFault) (old new : List (List ℕ)) : Type 0 where
   pub token : Token
   pub is : IsTrue honest → token ≡ token_at b at
   pub acts : Acts (step p token) (next token) result old new
   pub refuses : Refuses token result
+  pub lies : OnOk result (TokenLies b.structure_end token)
 
 -- An answer is a tree, whose entries these are, or its first fault, unless a read failed or memory was refused.
 abbrev pub Indexes : {X : Type 0} → Result Siblings Fault → Result X IndexFault → List (List ℕ) → Type 0
 Indexes whole (Ok x) es = (t : Siblings) × (whole ≡ Ok t) × (es ≡ entries t)
 Indexes whole (Err (Blob fault at)) es = refuses_memory fault ≡ false → whole ≡ Err (fault, at)
 Indexes whole (Err Read) es = ⊤
-
--- The nodes from number i on have their parents before them, and end after themselves, at most at n.
-abbrev pub AreLinked : ℕ → ℕ → List Kept → Type 0
-AreLinked i n [] = ⊤
-AreLinked i n (k ∷ ks) = IfSome k.parent (λ p. p < i) × (i < k.end) × (k.end ≤ n) × AreLinked (i + 1) n ks
-
--- The entries are those of a tree, whose links lead to later entries, or past the last.
-abbrev pub AreEntries : List (List ℕ) → Type 0
-AreEntries es = (t : Siblings) × (es ≡ entries t) × AreLinked 0 (length es) (kept_of t)
 
 -- a sum over the tokens that are met from a place on, and over all
 abbrev pub sum_from : (Token → ℕ) → Result Siblings Fault → List Token → ℕ
@@ -233,6 +245,7 @@ pub record Rest (b : Blocks) (whole : Result Siblings Fault) (p : Phase) (at bas
 pub record Pass (honest : Bool) (b : Blocks) (whole : Result Siblings Fault) (s : State) (es : List (List ℕ)) (base asked : ℕ) : Type 0 where
   pub phase : Phase
   pub holds : Holds phase s es
+  pub lies : AllByRecursion (LiesIn b.structure_end) (nodes_at phase)
   pub rest : IsTrue honest → Rest b whole phase s.at base asked (length es)
 
 -- What a pass asked for and kept is within what the tokens are counted for.
@@ -251,3 +264,12 @@ IsPrefix ts (Ok x) es = ⊤
 IsPrefix ts (Err (Blob fault at)) es = refuses_memory fault ≡ true
     → (ks : List Kept) × (es ≡ map entry_of ks) × (more : List ℕ) × (begin_places ts ≡ map (λ k. k.at) ks ++ at ∷ more)
 IsPrefix ts (Err Read) es = ⊤
+
+-- The entries and numbers are those of a tree within the blocks; over an honest source that is the tree of the tokens.
+pub record Passed (honest : Bool) (b : Blocks) (s : State) (es : List (List ℕ)) : Type 0 where
+  pub nodes : Siblings
+  pub is : IsTrue honest → begun (tokens b) ≡ Ok nodes
+  pub kept : es ≡ entries nodes
+  pub images : s.images ≡ child_number is_images nodes
+  pub configurations : s.configurations ≡ child_number is_configurations nodes
+  pub lies : AllByRecursion (LiesIn b.structure_end) (kept_of nodes)

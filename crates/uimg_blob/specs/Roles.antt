@@ -71,3 +71,30 @@ keys_of Hash = Algo ∷ Value ∷ []
 keys_of Configurations = Default ∷ []
 keys_of Configuration = Description ∷ Kernel ∷ Ramdisk ∷ Fdt ∷ Loadables ∷ []
 keys_of Other = []
+
+abbrev pub is_images_role : Role → Bool
+is_images_role Root = false
+is_images_role Images = true
+is_images_role Image = false
+is_images_role Hash = false
+is_images_role Configurations = false
+is_images_role Configuration = false
+is_images_role Other = false
+
+abbrev pub is_configurations_role : Role → Bool
+is_configurations_role Root = false
+is_configurations_role Images = false
+is_configurations_role Image = false
+is_configurations_role Hash = false
+is_configurations_role Configurations = true
+is_configurations_role Configuration = false
+is_configurations_role Other = false
+
+abbrev pub is_hash_role : Role → Bool
+is_hash_role Root = false
+is_hash_role Images = false
+is_hash_role Image = false
+is_hash_role Hash = true
+is_hash_role Configurations = false
+is_hash_role Configuration = false
+is_hash_role Other = false

@@ -1,5 +1,5 @@
 -- The nodes of a tree in reading order, each with its links.
-use Rattle.std.specs.Prelude.{ℕ, ◌+◌, List, [], ◌∷◌, ◌++◌, Option, Some, None}
+use Rattle.std.specs.Prelude.{ℕ, ◌+◌, List, [], ◌∷◌, ◌++◌, Option, Some, None, Bool, if◌then◌else◌}
 use Rattle.uimg_blob.specs.declared.roles.Role.{Role}
 use Rattle.uimg_blob.specs.Tokens.{Property}
 use Rattle.uimg_blob.specs.Grammar.{Siblings, none, node}
@@ -44,3 +44,13 @@ rows level parent i (node at name own below after) =
 -- the table of a tree
 abbrev pub table : Siblings → List Row
 table t = rows top None 0 t
+
+-- the number of the first of some nodes, numbered from i on, whose name is such
+unfoldable pub number_named : (List ℕ → Bool) → ℕ → Siblings → Option ℕ
+number_named is_it i none = None
+number_named is_it i (node at name own below after) = if is_it name then Some i else number_named is_it (i + (1 + size below)) after
+
+-- the number of the root's first child whose name is such
+abbrev pub child_number : (List ℕ → Bool) → Siblings → Option ℕ
+child_number is_it none = None
+child_number is_it (node at name own below after) = number_named is_it 1 below

@@ -18,15 +18,15 @@ use uimg_base::Room;
 
 // The words of an entry: where the node's name stands, its parent's number, the number of the first
 // node that is neither it nor below it, its role, and where the values of its keys stand.
-const NAME: usize = 0;
+pub(crate) const NAME: usize = 0;
 
 pub(crate) const PARENT: usize = 1;
 
-const END: usize = 2;
+pub(crate) const END: usize = 2;
 
 pub(crate) const ROLE: usize = 3;
 
-const VALUES: usize = 5;
+pub(crate) const VALUES: usize = 5;
 
 // A place and a length in one word.
 fn span_word(place: u64, length: u32) -> u64

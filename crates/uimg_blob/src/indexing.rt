@@ -8,12 +8,14 @@ ghost use Rattle.uimg_blob.specs.Walk.{begun};
 ghost use Rattle.uimg_blob.specs.ReadTokens.{cost};
 ghost use Rattle.uimg_texts.specs.Numbers.{be32};
 ghost use Rattle.uimg_blob.specs.Blob.{tree, blocks};
-ghost use Rattle.uimg_blob.specs.Counts.{meta, nodes_met};
-ghost use Rattle.uimg_blob.specs.Passes.{Phase, Holds, Steps, Indexes, AreEntries, Within, IsPrefix, tokens_in};
+ghost use Rattle.uimg_blob.specs.Counts.{index_cost, nodes_met};
+ghost use Rattle.uimg_blob.specs.Passes.{Phase, Holds, Steps, Indexes, Passed, Within, IsPrefix, tokens_in};
+ghost use Rattle.uimg_blob.specs.Indexed.{Finds};
 ghost use Rattle.uimg_base.specs.Using.{Uses, UsesAtMost};
 
 use crate::extent::{Extent, read_extent};
 use crate::fault::IndexFault;
+use crate::nodes::Blob;
 use crate::states::{State, act, is_done};
 use crate::tokens::read_token;
 use std::alloc::Allocator;
@@ -53,7 +55,7 @@ fn pass<S: Source, A: Allocator>(
     source: &mut S,
     room: &mut Room<A>,
     extent: Extent,
-) -> Result<(), IndexFault>
+) -> Result<State, IndexFault>
     requires inside { IsInside extent (length (S.device source.old).bytes) }
     requires empty { room.old.entries ≡ [] }
     ensures uses { Uses (is_read result) (S.device source.old) (S.device source.new) }
@@ -65,7 +67,8 @@ fn pass<S: Source, A: Allocator>(
         (S.device source.old).asked (S.device source.new).asked room.new.entries }
     ensures prefix { IsTrue (S.device source.old).honest →
         IsPrefix (tokens (blocks_of (S.device source.old).bytes extent)) result room.new.entries }
-    ensures some { IfOk result (λ _. AreEntries room.new.entries) }
+    ensures passed { IfOk result (λ s. Passed (S.device source.old).honest
+        (blocks_of (S.device source.old).bytes extent) s room.new.entries) }
     ensures indexes { IsTrue (S.device source.old).honest →
         Indexes (begun (tokens (blocks_of (S.device source.old).bytes extent))) result
         room.new.entries }
@@ -73,19 +76,13 @@ fn pass<S: Source, A: Allocator>(
     let mut state = State {
         at: extent.structure,
         current: None,
-        had_images: false,
-        had_configurations: false,
+        images: None,
+        configurations: None,
     };
     while let Some(next) = step(source, room, extent, state)? {
         state = next;
     }
-    Ok(())
-}
-
-/// A devicetree blob whose nodes have entries in a room.
-#[derive(Clone, Copy, Debug, PartialEq, Eq)]
-pub struct Blob {
-    pub(crate) totalsize: u64,
+    Ok(state)
 }
 
 /// Indexes the devicetree blob of a source (Devicetree Specification, chapter 5): the room is cleared
@@ -104,7 +101,8 @@ pub fn index<S: Source, A: Allocator>(
     ensures uses { Uses (is_read result) (S.device source.old) (S.device source.new) }
     ensures refused { RisesIf (is_out_of_memory result) room.old.refused room.new.refused }
     ensures asked { IsTrue (S.device source.old).honest →
-        (S.device source.new).asked ≤ (S.device source.old).asked + meta (S.device source.old).bytes }
+        (S.device source.new).asked
+        ≤ (S.device source.old).asked + index_cost (S.device source.old).bytes }
     ensures nodes { IsTrue (S.device source.old).honest →
         length room.new.entries ≤ nodes_met (S.device source.old).bytes }
     ensures peak { IsTrue (S.device source.old).honest →
@@ -113,7 +111,7 @@ pub fn index<S: Source, A: Allocator>(
         (8320 + 16 * length (S.device source.old).bytes) }
     ensures prefix { IsTrue (S.device source.old).honest →
         IsPrefix (tokens_in (blocks (S.device source.old).bytes)) result room.new.entries }
-    ensures some { IfOk result (λ _. AreEntries room.new.entries) }
+    ensures found { IfOk result (λ blob. Finds (S.device source.old) blob room.new.entries) }
     ensures indexes { IsTrue (S.device source.old).honest →
         Indexes (tree (S.device source.old).bytes) result room.new.entries }
     ensures totalsize { IsTrue (S.device source.old).honest →
@@ -121,8 +119,10 @@ pub fn index<S: Source, A: Allocator>(
 {
     room.clear();
     let extent = read_extent(source)?;
-    pass(source, room, extent)?;
+    let state = pass(source, room, extent)?;
     Ok(Blob {
-        totalsize: extent.totalsize,
+        totalsize: extent.totalsize as u32,
+        images: state.images,
+        configurations: state.configurations,
     })
 }

@@ -8,14 +8,19 @@ mod fault;
 mod indexing;
 mod keys;
 mod labels;
+mod nodes;
 mod reads;
 mod roles;
+pub mod samples;
 mod slots;
 mod states;
 #[cfg(test)]
 mod tests;
+mod texts;
 mod tokens;
 
 pub use fault::{BlobFault, IndexFault};
-pub use indexing::{Blob, index};
+pub use indexing::index;
 pub use keys::Key;
+pub use nodes::Blob;
+pub use texts::{Span, put_text, short_text};

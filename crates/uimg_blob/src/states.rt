@@ -6,11 +6,12 @@ ghost use Rattle.uimg_blob.specs.Labels.{label_of};
 ghost use Rattle.uimg_blob.specs.Keys.{key_named};
 ghost use Rattle.uimg_blob.specs.Grammar.{none};
 ghost use Rattle.std.specs.List.{AllByRecursion};
+ghost use Rattle.std.specs.Option.{is_some};
 ghost use Rattle.uimg_blob.specs.Kept.{number_word, role_word};
 ghost use Rattle.uimg_blob.specs.Roles.{in_root, role_at};
 ghost use Rattle.uimg_blob.specs.Walk.{Open, opened};
 ghost use Rattle.uimg_blob.specs.SoFar.{count, innermost, next_level, entries_so_far};
-ghost use Rattle.uimg_blob.specs.Passes.{Phase, stop, is_done, step, begins_in, ends_in, prop_in, bare, is_after, IsKeyOf, child_level, level_marked, root_level, Holds, Goes, Acts, Refuses};
+ghost use Rattle.uimg_blob.specs.Passes.{Phase, stop, is_done, step, begins_in, ends_in, prop_in, bare, is_after, IsKeyOf, child_level, noted_images, noted_configurations, root_level, Holds, Goes, Acts, Refuses};
 ghost use Rattle.uimg_blob.specs.ReadTokens.{IsReadAs, Stands, IsSound};
 
 use crate::entries::{PARENT, ROLE, enter, keep, leave};
@@ -22,14 +23,14 @@ use crate::tokens::ReadToken;
 use std::alloc::Allocator;
 use uimg_base::{Room, up4};
 
-/// How far a pass over the tokens is: where the next token stands, the number of the innermost open
-/// node, and which children the root had.
+/// How far a pass over the tokens is: where the next token stands, and the numbers of the innermost
+/// open node and of the root's first children `images` and `configurations`.
 #[derive(Clone, Copy)]
 pub(crate) struct State {
     pub(crate) at: u64,
     pub(crate) current: Option<usize>,
-    pub(crate) had_images: bool,
-    pub(crate) had_configurations: bool,
+    pub(crate) images: Option<usize>,
+    pub(crate) configurations: Option<usize>,
 }
 
 // The number that a word stands for.
@@ -44,7 +45,7 @@ fn number_in(word: u64) -> Option<usize>
 }
 
 // The role that a word stands for.
-fn role_in(word: u64) -> Role
+pub(crate) fn role_in(word: u64) -> Role
     ensures { (role : Role) → word ≡ role_word role → result ≡ role }
 {
     match word {
@@ -85,30 +86,29 @@ fn role_for<A: Allocator>(room: &Room<A>, state: State, label: Label) -> Role
     ensures { (ls : List Open) (name : List ℕ) → label ≡ label_of name →
         room.now.entries ≡ entries_so_far ls →
         state.current ≡ innermost ls → root_level ls
-        ≡ in_root state.had_images state.had_configurations →
+        ≡ in_root (is_some state.images) (is_some state.configurations) →
         result ≡ role_at (next_level ls) name }
 {
     match state.current {
         None => Role::Root,
         Some(parent) => {
             let role = role_in(room.entry(parent)[ROLE]);
-            child_role(role, label, state.had_images, state.had_configurations)
+            let had_images = state.images.is_some();
+            let had_configurations = state.configurations.is_some();
+            child_role(role, label, had_images, had_configurations)
         }
     }
 }
 
-// The children that the root had, after one of a label began inside the innermost node.
-fn marks_after(state: State, label: Label) -> (bool, bool)
-    ensures { in_root result.0 result.1 ≡ level_marked state.current label state.had_images
-        state.had_configurations }
+// The numbers of the root's `images` and `configurations`, after a node of a role and a number began.
+fn noted(state: State, role: Role, number: usize) -> (Option<usize>, Option<usize>)
+    ensures images { result.0 ≡ noted_images role number state.images }
+    ensures configurations { result.1 ≡ noted_configurations role number state.configurations }
 {
-    match state.current {
-        Some(0) => match label {
-            Label::Images => (true, state.had_configurations),
-            Label::Configurations => (state.had_images, true),
-            Label::Hash | Label::Other => (state.had_images, state.had_configurations),
-        },
-        _ => (state.had_images, state.had_configurations),
+    match role {
+        Role::Images => (Some(number), state.configurations),
+        Role::Configurations => (state.images, Some(number)),
+        _ => (state.images, state.configurations),
     }
 }
 
@@ -139,12 +139,12 @@ fn begin<A: Allocator>(
     if enter(room, state.at, size, state.current, role).is_err() {
         return Err(IndexFault::Blob(BlobFault::OutOfMemory, state.at));
     }
-    let (had_images, had_configurations) = marks_after(state, label);
+    let (images, configurations) = noted(state, role, number);
     Ok(State {
         at: state.at + 4 + up4(size as u64 + 1),
         current: Some(number),
-        had_images,
-        had_configurations,
+        images,
+        configurations,
     })
 }
 
@@ -168,8 +168,8 @@ fn end_node<A: Allocator>(room: &mut Room<A>, state: State) -> Result<State, Ind
     Ok(State {
         at: state.at + 4,
         current: parent,
-        had_images: state.had_images,
-        had_configurations: state.had_configurations,
+        images: state.images,
+        configurations: state.configurations,
     })
 }
 
@@ -239,8 +239,8 @@ fn property<A: Allocator>(
     Ok(State {
         at: state.at + 12 + up4(size as u64),
         current: state.current,
-        had_images: state.had_images,
-        had_configurations: state.had_configurations,
+        images: state.images,
+        configurations: state.configurations,
     })
 }
 
@@ -317,8 +317,8 @@ pub(crate) fn act<A: Allocator>(
         ReadToken::Nop => Ok(State {
             at: state.at + 4,
             current: state.current,
-            had_images: state.had_images,
-            had_configurations: state.had_configurations,
+            images: state.images,
+            configurations: state.configurations,
         }),
         ReadToken::End => Err(IndexFault::Blob(BlobFault::BadNesting, state.at)),
         ReadToken::Stray(fault) => Err(IndexFault::Blob(fault, state.at)),

@@ -7,4 +7,5 @@ mod faults;
 mod images;
 mod index;
 mod names;
+mod samples;
 mod tokens;

@@ -7,7 +7,7 @@ use Rattle.uimg_blob.specs.Tokens.{tokens}
 use Rattle.uimg_blob.specs.Walk.{begun}
 use Rattle.uimg_blob.specs.Passes.{Steps}
 use Rattle.uimg_blob.proofs.PhaseLaws.{holds_within}
-use Rattle.uimg_blob.proofs.IndexLaws.{begins, goes_on, ends_ok, ends_some, ends_err, steps_same, paid_same, last_paid, stay_err, prefix_err}
+use Rattle.uimg_blob.proofs.IndexLaws.{begins, goes_on, ends_ok, ends_passed, ends_err, steps_same, paid_same, last_paid, stay_err, prefix_err}
 use Rattle.uimg_blob.proofs.indexing.pass.Goals as goal
 
 pub loop-next-init : goal.loop-next-init
@@ -67,18 +67,18 @@ returns-clause-indexes g c = λ honest.
     let pass = c.loop-next.invariant.pass in
     let steps = subst (λ (o : Option State). Steps e.honest (blocks_of e.bytes c.args.extent) pass.phase c.loop-next.state.at (Ok o) c.loop-next.room.entries c.step.new.room.entries)
     c.in_default.is (c.in_ok-next.ensures.steps pass.phase pass.holds) in
-    ends_ok d.honest b (begun (tokens b)) c.loop-next.state c.loop-next.room.entries c.step.new.room.entries (tt {0}) d.asked e.asked pass
+    ends_ok d.honest b (begun (tokens b)) c.loop-next.state c.loop-next.room.entries c.step.new.room.entries c.loop-next.state d.asked e.asked pass
     (steps_same d e c.args.extent pass.phase c.loop-next.state.at (Ok None) c.loop-next.room.entries c.step.new.room.entries c.loop-next.invariant.same steps) honest
 
-pub returns-clause-some : goal.returns-clause-some
-returns-clause-some g c =
+pub returns-clause-passed : goal.returns-clause-passed
+returns-clause-passed g c =
     let d = g.S.Source.device c.args.source.now in
     let e = g.S.Source.device c.loop-next.source in
     let b = blocks_of d.bytes c.args.extent in
     let pass = c.loop-next.invariant.pass in
     let steps = subst (λ (o : Option State). Steps e.honest (blocks_of e.bytes c.args.extent) pass.phase c.loop-next.state.at (Ok o) c.loop-next.room.entries c.step.new.room.entries)
     c.in_default.is (c.in_ok-next.ensures.steps pass.phase pass.holds) in
-    ends_some d.honest b (begun (tokens b)) c.loop-next.state c.loop-next.room.entries c.step.new.room.entries d.asked e.asked pass
+    ends_passed d.honest b c.loop-next.state c.loop-next.room.entries c.step.new.room.entries d.asked e.asked pass
     (steps_same d e c.args.extent pass.phase c.loop-next.state.at (Ok None) c.loop-next.room.entries c.step.new.room.entries c.loop-next.invariant.same steps)
 
 pub returns-in_err-next-clause-within : goal.returns-in_err-next-clause-within

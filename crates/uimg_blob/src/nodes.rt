@@ -1,0 +1,151 @@
+ghost use Rattle.std.specs.Prelude.{◌≡◌, ℕ, ◌+◌, ◌*◌, ◌^◌, ◌<◌, ◌≤◌, List, length, Option, IfSome};
+ghost use Rattle.std.specs.List.{slice_get};
+ghost use Rattle.std.specs.Option.{option_map};
+ghost use Rattle.uimg_blob.specs.Tokens.{Property};
+ghost use Rattle.uimg_blob.specs.Grammar.{Siblings};
+ghost use Rattle.uimg_blob.specs.Roles.{is_hash_role};
+ghost use Rattle.uimg_blob.specs.Rows.{Row};
+ghost use Rattle.uimg_blob.specs.Kept.{span_word, value_word, entry_under};
+ghost use Rattle.uimg_blob.specs.Indexed.{IsIndexed, IsRow, name_span, property_span, value_span, value_of};
+
+use crate::entries::{END, NAME, PARENT, ROLE, VALUES};
+use crate::keys::Key;
+use crate::roles::Role;
+use crate::slots::slot_of;
+use crate::states::role_in;
+use crate::texts::Span;
+use std::alloc::Allocator;
+use uimg_base::Room;
+
+/// A devicetree blob whose nodes have entries in a room, and are numbered from 0 in reading order.
+///
+/// What is looked up in it is exactly what the tree has that `index` read. The caller sees to it that
+/// the room's entries are those that `index` left, and that a node's number is below their count. No
+/// look-up reads or takes memory.
+#[derive(Clone, Copy, Debug, PartialEq, Eq)]
+pub struct Blob {
+    pub(crate) totalsize: u32,
+    pub(crate) images: Option<usize>,
+    pub(crate) configurations: Option<usize>,
+}
+
+// Where a word says that a name or a value stands.
+fn span_in(word: u64) -> Span
+    ensures { (place size : ℕ) → size < 2 ^ 32 → word ≡ span_word place size →
+        result ≡ record { place = place; length = size } }
+{
+    Span {
+        place: word / 0x1_0000_0000,
+        length: word % 0x1_0000_0000,
+    }
+}
+
+// Where a word says that a value stands; there is none where it is 0.
+fn value_in(word: u64) -> Option<Span>
+    ensures { (found : Option Property) →
+        IfSome found (λ p. (0 < p.place) × (length p.value < 2 ^ 32)) →
+        word ≡ value_word found → result ≡ option_map property_span found }
+{
+    if word == 0 { None } else { Some(span_in(word)) }
+}
+
+// A number, if it is that of a node whose parent has this word.
+fn node_under<A: Allocator>(room: &Room<A>, number: usize, parent: u64) -> Option<usize>
+    ensures under { result ≡ entry_under number parent (slice_get room.now.entries number) }
+    ensures within { IfSome result (λ i. (i ≡ number) × (i < length room.now.entries)) }
+{
+    if number < room.count() && room.entry(number)[PARENT] == parent {
+        Some(number)
+    } else {
+        None
+    }
+}
+
+impl Blob {
+    /// How many bytes the blob has, by its header.
+    pub fn totalsize(&self) -> u32
+        ensures { result ≡ self.now.totalsize }
+    {
+        self.totalsize
+    }
+
+    /// The number of the root's first child `images`.
+    pub fn images(&self) -> Option<usize>
+        ensures { result ≡ self.now.images }
+    {
+        self.images
+    }
+
+    /// The number of the root's first child `configurations`.
+    pub fn configurations(&self) -> Option<usize>
+        ensures { result ≡ self.now.configurations }
+    {
+        self.configurations
+    }
+
+    /// The number of a node's first child.
+    pub fn first_child<A: Allocator>(&self, room: &Room<A>, node: usize) -> Option<usize>
+        requires { node < length room.now.entries }
+        ensures child { (row : Row) → IsRow self.now room.now.entries node row →
+            result ≡ row.first_child }
+        ensures later { IfSome result (λ i. (node < i) × (i < length room.now.entries)) }
+    {
+        if node == room.count() - 1 {
+            return None;
+        }
+        node_under(room, node + 1, node as u64 + 1)
+    }
+
+    /// The number of the next node that has the same parent.
+    pub fn next_sibling<A: Allocator>(&self, room: &Room<A>, node: usize) -> Option<usize>
+        requires { node < length room.now.entries }
+        ensures sibling { (row : Row) → IsRow self.now room.now.entries node row →
+            result ≡ row.next_sibling }
+        ensures later { (t : Siblings) → IsIndexed t self.now room.now.entries →
+            IfSome result (λ i. (node < i) × (i < length room.now.entries)) }
+    {
+        let entry = room.entry(node);
+        node_under(room, entry[END] as usize, entry[PARENT])
+    }
+
+    /// Whether a node is a hash node: a child of an image, whose name begins with `hash`.
+    pub fn is_hash<A: Allocator>(&self, room: &Room<A>, node: usize) -> bool
+        requires { node < length room.now.entries }
+        ensures { (row : Row) → IsRow self.now room.now.entries node row →
+            result ≡ is_hash_role row.role }
+    {
+        match role_in(room.entry(node)[ROLE]) {
+            Role::Hash => true,
+            _ => false,
+        }
+    }
+
+    /// Where a node's name stands, without its NUL.
+    pub fn name<A: Allocator>(&self, room: &Room<A>, node: usize) -> Span
+        requires { node < length room.now.entries }
+        ensures name { (row : Row) → IsRow self.now room.now.entries node row →
+            result ≡ name_span row }
+        ensures inside { (t : Siblings) → IsIndexed t self.now room.now.entries →
+            result.place + result.length ≤ self.now.totalsize }
+    {
+        span_in(room.entry(node)[NAME])
+    }
+
+    /// Where the value of a node's first property of a key stands. There is none where the node has
+    /// no such property, or where its role keeps no value of that key: of the root `Description` and
+    /// `Timestamp` are kept; of an image `Description`, `Data`, `Kind`, `Arch`, `Os`, `Compression`,
+    /// `Load`, `Entry`, `DataSize`, `DataOffset` and `DataPosition`; of a hash node `Algo` and `Value`;
+    /// of the node `configurations` `Default`; of a configuration `Description`, `Kernel`, `Ramdisk`,
+    /// `Fdt` and `Loadables`.
+    pub fn value<A: Allocator>(&self, room: &Room<A>, node: usize, key: Key) -> Option<Span>
+        requires { node < length room.now.entries }
+        ensures value { (row : Row) → IsRow self.now room.now.entries node row →
+            result ≡ option_map value_span (value_of row key) }
+        ensures inside { (t : Siblings) → IsIndexed t self.now room.now.entries →
+            IfSome result (λ s. s.place + s.length ≤ self.now.totalsize) }
+    {
+        let entry = room.entry(node);
+        let i = slot_of(role_in(entry[ROLE]), key)?;
+        value_in(entry[i + VALUES])
+    }
+}
