@@ -5,3 +5,8 @@ pub mod Trees
 pub mod Depths
 pub mod Faults
 pub mod UsingFiles
+pub mod Encoding
+pub mod Layouts
+pub mod Measured
+pub mod Pieces
+pub mod ReadsBack
