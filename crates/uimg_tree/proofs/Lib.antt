@@ -4,3 +4,6 @@ pub mod GrammarLaws
 pub mod TokenLaws
 pub mod NameLaws
 pub mod ReadsBackLaw
+pub mod WritesLaws
+pub mod PaddingLaws
+pub mod NodeLaws

@@ -10,3 +10,4 @@ pub mod Layouts
 pub mod Measured
 pub mod Pieces
 pub mod ReadsBack
+pub mod Names

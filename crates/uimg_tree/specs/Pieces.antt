@@ -36,14 +36,15 @@ property_pieces names p =
 unfoldable pub nodes_pieces : List (List ℕ) → Unread → List Content
 nodes_pieces names no_node = []
 nodes_pieces names (a_node name own below after) =
-    bytes (begin_bytes name) ∷ flat_map (property_pieces names) own ++ nodes_pieces names below ++ bytes (word 2) ∷ []
-    ++ nodes_pieces names after
+    bytes (begin_bytes name)
+    ∷ (flat_map (property_pieces names) own ++ (nodes_pieces names below ++ bytes (word 2) ∷ nodes_pieces names after))
 
 -- the blob of a plan, from its nodes: the header and an empty reservation block, the nodes, FDT_END, and the strings
 unfoldable pub blob_pieces : Plan → Unread → List Content
 blob_pieces p t =
-    bytes (header p.structure (length (strings p.names)) ++ replicate 16 0) ∷ nodes_pieces p.names t ++ bytes (word 9) ∷ []
-    ++ bytes (strings p.names) ∷ [] ++ bytes (padding (56 + p.structure + length (strings p.names))) ∷ []
+    bytes (header p.structure (length (strings p.names)) ++ replicate 16 0)
+    ∷ (nodes_pieces p.names t ++ bytes (word 9) ∷ bytes (strings p.names)
+    ∷ bytes (padding (56 + p.structure + length (strings p.names))) ∷ [])
 
 -- What a call that writes pieces did to files and to an output. Where it ended well, and the files are honest, each piece
 -- that is a file is kept, and all was appended; else a prefix was.

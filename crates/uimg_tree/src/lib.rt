@@ -3,8 +3,13 @@
 
 mod byte_list;
 mod fault;
+mod file_pieces;
+mod names;
+mod nodes;
+mod properties;
 mod props;
 mod tree;
+mod words;
 
 pub use byte_list::ByteList;
 pub use fault::TreeFault;
