@@ -1,5 +1,5 @@
 -- Definitions tried on worked cases.
-use Rattle.std.specs.Prelude.{◌≡◌, ℕ, List, [], ◌∷◌, ◌++◌, refl, Ok}
+use Rattle.std.specs.Prelude.{◌≡◌, [], ◌∷◌, refl, Ok}
 use Rattle.uimg_texts.specs.Nul.{before_nul}
 use Rattle.uimg_blob.specs.Tokens.{tokens_from, token_at}
 use Rattle.uimg_texts.specs.Numbers.{be32}

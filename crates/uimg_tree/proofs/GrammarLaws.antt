@@ -1,9 +1,7 @@
 -- The grammar reads the tokens of a tree as that tree.
-use Rattle.std.proofs.Common.{◌≡◌, ◌≤◌, ℕ, zero, suc, ◌+◌, List, [], ◌∷◌, length, map, Result, Ok, Err, refl, ap, sym, ◌∙◌, arith}
-use Rattle.uimg_base.specs.Results.{◌>>=◌}
-use Rattle.uimg_blob.specs.Reading.{Fault}
-use Rattle.uimg_blob.specs.Tokens.{Property, Token, begin_node, end_node, prop, last}
-use Rattle.uimg_blob.specs.Grammar.{Siblings, none, node, properties, end, inside, children, ended, root, without_nops}
+use Rattle.std.proofs.Common.{◌≡◌, ◌≤◌, ℕ, zero, suc, ◌+◌, List, [], ◌∷◌, length, map, Ok, refl, arith}
+use Rattle.uimg_blob.specs.Tokens.{Token, end_node, last}
+use Rattle.uimg_blob.specs.Grammar.{properties, children, root, without_nops}
 use Rattle.uimg_blob.specs.Plain.{Named, Nodes, no_node, a_node, unplaced, unplaced_property}
 use Rattle.uimg_tree.proofs.Spelling.{placed_properties, placed, past_name, past_property, past_properties, past, spelled_properties, spelled, count}
 

@@ -7,3 +7,8 @@ pub mod ReadsBackLaw
 pub mod WritesLaws
 pub mod PaddingLaws
 pub mod NodeLaws
+pub mod SizeLaws
+pub mod PieceLaws
+pub mod TotalLaws
+pub mod MeasuredLaws
+pub mod PlanLaws

@@ -1,14 +1,14 @@
 -- Each name stands among the strings at its offset.
-use Rattle.std.proofs.Common.{◌≡◌, ◌≤◌, ◌<◌, ℕ, zero, suc, ◌+◌, ◌-◌, List, [], ◌∷◌, ◌++◌, length, drop, Bool, true, false, ◌||◌, if◌then◌else◌, refl, ap, sym, ◌∙◌, append_assoc, length-append, arith}
+use Rattle.std.proofs.Common.{◌≡◌, ◌≤◌, ℕ, ◌+◌, List, [], ◌∷◌, ◌++◌, length, drop, Bool, true, false, if◌then◌else◌, refl, ap, sym, ◌∙◌, append_assoc, length-append, arith}
 use Rattle.std.specs.Bool.{⊤}
-use Rattle.std.specs.List.{flat_map, list_any, AllByRecursion}
+use Rattle.std.specs.List.{list_any, AllByRecursion}
 use Rattle.std.specs.Str.{bytes_eq}
 use Rattle.std.proofs.lemmas.Bool.{or_left, or_right}
 use Rattle.std.proofs.lemmas.Slice.Eq.{bytes_eq-Decides}
 use Rattle.std.proofs.lemmas.List.Folds.{list_any-append}
 use Rattle.std.proofs.Math.Seq.{drop-append-add}
 use Rattle.uimg_blob.specs.Plain.{Named, Nodes, no_node, a_node}
-use Rattle.uimg_tree.specs.Encoding.{ended, strings, name_offset, with_name, with_names, with_names_in, names_of}
+use Rattle.uimg_tree.specs.Encoding.{ended, strings, name_offset, with_name, with_names, with_names_in}
 
 -- a name is among names
 abbrev pub Has : List (List ℕ) → List ℕ → Type 0
@@ -38,7 +38,7 @@ unfolding name_offset
 stands [] name h = absurd (cc)
 stands (first ∷ names) name h =
     let found = stands_at first names name (bytes_eq name first) ((bytes_eq-Decides name first).0)
-        (λ other. stands names name (rw other at h)) in
+    (λ other. stands names name (rw other at h)) in
     record { rest = found.0; below = found.1; here = found.2 }
 
 -- names that are there stay
@@ -82,16 +82,18 @@ module _ (all : List (List ℕ)) (P : List ℕ → Type 0) (from : (name : List 
   all_properties : (names : List (List ℕ)) (own : List Named) → ((name : List ℕ) → Has (with_names names own) name → Has all name) → AllByRecursion (λ p. P p.name) own
   unfolding with_names
   all_properties names [] up = tt
-  all_properties names (p ∷ own) up =
-      (from p.name (up p.name (has-with_names (with_name names p.name) p.name own (has-added names p.name))),
-      all_properties (with_name names p.name) own up)
+  all_properties names (p ∷ own) up = (
+    from p.name (up p.name (has-with_names (with_name names p.name) p.name own (has-added names p.name))),
+    all_properties (with_name names p.name) own up,
+  )
 
   pub all_names : (names : List (List ℕ)) (t : Nodes) → ((name : List ℕ) → Has (with_names_in names t) name → Has all name) → AllNames t
   unfolding with_names_in AllNames
   all_names names no_node up = tt
   all_names names (a_node name own below after) up =
       let own_names = with_names names own in
-      let below_names = with_names_in own_names below in
-      (all_properties names own (λ n h. up n (has-with_names_in below_names n after (has-with_names_in own_names n below h))),
-      all_names own_names below (λ n h. up n (has-with_names_in below_names n after h)),
-      all_names below_names after up)
+      let below_names = with_names_in own_names below in (
+        all_properties names own (λ n h. up n (has-with_names_in below_names n after (has-with_names_in own_names n below h))),
+        all_names own_names below (λ n h. up n (has-with_names_in below_names n after h)),
+        all_names below_names after up,
+      )

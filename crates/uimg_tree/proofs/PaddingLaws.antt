@@ -1,5 +1,5 @@
 -- The zeros behind a name and behind a value.
-use Rattle.std.proofs.Common.{◌++◌, ◌∷◌, ◌≡◌, ◌<◌, ◌-◌, ◌+◌, ◌%◌, List, ℕ, zero, suc, [], length, take, replicate, append-nil, append_assoc, ◌∙◌, ap, sym, refl, length-append, arith}
+use Rattle.std.proofs.Common.{◌++◌, ◌∷◌, ◌≡◌, ◌<◌, ◌-◌, ◌%◌, List, ℕ, zero, suc, [], length, take, replicate, append-nil, append_assoc, ◌∙◌, ap, sym, refl, length-append, arith}
 use Rattle.uimg_texts.specs.Numbers.{up4}
 use Rattle.uimg_tree.specs.Encoding.{padded, ended}
 

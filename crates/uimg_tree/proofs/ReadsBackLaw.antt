@@ -43,8 +43,8 @@ fuel-more (a_node name own below after) m k =
     let below_more = fuel-more below (suc (fuel after m)) k in
     let after_more : suc (fuel after m) + k ≡ suc (fuel after (m + k)) = omega (arith, fuel-more after m k) in
     let own_more : fuel_properties own (fuel below (suc (fuel after m))) + k ≡ fuel_properties own (fuel below (suc (fuel after (m + k)))) =
-        fuel_properties-more own (fuel below (suc (fuel after m))) k
-        ∙ ap (λ (n : ℕ). fuel_properties own n) (below_more ∙ ap (λ (n : ℕ). fuel below n) after_more) in
+    fuel_properties-more own (fuel below (suc (fuel after m))) k
+    ∙ ap (λ (n : ℕ). fuel_properties own n) (below_more ∙ ap (λ (n : ℕ). fuel below n) after_more) in
     omega (arith, own_more)
 
 -- a header of a blob is accepted
@@ -105,6 +105,11 @@ module _ (s g more : List ℕ) where
       let file = blob s g ++ more in
       let short : size < 2 ^ 32 = omega (arith, blob-length, fits) in
       be32-word file 4 size (drop 8 file) short refl ∙ sym blob-length
+
+-- how many bytes a blob has
+pub length-encode : (t : Nodes) → length (encode t) ≡ up4 (56 + length (structure t) + length (strings (names_of t)))
+unfolding size
+length-encode t = blob-length (structure t) (strings (names_of t)) []
 
 -- the blob of a tree reads as the tree
 module _ (name : List ℕ) (own : List Named) (below : Nodes) (named : AreNamed (a_node name own below no_node)) (fits : length (encode (a_node name own below no_node)) < 2 ^ 32) (more : List ℕ) where
@@ -177,11 +182,11 @@ module _ (name : List ℕ) (own : List Named) (below : Nodes) (named : AreNamed 
       let one_more : 1 + left ≡ suc left = omega arith in
       let whole : fuel t 1 + left ≡ suc (length s) = omega (arith, structure_length, past_is, enough) in
       let fuels : suc (56 + length s - 56) ≡ fuel t (suc left) =
-          ap suc block ∙ sym whole ∙ fuel-more t 1 left ∙ ap (λ (n : ℕ). fuel t n) one_more in
+      ap suc block ∙ sym whole ∙ fuel-more t 1 left ∙ ap (λ (n : ℕ). fuel t n) one_more in
       let here : drop 56 file ≡ nodes ++ (word 9 ++ (g ++ end)) =
-          from_structure s g more ∙ append_assoc s g end ∙ append_assoc nodes (word 9) (g ++ end) in
+      from_structure s g more ∙ append_assoc s g end ∙ append_assoc nodes (word 9) (g ++ end) in
       let there : drop (past 56 t) file ≡ word 9 ++ (g ++ end) =
-          ap (λ (k : ℕ). drop k file) past_is ∙ drop-piece file 56 nodes _ (length nodes) refl here in
+      ap (λ (k : ℕ). drop k file) past_is ∙ drop-piece file 56 nodes _ (length nodes) refl here in
       let at_last : token_at b (past 56 t) ≡ last (past 56 t) = token-last b names (past 56 t) (g ++ end) (omega (arith, past_is, structure_length)) there in
       let the_last : tokens_from (suc left) b (Some (past 56 t)) ≡ last (past 56 t) ∷ [] = rw at_last refl in
       ap (λ (n : ℕ). tokens_from n b (Some 56)) fuels

@@ -1,5 +1,5 @@
 -- The tokens of a tree that is written from a place on, and the tree that they give.
-use Rattle.std.proofs.Common.{ℕ, zero, suc, ◌+◌, List, [], ◌∷◌, length, Ok}
+use Rattle.std.proofs.Common.{ℕ, suc, ◌+◌, List, [], ◌∷◌, length, Ok}
 use Rattle.uimg_texts.specs.Numbers.{up4}
 use Rattle.uimg_blob.specs.Tokens.{Property, Token, begin_node, end_node, prop}
 use Rattle.uimg_blob.specs.Grammar.{Siblings, none, node}

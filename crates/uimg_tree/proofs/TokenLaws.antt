@@ -1,19 +1,18 @@
 -- The tokens of the bytes of a tree are its tokens.
-use Rattle.std.proofs.Common.{◌≡◌, ◌≤◌, ◌<◌, ℕ, zero, suc, ◌+◌, ◌-◌, ◌^◌, List, [], ◌∷◌, ◌++◌, length, take, drop, replicate, Option, Some, None, Result, Ok, Err, Bool, true, false, nat_lt, if◌then◌else◌, refl, ap, sym, ◌∙◌, append_assoc, length-append, arith}
+use Rattle.std.proofs.Common.{◌≡◌, ◌≤◌, ◌<◌, ℕ, zero, suc, ◌+◌, ◌-◌, ◌^◌, List, [], ◌∷◌, ◌++◌, length, take, drop, replicate, Option, Some, None, Ok, true, false, nat_lt, refl, ap, sym, ◌∙◌, append_assoc, length-append, arith}
 use Rattle.std.specs.Bool.{⊤}
-use Rattle.std.specs.Int.{from_be_bytes, to_be_bytes, w32}
-use Rattle.std.specs.List.{flat_map, list_any, AllByRecursion}
-use Rattle.std.specs.Str.{bytes_eq}
+use Rattle.std.specs.Int.{from_be_bytes, w32}
+use Rattle.std.specs.List.{flat_map, AllByRecursion}
 use Rattle.std.proofs.lemmas.Nat.{from_be_bytes-to_be_bytes_4}
-use Rattle.std.proofs.lemmas.List.{drop-drop, take-take, take_all, length-replicate}
+use Rattle.std.proofs.lemmas.List.{drop-drop, length-replicate}
 use Rattle.std.proofs.lemmas.Bool.{le-ltb, lt-ltb}
 use Rattle.std.proofs.Math.Seq.{drop-append_seam, take-append_seam, take-append-add}
 use Rattle.uimg_texts.specs.Slices.{slice}
 use Rattle.uimg_texts.specs.Numbers.{be32, up4}
 use Rattle.uimg_texts.specs.Nul.{before_nul}
-use Rattle.uimg_blob.specs.Tokens.{Property, Token, Blocks, begin_node, end_node, prop, nop, last, reach, node_name, named, property, begins, by_word, token_at, next, tokens_from, tokens}
-use Rattle.uimg_blob.specs.Plain.{Named, Nodes, no_node, a_node, IsName, AreNamed}
-use Rattle.uimg_tree.specs.Encoding.{word, padded, ended, strings, name_offset, property_bytes, nodes_bytes}
+use Rattle.uimg_blob.specs.Tokens.{Blocks, begin_node, end_node, prop, last, reach, node_name, by_word, token_at, tokens_from}
+use Rattle.uimg_blob.specs.Plain.{Named, Nodes, no_node, a_node, IsName}
+use Rattle.uimg_tree.specs.Encoding.{word, padded, ended, name_offset, property_bytes, nodes_bytes}
 use Rattle.uimg_tree.proofs.Spelling.{placed_property, past_name, past_property, past_properties, past, spelled_properties, spelled, fuel_properties, fuel}
 
 -- what stands after a piece
@@ -114,9 +113,9 @@ module _ (b : Blocks) (names : List (List ℕ)) where
       let all : nat_lt b.structure_end (at + 12 + length p.value) ≡ false = le-ltb _ _ (omega (arith, within)) in
       let inside : nat_lt offset b.strings_size ≡ true = lt-ltb _ _ (omega (arith, found.below)) in
       let called : before_nul (reach b.bytes (b.strings + offset) (b.strings + b.strings_size)) ≡ Some p.name =
-          reach-name b.bytes (b.strings + offset) (b.strings + b.strings_size) p.name found.rest found.is_name (omega (arith, found.below)) found.here in
+      reach-name b.bytes (b.strings + offset) (b.strings + b.strings_size) p.name found.rest found.is_name (omega (arith, found.below)) found.here in
       let value : slice b.bytes (at + 12) (length p.value) ≡ p.value =
-          ap (λ (w : List ℕ). take (length p.value) w) (here12 ∙ append_assoc p.value pad rest) ∙ take-append_seam p.value (pad ++ rest) in
+      ap (λ (w : List ℕ). take (length p.value) w) (here12 ∙ append_assoc p.value pad rest) ∙ take-append_seam p.value (pad ++ rest) in
       token-word at 3 _ (omega arith) (omega (arith, within)) h
       ∙ rw (whole, size, all, name, inside, called, value) refl
 
@@ -169,7 +168,7 @@ module _ (b : Blocks) (names : List (List ℕ)) where
       let len : length (property_bytes names p) ≡ 12 + up4 (length p.value) = length-property_bytes p in
       let place : at + (12 + up4 (length p.value)) ≡ past_property at p = omega arith in
       let there : drop (past_property at p) b.bytes ≡ flat_map (property_bytes names) own ++ rest =
-          ap (λ (k : ℕ). drop k b.bytes) (sym place) ∙ drop-piece b.bytes at (property_bytes names p) _ (12 + up4 (length p.value)) len here in
+      ap (λ (k : ℕ). drop k b.bytes) (sym place) ∙ drop-piece b.bytes at (property_bytes names p) _ (12 + up4 (length p.value)) len here in
       rw token (rw (tokens-properties (past_property at p) own m rest found.1 within fits strings_fit there) refl)
 
   pub tokens-spelled : (at : ℕ) (t : Nodes) (m : ℕ) (rest : List ℕ) → AreFound t → past at t ≤ b.structure_end
@@ -191,11 +190,11 @@ module _ (b : Blocks) (names : List (List ℕ)) where
       let name_length : length (padded (ended name)) ≡ up4 (length name + 1) = omega (arith, length-padded (ended name), length-append name (0 ∷ [])) in
       let there4 = drop-piece b.bytes at (word 1) _ 4 refl here in
       let there1 : drop at1 b.bytes ≡ own_bytes ++ (below_bytes ++ (word 2 ++ (after_bytes ++ rest))) =
-          drop-piece b.bytes (at + 4) (padded (ended name)) _ (up4 (length name + 1)) name_length there4 in
+      drop-piece b.bytes (at + 4) (padded (ended name)) _ (up4 (length name + 1)) name_length there4 in
       let there2 : drop at2 b.bytes ≡ below_bytes ++ (word 2 ++ (after_bytes ++ rest)) =
-          ap (λ (k : ℕ). drop k b.bytes) own_length ∙ drop-piece b.bytes at1 own_bytes _ (length own_bytes) refl there1 in
+      ap (λ (k : ℕ). drop k b.bytes) own_length ∙ drop-piece b.bytes at1 own_bytes _ (length own_bytes) refl there1 in
       let there3 : drop at3 b.bytes ≡ word 2 ++ (after_bytes ++ rest) =
-          ap (λ (k : ℕ). drop k b.bytes) below_length ∙ drop-piece b.bytes at2 below_bytes _ (length below_bytes) refl there2 in
+      ap (λ (k : ℕ). drop k b.bytes) below_length ∙ drop-piece b.bytes at2 below_bytes _ (length below_bytes) refl there2 in
       let there7 : drop (at3 + 4) b.bytes ≡ after_bytes ++ rest = drop-piece b.bytes at3 (word 2) _ 4 refl there3 in
       let begin = token-begin at name _ found.0 (omega (arith, within, own_length, below_length, after_length)) here in
       let own_read = tokens-properties at1 own (fuel below (suc (fuel after m))) _ found.1 (omega (arith, within, below_length, after_length)) fits strings_fit there1 in

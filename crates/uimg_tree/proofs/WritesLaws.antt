@@ -1,21 +1,19 @@
 -- Pieces that are written in two steps are written in one.
-use Rattle.std.proofs.Common.{◌≡◌, ◌≤◌, ◌<◌, ◌+◌, ◌-◌, ◌^◌, ℕ, zero, suc, List, [], ◌∷◌, ◌++◌, length, map, take, drop, get_or, Option, Some, None, Result, Ok, Err, Bool, true, false, IsTrue, is_err, refl, ap, sym, subst, ◌∙◌, append_assoc, append-nil, arith}
-use Rattle.std.specs.Bool.{⊤, OnFalse}
+use Rattle.std.proofs.Common.{◌≡◌, ◌≤◌, ◌<◌, ◌+◌, ℕ, zero, suc, List, [], ◌∷◌, ◌++◌, length, map, take, drop, get_or, Option, Result, Ok, Err, Bool, true, false, IsTrue, is_err, refl, ap, sym, subst, ◌∙◌, append_assoc, append-nil, arith}
+use Rattle.std.specs.Bool.{OnFalse}
 use Rattle.std.proofs.lemmas.List.{take_all}
 use Rattle.std.specs.List.{flat_map, AllByRecursion}
-use Rattle.std.specs.Result.{IsErrAnd}
-use Rattle.uimg_base.specs.Device.{RisesIf, Rose}
-use Rattle.uimg_base.specs.Sink.{Sink, AppendsAll, AppendsPrefix}
+use Rattle.std.specs.Result.{IsErrAnd, OnOk}
+use Rattle.uimg_base.specs.Device.{RisesIf}
+use Rattle.uimg_base.specs.Sink.{Sink}
 use Rattle.uimg_base.specs.Named.{FileMap, SameFiles}
 use Rattle.uimg_base.specs.Writing.{Writes, Written}
 use Rattle.uimg_base.proofs.SinkLaws.{prefix_first, prefix_none, Appends-none}
 use Rattle.uimg_base.proofs.WritingLaws.{written_then}
-use Rattle.uimg_base.specs.declared.output.PutFault.{PutFault}
 use Rattle.uimg_tree.specs.declared.fault.TreeFault.{TreeFault}
-use Rattle.uimg_tree.specs.declared.fault.TreeFault.TheVariants.{Put, Read, NoFile}
+use Rattle.uimg_tree.specs.declared.fault.TreeFault.TheVariants.{Put}
 use Rattle.uimg_tree.specs.Content.{Content, bytes, bytes_in, IsKept, IsBytes}
 use Rattle.uimg_tree.specs.Faults.{is_put, is_no_file}
-use Rattle.uimg_tree.specs.UsingFiles.{UsesFiles}
 use Rattle.uimg_tree.specs.Pieces.{WritesPieces}
 
 -- the answer of a call that writes
@@ -131,7 +129,7 @@ refused (Ok x) f m n s t xs h p = absurd h
 refused (Err e) f m n s t xs h p = subst (λ (g : TreeFault). WritesPieces (failed g) m n s t xs) (sym h) p
 
 -- the elements before one, that one, and the rest
-flat_map-at : {X Y : Type 0} (f : X → List Y) (xs : List X) (i : ℕ) (d : X) → i < length xs → flat_map f xs ≡ flat_map f (take i xs) ++ f (get_or xs i d) ++ flat_map f (drop (suc i) xs)
+pub flat_map-at : {X Y : Type 0} (f : X → List Y) (xs : List X) (i : ℕ) (d : X) → i < length xs → flat_map f xs ≡ flat_map f (take i xs) ++ f (get_or xs i d) ++ flat_map f (drop (suc i) xs)
 flat_map-at f [] i d h = absurd (omega (arith, h))
 flat_map-at f (x ∷ xs) zero d h = refl
 flat_map-at {Y = Y} f (x ∷ xs) (suc i) d h =
@@ -140,7 +138,7 @@ flat_map-at {Y = Y} f (x ∷ xs) (suc i) d h =
     ∙ ap (λ (w : List Y). w ++ flat_map f (drop (suc i) xs)) (sym (append_assoc (f x) (flat_map f (take i xs)) (f (get_or xs i d))))
 
 -- one element more
-flat_map-suc : {X Y : Type 0} (f : X → List Y) (xs : List X) (i : ℕ) (d : X) → i < length xs → flat_map f (take (suc i) xs) ≡ flat_map f (take i xs) ++ f (get_or xs i d)
+pub flat_map-suc : {X Y : Type 0} (f : X → List Y) (xs : List X) (i : ℕ) (d : X) → i < length xs → flat_map f (take (suc i) xs) ≡ flat_map f (take i xs) ++ f (get_or xs i d)
 flat_map-suc f [] i d h = absurd (omega (arith, h))
 flat_map-suc f (x ∷ xs) zero d h = append-nil (f x)
 flat_map-suc {Y = Y} f (x ∷ xs) (suc i) d h = ap (λ (w : List Y). f x ++ w) (flat_map-suc f xs i d (omega (arith, h))) ∙ sym (append_assoc (f x) (flat_map f (take i xs)) (f (get_or xs i d)))
@@ -203,3 +201,8 @@ all-put p = puts-all _ _ _ _ p
 
 pub prefix-put : {m : FileMap} {s t : Sink} {b : List ℕ} → Writes true s t b → WritesPieces (failed Put) m m s t (bytes b ∷ [])
 prefix-put p = puts-prefix _ _ _ _ p
+
+-- what holds where an answer is not a refusal
+pub on-ok : {P Q : Type 0} (r : Answer) → (P → Q) → OnFalse (is_err r) P → OnOk r Q
+on-ok (Ok x) f p = f p
+on-ok (Err e) f p = tt

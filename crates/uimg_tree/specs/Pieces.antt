@@ -1,5 +1,5 @@
 -- A blob as pieces in order, each of them bytes or a file.
-use Rattle.std.specs.Prelude.{◌≡◌, ℕ, ◌+◌, ◌-◌, List, [], ◌∷◌, ◌++◌, length, replicate, Result, Bool, IsTrue, is_err, false}
+use Rattle.std.specs.Prelude.{◌≡◌, ℕ, ◌+◌, ◌-◌, List, [], ◌∷◌, ◌++◌, length, replicate, Result, IsTrue, is_err, false}
 use Rattle.std.specs.Bool.{OnFalse}
 use Rattle.std.specs.List.{flat_map, AllByRecursion}
 use Rattle.uimg_texts.specs.Numbers.{up4}

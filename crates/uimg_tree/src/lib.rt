@@ -2,16 +2,24 @@
 #![tactic(auto)]
 
 mod byte_list;
+mod checking;
 mod fault;
 mod file_pieces;
+mod layout;
+mod measuring;
 mod names;
 mod nodes;
 mod properties;
 mod props;
+mod sizes;
 mod tree;
 mod words;
+mod writing;
 
 pub use byte_list::ByteList;
 pub use fault::TreeFault;
+pub use layout::Layout;
+pub use measuring::measure;
 pub use props::{Prop, Props, Value};
 pub use tree::{Node, Nodes, Tree};
+pub use writing::write_tree;

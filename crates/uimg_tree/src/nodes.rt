@@ -43,7 +43,9 @@ pub(crate) fn put_node<F: Files, W: Write, A: Allocator>(
 {
     put_begin_node(this.node.name.items(), out)?;
     put_properties(&this.node.props, names, files, window, out)?;
-    let below = TheseNodes { nodes: &this.node.children };
+    let below = TheseNodes {
+        nodes: &this.node.children,
+    };
     put_nodes(below, names, files, window, out)?;
     put_end_node(out)?;
     Ok(())

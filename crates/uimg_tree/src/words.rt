@@ -9,8 +9,11 @@ use uimg_base::{Out, PutFault};
 
 // The words that tokens of the structure block begin with (Devicetree Specification, section 5.4.1).
 const BEGIN_NODE: u32 = 1;
+
 const END_NODE: u32 = 2;
+
 const PROP: u32 = 3;
+
 const END: u32 = 9;
 
 // Zeros, of which tokens end with at most four.
@@ -58,11 +61,7 @@ pub(crate) fn put_end<W: Write>(out: &mut Out<W>) -> Result<(), PutFault>
 }
 
 // Writes what stands before the value of a property: of so many bytes, whose name stands at an offset.
-pub(crate) fn put_head<W: Write>(
-    size: u32,
-    offset: u32,
-    out: &mut Out<W>,
-) -> Result<(), PutFault>
+pub(crate) fn put_head<W: Write>(size: u32, offset: u32, out: &mut Out<W>) -> Result<(), PutFault>
     ensures { Writes (is_err result) out.old out.new (head_bytes size offset) }
 {
     out.put_pieces(&[

@@ -9,7 +9,7 @@ use Rattle.uimg_tree.specs.Encoding.{word}
 use Rattle.uimg_tree.specs.Names.{texts}
 use Rattle.uimg_tree.specs.Trees.{siblings, node_of}
 use Rattle.uimg_tree.specs.Pieces.{begin_bytes, property_pieces, nodes_pieces, WritesPieces}
-use Rattle.uimg_tree.proofs.NodeLaws.{node-pieces, siblings-pieces, values-at, count-at}
+use Rattle.uimg_tree.proofs.NodeLaws.{siblings-pieces, values-at, count-at}
 use Rattle.uimg_tree.proofs.WritesLaws.{went_well, failed, refused, ◌▶◌, before, all-put, prefix-put, each-goes, each-stops, each-all}
 use Rattle.uimg_tree.proofs.nodes.+put_nodes.Goals as goal
 

@@ -1,4 +1,4 @@
-use Rattle.std.proofs.Common.{◌≡◌, ◌<◌, ◌^◌, List, map, ap, sym, subst, ◌∙◌}
+use Rattle.std.proofs.Common.{◌<◌, ◌^◌, List, ap, sym, subst, ◌∙◌}
 use Rattle.std.proofs.lemmas.List.Folds.{flat_map-map}
 use Rattle.std.specs.List.{flat_map, AllByRecursion}
 use Rattle.uimg_blob.specs.Plain.{NamedOf}
@@ -7,7 +7,7 @@ use Rattle.uimg_tree.specs.Content.{Content, size_of}
 use Rattle.uimg_tree.specs.Names.{texts}
 use Rattle.uimg_tree.specs.Properties.{content, property}
 use Rattle.uimg_tree.specs.Pieces.{property_pieces, WritesPieces}
-use Rattle.uimg_tree.proofs.WritesLaws.{Answer, went_well, failed, refused, each-goes, each-stops, each-all, all-at}
+use Rattle.uimg_tree.proofs.WritesLaws.{went_well, failed, refused, each-goes, each-stops, each-all, all-at}
 use Rattle.uimg_tree.proofs.properties.put_properties.Goals as goal
 
 pub put_property-requires-clause-fits : goal.put_property-requires-clause-fits

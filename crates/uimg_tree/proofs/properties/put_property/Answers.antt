@@ -1,4 +1,4 @@
-use Rattle.std.proofs.Common.{◌≡◌, ◌++◌, ℕ, List, [], ◌∷◌, length, is_err, ap, sym, subst, ◌∙◌, refl, true, false}
+use Rattle.std.proofs.Common.{◌≡◌, ◌++◌, ℕ, List, [], ◌∷◌, length, ap, subst, ◌∙◌, refl, true, false}
 use Rattle.uimg_base.specs.Writing.{Writes}
 use Rattle.uimg_blob.specs.Plain.{NamedOf}
 use Rattle.uimg_tree.specs.declared.fault.TreeFault.TheVariants.{Put}
