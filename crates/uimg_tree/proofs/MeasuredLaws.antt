@@ -1,10 +1,11 @@
 -- The first bad name, one step at a time.
-use Rattle.std.proofs.Common.{◌≡◌, ℕ, zero, suc, List, [], ◌∷◌, length, Option, Some, None, Result, Ok, Err, Bool, true, false, is_none, nat_le, ◌&&◌, if◌then◌else◌, refl, ap, sym, arith}
+use Rattle.std.proofs.Common.{◌≡◌, ℕ, zero, suc, List, [], ◌∷◌, length, Option, Some, None, Result, Ok, Err, Bool, true, false, is_none, nat_le, ◌&&◌, if◌then◌else◌, refl, ap, sym, ◌∙◌, arith}
 use Rattle.std.proofs.lemmas.Bool.{leb-true}
 use Rattle.std.specs.Option.{option_or}
 use Rattle.std.specs.Result.{IsErrAnd}
 use Rattle.uimg_blob.specs.declared.fault.BlobFault.{BlobFault}
-use Rattle.uimg_blob.specs.declared.fault.BlobFault.TheVariants.{BadNodeName, BadPropertyName}
+use Rattle.uimg_blob.specs.declared.fault.BlobFault.TheVariants.{BadNodeName, BadPropertyName, OutOfMemory}
+use Rattle.uimg_blob.specs.Faults.{refuses_memory}
 use Rattle.uimg_texts.specs.Nul.{before_nul}
 use Rattle.uimg_tree.specs.declared.tree.Node.{Node}
 use Rattle.std.specs.List.{AllByRecursion}
@@ -121,3 +122,39 @@ are_named (a_node name own below after) h =
     let o = both-none (bad_property own) (option_or (bad_name below) (bad_name after)) s.1 in
     let n = both-none (bad_name below) (bad_name after) o.1 in
     (name-good name s.0, properties-good own o.0, are_named below n.0, are_named after n.1)
+
+-- no name is refused for want of memory
+abbrev wants_memory : Option BlobFault → Bool
+wants_memory None = false
+wants_memory (Some f) = refuses_memory f
+
+or-memory : (a b : Option BlobFault) → wants_memory a ≡ false → wants_memory b ≡ false → wants_memory (option_or a b) ≡ false
+or-memory None b h k = k
+or-memory (Some f) b h k = h
+
+if-memory : (good : Bool) (o : Option BlobFault) (f : BlobFault) → wants_memory o ≡ false → refuses_memory f ≡ false → wants_memory (if good then o else Some f) ≡ false
+if-memory true o f h k = h
+if-memory false o f h k = k
+
+property-memory : {V : Type 0} (own : List (NamedOf V)) → wants_memory (bad_property own) ≡ false
+unfolding bad_property
+property-memory [] = refl
+property-memory (p ∷ own) = if-memory (is_name p.name) (bad_property own) BadPropertyName (property-memory own) refl
+
+name-memory : {V : Type 0} (t : NodesOf V) → wants_memory (bad_name t) ≡ false
+unfolding bad_name
+name-memory no_node = refl
+name-memory (a_node name own below after) =
+    if-memory (is_name name) (option_or (bad_property own) (option_or (bad_name below) (bad_name after))) BadNodeName
+    (or-memory (bad_property own) (option_or (bad_name below) (bad_name after)) (property-memory own)
+    (or-memory (bad_name below) (bad_name after) (name-memory below) (name-memory after))) refl
+
+pub not-memory : {V : Type 0} (t : NodesOf V) (f : BlobFault) → Some f ≡ bad_name t → f ≡ OutOfMemory → ⊥
+not-memory t f bad memory =
+    let told : refuses_memory f ≡ false = ap wants_memory bad ∙ name-memory t in
+    let is : refuses_memory f ≡ true = ap (λ (x : BlobFault). refuses_memory x) memory in
+    cc
+
+pub same-fault : {X : Type 0} (r : Result X BlobFault) (f e : BlobFault) → IsErrAnd r (λ x. x ≡ f) → r ≡ Err e → f ≡ e
+same-fault (Ok x) f e h k = absurd h
+same-fault (Err x) f e h k = cc

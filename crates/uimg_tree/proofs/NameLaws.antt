@@ -1,5 +1,5 @@
 -- Each name stands among the strings at its offset.
-use Rattle.std.proofs.Common.{◌≡◌, ◌≤◌, ℕ, ◌+◌, List, [], ◌∷◌, ◌++◌, length, drop, Bool, true, false, if◌then◌else◌, refl, ap, sym, ◌∙◌, append_assoc, length-append, arith}
+use Rattle.std.proofs.Common.{◌≡◌, ◌≤◌, ℕ, ◌+◌, List, [], ◌∷◌, ◌++◌, length, drop, Bool, true, false, if◌then◌else◌, refl, ap, sym, ◌∙◌, append_assoc, length-append, arith, Result, Ok, Err}
 use Rattle.std.specs.Bool.{⊤}
 use Rattle.std.specs.List.{list_any, AllByRecursion}
 use Rattle.std.specs.Str.{bytes_eq}
@@ -7,7 +7,8 @@ use Rattle.std.proofs.lemmas.Bool.{or_left, or_right}
 use Rattle.std.proofs.lemmas.Slice.Eq.{bytes_eq-Decides}
 use Rattle.std.proofs.lemmas.List.Folds.{list_any-append}
 use Rattle.std.proofs.Math.Seq.{drop-append-add}
-use Rattle.uimg_blob.specs.Plain.{Named, Nodes, no_node, a_node}
+use Rattle.std.specs.Result.{OnErr}
+use Rattle.uimg_blob.specs.Plain.{Named, NamedOf, Nodes, NodesOf, no_node, a_node}
 use Rattle.uimg_tree.specs.Encoding.{ended, strings, name_offset, with_name, with_names, with_names_in}
 
 -- a name is among names
@@ -97,3 +98,27 @@ module _ (all : List (List ℕ)) (P : List ℕ → Type 0) (from : (name : List 
         all_names own_names below (λ n h. up n (has-with_names_in below_names n after h)),
         all_names below_names after up,
       )
+
+-- names are never fewer than before
+length-if : (names : List (List ℕ)) (name : List ℕ) (there : Bool) → length names ≤ length (if there then names else names ++ name ∷ [])
+length-if names name true = omega arith
+length-if names name false = omega (arith, length-append names (name ∷ []))
+
+pub length-with_names : {V : Type 0} (names : List (List ℕ)) (own : List (NamedOf V)) → length names ≤ length (with_names names own)
+unfolding with_names
+length-with_names names [] = omega arith
+length-with_names names (p ∷ own) =
+    let one : length names ≤ length (with_name names p.name) = length-if names p.name (list_any (bytes_eq p.name) names) in
+    omega (arith, one, length-with_names (with_name names p.name) own)
+
+pub length-with_names_in : {V : Type 0} (names : List (List ℕ)) (t : NodesOf V) → length names ≤ length (with_names_in names t)
+unfolding with_names_in
+length-with_names_in names no_node = omega arith
+length-with_names_in names (a_node name own below after) =
+    let mine = with_names names own in
+    omega (arith, length-with_names names own, length-with_names_in mine below, length-with_names_in (with_names_in mine below) after)
+
+-- what holds where an answer is a refusal
+pub on-err : {X E P : Type 0} (r : Result X E) → P → OnErr r P
+on-err (Ok x) p = tt
+on-err (Err e) p = p

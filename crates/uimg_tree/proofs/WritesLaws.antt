@@ -63,7 +63,7 @@ module _ (r : Answer) (m n k : FileMap) (s t u : Sink) (xs ys : List Content) wh
         found = λ complete kept.
             let later = subst (λ (f : List ℕ → Option (List ℕ)). AllByRecursion (IsKept f) ys) (sym same.bytes) (all-second (IsKept m.bytes) xs ys kept) in
             q.found (subst IsTrue (sym same.complete) complete) later;
-        unread = λ embedded. q.unread (all-second IsBytes xs ys embedded);
+        in_memory = λ embedded. q.in_memory (all-second IsBytes xs ys embedded);
         kept = λ honest.
             let later = subst (λ (f : List ℕ → Option (List ℕ)). OnFalse (is_err r) (AllByRecursion (IsKept f) ys)) same.bytes (q.kept (subst IsTrue (sym same.honest) honest)) in
             kept-both (is_err r) (p.kept honest) later;
@@ -83,7 +83,7 @@ stops f m n s t xs ys p = record {
   files = p.files;
   faults = p.faults;
   found = λ complete kept. p.found complete (all-first (IsKept m.bytes) xs ys kept);
-  unread = λ embedded. p.unread (all-first IsBytes xs ys embedded);
+  in_memory = λ embedded. p.in_memory (all-first IsBytes xs ys embedded);
   kept = λ honest. p.kept honest;
   written = λ honest. subst (λ (w : List ℕ). Written true s t w) (sym (flat_map-both (bytes_in m.bytes) xs ys)) (record {
     all = (p.written honest).all;
@@ -97,7 +97,7 @@ nothing m s = record {
   files = record { same = record { bytes = refl; honest = refl; complete = refl }; refusals = refl };
   faults = refl;
   found = λ complete kept. refl;
-  unread = λ embedded. refl;
+  in_memory = λ embedded. refl;
   kept = λ honest. tt;
   written = λ honest. record { all = record { appended = Appends-none s.contents }; prefix = prefix_none s [] };
 }
@@ -108,7 +108,7 @@ puts-all m s t b p = record {
   files = record { same = record { bytes = refl; honest = refl; complete = refl }; refusals = refl };
   faults = p.faults;
   found = λ complete kept. refl;
-  unread = λ embedded. refl;
+  in_memory = λ embedded. refl;
   kept = λ honest. (tt, tt);
   written = λ honest. subst (λ (w : List ℕ). Written false s t w) (sym (append-nil b)) (record { all = p.all; prefix = p.prefix });
 }
@@ -118,7 +118,7 @@ puts-prefix m s t b p = record {
   files = record { same = record { bytes = refl; honest = refl; complete = refl }; refusals = refl };
   faults = p.faults;
   found = λ complete kept. refl;
-  unread = λ embedded. refl;
+  in_memory = λ embedded. refl;
   kept = λ honest. tt;
   written = λ honest. subst (λ (w : List ℕ). Written true s t w) (sym (append-nil b)) (record { all = p.all; prefix = p.prefix });
 }
@@ -177,7 +177,7 @@ together e r m s t a b c errs put opened p =
       files = record { same = record { bytes = refl; honest = refl; complete = refl }; refusals = subst (λ (q : Bool). RisesIf q m.refusals m.refusals) (sym opened) refl };
       faults = subst (λ (q : Bool). RisesIf q s.faults t.faults) (sym put) p.faults;
       found = λ complete kept. opened;
-      unread = λ embedded. errs ∙ sym put;
+      in_memory = λ embedded. errs ∙ sym put;
       kept = λ honest. kept_all (is_err r);
       written = λ honest. subst (λ (q : Bool). Written q s t (a ++ (b ++ (c ++ [])))) (sym errs) (subst (λ (w : List ℕ). Written e s t w) text same);
     }

@@ -54,6 +54,6 @@ pub record WritesPieces {X : Type 0} (answer : Result X TreeFault) (old new : Fi
   -- complete files refuse none that is kept
   pub found : IsTrue old.complete → AllByRecursion (IsKept old.bytes) pieces → is_no_file answer ≡ false
   -- where no piece is a file, only a write can fail
-  pub unread : AllByRecursion IsBytes pieces → is_err answer ≡ is_put answer
+  pub in_memory : AllByRecursion IsBytes pieces → is_err answer ≡ is_put answer
   pub kept : IsTrue old.honest → OnFalse (is_err answer) (AllByRecursion (IsKept old.bytes) pieces)
   pub written : IsTrue old.honest → Written (is_err answer) s t (flat_map (bytes_in old.bytes) pieces)

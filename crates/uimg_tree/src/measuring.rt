@@ -1,7 +1,8 @@
-ghost use Rattle.std.specs.Prelude.{◌≡◌, ℕ, List, length, Option, OnOk, IfOk};
+ghost use Rattle.std.specs.Prelude.{◌≡◌, ◌≢◌, ℕ, List, [], length, Option, Err, OnOk, IfOk};
 ghost use Rattle.uimg_blob.specs.Plain.{AreNamed};
 ghost use Rattle.uimg_tree.specs.Content.{in_full, AreKept};
-ghost use Rattle.uimg_tree.specs.Encoding.{encode};
+ghost use Rattle.uimg_blob.specs.declared.fault.BlobFault.TheVariants.{OutOfMemory};
+ghost use Rattle.uimg_tree.specs.Encoding.{names_of, encode};
 ghost use Rattle.uimg_tree.specs.Layouts.{totalsize};
 ghost use Rattle.uimg_tree.specs.Measured.{measured, Measures};
 ghost use Rattle.uimg_tree.specs.Trees.{node_of};
@@ -31,6 +32,7 @@ const LARGEST: u64 = 0xffff_ffff;
 /// the tree.
 pub fn measure<'a, A: Allocator>(alloc: A, tree: &'a Tree<A>) -> Result<Layout<'a, A>, BlobFault>
     ensures measured { Measures result (measured (node_of tree.now.root)) }
+    ensures memory { result ≡ Err OutOfMemory → names_of (node_of tree.now.root) ≢ [] }
     ensures named { OnOk result (AreNamed (node_of tree.now.root)) }
     ensures sized { IfOk result (λ layout. (files : List ℕ → Option (List ℕ)) →
         AreKept files (node_of tree.now.root) →

@@ -1,4 +1,4 @@
-ghost use Rattle.std.specs.Prelude.{◌≡◌, ◌^◌, ◌<◌, length, OnOk};
+ghost use Rattle.std.specs.Prelude.{◌≡◌, ◌^◌, ◌<◌, length, OnOk, OnErr};
 ghost use Rattle.std.specs.List.{list_any};
 ghost use Rattle.std.specs.Str.{bytes_eq};
 ghost use Rattle.uimg_tree.specs.Encoding.{strings, name_offset, with_name, with_names, with_names_in};
@@ -41,7 +41,9 @@ fn add_name<'a, A: Allocator>(
     names: &mut Vec<&'a [u8], A>,
     name: &'a [u8],
 ) -> Result<(), AllocError>
-    ensures { OnOk result (texts names.new.items ≡ with_name (texts names.old.items) name.now) }
+    ensures added { OnOk result (texts names.new.items
+        ≡ with_name (texts names.old.items) name.now) }
+    ensures memory { OnErr result (0 < length (with_name (texts names.old.items) name.now)) }
 {
     if has_name(names.as_slice(), name) {
         return Ok(());
@@ -55,7 +57,9 @@ fn add_names<'a, A: Allocator>(
     names: &mut Vec<&'a [u8], A>,
     props: &'a Props<A>,
 ) -> Result<(), AllocError>
-    ensures { OnOk result (texts names.new.items ≡ with_names (texts names.old.items) props.now) }
+    ensures added { OnOk result (texts names.new.items
+        ≡ with_names (texts names.old.items) props.now) }
+    ensures memory { OnErr result (0 < length (with_names (texts names.old.items) props.now)) }
 {
     for prop in props.items() {
         add_name(names, prop.name.items())?;
@@ -68,8 +72,10 @@ pub(crate) fn add_all_names<'a, A: Allocator>(
     names: &mut Vec<&'a [u8], A>,
     this: ThisNode<'a, A>,
 ) -> Result<(), AllocError>
-    ensures { OnOk result (texts names.new.items
+    ensures added { OnOk result (texts names.new.items
         ≡ with_names_in (texts names.old.items) (node_of this.entry.node.now)) }
+    ensures memory { OnErr result
+        (0 < length (with_names_in (texts names.old.items) (node_of this.entry.node.now))) }
 {
     add_names(names, &this.node.props)?;
     for node in this.node.children.items() {

@@ -128,7 +128,7 @@ pub fn write_tree<F: Files, W: Write, A: Allocator>(
     ensures faults { RisesIf (is_put result) out.old.faults out.new.faults }
     ensures found { IsTrue (F.map files.old).complete →
         AreKept (F.map files.old).bytes (node_of tree.now.root) → is_no_file result ≡ false }
-    ensures unread { AllValues IsBytes (node_of tree.now.root) → is_err result ≡ is_put result }
+    ensures in_memory { AllValues IsBytes (node_of tree.now.root) → is_err result ≡ is_put result }
     ensures kept { IsTrue (F.map files.old).honest →
         OnOk result (AreKept (F.map files.old).bytes (node_of tree.now.root)) }
     ensures written { IsTrue (F.map files.old).honest →

@@ -16,12 +16,12 @@ returns-clause-found g c = λ complete kept.
     let w = subst (λ (p : Plan). WritesPieces c.put_blob.result m (g.F.Files.map c.put_blob.new.files) c.args.out.now c.put_blob.new.out (blob_pieces p t)) c.requires c.put_blob.ensures.writes in
     w.found complete (blob-holds (IsKept m.bytes) (λ b. tt) t kept)
 
-pub returns-clause-unread : goal.returns-clause-unread
-returns-clause-unread g c = λ unread.
+pub returns-clause-in_memory : goal.returns-clause-in_memory
+returns-clause-in_memory g c = λ embedded.
     let m = g.F.Files.map c.args.files.now in
     let t = node_of c.args.tree.now.root in
     let w = subst (λ (p : Plan). WritesPieces c.put_blob.result m (g.F.Files.map c.put_blob.new.files) c.args.out.now c.put_blob.new.out (blob_pieces p t)) c.requires c.put_blob.ensures.writes in
-    w.unread (blob-holds IsBytes (λ b. tt) t unread)
+    w.in_memory (blob-holds IsBytes (λ b. tt) t embedded)
 
 pub returns-clause-kept : goal.returns-clause-kept
 returns-clause-kept g c = λ honest.
