@@ -12,6 +12,8 @@ mod nodes;
 mod properties;
 mod props;
 mod sizes;
+#[cfg(test)]
+mod tests;
 mod tree;
 mod words;
 mod writing;

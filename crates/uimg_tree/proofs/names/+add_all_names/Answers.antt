@@ -65,7 +65,7 @@ returns-in_err-add_all_names-clause-memory g t c =
     let more : drop i items ≡ d ∷ drop (i + 1) items = drop_more items i d c.loop-node-test.true ∙ ap (λ (p : Node g.row.A.Denot). p ∷ drop (i + 1) items) (sym c.node-item.is) in
     let one = with_names_in (with_names now d.props) d.children in
     let whole : with_names_in one rest ≡ with_names_in (with_names old node.props) node.children =
-        sym (ap (λ (l : List (Node g.row.A.Denot)). with_names_in now (siblings l)) more)
-        ∙ c.loop-node.invariant ∙ ap (λ (l : Unread). with_names_in (with_names old node.props) l) c.items-node-items.ensures in
+    sym (ap (λ (l : List (Node g.row.A.Denot)). with_names_in now (siblings l)) more)
+    ∙ c.loop-node.invariant ∙ ap (λ (l : Unread). with_names_in (with_names old node.props) l) c.items-node-items.ensures in
     on-err c.from_residual-in_err-add_all_names.result
     (omega (arith, c.in_err-add_all_names.ensures.memory, length-with_names_in one rest, ap length whole))

@@ -34,5 +34,5 @@ returns-in_err-push-clause-memory g c =
     let old = texts c.args.names.now.items in
     let name = c.args.name.now in
     let other : list_any (bytes_eq name) old ≡ false =
-        ap (λ (l : List (Bor (List ℕ))). list_any (bytes_eq name) (texts l)) (sym c.as_slice.ensures.value) ∙ sym c.has_name.ensures ∙ c.if-has_name.false in
+    ap (λ (l : List (Bor (List ℕ))). list_any (bytes_eq name) (texts l)) (sym c.as_slice.ensures.value) ∙ sym c.has_name.ensures ∙ c.if-has_name.false in
     on-err c.from_residual.result (omega (arith, ap length (with_name-other old name other), length-append old (name ∷ [])))

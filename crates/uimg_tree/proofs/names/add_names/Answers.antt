@@ -46,7 +46,7 @@ returns-in_err-add_name-clause-memory g c =
     let now = texts c.loop-prop.names.items in
     let more : drop i items ≡ d ∷ drop (i + 1) items = drop_more items i d c.loop-prop-test.true ∙ ap (λ (p : Prop g.row.A.Denot). p ∷ drop (i + 1) items) (sym c.prop-item.is) in
     let whole : with_names (with_name now d.name) rest ≡ with_names old c.args.props.now =
-        sym (ap (λ (l : List (Prop g.row.A.Denot)). with_names now (map property l)) more)
-        ∙ c.loop-prop.invariant ∙ ap (λ (l : List (NamedOf Content)). with_names old l) c.items-prop-items.ensures in
+    sym (ap (λ (l : List (Prop g.row.A.Denot)). with_names now (map property l)) more)
+    ∙ c.loop-prop.invariant ∙ ap (λ (l : List (NamedOf Content)). with_names old l) c.items-prop-items.ensures in
     let some : 0 < length (with_name now d.name) = subst (λ (n : List ℕ). 0 < length (with_name now n)) c.items.ensures c.in_err-add_name.ensures.memory in
     on-err c.from_residual.result (omega (arith, some, length-with_names (with_name now d.name) rest, ap length whole))
