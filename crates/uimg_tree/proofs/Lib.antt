@@ -1,0 +1,14 @@
+pub mod Examples
+pub mod Spelling
+pub mod GrammarLaws
+pub mod TokenLaws
+pub mod NameLaws
+pub mod ReadsBackLaw
+pub mod WritesLaws
+pub mod PaddingLaws
+pub mod NodeLaws
+pub mod SizeLaws
+pub mod PieceLaws
+pub mod TotalLaws
+pub mod MeasuredLaws
+pub mod PlanLaws

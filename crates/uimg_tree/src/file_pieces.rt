@@ -1,0 +1,49 @@
+ghost use Rattle.std.specs.Prelude.{◌≡◌, ◌∷◌, [], length, IsTrue, OnOk, is_err, false};
+ghost use Rattle.uimg_base.specs.Device.{RisesIf};
+ghost use Rattle.uimg_base.specs.Writing.{Written};
+ghost use Rattle.uimg_tree.specs.Content.{file};
+ghost use Rattle.uimg_tree.specs.Faults.{is_put, is_read, is_no_file};
+ghost use Rattle.uimg_tree.specs.Pieces.{WritesPieces};
+
+use crate::fault::TreeFault;
+use std::io::Write;
+use uimg_base::{Files, Out, Source, WINDOW, copy_through};
+
+// Writes all of a source that has so many bytes; one of another size is a failed read.
+fn put_source<S: Source, W: Write>(
+    source: &mut S,
+    size: u64,
+    window: &mut [u8; WINDOW],
+    out: &mut Out<W>,
+) -> Result<(), TreeFault>
+    ensures opened { is_no_file result ≡ false }
+    ensures sized { OnOk result (length (S.device source.old).bytes ≡ size) }
+    ensures failures { length (S.device source.old).bytes ≡ size →
+        RisesIf (is_read result) (S.device source.old).failures (S.device source.new).failures }
+    ensures faults { RisesIf (is_put result) out.old.faults out.new.faults }
+    ensures written { IsTrue (S.device source.old).honest →
+        Written (is_err result) out.old out.new (S.device source.old).bytes }
+{
+    if source.size()? != size {
+        return Err(TreeFault::Read);
+    }
+    copy_through(source, window, 0, size, out)?;
+    Ok(())
+}
+
+// Writes the file of a name, which has so many bytes.
+pub(crate) fn put_file<F: Files, W: Write>(
+    name: &[u8],
+    size: u64,
+    files: &mut F,
+    window: &mut [u8; WINDOW],
+    out: &mut Out<W>,
+) -> Result<(), TreeFault>
+    ensures { WritesPieces result (F.map files.old) (F.map files.new) out.old out.new
+        (file name.now size ∷ []) }
+{
+    let Ok(mut source) = files.open(name) else {
+        return Err(TreeFault::NoFile);
+    };
+    put_source(&mut source, size, window, out)
+}

@@ -1,0 +1,47 @@
+ghost use Rattle.std.specs.Prelude.{◌≡◌};
+ghost use Rattle.uimg_tree.specs.Layouts.{totalsize};
+
+use std::alloc::Allocator;
+use std::marker::Model;
+use uimg_base::up4;
+
+/// Where the structure block begins: behind the header of 40 bytes and the one pair of zeros that
+/// ends the reservation block.
+pub(crate) const STRUCTURE_OFFSET: u32 = 56;
+
+/// What is known of a tree's blob before it is written: the names of the strings block, which it
+/// borrows from the tree, and the sizes of the two blocks.
+///
+/// Contracts see it as a `Plan`. `measure` makes it.
+#[derive(Drop)]
+pub struct Layout<'a, A: Allocator> {
+    pub(crate) names: Vec<&'a [u8], A>,
+    pub(crate) structure_size: u32,
+    pub(crate) strings_size: u32,
+}
+
+impl<'a, A: Allocator> Model for Layout<'a, A> {
+    ghost use Rattle.uimg_tree.specs.Layouts.{Plan};
+
+    ghost Value = { Plan };
+
+    ghost use Rattle.std.specs.Prelude.{◌≡◌, ◌<◌, ◌^◌, length};
+    ghost use Rattle.uimg_tree.specs.Encoding.{strings};
+    ghost use Rattle.uimg_tree.specs.Layouts.{totalsize};
+    ghost use Rattle.uimg_tree.specs.Names.{texts};
+
+    ghost view = { λ l. record { names = texts l.names.items; structure = l.structure_size } };
+
+    ghost invariant = { λ l. (l.strings_size ≡ length (strings (texts l.names.items)))
+        × (totalsize (record { names = texts l.names.items; structure = l.structure_size }) < 2 ^ 32) };
+}
+
+impl<'a, A: Allocator> Layout<'a, A> {
+    /// How many bytes the blob has, each file counted by the size that the tree keeps of it.
+    pub fn totalsize(&self) -> u32
+        ensures { result ≡ totalsize self.now }
+    {
+        let end = STRUCTURE_OFFSET as u64 + self.structure_size as u64 + self.strings_size as u64;
+        up4(end) as u32
+    }
+}

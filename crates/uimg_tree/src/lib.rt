@@ -1,0 +1,27 @@
+//! Trees of nodes and properties, and the flattened devicetree blobs that are made of them.
+#![tactic(auto)]
+
+mod byte_list;
+mod checking;
+mod fault;
+mod file_pieces;
+mod layout;
+mod measuring;
+mod names;
+mod nodes;
+mod properties;
+mod props;
+mod sizes;
+#[cfg(test)]
+mod tests;
+mod tree;
+mod words;
+mod writing;
+
+pub use byte_list::ByteList;
+pub use fault::TreeFault;
+pub use layout::Layout;
+pub use measuring::measure;
+pub use props::{Prop, Props, Value};
+pub use tree::{Node, Nodes, Tree};
+pub use writing::write_tree;

@@ -1,0 +1,7 @@
+//! What no clause says: bytes from outside, that calls succeed, and what failing devices leave.
+
+mod blobs;
+mod devices;
+mod layouts;
+mod memory;
+mod shapes;

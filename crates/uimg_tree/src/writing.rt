@@ -1,0 +1,143 @@
+ghost use Rattle.std.specs.Prelude.{◌≡◌, ◌<◌, ◌^◌, ◌++◌, length, replicate, IsTrue, OnOk, is_err, false};
+ghost use Rattle.uimg_base.specs.Device.{RisesIf};
+ghost use Rattle.uimg_base.specs.Writing.{Writes, Written};
+ghost use Rattle.uimg_blob.specs.Plain.{AllValues, AreNamed};
+ghost use Rattle.uimg_tree.specs.Content.{in_full, AreKept, IsBytes};
+ghost use Rattle.uimg_tree.specs.Encoding.{ended, header, strings, encode};
+ghost use Rattle.uimg_tree.specs.Faults.{is_put, is_no_file};
+ghost use Rattle.uimg_tree.specs.Layouts.{plan_of, totalsize};
+ghost use Rattle.uimg_tree.specs.Names.{texts};
+ghost use Rattle.uimg_tree.specs.Pieces.{padding, blob_pieces, WritesPieces};
+ghost use Rattle.uimg_tree.specs.ReadsBack.{ReadsBack};
+ghost use Rattle.uimg_tree.specs.Trees.{node_of};
+ghost use Rattle.uimg_tree.specs.UsingFiles.{UsesFiles};
+
+use crate::fault::TreeFault;
+use crate::layout::{Layout, STRUCTURE_OFFSET};
+use crate::nodes::{ThisNode, put_node};
+use crate::tree::Tree;
+use crate::words::{put_end, put_padding};
+use std::alloc::Allocator;
+use std::io::Write;
+use uimg_base::{Files, Out, PutFault, WINDOW};
+
+// The numbers of the header (Devicetree Specification, section 5.2).
+const MAGIC: u32 = 0xd00d_feed;
+
+const RESERVATION_OFFSET: u32 = 40;
+
+const VERSION: u32 = 17;
+
+const LAST_COMPATIBLE: u32 = 16;
+
+const BOOT_CPU: u32 = 0;
+
+// The reservation block: the pair of zeros that ends it.
+const RESERVATION: [u8; 16] = [0; 16];
+
+// Writes the header and the reservation block.
+fn put_header<W: Write, A: Allocator>(layout: &Layout<A>, out: &mut Out<W>) -> Result<(), PutFault>
+    ensures { Writes (is_err result) out.old out.new
+        (header layout.now.structure (length (strings layout.now.names)) ++ replicate 16 0) }
+{
+    let reservation = RESERVATION;
+    let structure = layout.structure_size;
+    let strings = layout.strings_size;
+    out.put_pieces(&[
+        &MAGIC.to_be_bytes(),
+        &layout.totalsize().to_be_bytes(),
+        &STRUCTURE_OFFSET.to_be_bytes(),
+        &(STRUCTURE_OFFSET + structure).to_be_bytes(),
+        &RESERVATION_OFFSET.to_be_bytes(),
+        &VERSION.to_be_bytes(),
+        &LAST_COMPATIBLE.to_be_bytes(),
+        &BOOT_CPU.to_be_bytes(),
+        &strings.to_be_bytes(),
+        &structure.to_be_bytes(),
+        &reservation,
+    ])
+}
+
+// Writes a name and its NUL.
+fn put_name<W: Write>(name: &[u8], out: &mut Out<W>) -> Result<(), PutFault>
+    ensures { Writes (is_err result) out.old out.new (ended name.now) }
+{
+    out.put_pieces(&[name, &[0]])
+}
+
+// Writes the strings block.
+fn put_strings<W: Write>(names: &[&[u8]], out: &mut Out<W>) -> Result<(), PutFault>
+    ensures { Writes (is_err result) out.old out.new (strings (texts names.now)) }
+{
+    for name in names {
+        put_name(name, out)?;
+    }
+    Ok(())
+}
+
+// Writes the blob of a tree, piece by piece.
+fn put_blob<F: Files, W: Write, A: Allocator>(
+    tree: &Tree<A>,
+    layout: &Layout<A>,
+    files: &mut F,
+    out: &mut Out<W>,
+) -> Result<(), TreeFault>
+    requires { layout.now ≡ plan_of (node_of tree.now.root) }
+    ensures fits { totalsize layout.now < 2 ^ 32 }
+    ensures writes { WritesPieces result (F.map files.old) (F.map files.new) out.old out.new
+        (blob_pieces layout.now (node_of tree.now.root)) }
+{
+    let mut window = [0; WINDOW];
+    let names = layout.names.as_slice();
+    put_header(layout, out)?;
+    put_node(
+        ThisNode { node: &tree.root },
+        names,
+        files,
+        &mut window,
+        out,
+    )?;
+    put_end(out)?;
+    put_strings(names, out)?;
+    let end = STRUCTURE_OFFSET as u64 + layout.structure_size as u64 + layout.strings_size as u64;
+    put_padding(end, out)?;
+    Ok(())
+}
+
+/// Writes the blob of a tree (Devicetree Specification, chapter 5): the header, an empty reservation
+/// block, the nodes and properties in order, and the names of the properties, each once.
+///
+/// The caller gives the layout that `measure` made of this tree. A file is opened when its value is
+/// written, and goes through a window of 8192 bytes; it is never held in memory whole. A file whose
+/// size is not the one that the tree keeps is answered as a failed read, before a byte of it.
+///
+/// `Put` comes exactly where a write failed, `NoFile` exactly where an open was refused, `Read`
+/// where a read of a file failed or its size is another; a tree without files is refused by a failed
+/// write alone. Over honest files of the kept sizes the bytes of `encode` were written, or at a
+/// refusal a prefix of them; and a file that begins with these bytes reads back as the tree.
+///
+/// It takes no memory. The depth of its calls is that of the tree.
+pub fn write_tree<F: Files, W: Write, A: Allocator>(
+    tree: &Tree<A>,
+    layout: &Layout<A>,
+    files: &mut F,
+    out: &mut Out<W>,
+) -> Result<(), TreeFault>
+    requires { layout.now ≡ plan_of (node_of tree.now.root) }
+    ensures files { UsesFiles (is_no_file result) (F.map files.old) (F.map files.new) }
+    ensures faults { RisesIf (is_put result) out.old.faults out.new.faults }
+    ensures found { IsTrue (F.map files.old).complete →
+        AreKept (F.map files.old).bytes (node_of tree.now.root) → is_no_file result ≡ false }
+    ensures in_memory { AllValues IsBytes (node_of tree.now.root) → is_err result ≡ is_put result }
+    ensures kept { IsTrue (F.map files.old).honest →
+        OnOk result (AreKept (F.map files.old).bytes (node_of tree.now.root)) }
+    ensures written { IsTrue (F.map files.old).honest →
+        AreKept (F.map files.old).bytes (node_of tree.now.root) →
+        Written (is_err result) out.old out.new
+        (encode (in_full (F.map files.old).bytes (node_of tree.now.root))) }
+    ensures reads_back { AreKept (F.map files.old).bytes (node_of tree.now.root) →
+        AreNamed (node_of tree.now.root) →
+        ReadsBack (in_full (F.map files.old).bytes (node_of tree.now.root)) }
+{
+    put_blob(tree, layout, files, out)
+}
