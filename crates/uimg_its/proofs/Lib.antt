@@ -1,0 +1,2 @@
+mod LexLaws
+mod DigitLaws

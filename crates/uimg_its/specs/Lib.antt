@@ -1,0 +1,9 @@
+pub mod Options
+pub mod Digits
+pub mod Strings
+pub mod Words
+pub mod Cells
+pub mod Answers
+pub mod Steps
+pub mod Seen
+pub mod Reader
