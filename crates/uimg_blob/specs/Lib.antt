@@ -15,3 +15,4 @@ pub mod Walk
 pub mod Kept
 pub mod SoFar
 pub mod Passes
+pub mod Plain

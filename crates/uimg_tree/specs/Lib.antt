@@ -1,0 +1,12 @@
+pub mod Content
+pub mod Coding
+pub mod Properties
+pub mod Trees
+pub mod Depths
+pub mod Faults
+pub mod UsingFiles
+pub mod Encoding
+pub mod Layouts
+pub mod Measured
+pub mod Pieces
+pub mod ReadsBack

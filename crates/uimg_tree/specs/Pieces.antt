@@ -1,0 +1,58 @@
+-- A blob as pieces in order, each of them bytes or a file.
+use Rattle.std.specs.Prelude.{◌≡◌, ℕ, ◌+◌, ◌-◌, List, [], ◌∷◌, ◌++◌, length, replicate, Result, Bool, IsTrue, is_err, false}
+use Rattle.std.specs.Bool.{OnFalse}
+use Rattle.std.specs.List.{flat_map, AllByRecursion}
+use Rattle.uimg_texts.specs.Numbers.{up4}
+use Rattle.uimg_base.specs.Device.{RisesIf}
+use Rattle.uimg_base.specs.Sink.{Sink}
+use Rattle.uimg_base.specs.Named.{FileMap}
+use Rattle.uimg_base.specs.Writing.{Written}
+use Rattle.uimg_blob.specs.Plain.{NamedOf, no_node, a_node}
+use Rattle.uimg_tree.specs.declared.fault.TreeFault.{TreeFault}
+use Rattle.uimg_tree.specs.Content.{Content, Unread, bytes, size_of, bytes_in, IsKept, IsBytes}
+use Rattle.uimg_tree.specs.Encoding.{word, padded, ended, name_offset, strings, header}
+use Rattle.uimg_tree.specs.Layouts.{Plan}
+use Rattle.uimg_tree.specs.Faults.{is_put, is_no_file}
+use Rattle.uimg_tree.specs.UsingFiles.{UsesFiles}
+
+-- the zeros behind so many bytes, up to a multiple of 4
+abbrev pub padding : ℕ → List ℕ
+padding n = replicate (up4 n - n) 0
+
+-- FDT_BEGIN_NODE and the name of a node
+abbrev pub begin_bytes : List ℕ → List ℕ
+begin_bytes name = word 1 ++ padded (ended name)
+
+-- what stands before the value of a property of so many bytes, whose name stands at an offset: FDT_PROP and both numbers
+abbrev pub head_bytes : ℕ → ℕ → List ℕ
+head_bytes size offset = word 3 ++ word size ++ word offset
+
+-- a property: what stands before its value, the value, and the zeros behind it
+unfoldable pub property_pieces : List (List ℕ) → NamedOf Content → List Content
+property_pieces names p =
+    bytes (head_bytes (size_of p.value) (name_offset names p.name)) ∷ p.value ∷ bytes (padding (size_of p.value)) ∷ []
+
+-- nodes: of each its beginning, its properties, its children, and FDT_END_NODE
+unfoldable pub nodes_pieces : List (List ℕ) → Unread → List Content
+nodes_pieces names no_node = []
+nodes_pieces names (a_node name own below after) =
+    bytes (begin_bytes name) ∷ flat_map (property_pieces names) own ++ nodes_pieces names below ++ bytes (word 2) ∷ []
+    ++ nodes_pieces names after
+
+-- the blob of a plan, from its nodes: the header and an empty reservation block, the nodes, FDT_END, and the strings
+unfoldable pub blob_pieces : Plan → Unread → List Content
+blob_pieces p t =
+    bytes (header p.structure (length (strings p.names)) ++ replicate 16 0) ∷ nodes_pieces p.names t ++ bytes (word 9) ∷ []
+    ++ bytes (strings p.names) ∷ [] ++ bytes (padding (56 + p.structure + length (strings p.names))) ∷ []
+
+-- What a call that writes pieces did to files and to an output. Where it ended well, and the files are honest, each piece
+-- that is a file is kept, and all was appended; else a prefix was.
+pub record WritesPieces {X : Type 0} (answer : Result X TreeFault) (old new : FileMap) (s t : Sink) (pieces : List Content) : Type 0 where
+  pub files : UsesFiles (is_no_file answer) old new
+  pub faults : RisesIf (is_put answer) s.faults t.faults
+  -- complete files refuse none that is kept
+  pub found : IsTrue old.complete → AllByRecursion (IsKept old.bytes) pieces → is_no_file answer ≡ false
+  -- where no piece is a file, only a write can fail
+  pub unread : AllByRecursion IsBytes pieces → is_err answer ≡ is_put answer
+  pub kept : IsTrue old.honest → OnFalse (is_err answer) (AllByRecursion (IsKept old.bytes) pieces)
+  pub written : IsTrue old.honest → Written (is_err answer) s t (flat_map (bytes_in old.bytes) pieces)

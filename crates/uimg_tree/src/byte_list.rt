@@ -1,0 +1,42 @@
+ghost use Rattle.std.specs.Prelude.{◌≡◌};
+
+use std::alloc::Allocator;
+use std::marker::Model;
+
+/// Bytes in memory of their own, as a name or a value has. Contracts see them as a list.
+#[derive(Drop)]
+pub struct ByteList<A: Allocator> {
+    bytes: Vec<u8, A>,
+}
+
+impl<A: Allocator> Model for ByteList<A> {
+    ghost use Rattle.std.specs.Prelude.{ℕ, List};
+
+    ghost Value = { List ℕ };
+
+    ghost view = { λ l. l.bytes.items };
+}
+
+impl<A: Allocator> ByteList<A> {
+    /// The list of these bytes. It takes no memory.
+    pub fn of(bytes: Vec<u8, A>) -> ByteList<A>
+        ensures { result ≡ bytes.items }
+    {
+        ByteList { bytes }
+    }
+
+    /// The bytes.
+    pub fn items(&self) -> &[u8]
+        ensures { result.now ≡ self.now }
+    {
+        self.bytes.as_slice()
+    }
+
+    /// The bytes as a `Vec`. It takes no memory.
+    pub fn into_vec(self) -> Vec<u8, A>
+        ensures { result.items ≡ self }
+    {
+        let ByteList { bytes } = self;
+        bytes
+    }
+}
