@@ -1,2 +1,13 @@
 mod LexLaws
 mod DigitLaws
+mod StepLaws
+mod Shrinking
+mod ItemLaws
+mod NodeLaws
+mod ValueLaws
+mod SpelledIsRead
+mod ReadIsSpelled
+mod LoneFile
+mod FilesLaws
+mod SoundLaws
+mod CompileLaws

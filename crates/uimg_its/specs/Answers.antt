@@ -16,19 +16,19 @@ is_outside ReadFailed = true
 is_outside OutOfMemory = true
 
 -- the reason is that the open of a file was refused
-abbrev pub is_no_file : Kind → Bool
-is_no_file BadToken = false
-is_no_file BadSyntax = false
-is_no_file (OutOfProfile construct) = false
-is_no_file BadNumber = false
-is_no_file NoFile = true
-is_no_file ReadFailed = false
-is_no_file OutOfMemory = false
+abbrev pub tells_no_file : Kind → Bool
+tells_no_file BadToken = false
+tells_no_file BadSyntax = false
+tells_no_file (OutOfProfile construct) = false
+tells_no_file BadNumber = false
+tells_no_file NoFile = true
+tells_no_file ReadFailed = false
+tells_no_file OutOfMemory = false
 
 -- an answer has that reason
-abbrev pub opens_none : {X : Type 0} → Result X Stop → Bool
-opens_none (Ok x) = false
-opens_none (Err stop) = is_no_file stop.kind
+abbrev pub is_no_file : {X : Type 0} → Result X Stop → Bool
+is_no_file (Ok x) = false
+is_no_file (Err stop) = tells_no_file stop.kind
 
 -- A refusal for a reason in the text says that there is nothing to read. Any other says nothing of the text.
 abbrev pub Refuses : {Y : Type 0} → Kind → Option Y → Type 0

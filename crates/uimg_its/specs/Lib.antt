@@ -5,5 +5,9 @@ pub mod Words
 pub mod Cells
 pub mod Answers
 pub mod Steps
-pub mod Seen
+pub mod Parts
+pub mod FileValues
 pub mod Reader
+pub mod Grammar
+pub mod Seen
+pub mod Compiled

@@ -7,6 +7,9 @@ use Rattle.uimg_its.specs.declared.words.Token.{Token}
 use Rattle.uimg_its.specs.declared.pieces.Piece.{Piece as FoundPiece}
 use Rattle.uimg_its.specs.declared.pieces.Piece.TheVariants as found_piece
 use Rattle.uimg_its.specs.declared.stop.Stop.{Stop}
+use Rattle.uimg_its.specs.declared.items.Item.{Item as FoundItem}
+use Rattle.uimg_its.specs.declared.items.Item.TheVariants as found_item
+use Rattle.uimg_its.specs.Reader.{Item, empty, assigned, opens, closes}
 use Rattle.uimg_its.specs.Strings.{string_bytes}
 use Rattle.uimg_its.specs.Words.{Word, name, directive, text, mark, stray, Piece, gap, word, words}
 
@@ -28,3 +31,10 @@ abbrev pub Sees : Result (Option (Token × Bor (List ℕ))) Stop → List Word �
 Sees (Ok None) ws = ws ≡ []
 Sees (Ok (Some x)) ws = ws ≡ word_of x.0.word ∷ words x.1.now
 Sees (Err stop) ws = (rest : List Word) × (ws ≡ stray ∷ rest)
+
+-- an item by its name's bytes
+abbrev pub item_is : FoundItem → Item
+item_is (found_item.Empty n) = empty n.now
+item_is (found_item.Assigned n) = assigned n.now
+item_is (found_item.Opens n) = opens n.now
+item_is found_item.Closes = closes

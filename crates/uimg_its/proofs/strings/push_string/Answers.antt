@@ -6,7 +6,7 @@ pub returns-then-text-i-eq34 : goal.returns-then-text-i-eq34
 returns-then-text-i-eq34 g c = bytes_over c.args.text.now c.loop-i.out.items _ c.loop-i.i (bytes_at_quote c.args.text.now c.loop-i.i c.loop-i-test.true c.if-text-i-eq34.true) c.loop-i.invariant.1
 
 pub returns-in-None : goal.returns-in-None
-returns-in-None c = bytes_over c.args.text.now c.loop-i.out.items _ c.loop-i.i (bytes_at_none c.args.text.now c.loop-i.i c.loop-i-test.true c.if-text-i-eq34.false (rw c.after.ensures at c.in-None.ensures.unit)) c.loop-i.invariant.1
+returns-in-None g c = bytes_over c.args.text.now c.loop-i.out.items _ c.loop-i.i (bytes_at_none c.args.text.now c.loop-i.i c.loop-i-test.true c.if-text-i-eq34.false (rw c.after.ensures at c.in-None.ensures.unit)) c.loop-i.invariant.1
 
 pub returns : goal.returns
 returns g c = bytes_over c.args.text.now c.loop-i.out.items _ c.loop-i.i (bytes_at_end c.args.text.now c.loop-i.i c.loop-i-test.false) c.loop-i.invariant.1
