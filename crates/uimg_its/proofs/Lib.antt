@@ -11,3 +11,4 @@ mod LoneFile
 mod FilesLaws
 mod SoundLaws
 mod CompileLaws
+mod Examples

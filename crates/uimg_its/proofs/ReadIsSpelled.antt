@@ -456,6 +456,10 @@ source_found ws files t e =
     let g = guard (is_version w.0.0) w.0.1 v.0 w.2 in
     let first = next_is ws w.0.1 w.0.0 w.1 ∙ ap (λ (x : Word). x ∷ w.0.1) (version_is w.0.0 g.0) ∙ ap (λ (x : List Word). directive (codes "dts-v1") ∷ x) g.1 in
     let last : root.0.1 ≡ mark Semicolon ∷ [] = expect_is Semicolon root.0.1 closed.0 closed.1 ∙ ap (λ (x : List Word). mark Semicolon ∷ x) end.1 in
+    let inner : opened.0 ≡ tail i.0 i.1 (mark Semicolon ∷ []) = i.5 ∙ ap (λ (x : List Word). tail i.0 i.1 x) last in
+    let behind_slash : slash.0 ≡ body i.0 i.1 (mark Semicolon ∷ []) = expect_is BraceOpen slash.0 opened.0 opened.1 ∙ ap (λ (x : List Word). mark BraceOpen ∷ x) inner in
+    let behind_semi : semi.0 ≡ mark Slash ∷ body i.0 i.1 (mark Semicolon ∷ []) = expect_is Slash semi.0 slash.0 slash.1 ∙ ap (λ (x : List Word). mark Slash ∷ x) behind_slash in
+    let behind_version : v.0 ≡ mark Semicolon ∷ mark Slash ∷ body i.0 i.1 (mark Semicolon ∷ []) = expect_is Semicolon v.0 semi.0 semi.1 ∙ ap (λ (x : List Word). mark Semicolon ∷ x) behind_semi in
     subst (λ (x : NodeParts). Spells ws files (single x)) end.0 (record {
       props = root.0.0.props;
       children = root.0.0.children;
@@ -463,7 +467,6 @@ source_found ws files t e =
       below = i.1;
       are_properties = i.2;
       are_children = i.3;
-      whole = first ∙ ap (λ (x : List Word). directive (codes "dts-v1") ∷ x) (expect_is Semicolon v.0 semi.0 semi.1 ∙ ap (λ (x : List Word). mark Semicolon ∷ x) (expect_is Slash semi.0 slash.0 slash.1
-          ∙ ap (λ (x : List Word). mark Slash ∷ x) (expect_is BraceOpen slash.0 opened.0 opened.1 ∙ ap (λ (x : List Word). mark BraceOpen ∷ x) (i.5 ∙ ap (λ (x : List Word). tail i.0 i.1 x) last))));
+      whole = first ∙ ap (λ (x : List Word). directive (codes "dts-v1") ∷ x) behind_version;
       root = ap (λ (n : List ℕ). a_node n root.0.0.props root.0.0.children no_node) i.4;
     })

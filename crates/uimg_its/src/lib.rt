@@ -16,6 +16,8 @@ mod pieces;
 mod properties;
 mod stop;
 mod strings;
+#[cfg(test)]
+mod tests;
 mod values;
 mod words;
 
