@@ -1,10 +1,11 @@
 """Image-tree sources of many shapes, made from a seed, for a comparison with the real dtc.
 
 `sources(seed, count)` gives pairs (name, text): sources that dtc and uimg both compile. `refused()`
-gives pairs (name, text) of sources that one of them refuses at least; `OUR_OWN` names those of them
-that dtc compiles and this profile leaves out, each with its reason. `blob(folder, text)` is the blob
-that dtc makes of a source, or None where it refuses; `tree(folder, blob)` is what dtc reads in one.
-The files that `/incbin/` names are written by `files(folder)`.
+gives pairs (name, text) of sources that at least one of them refuses; `OUR_OWN` names those of them
+that dtc compiles and uimg refuses, and `DTC_OWN` those that uimg compiles and dtc refuses, each with
+its reason. `blob(folder, text)` is the blob that dtc makes of a source, or None where it refuses;
+`tree(folder, blob)` is what dtc reads in one. The files that `/incbin/` names are written by
+`files(folder)`.
 
 Run by itself it shows that dtc does with each source what is said of it here.
 """
@@ -22,7 +23,7 @@ FILES = {
     "big.bin": bytes(range(251)) * 100,
 }
 
-NAMES = "a b data v reg kernel-1 hash-1 fdt@0 a,b.c_d+e*f?g #size-cells x123 0 77".split()
+NAMES = "a b data v reg kernel-1 hash-1 a,b.c_d+e*f?g #size-cells x123 0 77".split()
 BLANKS = [" ", "\t", "\n", "\r\n", "\f", "\v", " /* a comment; \" */ ", " // to the end }\n", "/**/"]
 TEXT = "abc XYZ,;:{}()[]<>/*#&'-0123456789"
 ESCAPES = ["\\\\", '\\"', "\\n", "\\t", "\\r", "\\0", "\\x41", "\\xfF", "\\x00"]
@@ -94,13 +95,14 @@ class Source:
             for number in self.some(3):
                 if self.random.random() < 0.2:
                     self.put(self.label())
-                self.put(f"node-{number}")
+                self.put(self.random.choice([f"node-{number}", f"node@{number}"]))
                 self.body(levels - 1)
                 self.put(";")
         self.put("}")
 
     def text(self):
-        self.put("/dts-v1/", ";", "/")
+        self.put("/dts-v1/", ";")
+        self.words.append("/ ")
         self.body(self.random.randint(1, 5))
         self.put(";")
         return "".join(self.words)
@@ -139,6 +141,8 @@ REFUSED = {
     "unknown directive": "/dts-v1/; / { /what/ a; };",
     "equal properties": "/dts-v1/; / { v = <1>; v = <2>; };",
     "equal nodes": "/dts-v1/; / { n { }; n { }; };",
+    "blank before a colon": "/dts-v1/; / { l : a { }; };",
+    "at sign in a property": "/dts-v1/; / { a@0; };",
     "long property name": "/dts-v1/; / { " + "a" * 256 + "; };",
     "expression": "/dts-v1/; / { v = <(1 + 2)>; };",
     "character": "/dts-v1/; / { v = <'a'>; };",
@@ -158,7 +162,7 @@ REFUSED = {
     "65 levels": deep(65),
 }
 
-# What dtc compiles of these, and why this profile does not.
+# What dtc compiles of these, and why uimg refuses it.
 OUR_OWN = {
     "expression": "expressions are out of the profile",
     "character": "character literals are out of the profile",
@@ -171,15 +175,16 @@ OUR_OWN = {
     "other escape": "escapes beside the listed ones are out of the profile",
     "octal escape": "octal escapes are out of the profile",
     "short hexadecimal escape": "a hexadecimal escape has two digits in the profile",
-    "delete node": "directives are out of the profile",
     "preprocessor line": "the C preprocessor is out of the profile",
     "number suffix": "a number has no suffix in the profile",
     "long property name": "names have at most 255 bytes in the profile",
     "65 levels": "at most 64 levels are in the profile",
 }
 
-# What dtc refuses of these, and why this profile does not.
+# What dtc refuses of these, and why uimg compiles it.
 DTC_OWN = {
+    "blank before a colon": "a label is a name word and a colon, as other words are",
+    "at sign in a property": "names of properties and nodes have the same characters",
     "equal properties": "the first of equal properties counts where one is looked up",
     "equal nodes": "the first of equal nodes counts where one is looked up",
 }
