@@ -1,0 +1,40 @@
+-- Labels before a name have no effect.
+use Rattle.std.proofs.Common.{◌≡◌, ℕ, List, [], ◌∷◌, Option, Some, None, Bool, true, false, length, nat_lt, refl, sym, ap, ◌∙◌}
+use Rattle.uimg_its.specs.declared.fault.Kind.{Kind}
+use Rattle.uimg_its.specs.declared.words.Mark.TheVariants.{Slash, Comma, BraceOpen, BraceClose, Semicolon, Equals, Less, Greater, ParenOpen, ParenClose, BracketOpen, BracketClose, Colon, Ampersand, Apostrophe}
+use Rattle.uimg_its.specs.Words.{Word, name, directive, text, mark, stray}
+use Rattle.uimg_its.specs.Options.{◌>>=◌}
+use Rattle.uimg_its.specs.Answers.{Refuses}
+use Rattle.uimg_its.specs.Reader.{Item, next, named, labelled, item_of}
+use Rattle.std.specs.Prelude.{cond}
+use Rattle.uimg_its.proofs.StepLaws.{refuses_on}
+
+abbrev behind : Option Item → List Word → Option (Item × List Word)
+behind None ws = named ws
+behind (Some i) ws = Some (i, ws)
+
+item_same : (b : Bool) (o : Option Item) (ws : List Word)
+    → ((cond b None (o >>= λ i. Some (Some i)) >>= λ i. (let x : Option Item × List Word = (i, ws) in Some x)) >>= λ x. elim x.0 as (λ _. Option (Item × List Word)) [ None ↦ None | Some i ↦ Some (i, x.1) ])
+    ≡ ((cond b None (o >>= λ i. Some (Some i)) >>= λ i. (let x : Option Item × List Word = (i, ws) in Some x)) >>= λ x. behind x.0 x.1)
+item_same true o ws = refl
+item_same false None ws = refl
+item_same false (Some i) ws = refl
+
+named_step : (ws : List Word) → named ws ≡ (labelled ws >>= λ x. behind x.0 x.1)
+unfolding named labelled
+named_step [] = refl
+named_step (name n ∷ []) = refl
+named_step (name n ∷ mark Colon ∷ ws) = refl
+named_step (name n ∷ stray ∷ ws) = refl
+named_step (name n ∷ w ∷ ws) = item_same (nat_lt 255 (length n)) (item_of n w) ws
+named_step (w ∷ ws) = refl
+
+-- labels are passed over
+pub label_passed : (ws after : List Word) (total : Option (Item × List Word)) → labelled ws ≡ Some (None, after) → named ws ≡ total → named after ≡ total
+label_passed ws after total e h = sym (ap (λ r. r >>= λ x. behind x.0 x.1) e) ∙ sym (named_step ws) ∙ h
+
+pub item_found : (ws after : List Word) (i : Item) (total : Option (Item × List Word)) → labelled ws ≡ Some (Some i, after) → named ws ≡ total → total ≡ Some (i, after)
+item_found ws after i total e h = sym h ∙ named_step ws ∙ ap (λ r. r >>= λ x. behind x.0 x.1) e
+
+pub item_refused : (k : Kind) (ws : List Word) (total : Option (Item × List Word)) → Refuses k (labelled ws) → named ws ≡ total → Refuses k total
+item_refused k ws total e h = refuses_on k (labelled ws) total (λ none. sym h ∙ named_step ws ∙ ap (λ r. r >>= λ x. behind x.0 x.1) none) e

@@ -1,0 +1,14 @@
+mod LexLaws
+mod DigitLaws
+mod StepLaws
+mod Shrinking
+mod ItemLaws
+mod NodeLaws
+mod ValueLaws
+mod SpelledIsRead
+mod ReadIsSpelled
+mod LoneFile
+mod FilesLaws
+mod SoundLaws
+mod CompileLaws
+mod Examples

@@ -1,0 +1,11 @@
+use Rattle.std.proofs.Common.{◌≡◌, ◌^◌, ◌<◌, drop}
+use Rattle.std.specs.List.{list_all}
+use Rattle.std.specs.Char.{is_digit}
+use Rattle.std.specs.Str.Parse.{digits_value, digits_value_after}
+use Rattle.uimg_its.proofs.numbers.number.Given as goal
+
+-- what is left gives the same number
+abbrev pub invariant-digits : goal.invariant-digits
+invariant-digits l =
+    (l.value < 2 ^ 32) × (digits_value_after l.base l.value (drop l.byte-index l.digits) ≡ digits_value l.base l.digits)
+    × (list_all (λ d. is_digit d l.base) (drop l.byte-index l.digits) ≡ list_all (λ d. is_digit d l.base) l.digits)

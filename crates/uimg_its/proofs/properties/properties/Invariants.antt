@@ -1,0 +1,22 @@
+use Rattle.std.proofs.Common.{◌≡◌, ◌≤◌, length, map, IsTrue, false}
+use Rattle.uimg_tree.specs.Properties.{property}
+use Rattle.uimg_tree.specs.UsingFiles.{UsesFiles}
+use Rattle.uimg_its.specs.Words.{words}
+use Rattle.uimg_its.specs.Steps.{with_front}
+use Rattle.uimg_its.specs.Parts.{props_in_full}
+use Rattle.uimg_its.specs.FileValues.{AreSound}
+use Rattle.uimg_its.specs.Reader.{properties}
+use Rattle.uimg_its.proofs.properties.properties.Given as goal
+
+-- what is left gives the same properties
+abbrev pub invariant-loop-props : goal.invariant-loop-props
+invariant-loop-props g l =
+    let bytes = (g.F.Files.map l.fn.files).bytes in record {
+      files : UsesFiles false (g.F.Files.map l.fn.files) (g.F.Files.map l.files);
+      read : IsTrue (g.F.Files.map l.fn.files).honest → with_front (props_in_full bytes (map property l.props.items)) (properties bytes (words l.rest)) ≡ properties bytes (words l.text);
+      sound : AreSound (g.F.Files.map l.fn.files) (map property l.props.items);
+      within : length l.rest ≤ length l.text;
+    }
+
+abbrev pub decreases-loop-props : goal.decreases-loop-props
+decreases-loop-props g l = length l.rest

@@ -1,0 +1,45 @@
+-- What an answer says of what is read.
+use Rattle.std.specs.Prelude.{◌≡◌, Bool, true, false, List, Option, Some, None, Result, Ok, Err, ⊤}
+use Rattle.std.specs.Bool.{OnFalse}
+use Rattle.uimg_its.specs.declared.fault.Kind.{Kind}
+use Rattle.uimg_its.specs.declared.fault.Kind.TheVariants.{BadToken, BadSyntax, OutOfProfile, BadNumber, NoFile, ReadFailed, OutOfMemory}
+use Rattle.uimg_its.specs.declared.stop.Stop.{Stop}
+
+-- the reason lies outside the text: in a file, or in memory
+abbrev pub is_outside : Kind → Bool
+is_outside BadToken = false
+is_outside BadSyntax = false
+is_outside (OutOfProfile construct) = false
+is_outside BadNumber = false
+is_outside NoFile = true
+is_outside ReadFailed = true
+is_outside OutOfMemory = true
+
+-- the reason is that the open of a file was refused
+abbrev pub tells_no_file : Kind → Bool
+tells_no_file BadToken = false
+tells_no_file BadSyntax = false
+tells_no_file (OutOfProfile construct) = false
+tells_no_file BadNumber = false
+tells_no_file NoFile = true
+tells_no_file ReadFailed = false
+tells_no_file OutOfMemory = false
+
+-- an answer has that reason
+abbrev pub is_no_file : {X : Type 0} → Result X Stop → Bool
+is_no_file (Ok x) = false
+is_no_file (Err stop) = tells_no_file stop.kind
+
+-- A refusal for a reason in the text says that there is nothing to read. Any other says nothing of the text.
+abbrev pub Refuses : {Y : Type 0} → Kind → Option Y → Type 0
+Refuses kind read = OnFalse (is_outside kind) (read ≡ None)
+
+-- What was returned, as it is seen, is what reading gives.
+abbrev pub Gives : {X Y : Type 0} → (X → Y) → Result X Stop → Option Y → Type 0
+Gives view (Ok x) read = read ≡ Some (view x)
+Gives view (Err stop) read = Refuses stop.kind read
+
+-- Any refusal is for a reason outside the text.
+abbrev pub IsOutside : {X : Type 0} → Result X Stop → Type 0
+IsOutside (Ok x) = ⊤
+IsOutside (Err stop) = is_outside stop.kind ≡ true

@@ -1,0 +1,32 @@
+-- Cells and byte lists (Devicetree Specification, section 6.3).
+use Rattle.std.specs.Prelude.{ℕ, List, [], ◌∷◌, Option, Some, None, ◌==◌, ◌||◌, if◌then◌else◌}
+use Rattle.std.specs.Int.{w32, to_be_bytes}
+use Rattle.uimg_its.specs.declared.lists.Listed.{Listed}
+use Rattle.uimg_its.specs.declared.lists.Listed.TheVariants.{Cells, Bytes}
+use Rattle.uimg_its.specs.Options.{◌>>=◌}
+use Rattle.uimg_its.specs.Digits.{number, hex_pair}
+
+-- A cell's number: 0x or 0X and hexadecimal digits, at least one; 0 and octal digits, none too; or else decimal digits.
+unfoldable pub cell : List ℕ → Option ℕ
+cell [] = None
+cell (z ∷ []) = number 10 (z ∷ [])
+cell (z ∷ x ∷ []) = if z == 48 then number 8 (x ∷ []) else number 10 (z ∷ x ∷ [])
+cell (z ∷ x ∷ d ∷ ds) =
+    if z == 48 then (if x == 120 || x == 88 then number 16 (d ∷ ds) else number 8 (x ∷ d ∷ ds))
+    else number 10 (z ∷ x ∷ d ∷ ds)
+
+-- the bytes of a word, of two hexadecimal digits each
+unfoldable pub hex_bytes : List ℕ → Option (List ℕ)
+hex_bytes [] = Some []
+hex_bytes (a ∷ []) = None
+hex_bytes (a ∷ b ∷ rest) = do
+  first ← hex_pair a b
+  more ← hex_bytes rest
+  Some (first ∷ more)
+
+-- What a name word stands for in a list: a cell's number as four bytes, the highest first, or bytes.
+abbrev pub element : Listed → List ℕ → Option (List ℕ)
+element Cells n = do
+  c ← cell n
+  Some (to_be_bytes w32 c)
+element Bytes n = hex_bytes n

@@ -1,0 +1,19 @@
+-- What compiling gives.
+use Rattle.std.specs.Prelude.{◌≡◌, Bool, false, IsTrue, Result, Ok, Err}
+use Rattle.uimg_blob.specs.Plain.{Nodes}
+use Rattle.uimg_tree.specs.declared.tree.Tree.{Tree}
+use Rattle.uimg_tree.specs.Content.{in_full}
+use Rattle.uimg_tree.specs.Trees.{node_of}
+use Rattle.uimg_its.specs.declared.fault.ItsFault.{ItsFault}
+use Rattle.uimg_its.specs.Parts.{FileBytes}
+use Rattle.uimg_its.specs.Answers.{is_outside, tells_no_file}
+
+-- the answer is that the open of a file was refused
+abbrev pub finds_no_file : {X : Type 0} → Result X ItsFault → Bool
+finds_no_file (Ok x) = false
+finds_no_file (Err fault) = tells_no_file fault.kind
+
+-- Where the words of a text spell a tree, the answer is that tree, or a refusal for a reason outside the text.
+abbrev pub Accepts : {A : Type 0} → FileBytes → Result (Tree A) ItsFault → Nodes → Type 0
+Accepts files (Ok tree) t = in_full files (node_of tree.root) ≡ t
+Accepts files (Err fault) t = IsTrue (is_outside fault.kind)

@@ -1,0 +1,22 @@
+-- Numbers in digits.
+use Rattle.std.specs.Prelude.{ℕ, ◌+◌, ◌*◌, ◌^◌, List, Option, Some, None, nat_lt, ◌&&◌, if◌then◌else◌}
+use Rattle.std.specs.List.{list_all}
+use Rattle.std.specs.Char.{is_digit, digit_value}
+use Rattle.std.specs.Str.Parse.{digits_value}
+use Rattle.uimg_its.specs.Options.{◌>>=◌}
+
+-- The number that bytes write in a base, the first the highest, where each is a digit and 32 bits have the number.
+unfoldable pub number : ℕ → List ℕ → Option ℕ
+number base ds =
+    if list_all (λ d. is_digit d base) ds && nat_lt (digits_value base ds) (2 ^ 32) then Some (digits_value base ds) else None
+
+-- a hexadecimal digit: 0 to 9, a to f, A to F
+abbrev pub hex_digit : ℕ → Option ℕ
+hex_digit b = if is_digit b 16 then Some (digit_value b) else None
+
+-- the byte of two hexadecimal digits
+abbrev pub hex_pair : ℕ → ℕ → Option ℕ
+hex_pair a b = do
+  high ← hex_digit a
+  low ← hex_digit b
+  Some (high * 16 + low)

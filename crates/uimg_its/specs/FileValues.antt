@@ -1,0 +1,43 @@
+-- Which values of a tree may be files.
+use Rattle.std.specs.Prelude.{◌≡◌, ℕ, List, Bool, IsTrue, codes, ⊤}
+use Rattle.std.specs.List.{AllByRecursion}
+use Rattle.uimg_base.specs.Named.{FileMap}
+use Rattle.uimg_blob.specs.Plain.{NamedOf, no_node, a_node}
+use Rattle.uimg_tree.specs.declared.tree.Node.{Node}
+use Rattle.uimg_tree.specs.Content.{Content, Unread, bytes, file, IsKept}
+use Rattle.uimg_its.specs.Parts.{FileBytes}
+
+-- A file stands under the name `data` alone.
+abbrev pub StandsAtData : List ℕ → Content → Type 0
+StandsAtData n (bytes b) = ⊤
+StandsAtData n (file name size) = n ≡ codes "data"
+
+-- Only properties named `data` are files, in all nodes.
+abbrev pub FilesAtData : Unread → Type 0
+FilesAtData no_node = ⊤
+FilesAtData (a_node name own below after) =
+    AllByRecursion (λ p. StandsAtData p.name p.value) own × FilesAtData below × FilesAtData after
+
+-- The same of one value, and honest files have the file, with as many bytes as are kept of it.
+abbrev pub IsSound : Bool → FileBytes → List ℕ → Content → Type 0
+IsSound honest files n (bytes b) = ⊤
+IsSound honest files n (file name size) = (n ≡ codes "data") × (IsTrue honest → IsKept files (file name size))
+
+abbrev pub IsSoundIn : FileMap → List ℕ → Content → Type 0
+IsSoundIn map n c = IsSound map.honest map.bytes n c
+
+-- of properties
+abbrev pub AreSound : FileMap → List (NamedOf Content) → Type 0
+AreSound map ps = AllByRecursion (λ p. IsSound map.honest map.bytes p.name p.value) ps
+
+-- of all nodes
+abbrev pub IsSoundTree : FileMap → Unread → Type 0
+IsSoundTree map no_node = ⊤
+IsSoundTree map (a_node name own below after) = AreSound map own × IsSoundTree map below × IsSoundTree map after
+
+-- of nodes of the code
+abbrev pub IsSoundNode : {A : Type 0} → FileMap → Node A → Type 0
+IsSoundNode map n = AreSound map n.props × IsSoundTree map n.children
+
+abbrev pub AreSoundNodes : {A : Type 0} → FileMap → List (Node A) → Type 0
+AreSoundNodes map ns = AllByRecursion (IsSoundNode map) ns

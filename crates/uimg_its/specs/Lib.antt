@@ -1,0 +1,13 @@
+pub mod Options
+pub mod Digits
+pub mod Strings
+pub mod Words
+pub mod Cells
+pub mod Answers
+pub mod Steps
+pub mod Parts
+pub mod FileValues
+pub mod Reader
+pub mod Grammar
+pub mod Seen
+pub mod Compiled

@@ -1,0 +1,236 @@
+-- Reading words from left to right, as the code does. `Grammar` says what is spelled; proofs join the two.
+use Rattle.std.specs.Prelude.{ℕ, zero, suc, Bool, true, false, List, [], ◌∷◌, ◌++◌, length, Option, Some, None, nat_lt, if◌then◌else◌, codes}
+use Rattle.std.specs.Str.{bytes_eq}
+use Rattle.uimg_blob.specs.Plain.{Named}
+use Rattle.uimg_its.specs.declared.words.Mark.{Mark}
+use Rattle.uimg_its.specs.declared.words.Mark.TheVariants.{Slash, Comma, BraceOpen, BraceClose, Semicolon, Equals, Less, Greater, ParenOpen, ParenClose, BracketOpen, BracketClose, Colon}
+use Rattle.uimg_its.specs.declared.lists.Listed.{Listed}
+use Rattle.uimg_its.specs.declared.lists.Listed.TheVariants.{Cells, Bytes}
+use Rattle.uimg_its.specs.Words.{Word, name, directive, text, mark, stray}
+use Rattle.uimg_its.specs.Options.{◌>>=◌}
+use Rattle.uimg_its.specs.Steps.{Reads, Step, Steps, all}
+use Rattle.uimg_its.specs.Cells.{element}
+use Rattle.uimg_its.specs.Parts.{FileBytes, NodeParts, chain}
+
+-- the next word; there has to be one
+abbrev pub next : Reads Word
+next [] = None
+next (stray ∷ ws) = None
+next (w ∷ ws) = Some (w, ws)
+
+-- whether a word is that mark
+abbrev pub is_mark : Mark → Word → Bool
+is_mark Slash (mark Slash) = true
+is_mark BraceOpen (mark BraceOpen) = true
+is_mark BraceClose (mark BraceClose) = true
+is_mark Semicolon (mark Semicolon) = true
+is_mark ParenOpen (mark ParenOpen) = true
+is_mark ParenClose (mark ParenClose) = true
+is_mark m w = false
+
+-- the words behind a mark that has to be there
+abbrev pub expect : Mark → List Word → Option (List Word)
+expect m ws = do
+  w ← next ws
+  if is_mark m w.0 then Some w.1 else None
+
+-- the bytes of a string
+abbrev pub string_in : Word → Option (List ℕ)
+string_in (text s) = Some s
+string_in w = None
+
+abbrev pub string : Reads (List ℕ)
+string ws = do
+  w ← next ws
+  s ← string_in w.0
+  Some (s, w.1)
+
+-- What stands in a body: a property without a value, or with one, a child, or the body's end.
+pub data Item : Type 0 where
+  empty : List ℕ → Item
+  assigned : List ℕ → Item
+  opens : List ℕ → Item
+  closes : Item
+
+-- by the word behind its name
+abbrev pub item_of : List ℕ → Word → Option Item
+item_of n (mark Semicolon) = Some (empty n)
+item_of n (mark Equals) = Some (assigned n)
+item_of n (mark BraceOpen) = Some (opens n)
+item_of n w = None
+
+-- the name of a name word
+abbrev pub name_in : Word → Option (List ℕ)
+name_in (name n) = Some n
+name_in w = None
+
+-- Behind a name a colon makes it a label. Any other word makes it an item's name, which has to be short.
+abbrev pub item_after : List ℕ → Word → Option (Option Item)
+item_after n (mark Colon) = Some None
+item_after n w = if nat_lt 255 (length n) then None else (item_of n w >>= λ i. Some (Some i))
+
+unfoldable pub labelled : List Word → Option (Option Item × List Word)
+labelled ws = do
+  first ← next ws
+  n ← name_in first.0
+  second ← next first.1
+  i ← item_after n second.0
+  Some (i, second.1)
+
+-- an item behind labels, of which there may be any number, without effect
+unfoldable pub named : Reads Item
+named (name n ∷ mark Colon ∷ ws) = named ws
+named (name n ∷ w ∷ ws) =
+    labelled (name n ∷ w ∷ ws) >>= λ x. elim x.0 as (λ _. Option (Item × List Word)) [ None ↦ None | Some i ↦ Some (i, x.1) ]
+named ws = None
+
+-- an item of a body, or its end
+unfoldable pub item : Reads Item
+item ws = do
+  w ← next ws
+  if is_mark BraceClose w.0 then Some (closes, w.1) else named ws
+
+-- the name of an element, or the end of a list
+abbrev pub element_word : Listed → Word → Option (Option (List ℕ))
+element_word Cells (mark Greater) = Some None
+element_word Bytes (mark BracketClose) = Some None
+element_word l (name n) = Some (Some n)
+element_word l w = None
+
+-- a cell or bytes of a list, or its end
+unfoldable pub element_step : Listed → Steps ℕ
+element_step l ws = do
+  w ← next ws
+  e ← element_word l w.0
+  elim e as (λ _. Step ℕ) [ None ↦ Some (true, [], w.1) | Some n ↦ element l n >>= λ b. Some (false, b, w.1) ]
+
+-- cells up to >, bytes up to ]
+abbrev pub listed : Listed → Reads (List ℕ)
+listed l = all (element_step l)
+
+-- the bytes of a file, its name in parentheses
+unfoldable pub file : FileBytes → Reads (List ℕ)
+file files ws = do
+  after ← expect ParenOpen ws
+  n ← string after
+  rest ← expect ParenClose n.1
+  b ← files n.0
+  Some (b, rest)
+
+-- < cells >, a string and its NUL, [ bytes ], or /incbin/ and a file
+unfoldable pub value_of : FileBytes → Word → Reads (List ℕ)
+value_of files (mark Less) ws = listed Cells ws
+value_of files (text s) ws = Some (s ++ 0 ∷ [], ws)
+value_of files (mark BracketOpen) ws = listed Bytes ws
+value_of files (directive d) ws = if bytes_eq d (codes "incbin") then file files ws else None
+value_of files w ws = None
+
+unfoldable pub value : FileBytes → Reads (List ℕ)
+value files ws = do
+  w ← next ws
+  value_of files w.0 w.1
+
+-- whether a value is the last
+abbrev pub ends : Word → Option Bool
+ends (mark Comma) = Some false
+ends (mark Semicolon) = Some true
+ends w = None
+
+unfoldable pub value_step : FileBytes → Steps ℕ
+value_step files ws = do
+  v ← value files ws
+  w ← next v.1
+  last ← ends w.0
+  Some (last, v.0, w.1)
+
+-- values joined by commas, up to the semicolon
+abbrev pub values : FileBytes → Reads (List ℕ)
+values files = all (value_step files)
+
+abbrev pub property_named : FileBytes → List Word → Item → List Word → Step Named
+property_named files ws (empty n) after = Some (false, record { name = n; value = [] } ∷ [], after)
+property_named files ws (assigned n) after =
+    values files after >>= λ v. Some (false, record { name = n; value = v.0 } ∷ [], v.1)
+property_named files ws (opens n) after = Some (true, [], ws)
+property_named files ws closes after = Some (true, [], ws)
+
+unfoldable pub property_step : FileBytes → Steps Named
+property_step files ws = do
+  it ← item ws
+  property_named files ws it.0 it.1
+
+-- properties, as long as there are some
+abbrev pub properties : FileBytes → Reads (List Named)
+properties files = all (property_step files)
+
+-- a node behind its opening brace: properties, and children up to its closing brace
+unfoldable pub inside : FileBytes → Reads (List NodeParts) → List ℕ → Reads NodeParts
+inside files children n ws = do
+  own ← properties files ws
+  below ← children own.1
+  Some (record { name = n; props = own.0; children = chain below.0 }, below.1)
+
+-- a child and its semicolon, or the end of the body
+abbrev pub child_named : (List ℕ → Reads NodeParts) → Item → List Word → Step NodeParts
+child_named node (opens n) after = do
+  t ← node n after
+  rest ← expect Semicolon t.1
+  Some (false, t.0 ∷ [], rest)
+child_named node closes after = Some (true, [], after)
+child_named node i after = None
+
+unfoldable pub child_step : (List ℕ → Reads NodeParts) → Steps NodeParts
+child_step node ws = do
+  it ← item ws
+  child_named node it.0 it.1
+
+-- a node below which there may be so many levels, itself the first of them
+unfoldable pub node_within : ℕ → FileBytes → List ℕ → Reads NodeParts
+node_within zero files n ws = None
+node_within (suc levels) files n ws = inside files (all (child_step (node_within levels files))) n ws
+
+-- the children of a node, up to its closing brace
+abbrev pub children : ℕ → FileBytes → Reads (List NodeParts)
+children levels files = all (child_step (node_within levels files))
+
+-- the directive that begins a source
+abbrev pub is_version : Word → Bool
+is_version (directive d) = bytes_eq d (codes "dts-v1")
+is_version w = false
+
+abbrev pub version : List Word → Option (List Word)
+version ws = do
+  w ← next ws
+  if is_version w.0 then Some w.1 else None
+
+-- what was read, if no word is left
+abbrev pub alone : NodeParts → List Word → Option NodeParts
+alone t [] = Some t
+alone t (w ∷ ws) = None
+
+-- /dts-v1/ ; / { a body of at most 64 levels } ;
+unfoldable pub source : FileBytes → List Word → Option NodeParts
+source files ws = do
+  first ← version ws
+  second ← expect Semicolon first
+  slash ← expect Slash second
+  opened ← expect BraceOpen slash
+  t ← node_within 64 files [] opened
+  rest ← expect Semicolon t.1
+  alone t.0 rest
+
+-- whether a word is the directive of a file
+abbrev pub is_incbin : Word → Bool
+is_incbin (directive d) = bytes_eq d (codes "incbin")
+is_incbin w = false
+
+-- a file that is the whole value of a property, by its name
+unfoldable pub lone_file : Reads (List ℕ)
+lone_file ws = do
+  w ← next ws
+  opened ← (if is_incbin w.0 then Some w.1 else None)
+  inner ← expect ParenOpen opened
+  n ← string inner
+  closed ← expect ParenClose n.1
+  rest ← expect Semicolon closed
+  Some (n.0, rest)

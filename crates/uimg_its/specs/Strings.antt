@@ -1,0 +1,52 @@
+-- Strings and their escapes (Devicetree Specification, section 6.3, with the escapes of this profile).
+use Rattle.std.specs.Prelude.{ℕ, zero, suc, List, [], ◌∷◌, Option, Some, None, ◌&&◌, nat_le, ◌==◌, if◌then◌else◌}
+use Rattle.std.specs.Option.{option_map}
+use Rattle.uimg_its.specs.Options.{◌>>=◌}
+use Rattle.uimg_its.specs.Digits.{hex_pair}
+
+-- \0, unless an octal digit follows it
+abbrev pub zero_escape : List ℕ → Option (ℕ × ℕ)
+zero_escape [] = Some (0, 1)
+zero_escape (b ∷ bs) = if nat_le 48 b && nat_le b 55 then None else Some (0, 1)
+
+-- \x and two hexadecimal digits
+abbrev pub hex_escape : List ℕ → Option (ℕ × ℕ)
+hex_escape [] = None
+hex_escape (h ∷ []) = None
+hex_escape (h ∷ l ∷ bs) = do
+  b ← hex_pair h l
+  Some (b, 3)
+
+-- What an escape stands for, which is one of \\ \" \n \t \r \0 and \x, and how many bytes it takes behind its backslash.
+unfoldable pub escape : List ℕ → Option (ℕ × ℕ)
+escape [] = None
+escape (c ∷ bs) =
+    if c == 92 then Some (92, 1)
+    else if c == 34 then Some (34, 1)
+    else if c == 110 then Some (10, 1)
+    else if c == 116 then Some (9, 1)
+    else if c == 114 then Some (13, 1)
+    else if c == 48 then zero_escape bs
+    else if c == 120 then hex_escape bs
+    else None
+
+-- What the byte a stands for in a string before the bytes bs, and how many of these it takes: an escape, or itself.
+unfoldable pub unit : ℕ → List ℕ → Option (ℕ × ℕ)
+unit a bs = if a == 92 then escape bs else Some (a, 0)
+
+-- How many bytes a string has behind its opening quote, the first k of them left out and its closing quote counted. There
+-- is none where no quote closes it, or where an escape is none of these.
+unfoldable pub string_end : ℕ → List ℕ → Option ℕ
+string_end k [] = None
+string_end (suc k) (b ∷ bs) = option_map suc (string_end k bs)
+string_end zero (b ∷ bs) =
+    if b == 34 then Some 1
+    else elim (unit b bs) as (λ _. Option ℕ) [ None ↦ None | Some u ↦ option_map suc (string_end u.1 bs) ]
+
+-- The bytes that it stands for, the first k left out likewise.
+unfoldable pub string_bytes : ℕ → List ℕ → List ℕ
+string_bytes k [] = []
+string_bytes (suc k) (b ∷ bs) = string_bytes k bs
+string_bytes zero (b ∷ bs) =
+    if b == 34 then []
+    else elim (unit b bs) as (λ _. List ℕ) [ None ↦ [] | Some u ↦ u.0 ∷ string_bytes u.1 bs ]

@@ -1,0 +1,152 @@
+ghost use Rattle.std.specs.Prelude.{◌≡◌, ◌<◌, [], List, IfOk, IsTrue, length, false};
+ghost use Rattle.uimg_blob.specs.Plain.{Nodes};
+ghost use Rattle.uimg_tree.specs.Content.{AreKept, in_full};
+ghost use Rattle.uimg_tree.specs.Trees.{node_of};
+ghost use Rattle.uimg_tree.specs.UsingFiles.{UsesFiles};
+ghost use Rattle.uimg_its.specs.Words.{Word, words};
+ghost use Rattle.uimg_its.specs.Answers.{Gives, is_outside, tells_no_file, is_no_file};
+ghost use Rattle.uimg_its.specs.Parts.{FileBytes, parts_of};
+ghost use Rattle.uimg_its.specs.FileValues.{IsSoundNode, FilesAtData};
+ghost use Rattle.uimg_its.specs.Seen.{word_of};
+ghost use Rattle.uimg_its.specs.Compiled.{Accepts, finds_no_file};
+ghost use Rattle.uimg_its.specs.Reader.{version, is_version, alone, source};
+ghost use Rattle.uimg_its.specs.Grammar.{Spells};
+
+use crate::fault::{Construct, ItsFault, Kind};
+use crate::lexer::{expect, is_mark, need_word, next_word};
+use crate::lines::line_of;
+use crate::nodes::node;
+use crate::stop::{Place, Stop, unexpected};
+use crate::words::{Mark, Token, Word as Found};
+use std::alloc::Allocator;
+use uimg_base::Files;
+use uimg_tree::{Node, Tree};
+
+/// The most levels of nodes that a tree has, the root being at the first.
+const MOST_LEVELS: u8 = 64;
+
+// Whether a word is the directive that begins a source.
+fn is_version(word: Found<'_>) -> bool
+    ensures { result ≡ is_version (word_of word.entry) }
+{
+    match word {
+        Found::Directive(name) => name == b"dts-v1".as_slice(),
+        _ => false,
+    }
+}
+
+// The text behind the directive that begins a source.
+fn version(text: &[u8]) -> Result<&[u8], Stop>
+    ensures gives { Gives (λ x. words x.now) result (version (words text.now)) }
+    ensures no_file { is_no_file result ≡ false }
+{
+    let (token, rest) = need_word(text)?;
+    if is_version(token.word) {
+        Ok(rest)
+    } else {
+        Err(unexpected(token, Place::Outside))
+    }
+}
+
+// A word stands behind the root: the text behind the word tells whether it begins a second root.
+fn second_root(token: Token<'_>, rest: &[u8]) -> Stop
+    ensures in_text { is_outside result.kind ≡ false }
+    ensures no_file { tells_no_file result.kind ≡ false }
+{
+    if is_mark(Mark::Slash, token.word) && expect(Mark::BraceOpen, Place::Outside, rest).is_ok() {
+        Stop {
+            kind: Kind::OutOfProfile(Construct::SecondRoot),
+            left: token.left,
+        }
+    } else {
+        unexpected(token, Place::Outside)
+    }
+}
+
+// The root, if no word is left.
+fn alone<A: Allocator>(root: Node<A>, text: &[u8]) -> Result<Node<A>, Stop>
+    ensures root { IfOk result (λ node. node ≡ root) }
+    ensures gives { (files : FileBytes) →
+        Gives (parts_of files) result (alone (parts_of files root) (words text.now)) }
+    ensures no_file { is_no_file result ≡ false }
+{
+    match next_word(text)? {
+        None => Ok(root),
+        Some((token, rest)) => Err(second_root(token, rest)),
+    }
+}
+
+// The root of the tree of a source text.
+#[tactic(auto, unfolding(crate::specs::Reader::source))]
+fn source<F: Files, A: Allocator + Copy>(
+    alloc: A,
+    files: &mut F,
+    text: &[u8],
+) -> Result<Node<A>, Stop>
+    ensures files { UsesFiles (is_no_file result) (F.map files.old) (F.map files.new) }
+    ensures gives { IsTrue (F.map files.old).honest →
+        Gives (parts_of (F.map files.old).bytes) result
+        (source (F.map files.old).bytes (words text.now)) }
+    ensures sound { IfOk result (λ root. IsSoundNode (F.map files.old) root) }
+{
+    let behind = version(text)?;
+    let behind = expect(Mark::Semicolon, Place::Outside, behind)?;
+    let behind = expect(Mark::Slash, Place::Outside, behind)?;
+    let inner = expect(Mark::BraceOpen, Place::Outside, behind)?;
+    let (root, behind) = node(alloc, files, MOST_LEVELS, b"", inner.len(), inner)?;
+    let rest = expect(Mark::Semicolon, Place::Outside, behind)?;
+    alone(root, rest)
+}
+
+/// Compiles a source text to its tree.
+///
+/// The text is image-tree source: devicetree source (Devicetree Specification 0.4, chapter 6, and dtc's
+/// `/incbin/`) with one root and at most 64 levels, and without the constructs that [`Construct`]
+/// names. A value `/incbin/("name")` is the bytes of that file. Where it is the whole value of a
+/// property named `data`, the file is opened for its size alone and stays a [`Value::File`]; any
+/// other is read whole.
+///
+/// The fault is that of the first word at which the text cannot go on. `NoFile` comes exactly where an
+/// open was refused, `ReadFailed` where a read of an opened file failed, `OutOfMemory` where memory was
+/// refused. Over honest files the others come only where the text spells no tree. The time that it
+/// takes grows with the text and the files that are read, and nodes are read by calls inside one
+/// another, at most 64 deep.
+///
+/// [`Construct`]: crate::Construct
+/// [`Value::File`]: crate::Value::File
+pub fn compile<F: Files, A: Allocator + Copy>(
+    alloc: A,
+    text: &[u8],
+    files: &mut F,
+) -> Result<Tree<A>, ItsFault>
+    // The files are what they were, and `NoFile` comes exactly where they refused an open.
+    ensures files { UsesFiles (finds_no_file result) (F.map files.old) (F.map files.new) }
+    // Only properties named `data` are files.
+    ensures at_data { IfOk result (λ tree. FilesAtData (node_of tree.root)) }
+    // Each of these files is there, with the size that is kept.
+    ensures kept { IsTrue (F.map files.old).honest → IfOk result (λ tree.
+        AreKept (F.map files.old).bytes (node_of tree.root)) }
+    // The text spells the tree.
+    ensures only { IsTrue (F.map files.old).honest → IfOk result (λ tree.
+        Spells (words text.now) (F.map files.old).bytes
+        (in_full (F.map files.old).bytes (node_of tree.root))) }
+    // A tree that the text spells is the answer, unless a file or memory is not there. So any other
+    // refusal comes only where the text spells none.
+    ensures accepted { IsTrue (F.map files.old).honest → (t : Nodes) →
+        Spells (words text.now) (F.map files.old).bytes t → Accepts (F.map files.old).bytes result t }
+{
+    match source(alloc, files, text) {
+        Ok(root) => Ok(Tree { root }),
+        Err(stop) => Err(ItsFault {
+            kind: stop.kind,
+            line: line_of(text, stop.left),
+        }),
+    }
+}
+
+/// A list of words spells at most one tree: the contract is this law.
+pub fn one_tree()
+    ensures { (ws : List Word) (files : FileBytes) (t u : Nodes) →
+        Spells ws files t → Spells ws files u → t ≡ u }
+{
+}

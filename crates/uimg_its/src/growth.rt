@@ -1,0 +1,68 @@
+ghost use Rattle.std.specs.Prelude.{◌≡◌, ◌++◌, ◌∷◌, [], OnOk, IfOk, true, false};
+ghost use Rattle.uimg_its.specs.Strings.{string_bytes};
+ghost use Rattle.uimg_its.specs.Answers.{IsOutside, is_outside, tells_no_file, is_no_file};
+
+use crate::fault::Kind;
+use crate::stop::Stop;
+use crate::strings::push_string;
+use std::alloc::Allocator;
+use uimg_tree::ByteList;
+
+/// Memory was refused at a word.
+pub(crate) fn out_of_memory(left: usize) -> Stop
+    ensures outside { is_outside result.kind ≡ true }
+    ensures no_file { tells_no_file result.kind ≡ false }
+{
+    Stop {
+        kind: Kind::OutOfMemory,
+        left,
+    }
+}
+
+/// Appends bytes of a word.
+pub(crate) fn append<A: Allocator>(
+    out: &mut Vec<u8, A>,
+    bytes: &[u8],
+    left: usize,
+) -> Result<(), Stop>
+    ensures appended { OnOk result (out.new.items ≡ out.old.items ++ bytes.now) }
+    ensures outside { IsOutside result }
+    ensures no_file { is_no_file result ≡ false }
+{
+    match out.extend_from_slice(bytes) {
+        Ok(()) => Ok(()),
+        Err(_) => Err(out_of_memory(left)),
+    }
+}
+
+/// Appends what a string stands for, from the text behind its opening quote.
+pub(crate) fn append_string<A: Allocator>(
+    out: &mut Vec<u8, A>,
+    text: &[u8],
+    left: usize,
+) -> Result<(), Stop>
+    ensures appended { OnOk result (out.new.items ≡ out.old.items ++ string_bytes 0 text.now) }
+    ensures outside { IsOutside result }
+    ensures no_file { is_no_file result ≡ false }
+{
+    match push_string(out, text) {
+        Ok(()) => Ok(()),
+        Err(_) => Err(out_of_memory(left)),
+    }
+}
+
+/// A copy of a name.
+pub(crate) fn copied<A: Allocator>(
+    alloc: A,
+    name: &[u8],
+    left: usize,
+) -> Result<ByteList<A>, Stop>
+    ensures name { IfOk result (λ l. l ≡ name.now) }
+    ensures outside { IsOutside result }
+    ensures no_file { is_no_file result ≡ false }
+{
+    match Vec::from_slice(alloc, name) {
+        Ok(bytes) => Ok(ByteList::of(bytes)),
+        Err(_) => Err(out_of_memory(left)),
+    }
+}

@@ -1,0 +1,221 @@
+ghost use Rattle.std.specs.Prelude.{◌≡◌, ◌<◌, Some, IfOk, IsTrue, length, codes, false, is_err};
+ghost use Rattle.uimg_base.specs.Device.{RisesIf};
+ghost use Rattle.uimg_tree.specs.UsingFiles.{UsesFiles};
+ghost use Rattle.uimg_tree.specs.Content.{bytes_in};
+ghost use Rattle.uimg_tree.specs.Properties.{content};
+ghost use Rattle.uimg_its.specs.Strings.{string_bytes};
+ghost use Rattle.uimg_its.specs.Words.{words};
+ghost use Rattle.uimg_its.specs.Answers.{Gives, IsOutside, is_outside, tells_no_file, is_no_file};
+ghost use Rattle.uimg_its.specs.Steps.{with_front};
+ghost use Rattle.uimg_its.specs.Reader.{string, string_in, file, expect, is_incbin, lone_file};
+ghost use Rattle.uimg_its.specs.FileValues.{IsSoundIn};
+ghost use Rattle.uimg_its.specs.Seen.{word_of};
+ghost use Rattle.uimg_its.specs.declared.words.Mark.TheVariants.{ParenClose};
+
+use crate::fault::{Construct, Kind};
+use crate::growth::{append, append_string, out_of_memory};
+use crate::lexer::{expect, is_mark, need_word};
+use crate::stop::{Place, Stop, unexpected};
+use crate::words::{Mark, Token, Word};
+use std::alloc::Allocator;
+use uimg_base::{Files, MoveFault, Out, Source, WINDOW, copy_through};
+use uimg_tree::{ByteList, Value};
+
+// All the bytes of a source that a word names.
+fn read_whole<S: Source, A: Allocator>(
+    alloc: A,
+    source: &mut S,
+    left: usize,
+) -> Result<Vec<u8, A>, Stop>
+    ensures bytes { IsTrue (S.device source.old).honest →
+        IfOk result (λ v. v.items ≡ (S.device source.old).bytes) }
+    ensures outside { IsOutside result }
+    ensures no_file { is_no_file result ≡ false }
+{
+    let read_failed = Stop {
+        kind: Kind::ReadFailed,
+        left,
+    };
+    let Ok(size) = source.size() else {
+        return Err(read_failed);
+    };
+    let mut window = [0; WINDOW];
+    let mut out = Out::new(Vec::new(alloc));
+    match copy_through(source, &mut window, 0, size, &mut out) {
+        Ok(()) => Ok(out.into_inner()),
+        Err(MoveFault::Read) => Err(read_failed),
+        Err(MoveFault::Put) => Err(out_of_memory(left)),
+    }
+}
+
+// The bytes of the file of a name.
+fn read_file<F: Files, A: Allocator>(
+    alloc: A,
+    files: &mut F,
+    name: &[u8],
+    left: usize,
+) -> Result<Vec<u8, A>, Stop>
+    ensures files { UsesFiles (is_no_file result) (F.map files.old) (F.map files.new) }
+    ensures gives { IsTrue (F.map files.old).honest →
+        Gives (λ v. v.items) result ((F.map files.old).bytes name.now) }
+{
+    match files.open(name) {
+        Ok(mut source) => read_whole(alloc, &mut source, left),
+        Err(_) => Err(Stop {
+            kind: Kind::NoFile,
+            left,
+        }),
+    }
+}
+
+// The text behind the opening quote of a string.
+fn string_in(token: Token<'_>) -> Result<&[u8], Stop>
+    ensures gives { Gives (λ s. string_bytes 0 s.now) result (string_in (word_of token.entry.word)) }
+    ensures no_file { is_no_file result ≡ false }
+{
+    match token.word {
+        Word::Text(string) => Ok(string),
+        _ => Err(unexpected(token, Place::Body)),
+    }
+}
+
+// The same for a string at the front of a text, and the text behind it.
+fn string(text: &[u8]) -> Result<(&[u8], &[u8]), Stop>
+    ensures gives { Gives (λ x. (string_bytes 0 x.0.now, words x.1.now)) result
+        (string (words text.now)) }
+    ensures no_file { is_no_file result ≡ false }
+    ensures shorter { IfOk result (λ x. length x.1.now < length text.now) }
+{
+    let (token, rest) = need_word(text)?;
+    let string = string_in(token)?;
+    Ok((string, rest))
+}
+
+// A word behind the name of a file that does not close the parentheses.
+fn not_closed(token: Token<'_>) -> Stop
+    ensures in_text { is_outside result.kind ≡ false }
+    ensures no_file { tells_no_file result.kind ≡ false }
+{
+    match token.word {
+        Word::Mark(Mark::Comma) => Stop {
+            kind: Kind::OutOfProfile(Construct::IncbinRange),
+            left: token.left,
+        },
+        _ => unexpected(token, Place::Body),
+    }
+}
+
+// The text behind the parenthesis that closes the name of a file.
+fn close(text: &[u8]) -> Result<&[u8], Stop>
+    ensures gives { Gives (λ x. words x.now) result (expect ParenClose (words text.now)) }
+    ensures no_file { is_no_file result ≡ false }
+    ensures shorter { IfOk result (λ x. length x.now < length text.now) }
+{
+    let (token, rest) = need_word(text)?;
+    if is_mark(Mark::ParenClose, token.word) {
+        Ok(rest)
+    } else {
+        Err(not_closed(token))
+    }
+}
+
+/// Appends the bytes of a file, which is named in parentheses behind the word `/incbin/`, and gives the
+/// text behind them.
+#[tactic(auto, unfolding(crate::specs::Reader::file))]
+pub(crate) fn file<'a, F: Files, A: Allocator + Copy>(
+    alloc: A,
+    files: &mut F,
+    out: &mut Vec<u8, A>,
+    left: usize,
+    text: &'a [u8],
+) -> Result<&'a [u8], Stop>
+    ensures files { UsesFiles (is_no_file result) (F.map files.old) (F.map files.new) }
+    ensures gives { IsTrue (F.map files.old).honest →
+        Gives (λ rest. (out.new.items, words rest.now)) result
+        (with_front out.old.items (file (F.map files.old).bytes (words text.now))) }
+    ensures shorter { IfOk result (λ rest. length rest.now < length text.now) }
+{
+    let inner = expect(Mark::ParenOpen, Place::Body, text)?;
+    let (quoted, behind) = string(inner)?;
+    let rest = close(behind)?;
+    let mut name = Vec::new(alloc);
+    append_string(&mut name, quoted, left)?;
+    let bytes = read_file(alloc, files, &name, left)?;
+    append(out, &bytes, left)?;
+    Ok(rest)
+}
+
+// Whether a word is the directive of a file.
+fn is_incbin(word: Word<'_>) -> bool
+    ensures { result ≡ is_incbin (word_of word.entry) }
+{
+    match word {
+        Word::Directive(name) => name == b"incbin".as_slice(),
+        _ => false,
+    }
+}
+
+/// A file that is the whole value of a property.
+#[derive(Clone, Copy, Debug)]
+pub(crate) struct LoneFile<'a> {
+    /// Its name, by the text behind the opening quote.
+    pub(crate) name: &'a [u8],
+    /// How many bytes of the text were left at the word `/incbin/`.
+    pub(crate) left: usize,
+    /// The text behind the property.
+    pub(crate) rest: &'a [u8],
+}
+
+/// The file that is the whole value of a property, from behind the equals sign. A refusal says that the
+/// value is something else. No more than six words are looked at.
+#[tactic(auto, unfolding(crate::specs::Reader::lone_file))]
+pub(crate) fn lone_file(text: &[u8]) -> Result<LoneFile<'_>, Stop>
+    ensures gives { Gives (λ l. (string_bytes 0 l.name.now, words l.rest.now)) result
+        (lone_file (words text.now)) }
+    ensures shorter { IfOk result (λ l. length l.rest.now < length text.now) }
+{
+    let (token, opened) = need_word(text)?;
+    if !is_incbin(token.word) {
+        return Err(unexpected(token, Place::Body));
+    }
+    let inner = expect(Mark::ParenOpen, Place::Body, opened)?;
+    let (name, behind) = string(inner)?;
+    let closed = close(behind)?;
+    let rest = expect(Mark::Semicolon, Place::Body, closed)?;
+    Ok(LoneFile {
+        name,
+        left: token.left,
+        rest,
+    })
+}
+
+/// The value of a property named `data` that is one file: its name and its size. None of its bytes is
+/// asked for.
+pub(crate) fn kept<F: Files, A: Allocator>(
+    files: &mut F,
+    name: Vec<u8, A>,
+    left: usize,
+) -> Result<Value<A>, Stop>
+    ensures files { UsesFiles (is_no_file result) (F.map files.old) (F.map files.new) }
+    ensures outside { IsOutside result }
+    ensures there { IsTrue (F.map files.old).honest → IfOk result (λ v.
+        (F.map files.old).bytes name.items ≡ Some (bytes_in (F.map files.old).bytes (content v))) }
+    ensures sound { IfOk result (λ v. IsSoundIn (F.map files.old) (codes "data") (content v)) }
+{
+    let Ok(mut source) = files.open(&name) else {
+        return Err(Stop {
+            kind: Kind::NoFile,
+            left,
+        });
+    };
+    match source.size() {
+        Ok(size) => Ok(Value::File {
+            name: ByteList::of(name),
+            size,
+        }),
+        Err(_) => Err(Stop {
+            kind: Kind::ReadFailed,
+            left,
+        }),
+    }
+}

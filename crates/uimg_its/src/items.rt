@@ -1,0 +1,131 @@
+ghost use Rattle.std.specs.Prelude.{◌≡◌, ◌<◌, IfOk, length, false};
+ghost use Rattle.std.specs.Option.{option_map};
+ghost use Rattle.uimg_its.specs.Words.{words};
+ghost use Rattle.uimg_its.specs.Answers.{Gives, is_outside, tells_no_file, is_no_file};
+ghost use Rattle.uimg_its.specs.Reader.{item_of, item_after, name_in, labelled, item, named};
+ghost use Rattle.uimg_its.specs.Seen.{word_of, item_is};
+
+use crate::fault::Kind;
+use crate::lexer::{is_mark, need_word};
+use crate::stop::{Place, Stop, unexpected};
+use crate::words::{Mark, Token, Word};
+
+/// The most bytes that a name of a node or a property has.
+const LONGEST_NAME: usize = 255;
+
+/// What stands in a body.
+#[derive(Clone, Copy, Debug)]
+pub(crate) enum Item<'a> {
+    /// A property of this name without a value.
+    Empty(&'a [u8]),
+    /// A property of this name with a value, up to its equals sign.
+    Assigned(&'a [u8]),
+    /// A child of this name, up to its opening brace.
+    Opens(&'a [u8]),
+    /// The body's end.
+    Closes,
+}
+
+/// An item, its last word, and the text behind it.
+#[derive(Clone, Copy, Debug)]
+pub(crate) struct Head<'a> {
+    pub(crate) item: Item<'a>,
+    pub(crate) last: Token<'a>,
+    pub(crate) rest: &'a [u8],
+}
+
+fn item_of<'a>(name: &'a [u8], token: Token<'a>) -> Result<Item<'a>, Stop>
+    ensures gives { Gives item_is result (item_of name.now (word_of token.entry.word)) }
+    ensures no_file { is_no_file result ≡ false }
+{
+    match token.word {
+        Word::Mark(Mark::Semicolon) => Ok(Item::Empty(name)),
+        Word::Mark(Mark::Equals) => Ok(Item::Assigned(name)),
+        Word::Mark(Mark::BraceOpen) => Ok(Item::Opens(name)),
+        _ => Err(unexpected(token, Place::Body)),
+    }
+}
+
+// A name of an item is too long.
+fn long_name(left: usize) -> Stop
+    ensures in_text { is_outside result.kind ≡ false }
+    ensures no_file { tells_no_file result.kind ≡ false }
+{
+    Stop {
+        kind: Kind::BadSyntax,
+        left,
+    }
+}
+
+// The item that a name begins, by the word behind it; `None` where the name is a label.
+fn item_after<'a>(
+    name: &'a [u8],
+    left: usize,
+    token: Token<'a>,
+) -> Result<Option<Item<'a>>, Stop>
+    ensures gives { Gives (option_map item_is) result (item_after name.now (word_of token.entry.word)) }
+    ensures no_file { is_no_file result ≡ false }
+{
+    match token.word {
+        Word::Mark(Mark::Colon) => Ok(None),
+        _ if name.len() > LONGEST_NAME => Err(long_name(left)),
+        _ => Ok(Some(item_of(name, token)?)),
+    }
+}
+
+fn name_in(token: Token<'_>) -> Result<&[u8], Stop>
+    ensures gives { Gives (λ n. n.now) result (name_in (word_of token.entry.word)) }
+    ensures no_file { is_no_file result ≡ false }
+{
+    match token.word {
+        Word::Name(name) => Ok(name),
+        _ => Err(unexpected(token, Place::Body)),
+    }
+}
+
+// A label, or a name and what it begins; the word behind the name, and the text behind that.
+#[tactic(auto, unfolding(crate::specs::Reader::labelled))]
+fn labelled(text: &[u8]) -> Result<(Option<Item<'_>>, Token<'_>, &[u8]), Stop>
+    ensures gives { Gives (λ x. (option_map item_is x.0, words x.2.now)) result
+        (labelled (words text.now)) }
+    ensures no_file { is_no_file result ≡ false }
+    ensures shorter { IfOk result (λ x. length x.2.now < length text.now) }
+{
+    let (first, behind) = need_word(text)?;
+    let name = name_in(first)?;
+    let (second, rest) = need_word(behind)?;
+    let item = item_after(name, first.left, second)?;
+    Ok((item, second, rest))
+}
+
+// A name and what it begins, behind labels.
+fn named(text: &[u8]) -> Result<Head<'_>, Stop>
+    ensures gives { Gives (λ h. (item_is h.item, words h.rest.now)) result (named (words text.now)) }
+    ensures no_file { is_no_file result ≡ false }
+    ensures shorter { IfOk result (λ h. length h.rest.now < length text.now) }
+{
+    let mut left = text;
+    loop {
+        let (found, last, rest) = labelled(left)?;
+        if let Some(item) = found {
+            return Ok(Head { item, last, rest });
+        }
+        left = rest;
+    }
+}
+
+/// An item of a body, or its end.
+#[tactic(auto, unfolding(crate::specs::Reader::item))]
+pub(crate) fn read_item(text: &[u8]) -> Result<Head<'_>, Stop>
+    ensures gives { Gives (λ h. (item_is h.item, words h.rest.now)) result (item (words text.now)) }
+    ensures no_file { is_no_file result ≡ false }
+    ensures shorter { IfOk result (λ h. length h.rest.now < length text.now) }
+{
+    let (last, rest) = need_word(text)?;
+    if is_mark(Mark::BraceClose, last.word) {
+        let item = Item::Closes;
+        Ok(Head { item, last, rest })
+    } else {
+        named(text)
+    }
+}

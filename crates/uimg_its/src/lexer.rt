@@ -1,0 +1,92 @@
+ghost use Rattle.std.specs.Prelude.{◌≡◌, ◌<◌, length, IfSome, IfOk, false, OnErr};
+ghost use Rattle.uimg_its.specs.Words.{words};
+ghost use Rattle.uimg_its.specs.Seen.{word_of, Sees};
+ghost use Rattle.uimg_its.specs.Answers.{Gives, is_outside, tells_no_file, is_no_file};
+ghost use Rattle.uimg_its.specs.Reader.{next, is_mark, expect};
+
+use crate::bytes::after;
+use crate::fault::Kind;
+use crate::pieces::{Piece, first_piece};
+use crate::stop::{Place, Stop, ends_early, unexpected};
+use crate::strings::string_fault;
+use crate::words::{Mark, Token, Word};
+
+// No word begins at the front of a text.
+fn stray(text: &[u8]) -> Stop
+    ensures in_text { is_outside result.kind ≡ false }
+    ensures no_file { tells_no_file result.kind ≡ false }
+{
+    let kind = match text {
+        [b'"', rest @ ..] => string_fault(rest),
+        _ => Kind::BadToken,
+    };
+    Stop {
+        kind,
+        left: text.len(),
+    }
+}
+
+/// The first word of a text, and the text behind it.
+pub(crate) fn next_word(text: &[u8]) -> Result<Option<(Token<'_>, &[u8])>, Stop>
+    ensures sees { Sees result (words text.now) }
+    ensures no_file { is_no_file result ≡ false }
+    ensures shorter { IfOk result (λ found.
+        IfSome found (λ x. length x.1.now < length text.now)) }
+{
+    let mut rest = text;
+    while !rest.is_empty() {
+        match first_piece(rest) {
+            Piece::Gap(more) => rest = after(rest, more + 1),
+            Piece::Word(word, more) => {
+                let token = Token {
+                    word,
+                    left: rest.len(),
+                };
+                return Ok(Some((token, after(rest, more + 1))));
+            }
+            Piece::Stray => return Err(stray(rest)),
+        }
+    }
+    Ok(None)
+}
+
+/// The next word, which has to be there, and the text behind it.
+pub(crate) fn need_word(text: &[u8]) -> Result<(Token<'_>, &[u8]), Stop>
+    ensures gives { Gives (λ x. (word_of x.0.word, words x.1.now)) result (next (words text.now)) }
+    ensures no_file { is_no_file result ≡ false }
+    ensures shorter { IfOk result (λ x. length x.1.now < length text.now) }
+{
+    match next_word(text)? {
+        Some(found) => Ok(found),
+        None => Err(ends_early()),
+    }
+}
+
+/// Whether a word is that mark, which is none of a list, a comma or an equals sign.
+pub(crate) fn is_mark(mark: Mark, word: Word<'_>) -> bool
+    ensures { result ≡ is_mark mark (word_of word.entry) }
+{
+    match (mark, word) {
+        (Mark::Slash, Word::Mark(Mark::Slash)) => true,
+        (Mark::BraceOpen, Word::Mark(Mark::BraceOpen)) => true,
+        (Mark::BraceClose, Word::Mark(Mark::BraceClose)) => true,
+        (Mark::Semicolon, Word::Mark(Mark::Semicolon)) => true,
+        (Mark::ParenOpen, Word::Mark(Mark::ParenOpen)) => true,
+        (Mark::ParenClose, Word::Mark(Mark::ParenClose)) => true,
+        _ => false,
+    }
+}
+
+/// The text behind a mark, which has to be there.
+pub(crate) fn expect(mark: Mark, place: Place, text: &[u8]) -> Result<&[u8], Stop>
+    ensures gives { Gives (λ x. words x.now) result (expect mark (words text.now)) }
+    ensures no_file { is_no_file result ≡ false }
+    ensures shorter { IfOk result (λ x. length x.now < length text.now) }
+{
+    let (token, rest) = need_word(text)?;
+    if is_mark(mark, token.word) {
+        Ok(rest)
+    } else {
+        Err(unexpected(token, place))
+    }
+}

@@ -1,0 +1,27 @@
+//! Image-tree source, compiled to trees.
+#![tactic(auto)]
+
+mod bytes;
+mod compiler;
+mod fault;
+mod growth;
+mod incbin;
+mod items;
+mod lexer;
+mod lines;
+mod lists;
+mod nodes;
+mod numbers;
+mod pieces;
+mod properties;
+mod stop;
+mod strings;
+#[cfg(test)]
+mod tests;
+mod values;
+mod words;
+
+pub use compiler::{compile, one_tree};
+pub use fault::{Construct, ItsFault, Kind};
+pub use uimg_base::{Files, MemFiles};
+pub use uimg_tree::{ByteList, Node, Nodes, Prop, Props, Tree, Value};

@@ -1,0 +1,139 @@
+ghost use Rattle.std.specs.Prelude.{◌≡◌, ◌<◌, ◌≤◌, ◌++◌, IfOk, length, false};
+ghost use Rattle.std.specs.Option.{option_map};
+ghost use Rattle.uimg_its.specs.Words.{words};
+ghost use Rattle.uimg_its.specs.Cells.{element};
+ghost use Rattle.uimg_its.specs.Answers.{Gives, is_outside, tells_no_file, is_no_file};
+ghost use Rattle.uimg_its.specs.Steps.{with_front, step_front, before};
+ghost use Rattle.uimg_its.specs.Reader.{element_word, element_step, listed};
+ghost use Rattle.uimg_its.specs.Seen.{word_of};
+ghost use Rattle.uimg_its.specs.declared.lists.Listed.TheVariants.{Cells, Bytes};
+
+use crate::fault::Kind;
+use crate::growth::append;
+use crate::lexer::need_word;
+use crate::numbers::{cell, hex_pair};
+use crate::stop::{Place, Stop, unexpected};
+use crate::words::{Mark, Token, Word};
+use std::alloc::Allocator;
+
+/// What a list has: cells between `<` and `>`, or bytes between `[` and `]`.
+#[derive(Clone, Copy, Debug, PartialEq, Eq)]
+pub(crate) enum Listed {
+    Cells,
+    Bytes,
+}
+
+// The name word of an element of a list, or `None` for the list's end.
+fn element_word(list: Listed, token: Token<'_>) -> Result<Option<&[u8]>, Stop>
+    ensures gives { Gives (option_map (λ n. n.now)) result
+        (element_word list (word_of token.entry.word)) }
+    ensures no_file { is_no_file result ≡ false }
+{
+    match (list, token.word) {
+        (Listed::Cells, Word::Mark(Mark::Greater)) => Ok(None),
+        (Listed::Bytes, Word::Mark(Mark::BracketClose)) => Ok(None),
+        (_, Word::Name(name)) => Ok(Some(name)),
+        (Listed::Cells, _) => Err(unexpected(token, Place::Cells)),
+        (Listed::Bytes, _) => Err(unexpected(token, Place::Body)),
+    }
+}
+
+// A word is no number, or no bytes.
+fn bad_number(left: usize) -> Stop
+    ensures in_text { is_outside result.kind ≡ false }
+    ensures no_file { tells_no_file result.kind ≡ false }
+{
+    Stop {
+        kind: Kind::BadNumber,
+        left,
+    }
+}
+
+// Appends a cell.
+fn push_cell<A: Allocator>(out: &mut Vec<u8, A>, name: &[u8], left: usize) -> Result<(), Stop>
+    ensures gives { Gives (λ _. out.new.items) result (before out.old.items (element Cells name.now)) }
+    ensures no_file { is_no_file result ≡ false }
+{
+    match cell(name) {
+        Some(n) => append(out, &n.to_be_bytes(), left),
+        None => Err(bad_number(left)),
+    }
+}
+
+// Appends bytes.
+fn push_bytes<A: Allocator>(out: &mut Vec<u8, A>, name: &[u8], left: usize) -> Result<(), Stop>
+    ensures gives { Gives (λ _. out.new.items) result (before out.old.items (element Bytes name.now)) }
+    ensures no_file { is_no_file result ≡ false }
+{
+    let mut i = 0;
+    while i < name.len() {
+        if i + 1 == name.len() {
+            return Err(bad_number(left));
+        }
+        match hex_pair(name[i], name[i + 1]) {
+            Some(b) => append(out, &[b], left)?,
+            None => return Err(bad_number(left)),
+        }
+        i += 2;
+    }
+    Ok(())
+}
+
+// Appends an element of a list.
+fn push_element<A: Allocator>(
+    out: &mut Vec<u8, A>,
+    list: Listed,
+    name: &[u8],
+    left: usize,
+) -> Result<(), Stop>
+    ensures gives { Gives (λ _. out.new.items) result (before out.old.items (element list name.now)) }
+    ensures no_file { is_no_file result ≡ false }
+{
+    match list {
+        Listed::Cells => push_cell(out, name, left),
+        Listed::Bytes => push_bytes(out, name, left),
+    }
+}
+
+// Appends the next element of a list: whether it is the list's end, and the text behind it.
+#[tactic(auto, unfolding(crate::specs::Reader::element_step))]
+fn element_step<'a, A: Allocator>(
+    out: &mut Vec<u8, A>,
+    list: Listed,
+    text: &'a [u8],
+) -> Result<(bool, &'a [u8]), Stop>
+    ensures gives { Gives (λ x. (x.0, out.new.items, words x.1.now)) result
+        (step_front out.old.items (element_step list (words text.now))) }
+    ensures no_file { is_no_file result ≡ false }
+    ensures shorter { IfOk result (λ x. length x.1.now < length text.now) }
+{
+    let (token, rest) = need_word(text)?;
+    match element_word(list, token)? {
+        None => Ok((true, rest)),
+        Some(name) => {
+            push_element(out, list, name, token.left)?;
+            Ok((false, rest))
+        }
+    }
+}
+
+/// Appends the bytes of a list up to its end, and gives the text behind it.
+pub(crate) fn read_list<'a, A: Allocator>(
+    out: &mut Vec<u8, A>,
+    list: Listed,
+    text: &'a [u8],
+) -> Result<&'a [u8], Stop>
+    ensures gives { Gives (λ rest. (out.new.items, words rest.now)) result
+        (with_front out.old.items (listed list (words text.now))) }
+    ensures no_file { is_no_file result ≡ false }
+    ensures shorter { IfOk result (λ rest. length rest.now < length text.now) }
+{
+    let mut rest = text;
+    loop {
+        let (last, after) = element_step(out, list, rest)?;
+        if last {
+            return Ok(after);
+        }
+        rest = after;
+    }
+}

@@ -1,0 +1,167 @@
+ghost use Rattle.std.specs.Prelude.{◌≡◌, ◌<◌, ◌≤◌, ◌++◌, ◌∷◌, [], false, true, IfSome, IfOk, OnOk, IsTrue, length};
+ghost use Rattle.uimg_base.specs.Named.{FileMap};
+ghost use Rattle.uimg_tree.specs.UsingFiles.{UsesFiles};
+ghost use Rattle.uimg_its.specs.Words.{words};
+ghost use Rattle.uimg_its.specs.Answers.{Gives, IsOutside, is_outside, tells_no_file, is_no_file};
+ghost use Rattle.uimg_its.specs.Parts.{FileBytes, props_in_full, parts_of, all_parts_of, chain, child_found};
+ghost use Rattle.uimg_its.specs.FileValues.{AreSound, IsSoundNode, AreSoundNodes};
+ghost use Rattle.uimg_its.specs.Reader.{inside, child_step, children, node_within};
+
+use crate::fault::{Construct, Kind};
+use crate::growth::{copied, out_of_memory};
+use crate::items::{Item, read_item};
+use crate::lexer::expect;
+use crate::properties::properties;
+use crate::stop::{Place, Stop, unexpected};
+use crate::words::Mark;
+use std::alloc::Allocator;
+use uimg_base::Files;
+use uimg_tree::{ByteList, Node, Nodes, Props};
+
+// A node of these parts.
+fn node_of<A: Allocator>(name: ByteList<A>, props: Props<A>, children: Vec<Node<A>, A>) -> Node<A>
+    ensures parts { (files : FileBytes) → parts_of files result
+        ≡ record { name = name; props = props_in_full files props;
+        children = chain (all_parts_of files children.items) } }
+    ensures sound { (map : FileMap) → AreSound map props → AreSoundNodes map children.items →
+        IsSoundNode map result }
+{
+    Node {
+        name,
+        props,
+        children: Nodes::of(children),
+    }
+}
+
+// Adds a node.
+fn push_node<A: Allocator>(
+    nodes: &mut Vec<Node<A>, A>,
+    node: Node<A>,
+    left: usize,
+) -> Result<(), Stop>
+    ensures pushed { OnOk result ((files : FileBytes) → all_parts_of files nodes.new.items
+        ≡ all_parts_of files nodes.old.items ++ parts_of files node ∷ []) }
+    ensures sound { OnOk result ((files : FileMap) → AreSoundNodes files nodes.old.items →
+        IsSoundNode files node → AreSoundNodes files nodes.new.items) }
+    ensures outside { IsOutside result }
+    ensures no_file { is_no_file result ≡ false }
+{
+    let Ok(()) = nodes.push(node) else {
+        return Err(out_of_memory(left));
+    };
+    Ok(())
+}
+
+// A node is more levels below the root than there may be.
+fn too_deep(left: usize) -> Stop
+    ensures in_text { is_outside result.kind ≡ false }
+    ensures no_file { tells_no_file result.kind ≡ false }
+{
+    Stop {
+        kind: Kind::OutOfProfile(Construct::Depth),
+        left,
+    }
+}
+
+// A node of this name from behind its opening brace, below which there may be so many levels, and the
+// text behind its closing brace.
+#[cycle(tree)]
+#[tactic(auto, unfolding(crate::specs::Reader::inside))]
+fn inside<'a, F: Files, A: Allocator + Copy>(
+    alloc: A,
+    files: &mut F,
+    levels: u8,
+    name: ByteList<A>,
+    text: &'a [u8],
+) -> Result<(Node<A>, &'a [u8]), Stop>
+    ensures files { UsesFiles (is_no_file result) (F.map files.old) (F.map files.new) }
+    ensures gives { IsTrue (F.map files.old).honest → Gives (λ x.
+        (parts_of (F.map files.old).bytes x.0, words x.1.now)) result (inside (F.map files.old).bytes
+        (children levels (F.map files.old).bytes) name (words text.now)) }
+    ensures sound { IfOk result (λ x. IsSoundNode (F.map files.old) x.0) }
+    ensures shorter { IfOk result (λ x. length x.1.now ≤ length text.now) }
+{
+    let (props, behind) = properties(alloc, files, text)?;
+    let (children, rest) = children(alloc, files, levels, behind)?;
+    Ok((node_of(name, props, children), rest))
+}
+
+/// A node of this name from behind its opening brace, itself the first of at most so many levels, and
+/// the text behind its closing brace.
+#[cycle(tree)]
+pub(crate) fn node<'a, F: Files, A: Allocator + Copy>(
+    alloc: A,
+    files: &mut F,
+    levels: u8,
+    name: &'a [u8],
+    left: usize,
+    text: &'a [u8],
+) -> Result<(Node<A>, &'a [u8]), Stop>
+    ensures files { UsesFiles (is_no_file result) (F.map files.old) (F.map files.new) }
+    ensures gives { IsTrue (F.map files.old).honest → Gives (λ x.
+        (parts_of (F.map files.old).bytes x.0, words x.1.now)) result
+        (node_within levels (F.map files.old).bytes name.now (words text.now)) }
+    ensures sound { IfOk result (λ x. IsSoundNode (F.map files.old) x.0) }
+    ensures within { IfOk result (λ x. length x.1.now ≤ length text.now) }
+{
+    if levels == 0 {
+        return Err(too_deep(left));
+    }
+    let name = copied(alloc, name, left)?;
+    inside(alloc, files, levels - 1, name, text)
+}
+
+// The next child, or `None` for the end of the body, and the text behind it.
+#[cycle(tree)]
+#[tactic(auto, unfolding(crate::specs::Reader::child_step))]
+fn child<'a, F: Files, A: Allocator + Copy>(
+    alloc: A,
+    files: &mut F,
+    levels: u8,
+    text: &'a [u8],
+) -> Result<(Option<Node<A>>, &'a [u8]), Stop>
+    ensures files { UsesFiles (is_no_file result) (F.map files.old) (F.map files.new) }
+    ensures gives { IsTrue (F.map files.old).honest → Gives (λ x.
+        child_found (F.map files.old).bytes x.0 (words x.1.now)) result
+        (child_step (node_within levels (F.map files.old).bytes) (words text.now)) }
+    ensures sound { IfOk result (λ x. IfSome x.0 (λ node. IsSoundNode (F.map files.old) node)) }
+    ensures shorter { IfOk result (λ x. length x.1.now < length text.now) }
+{
+    let head = read_item(text)?;
+    match head.item {
+        Item::Opens(name) => {
+            let (found, behind) = node(alloc, files, levels, name, head.last.left, head.rest)?;
+            let rest = expect(Mark::Semicolon, Place::Body, behind)?;
+            Ok((Some(found), rest))
+        }
+        Item::Closes => Ok((None, head.rest)),
+        _ => Err(unexpected(head.last, Place::Body)),
+    }
+}
+
+// The children at the front of a text, up to the end of the body, and the text behind it.
+#[cycle(tree)]
+fn children<'a, F: Files, A: Allocator + Copy>(
+    alloc: A,
+    files: &mut F,
+    levels: u8,
+    text: &'a [u8],
+) -> Result<(Vec<Node<A>, A>, &'a [u8]), Stop>
+    ensures files { UsesFiles (is_no_file result) (F.map files.old) (F.map files.new) }
+    ensures gives { IsTrue (F.map files.old).honest → Gives (λ x.
+        (all_parts_of (F.map files.old).bytes x.0.items, words x.1.now)) result
+        (children levels (F.map files.old).bytes (words text.now)) }
+    ensures sound { IfOk result (λ x. AreSoundNodes (F.map files.old) x.0.items) }
+    ensures within { IfOk result (λ x. length x.1.now ≤ length text.now) }
+{
+    let mut nodes = Vec::new(alloc);
+    let mut rest = text;
+    loop {
+        let (found, after) = child(alloc, files, levels, rest)?;
+        match found {
+            None => return Ok((nodes, after)),
+            Some(node) => push_node(&mut nodes, node, after.len())?,
+        }
+        rest = after;
+    }
+}

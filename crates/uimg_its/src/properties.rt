@@ -1,0 +1,98 @@
+ghost use Rattle.std.specs.Prelude.{◌≡◌, ◌<◌, ◌≤◌, ◌++◌, ◌∷◌, [], false, IfOk, OnOk, IsTrue, length, map};
+ghost use Rattle.uimg_base.specs.Named.{FileMap};
+ghost use Rattle.uimg_tree.specs.UsingFiles.{UsesFiles};
+ghost use Rattle.uimg_tree.specs.Properties.{property, content};
+ghost use Rattle.uimg_its.specs.Words.{words};
+ghost use Rattle.uimg_its.specs.Answers.{Gives, IsOutside, is_no_file};
+ghost use Rattle.uimg_its.specs.Steps.{step_front};
+ghost use Rattle.uimg_its.specs.Parts.{props_in_full};
+ghost use Rattle.uimg_its.specs.FileValues.{IsSoundIn, AreSound};
+ghost use Rattle.uimg_its.specs.Reader.{property_step, properties};
+
+use crate::growth::{copied, out_of_memory};
+use crate::items::{Item, read_item};
+use crate::stop::Stop;
+use crate::values::assigned;
+use std::alloc::Allocator;
+use uimg_base::Files;
+use uimg_tree::{ByteList, Prop, Props, Value};
+
+// Adds a property.
+fn push_property<A: Allocator>(
+    alloc: A,
+    props: &mut Vec<Prop<A>, A>,
+    name: &[u8],
+    value: Value<A>,
+    left: usize,
+) -> Result<(), Stop>
+    ensures pushed { OnOk result (map property props.new.items
+        ≡ map property props.old.items ++ record { name = name.now; value = content value } ∷ []) }
+    ensures sound { OnOk result ((files : FileMap) → AreSound files (map property props.old.items) →
+        IsSoundIn files name.now (content value) → AreSound files (map property props.new.items)) }
+    ensures outside { IsOutside result }
+    ensures no_file { is_no_file result ≡ false }
+{
+    let name = copied(alloc, name, left)?;
+    let Ok(()) = props.push(Prop { name, value }) else {
+        return Err(out_of_memory(left));
+    };
+    Ok(())
+}
+
+// Adds the next property: whether there was none, and the text behind it.
+#[tactic(auto, unfolding(crate::specs::Reader::property_step))]
+fn property_step<'a, F: Files, A: Allocator + Copy>(
+    alloc: A,
+    files: &mut F,
+    props: &mut Vec<Prop<A>, A>,
+    text: &'a [u8],
+) -> Result<(bool, &'a [u8]), Stop>
+    ensures files { UsesFiles (is_no_file result) (F.map files.old) (F.map files.new) }
+    ensures gives { IsTrue (F.map files.old).honest → Gives (λ x.
+        (x.0, props_in_full (F.map files.old).bytes (map property props.new.items), words x.1.now))
+        result (step_front (props_in_full (F.map files.old).bytes (map property props.old.items))
+        (property_step (F.map files.old).bytes (words text.now))) }
+    ensures sound { OnOk result (AreSound (F.map files.old) (map property props.old.items) →
+        AreSound (F.map files.old) (map property props.new.items)) }
+    ensures within { IfOk result (λ x. length x.1.now ≤ length text.now) }
+    ensures shorter { IfOk result (λ x. x.0 ≡ false → length x.1.now < length text.now) }
+{
+    let head = read_item(text)?;
+    match head.item {
+        Item::Empty(name) => {
+            let value = Value::Bytes(ByteList::of(Vec::new(alloc)));
+            push_property(alloc, props, name, value, head.last.left)?;
+            Ok((false, head.rest))
+        }
+        Item::Assigned(name) => {
+            let (value, rest) = assigned(alloc, files, name, head.rest)?;
+            push_property(alloc, props, name, value, head.last.left)?;
+            Ok((false, rest))
+        }
+        Item::Opens(_) | Item::Closes => Ok((true, text)),
+    }
+}
+
+/// The properties at the front of a body, and the text behind them.
+pub(crate) fn properties<'a, F: Files, A: Allocator + Copy>(
+    alloc: A,
+    files: &mut F,
+    text: &'a [u8],
+) -> Result<(Props<A>, &'a [u8]), Stop>
+    ensures files { UsesFiles (is_no_file result) (F.map files.old) (F.map files.new) }
+    ensures gives { IsTrue (F.map files.old).honest → Gives (λ x.
+        (props_in_full (F.map files.old).bytes x.0, words x.1.now)) result
+        (properties (F.map files.old).bytes (words text.now)) }
+    ensures sound { IfOk result (λ x. AreSound (F.map files.old) x.0) }
+    ensures within { IfOk result (λ x. length x.1.now ≤ length text.now) }
+{
+    let mut props = Vec::new(alloc);
+    let mut rest = text;
+    loop {
+        let (last, after) = property_step(alloc, files, &mut props, rest)?;
+        if last {
+            return Ok((Props::of(props), after));
+        }
+        rest = after;
+    }
+}

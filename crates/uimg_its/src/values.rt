@@ -1,0 +1,156 @@
+ghost use Rattle.std.specs.Prelude.{◌≡◌, ◌<◌, ◌≤◌, Some, IfSome, IfOk, IsTrue, length, codes, false};
+ghost use Rattle.uimg_tree.specs.UsingFiles.{UsesFiles};
+ghost use Rattle.uimg_tree.specs.Content.{bytes_in};
+ghost use Rattle.uimg_tree.specs.Properties.{content};
+ghost use Rattle.uimg_its.specs.Words.{words};
+ghost use Rattle.uimg_its.specs.Answers.{Gives, IsOutside, is_no_file};
+ghost use Rattle.uimg_its.specs.Steps.{with_front, step_front};
+ghost use Rattle.uimg_its.specs.Reader.{ends, value_of, value_step, values};
+ghost use Rattle.uimg_its.specs.FileValues.{IsSoundIn};
+ghost use Rattle.uimg_its.specs.Seen.{word_of};
+
+use crate::growth::{append, append_string};
+use crate::incbin::{file, kept, lone_file};
+use crate::lexer::need_word;
+use crate::lists::{Listed, read_list};
+use crate::stop::{Place, Stop, unexpected};
+use crate::words::{Mark, Token, Word};
+use std::alloc::Allocator;
+use uimg_base::Files;
+use uimg_tree::{ByteList, Value};
+
+// Whether a value is the last, by the word behind it.
+fn ends(token: Token<'_>) -> Result<bool, Stop>
+    ensures gives { Gives (λ x. x) result (ends (word_of token.entry.word)) }
+    ensures no_file { is_no_file result ≡ false }
+{
+    match token.word {
+        Word::Mark(Mark::Comma) => Ok(false),
+        Word::Mark(Mark::Semicolon) => Ok(true),
+        _ => Err(unexpected(token, Place::Body)),
+    }
+}
+
+// Appends a value, which a word begins, and gives the text behind it.
+#[tactic(auto, unfolding(crate::specs::Reader::value_of))]
+fn value_of<'a, F: Files, A: Allocator + Copy>(
+    alloc: A,
+    files: &mut F,
+    out: &mut Vec<u8, A>,
+    token: Token<'a>,
+    text: &'a [u8],
+) -> Result<&'a [u8], Stop>
+    ensures files { UsesFiles (is_no_file result) (F.map files.old) (F.map files.new) }
+    ensures gives { IsTrue (F.map files.old).honest →
+        Gives (λ rest. (out.new.items, words rest.now)) result (with_front out.old.items
+        (value_of (F.map files.old).bytes (word_of token.entry.word) (words text.now))) }
+    ensures within { IfOk result (λ rest. length rest.now ≤ length text.now) }
+{
+    match token.word {
+        Word::Mark(Mark::Less) => read_list(out, Listed::Cells, text),
+        Word::Mark(Mark::BracketOpen) => read_list(out, Listed::Bytes, text),
+        Word::Text(string) => {
+            append_string(out, string, token.left)?;
+            append(out, &[0], token.left)?;
+            Ok(text)
+        }
+        Word::Directive(name) if name == b"incbin".as_slice() => {
+            file(alloc, files, out, token.left, text)
+        }
+        _ => Err(unexpected(token, Place::Body)),
+    }
+}
+
+// Appends a value: whether it is the last, and the text behind the word that tells so.
+#[tactic(auto, unfolding(crate::specs::Reader::value_step, crate::specs::Reader::value))]
+fn value_step<'a, F: Files, A: Allocator + Copy>(
+    alloc: A,
+    files: &mut F,
+    out: &mut Vec<u8, A>,
+    text: &'a [u8],
+) -> Result<(bool, &'a [u8]), Stop>
+    ensures files { UsesFiles (is_no_file result) (F.map files.old) (F.map files.new) }
+    ensures gives { IsTrue (F.map files.old).honest →
+        Gives (λ x. (x.0, out.new.items, words x.1.now)) result
+        (step_front out.old.items (value_step (F.map files.old).bytes (words text.now))) }
+    ensures shorter { IfOk result (λ x. length x.1.now < length text.now) }
+{
+    let (first, behind) = need_word(text)?;
+    let behind = value_of(alloc, files, out, first, behind)?;
+    let (second, rest) = need_word(behind)?;
+    let last = ends(second)?;
+    Ok((last, rest))
+}
+
+// Appends values up to their end, and gives the text behind it.
+fn values<'a, F: Files, A: Allocator + Copy>(
+    alloc: A,
+    files: &mut F,
+    out: &mut Vec<u8, A>,
+    text: &'a [u8],
+) -> Result<&'a [u8], Stop>
+    ensures files { UsesFiles (is_no_file result) (F.map files.old) (F.map files.new) }
+    ensures gives { IsTrue (F.map files.old).honest →
+        Gives (λ rest. (out.new.items, words rest.now)) result
+        (with_front out.old.items (values (F.map files.old).bytes (words text.now))) }
+    ensures shorter { IfOk result (λ rest. length rest.now < length text.now) }
+{
+    let mut rest = text;
+    loop {
+        let (last, after) = value_step(alloc, files, out, rest)?;
+        if last {
+            return Ok(after);
+        }
+        rest = after;
+    }
+}
+
+// The value of a property named `data` that is one file, and the text behind the property; `None` where
+// the value is something else.
+fn data_file<'a, F: Files, A: Allocator>(
+    alloc: A,
+    files: &mut F,
+    text: &'a [u8],
+) -> Result<Option<(Value<A>, &'a [u8])>, Stop>
+    ensures files { UsesFiles (is_no_file result) (F.map files.old) (F.map files.new) }
+    ensures gives { IsTrue (F.map files.old).honest → IfOk result (λ found. IfSome found (λ x.
+        values (F.map files.old).bytes (words text.now)
+        ≡ Some (bytes_in (F.map files.old).bytes (content x.0), words x.1.now))) }
+    ensures outside { IsOutside result }
+    ensures sound { IfOk result (λ found. IfSome found (λ x.
+        IsSoundIn (F.map files.old) (codes "data") (content x.0))) }
+    ensures shorter { IfOk result (λ found. IfSome found (λ x. length x.1.now < length text.now)) }
+{
+    let Ok(found) = lone_file(text) else {
+        return Ok(None);
+    };
+    let mut name = Vec::new(alloc);
+    append_string(&mut name, found.name, found.left)?;
+    let value = kept(files, name, found.left)?;
+    Ok(Some((value, found.rest)))
+}
+
+/// The value behind the equals sign of a property, and the text behind the property. Where the property
+/// is named `data` and its value is one file and nothing else, the file stays a file.
+pub(crate) fn assigned<'a, F: Files, A: Allocator + Copy>(
+    alloc: A,
+    files: &mut F,
+    name: &[u8],
+    text: &'a [u8],
+) -> Result<(Value<A>, &'a [u8]), Stop>
+    ensures files { UsesFiles (is_no_file result) (F.map files.old) (F.map files.new) }
+    ensures gives { IsTrue (F.map files.old).honest →
+        Gives (λ x. (bytes_in (F.map files.old).bytes (content x.0), words x.1.now)) result
+        (values (F.map files.old).bytes (words text.now)) }
+    ensures sound { IfOk result (λ x. IsSoundIn (F.map files.old) name.now (content x.0)) }
+    ensures shorter { IfOk result (λ x. length x.1.now < length text.now) }
+{
+    if name == b"data".as_slice() {
+        if let Some(found) = data_file(alloc, files, text)? {
+            return Ok(found);
+        }
+    }
+    let mut value = Vec::new(alloc);
+    let rest = values(alloc, files, &mut value, text)?;
+    Ok((Value::Bytes(ByteList::of(value)), rest))
+}
