@@ -31,10 +31,10 @@ install: bin/uimg
 	install -D -m 755 bin/uimg $(DESTDIR)$(PREFIX)/bin/uimg
 	install -D -m 644 docs/uimg.1 $(DESTDIR)$(PREFIX)/share/man/man1/uimg.1
 
-## make peers    compares it with the real mkimage and dumpimage, where they are installed
-peers: bin/uimg
+## make peers    compares it with the real mkimage, dumpimage and dtc, where they are installed
+peers: bin/uimg bin/uimg_bench
 	@scripts/needs.sh python3
-	python3 peers/peers.py bin/uimg
+	python3 peers/peers.py bin/uimg bin/uimg_bench
 
 ## make bench    times the program beside dumpimage, mkimage, cat and cp
 bench: bin/uimg bin/uimg_bench

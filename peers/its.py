@@ -124,6 +124,13 @@ def sources(seed, count):
     return shapes + [(f"seed {seed + n}", Source(seed + n).text()) for n in range(count)]
 
 
+def examples():
+    """The sources that stand in this repository, with the files that they name beside them."""
+    folder = os.path.join(os.path.dirname(os.path.abspath(__file__)), "..", "examples")
+    names = sorted(name for name in os.listdir(folder) if name.endswith(".its"))
+    return [(name, open(os.path.join(folder, name)).read()) for name in names]
+
+
 REFUSED = {
     "empty text": "",
     "no version": "/ { };",

@@ -1,0 +1,42 @@
+use std::io::ErrorKind;
+use std::rt::Files;
+use std::{fs, io};
+use uimg_base::{Out, Room, Source};
+use uimg_blob::index;
+use uimg_its::compile;
+use uimg_tool::DiskFiles;
+use uimg_tree::{measure, write_tree};
+
+// Writes the blob of a source to standard output. The files that it names lie in its folder.
+pub(crate) fn compile_source<R: Files + Print + AllocGlobal>(rt: &R, path: &str) -> io::Result<()> {
+    let text = fs::read(rt, path)?;
+    let mut files = DiskFiles::new(rt, folder_of(path));
+    let Ok(tree) = compile(rt.alloc(), &text, &mut files) else {
+        return Err(io::Error::from(ErrorKind::InvalidData));
+    };
+    let Ok(layout) = measure(rt.alloc(), &tree) else {
+        return Err(io::Error::from(ErrorKind::InvalidData));
+    };
+    match write_tree(&tree, &layout, &mut files, &mut Out::new(io::writer(rt))) {
+        Ok(()) => Ok(()),
+        Err(_) => Err(io::Error::from(ErrorKind::Other)),
+    }
+}
+
+// The folder of a path, up to its last slash.
+fn folder_of(path: &str) -> &str {
+    match path.rfind('/') {
+        Some(0) => "/",
+        Some(at) => &path[..at],
+        None => "",
+    }
+}
+
+// Prints how many nodes a blob has.
+pub(crate) fn count_nodes<R: Print + Alloc, S: Source>(rt: &R, source: &mut S) -> io::Result<()> {
+    let mut room = Room::new(rt.alloc());
+    match index(source, &mut room) {
+        Ok(_) => println!(rt; "{} nodes", room.count()),
+        Err(_) => Err(io::Error::from(ErrorKind::InvalidData)),
+    }
+}
