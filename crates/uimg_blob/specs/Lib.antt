@@ -18,4 +18,5 @@ pub mod Passes
 pub mod Plain
 pub mod Spots
 pub mod Indexed
+pub mod Standing
 pub mod Texts
