@@ -13,6 +13,7 @@ pub mod PassLaws
 pub mod LieLaws
 pub mod NumberedLaws
 pub mod LookLaws
+pub mod StandLaws
 pub mod TextLaws
 pub mod IndexLaws
 pub mod CostLaws

@@ -90,7 +90,7 @@ outer_more level parent i word none [] lt outer = tt
 outer_more level parent i word none (k ∷ rest) lt outer = omega (arith, lt, outer)
 outer_more level parent i word (node at name own below after) rest lt outer = lt
 
-length_rows : (level : Level) (parent : Option ℕ) (i : ℕ) (t : Siblings) → length (rows level parent i t) ≡ size t
+pub length_rows : (level : Level) (parent : Option ℕ) (i : ℕ) (t : Siblings) → length (rows level parent i t) ≡ size t
 unfolding rows
 length_rows level parent i none = refl
 length_rows level parent i (node at name own below after) =
@@ -113,7 +113,7 @@ by_part (y ∷ a) b zero x is in_first in_second = in_first is
 by_part (y ∷ a) b (suc n) x is in_first in_second =
     by_part a b n x is in_first (λ p. in_second (record { at = p.at; place = omega (arith, p.place); is = p.is }))
 
-slice_after : {X : Type 0} (a b : List X) (n : ℕ) → slice_get (a ++ b) (length a + n) ≡ slice_get b n
+pub slice_after : {X : Type 0} (a b : List X) (n : ℕ) → slice_get (a ++ b) (length a + n) ≡ slice_get b n
 slice_after [] b n = let e : 0 + n ≡ n = omega arith in ap (slice_get b) e
 slice_after (x ∷ a) b n =
     let e : suc (length a) + n ≡ suc (length a + n) = omega arith in

@@ -7,6 +7,10 @@ pub mod Keys
 pub mod Roles
 pub mod Rows
 pub mod LookUps
+pub mod Spots
+pub mod Indexed
+pub mod Standing
+pub mod Texts
 pub mod Faults
 pub mod Extents
 pub mod Labels
@@ -16,6 +20,3 @@ pub mod Kept
 pub mod SoFar
 pub mod Passes
 pub mod Plain
-pub mod Spots
-pub mod Indexed
-pub mod Texts

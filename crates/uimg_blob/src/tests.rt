@@ -7,5 +7,8 @@ mod faults;
 mod images;
 mod index;
 mod names;
+mod nodes;
 mod samples;
+mod shapes;
+mod texts;
 mod tokens;
