@@ -1,13 +1,11 @@
 -- The words of short texts, and the tree of the case mixed-values, by computing.
-use Rattle.std.proofs.Common.{◌≡◌, ℕ, List, [], ◌∷◌, ◌++◌, Some, None, refl}
+use Rattle.std.proofs.Common.{◌≡◌, [], ◌∷◌, Some, None, refl}
 use Rattle.std.specs.Prelude.{codes}
-use Rattle.uimg_its.specs.declared.words.Mark.TheVariants.{Slash, Comma, BraceOpen, BraceClose, Semicolon, Equals, Less, Greater, BracketOpen, BracketClose, Colon}
+use Rattle.uimg_its.specs.declared.words.Mark.TheVariants.{Slash, Comma}
 use Rattle.uimg_its.specs.Digits.{number}
 use Rattle.uimg_its.specs.Strings.{escape, unit, string_end, string_bytes}
-use Rattle.uimg_its.specs.Words.{Word, name, directive, text, mark, stray, comment, piece, words_from, words}
-use Rattle.uimg_its.specs.Cells.{cell, hex_bytes}
-use Rattle.uimg_its.specs.Steps.{all}
-use Rattle.uimg_its.specs.Reader.{labelled, named, item, element_step, value_of, value, value_step, property_step, inside, child_step, node_within, source}
+use Rattle.uimg_its.specs.Words.{name, directive, text, mark, stray, comment, piece, words_from, words}
+use Rattle.uimg_its.specs.Cells.{cell}
 
 -- a name word with commas, a lone comma, a directive, a slash, a comment and a string with escapes
 words_of_pieces : words (codes "a,b , /incbin/ /c /* d */ \"\\x41\\n\" ~") ≡ name (codes "a,b") ∷ mark Comma ∷ directive (codes "incbin") ∷ mark Slash ∷ name (codes "c") ∷ text (65 ∷ 10 ∷ []) ∷ stray ∷ []

@@ -1,5 +1,5 @@
 -- What several calls did to files.
-use Rattle.std.proofs.Common.{◌≡◌, Bool, false, subst, sym, ◌∙◌}
+use Rattle.std.proofs.Common.{Bool, false, subst, ◌∙◌}
 use Rattle.uimg_base.specs.Device.{RisesIf}
 use Rattle.uimg_base.specs.Named.{FileMap}
 use Rattle.uimg_tree.specs.UsingFiles.{UsesFiles}

@@ -1,11 +1,11 @@
 -- Labels before a name have no effect.
-use Rattle.std.proofs.Common.{◌≡◌, ℕ, List, [], ◌∷◌, Option, Some, None, Bool, true, false, length, nat_lt, refl, sym, ap, ◌∙◌}
+use Rattle.std.proofs.Common.{◌≡◌, List, [], ◌∷◌, Option, Some, None, Bool, true, false, length, nat_lt, refl, sym, ap, ◌∙◌}
 use Rattle.uimg_its.specs.declared.fault.Kind.{Kind}
-use Rattle.uimg_its.specs.declared.words.Mark.TheVariants.{Slash, Comma, BraceOpen, BraceClose, Semicolon, Equals, Less, Greater, ParenOpen, ParenClose, BracketOpen, BracketClose, Colon, Ampersand, Apostrophe}
-use Rattle.uimg_its.specs.Words.{Word, name, directive, text, mark, stray}
+use Rattle.uimg_its.specs.declared.words.Mark.TheVariants.{Colon}
+use Rattle.uimg_its.specs.Words.{Word, name, mark, stray}
 use Rattle.uimg_its.specs.Options.{◌>>=◌}
 use Rattle.uimg_its.specs.Answers.{Refuses}
-use Rattle.uimg_its.specs.Reader.{Item, next, named, labelled, item_of}
+use Rattle.uimg_its.specs.Reader.{Item, named, labelled, item_of}
 use Rattle.std.specs.Prelude.{cond}
 use Rattle.uimg_its.proofs.StepLaws.{refuses_on}
 

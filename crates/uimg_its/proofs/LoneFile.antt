@@ -1,10 +1,9 @@
 -- A file that is the whole value of a property.
-use Rattle.std.proofs.Common.{◌≡◌, ℕ, List, [], ◌∷◌, ◌++◌, Option, Some, None, true, false, refl, sym, ap, ◌∙◌}
+use Rattle.std.proofs.Common.{◌≡◌, ℕ, List, [], ◌∷◌, Option, Some, None, true, refl, ap, ◌∙◌}
 use Rattle.std.specs.Prelude.{cond, codes}
 use Rattle.uimg_its.specs.declared.words.Mark.TheVariants.{Semicolon, ParenOpen, ParenClose}
-use Rattle.uimg_its.specs.Options.{◌>>=◌}
 use Rattle.uimg_its.specs.Parts.{FileBytes}
-use Rattle.uimg_its.specs.Words.{Word, name, directive, text, mark, stray}
+use Rattle.uimg_its.specs.Words.{Word, directive, text, mark}
 use Rattle.uimg_its.specs.Reader.{next, expect, string, is_incbin, lone_file, values}
 use Rattle.uimg_its.specs.Grammar.{incbin, one}
 use Rattle.uimg_its.proofs.Shrinking.{bind_some, some_is, pair_leads}
@@ -30,9 +29,9 @@ lone_is ws after n e =
     let g = guard (is_incbin w.0.0) w.0.1 opened.0 opened.1 in
     next_is ws w.0.1 w.0.0 w.1 ∙ ap (λ (x : Word). x ∷ w.0.1) (incbin_is w.0.0 g.0)
     ∙ ap (λ (l : List Word). directive (codes "incbin") ∷ l) (g.1 ∙ expect_is ParenOpen opened.0 inner.0 inner.1
-        ∙ ap (λ (l : List Word). mark ParenOpen ∷ l) (string_is inner.0 s.0.1 s.0.0 s.1 ∙ ap (λ (m : List ℕ). text m ∷ s.0.1) (pair_first _ _ _ _ rest.2)
-            ∙ ap (λ (l : List Word). text n ∷ l) (expect_is ParenClose s.0.1 closed.0 closed.1
-                ∙ ap (λ (l : List Word). mark ParenClose ∷ l) (expect_is Semicolon closed.0 rest.0 rest.1 ∙ ap (λ (l : List Word). mark Semicolon ∷ l) (pair_leads _ _ _ _ rest.2)))))
+    ∙ ap (λ (l : List Word). mark ParenOpen ∷ l) (string_is inner.0 s.0.1 s.0.0 s.1 ∙ ap (λ (m : List ℕ). text m ∷ s.0.1) (pair_first _ _ _ _ rest.2)
+    ∙ ap (λ (l : List Word). text n ∷ l) (expect_is ParenClose s.0.1 closed.0 closed.1
+    ∙ ap (λ (l : List Word). mark ParenClose ∷ l) (expect_is Semicolon closed.0 rest.0 rest.1 ∙ ap (λ (l : List Word). mark Semicolon ∷ l) (pair_leads _ _ _ _ rest.2)))))
 
 -- the value is what the files have at its name
 pub lone_value : (files : FileBytes) (ws after : List Word) (n v : List ℕ) → lone_file ws ≡ Some (n, after) → files n ≡ Some v → values files ws ≡ Some (v, after)

@@ -1,16 +1,15 @@
 -- Properties and children take words.
-use Rattle.std.proofs.Common.{◌≡◌, ℕ, zero, suc, ◌<◌, ◌≤◌, ◌+◌, ◌-◌, List, [], ◌∷◌, ◌++◌, Bool, true, false, Option, Some, None, length, refl, sym, ap, ◌∙◌, arith}
-use Rattle.std.specs.Prelude.{cond, nat_lt}
-use Rattle.uimg_its.specs.declared.words.Mark.{Mark}
-use Rattle.uimg_its.specs.declared.words.Mark.TheVariants.{Slash, Comma, BraceOpen, BraceClose, Semicolon, Equals, Less, Greater, ParenOpen, ParenClose, BracketOpen, BracketClose, Colon, Ampersand, Apostrophe}
+use Rattle.std.proofs.Common.{◌≡◌, ℕ, zero, suc, ◌<◌, ◌≤◌, ◌-◌, List, [], ◌∷◌, Bool, true, false, Option, Some, None, length, refl, sym, ap, arith}
+use Rattle.std.specs.Prelude.{cond}
+use Rattle.uimg_its.specs.declared.words.Mark.TheVariants.{BraceClose, Semicolon, Colon}
 use Rattle.uimg_blob.specs.Plain.{Named}
 use Rattle.uimg_its.specs.Parts.{FileBytes, NodeParts, chain}
-use Rattle.uimg_its.specs.Words.{Word, name, directive, text, mark, stray}
+use Rattle.uimg_its.specs.Words.{Word, name, mark}
 use Rattle.uimg_its.specs.Options.{◌>>=◌}
-use Rattle.uimg_its.specs.Steps.{Reads, Step, Steps, with_front, and_on, step_front, at_most, all}
-use Rattle.uimg_its.specs.Reader.{next, Item, empty, assigned, opens, closes, is_mark, name_in, item_after, item_of, labelled, named, item, expect, values, property_named, property_step, properties, inside, child_named, child_step, node_within, children}
+use Rattle.uimg_its.specs.Steps.{Reads, Step, with_front, all}
+use Rattle.uimg_its.specs.Reader.{next, Item, empty, assigned, opens, closes, is_mark, name_in, item_after, labelled, named, item, expect, values, property_named, property_step, properties, inside, child_named, child_step, node_within, children}
 use Rattle.uimg_its.proofs.StepLaws.{Shrinks}
-use Rattle.uimg_its.proofs.Shrinking.{Within, LastWithin, all_within, bind_some, next_shrinks, expect_shrinks, values_within, leads_to, pair_leads, some_is}
+use Rattle.uimg_its.proofs.Shrinking.{Within, all_within, bind_some, next_shrinks, expect_shrinks, values_within, leads_to, pair_leads, some_is}
 
 labelled_shrinks : (ws after : List Word) (x : Option Item) → labelled ws ≡ Some (x, after) → length after < length ws
 unfolding labelled

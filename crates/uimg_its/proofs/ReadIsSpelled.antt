@@ -1,21 +1,21 @@
 -- What is read is spelled.
-use Rattle.std.proofs.Common.{◌≡◌, ℕ, zero, suc, ◌<◌, ◌≤◌, ◌+◌, ◌-◌, List, [], ◌∷◌, ◌++◌, Bool, true, false, Option, Some, None, length, refl, sym, ap, subst, ◌∙◌, arith, append_assoc}
+use Rattle.std.proofs.Common.{◌≡◌, ℕ, zero, suc, ◌≤◌, List, [], ◌∷◌, ◌++◌, Bool, true, false, Option, Some, None, length, refl, sym, ap, subst, ◌∙◌, append_assoc}
 use Rattle.std.specs.Prelude.{cond, nat_lt, codes}
 use Rattle.std.specs.Str.{bytes_eq}
 use Rattle.std.proofs.lemmas.Bool.{ltb-false}
 use Rattle.std.proofs.lemmas.Slice.Eq.{bytes_eq-Decides}
 use Rattle.uimg_its.specs.declared.words.Mark.{Mark}
-use Rattle.uimg_its.specs.declared.words.Mark.TheVariants.{Slash, Comma, BraceOpen, BraceClose, Semicolon, Equals, Less, Greater, ParenOpen, ParenClose, BracketOpen, BracketClose, Colon, Ampersand, Apostrophe}
+use Rattle.uimg_its.specs.declared.words.Mark.TheVariants.{Slash, Comma, BraceOpen, BraceClose, Semicolon, Equals, Less, Greater, ParenOpen, ParenClose, BracketOpen, BracketClose, Colon}
 use Rattle.uimg_its.specs.declared.lists.Listed.{Listed}
 use Rattle.uimg_its.specs.declared.lists.Listed.TheVariants.{Cells, Bytes}
 use Rattle.uimg_its.specs.Options.{◌>>=◌}
-use Rattle.uimg_blob.specs.Plain.{Named, Nodes, no_node, a_node}
+use Rattle.uimg_blob.specs.Plain.{Named, no_node, a_node}
 use Rattle.uimg_its.specs.Parts.{FileBytes, NodeParts, chain, single}
 use Rattle.uimg_its.specs.Words.{Word, name, directive, text, mark, stray}
 use Rattle.uimg_its.specs.Steps.{Reads, Step, Steps, with_front, and_on, at_most, all}
 use Rattle.uimg_its.specs.Cells.{element}
-use Rattle.uimg_its.specs.Reader.{next, Item, empty as no_value, assigned as has_value, opens, closes, is_mark, item_of, labelled, named, item, element_word, element_step, listed, expect, string_in, string as string_at, file, value_of, value, ends, value_step, values, property_named, property_step, properties, inside, child_named, child_step, node_within, children, is_version, version, alone, source}
-use Rattle.uimg_its.specs.Grammar.{AreLabels, Names, AreElements, IsValue, cells, bytes, string, incbin, AreValues, one, more, IsProperty, empty, assigned, AreProperties, AreNodes, body, Spells}
+use Rattle.uimg_its.specs.Reader.{next, Item, empty as no_value, assigned as has_value, opens, closes, is_mark, labelled, named, item, element_step, listed, expect, string as string_at, file, value_of, value, ends, value_step, values, property_named, property_step, properties, inside, child_named, child_step, node_within, children, is_version, version, alone, source}
+use Rattle.uimg_its.specs.Grammar.{Names, AreElements, IsValue, cells, bytes, string, incbin, AreValues, one, more, IsProperty, empty, assigned, AreProperties, AreNodes, body, Spells}
 use Rattle.uimg_its.proofs.Shrinking.{some_is, bind_some, pair_leads}
 use Rattle.uimg_its.proofs.SpelledIsRead.{closing, tail, whole_more}
 

@@ -1,15 +1,15 @@
 -- Each step but the last takes a word.
-use Rattle.std.proofs.Common.{◌≡◌, ℕ, zero, suc, ◌<◌, ◌≤◌, ◌+◌, List, [], ◌∷◌, ◌++◌, Bool, true, false, Option, Some, None, length, refl, sym, ap, ◌∙◌, arith}
+use Rattle.std.proofs.Common.{◌≡◌, ℕ, zero, suc, ◌<◌, ◌≤◌, List, [], ◌∷◌, Bool, true, false, Option, Some, None, length, refl, ap, arith}
 use Rattle.std.specs.Prelude.{cond, codes}
 use Rattle.std.specs.Str.{bytes_eq}
 use Rattle.uimg_its.specs.declared.words.Mark.{Mark}
-use Rattle.uimg_its.specs.declared.words.Mark.TheVariants.{Slash, Comma, BraceOpen, BraceClose, Semicolon, Equals, Less, Greater, ParenOpen, ParenClose, BracketOpen, BracketClose, Colon, Ampersand, Apostrophe}
+use Rattle.uimg_its.specs.declared.words.Mark.TheVariants.{Less, ParenOpen, ParenClose, BracketOpen}
 use Rattle.uimg_its.specs.Parts.{FileBytes}
-use Rattle.uimg_its.specs.Words.{Word, name, directive, text, mark, stray}
+use Rattle.uimg_its.specs.Words.{Word, directive, text, mark, stray}
 use Rattle.uimg_its.specs.declared.lists.Listed.{Listed}
 use Rattle.uimg_its.specs.declared.lists.Listed.TheVariants.{Cells, Bytes}
 use Rattle.uimg_its.specs.Options.{◌>>=◌}
-use Rattle.uimg_its.specs.Steps.{Reads, Step, Steps, with_front, and_on, step_front, at_most, all}
+use Rattle.uimg_its.specs.Steps.{Reads, Step, Steps, with_front, and_on, at_most, all}
 use Rattle.uimg_its.specs.Cells.{element}
 use Rattle.uimg_its.specs.Reader.{next, element_word, element_step, listed, expect, is_mark, string, string_in, file, value_of, value, value_step, values, ends}
 use Rattle.uimg_its.proofs.StepLaws.{Shrinks}

@@ -1,18 +1,17 @@
 -- What is spelled is read.
-use Rattle.std.proofs.Common.{◌≡◌, ℕ, zero, suc, ◌<◌, ◌≤◌, ◌+◌, ◌-◌, List, [], ◌∷◌, ◌++◌, Bool, true, false, Option, Some, None, length, refl, sym, ap, subst, ◌∙◌, arith, append_assoc}
-use Rattle.std.specs.Prelude.{cond, nat_lt, codes}
+use Rattle.std.proofs.Common.{◌≡◌, ℕ, zero, suc, ◌≤◌, List, [], ◌∷◌, ◌++◌, Bool, true, false, Option, Some, length, refl, sym, ap, subst, ◌∙◌, append_assoc}
 use Rattle.std.proofs.lemmas.Bool.{le-ltb}
 use Rattle.uimg_its.specs.declared.words.Mark.{Mark}
-use Rattle.uimg_its.specs.declared.words.Mark.TheVariants.{Slash, Comma, BraceOpen, BraceClose, Semicolon, Equals, Less, Greater, ParenOpen, ParenClose, BracketOpen, BracketClose, Colon, Ampersand, Apostrophe}
+use Rattle.uimg_its.specs.declared.words.Mark.TheVariants.{Comma, BraceOpen, BraceClose, Semicolon, Equals, Greater, BracketClose, Colon}
 use Rattle.uimg_its.specs.declared.lists.Listed.{Listed}
 use Rattle.uimg_its.specs.declared.lists.Listed.TheVariants.{Cells, Bytes}
 use Rattle.uimg_its.specs.Options.{◌>>=◌}
 use Rattle.uimg_blob.specs.Plain.{Named, Nodes, no_node, a_node}
 use Rattle.uimg_its.specs.Parts.{FileBytes, NodeParts, chain}
-use Rattle.uimg_its.specs.Words.{Word, name, directive, text, mark, stray}
+use Rattle.uimg_its.specs.Words.{Word, name, mark}
 use Rattle.uimg_its.specs.Steps.{Reads, Step, Steps, with_front, and_on, all}
 use Rattle.uimg_its.specs.Cells.{element}
-use Rattle.uimg_its.specs.Reader.{next, Item, empty as no_value, assigned as has_value, opens, closes, item_of, labelled, named, item, element_step, listed, expect, file, value_of, value, value_step, values, property_step, properties, inside, child_step, node_within, children, source}
+use Rattle.uimg_its.specs.Reader.{Item, empty as no_value, assigned as has_value, opens, labelled, named, item, element_step, listed, file, value_of, value, value_step, values, property_step, properties, inside, child_step, node_within, children, source}
 use Rattle.uimg_its.specs.Grammar.{AreLabels, Names, AreElements, IsValue, cells, bytes, string, incbin, AreValues, one, more, IsProperty, empty, assigned, AreProperties, AreNodes, body, Spells}
 use Rattle.uimg_its.proofs.StepLaws.{Shrinks, all_step}
 use Rattle.uimg_its.proofs.Shrinking.{element_shrinks, value_shrinks}

@@ -1,10 +1,9 @@
 -- Reading several things is a step, and what follows it.
-use Rattle.std.proofs.Common.{◌≡◌, ℕ, zero, suc, ◌<◌, ◌≤◌, ◌+◌, List, [], ◌∷◌, ◌++◌, Bool, true, false, Option, Some, None, length, refl, sym, ap, ◌∙◌, arith, append_assoc}
+use Rattle.std.proofs.Common.{◌≡◌, ℕ, zero, suc, ◌<◌, List, [], ◌++◌, Bool, true, false, Option, Some, None, length, refl, sym, ap, ◌∙◌, arith, append_assoc}
 use Rattle.std.proofs.lemmas.List.{append-nil}
 use Rattle.std.specs.Bool.{OnFalse}
 use Rattle.uimg_its.specs.declared.fault.Kind.{Kind}
 use Rattle.uimg_its.specs.Words.{Word}
-use Rattle.uimg_its.specs.Options.{◌>>=◌}
 use Rattle.uimg_its.specs.Answers.{Refuses, is_outside}
 use Rattle.uimg_its.specs.Steps.{Reads, Step, Steps, with_front, and_on, step_front, at_most, all}
 

@@ -1,5 +1,5 @@
 -- What an answer says of what is read.
-use Rattle.std.specs.Prelude.{◌≡◌, Bool, true, false, List, Option, Some, None, Result, Ok, Err, ⊤}
+use Rattle.std.specs.Prelude.{◌≡◌, Bool, true, false, Option, Some, None, Result, Ok, Err, ⊤}
 use Rattle.std.specs.Bool.{OnFalse}
 use Rattle.uimg_its.specs.declared.fault.Kind.{Kind}
 use Rattle.uimg_its.specs.declared.fault.Kind.TheVariants.{BadToken, BadSyntax, OutOfProfile, BadNumber, NoFile, ReadFailed, OutOfMemory}

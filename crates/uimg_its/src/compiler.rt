@@ -100,17 +100,17 @@ fn source<F: Files, A: Allocator + Copy>(
 
 /// Compiles a source text to its tree.
 ///
-/// The text is image-tree source: devicetree source (Devicetree Specification 0.4, chapter 6, and dtc's
-/// `/incbin/`) with one root and at most 64 levels, and without the constructs that [`Construct`]
-/// names. A value `/incbin/("name")` is the bytes of that file. Where it is the whole value of a
-/// property named `data`, the file is opened for its size alone and stays a [`Value::File`]; any
-/// other is read whole.
+/// The text is image-tree source: devicetree source (Devicetree Specification 0.4, chapter 6, and
+/// dtc's `/incbin/`) with one root and at most 64 levels, and without the constructs that
+/// [`Construct`] names. A value `/incbin/("name")` is the bytes of that file. Where it is the whole
+/// value of a property named `data`, the file is opened for its size alone and stays a
+/// [`Value::File`]; any other is read whole.
 ///
-/// The fault is that of the first word at which the text cannot go on. `NoFile` comes exactly where an
-/// open was refused, `ReadFailed` where a read of an opened file failed, `OutOfMemory` where memory was
-/// refused. Over honest files the others come only where the text spells no tree. The time that it
-/// takes grows with the text and the files that are read, and nodes are read by calls inside one
-/// another, at most 64 deep.
+/// The fault is that of the first word at which the text cannot go on. `NoFile` comes exactly where
+/// an open was refused, `ReadFailed` where a read of an opened file failed, `OutOfMemory` where
+/// memory was refused. Over honest files the others come only where the text spells no tree. The
+/// time that it takes grows with the text and the files that are read, and nodes are read by calls
+/// inside one another, at most 64 deep.
 ///
 /// [`Construct`]: crate::Construct
 /// [`Value::File`]: crate::Value::File
@@ -133,7 +133,8 @@ pub fn compile<F: Files, A: Allocator + Copy>(
     // A tree that the text spells is the answer, unless a file or memory is not there. So any other
     // refusal comes only where the text spells none.
     ensures accepted { IsTrue (F.map files.old).honest → (t : Nodes) →
-        Spells (words text.now) (F.map files.old).bytes t → Accepts (F.map files.old).bytes result t }
+        Spells (words text.now) (F.map files.old).bytes t →
+        Accepts (F.map files.old).bytes result t }
 {
     match source(alloc, files, text) {
         Ok(root) => Ok(Tree { root }),
@@ -148,5 +149,4 @@ pub fn compile<F: Files, A: Allocator + Copy>(
 pub fn one_tree()
     ensures { (ws : List Word) (files : FileBytes) (t u : Nodes) →
         Spells ws files t → Spells ws files u → t ≡ u }
-{
-}
+{}

@@ -39,8 +39,8 @@ pub enum Kind {
     /// A byte begins no word, or a comment or a string is not closed.
     #[error("I1 bad token")]
     BadToken,
-    /// A word stands where the grammar has another, a name has more than 255 bytes, or the text ends
-    /// too early.
+    /// A word stands where the grammar has another, a name has more than 255 bytes, or the text
+    /// ends too early.
     #[error("I2 bad syntax")]
     BadSyntax,
     /// The text has a construct that this profile leaves out.
@@ -66,7 +66,7 @@ pub enum Kind {
 pub struct ItsFault {
     /// The reason.
     pub kind: Kind,
-    /// The line of the first byte of the word at which the text cannot go on, counted from 1. Where the
-    /// text ends too early it is the last line, which a newline at the end belongs to.
+    /// The line of the first byte of the word at which the text cannot go on, counted from 1. Where
+    /// the text ends too early it is the last line, which a newline at the end belongs to.
     pub line: u64,
 }

@@ -52,11 +52,7 @@ pub(crate) fn append_string<A: Allocator>(
 }
 
 /// A copy of a name.
-pub(crate) fn copied<A: Allocator>(
-    alloc: A,
-    name: &[u8],
-    left: usize,
-) -> Result<ByteList<A>, Stop>
+pub(crate) fn copied<A: Allocator>(alloc: A, name: &[u8], left: usize) -> Result<ByteList<A>, Stop>
     ensures name { IfOk result (λ l. l ≡ name.now) }
     ensures outside { IsOutside result }
     ensures no_file { is_no_file result ≡ false }

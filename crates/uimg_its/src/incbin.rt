@@ -70,7 +70,8 @@ fn read_file<F: Files, A: Allocator>(
 
 // The text behind the opening quote of a string.
 fn string_in(token: Token<'_>) -> Result<&[u8], Stop>
-    ensures gives { Gives (λ s. string_bytes 0 s.now) result (string_in (word_of token.entry.word)) }
+    ensures gives { Gives (λ s. string_bytes 0 s.now) result
+        (string_in (word_of token.entry.word)) }
     ensures no_file { is_no_file result ≡ false }
 {
     match token.word {
@@ -119,8 +120,8 @@ fn close(text: &[u8]) -> Result<&[u8], Stop>
     }
 }
 
-/// Appends the bytes of a file, which is named in parentheses behind the word `/incbin/`, and gives the
-/// text behind them.
+/// Appends the bytes of a file, which is named in parentheses behind the word `/incbin/`, and gives
+/// the text behind them.
 #[tactic(auto, unfolding(crate::specs::Reader::file))]
 pub(crate) fn file<'a, F: Files, A: Allocator + Copy>(
     alloc: A,
@@ -166,8 +167,8 @@ pub(crate) struct LoneFile<'a> {
     pub(crate) rest: &'a [u8],
 }
 
-/// The file that is the whole value of a property, from behind the equals sign. A refusal says that the
-/// value is something else. No more than six words are looked at.
+/// The file that is the whole value of a property, from behind the equals sign. A refusal says that
+/// the value is something else. No more than six words are looked at.
 #[tactic(auto, unfolding(crate::specs::Reader::lone_file))]
 pub(crate) fn lone_file(text: &[u8]) -> Result<LoneFile<'_>, Stop>
     ensures gives { Gives (λ l. (string_bytes 0 l.name.now, words l.rest.now)) result
@@ -189,8 +190,8 @@ pub(crate) fn lone_file(text: &[u8]) -> Result<LoneFile<'_>, Stop>
     })
 }
 
-/// The value of a property named `data` that is one file: its name and its size. None of its bytes is
-/// asked for.
+/// The value of a property named `data` that is one file: its name and its size. None of its bytes
+/// is asked for.
 pub(crate) fn kept<F: Files, A: Allocator>(
     files: &mut F,
     name: Vec<u8, A>,

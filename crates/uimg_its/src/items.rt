@@ -58,12 +58,9 @@ fn long_name(left: usize) -> Stop
 }
 
 // The item that a name begins, by the word behind it; `None` where the name is a label.
-fn item_after<'a>(
-    name: &'a [u8],
-    left: usize,
-    token: Token<'a>,
-) -> Result<Option<Item<'a>>, Stop>
-    ensures gives { Gives (option_map item_is) result (item_after name.now (word_of token.entry.word)) }
+fn item_after<'a>(name: &'a [u8], left: usize, token: Token<'a>) -> Result<Option<Item<'a>>, Stop>
+    ensures gives { Gives (option_map item_is) result
+        (item_after name.now (word_of token.entry.word)) }
     ensures no_file { is_no_file result ≡ false }
 {
     match token.word {
@@ -100,7 +97,8 @@ fn labelled(text: &[u8]) -> Result<(Option<Item<'_>>, Token<'_>, &[u8]), Stop>
 
 // A name and what it begins, behind labels.
 fn named(text: &[u8]) -> Result<Head<'_>, Stop>
-    ensures gives { Gives (λ h. (item_is h.item, words h.rest.now)) result (named (words text.now)) }
+    ensures gives { Gives (λ h. (item_is h.item, words h.rest.now)) result
+        (named (words text.now)) }
     ensures no_file { is_no_file result ≡ false }
     ensures shorter { IfOk result (λ h. length h.rest.now < length text.now) }
 {
@@ -117,7 +115,8 @@ fn named(text: &[u8]) -> Result<Head<'_>, Stop>
 /// An item of a body, or its end.
 #[tactic(auto, unfolding(crate::specs::Reader::item))]
 pub(crate) fn read_item(text: &[u8]) -> Result<Head<'_>, Stop>
-    ensures gives { Gives (λ h. (item_is h.item, words h.rest.now)) result (item (words text.now)) }
+    ensures gives { Gives (λ h. (item_is h.item, words h.rest.now)) result
+        (item (words text.now)) }
     ensures no_file { is_no_file result ≡ false }
     ensures shorter { IfOk result (λ h. length h.rest.now < length text.now) }
 {

@@ -1,4 +1,6 @@
-//! Image-tree source, compiled to trees.
+//! Image-tree source, the devicetree source that U-Boot's FIT images are described in, is compiled
+//! to the tree that it spells. `compile` is the one call; what a source may have is in its
+//! documentation.
 #![tactic(auto)]
 
 mod bytes;

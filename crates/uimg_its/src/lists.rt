@@ -51,7 +51,8 @@ fn bad_number(left: usize) -> Stop
 
 // Appends a cell.
 fn push_cell<A: Allocator>(out: &mut Vec<u8, A>, name: &[u8], left: usize) -> Result<(), Stop>
-    ensures gives { Gives (λ _. out.new.items) result (before out.old.items (element Cells name.now)) }
+    ensures gives { Gives (λ _. out.new.items) result
+        (before out.old.items (element Cells name.now)) }
     ensures no_file { is_no_file result ≡ false }
 {
     match cell(name) {
@@ -62,7 +63,8 @@ fn push_cell<A: Allocator>(out: &mut Vec<u8, A>, name: &[u8], left: usize) -> Re
 
 // Appends bytes.
 fn push_bytes<A: Allocator>(out: &mut Vec<u8, A>, name: &[u8], left: usize) -> Result<(), Stop>
-    ensures gives { Gives (λ _. out.new.items) result (before out.old.items (element Bytes name.now)) }
+    ensures gives { Gives (λ _. out.new.items) result
+        (before out.old.items (element Bytes name.now)) }
     ensures no_file { is_no_file result ≡ false }
 {
     let mut i = 0;
@@ -86,7 +88,8 @@ fn push_element<A: Allocator>(
     name: &[u8],
     left: usize,
 ) -> Result<(), Stop>
-    ensures gives { Gives (λ _. out.new.items) result (before out.old.items (element list name.now)) }
+    ensures gives { Gives (λ _. out.new.items) result
+        (before out.old.items (element list name.now)) }
     ensures no_file { is_no_file result ≡ false }
 {
     match list {

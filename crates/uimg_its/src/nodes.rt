@@ -21,8 +21,11 @@ use uimg_tree::{ByteList, Node, Nodes, Props};
 // A node of these parts.
 fn node_of<A: Allocator>(name: ByteList<A>, props: Props<A>, children: Vec<Node<A>, A>) -> Node<A>
     ensures parts { (files : FileBytes) → parts_of files result
-        ≡ record { name = name; props = props_in_full files props;
-        children = chain (all_parts_of files children.items) } }
+        ≡ record {
+          name = name;
+          props = props_in_full files props;
+          children = chain (all_parts_of files children.items);
+        } }
     ensures sound { (map : FileMap) → AreSound map props → AreSoundNodes map children.items →
         IsSoundNode map result }
 {
@@ -63,8 +66,8 @@ fn too_deep(left: usize) -> Stop
     }
 }
 
-// A node of this name from behind its opening brace, below which there may be so many levels, and the
-// text behind its closing brace.
+// A node of this name from behind its opening brace, below which there may be so many levels, and
+// the text behind its closing brace.
 #[cycle(tree)]
 #[tactic(auto, unfolding(crate::specs::Reader::inside))]
 fn inside<'a, F: Files, A: Allocator + Copy>(
@@ -76,8 +79,9 @@ fn inside<'a, F: Files, A: Allocator + Copy>(
 ) -> Result<(Node<A>, &'a [u8]), Stop>
     ensures files { UsesFiles (is_no_file result) (F.map files.old) (F.map files.new) }
     ensures gives { IsTrue (F.map files.old).honest → Gives (λ x.
-        (parts_of (F.map files.old).bytes x.0, words x.1.now)) result (inside (F.map files.old).bytes
-        (children levels (F.map files.old).bytes) name (words text.now)) }
+        (parts_of (F.map files.old).bytes x.0, words x.1.now)) result
+        (inside (F.map files.old).bytes (children levels (F.map files.old).bytes) name
+        (words text.now)) }
     ensures sound { IfOk result (λ x. IsSoundNode (F.map files.old) x.0) }
     ensures shorter { IfOk result (λ x. length x.1.now ≤ length text.now) }
 {
@@ -86,8 +90,8 @@ fn inside<'a, F: Files, A: Allocator + Copy>(
     Ok((node_of(name, props, children), rest))
 }
 
-/// A node of this name from behind its opening brace, itself the first of at most so many levels, and
-/// the text behind its closing brace.
+/// A node of this name from behind its opening brace, itself the first of at most so many levels,
+/// and the text behind its closing brace.
 #[cycle(tree)]
 pub(crate) fn node<'a, F: Files, A: Allocator + Copy>(
     alloc: A,

@@ -79,7 +79,8 @@ fn name_word(name: &[u8]) -> Word<'_>
 #[tactic(auto, unfolding(crate::specs::Words::piece))]
 pub(crate) fn first_piece(text: &[u8]) -> Piece<'_>
     requires { 0 < length text.now }
-    ensures { IsPiece result (piece (slice_index text.now 0) (drop 1 text.now)) (length text.now - 1) }
+    ensures { IsPiece result (piece (slice_index text.now 0) (drop 1 text.now))
+        (length text.now - 1) }
 {
     let b = text[0];
     let rest = after(text, 1);

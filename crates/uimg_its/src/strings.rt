@@ -90,10 +90,7 @@ pub(crate) fn string_fault(text: &[u8]) -> Kind
 }
 
 /// Appends what a string stands for, from the text behind its opening quote.
-pub(crate) fn push_string<A: Allocator>(
-    out: &mut Vec<u8, A>,
-    text: &[u8],
-) -> Result<(), AllocError>
+pub(crate) fn push_string<A: Allocator>(out: &mut Vec<u8, A>, text: &[u8]) -> Result<(), AllocError>
     ensures { OnOk result (out.new.items ≡ out.old.items ++ string_bytes 0 text.now) }
 {
     let mut i = 0;

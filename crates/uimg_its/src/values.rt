@@ -105,8 +105,8 @@ fn values<'a, F: Files, A: Allocator + Copy>(
     }
 }
 
-// The value of a property named `data` that is one file, and the text behind the property; `None` where
-// the value is something else.
+// The value of a property named `data` that is one file, and the text behind the property; `None`
+// where the value is something else.
 fn data_file<'a, F: Files, A: Allocator>(
     alloc: A,
     files: &mut F,
@@ -130,8 +130,8 @@ fn data_file<'a, F: Files, A: Allocator>(
     Ok(Some((value, found.rest)))
 }
 
-/// The value behind the equals sign of a property, and the text behind the property. Where the property
-/// is named `data` and its value is one file and nothing else, the file stays a file.
+/// The value behind the equals sign of a property, and the text behind the property. Where the
+/// property is named `data` and its value is one file and nothing else, the file stays a file.
 pub(crate) fn assigned<'a, F: Files, A: Allocator + Copy>(
     alloc: A,
     files: &mut F,

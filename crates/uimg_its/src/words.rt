@@ -18,8 +18,8 @@ pub(crate) enum Mark {
     Apostrophe,
 }
 
-/// A word of a source text: a name word, a directive by what stands between its slashes, a string by
-/// the text behind its opening quote, or a mark.
+/// A word of a source text: a name word, a directive by what stands between its slashes, a string
+/// by the text behind its opening quote, or a mark.
 #[derive(Clone, Copy, Debug)]
 pub(crate) enum Word<'a> {
     Name(&'a [u8]),

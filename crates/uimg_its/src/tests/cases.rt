@@ -1,5 +1,7 @@
 use super::samples::{FOUR_HASH, NAMED, bytes_at, fault_of, file_at};
 use crate::{MemFiles, compile};
+use std::alloc::{AllocError, Global};
+use std::test::Fail;
 
 // The case mixed-values, which is `examples/mixed-values.its`.
 #[test]
@@ -16,11 +18,11 @@ fn mixed_values(rt: HostRuntime) {
     let props = tree.root.props.items();
     assert_eq!(rt; tree.root.name.items().len(), 0);
     assert_eq!(rt; tree.root.children.items().len(), 0);
-    assert_eq!(rt; props.len(), 2);
-    if props.len() == 2 {
-        assert_eq!(rt; props[0].name.items(), b"v".as_slice());
-        assert_eq!(rt; props[1].name.items(), b"e".as_slice());
-    }
+    let [first, second] = props else {
+        panic!(rt; "the root has two properties");
+    };
+    assert_eq!(rt; first.name.items(), b"v".as_slice());
+    assert_eq!(rt; second.name.items(), b"e".as_slice());
     let v = b"a\0\0\0\0\x01\0\0\0\x02\0\xff".as_slice();
     assert_eq!(rt; bytes_at(props, 0), Some(v));
     assert_eq!(rt; bytes_at(props, 1), Some(b"".as_slice()));
@@ -31,30 +33,47 @@ fn mixed_values(rt: HostRuntime) {
 fn four_hash_fit(rt: HostRuntime) {
     let tree = compile(rt.alloc(), FOUR_HASH, &mut MemFiles::new(&NAMED)).expect(&rt, "a tree");
     assert_eq!(rt; tree.root.props.items().len(), 2);
-    let below = tree.root.children.items();
-    assert_eq!(rt; below.len(), 2);
-    if below.len() == 2 && below[0].children.items().len() == 1 {
-        let kernel = &below[0].children.items()[0];
-        assert_eq!(rt; below[0].name.items(), b"images".as_slice());
-        assert_eq!(rt; below[1].name.items(), b"configurations".as_slice());
-        assert_eq!(rt; kernel.name.items(), b"kernel".as_slice());
-        assert_eq!(rt; kernel.props.items().len(), 8);
-        assert_eq!(rt; kernel.children.items().len(), 4);
-        let name = b"abc.bin".as_slice();
-        assert_eq!(rt; file_at(kernel.props.items(), 1), Some((name, 3)));
-        assert_eq!(rt; bytes_at(kernel.props.items(), 6), Some(b"\0\x08\0\0".as_slice()));
-    } else {
-        panic!(rt; "the images are not there");
+    let [images, configurations] = tree.root.children.items() else {
+        panic!(rt; "the root has two children");
+    };
+    let [kernel] = images.children.items() else {
+        panic!(rt; "there is one image");
+    };
+    assert_eq!(rt; images.name.items(), b"images".as_slice());
+    assert_eq!(rt; configurations.name.items(), b"configurations".as_slice());
+    assert_eq!(rt; kernel.name.items(), b"kernel".as_slice());
+    assert_eq!(rt; kernel.props.items().len(), 8);
+    assert_eq!(rt; kernel.children.items().len(), 4);
+    let name = b"abc.bin".as_slice();
+    assert_eq!(rt; file_at(kernel.props.items(), 1), Some((name, 3)));
+    assert_eq!(rt;
+        bytes_at(kernel.props.items(), 6),
+        Some(b"\0\x08\0\0".as_slice())
+    );
+}
+
+// Whether a value, as that of the root's only property, gives these bytes.
+fn gives(alloc: Global, value: &[u8], bytes: &[u8]) -> Result<bool, AllocError> {
+    let mut text = Vec::new(alloc);
+    text.extend_from_slice(b"/dts-v1/; / { v = ")?;
+    text.extend_from_slice(value)?;
+    text.extend_from_slice(b"; };")?;
+    match compile(alloc, &text, &mut MemFiles::new(&NAMED)) {
+        Ok(tree) => Ok(bytes_at(tree.root.props.items(), 0) == Some(bytes)),
+        Err(_) => Ok(false),
     }
 }
 
 // Values of every kind, by the bytes that they give.
 #[test]
-fn values(rt: HostRuntime) {
+fn values(rt: HostRuntime) -> Result<(), Fail> {
     let rows: [(&[u8], &[u8]); 14] = [
         (b"<>, [], \"\\0\"", b"\0\0"),
         (b"<0xffffffff 010>", b"\xff\xff\xff\xff\0\0\0\x08"),
-        (b"<0 00 0X1aB 4294967295>", b"\0\0\0\0\0\0\0\0\0\0\x01\xab\xff\xff\xff\xff"),
+        (
+            b"<0 00 0X1aB 4294967295>",
+            b"\0\0\0\0\0\0\0\0\0\0\x01\xab\xff\xff\xff\xff",
+        ),
         (b"<037777777777>", b"\xff\xff\xff\xff"),
         (b"<000000000000000000000001>", b"\0\0\0\x01"),
         (b"[00ff aB c0DE]", b"\0\xff\xab\xc0\xde"),
@@ -63,18 +82,17 @@ fn values(rt: HostRuntime) {
         (b"\"a\nb // c /* d */\"", b"a\nb // c /* d */\0"),
         (b"/incbin/(\"a\")", b"abc"),
         (b"/incbin/ ( \"\\x61\" )", b"abc"),
-        (b"/incbin/(\"a\"), [01], /incbin/(\"abc.bin\")", b"abc\x01abc"),
+        (
+            b"/incbin/(\"a\"), [01], /incbin/(\"abc.bin\")",
+            b"abc\x01abc",
+        ),
         (b"/* c */ < // d\n1 /**/ > /***/", b"\0\0\0\x01"),
         (b"\"\"", b"\0"),
     ];
     for (value, bytes) in rows {
-        let mut text = Vec::new(rt.alloc());
-        text.extend_from_slice(b"/dts-v1/; / { v = ").expect(&rt, "memory");
-        text.extend_from_slice(value).expect(&rt, "memory");
-        text.extend_from_slice(b"; };").expect(&rt, "memory");
-        let tree = compile(rt.alloc(), &text, &mut MemFiles::new(&NAMED)).expect(&rt, "a tree");
-        assert_eq!(rt; bytes_at(tree.root.props.items(), 0), Some(bytes));
+        assert!(rt; gives(rt.alloc(), value, bytes)?);
     }
+    Ok(())
 }
 
 // Sources that are compiled, however they are laid out.

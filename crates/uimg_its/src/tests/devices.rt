@@ -1,5 +1,5 @@
 use super::samples::{FOUR_HASH, NAMED, at, bytes_at, file_at};
-use crate::{ItsFault, Kind, MemFiles, compile};
+use crate::{Files, ItsFault, Kind, MemFiles, compile};
 use std::alloc::Global;
 use uimg_base::FuseFiles;
 
@@ -29,12 +29,24 @@ fn file_values(rt: HostRuntime) {
 
 // What compiling answers where the open number `from` and all later ones are refused, and the open
 // number `turn` gives a source that lets `calls` calls through.
-fn fused(alloc: Global, text: &[u8], from: u64, turn: u64, calls: u64) -> Option<ItsFault> {
-    let mut files = FuseFiles::new(MemFiles::new(&NAMED), from, turn, calls);
-    match compile(alloc, text, &mut files) {
+fn fused_by<F: Files + Drop>(
+    alloc: Global,
+    text: &[u8],
+    files: F,
+    from: u64,
+    turn: u64,
+    calls: u64,
+) -> Option<ItsFault> {
+    let mut fused = FuseFiles::new(files, from, turn, calls);
+    match compile(alloc, text, &mut fused) {
         Ok(_) => None,
         Err(fault) => Some(fault),
     }
+}
+
+// The same over the files of the tests.
+fn fused(alloc: Global, text: &[u8], from: u64, turn: u64, calls: u64) -> Option<ItsFault> {
+    fused_by(alloc, text, MemFiles::new(&NAMED), from, turn, calls)
 }
 
 // A file that stays a file is asked for its size and for nothing else.
@@ -52,25 +64,31 @@ fn each_read_fails(rt: HostRuntime) {
     let bytes = [7u8; 8193];
     let named: [(&[u8], &[u8]); 1] = [(b"big", &bytes)];
     let text = b"/dts-v1/; / {\nv =\n/incbin/(\"big\"); };";
-    for calls in 0..4 {
-        let mut files = FuseFiles::new(MemFiles::new(&named), 9, 0, calls);
-        match compile(rt.alloc(), text, &mut files) {
-            Ok(_) => assert_eq!(rt; calls, 3),
-            Err(fault) => {
-                assert!(rt; calls < 3);
-                assert_eq!(rt; Some(fault), at(Kind::ReadFailed, 3));
-            }
-        }
+    for calls in 0..3 {
+        let fault = fused_by(rt.alloc(), text, MemFiles::new(&named), 9, 0, calls);
+        assert_eq!(rt; fault, at(Kind::ReadFailed, 3));
     }
+    let fault = fused_by(rt.alloc(), text, MemFiles::new(&named), 9, 0, 3);
+    assert_eq!(rt; fault, None);
 }
 
-// Three files are opened in the order of the text. Each open is refused in turn, and each file fails.
+// Three files are opened in the order of the text. Each open is refused in turn, and each file
+// fails.
 #[test]
 fn each_file_fails(rt: HostRuntime) {
-    let text = b"/dts-v1/; / { a =\n/incbin/(\"a\"); data =\n/incbin/(\"a\"); b = [00],\n/incbin/(\"a\"); };";
+    let text = b"/dts-v1/; / { a =
+/incbin/(\"a\"); data =
+/incbin/(\"a\"); b = [00],
+/incbin/(\"a\"); };";
     for turn in 0..3 {
-        assert_eq!(rt; fused(rt.alloc(), text, turn, 9, 0), at(Kind::NoFile, turn + 2));
-        assert_eq!(rt; fused(rt.alloc(), text, 9, turn, 0), at(Kind::ReadFailed, turn + 2));
+        assert_eq!(rt;
+            fused(rt.alloc(), text, turn, 9, 0),
+            at(Kind::NoFile, turn + 2)
+        );
+        assert_eq!(rt;
+            fused(rt.alloc(), text, 9, turn, 0),
+            at(Kind::ReadFailed, turn + 2)
+        );
     }
     assert_eq!(rt; fused(rt.alloc(), text, 3, 9, 0), None);
 }
@@ -80,5 +98,8 @@ fn each_file_fails(rt: HostRuntime) {
 fn four_hash_fit_opens(rt: HostRuntime) {
     assert_eq!(rt; fused(rt.alloc(), FOUR_HASH, 1, 0, 1), None);
     assert_eq!(rt; fused(rt.alloc(), FOUR_HASH, 0, 0, 1), at(Kind::NoFile, 8));
-    assert_eq!(rt; fused(rt.alloc(), FOUR_HASH, 1, 0, 0), at(Kind::ReadFailed, 8));
+    assert_eq!(rt;
+        fused(rt.alloc(), FOUR_HASH, 1, 0, 0),
+        at(Kind::ReadFailed, 8)
+    );
 }

@@ -35,7 +35,11 @@ fn growth_fails(rt: HostRuntime) -> Result<(), Fail> {
 // The line is that of the word that memory was wanted for.
 #[test]
 fn the_line_of_a_refused_growth(rt: HostRuntime) -> Result<(), Fail> {
-    let text = b"/dts-v1/;\n/ {\na =\n\"a text that asks for more than the heap has, and so is refused\";\n};";
+    let text = b"/dts-v1/;
+/ {
+a =
+\"a text that asks for more than the heap has, and so is refused\";
+};";
     let heap = LocalHeap::new(rt.alloc(), 48)?;
     match compile(&heap, text, &mut MemFiles::new(&NAMED)) {
         Ok(_) => panic!(rt; "memory was there"),

@@ -3,16 +3,27 @@ use crate::{Construct, ItsFault, Kind};
 use std::test::Fail;
 
 const BAD_TOKEN: Kind = Kind::BadToken;
+
 const SYNTAX: Kind = Kind::BadSyntax;
+
 const NUMBER: Kind = Kind::BadNumber;
+
 const REFERENCE: Kind = Kind::OutOfProfile(Construct::Reference);
+
 const CHARACTER: Kind = Kind::OutOfProfile(Construct::CharacterLiteral);
+
 const EXPRESSION: Kind = Kind::OutOfProfile(Construct::Expression);
+
 const DIRECTIVE: Kind = Kind::OutOfProfile(Construct::Directive);
+
 const SECOND_ROOT: Kind = Kind::OutOfProfile(Construct::SecondRoot);
+
 const RANGE: Kind = Kind::OutOfProfile(Construct::IncbinRange);
+
 const ESCAPE: Kind = Kind::OutOfProfile(Construct::Escape);
+
 const PREPROCESSOR: Kind = Kind::OutOfProfile(Construct::Preprocessor);
+
 const DEPTH: Kind = Kind::OutOfProfile(Construct::Depth);
 
 // The case refused-sources, each fault with its line.
@@ -32,7 +43,11 @@ fn refused_sources(rt: HostRuntime) {
         (b"/dts-v1/;\n/ { v = 'a'; };", CHARACTER, 2),
         (b"/dts-v1/;\n/ { v = \"\\q\"; };", ESCAPE, 2),
         (b"/dts-v1/;\n/ { v = /incbin/(\"a\"\n, 0, 1); };", RANGE, 3),
-        (b"/dts-v1/;\n/ { v = /incbin/(\"none\"); };", Kind::NoFile, 2),
+        (
+            b"/dts-v1/;\n/ { v = /incbin/(\"none\"); };",
+            Kind::NoFile,
+            2,
+        ),
         (b"/dts-v1/;\n/ {\nv = &ref; };", REFERENCE, 3),
         (b"/dts-v1/;\n&ref { };", REFERENCE, 2),
         (b"/dts-v1/;\n/ { };\n#endif", PREPROCESSOR, 3),
@@ -79,9 +94,21 @@ fn out_of_place(rt: HostRuntime) {
 fn chosen_readings(rt: HostRuntime) {
     let rows: [(&[u8], Kind, u64); 17] = [
         // A missing file comes at its place, before a later fault.
-        (b"/dts-v1/; / { v = /incbin/(\"none\")\n]; };", Kind::NoFile, 1),
-        (b"/dts-v1/; / { data =\n/incbin/(\"none\"); };", Kind::NoFile, 2),
-        (b"/dts-v1/; / { data =\n/incbin/(\"none\")\n]; };", Kind::NoFile, 2),
+        (
+            b"/dts-v1/; / { v = /incbin/(\"none\")\n]; };",
+            Kind::NoFile,
+            1,
+        ),
+        (
+            b"/dts-v1/; / { data =\n/incbin/(\"none\"); };",
+            Kind::NoFile,
+            2,
+        ),
+        (
+            b"/dts-v1/; / { data =\n/incbin/(\"none\")\n]; };",
+            Kind::NoFile,
+            2,
+        ),
         // The line is that of the first byte of the word.
         (b"/dts-v1/;\n/* open\n\n", BAD_TOKEN, 2),
         (b"/dts-v1/;\n/ { v = \"open\n\n", BAD_TOKEN, 2),
@@ -110,7 +137,9 @@ fn chosen_readings(rt: HostRuntime) {
 // Bytes that begin no word.
 #[test]
 fn stray_bytes(rt: HostRuntime) {
-    for b in [b"!", b"$", b"%", b"\\", b"~", b"|", b"^", b"\0", b"\x7f", b"\xff"] {
+    for b in [
+        b"!", b"$", b"%", b"\\", b"~", b"|", b"^", b"\0", b"\x7f", b"\xff",
+    ] {
         assert_eq!(rt; fault_of(rt.alloc(), b.as_slice()), at(BAD_TOKEN, 1));
     }
 }

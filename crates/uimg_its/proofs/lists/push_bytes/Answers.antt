@@ -1,4 +1,4 @@
-use Rattle.std.proofs.Common.{◌≡◌, ◌<◌, ◌+◌, ◌≢◌, length, arith}
+use Rattle.std.proofs.Common.{arith}
 use Rattle.uimg_its.proofs.StepLaws.{refused}
 use Rattle.uimg_its.proofs.ValueLaws.{before_none, before_end, hex_end, hex_odd, hex_more, hex_bad}
 use Rattle.uimg_its.proofs.lists.push_bytes.Goals as goal

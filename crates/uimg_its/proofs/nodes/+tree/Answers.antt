@@ -1,4 +1,4 @@
-use Rattle.std.proofs.Common.{◌≡◌, ◌≤◌, ◌+◌, ◌-◌, ◌∷◌, [], ℕ, List, Some, length, arith, IsTrue, ap, sym, ◌∙◌}
+use Rattle.std.proofs.Common.{◌∷◌, [], List, Some, arith, IsTrue, ap, sym, ◌∙◌}
 use Rattle.std.proofs.lemmas.Result.{err_from_is_err_and}
 use Rattle.uimg_its.specs.Words.{Word, words}
 use Rattle.uimg_its.specs.Parts.{NodeParts, props_in_full, parts_of, all_parts_of}

@@ -1,4 +1,4 @@
-use Rattle.std.proofs.Common.{◌≡◌, sym, arith, ◌≤◌, ◌+◌, length, true, false}
+use Rattle.std.proofs.Common.{sym, arith}
 use Rattle.uimg_its.proofs.LexLaws.{comment_ends, comment_goes_on, comment_over}
 use Rattle.uimg_its.proofs.pieces.comment_length.Goals as goal
 

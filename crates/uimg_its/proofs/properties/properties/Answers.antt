@@ -1,4 +1,4 @@
-use Rattle.std.proofs.Common.{◌≡◌, ◌≤◌, ◌+◌, ℕ, length, map, arith, IsTrue, ◌∙◌}
+use Rattle.std.proofs.Common.{map, arith, IsTrue}
 use Rattle.std.proofs.lemmas.Result.{err_from_is_err_and}
 use Rattle.uimg_tree.specs.Properties.{property}
 use Rattle.uimg_its.specs.Words.{words}

@@ -1,4 +1,4 @@
-use Rattle.std.proofs.Common.{◌≡◌, ◌≤◌, ◌<◌, ◌+◌, ℕ, length, drop, arith, refl, length-drop}
+use Rattle.std.proofs.Common.{◌≤◌, ◌+◌, length, drop, arith, length-drop}
 use Rattle.uimg_its.proofs.LexLaws.{bytes_over, bytes_at_end, bytes_at_quote, bytes_at_none, bytes_more}
 use Rattle.uimg_its.proofs.strings.push_string.Goals as goal
 

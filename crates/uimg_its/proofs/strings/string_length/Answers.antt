@@ -1,6 +1,5 @@
-use Rattle.std.proofs.Common.{◌≡◌, sym, arith, length, drop, ◌≤◌, ◌+◌, length-drop}
-use Rattle.uimg_its.specs.Strings.{unit, string_end}
-use Rattle.uimg_its.proofs.LexLaws.{shifted, shifted_zero, quote_ends, unit_none, unit_some, string_over}
+use Rattle.std.proofs.Common.{sym, arith, length, drop, ◌≤◌, ◌+◌, length-drop}
+use Rattle.uimg_its.proofs.LexLaws.{shifted_zero, quote_ends, unit_none, unit_some, string_over}
 use Rattle.uimg_its.proofs.strings.string_length.Goals as goal
 
 pub loop-i-init : goal.loop-i-init

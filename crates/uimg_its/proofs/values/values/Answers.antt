@@ -1,4 +1,4 @@
-use Rattle.std.proofs.Common.{◌≡◌, ◌≤◌, ◌+◌, ℕ, length, arith, IsTrue, ◌∙◌}
+use Rattle.std.proofs.Common.{arith, IsTrue}
 use Rattle.std.proofs.lemmas.Result.{err_from_is_err_and}
 use Rattle.uimg_its.specs.Words.{words}
 use Rattle.uimg_its.specs.Reader.{value_step}
