@@ -6,6 +6,7 @@ mod ItemLaws
 mod NodeLaws
 mod ValueLaws
 mod SpelledIsRead
+mod ValuesAreSpelled
 mod ReadIsSpelled
 mod LoneFile
 mod FilesLaws

@@ -7,7 +7,7 @@ use Rattle.uimg_its.specs.Words.{Word, directive, text, mark}
 use Rattle.uimg_its.specs.Reader.{next, expect, string, is_incbin, lone_file, values}
 use Rattle.uimg_its.specs.Grammar.{incbin, one}
 use Rattle.uimg_its.proofs.Shrinking.{bind_some, some_is, pair_leads}
-use Rattle.uimg_its.proofs.ReadIsSpelled.{string_is, expect_is, next_is, guard, bytes_same}
+use Rattle.uimg_its.proofs.ValuesAreSpelled.{string_is, expect_is, next_is, guard, bytes_same}
 use Rattle.uimg_its.proofs.SpelledIsRead.{values_again}
 
 incbin_is : (w : Word) → is_incbin w ≡ true → w ≡ directive (codes "incbin")
