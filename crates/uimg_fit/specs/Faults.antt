@@ -1,0 +1,46 @@
+-- What the answers of this crate say.
+use Rattle.std.specs.Prelude.{◌≡◌, Result, Ok, Err, Option, Some, None, Bool, true, false}
+use Rattle.uimg_base.specs.Outcome.{End, done, not_right, refused}
+use Rattle.uimg_base.specs.declared.status.Status.{Status}
+use Rattle.uimg_base.specs.declared.status.Status.TheVariants.{Done, NotRight}
+use Rattle.uimg_base.specs.declared.ranges.MoveFault.{MoveFault}
+use Rattle.uimg_base.specs.declared.ranges.MoveFault.TheVariants as move
+use Rattle.uimg_blob.specs.declared.fault.BlobFault.TheVariants.{OutOfMemory}
+use Rattle.uimg_blob.specs.declared.fault.IndexFault.{IndexFault}
+use Rattle.uimg_blob.specs.declared.fault.IndexFault.TheVariants as index
+use Rattle.uimg_fit.specs.declared.fault.Fault.{Fault}
+use Rattle.uimg_fit.specs.declared.fault.Fault.TheVariants.{Blob, Fit, Read, Put}
+
+-- the fault of a command that a fault of the index is
+abbrev pub of_index : IndexFault → Fault
+of_index (index.Blob fault at) = Blob fault at
+of_index index.Read = Read
+
+-- a failed copy is a failed read or a failed write
+abbrev pub of_move : MoveFault → Fault
+of_move move.Read = Read
+of_move move.Put = Put
+
+-- the answer is that a read failed
+abbrev pub is_read : {X : Type 0} → Result X Fault → Bool
+is_read (Err Read) = true
+is_read _ = false
+
+-- the answer is that a write failed
+abbrev pub is_put : {X : Type 0} → Result X Fault → Bool
+is_put (Err Put) = true
+is_put _ = false
+
+-- the answer is that memory for the table of nodes was refused
+abbrev pub is_out_of_memory : {X : Type 0} → Result X Fault → Bool
+is_out_of_memory (Err (Blob OutOfMemory at)) = true
+is_out_of_memory _ = false
+
+-- the end that an answer tells, where neither a device failed nor memory was refused
+abbrev pub end_of : Result Status Fault → Option (End Fault)
+end_of (Ok Done) = Some done
+end_of (Ok NotRight) = Some not_right
+end_of (Err (Blob OutOfMemory at)) = None
+end_of (Err (Blob fault at)) = Some (refused (Blob fault at))
+end_of (Err (Fit fault)) = Some (refused (Fit fault))
+end_of (Err _) = None

@@ -1,0 +1,8 @@
+pub mod Faults
+pub mod Files
+pub mod Places
+pub mod Report
+pub mod Extraction
+pub mod Values
+pub mod Listing
+pub mod Work

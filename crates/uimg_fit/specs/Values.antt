@@ -1,0 +1,32 @@
+-- What the values of properties are printed as.
+use Rattle.std.specs.Prelude.{ℕ, zero, suc, min, ◌-◌, List, [], ◌∷◌, ◌++◌, length, take, drop, replicate, not, ◌==◌, if◌then◌else◌, codes}
+use Rattle.std.specs.List.{position_or_len}
+use Rattle.std.specs.Option.{option_map_or}
+use Rattle.hex.specs.Hex.{encode_lower}
+use Rattle.uimg_texts.specs.Names.{Row, code_of, printed}
+use Rattle.uimg_texts.specs.Nul.{text}
+
+-- the printed name of what a text names, or what is printed where no row has it
+abbrev pub long_name : List Row → List ℕ → List ℕ → List ℕ
+long_name table unknown value = option_map_or (printed table unknown) (code_of table (text value)) unknown
+
+-- hexadecimal digits without the zeros before the last eight
+abbrev pub eight_or_more : List ℕ → List ℕ
+eight_or_more digits = drop (min (position_or_len (λ d. not (d == 48)) digits) (length digits - 8)) digits
+
+-- an address of one cell or of two, or `unavailable`
+unfoldable pub address_text : List ℕ → List ℕ
+address_text value =
+    if length value == 4 then codes "0x" ++ encode_lower value
+    else if length value == 8 then codes "0x" ++ eight_or_more (encode_lower value)
+    else codes "unavailable"
+
+-- the pieces of a value that is cut after each NUL, without their NULs
+abbrev pub onto : ℕ → List (List ℕ) → List (List ℕ)
+onto b [] = (b ∷ []) ∷ []
+onto b (piece ∷ pieces) = (b ∷ piece) ∷ pieces
+
+unfoldable pub pieces : List ℕ → List (List ℕ)
+pieces [] = []
+pieces (zero ∷ bytes) = [] ∷ pieces bytes
+pieces (suc b ∷ bytes) = onto (suc b) (pieces bytes)

@@ -1,0 +1,49 @@
+-- The most bytes that a command asks for.
+use Rattle.std.specs.Prelude.{ℕ, ◌+◌, ◌*◌, ◌/◌, List, [], length, Result, Ok, Err, Bool, true, false}
+use Rattle.std.specs.List.{sum_by, count_by}
+use Rattle.uimg_blob.specs.LookUps.{NodeOf, hashes}
+use Rattle.uimg_blob.specs.Spots.{Spot}
+use Rattle.uimg_blob.specs.Counts.{meta}
+use Rattle.uimg_fit.specs.declared.fault.Fault.{Fault}
+use Rattle.uimg_fit.specs.declared.fault.FitFault.{FitFault}
+use Rattle.uimg_fit.specs.Files.{images_of}
+use Rattle.uimg_fit.specs.Places.{payload}
+use Rattle.uimg_fit.specs.Report.{Word, right, wrong, word_of}
+use Rattle.uimg_fit.specs.Extraction.{extract_of}
+
+-- the length of a payload that is there
+abbrev pub payload_length : Result (List ℕ) FitFault → ℕ
+payload_length (Ok message) = length message
+payload_length (Err fault) = 0
+
+-- the word says that a digest was compared
+abbrev pub is_compared : Word → Bool
+is_compared right = true
+is_compared wrong = true
+is_compared _ = false
+
+-- how often a payload is read for so many sums: once for each eight
+abbrev pub passes : ℕ → ℕ
+passes count = (count + 7) / 8
+
+-- the most bytes of a payload that are asked for: once for each group of eight hash nodes whose values are compared
+abbrev pub hashed : NodeOf Spot → Result (List ℕ) FitFault → ℕ
+hashed image (Ok message) = passes (count_by (λ h. is_compared (word_of message h)) (hashes image)) * length message
+hashed image (Err fault) = 0
+
+-- the same of all images of a file
+abbrev pub all_hashed : List ℕ → Result (List (NodeOf Spot)) Fault → ℕ
+all_hashed file (Ok found) = sum_by (λ image. hashed image (payload file image)) found
+all_hashed file (Err fault) = 0
+
+-- the most that a listing asks for
+abbrev pub list_work : List ℕ → ℕ
+list_work file = meta file
+
+-- the most that a report asks for: each payload once for each group of at most eight of its hash nodes
+abbrev pub verify_work : List ℕ → ℕ
+verify_work file = meta file + all_hashed file (images_of file)
+
+-- the most that an extraction asks for: as a listing, and the payload that is written
+abbrev pub extract_work : List ℕ → ℕ → ℕ
+extract_work file position = meta file + length (extract_of file position).text

@@ -1,0 +1,6 @@
+//! FIT images: listing, verification and extraction.
+#![tactic(auto)]
+
+mod fault;
+
+pub use fault::{Fault, FitFault};
