@@ -6,3 +6,4 @@ pub mod Extraction
 pub mod Values
 pub mod Listing
 pub mod Work
+pub mod Lying
