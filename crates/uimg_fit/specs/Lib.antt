@@ -7,3 +7,4 @@ pub mod Values
 pub mod Listing
 pub mod Work
 pub mod Lying
+pub mod Nodes

@@ -2,5 +2,6 @@
 #![tactic(auto)]
 
 mod fault;
+mod images;
 
 pub use fault::{Fault, FitFault};

@@ -1,0 +1,72 @@
+-- Nodes of an indexed tree by their numbers.
+use Rattle.std.specs.Prelude.{◌≡◌, ℕ, List, map, Option, Some, None, Result, Ok, Err}
+use Rattle.std.specs.List.{slice_get}
+use Rattle.uimg_blob.specs.declared.nodes.Blob.{Blob}
+use Rattle.uimg_blob.specs.Tokens.{Property}
+use Rattle.uimg_blob.specs.Grammar.{Siblings, none, node}
+use Rattle.uimg_blob.specs.Roles.{Level, in_images}
+use Rattle.uimg_blob.specs.Rows.{first_of}
+use Rattle.uimg_blob.specs.Standing.{Stand}
+use Rattle.uimg_blob.specs.Indexed.{IsIndexed}
+use Rattle.uimg_blob.specs.LookUps.{NodeOf, listed, images}
+use Rattle.uimg_blob.specs.Spots.{Spot, spot_of, spots}
+use Rattle.uimg_fit.specs.declared.fault.FitFault.{FitFault}
+use Rattle.uimg_fit.specs.declared.fault.FitFault.TheVariants.{NoImages, NoSuchImage}
+
+-- The entries of a room are those of some tree.
+pub record Indexed (blob : Blob) (es : List (List ℕ)) : Type 0 where
+  pub nodes : Siblings
+  pub indexed : IsIndexed nodes blob es
+
+-- The node of a number, at a level of the tree, is such.
+pub record IsNode (t : Siblings) (level : Level) (number : ℕ) (found : NodeOf Spot) : Type 0 where
+  pub parent : Option ℕ
+  pub at : ℕ
+  pub name : List ℕ
+  pub own : List Property
+  pub below : Siblings
+  pub after : Siblings
+  pub stands : Stand t level parent number (node at name own below after)
+  pub is : found ≡ record { name = name; own = map spot_of own; below = spots below }
+
+-- From the node of a number on, if there is one, these nodes follow one another at a level of the tree.
+pub record AreFrom (t : Siblings) (level : Level) (first : Option ℕ) (found : List (NodeOf Spot)) : Type 0 where
+  pub parent : Option ℕ
+  pub number : ℕ
+  pub siblings : Siblings
+  pub stands : Stand t level parent number siblings
+  pub is_first : first ≡ first_of number siblings
+  pub are : found ≡ listed (spots siblings)
+
+-- The tree has images, and they begin at a number, if there is one.
+pub record HasImages (t : Siblings) (first : Option ℕ) : Type 0 where
+  pub found : List (NodeOf Spot)
+  pub is : images (spots t) ≡ Some found
+  pub from : AreFrom t in_images first found
+
+-- what is said of the images of a tree
+abbrev pub TellsImages : Siblings → Result (Option ℕ) FitFault → Type 0
+TellsImages t (Ok first) = HasImages t first
+TellsImages t (Err NoImages) = images (spots t) ≡ None
+TellsImages t (Err _) = ⊥
+
+-- The image of a tree at a position has a number.
+pub record HasImage (t : Siblings) (position : ℕ) (number : ℕ) : Type 0 where
+  pub found : List (NodeOf Spot)
+  pub image : NodeOf Spot
+  pub is : images (spots t) ≡ Some found
+  pub has : slice_get found position ≡ Some image
+  pub node : IsNode t in_images number image
+
+-- The tree has images, and none at a position.
+pub record LacksImage (t : Siblings) (position : ℕ) : Type 0 where
+  pub found : List (NodeOf Spot)
+  pub is : images (spots t) ≡ Some found
+  pub lacks : slice_get found position ≡ None
+
+-- what is said of the image at a position
+abbrev pub TellsImage : Siblings → ℕ → Result ℕ FitFault → Type 0
+TellsImage t position (Ok number) = HasImage t position number
+TellsImage t position (Err NoImages) = images (spots t) ≡ None
+TellsImage t position (Err NoSuchImage) = LacksImage t position
+TellsImage t position (Err _) = ⊥
