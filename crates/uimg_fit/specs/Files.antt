@@ -2,7 +2,9 @@
 use Rattle.std.specs.Prelude.{ℕ, List, [], length, Option, Some, None, Result, Ok, Err, ◌==◌, if◌then◌else◌}
 use Rattle.std.specs.Int.{from_be_bytes, w32}
 use Rattle.std.specs.Option.{option_and_then}
+use Rattle.uimg_texts.specs.Slices.{slice}
 use Rattle.uimg_base.specs.Results.{◌>>=◌}
+use Rattle.uimg_blob.specs.declared.texts.Span.{Span}
 use Rattle.uimg_blob.specs.Reading.{Fault as BlobFaultAt}
 use Rattle.uimg_blob.specs.Grammar.{Siblings}
 use Rattle.uimg_blob.specs.Blob.{tree}
@@ -44,3 +46,7 @@ number value = if length value == 4 then Some (from_be_bytes w32 value) else Non
 -- the number of the first property of a name; a value that has not 4 bytes counts as missing
 abbrev pub cell : List (NamedOf Spot) → List ℕ → Option ℕ
 cell own key = option_and_then (λ s. number s.bytes) (first own key)
+
+-- the number of the value that stands at a span of a file
+abbrev pub number_in : List ℕ → Option Span → Option ℕ
+number_in file value = option_and_then (λ s. number (slice file s.place s.length)) value

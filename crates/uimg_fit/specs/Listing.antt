@@ -16,7 +16,8 @@ use Rattle.uimg_fit.specs.declared.fault.Fault.TheVariants.{Fit}
 use Rattle.uimg_fit.specs.declared.fault.FitFault.{FitFault}
 use Rattle.uimg_fit.specs.declared.fault.FitFault.TheVariants.{NoImages}
 use Rattle.uimg_fit.specs.Files.{tree_of, root_own, cell}
-use Rattle.uimg_fit.specs.Places.{Place, place}
+use Rattle.uimg_fit.specs.declared.places.Place.{Place}
+use Rattle.uimg_fit.specs.Places.{place}
 use Rattle.uimg_fit.specs.Values.{long_name, address_text, pieces}
 
 -- a value behind its label, which is padded with blanks to n bytes

@@ -3,5 +3,6 @@
 
 mod fault;
 mod images;
+mod places;
 
 pub use fault::{Fault, FitFault};

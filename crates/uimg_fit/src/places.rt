@@ -1,0 +1,79 @@
+ghost use Rattle.std.specs.Prelude.{◌≡◌, ◌+◌, ◌<◌, ◌≤◌, ◌^◌, length, is_err, Option, IfOk, IfSome, IsTrue};
+ghost use Rattle.uimg_texts.specs.Numbers.{up4};
+ghost use Rattle.uimg_base.specs.Using.{Asks};
+ghost use Rattle.uimg_blob.specs.LookUps.{NodeOf};
+ghost use Rattle.uimg_blob.specs.Grammar.{Siblings};
+ghost use Rattle.uimg_blob.specs.Indexed.{IsIndexed};
+ghost use Rattle.uimg_blob.specs.Roles.{in_images};
+ghost use Rattle.uimg_blob.specs.Spots.{Spot};
+ghost use Rattle.uimg_fit.specs.Faults.{is_read, is_put};
+ghost use Rattle.uimg_fit.specs.Files.{number_in};
+ghost use Rattle.uimg_fit.specs.Lying.{Lie};
+ghost use Rattle.uimg_fit.specs.Nodes.{Indexed, IsNode};
+ghost use Rattle.uimg_fit.specs.Places.{external, or_else, embedded, TellsPlace};
+
+use crate::fault::{Fault, FitFault};
+use std::alloc::Allocator;
+use uimg_base::{Room, Source, SourceFault, number_at, up4};
+use uimg_blob::{Blob, Key, Span};
+
+/// A place in a file, and how many bytes stand there.
+#[derive(Clone, Copy, Debug, PartialEq, Eq)]
+pub(crate) struct Place {
+    pub(crate) at: u64,
+    pub(crate) size: u64,
+}
+
+// The number of a value that has four bytes.
+pub(crate) fn cell<S: Source>(
+    source: &mut S,
+    value: Option<Span>,
+) -> Result<Option<u32>, SourceFault>
+    requires { IfSome value (λ s. s.place + s.length ≤ length (S.device source.old).bytes) }
+    ensures uses { Asks 4 (is_err result) (S.device source.old) (S.device source.new) }
+    ensures number { IsTrue (S.device source.old).honest →
+        IfOk result (λ found. found ≡ number_in (S.device source.old).bytes value) }
+{
+    let Some(span) = value else {
+        return Ok(None);
+    };
+    if span.length != 4 {
+        return Ok(None);
+    }
+    let mut bytes = [0; 4];
+    source.fill_at(span.place, &mut bytes)?;
+    Ok(Some(number_at(&bytes, 0)))
+}
+
+// The place that the cells of an image and its value `data` tell.
+fn decide(
+    base: u64,
+    size: Option<u32>,
+    position: Option<u32>,
+    offset: Option<u32>,
+    payload: Option<Span>,
+) -> Result<Place, FitFault>
+    requires { base < 2 ^ 40 }
+    ensures { result ≡ or_else (external 0 position size) (external base offset size)
+        (embedded payload) }
+{
+    if let (Some(at), Some(size)) = (position, size) {
+        return Ok(Place {
+            at: at as u64,
+            size: size as u64,
+        });
+    }
+    if let (Some(at), Some(size)) = (offset, size) {
+        return Ok(Place {
+            at: base + at as u64,
+            size: size as u64,
+        });
+    }
+    match payload {
+        Some(span) => Ok(Place {
+            at: span.place,
+            size: span.length,
+        }),
+        None => Err(FitFault::NoData),
+    }
+}
