@@ -1,21 +1,19 @@
 -- The images of an indexed tree, by their numbers.
-use Rattle.std.proofs.Common.{◌≡◌, ◌<◌, ◌≤◌, ◌+◌, ℕ, zero, suc, List, [], ◌∷◌, ◌++◌, length, drop, map, find, Option, Some, None, Bool, true, false, codes, refl, ap, sym, ◌∙◌, subst, arith, length-append}
+use Rattle.std.proofs.Common.{◌≡◌, ◌<◌, ◌≤◌, ◌+◌, ℕ, zero, suc, List, [], ◌∷◌, length, drop, map, Option, Some, None, Bool, true, false, refl, ap, sym, ◌∙◌, subst, arith}
 use Rattle.std.specs.List.{slice_get}
 use Rattle.std.specs.Option.{option_map}
-use Rattle.std.specs.Str.{bytes_eq}
 use Rattle.std.proofs.Math.ListN.{length-map}
 use Rattle.std.proofs.Math.Nat.{suc-ne-zero}
 use Rattle.std.proofs.lemmas.List.{length-drop, drop-drop}
 use Rattle.std.proofs.lemmas.Option.{slice_get_within, slice_get_past}
 use Rattle.uimg_blob.specs.declared.nodes.Blob.{Blob}
-use Rattle.uimg_blob.specs.Tokens.{Property}
 use Rattle.uimg_blob.specs.Grammar.{Siblings, none, node}
 use Rattle.uimg_blob.specs.Roles.{Level, role_at, level_in, level_after, in_root, in_images, is_images}
 use Rattle.uimg_blob.specs.Rows.{Row, first_of, table, size, child_number}
-use Rattle.uimg_blob.specs.Kept.{kept, kept_of, entries, entry_of}
+use Rattle.uimg_blob.specs.Kept.{kept_of, entry_of}
 use Rattle.uimg_blob.specs.Standing.{Stand}
 use Rattle.uimg_blob.specs.Indexed.{IsIndexed, IsRow}
-use Rattle.uimg_blob.specs.LookUps.{NodeOf, listed, child, images}
+use Rattle.uimg_blob.specs.LookUps.{NodeOf, listed, images}
 use Rattle.uimg_blob.specs.Spots.{Spot, spot_of, spots}
 use Rattle.uimg_blob.proofs.LookLaws.{length_rows}
 use Rattle.uimg_blob.proofs.PhaseLaws.{some_none, some_some}

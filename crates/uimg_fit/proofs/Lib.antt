@@ -1,3 +1,4 @@
 pub mod Examples
 pub mod ReadLaws
 pub mod ImageLaws
+pub mod CellLaws

@@ -3,7 +3,7 @@ use Rattle.std.specs.Prelude.{◌≡◌, ℕ, List, map, Option, Some, None, Res
 use Rattle.std.specs.List.{slice_get}
 use Rattle.uimg_blob.specs.declared.nodes.Blob.{Blob}
 use Rattle.uimg_blob.specs.Tokens.{Property}
-use Rattle.uimg_blob.specs.Grammar.{Siblings, none, node}
+use Rattle.uimg_blob.specs.Grammar.{Siblings, node}
 use Rattle.uimg_blob.specs.Roles.{Level, in_images}
 use Rattle.uimg_blob.specs.Rows.{first_of}
 use Rattle.uimg_blob.specs.Standing.{Stand}

@@ -1,5 +1,5 @@
 -- The most bytes that a command asks for.
-use Rattle.std.specs.Prelude.{ℕ, ◌+◌, ◌*◌, ◌/◌, List, [], length, Result, Ok, Err, Bool, true, false}
+use Rattle.std.specs.Prelude.{ℕ, ◌+◌, ◌*◌, ◌/◌, List, length, Result, Ok, Err, Bool, true, false}
 use Rattle.std.specs.List.{sum_by, count_by}
 use Rattle.uimg_blob.specs.LookUps.{NodeOf, hashes}
 use Rattle.uimg_blob.specs.Spots.{Spot}

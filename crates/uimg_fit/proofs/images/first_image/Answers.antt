@@ -1,4 +1,4 @@
-use Rattle.std.proofs.Common.{rules, ◌≡◌, Option, Some, sym, ◌∙◌, subst}
+use Rattle.std.proofs.Common.{Option, sym, ◌∙◌, subst}
 use Rattle.std.specs.Prelude.{ℕ}
 use Rattle.uimg_fit.specs.Nodes.{HasImages}
 use Rattle.uimg_fit.proofs.ImageLaws.{begin, row_within, lacks_images}

@@ -1,4 +1,4 @@
-use Rattle.std.proofs.Common.{rules, ◌≡◌, ◌≤◌, ◌+◌, ℕ, Option, Some, None, subst, sym, arith}
+use Rattle.std.proofs.Common.{rules, ◌≡◌, ℕ, Option, Some, subst, arith}
 use Rattle.uimg_fit.proofs.ImageLaws.{LeftImages, next_left, image_next, none_next}
 use Rattle.uimg_fit.proofs.images.image_at.Goals as goal
 
