@@ -1,4 +1,4 @@
-use Rattle.std.proofs.Common.{◌≡◌, ◌++◌, map, ℕ, ◌∙◌, ap, sym, refl, true, false, List, [], ◌∷◌, Bor, length, length-append, arith, ◌<◌}
+use Rattle.std.proofs.Common.{◌≡◌, ◌++◌, map, ℕ, ◌∙◌, ap, sym, refl, true, false, List, [], ◌∷◌, Bor, length, length-append, arith}
 use Rattle.std.proofs.lemmas.List.{map-append}
 use Rattle.std.specs.List.{list_any}
 use Rattle.std.specs.Str.{bytes_eq}
