@@ -4,5 +4,7 @@
 mod fault;
 mod images;
 mod places;
+#[cfg(test)]
+mod tests;
 
 pub use fault::{Fault, FitFault};

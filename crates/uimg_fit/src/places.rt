@@ -46,7 +46,7 @@ pub(crate) fn cell<S: Source>(
 }
 
 // The place that the cells of an image and its value `data` tell.
-fn decide(
+pub(crate) fn decide(
     base: u64,
     size: Option<u32>,
     position: Option<u32>,
