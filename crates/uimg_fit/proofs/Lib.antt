@@ -2,3 +2,5 @@ pub mod Examples
 pub mod ReadLaws
 pub mod ImageLaws
 pub mod CellLaws
+pub mod NodeLaws
+pub mod HashLaws

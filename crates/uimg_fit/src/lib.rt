@@ -3,6 +3,7 @@
 
 mod fault;
 mod images;
+mod nodes;
 mod places;
 #[cfg(test)]
 mod tests;
