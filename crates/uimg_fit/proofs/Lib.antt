@@ -4,3 +4,4 @@ pub mod ImageLaws
 pub mod CellLaws
 pub mod NodeLaws
 pub mod HashLaws
+pub mod PlaceLaws
