@@ -4,6 +4,7 @@
 mod fault;
 mod images;
 mod places;
+pub mod samples;
 #[cfg(test)]
 mod tests;
 
