@@ -44,3 +44,9 @@ end_of (Err (Blob OutOfMemory at)) = None
 end_of (Err (Blob fault at)) = Some (refused (Blob fault at))
 end_of (Err (Fit fault)) = Some (refused (Fit fault))
 end_of (Err _) = None
+
+-- the answer is that the image is refused, or memory for its table of nodes
+abbrev pub is_refused : {X : Type 0} → Result X Fault → Bool
+is_refused (Err (Blob fault at)) = true
+is_refused (Err (Fit fault)) = true
+is_refused _ = false

@@ -5,6 +5,7 @@ mod fault;
 mod images;
 mod nodes;
 mod places;
+pub mod samples;
 #[cfg(test)]
 mod tests;
 
