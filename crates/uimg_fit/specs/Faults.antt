@@ -1,5 +1,5 @@
 -- What the answers of this crate say.
-use Rattle.std.specs.Prelude.{Result, Ok, Err, Option, Some, None, Bool, true, false}
+use Rattle.std.specs.Prelude.{◌≡◌, ⊤, Result, Ok, Err, Option, Some, None, Bool, true, false}
 use Rattle.uimg_base.specs.Outcome.{End, done, not_right, refused}
 use Rattle.uimg_base.specs.declared.status.Status.{Status}
 use Rattle.uimg_base.specs.declared.status.Status.TheVariants.{Done, NotRight}
@@ -50,3 +50,11 @@ abbrev pub is_refused : {X : Type 0} → Result X Fault → Bool
 is_refused (Err (Blob fault at)) = true
 is_refused (Err (Fit fault)) = true
 is_refused _ = false
+
+-- An answer is the value or the fault of a definition, unless a device failed or memory was refused.
+abbrev pub Gives : {X Y : Type 0} → (X → Y) → Result X Fault → Result Y Fault → Type 0
+Gives view (Ok x) r = r ≡ Ok (view x)
+Gives view (Err (Blob OutOfMemory at)) r = ⊤
+Gives view (Err (Blob fault at)) r = r ≡ Err (Blob fault at)
+Gives view (Err (Fit fault)) r = r ≡ Err (Fit fault)
+Gives view (Err _) r = ⊤

@@ -1,10 +1,11 @@
-ghost use Rattle.std.specs.Prelude.{◌≡◌, IsTrue};
+ghost use Rattle.std.specs.Prelude.{◌≡◌, ◌+◌, ◌≤◌, false, length, IsTrue, IfOk};
+ghost use Rattle.uimg_texts.specs.Slices.{slice};
 ghost use Rattle.uimg_base.specs.Device.{RisesIf};
 ghost use Rattle.uimg_base.specs.Outcome.{Tells};
 ghost use Rattle.uimg_base.specs.Ranges.{ReadsAhead};
 ghost use Rattle.uimg_base.specs.Using.{UsesAtMost};
-ghost use Rattle.uimg_fit.specs.Extraction.{extract_of};
-ghost use Rattle.uimg_fit.specs.Faults.{is_read, is_put, is_out_of_memory, is_refused, end_of};
+ghost use Rattle.uimg_fit.specs.Extraction.{payload_at, extract_of};
+ghost use Rattle.uimg_fit.specs.Faults.{is_read, is_put, is_out_of_memory, is_refused, end_of, Gives};
 ghost use Rattle.uimg_fit.specs.Rooms.{TakesNodes};
 ghost use Rattle.uimg_fit.specs.Work.{list_work, extract_work};
 

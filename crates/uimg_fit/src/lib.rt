@@ -1,6 +1,7 @@
 //! FIT images: listing, verification and extraction.
 #![tactic(auto)]
 
+mod extraction;
 mod fault;
 mod images;
 mod nodes;
@@ -9,4 +10,5 @@ pub mod samples;
 #[cfg(test)]
 mod tests;
 
+pub use extraction::extract;
 pub use fault::{Fault, FitFault};
