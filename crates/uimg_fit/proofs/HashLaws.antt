@@ -1,5 +1,5 @@
 -- The hash nodes of an image, by their numbers.
-use Rattle.std.proofs.Common.{◌≡◌, ◌+◌, ℕ, List, [], ◌∷◌, Option, Some, None, Bool, true, false, if◌then◌else◌, refl, ap, sym, ◌∙◌, subst}
+use Rattle.std.proofs.Common.{◌≡◌, ℕ, List, [], ◌∷◌, Option, Some, None, Bool, true, false, if◌then◌else◌, refl, ap, sym, ◌∙◌, subst}
 use Rattle.std.specs.List.{filter}
 use Rattle.uimg_blob.specs.declared.nodes.Blob.{Blob}
 use Rattle.uimg_blob.specs.Grammar.{Siblings}
@@ -9,7 +9,6 @@ use Rattle.uimg_blob.specs.Indexed.{IsIndexed, IsRow}
 use Rattle.uimg_blob.specs.LookUps.{NodeOf, listed, hashes}
 use Rattle.uimg_blob.specs.Spots.{Spot}
 use Rattle.uimg_blob.proofs.PhaseLaws.{by_bool}
-use Rattle.uimg_blob.proofs.StandLaws.{row_of, row_stands, below_stand}
 use Rattle.uimg_fit.specs.Nodes.{AreFrom, IsNode, HashesFrom, HashAt, FirstHash}
 use Rattle.uimg_fit.proofs.ImageLaws.{Front, front, none_left, children_of}
 use Rattle.uimg_fit.proofs.NodeLaws.{node_row}

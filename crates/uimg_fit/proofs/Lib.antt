@@ -5,3 +5,4 @@ pub mod CellLaws
 pub mod NodeLaws
 pub mod HashLaws
 pub mod PlaceLaws
+pub mod ExtractionLaws

@@ -1,5 +1,5 @@
 -- Nodes of an indexed tree by their numbers.
-use Rattle.std.specs.Prelude.{◌≡◌, ◌≤◌, ℕ, List, [], ◌∷◌, true, map, Option, Some, None, Result, Ok, Err, IsTrue}
+use Rattle.std.specs.Prelude.{◌≡◌, ◌≤◌, ℕ, List, [], ◌∷◌, true, false, ⊤, map, Option, Some, None, Result, Ok, Err, IsTrue}
 use Rattle.std.specs.List.{slice_get, filter}
 use Rattle.uimg_texts.specs.Numbers.{be32}
 use Rattle.uimg_blob.specs.declared.nodes.Blob.{Blob}
@@ -13,6 +13,9 @@ use Rattle.uimg_blob.specs.Standing.{Stand}
 use Rattle.uimg_blob.specs.Indexed.{IsIndexed, keeps}
 use Rattle.uimg_blob.specs.LookUps.{NodeOf, listed, images, configurations}
 use Rattle.uimg_blob.specs.Spots.{Spot, spot_of, spots}
+use Rattle.uimg_blob.specs.Faults.{refuses_memory}
+use Rattle.uimg_fit.specs.declared.fault.Fault.{Fault}
+use Rattle.uimg_fit.specs.declared.fault.Fault.TheVariants as of
 use Rattle.uimg_fit.specs.declared.fault.FitFault.{FitFault}
 use Rattle.uimg_fit.specs.declared.fault.FitFault.TheVariants.{NoImages, NoSuchImage}
 
@@ -31,6 +34,18 @@ pub record IsRead (file : List ℕ) (blob : Blob) (es : List (List ℕ)) (t : Si
   pub is : tree file ≡ Ok t
   pub indexed : IsIndexed t blob es
   pub totalsize : blob.totalsize ≡ be32 file 4
+
+-- A file has a tree, whose entries are those of a room.
+pub record HasTree (file : List ℕ) (blob : Blob) (es : List (List ℕ)) : Type 0 where
+  pub nodes : Siblings
+  pub read : IsRead file blob es nodes
+
+-- what an answer says of the tree of a file
+abbrev pub GivesTree : List ℕ → Result Blob Fault → List (List ℕ) → Type 0
+GivesTree file (Ok blob) es = HasTree file blob es
+GivesTree file (Err (of.Blob fault at)) es = refuses_memory fault ≡ false → tree file ≡ Err (fault, at)
+GivesTree file (Err (of.Fit fault)) es = ⊥
+GivesTree file (Err _) es = ⊤
 
 -- The node of a number, at a level of the tree, is such.
 pub record IsNode (t : Siblings) (level : Level) (number : ℕ) (found : NodeOf Spot) : Type 0 where

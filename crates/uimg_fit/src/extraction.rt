@@ -12,10 +12,10 @@ ghost use Rattle.uimg_fit.specs.Work.{list_work, extract_work};
 use crate::fault::Fault;
 use crate::images::image_at;
 use crate::places::{Place, payload_place};
+use crate::tree::read_tree;
 use std::alloc::Allocator;
 use std::io::Write;
 use uimg_base::{Out, Room, Source, Status, copy_range};
-use uimg_blob::index;
 
 // The place of the payload of the image at a position.
 fn locate_payload<S: Source, A: Allocator>(
@@ -32,7 +32,7 @@ fn locate_payload<S: Source, A: Allocator>(
         (λ p. slice (S.device source.old).bytes p.at p.size) result
         (payload_at (S.device source.old).bytes position) }
 {
-    let blob = index(source, room)?;
+    let blob = read_tree(source, room)?;
     let image = image_at(&blob, room, position)?;
     payload_place(source, &blob, room, image)
 }

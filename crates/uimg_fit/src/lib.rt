@@ -9,6 +9,7 @@ mod places;
 pub mod samples;
 #[cfg(test)]
 mod tests;
+mod tree;
 
 pub use extraction::extract;
 pub use fault::{Fault, FitFault};

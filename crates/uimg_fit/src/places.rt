@@ -4,7 +4,7 @@ ghost use Rattle.uimg_blob.specs.LookUps.{NodeOf};
 ghost use Rattle.uimg_blob.specs.Grammar.{Siblings};
 ghost use Rattle.uimg_blob.specs.Roles.{in_images};
 ghost use Rattle.uimg_blob.specs.Spots.{Spot};
-ghost use Rattle.uimg_fit.specs.Faults.{is_read, is_put};
+ghost use Rattle.uimg_fit.specs.Faults.{is_read, is_put, is_out_of_memory};
 ghost use Rattle.uimg_fit.specs.Files.{number_in};
 ghost use Rattle.uimg_fit.specs.Lying.{Lie};
 ghost use Rattle.uimg_fit.specs.Nodes.{InFile, IsRead, IsNode};
@@ -99,7 +99,13 @@ pub(crate) fn find_place<S: Source, A: Allocator>(
     let position = cell(source, value_of(blob, room, image, Key::DataPosition))?;
     let offset = cell(source, value_of(blob, room, image, Key::DataOffset))?;
     let payload = value_of(blob, room, image, Key::Data);
-    Ok(decide(up4(blob.totalsize() as u64), size, position, offset, payload))
+    Ok(decide(
+        up4(blob.totalsize() as u64),
+        size,
+        position,
+        offset,
+        payload,
+    ))
 }
 
 // The place of an image's payload that ends in the source.
@@ -113,6 +119,7 @@ pub(crate) fn payload_place<S: Source, A: Allocator>(
     requires inside { InFile (length (S.device source.old).bytes) blob.now room.now.entries }
     ensures uses { Asks 12 (is_read result) (S.device source.old) (S.device source.new) }
     ensures no_put { is_put result ≡ false }
+    ensures no_refused_memory { is_out_of_memory result ≡ false }
     ensures inside { IfOk result (λ p. p.at + p.size ≤ length (S.device source.old).bytes) }
     ensures told { IsTrue (S.device source.old).honest → (t : Siblings) →
         IsRead (S.device source.old).bytes blob.now room.now.entries t → (found : NodeOf Spot) →

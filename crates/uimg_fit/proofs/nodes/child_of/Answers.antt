@@ -1,4 +1,3 @@
-use Rattle.std.proofs.Common.{rules, ◌≡◌, ℕ, List, [], Option, Some, None, true, false, ap, refl, subst, sym, ◌∙◌, arith}
 use Rattle.uimg_fit.proofs.ImageLaws.{children_of}
 use Rattle.uimg_fit.proofs.nodes.child_of.Goals as goal
 

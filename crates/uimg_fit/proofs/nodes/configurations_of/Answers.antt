@@ -1,4 +1,4 @@
-use Rattle.std.proofs.Common.{rules, ◌≡◌, ℕ, List, [], Option, Some, None, true, false, ap, refl, subst, sym, ◌∙◌, arith}
+use Rattle.std.proofs.Common.{◌∙◌}
 use Rattle.uimg_fit.proofs.ImageLaws.{tells_configurations}
 use Rattle.uimg_fit.proofs.NodeLaws.{configurations_within}
 use Rattle.uimg_fit.proofs.nodes.configurations_of.Goals as goal

@@ -1,4 +1,4 @@
-use Rattle.std.proofs.Common.{rules, ◌≡◌, ℕ, List, [], Option, Some, None, true, false, ap, refl, subst, sym, ◌∙◌, arith, length}
+use Rattle.std.proofs.Common.{rules, List, ap, ◌∙◌}
 use Rattle.uimg_blob.specs.Keys.{name_of}
 use Rattle.uimg_blob.specs.Roles.{top}
 use Rattle.uimg_blob.specs.Plain.{NamedOf}

@@ -1,7 +1,7 @@
-use Rattle.std.proofs.Common.{rules, ◌≡◌, ◌≤◌, ◌+◌, ℕ, List, length, [], Option, Some, None, Ok, Err, Result, true, false, ap, refl, subst, sym, ◌∙◌, arith, codes}
+use Rattle.std.proofs.Common.{rules, ◌≡◌, ap, refl, sym, ◌∙◌}
 use Rattle.std.specs.Option.{option_and_then}
 use Rattle.uimg_blob.specs.Roles.{in_images}
-use Rattle.uimg_fit.specs.Files.{cell, number, number_in}
+use Rattle.uimg_fit.specs.Files.{number, number_in}
 use Rattle.uimg_fit.proofs.PlaceLaws.{place_is}
 use Rattle.uimg_fit.proofs.places.find_place.Goals as goal
 

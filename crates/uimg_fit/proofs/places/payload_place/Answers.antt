@@ -1,5 +1,4 @@
-use Rattle.std.proofs.Common.{rules, ◌≡◌, ◌≤◌, ◌+◌, ℕ, List, length, [], Option, Some, None, Ok, Err, Result, true, false, ap, refl, subst, sym, ◌∙◌, arith, codes}
-use Rattle.uimg_blob.specs.Roles.{in_images}
+use Rattle.std.proofs.Common.{rules, ◌≡◌, Ok, Err, Result, subst, sym, ◌∙◌}
 use Rattle.uimg_fit.specs.declared.places.Place.{Place}
 use Rattle.uimg_fit.specs.declared.fault.Fault.{Fault}
 use Rattle.uimg_fit.specs.declared.fault.Fault.TheVariants.{Fit}
