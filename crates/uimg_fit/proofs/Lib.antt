@@ -6,3 +6,5 @@ pub mod NodeLaws
 pub mod HashLaws
 pub mod PlaceLaws
 pub mod ExtractionLaws
+pub mod AllowanceLaws
+pub mod SharesLaws
