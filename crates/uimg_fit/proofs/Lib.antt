@@ -8,3 +8,12 @@ pub mod PlaceLaws
 pub mod ExtractionLaws
 pub mod AllowanceLaws
 pub mod SharesLaws
+pub mod LookUpLaws
+pub mod SoundLaws
+pub mod SpotLaws
+pub mod InsideLaw
+pub mod MovedLaws
+pub mod OutsideLaw
+pub mod FillLaw
+pub mod BuiltLaw
+pub mod SourceLaws

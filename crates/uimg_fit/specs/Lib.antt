@@ -10,3 +10,8 @@ pub mod Lying
 pub mod Nodes
 pub mod Rooms
 pub mod Allowances
+pub mod Filling
+pub mod Building
+pub mod Refusing
+pub mod Sources
+pub mod ReadsBack

@@ -5,6 +5,7 @@ mod extraction;
 mod fault;
 mod images;
 mod nodes;
+mod placement;
 mod places;
 pub mod samples;
 #[cfg(test)]
@@ -13,3 +14,4 @@ mod tree;
 
 pub use extraction::extract;
 pub use fault::{Fault, FitFault};
+pub use placement::Placement;

@@ -1,0 +1,93 @@
+-- What is set in a tree before it is built.
+use Rattle.std.specs.Prelude.{◌≡◌, ℕ, List, [], ◌∷◌, if◌then◌else◌, not, Option, Some, None, codes}
+use Rattle.std.specs.List.{filter, list_any, AllByRecursion}
+use Rattle.std.specs.Option.{option_and_then, option_map_or}
+use Rattle.std.specs.Str.{bytes_eq}
+use Rattle.uimg_sums.specs.declared.algo.Algo.{Algo}
+use Rattle.uimg_sums.specs.Algorithms.{algo_named, digest_by}
+use Rattle.uimg_blob.specs.Roles.{is_hash}
+use Rattle.uimg_texts.specs.Nul.{text}
+use Rattle.uimg_blob.specs.Plain.{NamedOf, NodesOf, Named, Nodes, no_node, a_node}
+use Rattle.uimg_tree.specs.Encoding.{word}
+use Rattle.uimg_blob.specs.LookUps.{NodeOf, first, images, hashes}
+
+-- properties, the first of a name with another value; where there is none, one more
+unfoldable pub with : {V : Type 0} → List ℕ → V → List (NamedOf V) → List (NamedOf V)
+with key value [] = record { name = key; value = value } ∷ []
+with key value (p ∷ own) = if bytes_eq key p.name then record { name = key; value = value } ∷ own else p ∷ with key value own
+
+-- the names of the properties that give a payload a place outside the blob
+abbrev pub external_names : List (List ℕ)
+external_names = codes "data-offset" ∷ codes "data-size" ∷ codes "data-position" ∷ []
+
+-- properties but for those
+abbrev pub without_external : {V : Type 0} → List (NamedOf V) → List (NamedOf V)
+without_external own = filter (λ p. not (list_any (bytes_eq p.name) external_names)) own
+
+-- a node and those that follow it
+abbrev pub before : {V : Type 0} → NodeOf V → NodesOf V → NodesOf V
+before n after = a_node n.name n.own n.below after
+
+-- nodes, each by a function
+unfoldable pub each : {V : Type 0} → (NodeOf V → NodeOf V) → NodesOf V → NodesOf V
+each f no_node = no_node
+each f (a_node name own below after) = before (f (record { name = name; own = own; below = below })) (each f after)
+
+-- nodes, the children of the first of a name by a function
+unfoldable pub in_first : {V : Type 0} → List ℕ → (NodesOf V → NodesOf V) → NodesOf V → NodesOf V
+in_first key f no_node = no_node
+in_first key f (a_node name own below after) = if bytes_eq key name then a_node name own (f below) after else a_node name own below (in_first key f after)
+
+-- a tree, its images by a function
+abbrev pub with_images : {V : Type 0} → (NodesOf V → NodesOf V) → NodesOf V → NodesOf V
+with_images f no_node = no_node
+with_images f (a_node name own below after) = a_node name own (in_first (codes "images") f below) after
+
+-- a tree, one of the root's properties with another value
+abbrev pub with_root : {V : Type 0} → List ℕ → V → NodesOf V → NodesOf V
+with_root key value no_node = no_node
+with_root key value (a_node name own below after) = a_node name (with key value own) below after
+
+-- the algorithm of a hash node, if its name is known
+abbrev pub algo_in : List Named → Option Algo
+algo_in own = option_and_then (λ name. algo_named (text name)) (first own (codes "algo"))
+
+-- a hash node with the digest of a payload; one whose algorithm is unknown stays
+abbrev pub with_digest : List ℕ → NodeOf (List ℕ) → NodeOf (List ℕ)
+with_digest message h = option_map_or (λ algo. record h { own = with (codes "value") (digest_by algo message) h.own }) (algo_in h.own) h
+
+-- a child of an image: a hash node with the digest, any other as it is
+abbrev pub hashed : List ℕ → NodeOf (List ℕ) → NodeOf (List ℕ)
+hashed message h = if is_hash h.name then with_digest message h else h
+
+-- an image with the digests of its first `data`, and no place outside the blob
+abbrev pub filled_image : NodeOf (List ℕ) → NodeOf (List ℕ)
+filled_image image = record image {
+  own = without_external image.own;
+  below = option_map_or (λ message. each (hashed message) image.below) (first image.own (codes "data")) image.below;
+}
+
+-- a tree with a time and its images' digests
+abbrev pub filled : ℕ → Nodes → Nodes
+filled time t = with_root (codes "timestamp") (word time) (with_images (each filled_image) t)
+
+-- A hash node's algorithm is known and its first `value` is the digest of a payload.
+pub record IsDigest (message : List ℕ) (h : NodeOf (List ℕ)) : Type 0 where
+  pub algo : Algo
+  pub known : algo_in h.own ≡ Some algo
+  pub value : first h.own (codes "value") ≡ Some (digest_by algo message)
+
+-- An image has `data` and no place outside the blob, and each of its hash nodes has the digest of its first `data`.
+pub record IsFilledImage (image : NodeOf (List ℕ)) : Type 0 where
+  pub message : List ℕ
+  pub has : first image.own (codes "data") ≡ Some message
+  pub no_offset : first image.own (codes "data-offset") ≡ None
+  pub no_size : first image.own (codes "data-size") ≡ None
+  pub no_position : first image.own (codes "data-position") ≡ None
+  pub digests : AllByRecursion (IsDigest message) (hashes image)
+
+-- A tree has `images`, and each image is filled.
+pub record IsFilled (t : Nodes) : Type 0 where
+  pub found : List (NodeOf (List ℕ))
+  pub are_images : images t ≡ Some found
+  pub each_filled : AllByRecursion IsFilledImage found
