@@ -54,11 +54,12 @@ pub(super) fn request<'a>(matches: &ArgMatches<'a>) -> Result<RunRequest<'a>, Wo
     })
 }
 
-// The format of an image type's short name. FIT images, which flat_dt asks for, are not read yet.
+// The format of an image type's short name.
 fn form_named(name: &str) -> Result<Form, WordsFault> {
     match kind_code(name.as_bytes()) {
-        Some(FLAT_DT) | None => Err(WordsFault::UnknownName),
+        Some(FLAT_DT) => Ok(Form::Fit),
         Some(_) => Ok(Form::Legacy),
+        None => Err(WordsFault::UnknownName),
     }
 }
 
