@@ -2,3 +2,7 @@ pub mod Examples
 pub mod ReadLaws
 pub mod ImageLaws
 pub mod CellLaws
+pub mod NodeLaws
+pub mod HashLaws
+pub mod PlaceLaws
+pub mod ExtractionLaws
