@@ -3,7 +3,7 @@ use Rattle.std.specs.Prelude.{Result, Ok, Err, Option, Some, None, Bool, true, f
 use Rattle.uimg_base.specs.Outcome.{End, done, not_right, refused}
 use Rattle.uimg_base.specs.declared.status.Status.{Status}
 use Rattle.uimg_base.specs.declared.status.Status.TheVariants.{Done, NotRight}
-use Rattle.uimg_blob.specs.declared.fault.BlobFault.TheVariants as blob
+use Rattle.uimg_blob.specs.Faults.{refuses_memory}
 use Rattle.uimg_fit.specs.declared.fault.Fault.TheVariants as fit
 use Rattle.uimg_fit.specs.declared.fault.Fault.{Fault as FitEngineFault}
 use Rattle.uimg_legacy.specs.declared.fault.Fault.TheVariants as legacy
@@ -36,7 +36,7 @@ is_put _ = false
 
 -- the answer is that the memory for the table of a FIT image's nodes was refused
 abbrev pub is_no_memory : {X : Type 0} → Result X Fault → Bool
-is_no_memory (Err (Blob blob.OutOfMemory at)) = true
+is_no_memory (Err (Blob fault at)) = refuses_memory fault
 is_no_memory _ = false
 
 -- the answer is that the image is refused, or the memory for the table of its nodes
@@ -70,6 +70,11 @@ is_of_making (Err Keep) = true
 is_of_making (Err OutOfMemory) = true
 is_of_making _ = false
 
+-- an end, or none where memory was refused
+abbrev pub unless_memory : Bool → End Fault → Option (End Fault)
+unless_memory true e = None
+unless_memory false e = Some e
+
 -- The end that an answer tells, where no device failed and no memory was refused. A command on an image answers none of the
 -- last three, which no outcome has as its end.
 abbrev pub end_of : Result Status Fault → Option (End Fault)
@@ -77,5 +82,5 @@ end_of (Ok Done) = Some done
 end_of (Ok NotRight) = Some not_right
 end_of (Err Read) = None
 end_of (Err Put) = None
-end_of (Err (Blob blob.OutOfMemory at)) = None
+end_of (Err (Blob fault at)) = unless_memory (refuses_memory fault) (refused (Blob fault at))
 end_of (Err fault) = Some (refused fault)

@@ -70,7 +70,7 @@ fn run_fit<E: FitEngine, S: Source, A: Allocator, W: Write>(
     let status = match action {
         Action::List => E::list(source, room, out)?,
         Action::Verify => E::verify(source, room, out)?,
-        Action::Extract(position) => E::extract(position, source, room, out)?,
+        Action::Extract(position) => uimg_fit::extract(position, source, room, out)?,
     };
     Ok(status)
 }

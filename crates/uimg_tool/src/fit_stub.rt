@@ -1,14 +1,12 @@
-ghost use Rattle.std.specs.Prelude.{◌≡◌, IsTrue};
+ghost use Rattle.std.specs.Prelude.{IsTrue};
 ghost use Rattle.uimg_base.specs.Device.{RisesIf};
 ghost use Rattle.uimg_base.specs.Outcome.{Tells};
-ghost use Rattle.uimg_base.specs.Ranges.{ReadsAhead};
 ghost use Rattle.uimg_base.specs.Using.{UsesAtMost};
-ghost use Rattle.uimg_fit.specs.Extraction.{extract_of};
 ghost use Rattle.uimg_fit.specs.Listing.{list_of};
 ghost use Rattle.uimg_fit.specs.Report.{verify_of};
-ghost use Rattle.uimg_fit.specs.Faults.{is_read, is_put, is_refused, is_out_of_memory, end_of};
+ghost use Rattle.uimg_fit.specs.Faults.{is_read, is_put, is_out_of_memory, end_of};
 ghost use Rattle.uimg_fit.specs.Rooms.{TakesNodes};
-ghost use Rattle.uimg_fit.specs.Work.{list_work, verify_work, extract_work};
+ghost use Rattle.uimg_fit.specs.Work.{list_work, verify_work};
 
 use uimg_fit::Fault;
 use std::alloc::Allocator;
@@ -39,24 +37,6 @@ fn verify<S: Source, A: Allocator, W: Write>(
     ensures faults { RisesIf (is_put result) out.old.faults out.new.faults }
     ensures told { IsTrue (S.device source.old).honest →
         Tells (end_of result) (verify_of (S.device source.old).bytes) out.old out.new };
-
-fn extract<S: Source, A: Allocator, W: Write>(
-    position: u32,
-    source: &mut S,
-    room: &mut Room<A>,
-    out: &mut Out<W>,
-) -> Result<Status, Fault>
-    ensures uses { UsesAtMost (extract_work (S.device source.old).bytes position)
-        (is_read result) (S.device source.old) (S.device source.new) }
-    ensures room { TakesNodes (S.device source.old) (is_out_of_memory result) room.old room.new }
-    ensures ahead { IsTrue (S.device source.old).honest →
-        ReadsAhead (list_work (S.device source.old).bytes)
-        (S.device source.old) (S.device source.new) out.old out.new
-        (extract_of (S.device source.old).bytes position).text }
-    ensures untouched { IsTrue (is_refused result) → out.new ≡ out.old }
-    ensures faults { RisesIf (is_put result) out.old.faults out.new.faults }
-    ensures told { IsTrue (S.device source.old).honest →
-        Tells (end_of result) (extract_of (S.device source.old).bytes position) out.old out.new };
 }
 
 pub(crate) struct NoFit;
@@ -72,16 +52,6 @@ fn list<S: Source, A: Allocator, W: Write>(
 }
 
 fn verify<S: Source, A: Allocator, W: Write>(
-    _source: &mut S,
-    _room: &mut Room<A>,
-    _out: &mut Out<W>,
-) -> Result<Status, Fault>
-{
-    Err(Fault::Put)
-}
-
-fn extract<S: Source, A: Allocator, W: Write>(
-    _position: u32,
     _source: &mut S,
     _room: &mut Room<A>,
     _out: &mut Out<W>,
