@@ -7,8 +7,8 @@ ghost use Rattle.uimg_tool.specs.Making.{options_of, names_of, FitNames, Lacks, 
 
 use crate::command::Command;
 use crate::engine::run_by_form;
-use crate::fit_stub::NoFit;
 use crate::fault::Fault;
+use crate::fit_stub::NoFit;
 use crate::make_command::MakeCommand;
 use crate::making::make;
 use std::alloc::Allocator;

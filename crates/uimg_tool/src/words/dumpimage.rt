@@ -15,19 +15,19 @@ pub(super) fn command<'a>(alloc: Global) -> Result<clap::Command<'a>, AllocError
             alloc,
             "type",
             'T',
-            "Ask for a legacy image, by any of the short names below",
+            "Ask for a legacy or a FIT image, by a short name below",
         ))?
         .arg(value(
             alloc,
             "position",
             'p',
-            "Extract the part of this number, counted from 0",
+            "Extract the part or payload of this number, counted from 0",
         ))?
         .arg(value(
             alloc,
             "outfile",
             'o',
-            "Write the extracted part to this file",
+            "Write what is extracted to this file",
         ))?
         .arg(image(alloc, "The image"))
 }
