@@ -2,6 +2,7 @@ pub mod Faults
 pub mod Files
 pub mod Places
 pub mod Report
+pub mod Plans
 pub mod Extraction
 pub mod Values
 pub mod Listing

@@ -4,7 +4,9 @@
 mod fault;
 mod images;
 mod places;
+mod plans;
 #[cfg(test)]
 mod tests;
+mod words;
 
 pub use fault::{Fault, FitFault};

@@ -1,0 +1,68 @@
+-- What is to be done about a hash node, before any payload is read.
+use Rattle.std.specs.Prelude.{◌≡◌, ⊤, ℕ, ◌+◌, ◌≤◌, List, ◌==◌, if◌then◌else◌, Option, Some, None, codes}
+use Rattle.std.specs.Option.{option_map}
+use Rattle.std.specs.Str.{bytes_eq}
+use Rattle.uimg_sums.specs.declared.algo.Algo.{Algo}
+use Rattle.uimg_sums.specs.Algorithms.{algo_named, digest_size, digest_by}
+use Rattle.uimg_sums.specs.AnySum.{padded_digest}
+use Rattle.uimg_texts.specs.Nul.{text}
+use Rattle.uimg_texts.specs.Slices.{slice}
+use Rattle.uimg_blob.specs.declared.texts.Span.{Span}
+use Rattle.uimg_blob.specs.LookUps.{NodeOf, first}
+use Rattle.uimg_blob.specs.Indexed.{value_span}
+use Rattle.uimg_blob.specs.Spots.{Spot}
+use Rattle.uimg_fit.specs.declared.plans.Plan.{Plan}
+use Rattle.uimg_fit.specs.declared.plans.Plan.TheVariants.{Malformed, Unsupported, Compared}
+use Rattle.uimg_fit.specs.declared.words.Word.{Word}
+use Rattle.uimg_fit.specs.declared.words.Word.TheVariants as word
+use Rattle.uimg_fit.specs.Report.{algo_of}
+
+-- a value is compared by an algorithm if it has the length of its digests
+unfoldable pub plan_for : Algo → Span → Plan
+plan_for algo value = if value.length == digest_size algo then Compared algo value else Malformed
+
+abbrev pub plan_by_value : Algo → Option Span → Plan
+plan_by_value algo None = Malformed
+plan_by_value algo (Some value) = plan_for algo value
+
+abbrev pub plan_by_algo : Option Algo → Option Span → Plan
+plan_by_algo None value = Unsupported
+plan_by_algo (Some algo) value = plan_by_value algo value
+
+-- what is to be done by the name of an algorithm and the place of a value, each of which may be missing
+abbrev pub plan_by_name : Option (List ℕ) → Option Span → Plan
+plan_by_name None value = Malformed
+plan_by_name (Some name) value = plan_by_algo (algo_named name) value
+
+-- what is to be done about a hash node
+abbrev pub plan_of : NodeOf Spot → Plan
+plan_of hash = plan_by_name (algo_of hash) (option_map value_span (first hash.own (codes "value")))
+
+-- the text at a span of a file
+abbrev pub text_in : List ℕ → Option Span → Option (List ℕ)
+text_in file value = option_map (λ s. text (slice file s.place s.length)) value
+
+-- The value that is compared is the one that is there, and has the length of its algorithm's digests.
+abbrev pub IsOf : Option Span → Plan → Type 0
+IsOf value Malformed = ⊤
+IsOf value Unsupported = ⊤
+IsOf value (Compared algo span) = (value ≡ Some span) × (span.length ≡ digest_size algo)
+
+-- The value that is compared ends in a file of so many bytes, and has the length of its algorithm's digests.
+abbrev pub EndsIn : ℕ → Plan → Type 0
+EndsIn size Malformed = ⊤
+EndsIn size Unsupported = ⊤
+EndsIn size (Compared algo span) = (span.place + span.length ≤ size) × (span.length ≡ digest_size algo)
+
+-- The digest of a message is at hand where a value is compared.
+abbrev pub HasDigest : List ℕ → List ℕ → Plan → Type 0
+HasDigest digest message Malformed = ⊤
+HasDigest digest message Unsupported = ⊤
+HasDigest digest message (Compared algo span) = digest ≡ (padded_digest (digest_by algo message)).0
+
+-- the word of a hash node, once its value is compared
+abbrev pub word_by : List ℕ → List ℕ → Plan → Word
+word_by file message Malformed = word.Malformed
+word_by file message Unsupported = word.Unsupported
+word_by file message (Compared algo span) =
+    if bytes_eq (slice file span.place span.length) (digest_by algo message) then word.Right else word.Wrong
