@@ -15,6 +15,7 @@ use Rattle.uimg_fit.specs.declared.plans.Plan.{Plan}
 use Rattle.uimg_fit.specs.declared.plans.Plan.TheVariants.{Malformed, Unsupported, Compared}
 use Rattle.uimg_fit.specs.declared.words.Word.{Word}
 use Rattle.uimg_fit.specs.declared.words.Word.TheVariants as word
+use Rattle.uimg_fit.specs.Files.{bytes_in}
 use Rattle.uimg_fit.specs.Report.{algo_of}
 
 -- a value is compared by an algorithm if it has the length of its digests
@@ -40,7 +41,7 @@ plan_of hash = plan_by_name (algo_of hash) (option_map value_span (first hash.ow
 
 -- the text at a span of a file
 abbrev pub text_in : List ℕ → Option Span → Option (List ℕ)
-text_in file value = option_map (λ s. text (slice file s.place s.length)) value
+text_in file value = option_map text (bytes_in file value)
 
 -- The value that is compared is the one that is there, and has the length of its algorithm's digests.
 abbrev pub IsOf : Option Span → Plan → Type 0
