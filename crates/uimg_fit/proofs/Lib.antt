@@ -2,3 +2,4 @@ pub mod Examples
 pub mod ReadLaws
 pub mod ImageLaws
 pub mod CellLaws
+pub mod PlanLaws

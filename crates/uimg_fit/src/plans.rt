@@ -19,7 +19,8 @@ pub(crate) enum Plan {
 
 #[tactic(auto, unfolding(crate::specs::Plans::plan_for))]
 fn plan_by(algo: Algo, value: Option<Span>) -> Plan
-    ensures { result ≡ plan_by_value algo value }
+    ensures plan { result ≡ plan_by_value algo value }
+    ensures value { IsOf value result }
 {
     match value {
         Some(span) if span.length == algo.len() as u64 => Plan::Compared(algo, span),
@@ -28,7 +29,8 @@ fn plan_by(algo: Algo, value: Option<Span>) -> Plan
 }
 
 fn plan_named(name: &[u8], value: Option<Span>) -> Plan
-    ensures { result ≡ plan_by_algo (algo_named name.now) value }
+    ensures plan { result ≡ plan_by_algo (algo_named name.now) value }
+    ensures value { IsOf value result }
 {
     match Algo::named(name) {
         Some(algo) => plan_by(algo, value),
