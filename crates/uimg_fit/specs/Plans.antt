@@ -1,6 +1,6 @@
 -- What is to be done about a hash node, before any payload is read.
 use Rattle.std.specs.Prelude.{◌≡◌, ⊤, ℕ, ◌+◌, ◌≤◌, List, ◌==◌, if◌then◌else◌, Option, Some, None, codes}
-use Rattle.std.specs.Option.{option_map}
+use Rattle.std.specs.Option.{option_map, option_map_or}
 use Rattle.std.specs.Str.{bytes_eq}
 use Rattle.uimg_sums.specs.declared.algo.Algo.{Algo}
 use Rattle.uimg_sums.specs.Algorithms.{algo_named, digest_size, digest_by}
@@ -42,6 +42,15 @@ plan_of hash = plan_by_name (algo_of hash) (option_map value_span (first hash.ow
 -- the text at a span of a file
 abbrev pub text_in : List ℕ → Option Span → Option (List ℕ)
 text_in file value = option_map text (bytes_in file value)
+
+-- the text that is printed of an algorithm's name, `-` where it is missing
+abbrev pub algo_text : List ℕ → Option Span → List ℕ
+algo_text file value = option_map_or (λ n. n) (text_in file value) (codes "-")
+
+-- how many bytes stand at a span
+abbrev pub span_length : Option Span → ℕ
+span_length None = 0
+span_length (Some span) = span.length
 
 -- The value that is compared is the one that is there, and has the length of its algorithm's digests.
 abbrev pub IsOf : Option Span → Plan → Type 0

@@ -1,8 +1,10 @@
 //! FIT images: listing, verification and extraction.
 #![tactic(auto)]
 
+mod digests;
 mod fault;
 mod images;
+mod lines;
 mod places;
 mod plans;
 #[cfg(test)]
