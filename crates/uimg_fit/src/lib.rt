@@ -5,6 +5,7 @@ mod digests;
 mod fault;
 mod images;
 mod lines;
+mod nodes;
 mod places;
 mod plans;
 #[cfg(test)]
