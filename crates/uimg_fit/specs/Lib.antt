@@ -3,6 +3,7 @@ pub mod Files
 pub mod Places
 pub mod Report
 pub mod Plans
+pub mod Groups
 pub mod Extraction
 pub mod Values
 pub mod Listing

@@ -1,5 +1,6 @@
 -- What is to be done about a hash node, before any payload is read.
-use Rattle.std.specs.Prelude.{◌≡◌, ⊤, ℕ, ◌+◌, ◌≤◌, List, ◌==◌, if◌then◌else◌, Option, Some, None, codes}
+use Rattle.std.specs.Prelude.{◌≡◌, ⊤, ℕ, ◌+◌, ◌≤◌, List, [], ◌∷◌, ◌==◌, if◌then◌else◌, Option, Some, None, codes}
+use Rattle.std.specs.List.{flat_map}
 use Rattle.std.specs.Option.{option_map, option_map_or}
 use Rattle.std.specs.Str.{bytes_eq}
 use Rattle.uimg_sums.specs.declared.algo.Algo.{Algo}
@@ -38,6 +39,16 @@ plan_by_name (Some name) value = plan_by_algo (algo_named name) value
 -- what is to be done about a hash node
 abbrev pub plan_of : NodeOf Spot → Plan
 plan_of hash = plan_by_name (algo_of hash) (option_map value_span (first hash.own (codes "value")))
+
+-- the sum that a plan asks for, if it asks for one
+abbrev pub sums_of : Plan → List Algo
+sums_of Malformed = []
+sums_of Unsupported = []
+sums_of (Compared algo span) = algo ∷ []
+
+-- the algorithms of the hash nodes whose values are compared, in their order
+abbrev pub algos_of : List (NodeOf Spot) → List Algo
+algos_of hs = flat_map (λ h. sums_of (plan_of h)) hs
 
 -- the text at a span of a file
 abbrev pub text_in : List ℕ → Option Span → Option (List ℕ)

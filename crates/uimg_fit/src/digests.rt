@@ -74,8 +74,9 @@ pub(crate) fn digests<S: Source, A: Allocator>(
         found ≡ padded_digests algos (slice (S.device source.old).bytes place.at place.size)) }
 {
     let mut sums = bundle;
-    if !sums.is_empty() {
-        feed_through(&mut sums, source, room.window(), place.at, place.size)?;
+    if sums.is_empty() {
+        return Ok(sums.finish());
     }
+    feed_through(&mut sums, source, room.window(), place.at, place.size)?;
     Ok(sums.finish())
 }

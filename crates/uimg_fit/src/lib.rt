@@ -3,6 +3,7 @@
 
 mod digests;
 mod fault;
+mod groups;
 mod images;
 mod lines;
 mod nodes;
