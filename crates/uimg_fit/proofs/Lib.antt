@@ -6,3 +6,4 @@ pub mod PlanLaws
 pub mod NodeLaws
 pub mod HashLaws
 pub mod SumLaws
+pub mod GroupLaws

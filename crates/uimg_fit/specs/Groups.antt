@@ -1,13 +1,15 @@
 -- Hash nodes that are reported after one pass over their payload.
-use Rattle.std.specs.Prelude.{◌≡◌, ◌<◌, ◌≤◌, ℕ, List, [], ◌++◌, length}
+use Rattle.std.specs.Prelude.{◌≡◌, ◌<◌, ◌≤◌, ◌+◌, ◌*◌, ℕ, List, [], ◌++◌, length, Result, Ok, Err}
+use Rattle.uimg_base.specs.declared.source.SourceFault.{SourceFault}
 use Rattle.uimg_sums.specs.Bundle.{Holds}
 use Rattle.uimg_blob.specs.LookUps.{NodeOf}
 use Rattle.uimg_blob.specs.Spots.{Spot}
 use Rattle.uimg_fit.specs.declared.groups.Group.{Group}
 use Rattle.uimg_fit.specs.Plans.{algos_of}
 
--- The first of some hash nodes, up to the eighth whose value is compared or to the last, are a group.
-pub record Gathered (hs : List (NodeOf Spot)) (group : Group) : Type 0 where
+-- The first of some hash nodes, up to the eighth whose value is compared or to the last, are a group; 32 bytes were asked for
+-- about each.
+pub record Gathered (hs : List (NodeOf Spot)) (asked new : ℕ) (group : Group) : Type 0 where
   pub taken : List (NodeOf Spot)
   pub rest : List (NodeOf Spot)
   pub are : hs ≡ taken ++ rest
@@ -15,3 +17,9 @@ pub record Gathered (hs : List (NodeOf Spot)) (group : Group) : Type 0 where
   pub holds : Holds group.bundle (algos_of taken) []
   pub few : length (algos_of taken) ≤ 8
   pub all : length (algos_of taken) < 8 → rest ≡ []
+  pub paid : new ≤ asked + 32 * group.count
+
+-- what is said of the group that some hash nodes begin with
+abbrev pub Gathers : List (NodeOf Spot) → ℕ → ℕ → Result Group SourceFault → Type 0
+Gathers hs asked new (Ok group) = Gathered hs asked new group
+Gathers hs asked new (Err fault) = new ≤ asked + 32 * length hs

@@ -1,11 +1,11 @@
-ghost use Rattle.std.specs.Prelude.{◌≡◌, ℕ, ◌+◌, ◌*◌, ◌<◌, ◌≤◌, List, [], ◌++◌, length, Some, is_err, IfOk, IfSome, IsTrue, OnErr};
+ghost use Rattle.std.specs.Prelude.{◌≡◌, ℕ, ◌+◌, ◌<◌, ◌≤◌, List, [], ◌++◌, length, Some, is_err, IfOk, IsTrue};
 ghost use Rattle.uimg_sums.specs.declared.algo.Algo.{Algo};
 ghost use Rattle.uimg_sums.specs.Bundle.{Holds};
 ghost use Rattle.uimg_base.specs.Using.{Asks, Uses};
 ghost use Rattle.uimg_blob.specs.Grammar.{Siblings};
 ghost use Rattle.uimg_blob.specs.LookUps.{NodeOf};
 ghost use Rattle.uimg_blob.specs.Spots.{Spot};
-ghost use Rattle.uimg_fit.specs.Groups.{Gathered};
+ghost use Rattle.uimg_fit.specs.Groups.{Gathers};
 ghost use Rattle.uimg_fit.specs.Nodes.{InFile, IsRead, HashAt, HashesAt};
 ghost use Rattle.uimg_fit.specs.Plans.{EndsIn, plan_of, sums_of};
 
@@ -66,16 +66,8 @@ pub(crate) fn gather<S: Source, A: Allocator>(
     ensures some { IfOk result (λ group. 0 < group.count) }
     ensures gathered { IsTrue (S.device source.old).honest → (t : Siblings) →
         IsRead (S.device source.old).bytes blob.now room.now.entries t →
-        (hs : List (NodeOf Spot)) → HashesAt t (Some first) hs → IfOk result (Gathered hs) }
-    ensures asked { IsTrue (S.device source.old).honest → (t : Siblings) →
-        IsRead (S.device source.old).bytes blob.now room.now.entries t →
         (hs : List (NodeOf Spot)) → HashesAt t (Some first) hs →
-        IfOk result (λ group. (S.device source.new).asked
-        ≤ (S.device source.old).asked + 32 * group.count) }
-    ensures asked_all { IsTrue (S.device source.old).honest → (t : Siblings) →
-        IsRead (S.device source.old).bytes blob.now room.now.entries t →
-        (hs : List (NodeOf Spot)) → HashesAt t (Some first) hs →
-        (S.device source.new).asked ≤ (S.device source.old).asked + 32 * length hs }
+        Gathers hs (S.device source.old).asked (S.device source.new).asked result }
 {
     let mut bundle = Bundle::new();
     let mut next = Some(first);
