@@ -1,9 +1,16 @@
 -- Hash nodes that are reported after one pass over their payload.
-use Rattle.std.specs.Prelude.{◌≡◌, ◌<◌, ◌≤◌, ◌+◌, ◌*◌, ℕ, List, [], ◌++◌, length, Result, Ok, Err}
+use Rattle.std.specs.Prelude.{◌≡◌, ◌<◌, ◌≤◌, ◌+◌, ◌*◌, ℕ, List, [], ◌++◌, length, codes, Result, Ok, Err, IfOk, is_err}
+use Rattle.std.specs.Option.{option_map_or}
+use Rattle.uimg_base.specs.Outcome.{line}
+use Rattle.uimg_base.specs.Sink.{Sink}
+use Rattle.uimg_base.specs.Writing.{Written}
 use Rattle.uimg_base.specs.declared.source.SourceFault.{SourceFault}
 use Rattle.uimg_sums.specs.Bundle.{Holds}
 use Rattle.uimg_blob.specs.LookUps.{NodeOf}
 use Rattle.uimg_blob.specs.Spots.{Spot}
+use Rattle.uimg_fit.specs.declared.fault.Fault.{Fault}
+use Rattle.uimg_fit.specs.declared.words.Word.{Word}
+use Rattle.uimg_fit.specs.Report.{algo_of, word_text, word_of, hash_line}
 use Rattle.uimg_fit.specs.declared.groups.Group.{Group}
 use Rattle.uimg_fit.specs.Plans.{algos_of}
 
@@ -23,3 +30,13 @@ pub record Gathered (hs : List (NodeOf Spot)) (asked new : ℕ) (group : Group) 
 abbrev pub Gathers : List (NodeOf Spot) → ℕ → ℕ → Result Group SourceFault → Type 0
 Gathers hs asked new (Ok group) = Gathered hs asked new group
 Gathers hs asked new (Err fault) = new ≤ asked + 32 * length hs
+
+-- the line of a hash node with a word
+abbrev pub line_of : List ℕ → Word → NodeOf Spot → List ℕ
+line_of name word hash =
+    line (name ++ codes " " ++ hash.name ++ codes " " ++ option_map_or (λ n. n) (algo_of hash) (codes "-") ++ codes " " ++ word_text word)
+
+-- The line of a hash node was written, and its word is told.
+pub record PutsHash (name message : List ℕ) (hash : NodeOf Spot) (result : Result Word Fault) (old new : Sink) : Type 0 where
+  pub word : IfOk result (λ word. word ≡ word_of message hash)
+  pub written : Written (is_err result) old new (hash_line name message hash)

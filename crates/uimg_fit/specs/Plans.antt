@@ -1,5 +1,5 @@
 -- What is to be done about a hash node, before any payload is read.
-use Rattle.std.specs.Prelude.{◌≡◌, ⊤, ℕ, ◌+◌, ◌≤◌, List, [], ◌∷◌, ◌==◌, if◌then◌else◌, Option, Some, None, codes}
+use Rattle.std.specs.Prelude.{◌≡◌, ⊤, ℕ, ◌+◌, ◌≤◌, List, [], ◌∷◌, ◌++◌, length, ◌==◌, if◌then◌else◌, Option, Some, None, codes}
 use Rattle.std.specs.List.{flat_map}
 use Rattle.std.specs.Option.{option_map, option_map_or}
 use Rattle.std.specs.Str.{bytes_eq}
@@ -8,6 +8,7 @@ use Rattle.uimg_sums.specs.Algorithms.{algo_named, digest_size, digest_by}
 use Rattle.uimg_sums.specs.AnySum.{padded_digest}
 use Rattle.uimg_texts.specs.Nul.{text}
 use Rattle.uimg_texts.specs.Slices.{slice}
+use Rattle.uimg_base.specs.Outcome.{line}
 use Rattle.uimg_blob.specs.declared.texts.Span.{Span}
 use Rattle.uimg_blob.specs.LookUps.{NodeOf, first}
 use Rattle.uimg_blob.specs.Indexed.{value_span}
@@ -16,8 +17,9 @@ use Rattle.uimg_fit.specs.declared.plans.Plan.{Plan}
 use Rattle.uimg_fit.specs.declared.plans.Plan.TheVariants.{Malformed, Unsupported, Compared}
 use Rattle.uimg_fit.specs.declared.words.Word.{Word}
 use Rattle.uimg_fit.specs.declared.words.Word.TheVariants as word
-use Rattle.uimg_fit.specs.Files.{bytes_in}
-use Rattle.uimg_fit.specs.Report.{algo_of}
+use Rattle.uimg_fit.specs.Files.{bytes_in, bytes_of}
+use Rattle.uimg_fit.specs.declared.lines.HashLine.{HashLine}
+use Rattle.uimg_fit.specs.Report.{algo_of, word_text}
 
 -- a value is compared by an algorithm if it has the length of its digests
 unfoldable pub plan_for : Algo → Span → Plan
@@ -58,6 +60,16 @@ text_in file value = option_map text (bytes_in file value)
 abbrev pub algo_text : List ℕ → Option Span → List ℕ
 algo_text file value = option_map_or (λ n. n) (text_in file value) (codes "-")
 
+-- the line of a hash node, by the places of its parts
+abbrev pub names_text : List ℕ → HashLine → List ℕ
+names_text file l = (slice file l.image.place l.image.length ++ codes " ") ++ (slice file l.hash.place l.hash.length ++ codes " ")
+
+abbrev pub end_text : List ℕ → HashLine → List ℕ
+end_text file l = algo_text file l.algo ++ line (codes " " ++ word_text l.word)
+
+abbrev pub hash_text : List ℕ → HashLine → List ℕ
+hash_text file l = names_text file l ++ end_text file l
+
 -- how many bytes stand at a span
 abbrev pub span_length : Option Span → ℕ
 span_length None = 0
@@ -87,3 +99,7 @@ word_by file message Malformed = word.Malformed
 word_by file message Unsupported = word.Unsupported
 word_by file message (Compared algo span) =
     if bytes_eq (slice file span.place span.length) (digest_by algo message) then word.Right else word.Wrong
+
+-- how many bytes the value of a hash node's algorithm has
+abbrev pub algo_length : NodeOf Spot → ℕ
+algo_length hash = option_map_or (λ v. length v) (bytes_of hash.own (codes "algo")) 0

@@ -1,4 +1,6 @@
-ghost use Rattle.std.specs.Prelude.{◌≡◌, ℕ, ◌+◌, ◌*◌, ◌≤◌, List, [], ◌++◌, length, IsTrue, OnOk, IfOk, is_err};
+ghost use Rattle.std.specs.Prelude.{◌≡◌, ℕ, ◌+◌, ◌*◌, ◌≤◌, List, [], ◌++◌, length, Some, slice_get, IsTrue, OnOk, IfOk, is_err};
+ghost use Rattle.uimg_sums.specs.Algorithms.{digest_by};
+ghost use Rattle.uimg_sums.specs.AnySum.{padded_digest};
 ghost use Rattle.uimg_sums.specs.declared.algo.Algo.{Algo};
 ghost use Rattle.uimg_sums.specs.Bundle.{Holds, padded_digests};
 ghost use Rattle.uimg_texts.specs.Slices.{slice};
@@ -79,4 +81,13 @@ pub(crate) fn digests<S: Source, A: Allocator>(
     }
     feed_through(&mut sums, source, room.window(), place.at, place.size)?;
     Ok(sums.finish())
+}
+
+// The digest at a place among eight.
+pub(crate) fn digest_at(digests: &[([u8; 64], usize); 8], i: usize) -> [u8; 64]
+    ensures { (algos : List Algo) (message : List ℕ) → digests.now ≡ padded_digests algos message →
+        (algo : Algo) → slice_get algos i ≡ Some algo → length algos ≤ 8 →
+        result ≡ (padded_digest (digest_by algo message)).0 }
+{
+    if i < 8 { digests[i].0 } else { [0; 64] }
 }

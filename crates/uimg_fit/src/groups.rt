@@ -7,7 +7,8 @@ ghost use Rattle.uimg_blob.specs.LookUps.{NodeOf};
 ghost use Rattle.uimg_blob.specs.Spots.{Spot};
 ghost use Rattle.uimg_fit.specs.Groups.{Gathers};
 ghost use Rattle.uimg_fit.specs.Nodes.{InFile, IsRead, HashAt, HashesAt};
-ghost use Rattle.uimg_fit.specs.Plans.{EndsIn, plan_of, sums_of};
+ghost use Rattle.uimg_fit.specs.Plans.{EndsIn, plan_of, sums_of, word_by};
+ghost use Rattle.uimg_fit.specs.Report.{word_of};
 
 use crate::nodes::{next_hash, value_of};
 use crate::plans::{Plan, planned};
@@ -37,6 +38,11 @@ pub(crate) fn plan_at<S: Source, A: Allocator>(
         IsRead (S.device source.old).bytes blob.now room.now.entries t →
         (found : NodeOf Spot) (more : List (NodeOf Spot)) → HashAt t hash found more →
         IfOk result (λ plan. plan ≡ plan_of found) }
+    ensures word { IsTrue (S.device source.old).honest → (t : Siblings) →
+        IsRead (S.device source.old).bytes blob.now room.now.entries t →
+        (found : NodeOf Spot) (more : List (NodeOf Spot)) → HashAt t hash found more →
+        (message : List ℕ) → IfOk result (λ plan.
+        word_by (S.device source.old).bytes message plan ≡ word_of message found) }
 {
     let algo = value_of(blob, room, hash, Key::Algo);
     let value = value_of(blob, room, hash, Key::Value);

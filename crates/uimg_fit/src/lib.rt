@@ -5,6 +5,7 @@ mod digests;
 mod fault;
 mod groups;
 mod images;
+mod judging;
 mod lines;
 mod nodes;
 mod places;

@@ -6,7 +6,7 @@ ghost use Rattle.uimg_base.specs.Outcome.{line};
 ghost use Rattle.uimg_base.specs.Using.{Asks};
 ghost use Rattle.uimg_base.specs.Writing.{Writes, Written};
 ghost use Rattle.uimg_fit.specs.Faults.{is_read, is_put};
-ghost use Rattle.uimg_fit.specs.Plans.{span_length, algo_text};
+ghost use Rattle.uimg_fit.specs.Plans.{span_length, algo_text, names_text, end_text, hash_text};
 ghost use Rattle.uimg_fit.specs.Report.{word_text};
 
 use crate::fault::Fault;
@@ -15,6 +15,16 @@ use std::alloc::Allocator;
 use std::io::Write;
 use uimg_base::{Out, PutFault, Room, Source, copy_range};
 use uimg_blob::{Span, put_text};
+
+/// What the line of a hash node is made of: where the image's name, its own and its algorithm's stand, and
+/// its word.
+#[derive(Clone, Copy, Debug, PartialEq, Eq)]
+pub(crate) struct HashLine {
+    pub(crate) image: Span,
+    pub(crate) hash: Span,
+    pub(crate) algo: Option<Span>,
+    pub(crate) word: Word,
+}
 
 // Writes the bytes at a span.
 pub(crate) fn put_span<S: Source, A: Allocator, W: Write>(
@@ -81,4 +91,70 @@ fn put_word<W: Write>(word: Word, out: &mut Out<W>) -> Result<(), PutFault>
     ensures { Writes (is_err result) out.old out.new (line (codes " " ++ word_text word)) }
 {
     out.put_pieces(&[b" ", word_text(word).as_bytes(), b"\n"])
+}
+
+// Writes the names that a hash node's line begins with.
+#[tactic(auto, using(uimg_base::proofs::WritingLaws::writing))]
+fn put_names<S: Source, A: Allocator, W: Write>(
+    source: &mut S,
+    room: &mut Room<A>,
+    line: HashLine,
+    out: &mut Out<W>,
+) -> Result<(), Fault>
+    requires image { line.image.place + line.image.length ≤ length (S.device source.old).bytes }
+    requires hash { line.hash.place + line.hash.length ≤ length (S.device source.old).bytes }
+    ensures uses { Asks (line.image.length + line.hash.length)
+        (is_read result) (S.device source.old) (S.device source.new) }
+    ensures room { room.new ≡ room.old }
+    ensures faults { RisesIf (is_put result) out.old.faults out.new.faults }
+    ensures told { IsTrue (S.device source.old).honest → Written (is_err result) out.old out.new
+        (names_text (S.device source.old).bytes line) }
+{
+    put_name(source, room, line.image, out)?;
+    put_name(source, room, line.hash, out)?;
+    Ok(())
+}
+
+// Writes what a hash node's line ends with.
+#[tactic(auto, using(uimg_base::proofs::WritingLaws::writing))]
+fn put_end<S: Source, A: Allocator, W: Write>(
+    source: &mut S,
+    room: &mut Room<A>,
+    line: HashLine,
+    out: &mut Out<W>,
+) -> Result<(), Fault>
+    requires { IfSome line.algo (λ s. s.place + s.length ≤ length (S.device source.old).bytes) }
+    ensures uses { Asks (span_length line.algo) (is_read result)
+        (S.device source.old) (S.device source.new) }
+    ensures room { room.new ≡ room.old }
+    ensures faults { RisesIf (is_put result) out.old.faults out.new.faults }
+    ensures told { IsTrue (S.device source.old).honest → Written (is_err result) out.old out.new
+        (end_text (S.device source.old).bytes line) }
+{
+    put_algo(source, room, line.algo, out)?;
+    put_word(line.word, out)?;
+    Ok(())
+}
+
+// Writes the line of a hash node.
+#[tactic(auto, using(uimg_base::proofs::WritingLaws::writing))]
+pub(crate) fn put_hash_line<S: Source, A: Allocator, W: Write>(
+    source: &mut S,
+    room: &mut Room<A>,
+    line: HashLine,
+    out: &mut Out<W>,
+) -> Result<(), Fault>
+    requires image { line.image.place + line.image.length ≤ length (S.device source.old).bytes }
+    requires hash { line.hash.place + line.hash.length ≤ length (S.device source.old).bytes }
+    requires algo { IfSome line.algo (λ s.
+        s.place + s.length ≤ length (S.device source.old).bytes) }
+    ensures uses { Asks (line.image.length + line.hash.length + span_length line.algo)
+        (is_read result) (S.device source.old) (S.device source.new) }
+    ensures room { room.new ≡ room.old }
+    ensures faults { RisesIf (is_put result) out.old.faults out.new.faults }
+    ensures told { IsTrue (S.device source.old).honest → Written (is_err result) out.old out.new
+        (hash_text (S.device source.old).bytes line) }
+{
+    put_names(source, room, line, out)?;
+    put_end(source, room, line, out)
 }
