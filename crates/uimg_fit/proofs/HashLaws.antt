@@ -1,5 +1,5 @@
 -- The hash nodes of an image, by their numbers.
-use Rattle.std.proofs.Common.{◌≡◌, ◌+◌, ℕ, List, [], ◌∷◌, Option, Some, None, Bool, true, false, if◌then◌else◌, refl, ap, sym, ◌∙◌, subst}
+use Rattle.std.proofs.Common.{◌≡◌, ℕ, List, [], ◌∷◌, Option, Some, None, Bool, true, false, if◌then◌else◌, refl, ap, sym, ◌∙◌, subst}
 use Rattle.std.specs.List.{filter}
 use Rattle.uimg_blob.specs.declared.nodes.Blob.{Blob}
 use Rattle.uimg_blob.specs.Grammar.{Siblings}
@@ -9,9 +9,8 @@ use Rattle.uimg_blob.specs.Indexed.{IsIndexed, IsRow}
 use Rattle.uimg_blob.specs.LookUps.{NodeOf, listed, hashes}
 use Rattle.uimg_blob.specs.Spots.{Spot}
 use Rattle.uimg_blob.proofs.PhaseLaws.{by_bool}
-use Rattle.uimg_blob.proofs.StandLaws.{row_of, row_stands, below_stand}
 use Rattle.uimg_fit.specs.Nodes.{AreFrom, IsNode, HashesFrom, HashAt, FirstHash}
-use Rattle.uimg_fit.proofs.ImageLaws.{Front, front, none_left}
+use Rattle.uimg_fit.proofs.ImageLaws.{Front, front, none_left, children_of}
 use Rattle.uimg_fit.proofs.NodeLaws.{node_row}
 
 -- whether a child of an image is a hash node, by its role
@@ -68,21 +67,7 @@ none_is t hs from = from.are ∙ ap (filter named) (none_left t in_image from.ch
 pub children_are : (t : Siblings) (blob : Blob) (es : List (List ℕ)) (i : ℕ) (image : NodeOf Spot) (first : Option ℕ) → IsIndexed t blob es → IsNode t in_images i image
     → ((row : Row) → IsRow blob es i row → first ≡ row.first_child) → HashesFrom t first (hashes image)
 children_are t blob es i image first indexed n child =
-    let row : Row = row_of in_images n.parent i n.at n.name n.own n.below n.after in
-    let is = row_stands t in_images n.parent i n.at n.name n.own n.below n.after n.stands in
-    let same : first ≡ row.first_child = child row (record { nodes = t; indexed = indexed; is = is }) in
-    record {
-      children = listed image.below;
-      from = record {
-        parent = Some i;
-        number = i + 1;
-        siblings = n.below;
-        stands = below_stand t in_images n.parent i n.at n.name n.own n.below n.after n.stands;
-        is_first = same;
-        are = ap (λ (f : NodeOf Spot). listed f.below) n.is;
-      };
-      are = refl;
-    }
+    record { children = listed image.below; from = children_of t blob es in_images i first image indexed n child; are = refl }
 
 -- the hash nodes after one
 pub after_are : (t : Siblings) (blob : Blob) (es : List (List ℕ)) (i : ℕ) (next : Option ℕ) (hash : NodeOf Spot) (more : List (NodeOf Spot)) → IsIndexed t blob es → HashAt t i hash more

@@ -7,3 +7,5 @@ pub mod NodeLaws
 pub mod HashLaws
 pub mod SumLaws
 pub mod GroupLaws
+pub mod PlaceLaws
+pub mod ExtractionLaws

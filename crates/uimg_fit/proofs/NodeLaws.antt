@@ -1,9 +1,10 @@
 -- The names and values of a node that was read stand in the file where its row says.
-use Rattle.std.proofs.Common.{◌≡◌, ◌≤◌, ◌+◌, ℕ, zero, suc, List, [], ◌∷◌, ◌++◌, map, Option, Some, None, Ok, Result, Bool, if◌then◌else◌, IsTrue, refl, ap, sym, ◌∙◌, subst, arith}
+use Rattle.std.proofs.Common.{◌≡◌, ◌≢◌, ◌<◌, ◌≤◌, ◌+◌, ℕ, zero, suc, List, [], ◌∷◌, ◌++◌, length, map, Option, Some, None, Ok, Result, Bool, if◌then◌else◌, IsTrue, IfSome, refl, ap, sym, ◌∙◌, subst, arith}
 use Rattle.std.specs.List.{AllByRecursion, slice_get}
 use Rattle.std.specs.Option.{option_map}
 use Rattle.std.specs.Result.{IfOk}
 use Rattle.std.specs.Str.{bytes_eq}
+use Rattle.std.proofs.Math.Nat.{suc-ne-zero}
 use Rattle.uimg_texts.specs.Slices.{slice}
 use Rattle.uimg_blob.specs.declared.nodes.Blob.{Blob}
 use Rattle.uimg_blob.specs.declared.texts.Span.{Span}
@@ -11,19 +12,20 @@ use Rattle.uimg_blob.specs.declared.keys.Key.{Key}
 use Rattle.uimg_blob.specs.Blob.{tree}
 use Rattle.uimg_blob.specs.Tokens.{Property}
 use Rattle.uimg_blob.specs.Grammar.{Siblings, none, node}
-use Rattle.uimg_blob.specs.Roles.{Level, role_at, level_in, level_after}
+use Rattle.uimg_blob.specs.Roles.{Level, top, role_at, level_in, level_after}
 use Rattle.uimg_blob.specs.Rows.{Row, rows, table, size}
 use Rattle.uimg_blob.specs.Keys.{name_of}
 use Rattle.uimg_blob.specs.Indexed.{IsIndexed, IsRow, name_span, value_span, value_of, keeps}
 use Rattle.uimg_blob.specs.LookUps.{NodeOf, first}
-use Rattle.uimg_blob.specs.Spots.{Spot, spot_of}
+use Rattle.uimg_blob.specs.Spots.{Spot, spot_of, spots}
 use Rattle.uimg_blob.specs.Plain.{NamedOf}
 use Rattle.uimg_blob.proofs.PhaseLaws.{some_none, some_some, by_bool}
-use Rattle.uimg_blob.proofs.StandLaws.{row_of, row_stands}
-use Rattle.uimg_fit.specs.Files.{bytes_of, bytes_in}
+use Rattle.uimg_blob.proofs.StandLaws.{row_of, row_stands, tree_stands}
+use Rattle.uimg_fit.specs.Files.{bytes_of, bytes_in, root_own}
 use Rattle.uimg_fit.specs.Lying.{NameLies, ValueLies, Lie}
-use Rattle.uimg_fit.specs.Nodes.{IsRead, IsNode}
+use Rattle.uimg_fit.specs.Nodes.{IsRead, IsNode, TellsConfigurations}
 use Rattle.uimg_fit.proofs.ReadLaws.{tree-lies}
+use Rattle.uimg_fit.proofs.ImageLaws.{row_within, entries_size}
 
 -- The name and the values of a row stand in the file.
 pub record RowLies (file : List ℕ) (row : Row) : Type 0 where
@@ -108,3 +110,32 @@ value_stands file blob es t level number found key span read n is =
     let lies : RowLies file r.row = all_get (RowLies file) (table t) number r.row (rows_lie file _ None 0 t (read_lies file t read.is)) r.is in
     ap (λ (own : List (NamedOf Spot)). bytes_of own (name_of key)) (sym r.own) ∙ values_lie file (name_of key) r.row.own lies.own
     ∙ ap (λ (own : List (NamedOf Spot)). bytes_in file (option_map value_span (first own (name_of key)))) r.own ∙ ap (bytes_in file) (sym is)
+
+-- The root of a tree is the node of number 0.
+pub record RootNode (t : Siblings) : Type 0 where
+  pub found : NodeOf Spot
+  pub node : IsNode t top 0 found
+  pub own : root_own (spots t) ≡ found.own
+
+-- the root of a tree
+pub root_node : (t : Siblings) (blob : Blob) (es : List (List ℕ)) → IsIndexed t blob es → length es ≢ 0 → RootNode t
+unfolding spots
+root_node none blob es indexed some = absurd (some (entries_size none blob es indexed))
+root_node (node at name own below after) blob es indexed some = record {
+  found = record { name = name; own = map spot_of own; below = spots below };
+  node = record { parent = None; at = at; name = name; own = own; below = below; after = after; stands = tree_stands (node at name own below after); is = refl };
+  own = refl;
+}
+
+-- a tree with no entries has no root
+pub no_root : (t : Siblings) (blob : Blob) (es : List (List ℕ)) → IsIndexed t blob es → length es ≡ 0 → root_own (spots t) ≡ []
+unfolding spots
+no_root none blob es indexed empty = refl
+no_root (node at name own below after) blob es indexed empty = absurd (suc-ne-zero (size below + size after) (omega (arith, entries_size (node at name own below after) blob es indexed, empty)))
+
+-- the node `configurations` has an entry
+pub configurations_within : (t : Siblings) (blob : Blob) (es : List (List ℕ)) (o : Option ℕ) → IsIndexed t blob es → TellsConfigurations t o → IfSome o (λ i. i < length es)
+configurations_within t blob es None indexed h = tt
+configurations_within t blob es (Some i) indexed h =
+    let r = node_row t h.level i h.found h.node in
+    row_within t blob es i r.row indexed r.is

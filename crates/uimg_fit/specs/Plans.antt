@@ -18,7 +18,7 @@ use Rattle.uimg_fit.specs.declared.plans.Plan.TheVariants.{Malformed, Unsupporte
 use Rattle.uimg_fit.specs.declared.words.Word.{Word}
 use Rattle.uimg_fit.specs.declared.words.Word.TheVariants as word
 use Rattle.uimg_fit.specs.Files.{bytes_in, bytes_of}
-use Rattle.uimg_fit.specs.declared.lines.HashLine.{HashLine}
+use Rattle.uimg_fit.specs.declared.hash_lines.HashLine.{HashLine}
 use Rattle.uimg_fit.specs.Report.{algo_of, word_text}
 
 -- a value is compared by an algorithm if it has the length of its digests

@@ -14,7 +14,7 @@ ghost use Rattle.uimg_fit.specs.Report.{word_of};
 
 use crate::fault::Fault;
 use crate::groups::plan_at;
-use crate::lines::{HashLine, put_hash_line};
+use crate::hash_lines::{HashLine, put_hash_line};
 use crate::nodes::{name_of, value_of};
 use crate::plans::judged;
 use crate::words::Word;

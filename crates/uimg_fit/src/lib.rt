@@ -2,16 +2,20 @@
 #![tactic(auto)]
 
 mod digests;
+mod extraction;
 mod fault;
 mod groups;
+mod hash_lines;
 mod images;
 mod judging;
-mod lines;
 mod nodes;
 mod places;
 mod plans;
+pub mod samples;
 #[cfg(test)]
 mod tests;
+mod tree;
 mod words;
 
+pub use extraction::extract;
 pub use fault::{Fault, FitFault};

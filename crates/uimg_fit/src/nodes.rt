@@ -1,16 +1,16 @@
 //! Names and values of an indexed blob's nodes, and its hash nodes.
-ghost use Rattle.std.specs.Prelude.{◌≡◌, ℕ, ◌+◌, ◌<◌, ◌≤◌, List, ◌∷◌, length, Option, Some, IfSome, IsTrue};
+ghost use Rattle.std.specs.Prelude.{◌≡◌, ℕ, ◌+◌, ◌<◌, ◌≤◌, List, [], ◌∷◌, length, Option, Some, IfSome, IsTrue};
 ghost use Rattle.std.specs.List.{slice_get};
 ghost use Rattle.std.specs.Option.{option_map};
 ghost use Rattle.uimg_texts.specs.Slices.{slice};
 ghost use Rattle.uimg_blob.specs.Grammar.{Siblings};
 ghost use Rattle.uimg_blob.specs.Indexed.{IsIndexed, keeps, value_span};
 ghost use Rattle.uimg_blob.specs.Keys.{name_of};
-ghost use Rattle.uimg_blob.specs.LookUps.{NodeOf, first, hashes};
-ghost use Rattle.uimg_blob.specs.Roles.{Level, role_at, level_after, in_image, in_images};
-ghost use Rattle.uimg_blob.specs.Spots.{Spot};
-ghost use Rattle.uimg_fit.specs.Files.{bytes_of, bytes_in};
-ghost use Rattle.uimg_fit.specs.Nodes.{Indexed, InFile, IsRead, IsNode, AreFrom, HashesFrom, HashAt, HashesAt};
+ghost use Rattle.uimg_blob.specs.LookUps.{NodeOf, first, hashes, listed};
+ghost use Rattle.uimg_blob.specs.Roles.{Level, role_at, level_in, level_after, top, in_images};
+ghost use Rattle.uimg_blob.specs.Spots.{Spot, spots};
+ghost use Rattle.uimg_fit.specs.Files.{bytes_of, bytes_in, root_own};
+ghost use Rattle.uimg_fit.specs.Nodes.{Indexed, InFile, IsRead, IsNode, AreFrom, HashesFrom, HashAt, HashesAt, TellsConfigurations};
 
 use std::alloc::Allocator;
 use uimg_base::Room;
@@ -50,6 +50,41 @@ pub(crate) fn value_of<A: Allocator>(
         bytes_of found.own (name_of key) ≡ bytes_in file result }
 {
     blob.value(room, node, key)
+}
+
+// Where the value of the root's first property of a key stands.
+pub(crate) fn root_value<A: Allocator>(blob: &Blob, room: &Room<A>, key: Key) -> Option<Span>
+    requires { IsTrue (keeps (role_at top []) key) }
+    ensures inside { (size : ℕ) → InFile size blob.now room.now.entries →
+        IfSome result (λ s. s.place + s.length ≤ size) }
+    ensures bytes { (file : List ℕ) (t : Siblings) → IsRead file blob.now room.now.entries t →
+        bytes_of (root_own (spots t)) (name_of key) ≡ bytes_in file result }
+{
+    if room.count() == 0 {
+        return None;
+    }
+    value_of(blob, room, 0, key)
+}
+
+// The number of a node's first child, if it has one.
+pub(crate) fn child_of<A: Allocator>(blob: &Blob, room: &Room<A>, node: usize) -> Option<usize>
+    requires { node < length room.now.entries }
+    ensures within { IfSome result (λ i. i < length room.now.entries) }
+    ensures children { (t : Siblings) → IsIndexed t blob.now room.now.entries →
+        (level : Level) (found : NodeOf Spot) → IsNode t level node found →
+        AreFrom t (level_in (role_at level found.name)) result (listed found.below) }
+{
+    blob.first_child(room, node)
+}
+
+// The number of the node `configurations`, if there is one.
+pub(crate) fn configurations_of<A: Allocator>(blob: &Blob, room: &Room<A>) -> Option<usize>
+    requires { Indexed blob.now room.now.entries }
+    ensures within { IfSome result (λ i. i < length room.now.entries) }
+    ensures told { (t : Siblings) → IsIndexed t blob.now room.now.entries →
+        TellsConfigurations t result }
+{
+    blob.configurations()
 }
 
 // The number of the node after one, if there is such.
