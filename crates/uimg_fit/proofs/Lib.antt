@@ -9,3 +9,4 @@ pub mod SumLaws
 pub mod GroupLaws
 pub mod PlaceLaws
 pub mod ExtractionLaws
+pub mod LineLaws

@@ -156,5 +156,6 @@ pub(crate) fn put_hash_line<S: Source, A: Allocator, W: Write>(
         (hash_text (S.device source.old).bytes line) }
 {
     put_names(source, room, line, out)?;
-    put_end(source, room, line, out)
+    put_end(source, room, line, out)?;
+    Ok(())
 }
