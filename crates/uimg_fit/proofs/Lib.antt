@@ -10,3 +10,4 @@ pub mod GroupLaws
 pub mod PlaceLaws
 pub mod ExtractionLaws
 pub mod LineLaws
+pub mod WalkLaws

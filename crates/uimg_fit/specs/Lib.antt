@@ -4,6 +4,7 @@ pub mod Places
 pub mod Report
 pub mod Plans
 pub mod Groups
+pub mod Walks
 pub mod Extraction
 pub mod Values
 pub mod Listing

@@ -15,6 +15,7 @@ pub mod samples;
 #[cfg(test)]
 mod tests;
 mod tree;
+mod walks;
 mod words;
 
 pub use extraction::extract;

@@ -1,5 +1,6 @@
-ghost use Rattle.std.specs.Prelude.{◌≡◌};
+ghost use Rattle.std.specs.Prelude.{◌≡◌, cond};
 ghost use Rattle.uimg_fit.specs.Report.{word_text, is_right};
+ghost use Rattle.uimg_fit.specs.Work.{is_compared};
 
 /// What is said of a hash node.
 #[derive(Clone, Copy, Debug, PartialEq, Eq)]
@@ -29,5 +30,16 @@ pub(crate) fn is_right(word: Word) -> bool
     match word {
         Word::Right => true,
         _ => false,
+    }
+}
+
+// How many digests a word took to tell: one where a value was compared.
+pub(crate) fn digests_used(word: Word) -> usize
+    ensures { result ≡ cond (is_compared word) 1 0 }
+{
+    match word {
+        Word::Right => 1,
+        Word::Wrong => 1,
+        _ => 0,
     }
 }
