@@ -11,3 +11,5 @@ pub mod PlaceLaws
 pub mod ExtractionLaws
 pub mod LineLaws
 pub mod WalkLaws
+pub mod AllowanceLaws
+pub mod SharesLaws

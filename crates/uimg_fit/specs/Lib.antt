@@ -12,3 +12,4 @@ pub mod Work
 pub mod Lying
 pub mod Nodes
 pub mod Rooms
+pub mod Allowances
