@@ -13,3 +13,4 @@ pub mod LineLaws
 pub mod WalkLaws
 pub mod AllowanceLaws
 pub mod SharesLaws
+pub mod HashReportLaws

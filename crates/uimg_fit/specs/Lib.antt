@@ -5,6 +5,7 @@ pub mod Report
 pub mod Plans
 pub mod Groups
 pub mod Walks
+pub mod HashReports
 pub mod Extraction
 pub mod Values
 pub mod Listing

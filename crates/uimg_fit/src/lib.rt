@@ -6,6 +6,7 @@ mod extraction;
 mod fault;
 mod groups;
 mod hash_lines;
+mod hash_reports;
 mod images;
 mod judging;
 mod nodes;
