@@ -14,3 +14,4 @@ pub mod WalkLaws
 pub mod AllowanceLaws
 pub mod SharesLaws
 pub mod HashReportLaws
+pub mod ImageReportLaws

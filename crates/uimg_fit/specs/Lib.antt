@@ -6,6 +6,7 @@ pub mod Plans
 pub mod Groups
 pub mod Walks
 pub mod HashReports
+pub mod ImageReports
 pub mod Extraction
 pub mod Values
 pub mod Listing

@@ -165,3 +165,25 @@ pub(crate) fn put_hash_line<S: Source, A: Allocator, W: Write>(
     put_end(source, room, line, out)?;
     Ok(())
 }
+
+// Writes the line of an image without hash nodes.
+#[tactic(auto, using(uimg_base::proofs::WritingLaws::writing))]
+pub(crate) fn put_unhashed<S: Source, A: Allocator, W: Write>(
+    source: &mut S,
+    room: &mut Room<A>,
+    image: Span,
+    out: &mut Out<W>,
+) -> Result<(), Fault>
+    requires { image.place + image.length ≤ length (S.device source.old).bytes }
+    ensures uses { Asks image.length (is_read result) (S.device source.old) (S.device source.new) }
+    ensures room { room.new ≡ room.old }
+    ensures memory { is_out_of_memory result ≡ false }
+    ensures faults { RisesIf (is_put result) out.old.faults out.new.faults }
+    ensures told { IsTrue (S.device source.old).honest → Written (is_err result) out.old out.new
+        (slice (S.device source.old).bytes image.place image.length
+        ++ line (codes " - none unhashed")) }
+{
+    put_span(source, room, image, out)?;
+    out.put_all(b" - none unhashed\n")?;
+    Ok(())
+}

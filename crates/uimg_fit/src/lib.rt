@@ -7,6 +7,7 @@ mod fault;
 mod groups;
 mod hash_lines;
 mod hash_reports;
+mod image_reports;
 mod images;
 mod judging;
 mod nodes;
