@@ -15,3 +15,4 @@ pub mod AllowanceLaws
 pub mod SharesLaws
 pub mod HashReportLaws
 pub mod ImageReportLaws
+pub mod ReportLaws

@@ -6,7 +6,7 @@ ghost use Rattle.uimg_blob.specs.Grammar.{Siblings};
 ghost use Rattle.uimg_blob.specs.LookUps.{NodeOf};
 ghost use Rattle.uimg_blob.specs.Roles.{in_images};
 ghost use Rattle.uimg_blob.specs.Spots.{Spot};
-ghost use Rattle.uimg_fit.specs.Faults.{is_read, is_put, is_out_of_memory};
+ghost use Rattle.uimg_fit.specs.Faults.{is_read, is_put, is_out_of_memory, is_refused};
 ghost use Rattle.uimg_fit.specs.ImageReports.{ReportsFound, ReportsImage, ReportsImages, status_of};
 ghost use Rattle.uimg_fit.specs.Nodes.{InFile, IsRead, IsNode, AreFrom};
 
@@ -34,7 +34,7 @@ fn report_found<S: Source, A: Allocator, W: Write>(
     requires payload { place.at + place.size ≤ length (S.device source.old).bytes }
     ensures uses { Uses (is_read result) (S.device source.old) (S.device source.new) }
     ensures room { room.new ≡ room.old }
-    ensures memory { is_out_of_memory result ≡ false }
+    ensures kept { is_refused result ≡ false }
     ensures faults { RisesIf (is_put result) out.old.faults out.new.faults }
     ensures told { IsTrue (S.device source.old).honest → (t : Siblings) →
         IsRead (S.device source.old).bytes blob.now room.old.entries t →

@@ -6,7 +6,7 @@ ghost use Rattle.uimg_base.specs.Writing.{Written};
 ghost use Rattle.uimg_blob.specs.Grammar.{Siblings};
 ghost use Rattle.uimg_blob.specs.LookUps.{NodeOf};
 ghost use Rattle.uimg_blob.specs.Spots.{Spot};
-ghost use Rattle.uimg_fit.specs.Faults.{is_read, is_put, is_out_of_memory};
+ghost use Rattle.uimg_fit.specs.Faults.{is_read, is_put, is_refused};
 ghost use Rattle.uimg_fit.specs.Groups.{PutsHash, line_of};
 ghost use Rattle.uimg_fit.specs.Nodes.{InFile, IsRead, HashAt};
 ghost use Rattle.uimg_fit.specs.Plans.{HasDigest, algo_length, plan_of};
@@ -59,7 +59,7 @@ fn put_judged<S: Source, A: Allocator, W: Write>(
     requires name { image.place + image.length ≤ length (S.device source.old).bytes }
     ensures uses { Uses (is_read result) (S.device source.old) (S.device source.new) }
     ensures room { room.new ≡ room.old }
-    ensures memory { is_out_of_memory result ≡ false }
+    ensures kept { is_refused result ≡ false }
     ensures faults { RisesIf (is_put result) out.old.faults out.new.faults }
     ensures told { IsTrue (S.device source.old).honest → (t : Siblings) →
         IsRead (S.device source.old).bytes blob.now room.old.entries t →
@@ -96,7 +96,7 @@ pub(crate) fn put_hash<S: Source, A: Allocator, W: Write>(
     requires name { image.place + image.length ≤ length (S.device source.old).bytes }
     ensures uses { Uses (is_read result) (S.device source.old) (S.device source.new) }
     ensures room { room.new ≡ room.old }
-    ensures memory { is_out_of_memory result ≡ false }
+    ensures kept { is_refused result ≡ false }
     ensures faults { RisesIf (is_put result) out.old.faults out.new.faults }
     ensures told { IsTrue (S.device source.old).honest → (t : Siblings) →
         IsRead (S.device source.old).bytes blob.now room.old.entries t →

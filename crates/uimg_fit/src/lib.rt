@@ -13,6 +13,7 @@ mod judging;
 mod nodes;
 mod places;
 mod plans;
+mod report;
 pub mod samples;
 #[cfg(test)]
 mod tests;
@@ -22,3 +23,4 @@ mod words;
 
 pub use extraction::extract;
 pub use fault::{Fault, FitFault};
+pub use report::verify;

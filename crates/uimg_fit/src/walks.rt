@@ -8,7 +8,7 @@ ghost use Rattle.uimg_base.specs.Using.{Uses};
 ghost use Rattle.uimg_blob.specs.Grammar.{Siblings};
 ghost use Rattle.uimg_blob.specs.LookUps.{NodeOf};
 ghost use Rattle.uimg_blob.specs.Spots.{Spot};
-ghost use Rattle.uimg_fit.specs.Faults.{is_read, is_put, is_out_of_memory};
+ghost use Rattle.uimg_fit.specs.Faults.{is_read, is_put, is_refused};
 ghost use Rattle.uimg_fit.specs.Walks.{HasSum, PutsNext, PutsGroup, line_cost};
 ghost use Rattle.uimg_fit.specs.Nodes.{InFile, IsRead, HashesAt};
 ghost use Rattle.uimg_fit.specs.Plans.{algos_of, plan_of};
@@ -48,7 +48,7 @@ fn put_next<S: Source, A: Allocator, W: Write>(
     requires name { image.place + image.length ≤ length (S.device source.old).bytes }
     ensures uses { Uses (is_read result) (S.device source.old) (S.device source.new) }
     ensures room { room.new ≡ room.old }
-    ensures memory { is_out_of_memory result ≡ false }
+    ensures kept { is_refused result ≡ false }
     ensures faults { RisesIf (is_put result) out.old.faults out.new.faults }
     ensures within { IfOk result (λ w. IfSome w.next (λ i. i < length room.old.entries)) }
     ensures few { IfOk result (λ w. w.used ≤ walk.used + 1) }
@@ -95,7 +95,7 @@ pub(crate) fn put_group<S: Source, A: Allocator, W: Write>(
     requires name { image.place + image.length ≤ length (S.device source.old).bytes }
     ensures uses { Uses (is_read result) (S.device source.old) (S.device source.new) }
     ensures room { room.new ≡ room.old }
-    ensures memory { is_out_of_memory result ≡ false }
+    ensures kept { is_refused result ≡ false }
     ensures faults { RisesIf (is_put result) out.old.faults out.new.faults }
     ensures within { IfOk result (λ w. IfSome w.next (λ i. i < length room.old.entries)) }
     ensures later { IfOk result (λ w. IfSome w.next (λ i. first < i)) }
