@@ -1,9 +1,8 @@
 -- Groups of hash nodes, one node more at a time.
-use Rattle.std.proofs.Common.{◌≡◌, ◌<◌, ◌≤◌, ◌+◌, ◌*◌, ℕ, List, [], ◌∷◌, ◌++◌, length, Option, Some, None, Bool, true, if◌then◌else◌, IsTrue, IfSome, refl, ap, sym, ◌∙◌, subst, append_assoc, append-nil, length-append, arith}
+use Rattle.std.proofs.Common.{◌≡◌, ◌<◌, ◌≤◌, ◌+◌, ◌*◌, ℕ, List, [], ◌∷◌, ◌++◌, length, Option, Some, None, true, IsTrue, IfSome, refl, ap, sym, ◌∙◌, subst, append_assoc, append-nil, length-append, arith}
 use Rattle.std.specs.Prelude.{zero, suc, Result, Ok, Err, is_err}
 use Rattle.uimg_base.specs.declared.source.SourceFault.{SourceFault}
 use Rattle.uimg_blob.proofs.PhaseLaws.{true_false}
-use Rattle.std.specs.List.{flat_map}
 use Rattle.std.proofs.lemmas.Grind.{flat_map-append}
 use Rattle.uimg_sums.specs.declared.algo.Algo.{Algo}
 use Rattle.uimg_sums.specs.declared.bundle.Bundle.{Bundle}
@@ -18,7 +17,7 @@ use Rattle.uimg_fit.specs.declared.groups.Group.{Group}
 use Rattle.uimg_fit.specs.declared.plans.Plan.{Plan}
 use Rattle.uimg_fit.specs.declared.plans.Plan.TheVariants.{Malformed, Unsupported, Compared}
 use Rattle.uimg_fit.specs.Groups.{Gathered, Gathers}
-use Rattle.uimg_fit.specs.Nodes.{HashesAt, FirstHash}
+use Rattle.uimg_fit.specs.Nodes.{HashesAt}
 use Rattle.uimg_fit.specs.Plans.{plan_of, sums_of, algos_of}
 
 -- a hash node keeps the values of its algorithm and its digest
@@ -49,9 +48,6 @@ pub record Taken (t : Siblings) (hs : List (NodeOf Spot)) (asked new count : ℕ
   pub holds : Holds bundle (algos_of taken) []
   pub few : length (algos_of taken) ≤ 8
   pub paid : new ≤ asked + 32 * count
-
-pub none_taken : (t : Siblings) (hs : List (NodeOf Spot)) (asked : ℕ) (bundle : Bundle) (next : Option ℕ) → HashesAt t next hs → Holds bundle [] [] → Taken t hs asked asked 0 bundle next
-none_taken t hs asked bundle next at holds = record { taken = []; rest = hs; are = refl; at = at; long = refl; holds = holds; few = omega arith; paid = omega arith }
 
 -- one more of some nodes
 pub one_more : (hs taken rest : List (NodeOf Spot)) (h : NodeOf Spot) (more : List (NodeOf Spot)) → hs ≡ taken ++ rest → rest ≡ h ∷ more → hs ≡ (taken ++ h ∷ []) ++ more

@@ -1,14 +1,13 @@
 -- Reporting on hash nodes, one group more at a time.
-use Rattle.std.proofs.Common.{◌≡◌, ◌<◌, ◌≤◌, ◌+◌, ◌*◌, ◌/◌, ◌&&◌, ℕ, List, [], ◌∷◌, ◌++◌, length, Option, Some, None, Bool, true, false, nat_lt, refl, ap, sym, ◌∙◌, subst, append_assoc, append-nil, length-append, arith}
+use Rattle.std.proofs.Common.{◌≡◌, ◌<◌, ◌≤◌, ◌+◌, ◌*◌, ◌&&◌, ℕ, List, [], ◌∷◌, ◌++◌, length, Option, None, Bool, true, nat_lt, refl, ap, sym, ◌∙◌, subst, append_assoc, append-nil, length-append, arith}
 use Rattle.std.specs.Prelude.{Result, Ok, Err, is_err}
-use Rattle.std.specs.List.{flat_map, sum_by, list_all}
+use Rattle.std.specs.List.{flat_map, sum_by}
 use Rattle.std.proofs.lemmas.Bool.{ltb-true, ltb-false}
 use Rattle.std.proofs.lemmas.Grind.{flat_map-append}
 use Rattle.std.proofs.lemmas.List.Sums.{sum_by-append, sum_by-cons}
 use Rattle.std.proofs.lemmas.List.Folds.{list_all-append}
 use Rattle.uimg_sums.specs.declared.algo.Algo.{Algo}
 use Rattle.uimg_base.specs.Sink.{Sink, AppendsAll, AppendsPrefix}
-use Rattle.uimg_base.specs.Writing.{Written}
 use Rattle.uimg_base.proofs.SinkLaws.{prefix_none, prefix_first, prefix_then, prefix_all, all_then, Appends-none}
 use Rattle.uimg_blob.specs.Grammar.{Siblings}
 use Rattle.uimg_blob.specs.LookUps.{NodeOf}
@@ -17,7 +16,7 @@ use Rattle.uimg_blob.proofs.PhaseLaws.{true_false, by_bool}
 use Rattle.uimg_fit.specs.declared.fault.Fault.{Fault}
 use Rattle.uimg_fit.specs.declared.walks.Walk.{Walk}
 use Rattle.uimg_fit.specs.Nodes.{HashesAt}
-use Rattle.uimg_fit.specs.Plans.{plan_of, sums_of, algos_of, algo_length}
+use Rattle.uimg_fit.specs.Plans.{plan_of, sums_of, algos_of}
 use Rattle.uimg_fit.specs.Report.{word_of, is_right, hash_line, are_right}
 use Rattle.uimg_fit.specs.Walks.{PutsGroup, line_cost}
 use Rattle.uimg_fit.specs.HashReports.{hash_cost, hashes_work, GroupDone, GroupCut, ReportsGroup, ReportsHashes}

@@ -1,13 +1,11 @@
 -- Reporting on images, one more at a time.
-use Rattle.std.proofs.Common.{◌≡◌, ◌<◌, ◌≤◌, ◌+◌, ◌*◌, ◌&&◌, ℕ, List, [], ◌∷◌, ◌++◌, length, Option, Some, None, Bool, true, false, codes, refl, ap, sym, ◌∙◌, subst, append_assoc, arith}
+use Rattle.std.proofs.Common.{◌≡◌, ◌≤◌, ◌+◌, ◌*◌, ◌&&◌, ℕ, List, [], ◌∷◌, ◌++◌, length, Option, Some, None, Bool, true, false, codes, refl, ap, sym, ◌∙◌, subst, append_assoc, arith}
 use Rattle.std.specs.Prelude.{Result, Ok, Err, IfOk, is_err}
 use Rattle.std.specs.Option.{is_some}
-use Rattle.std.specs.List.{flat_map, sum_by, count_by}
+use Rattle.std.specs.List.{flat_map, sum_by}
 use Rattle.std.proofs.lemmas.List.Sums.{sum_by-cons}
-use Rattle.uimg_texts.specs.Slices.{slice}
-use Rattle.uimg_base.proofs.Slices.{length-slice}
 use Rattle.uimg_base.specs.Outcome.{End, done, not_right, refused, Outcome, told, after, line, Tells}
-use Rattle.uimg_base.specs.Sink.{Sink, AppendsAll, AppendsPrefix}
+use Rattle.uimg_base.specs.Sink.{Sink, AppendsPrefix}
 use Rattle.uimg_base.specs.Writing.{Written}
 use Rattle.uimg_base.specs.declared.status.Status.{Status}
 use Rattle.uimg_base.proofs.OutcomeLaws.{Tells-after}
@@ -17,23 +15,20 @@ use Rattle.uimg_blob.specs.LookUps.{NodeOf, hashes}
 use Rattle.uimg_blob.specs.Roles.{in_images}
 use Rattle.uimg_blob.specs.Spots.{Spot}
 use Rattle.uimg_blob.proofs.PhaseLaws.{true_false}
-use Rattle.uimg_blob.specs.declared.fault.BlobFault.{BlobFault}
 use Rattle.uimg_blob.specs.Faults.{refuses_memory}
 use Rattle.uimg_fit.specs.declared.fault.Fault.{Fault}
 use Rattle.uimg_fit.specs.declared.fault.Fault.TheVariants.{Blob as OfBlob, Fit, Read, Put}
 use Rattle.uimg_fit.specs.declared.fault.FitFault.{FitFault}
-use Rattle.uimg_fit.specs.declared.places.Place.{Place}
-use Rattle.uimg_fit.specs.Allowances.{node_allowance, text_sizes, allowance}
+use Rattle.uimg_fit.specs.Allowances.{node_allowance}
 use Rattle.uimg_fit.specs.Faults.{end_of, unless_memory, is_refused, is_out_of_memory}
-use Rattle.uimg_fit.specs.Files.{bytes_of}
-use Rattle.uimg_fit.specs.HashReports.{hash_cost, hashes_work, ReportsHashes}
+use Rattle.uimg_fit.specs.HashReports.{hash_cost, ReportsHashes}
 use Rattle.uimg_fit.specs.ImageReports.{status_of, ReportsFound, image_work, ImageDone, ImageCut, ReportsImage, ReportsImages}
-use Rattle.uimg_fit.specs.Nodes.{AreFrom, HashesAt, IsNode}
+use Rattle.uimg_fit.specs.Nodes.{AreFrom, HashesAt}
 use Rattle.uimg_fit.specs.Places.{payload, TellsPlace}
-use Rattle.uimg_fit.specs.Plans.{algos_of, algo_length}
-use Rattle.uimg_fit.specs.Report.{hash_line, hash_lines, are_right, end_after, report_step, report, word_of}
-use Rattle.uimg_fit.specs.Work.{passes, hashed, is_compared}
-use Rattle.uimg_fit.proofs.ImageLaws.{front, none_left}
+use Rattle.uimg_fit.specs.Plans.{algos_of}
+use Rattle.uimg_fit.specs.Report.{hash_line, hash_lines, are_right, end_after, report_step, report}
+use Rattle.uimg_fit.specs.Work.{passes, hashed}
+use Rattle.uimg_fit.proofs.ImageLaws.{none_left}
 use Rattle.uimg_fit.proofs.PlanLaws.{of_answer}
 use Rattle.uimg_fit.proofs.SharesLaws.{hashes_allowed, one_text}
 use Rattle.uimg_fit.proofs.WalkLaws.{compared_count}

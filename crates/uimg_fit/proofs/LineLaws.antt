@@ -1,6 +1,6 @@
 -- The line of a hash node.
-use Rattle.std.proofs.Common.{◌≡◌, ◌+◌, ◌≤◌, ℕ, List, [], ◌∷◌, ◌++◌, length, codes, Option, Some, None, true, IfSome, refl, ap, sym, ◌∙◌, subst, append_assoc, arith}
-use Rattle.std.specs.Prelude.{Result, Ok, Err, IfOk, is_err}
+use Rattle.std.proofs.Common.{◌≡◌, ◌+◌, ◌≤◌, ℕ, List, [], ◌∷◌, ◌++◌, length, codes, Option, Some, None, true, IfSome, refl, ap, sym, ◌∙◌, append_assoc}
+use Rattle.std.specs.Prelude.{Result, Ok, Err, is_err}
 use Rattle.std.specs.Option.{option_map, option_map_or}
 use Rattle.uimg_texts.specs.Nul.{text}
 use Rattle.uimg_texts.specs.Slices.{slice}
@@ -18,7 +18,7 @@ use Rattle.uimg_fit.specs.declared.words.Word.{Word}
 use Rattle.uimg_fit.specs.Files.{bytes_of, bytes_in}
 use Rattle.uimg_fit.specs.Groups.{PutsHash, line_of}
 use Rattle.uimg_fit.specs.Plans.{algo_length, hash_text, span_length}
-use Rattle.uimg_fit.specs.Report.{word_text, word_of, hash_line}
+use Rattle.uimg_fit.specs.Report.{word_text, hash_line}
 
 -- the parts of a line, joined
 joined : (a b n w : List ℕ) → ((a ++ codes " ") ++ (b ++ codes " ")) ++ (n ++ ((codes " " ++ w) ++ 10 ∷ [])) ≡ line (a ++ codes " " ++ b ++ codes " " ++ n ++ codes " " ++ w)

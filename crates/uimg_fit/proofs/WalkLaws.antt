@@ -1,7 +1,7 @@
 -- Going over the hash nodes of a group, one node more at a time.
-use Rattle.std.proofs.Common.{◌≡◌, ◌<◌, ◌≤◌, ◌+◌, ◌==◌, ℕ, List, [], ◌∷◌, ◌++◌, length, Option, Some, None, Bool, true, false, ◌&&◌, cond, if◌then◌else◌, codes, refl, ap, sym, ◌∙◌, subst, append_assoc, append-nil, length-append, arith}
+use Rattle.std.proofs.Common.{◌≡◌, ◌<◌, ◌≤◌, ◌+◌, ◌==◌, ℕ, List, [], ◌∷◌, ◌++◌, length, Option, Some, None, Bool, true, false, ◌&&◌, cond, codes, refl, ap, sym, ◌∙◌, subst, append_assoc, append-nil, length-append, arith}
 use Rattle.std.specs.Prelude.{Result, Ok, Err, is_err}
-use Rattle.std.specs.List.{flat_map, sum_by, list_all, count_by, slice_get}
+use Rattle.std.specs.List.{flat_map, sum_by, count_by, slice_get}
 use Rattle.std.proofs.lemmas.Grind.{flat_map-append}
 use Rattle.std.proofs.lemmas.List.Sums.{sum_by-append, sum_by-cons}
 use Rattle.std.proofs.lemmas.List.Folds.{list_all-append}
@@ -23,7 +23,6 @@ use Rattle.uimg_fit.specs.declared.fault.Fault.{Fault}
 use Rattle.uimg_fit.specs.declared.plans.Plan.{Plan}
 use Rattle.uimg_fit.specs.declared.plans.Plan.TheVariants.{Malformed, Unsupported, Compared}
 use Rattle.uimg_fit.specs.declared.walks.Walk.{Walk}
-use Rattle.uimg_fit.specs.declared.words.Word.TheVariants as word
 use Rattle.uimg_fit.specs.Nodes.{HashesAt, FirstHash, HashAt}
 use Rattle.uimg_fit.specs.Plans.{HasDigest, plan_of, plan_for, plan_by_algo, plan_by_name, sums_of, algos_of}
 use Rattle.uimg_fit.specs.Report.{compared, by_algo, by_name, algo_of, is_right, word_of, hash_line, are_right}

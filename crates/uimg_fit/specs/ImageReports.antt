@@ -1,5 +1,5 @@
 -- Reporting on images, one after the other.
-use Rattle.std.specs.Prelude.{◌≡◌, ◌≤◌, ◌+◌, ◌*◌, ℕ, List, ◌++◌, length, Bool, true, false, Result, Ok, Err, IfOk, is_err}
+use Rattle.std.specs.Prelude.{◌≡◌, ◌≤◌, ◌+◌, ◌*◌, ℕ, List, length, Bool, true, false, Result, Ok, Err, IfOk, is_err}
 use Rattle.std.specs.List.{sum_by}
 use Rattle.uimg_base.specs.Outcome.{Outcome, Tells}
 use Rattle.uimg_base.specs.Sink.{Sink, AppendsAll}

@@ -1,5 +1,5 @@
 -- Going over the hash nodes of a group.
-use Rattle.std.specs.Prelude.{◌≡◌, ⊤, ◌+◌, ℕ, List, length, Some, Bool, ◌&&◌, Result, IfOk, is_err}
+use Rattle.std.specs.Prelude.{◌≡◌, ⊤, ◌+◌, ℕ, List, length, Some, ◌&&◌, Result, IfOk, is_err}
 use Rattle.std.specs.List.{flat_map, slice_get}
 use Rattle.uimg_sums.specs.declared.algo.Algo.{Algo}
 use Rattle.uimg_base.specs.Sink.{Sink}

@@ -1,6 +1,6 @@
-use Rattle.std.proofs.Common.{◌≡◌, ◌∙◌, ◌==◌, [], List, length, sym, ap, subst, arith, true, false}
+use Rattle.std.proofs.Common.{◌≡◌, ◌∙◌, ◌==◌, [], List, length, sym, ap, arith, false}
 use Rattle.uimg_sums.specs.declared.algo.Algo.{Algo}
-use Rattle.uimg_sums.specs.Bundle.{Holds, padded_digests}
+use Rattle.uimg_sums.specs.Bundle.{padded_digests}
 use Rattle.uimg_texts.specs.Slices.{slice}
 use Rattle.uimg_fit.proofs.SumLaws.{read_once, no_sum}
 use Rattle.uimg_fit.proofs.digests.digests.Goals as goal

@@ -1,4 +1,4 @@
-use Rattle.std.proofs.Common.{rules, ◌≡◌, ◌≤◌, ◌<◌, ◌+◌, ◌*◌, ◌∙◌, ℕ, [], List, length, true, Some, None, Option, IsTrue, Bool, subst, sym, arith}
+use Rattle.std.proofs.Common.{rules, ◌≡◌, ◌<◌, ℕ, [], List, length, true, None, Option, IsTrue, Bool, subst, sym, arith}
 use Rattle.std.specs.Prelude.{is_err}
 use Rattle.uimg_fit.specs.Nodes.{IsRead}
 use Rattle.uimg_fit.specs.Plans.{algos_of}

@@ -1,5 +1,5 @@
 use Rattle.std.proofs.Common.{subst, sym, ap, ◌∙◌}
-use Rattle.std.specs.Prelude.{◌≡◌, List, ℕ, Bool, Option, IfOk, length}
+use Rattle.std.specs.Prelude.{◌≡◌, List, ℕ, Option, IfOk, length}
 use Rattle.std.specs.Option.{option_map}
 use Rattle.uimg_texts.specs.Nul.{text}
 use Rattle.uimg_blob.specs.declared.texts.Span.{Span}

@@ -1,7 +1,6 @@
-use Rattle.std.proofs.Common.{rules, ◌≡◌, ◌≤◌, ◌+◌, ◌*◌, ◌∙◌, ℕ, List, ◌++◌, length, Bool, true, IsTrue, subst, sym, ap, arith}
+use Rattle.std.proofs.Common.{rules, ◌≡◌, ◌∙◌, ℕ, List, Bool, true, IsTrue, subst, sym, ap, arith}
 use Rattle.std.specs.Prelude.{is_err}
-use Rattle.uimg_sums.specs.declared.bundle.Bundle.{Bundle}
-use Rattle.uimg_sums.specs.Bundle.{Holds, padded_digests}
+use Rattle.uimg_sums.specs.Bundle.{padded_digests}
 use Rattle.uimg_texts.specs.Slices.{slice}
 use Rattle.uimg_base.specs.Held.{Held}
 use Rattle.uimg_blob.specs.LookUps.{NodeOf}

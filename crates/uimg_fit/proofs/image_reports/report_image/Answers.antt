@@ -1,4 +1,4 @@
-use Rattle.std.proofs.Common.{◌≡◌, ℕ, List, Bool, IsTrue, length, subst, sym}
+use Rattle.std.proofs.Common.{ℕ, List, Bool, IsTrue, subst, sym}
 use Rattle.uimg_texts.specs.Slices.{slice}
 use Rattle.uimg_base.proofs.Slices.{length-slice}
 use Rattle.uimg_fit.specs.ImageReports.{ReportsFound}

@@ -1,4 +1,4 @@
-use Rattle.std.proofs.Common.{rules, ◌≡◌, ◌∷◌, ℕ, List, Option, Bool, Some, IsTrue, subst, sym, ap}
+use Rattle.std.proofs.Common.{rules, ℕ, List, Option, Bool, Some, IsTrue, subst, sym, ap}
 use Rattle.uimg_base.specs.Held.{Held}
 use Rattle.uimg_blob.specs.Indexed.{IsIndexed}
 use Rattle.uimg_blob.specs.LookUps.{NodeOf}

@@ -1,7 +1,6 @@
 use Rattle.std.proofs.Common.{ℕ, List, IsTrue, Bool, subst, sym, ap, ◌∙◌, ◌≡◌}
 use Rattle.uimg_fit.specs.declared.plans.Plan.{Plan}
-use Rattle.uimg_fit.specs.declared.words.Word.{Word}
-use Rattle.uimg_fit.specs.Plans.{HasDigest, plan_of, word_by}
+use Rattle.uimg_fit.specs.Plans.{HasDigest, word_by}
 use Rattle.uimg_fit.specs.Report.{word_of}
 use Rattle.uimg_fit.proofs.PlanLaws.{of_answer}
 use Rattle.uimg_fit.proofs.judging.judge.Goals as goal

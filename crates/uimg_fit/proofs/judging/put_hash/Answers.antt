@@ -1,4 +1,4 @@
-use Rattle.std.proofs.Common.{rules, ℕ, List, Bool, IsTrue, true, false, ◌≡◌, subst, sym, ap, arith}
+use Rattle.std.proofs.Common.{rules, ℕ, List, Bool, IsTrue, true, false, ◌≡◌, subst, sym, arith}
 use Rattle.std.specs.Prelude.{is_err}
 use Rattle.uimg_texts.specs.Slices.{slice}
 use Rattle.uimg_base.specs.Writing.{Written}

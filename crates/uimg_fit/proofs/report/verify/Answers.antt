@@ -1,4 +1,4 @@
-use Rattle.std.proofs.Common.{rules, ◌≡◌, ℕ, List, Bool, IsTrue, subst, sym, arith}
+use Rattle.std.proofs.Common.{rules, ℕ, List, Bool, IsTrue, subst, sym, arith}
 use Rattle.uimg_fit.specs.ImageReports.{ReportsImages}
 use Rattle.uimg_fit.specs.Nodes.{IsRead}
 use Rattle.uimg_fit.proofs.ReportLaws.{found_told, work_within}
