@@ -61,11 +61,7 @@ pub(crate) fn planned<S: Source>(
 }
 
 // Whether the value at a span is what a digest begins with.
-fn is_digest<S: Source>(
-    source: &mut S,
-    span: Span,
-    digest: &[u8; 64],
-) -> Result<bool, SourceFault>
+fn is_digest<S: Source>(source: &mut S, span: Span, digest: &[u8; 64]) -> Result<bool, SourceFault>
     requires range { span.place + span.length ≤ length (S.device source.old).bytes }
     requires few { span.length ≤ 64 }
     ensures uses { Asks span.length (is_err result) (S.device source.old) (S.device source.new) }

@@ -22,7 +22,7 @@ invariant-loop-next g l =
       within : IfSome l.next (λ i. i < length l.fn.room.entries);
       reported : IsTrue (device l.fn.source).honest → (t : Siblings) → IsRead file l.blob l.fn.room.entries t → (hs : List (NodeOf Spot)) → HashesAt t l.fn.first hs
           → Reported t (slice file l.image.place l.image.length) (slice file l.place.at l.place.size) l.place.size l.image.length hs
-              (device l.fn.source).asked (device l.source).asked l.fn.out l.out l.are_right l.next;
+          (device l.fn.source).asked (device l.source).asked l.fn.out l.out l.are_right l.next;
     }
 
 abbrev pub decreases-loop-next : goal.decreases-loop-next
