@@ -2,7 +2,17 @@ pub mod Examples
 pub mod ReadLaws
 pub mod ImageLaws
 pub mod CellLaws
+pub mod PlanLaws
 pub mod NodeLaws
 pub mod HashLaws
+pub mod SumLaws
+pub mod GroupLaws
 pub mod PlaceLaws
 pub mod ExtractionLaws
+pub mod LineLaws
+pub mod WalkLaws
+pub mod AllowanceLaws
+pub mod SharesLaws
+pub mod HashReportLaws
+pub mod ImageReportLaws
+pub mod ReportLaws

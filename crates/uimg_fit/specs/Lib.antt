@@ -2,6 +2,11 @@ pub mod Faults
 pub mod Files
 pub mod Places
 pub mod Report
+pub mod Plans
+pub mod Groups
+pub mod Walks
+pub mod HashReports
+pub mod ImageReports
 pub mod Extraction
 pub mod Values
 pub mod Listing
@@ -9,3 +14,4 @@ pub mod Work
 pub mod Lying
 pub mod Nodes
 pub mod Rooms
+pub mod Allowances
