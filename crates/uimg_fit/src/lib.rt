@@ -2,8 +2,10 @@
 #![tactic(auto)]
 
 mod fault;
+mod fields;
 mod images;
 mod places;
+mod puts;
 #[cfg(test)]
 mod tests;
 
