@@ -33,7 +33,7 @@ on-bind P Q (Err e) f h g = tt
 
 -- The bytes before a NUL are a prefix.
 record IsPrefix (bytes name : List ℕ) : Type 0 where
-  within : length name ≤ length bytes
+  within : length name + 1 ≤ length bytes
   is : take (length name) bytes ≡ name
 
 one-more : (b : ℕ) (bytes : List ℕ) (o : Option (List ℕ)) (name : List ℕ) → ((m : List ℕ) → o ≡ Some m → IsPrefix bytes m)
@@ -83,6 +83,7 @@ module _ (file : List ℕ) where
       let short : length name ≤ e - (at + 4) = omega (arith, prefix.within, length-take 256 cut, long) in
       let few : length name ≤ 256 = omega (arith, prefix.within, length-take 256 cut, long) in
       record {
+        short = omega (arith, prefix.within, length-take 256 cut, long);
         within = omega (arith, short, before, ends);
         here = sym (take-take (length name) (e - (at + 4)) (drop (at + 4) file) short) ∙ sym (take-take (length name) 256 cut few) ∙ prefix.is;
       }

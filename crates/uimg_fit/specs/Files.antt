@@ -1,7 +1,7 @@
 -- What a FIT image has (Flattened Image Tree format, "Root node", "'/images' node").
 use Rattle.std.specs.Prelude.{ℕ, List, [], length, Option, Some, None, Result, Ok, Err, ◌==◌, if◌then◌else◌}
 use Rattle.std.specs.Int.{from_be_bytes, w32}
-use Rattle.std.specs.Option.{option_and_then}
+use Rattle.std.specs.Option.{option_and_then, option_map}
 use Rattle.uimg_texts.specs.Slices.{slice}
 use Rattle.uimg_base.specs.Results.{◌>>=◌}
 use Rattle.uimg_blob.specs.declared.texts.Span.{Span}
@@ -43,10 +43,18 @@ root_own (a_node name own below after) = own
 unfoldable pub number : List ℕ → Option ℕ
 number value = if length value == 4 then Some (from_be_bytes w32 value) else None
 
+-- the bytes of the first property of a name
+abbrev pub bytes_of : List (NamedOf Spot) → List ℕ → Option (List ℕ)
+bytes_of own key = option_map (λ s. s.bytes) (first own key)
+
 -- the number of the first property of a name; a value that has not 4 bytes counts as missing
 abbrev pub cell : List (NamedOf Spot) → List ℕ → Option ℕ
-cell own key = option_and_then (λ s. number s.bytes) (first own key)
+cell own key = option_and_then number (bytes_of own key)
 
--- the number of the value that stands at a span of a file
+-- the bytes that stand at a span of a file
+abbrev pub bytes_in : List ℕ → Option Span → Option (List ℕ)
+bytes_in file value = option_map (λ s. slice file s.place s.length) value
+
+-- the number of the value that stands there
 abbrev pub number_in : List ℕ → Option Span → Option ℕ
-number_in file value = option_and_then (λ s. number (slice file s.place s.length)) value
+number_in file value = option_and_then number (bytes_in file value)

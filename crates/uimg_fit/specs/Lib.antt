@@ -8,3 +8,4 @@ pub mod Listing
 pub mod Work
 pub mod Lying
 pub mod Nodes
+pub mod Rooms

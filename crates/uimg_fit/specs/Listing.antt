@@ -9,13 +9,13 @@ use Rattle.uimg_texts.specs.Sizes.{size_text}
 use Rattle.uimg_texts.specs.Times.{time_text}
 use Rattle.uimg_base.specs.Outcome.{Outcome, done, refused, told, after, line, unless_refused}
 use Rattle.uimg_blob.specs.Plain.{NamedOf, NodesOf}
-use Rattle.uimg_blob.specs.LookUps.{NodeOf, listed, first, images, configurations, hashes}
+use Rattle.uimg_blob.specs.LookUps.{NodeOf, listed, images, configurations, hashes}
 use Rattle.uimg_blob.specs.Spots.{Spot}
 use Rattle.uimg_fit.specs.declared.fault.Fault.{Fault}
 use Rattle.uimg_fit.specs.declared.fault.Fault.TheVariants.{Fit}
 use Rattle.uimg_fit.specs.declared.fault.FitFault.{FitFault}
 use Rattle.uimg_fit.specs.declared.fault.FitFault.TheVariants.{NoImages}
-use Rattle.uimg_fit.specs.Files.{tree_of, root_own, cell}
+use Rattle.uimg_fit.specs.Files.{tree_of, root_own, bytes_of, cell}
 use Rattle.uimg_fit.specs.declared.places.Place.{Place}
 use Rattle.uimg_fit.specs.Places.{place}
 use Rattle.uimg_fit.specs.Values.{long_name, address_text, pieces}
@@ -26,7 +26,7 @@ labelled n label value = line (take n (label ++ replicate n 32) ++ value)
 
 -- the text of a property by a function of its value, or a text where it is missing
 abbrev pub value_or : List (NamedOf Spot) → List ℕ → (List ℕ → List ℕ) → List ℕ → List ℕ
-value_or own key show missing = option_map_or (λ s. show s.bytes) (first own key) missing
+value_or own key show missing = option_map_or show (bytes_of own key) missing
 
 -- the line of a property that is there
 abbrev pub field : List (NamedOf Spot) → List ℕ → List ℕ → (List ℕ → List ℕ) → List ℕ

@@ -7,6 +7,7 @@ use Rattle.uimg_blob.specs.Grammar.{Siblings, none, node}
 
 -- A node's name stands behind the word that begins the node.
 pub record NameLies (file : List ℕ) (at : ℕ) (name : List ℕ) : Type 0 where
+  pub short : length name ≤ 255
   pub within : at + 4 + length name ≤ length file
   pub here : slice file (at + 4) (length name) ≡ name
 

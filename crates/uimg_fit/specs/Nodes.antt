@@ -1,14 +1,15 @@
 -- Nodes of an indexed tree by their numbers.
-use Rattle.std.specs.Prelude.{◌≡◌, ℕ, List, map, Option, Some, None, Result, Ok, Err}
-use Rattle.std.specs.List.{slice_get}
+use Rattle.std.specs.Prelude.{◌≡◌, ◌≤◌, ℕ, List, [], ◌∷◌, true, map, Option, Some, None, Result, Ok, Err}
+use Rattle.std.specs.List.{slice_get, filter}
 use Rattle.uimg_blob.specs.declared.nodes.Blob.{Blob}
 use Rattle.uimg_blob.specs.Tokens.{Property}
 use Rattle.uimg_blob.specs.Grammar.{Siblings, node}
-use Rattle.uimg_blob.specs.Roles.{Level, in_images}
-use Rattle.uimg_blob.specs.Rows.{first_of}
+use Rattle.uimg_blob.specs.Blob.{tree}
+use Rattle.uimg_blob.specs.Roles.{Level, in_images, in_image, in_configurations, is_hash}
+use Rattle.uimg_blob.specs.Rows.{Row, first_of, table}
 use Rattle.uimg_blob.specs.Standing.{Stand}
 use Rattle.uimg_blob.specs.Indexed.{IsIndexed}
-use Rattle.uimg_blob.specs.LookUps.{NodeOf, listed, images}
+use Rattle.uimg_blob.specs.LookUps.{NodeOf, listed, images, configurations}
 use Rattle.uimg_blob.specs.Spots.{Spot, spot_of, spots}
 use Rattle.uimg_fit.specs.declared.fault.FitFault.{FitFault}
 use Rattle.uimg_fit.specs.declared.fault.FitFault.TheVariants.{NoImages, NoSuchImage}
@@ -17,6 +18,16 @@ use Rattle.uimg_fit.specs.declared.fault.FitFault.TheVariants.{NoImages, NoSuchI
 pub record Indexed (blob : Blob) (es : List (List ℕ)) : Type 0 where
   pub nodes : Siblings
   pub indexed : IsIndexed nodes blob es
+
+-- The same of a blob that ends in a file of so many bytes.
+pub record InFile (size : ℕ) (blob : Blob) (es : List (List ℕ)) : Type 0 where
+  pub indexed : Indexed blob es
+  pub within : blob.totalsize ≤ size
+
+-- The tree of a file is t, whose entries are those of a room.
+pub record IsRead (file : List ℕ) (blob : Blob) (es : List (List ℕ)) (t : Siblings) : Type 0 where
+  pub is : tree file ≡ Ok t
+  pub indexed : IsIndexed t blob es
 
 -- The node of a number, at a level of the tree, is such.
 pub record IsNode (t : Siblings) (level : Level) (number : ℕ) (found : NodeOf Spot) : Type 0 where
@@ -70,3 +81,36 @@ TellsImage t position (Ok number) = HasImage t position number
 TellsImage t position (Err NoImages) = images (spots t) ≡ None
 TellsImage t position (Err NoSuchImage) = LacksImage t position
 TellsImage t position (Err _) = ⊥
+
+-- From a child of an image on, if there is one, these are the hash nodes.
+pub record HashesFrom (t : Siblings) (first : Option ℕ) (hs : List (NodeOf Spot)) : Type 0 where
+  pub children : List (NodeOf Spot)
+  pub from : AreFrom t in_image first children
+  pub are : hs ≡ filter (λ h. is_hash h.name) children
+
+-- The node of a number is the first of some hash nodes.
+pub record HashAt (t : Siblings) (number : ℕ) (hash : NodeOf Spot) (more : List (NodeOf Spot)) : Type 0 where
+  pub node : IsNode t in_image number hash
+  pub named : is_hash hash.name ≡ true
+  pub row : Row
+  pub is : slice_get (table t) number ≡ Some row
+  pub rest : HashesFrom t row.next_sibling more
+
+-- The same of some node and those after it.
+pub record FirstHash (t : Siblings) (number : ℕ) (hs : List (NodeOf Spot)) : Type 0 where
+  pub hash : NodeOf Spot
+  pub more : List (NodeOf Spot)
+  pub are : hs ≡ hash ∷ more
+  pub at : HashAt t number hash more
+
+-- Hash nodes begin at a number, or there are none.
+abbrev pub HashesAt : Siblings → Option ℕ → List (NodeOf Spot) → Type 0
+HashesAt t None hs = hs ≡ []
+HashesAt t (Some number) hs = FirstHash t number hs
+
+-- The tree has the node `configurations` of a number, and its children begin at another, if there are any.
+pub record HasConfigurations (t : Siblings) (number : ℕ) (first : Option ℕ) (found : NodeOf Spot) : Type 0 where
+  pub is : configurations (spots t) ≡ Some found
+  pub level : Level
+  pub node : IsNode t level number found
+  pub from : AreFrom t in_configurations first (listed found.below)

@@ -7,12 +7,12 @@ use Rattle.uimg_sums.specs.declared.algo.Algo.{Algo}
 use Rattle.uimg_sums.specs.Algorithms.{algo_named, digest_size, digest_by}
 use Rattle.uimg_texts.specs.Nul.{text}
 use Rattle.uimg_base.specs.Outcome.{Outcome, End, done, not_right, refused, told, line, unless_refused}
-use Rattle.uimg_blob.specs.LookUps.{NodeOf, first, hashes}
+use Rattle.uimg_blob.specs.LookUps.{NodeOf, hashes}
 use Rattle.uimg_blob.specs.Spots.{Spot}
 use Rattle.uimg_fit.specs.declared.fault.Fault.{Fault}
 use Rattle.uimg_fit.specs.declared.fault.Fault.TheVariants.{Fit}
 use Rattle.uimg_fit.specs.declared.fault.FitFault.{FitFault}
-use Rattle.uimg_fit.specs.Files.{images_of}
+use Rattle.uimg_fit.specs.Files.{images_of, bytes_of}
 use Rattle.uimg_fit.specs.Places.{payload}
 
 -- what is said of a hash node
@@ -51,17 +51,13 @@ abbrev pub by_name : Option (List ℕ) → Option (List ℕ) → List ℕ → Wo
 by_name None value message = malformed
 by_name (Some name) value message = by_algo (algo_named name) value message
 
--- a property's bytes, if it is there
-abbrev pub bytes_of : NodeOf Spot → List ℕ → Option (List ℕ)
-bytes_of n key = option_map (λ s. s.bytes) (first n.own key)
-
 -- the name of a hash node's algorithm
 abbrev pub algo_of : NodeOf Spot → Option (List ℕ)
-algo_of hash = option_map text (bytes_of hash (codes "algo"))
+algo_of hash = option_map text (bytes_of hash.own (codes "algo"))
 
 -- the word of a hash node
 abbrev pub word_of : List ℕ → NodeOf Spot → Word
-word_of message hash = by_name (algo_of hash) (bytes_of hash (codes "value")) message
+word_of message hash = by_name (algo_of hash) (bytes_of hash.own (codes "value")) message
 
 -- `<image> <hash> <algo> <word>`; `-` stands for a missing algorithm
 abbrev pub hash_line : List ℕ → List ℕ → NodeOf Spot → List ℕ
