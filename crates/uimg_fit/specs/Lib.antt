@@ -9,3 +9,5 @@ pub mod Work
 pub mod Lying
 pub mod Nodes
 pub mod Rooms
+pub mod Shows
+pub mod Lists

@@ -29,7 +29,7 @@ pub(crate) fn put_text_line<S: Source, A: Allocator, W: Write>(
     ensures told { IsTrue (S.device source.old).honest → Written (is_err result) out.old out.new
         (line (label.now ++ text (slice (S.device source.old).bytes span.place span.length))) }
 {
-    put(out, &[label])?;
+    put(out, label)?;
     put_text(source, room, span, out)?;
-    put(out, &[b"\n"])
+    put(out, b"\n")
 }

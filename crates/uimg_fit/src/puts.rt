@@ -1,6 +1,6 @@
-ghost use Rattle.std.specs.Prelude.{◌≡◌, ◌+◌, ◌≤◌, length, is_err, IsTrue, OnOk, IfErr};
-ghost use Rattle.std.specs.List.{flat_map};
+ghost use Rattle.std.specs.Prelude.{◌≡◌, ◌+◌, ◌≤◌, ◌++◌, length, is_err, IsTrue, OnOk, IfErr};
 ghost use Rattle.uimg_base.specs.Device.{RisesIf};
+ghost use Rattle.uimg_base.specs.Outcome.{line};
 ghost use Rattle.uimg_base.specs.Ranges.{is_put};
 ghost use Rattle.uimg_base.specs.declared.ranges.MoveFault.TheVariants.{Read, Put};
 ghost use Rattle.uimg_base.specs.Using.{Asks};
@@ -10,14 +10,45 @@ ghost use Rattle.uimg_texts.specs.Slices.{slice};
 use std::io::Write;
 use uimg_base::{MoveFault, Out, Source};
 
-// Writes several pieces as one text.
-pub(crate) fn put<W: Write>(out: &mut Out<W>, pieces: &[&[u8]]) -> Result<(), MoveFault>
+// Writes a text.
+pub(crate) fn put<W: Write>(out: &mut Out<W>, text: &[u8]) -> Result<(), MoveFault>
     ensures faults { RisesIf (is_put result) out.old.faults out.new.faults }
     ensures put { IfErr result (λ e. e ≡ Put) }
-    ensures told { Written (is_err result) out.old out.new
-        (flat_map (λ piece. piece.now) pieces.now) }
+    ensures told { Written (is_err result) out.old out.new text.now }
 {
-    match out.put_pieces(pieces) {
+    match out.put_all(text) {
+        Ok(()) => Ok(()),
+        Err(_) => Err(MoveFault::Put),
+    }
+}
+
+// Writes two texts.
+pub(crate) fn put_pair<W: Write>(
+    out: &mut Out<W>,
+    first: &[u8],
+    second: &[u8],
+) -> Result<(), MoveFault>
+    ensures faults { RisesIf (is_put result) out.old.faults out.new.faults }
+    ensures put { IfErr result (λ e. e ≡ Put) }
+    ensures told { Written (is_err result) out.old out.new (first.now ++ second.now) }
+{
+    match out.put_pieces(&[first, second]) {
+        Ok(()) => Ok(()),
+        Err(_) => Err(MoveFault::Put),
+    }
+}
+
+// Writes a line of two texts.
+pub(crate) fn put_line<W: Write>(
+    out: &mut Out<W>,
+    label: &[u8],
+    text: &[u8],
+) -> Result<(), MoveFault>
+    ensures faults { RisesIf (is_put result) out.old.faults out.new.faults }
+    ensures put { IfErr result (λ e. e ≡ Put) }
+    ensures told { Written (is_err result) out.old out.new (line (label.now ++ text.now)) }
+{
+    match out.put_pieces(&[label, text, b"\n"]) {
         Ok(()) => Ok(()),
         Err(_) => Err(MoveFault::Put),
     }

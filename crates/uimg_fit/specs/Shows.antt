@@ -1,0 +1,67 @@
+-- The lines of a property's value, where its label is padded already.
+use Rattle.std.specs.Prelude.{ℕ, zero, suc, min, List, [], ◌∷◌, ◌++◌, replicate, codes, Option}
+use Rattle.std.specs.List.{flat_map, sum_by}
+use Rattle.std.specs.Option.{option_map_or}
+use Rattle.hex.specs.Hex.{encode_lower}
+use Rattle.uimg_texts.specs.Names.{Row, os_table, arch_table, kind_table, comp_table, code_of, printed}
+use Rattle.uimg_texts.specs.Nul.{text}
+use Rattle.uimg_texts.specs.Slices.{slice}
+use Rattle.uimg_base.specs.Outcome.{line}
+use Rattle.uimg_blob.specs.declared.texts.Span.{Span}
+use Rattle.uimg_fit.specs.declared.shows.Table.{Table}
+use Rattle.uimg_fit.specs.declared.shows.Table.TheVariants.{Kinds, Compressions, Architectures, Systems}
+use Rattle.uimg_fit.specs.declared.shows.Show.{Show}
+use Rattle.uimg_fit.specs.declared.shows.Show.TheVariants as show
+use Rattle.uimg_fit.specs.declared.shows.Field.{Field}
+use Rattle.uimg_fit.specs.Values.{address_text, pieces}
+
+-- the rows of a table
+abbrev pub rows_of : Table → List Row
+rows_of Kinds = kind_table
+rows_of Compressions = comp_table
+rows_of Architectures = arch_table
+rows_of Systems = os_table
+
+-- what is printed where a table has no such name
+abbrev pub unknown : Table → List ℕ
+unknown Kinds = codes "Unknown Image"
+unknown Compressions = codes "Unknown Compression"
+unknown Architectures = codes "Unknown Architecture"
+unknown Systems = codes "Unknown OS"
+
+-- the printed name of what a table names so
+unfoldable pub named : Table → List ℕ → List ℕ
+named table name = option_map_or (printed (rows_of table) (unknown table)) (code_of (rows_of table) name) (unknown table)
+
+-- the same of a value's text
+abbrev pub name_in : Table → List ℕ → List ℕ
+name_in table value = named table (text value)
+
+-- a line for each text, the first with the label, the others with as many blanks
+abbrev pub lines_of : List ℕ → List (List ℕ) → List ℕ
+lines_of label [] = []
+lines_of label (t ∷ ts) = line (label ++ t) ++ flat_map (λ more. line (replicate 16 32 ++ more)) ts
+
+-- the lines of a value
+unfoldable pub value_lines : Show → List ℕ → List ℕ → List ℕ
+value_lines show.Text label value = line (label ++ text value)
+value_lines (show.Name table) label value = line (label ++ name_in table value)
+value_lines show.Address label value = line (label ++ address_text value)
+value_lines show.Hexadecimal label value = line (label ++ encode_lower value)
+value_lines show.List label value = lines_of label (pieces value)
+
+-- the lines of a property of a file, if it is there
+abbrev pub field_lines : List ℕ → Field → List ℕ
+field_lines file field =
+    option_map_or (λ s. value_lines field.show field.label.now (slice file s.place s.length)) field.value []
+
+-- the most bytes of a value that are asked for
+abbrev pub value_cost : Show → ℕ → ℕ
+value_cost show.Text length = length
+value_cost (show.Name table) length = min 32 length
+value_cost show.Address length = min 8 length
+value_cost show.Hexadecimal length = length
+value_cost show.List length = length
+
+abbrev pub field_cost : Field → ℕ
+field_cost field = option_map_or (λ s. value_cost field.show s.length) field.value 0
