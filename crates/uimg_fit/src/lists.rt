@@ -1,4 +1,4 @@
-ghost use Rattle.std.specs.Prelude.{◌≡◌, ◌+◌, ◌≤◌, ◌<◌, ◌++◌, length, take, is_err, IsTrue, IfOk, IfErr};
+ghost use Rattle.std.specs.Prelude.{◌≡◌, ◌+◌, ◌≤◌, ◌<◌, ◌++◌, length, take, drop, is_err, IsTrue, IfOk, IfErr};
 ghost use Rattle.uimg_base.specs.Device.{RisesIf};
 ghost use Rattle.uimg_base.specs.Ranges.{is_read, is_put};
 ghost use Rattle.uimg_base.specs.declared.ranges.MoveFault.TheVariants.{Put};
@@ -35,6 +35,14 @@ fn start_of(label: &[u8], line: Line) -> &[u8]
         Line::Next => b"                ",
         Line::Open => b"",
     }
+}
+
+// The bytes behind the first ones.
+fn left(bytes: &[u8], passed: usize) -> &[u8]
+    requires { passed ≤ length bytes.now }
+    ensures { result.now ≡ drop passed bytes.now }
+{
+    &bytes[passed..]
 }
 
 // The bytes up to the first NUL and that NUL, or all.
@@ -85,7 +93,7 @@ fn put_texts<W: Write>(
     let mut line = line;
     let mut passed = 0;
     while passed < bytes.len() {
-        let piece = first_piece(&bytes[passed..]);
+        let piece = first_piece(left(bytes, passed));
         line = put_piece(label, line, piece, out)?;
         passed += piece.len();
     }
@@ -95,21 +103,23 @@ fn put_texts<W: Write>(
 // Writes the texts of at most a window's bytes.
 fn put_window<S: Source, W: Write>(
     source: &mut S,
-    window: &mut [u8],
+    window: &mut [u8; WINDOW],
     at: u64,
+    count: usize,
     label: &[u8],
     line: Line,
     out: &mut Out<W>,
 ) -> Result<Line, MoveFault>
-    requires { at + length window.old ≤ length (S.device source.old).bytes }
-    ensures uses { Asks (length window.old) (is_read result) (S.device source.old)
-        (S.device source.new) }
+    requires range { at + count ≤ length (S.device source.old).bytes }
+    requires window { count ≤ 8192 }
+    ensures uses { Asks count (is_read result) (S.device source.old) (S.device source.new) }
     ensures faults { RisesIf (is_put result) out.old.faults out.new.faults }
-    ensures line { IsTrue (S.device source.old).honest → IfOk result (λ l.
-        l ≡ line_after line (slice (S.device source.old).bytes at (length window.old))) }
+    ensures line { IsTrue (S.device source.old).honest →
+        IfOk result (λ l. l ≡ line_after line (slice (S.device source.old).bytes at count)) }
     ensures told { IsTrue (S.device source.old).honest → Written (is_err result) out.old out.new
-        (emitted label.now line (slice (S.device source.old).bytes at (length window.old))) }
+        (emitted label.now line (slice (S.device source.old).bytes at count)) }
 {
+    let window = &mut window[..count];
     read(source, at, window)?;
     put_texts(label, line, window, out)
 }
@@ -134,8 +144,8 @@ fn put_value<S: Source, W: Write>(
     let mut done = 0;
     while done < span.length {
         let next = u64::min(span.length - done, WINDOW as u64);
-        let part = &mut window[..next as usize];
-        line = put_window(source, part, span.place + done, label, line, out)?;
+        let at = span.place + done;
+        line = put_window(source, window, at, next as usize, label, line, out)?;
         done += next;
     }
     Ok(line)
