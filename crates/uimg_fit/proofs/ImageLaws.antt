@@ -1,32 +1,38 @@
 -- The images of an indexed tree, by their numbers.
-use Rattle.std.proofs.Common.{◌≡◌, ◌<◌, ◌≤◌, ◌+◌, ℕ, zero, suc, List, [], ◌∷◌, length, drop, map, Option, Some, None, Bool, true, false, refl, ap, sym, ◌∙◌, subst, arith}
+use Rattle.std.proofs.Common.{◌≡◌, ◌<◌, ◌≤◌, ◌+◌, ℕ, zero, suc, List, [], ◌∷◌, length, drop, map, Option, Some, None, Bool, true, false, IsTrue, codes, refl, ap, sym, ◌∙◌, subst, arith}
 use Rattle.std.specs.List.{slice_get}
 use Rattle.std.specs.Option.{option_map}
+use Rattle.std.specs.Str.{bytes_eq}
+use Rattle.std.proofs.lemmas.Slice.Eq.{bytes_eq-Decides}
+use Rattle.uimg_blob.specs.declared.keys.Key.TheVariants.{Default}
 use Rattle.std.proofs.Math.ListN.{length-map}
 use Rattle.std.proofs.Math.Nat.{suc-ne-zero}
 use Rattle.std.proofs.lemmas.List.{length-drop, drop-drop}
 use Rattle.std.proofs.lemmas.Option.{slice_get_within, slice_get_past}
 use Rattle.uimg_blob.specs.declared.nodes.Blob.{Blob}
 use Rattle.uimg_blob.specs.Grammar.{Siblings, none, node}
-use Rattle.uimg_blob.specs.Roles.{Level, role_at, level_in, level_after, in_root, in_images, is_images}
+use Rattle.uimg_blob.specs.Roles.{Level, role_at, level_in, level_after, in_root, in_images, in_configurations, is_images, is_configurations}
 use Rattle.uimg_blob.specs.Rows.{Row, first_of, table, size, child_number}
 use Rattle.uimg_blob.specs.Kept.{kept_of, entry_of}
 use Rattle.uimg_blob.specs.Standing.{Stand}
-use Rattle.uimg_blob.specs.Indexed.{IsIndexed, IsRow}
-use Rattle.uimg_blob.specs.LookUps.{NodeOf, listed, images}
+use Rattle.uimg_blob.specs.Indexed.{IsIndexed, IsRow, keeps}
+use Rattle.uimg_blob.specs.LookUps.{NodeOf, listed, images, configurations}
 use Rattle.uimg_blob.specs.Spots.{Spot, spot_of, spots}
 use Rattle.uimg_blob.proofs.LookLaws.{length_rows}
 use Rattle.uimg_blob.proofs.PhaseLaws.{some_none, some_some}
 use Rattle.uimg_blob.proofs.SoFarLaws.{length_kept}
-use Rattle.uimg_blob.proofs.StandLaws.{row_of, row_stands, below_stand, after_stand, images_stand, no_images}
-use Rattle.uimg_fit.specs.Nodes.{HasImages, HasImage, LacksImage, AreFrom, IsNode}
+use Rattle.uimg_blob.proofs.StandLaws.{row_of, row_stands, below_stand, after_stand, images_stand, no_images, configurations_stand, no_configurations}
+use Rattle.uimg_fit.specs.Nodes.{HasImages, HasImage, LacksImage, AreFrom, IsNode, HasConfigurations, TellsConfigurations}
+
+-- each node has an entry
+pub entries_size : (t : Siblings) (blob : Blob) (es : List (List ℕ)) → IsIndexed t blob es → length es ≡ size t
+entries_size t blob es h = ap (λ (l : List (List ℕ)). length l) h.kept ∙ length-map (kept_of t) entry_of ∙ length_kept _ _ _ t
 
 -- a row's number is below the count of entries
 pub row_within : (t : Siblings) (blob : Blob) (es : List (List ℕ)) (i : ℕ) (row : Row) → IsIndexed t blob es → slice_get (table t) i ≡ Some row → i < length es
 row_within t blob es i row h is =
     let rows : length (table t) ≡ size t = length_rows _ _ _ t in
-    let all : length es ≡ size t = ap (λ (l : List (List ℕ)). length l) h.kept ∙ length-map (kept_of t) entry_of ∙ length_kept _ _ _ t in
-    omega (arith, slice_get_within (table t) i row is, rows, all)
+    omega (arith, slice_get_within (table t) i row is, rows, entries_size t blob es h)
 
 -- The first image is the first child of a row.
 pub record Begin (t : Siblings) (number : ℕ) : Type 0 where
@@ -155,3 +161,53 @@ pub none_next : (t : Siblings) (k position : ℕ) → k ≤ position → LeftIma
 none_next t k position later left =
     let all : length (drop k left.found) ≡ 0 = ap (λ (l : List (NodeOf Spot)). length l) (none_left t in_images (drop k left.found) left.from) in
     record { found = left.found; is = left.is; lacks = slice_get_past left.found position (omega (arith, all, length-drop k left.found, later)) }
+
+-- Such a node keeps a default, and its children are configurations.
+abbrev IsParent : Bool → List ℕ → Type 0
+IsParent other name = IsTrue (keeps (role_at (in_root other false) name) Default) × (level_in (role_at (in_root other false) name) ≡ in_configurations)
+
+is_parent : (other : Bool) (name : List ℕ) → bytes_eq name (codes "configurations") ≡ true → IsParent other name
+is_parent other name is = subst (IsParent other) (sym ((bytes_eq-Decides name (codes "configurations")).0 is)) (refl, refl)
+
+-- the node `configurations` and what it is
+pub configurations_are : (t : Siblings) (i : ℕ) → child_number is_configurations t ≡ Some i → HasConfigurations t i
+unfolding spots
+configurations_are none i is = absurd (some_none (sym is))
+configurations_are (node at name own below after) i is =
+    let t = node at name own below after in
+    let c = configurations_stand t i at name own below after refl is in
+    record {
+      found = record { name = c.name; own = map spot_of c.own; below = spots c.below };
+      is = c.is;
+      level = in_root c.other false;
+      node = record { parent = Some 0; at = c.at; name = c.name; own = c.own; below = c.below; after = c.after; stands = c.stands; is = refl };
+      keeps = (is_parent c.other c.name c.named).0;
+      children = (is_parent c.other c.name c.named).1;
+    }
+
+-- a tree without that node
+pub lacks_configurations : (t : Siblings) → child_number is_configurations t ≡ None → configurations (spots t) ≡ None
+unfolding spots
+lacks_configurations none is = refl
+lacks_configurations (node at name own below after) is = no_configurations at name own below after is
+
+-- what is said of the node `configurations`, by its number
+pub tells_configurations : (t : Siblings) (o : Option ℕ) → o ≡ child_number is_configurations t → TellsConfigurations t o
+tells_configurations t None is = lacks_configurations t (sym is)
+tells_configurations t (Some i) is = configurations_are t i (sym is)
+
+-- a node's children
+pub children_of : (t : Siblings) (blob : Blob) (es : List (List ℕ)) (level : Level) (i : ℕ) (first : Option ℕ) (found : NodeOf Spot) → IsIndexed t blob es → IsNode t level i found
+    → ((row : Row) → IsRow blob es i row → first ≡ row.first_child) → AreFrom t (level_in (role_at level found.name)) first (listed found.below)
+children_of t blob es level i first found indexed n child =
+    let row : Row = row_of level n.parent i n.at n.name n.own n.below n.after in
+    let is = row_stands t level n.parent i n.at n.name n.own n.below n.after n.stands in
+    let same : first ≡ row.first_child = child row (record { nodes = t; indexed = indexed; is = is }) in
+    record {
+      parent = Some i;
+      number = i + 1;
+      siblings = n.below;
+      stands = subst (λ (f : NodeOf Spot). Stand t (level_in (role_at level f.name)) (Some i) (i + 1) n.below) (sym n.is) (below_stand t level n.parent i n.at n.name n.own n.below n.after n.stands);
+      is_first = same;
+      are = ap (λ (f : NodeOf Spot). listed f.below) n.is;
+    }

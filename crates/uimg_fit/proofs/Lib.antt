@@ -5,3 +5,7 @@ pub mod CellLaws
 pub mod PutLaws
 pub mod ShowLaws
 pub mod ListLaws
+pub mod NodeLaws
+pub mod HashLaws
+pub mod PlaceLaws
+pub mod ExtractionLaws

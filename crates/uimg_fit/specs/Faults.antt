@@ -1,11 +1,11 @@
 -- What the answers of this crate say.
-use Rattle.std.specs.Prelude.{Result, Ok, Err, Option, Some, None, Bool, true, false}
+use Rattle.std.specs.Prelude.{◌≡◌, ⊤, Result, Ok, Err, Option, Some, None, Bool, true, false}
 use Rattle.uimg_base.specs.Outcome.{End, done, not_right, refused}
 use Rattle.uimg_base.specs.declared.status.Status.{Status}
 use Rattle.uimg_base.specs.declared.status.Status.TheVariants.{Done, NotRight}
 use Rattle.uimg_base.specs.declared.ranges.MoveFault.{MoveFault}
 use Rattle.uimg_base.specs.declared.ranges.MoveFault.TheVariants as move
-use Rattle.uimg_blob.specs.declared.fault.BlobFault.TheVariants.{OutOfMemory}
+use Rattle.uimg_blob.specs.Faults.{refuses_memory}
 use Rattle.uimg_blob.specs.declared.fault.IndexFault.{IndexFault}
 use Rattle.uimg_blob.specs.declared.fault.IndexFault.TheVariants as index
 use Rattle.uimg_fit.specs.declared.fault.Fault.{Fault}
@@ -33,14 +33,31 @@ is_put _ = false
 
 -- the answer is that memory for the table of nodes was refused
 abbrev pub is_out_of_memory : {X : Type 0} → Result X Fault → Bool
-is_out_of_memory (Err (Blob OutOfMemory at)) = true
+is_out_of_memory (Err (Blob fault at)) = refuses_memory fault
 is_out_of_memory _ = false
+
+-- an end, or none where memory was refused
+abbrev pub unless_memory : Bool → End Fault → Option (End Fault)
+unless_memory true e = None
+unless_memory false e = Some e
 
 -- the end that an answer tells, where neither a device failed nor memory was refused
 abbrev pub end_of : Result Status Fault → Option (End Fault)
 end_of (Ok Done) = Some done
 end_of (Ok NotRight) = Some not_right
-end_of (Err (Blob OutOfMemory at)) = None
-end_of (Err (Blob fault at)) = Some (refused (Blob fault at))
+end_of (Err (Blob fault at)) = unless_memory (refuses_memory fault) (refused (Blob fault at))
 end_of (Err (Fit fault)) = Some (refused (Fit fault))
 end_of (Err _) = None
+
+-- the answer is that the image is refused, or memory for its table of nodes
+abbrev pub is_refused : {X : Type 0} → Result X Fault → Bool
+is_refused (Err (Blob fault at)) = true
+is_refused (Err (Fit fault)) = true
+is_refused _ = false
+
+-- An answer is the value or the fault of a definition, unless a device failed or memory was refused.
+abbrev pub Gives : {X Y : Type 0} → (X → Y) → Result X Fault → Result Y Fault → Type 0
+Gives view (Ok x) r = r ≡ Ok (view x)
+Gives view (Err (Blob fault at)) r = refuses_memory fault ≡ false → r ≡ Err (Blob fault at)
+Gives view (Err (Fit fault)) r = r ≡ Err (Fit fault)
+Gives view (Err _) r = ⊤

@@ -1,16 +1,21 @@
 -- Nodes of an indexed tree by their numbers.
-use Rattle.std.specs.Prelude.{◌≡◌, ◌≤◌, ℕ, List, [], ◌∷◌, true, map, Option, Some, None, Result, Ok, Err}
+use Rattle.std.specs.Prelude.{◌≡◌, ◌≤◌, ℕ, List, [], ◌∷◌, true, false, ⊤, map, Option, Some, None, Result, Ok, Err, IsTrue}
 use Rattle.std.specs.List.{slice_get, filter}
+use Rattle.uimg_texts.specs.Numbers.{be32}
 use Rattle.uimg_blob.specs.declared.nodes.Blob.{Blob}
+use Rattle.uimg_blob.specs.declared.keys.Key.TheVariants.{Default}
 use Rattle.uimg_blob.specs.Tokens.{Property}
 use Rattle.uimg_blob.specs.Grammar.{Siblings, node}
 use Rattle.uimg_blob.specs.Blob.{tree}
-use Rattle.uimg_blob.specs.Roles.{Level, in_images, in_image, in_configurations, is_hash}
+use Rattle.uimg_blob.specs.Roles.{Level, in_images, in_image, in_configurations, is_hash, role_at, level_in}
 use Rattle.uimg_blob.specs.Rows.{Row, first_of, table}
 use Rattle.uimg_blob.specs.Standing.{Stand}
-use Rattle.uimg_blob.specs.Indexed.{IsIndexed}
+use Rattle.uimg_blob.specs.Indexed.{IsIndexed, keeps}
 use Rattle.uimg_blob.specs.LookUps.{NodeOf, listed, images, configurations}
 use Rattle.uimg_blob.specs.Spots.{Spot, spot_of, spots}
+use Rattle.uimg_blob.specs.Faults.{refuses_memory}
+use Rattle.uimg_fit.specs.declared.fault.Fault.{Fault}
+use Rattle.uimg_fit.specs.declared.fault.Fault.TheVariants as of
 use Rattle.uimg_fit.specs.declared.fault.FitFault.{FitFault}
 use Rattle.uimg_fit.specs.declared.fault.FitFault.TheVariants.{NoImages, NoSuchImage}
 
@@ -24,10 +29,23 @@ pub record InFile (size : ℕ) (blob : Blob) (es : List (List ℕ)) : Type 0 whe
   pub indexed : Indexed blob es
   pub within : blob.totalsize ≤ size
 
--- The tree of a file is t, whose entries are those of a room.
+-- The tree of a file is t, whose entries are those of a room, and the blob has the total size that its header says.
 pub record IsRead (file : List ℕ) (blob : Blob) (es : List (List ℕ)) (t : Siblings) : Type 0 where
   pub is : tree file ≡ Ok t
   pub indexed : IsIndexed t blob es
+  pub totalsize : blob.totalsize ≡ be32 file 4
+
+-- A file has a tree, whose entries are those of a room.
+pub record HasTree (file : List ℕ) (blob : Blob) (es : List (List ℕ)) : Type 0 where
+  pub nodes : Siblings
+  pub read : IsRead file blob es nodes
+
+-- what an answer says of the tree of a file
+abbrev pub GivesTree : List ℕ → Result Blob Fault → List (List ℕ) → Type 0
+GivesTree file (Ok blob) es = HasTree file blob es
+GivesTree file (Err (of.Blob fault at)) es = refuses_memory fault ≡ false → tree file ≡ Err (fault, at)
+GivesTree file (Err (of.Fit fault)) es = ⊥
+GivesTree file (Err _) es = ⊤
 
 -- The node of a number, at a level of the tree, is such.
 pub record IsNode (t : Siblings) (level : Level) (number : ℕ) (found : NodeOf Spot) : Type 0 where
@@ -108,9 +126,16 @@ abbrev pub HashesAt : Siblings → Option ℕ → List (NodeOf Spot) → Type 0
 HashesAt t None hs = hs ≡ []
 HashesAt t (Some number) hs = FirstHash t number hs
 
--- The tree has the node `configurations` of a number, and its children begin at another, if there are any.
-pub record HasConfigurations (t : Siblings) (number : ℕ) (first : Option ℕ) (found : NodeOf Spot) : Type 0 where
+-- The node `configurations` of a tree has a number. It keeps a default, and its children are configurations.
+pub record HasConfigurations (t : Siblings) (number : ℕ) : Type 0 where
+  pub found : NodeOf Spot
   pub is : configurations (spots t) ≡ Some found
   pub level : Level
   pub node : IsNode t level number found
-  pub from : AreFrom t in_configurations first (listed found.below)
+  pub keeps : IsTrue (keeps (role_at level found.name) Default)
+  pub children : level_in (role_at level found.name) ≡ in_configurations
+
+-- what is said of the node `configurations`
+abbrev pub TellsConfigurations : Siblings → Option ℕ → Type 0
+TellsConfigurations t None = configurations (spots t) ≡ None
+TellsConfigurations t (Some number) = HasConfigurations t number

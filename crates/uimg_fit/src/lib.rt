@@ -2,16 +2,20 @@
 #![tactic(auto)]
 
 mod addresses;
+mod extraction;
 mod fault;
 mod fields;
 mod hexadecimal;
 mod images;
 mod lists;
 mod names;
+mod nodes;
 mod places;
 mod puts;
+pub mod samples;
 mod shows;
 #[cfg(test)]
 mod tests;
 
+pub use extraction::extract;
 pub use fault::{Fault, FitFault};

@@ -1,18 +1,17 @@
-ghost use Rattle.std.specs.Prelude.{◌≡◌, ◌+◌, ◌<◌, ◌≤◌, ◌^◌, length, is_err, Option, IfOk, IfSome, IsTrue};
-ghost use Rattle.uimg_texts.specs.Numbers.{up4};
+ghost use Rattle.std.specs.Prelude.{◌≡◌, false, ◌+◌, ◌<◌, ◌≤◌, ◌^◌, length, is_err, Option, IfOk, IfSome, IsTrue};
 ghost use Rattle.uimg_base.specs.Using.{Asks};
 ghost use Rattle.uimg_blob.specs.LookUps.{NodeOf};
 ghost use Rattle.uimg_blob.specs.Grammar.{Siblings};
-ghost use Rattle.uimg_blob.specs.Indexed.{IsIndexed};
 ghost use Rattle.uimg_blob.specs.Roles.{in_images};
 ghost use Rattle.uimg_blob.specs.Spots.{Spot};
-ghost use Rattle.uimg_fit.specs.Faults.{is_read, is_put};
+ghost use Rattle.uimg_fit.specs.Faults.{is_read, is_put, is_out_of_memory};
 ghost use Rattle.uimg_fit.specs.Files.{number_in};
 ghost use Rattle.uimg_fit.specs.Lying.{Lie};
-ghost use Rattle.uimg_fit.specs.Nodes.{Indexed, IsNode};
-ghost use Rattle.uimg_fit.specs.Places.{external, or_else, embedded, TellsPlace};
+ghost use Rattle.uimg_fit.specs.Nodes.{InFile, IsRead, IsNode};
+ghost use Rattle.uimg_fit.specs.Places.{external, or_else, embedded, place, TellsPlace};
 
 use crate::fault::{Fault, FitFault};
+use crate::nodes::value_of;
 use std::alloc::Allocator;
 use uimg_base::{Room, Source, SourceFault, number_at, up4};
 use uimg_blob::{Blob, Key, Span};
@@ -54,8 +53,10 @@ pub(crate) fn decide(
     payload: Option<Span>,
 ) -> Result<Place, FitFault>
     requires { base < 2 ^ 40 }
-    ensures { result ≡ or_else (external 0 position size) (external base offset size)
+    ensures place { result ≡ or_else (external 0 position size) (external base offset size)
         (embedded payload) }
+    ensures small { IfSome payload (λ s. (s.place < 2 ^ 40) × (s.length < 2 ^ 32)) →
+        IfOk result (λ p. (p.at < 2 ^ 41) × (p.size < 2 ^ 32)) }
 {
     if let (Some(at), Some(size)) = (position, size) {
         return Ok(Place {
@@ -76,4 +77,57 @@ pub(crate) fn decide(
         }),
         None => Err(FitFault::NoData),
     }
+}
+
+// The place of an image's payload, or that it has none.
+pub(crate) fn find_place<S: Source, A: Allocator>(
+    source: &mut S,
+    blob: &Blob,
+    room: &Room<A>,
+    image: usize,
+) -> Result<Result<Place, FitFault>, SourceFault>
+    requires within { image < length room.now.entries }
+    requires inside { InFile (length (S.device source.old).bytes) blob.now room.now.entries }
+    ensures uses { Asks 12 (is_err result) (S.device source.old) (S.device source.new) }
+    ensures small { IfOk result (λ found. IfOk found (λ p. (p.at < 2 ^ 41) × (p.size < 2 ^ 32))) }
+    ensures place { IsTrue (S.device source.old).honest → (t : Siblings) →
+        IsRead (S.device source.old).bytes blob.now room.now.entries t → (found : NodeOf Spot) →
+        IsNode t in_images image found →
+        IfOk result (λ p. p ≡ place (S.device source.old).bytes found) }
+{
+    let size = cell(source, value_of(blob, room, image, Key::DataSize))?;
+    let position = cell(source, value_of(blob, room, image, Key::DataPosition))?;
+    let offset = cell(source, value_of(blob, room, image, Key::DataOffset))?;
+    let payload = value_of(blob, room, image, Key::Data);
+    Ok(decide(
+        up4(blob.totalsize() as u64),
+        size,
+        position,
+        offset,
+        payload,
+    ))
+}
+
+// The place of an image's payload that ends in the source.
+pub(crate) fn payload_place<S: Source, A: Allocator>(
+    source: &mut S,
+    blob: &Blob,
+    room: &Room<A>,
+    image: usize,
+) -> Result<Place, Fault>
+    requires within { image < length room.now.entries }
+    requires inside { InFile (length (S.device source.old).bytes) blob.now room.now.entries }
+    ensures uses { Asks 12 (is_read result) (S.device source.old) (S.device source.new) }
+    ensures no_put { is_put result ≡ false }
+    ensures no_refused_memory { is_out_of_memory result ≡ false }
+    ensures inside { IfOk result (λ p. p.at + p.size ≤ length (S.device source.old).bytes) }
+    ensures told { IsTrue (S.device source.old).honest → (t : Siblings) →
+        IsRead (S.device source.old).bytes blob.now room.now.entries t → (found : NodeOf Spot) →
+        IsNode t in_images image found → TellsPlace (S.device source.old).bytes found result }
+{
+    let place = find_place(source, blob, room, image)??;
+    if place.at + place.size > source.size()? {
+        return Err(Fault::Fit(FitFault::DataOutside));
+    }
+    Ok(place)
 }

@@ -1,6 +1,10 @@
 use crate::places::{Place, decide};
+use crate::samples::{
+    Demo, FOUR_HASHES, demo_fit, external_fit, five_hash_fit, four_hash_fit, position_fit,
+};
 use crate::{Fault, FitFault};
 use std::test::Fail;
+use uimg_base::crc_of;
 use uimg_blob::{BlobFault, Span};
 
 #[test]
@@ -44,4 +48,26 @@ fn places_by_their_cells(rt: HostRuntime) {
     }
     let none = decide(760, Some(3), None, None, None);
     assert_eq!(rt; none, Err(FitFault::NoData));
+}
+
+// The sizes and sums are those of the files that dtc makes of the same tree.
+#[test]
+fn samples_are_those_of_dtc(rt: HostRuntime) -> Result<(), Fail> {
+    let alloc = rt.alloc();
+    let two_cells = Demo {
+        load: &[0, 0, 0, 1, 0x80, 0, 0, 0],
+        entry: &[0, 0, 0, 0, 0, 8, 0, 0],
+        ..FOUR_HASHES
+    };
+    for (fit, size, sum) in [
+        (four_hash_fit(alloc)?, 760, 0x8c427da1),
+        (five_hash_fit(alloc)?, 872, 0x6a227cb7),
+        (external_fit(alloc)?, 800, 0xd958c3ba),
+        (position_fit(alloc)?, 1028, 0x63144c32),
+        (demo_fit(alloc, two_cells)?, 768, 0xf80ff195),
+    ] {
+        assert_eq!(rt; fit.len(), size);
+        assert_eq!(rt; crc_of(&fit), sum);
+    }
+    Ok(())
 }

@@ -7,9 +7,10 @@ use Rattle.uimg_legacy.specs.Image.{Image, legacy}
 use Rattle.uimg_legacy.specs.Parts.{has_parts, sizes}
 use Rattle.uimg_legacy.specs.Extraction.{extract_of}
 
--- what a command asks for beside payloads, when it reads so many sizes
-abbrev pub meta : ℕ → ℕ
-meta count = 64 + 16 * (count + 1)
+-- What a command asks for beside payloads, when it reads so many sizes: the metadata of `64 + 16 * (count + 1)` bytes without
+-- the four that tell the format of a file, which whoever chooses this format may have asked for.
+abbrev pub own_meta : ℕ → ℕ
+own_meta count = 60 + 16 * (count + 1)
 
 -- how many bytes of data are read: none where the data are cut
 unfoldable pub data_read : List ℕ → Header → ℕ
@@ -40,11 +41,11 @@ sizes_read image = sizes_read_from (legacy image)
 
 -- the most that a report asks for
 abbrev pub verify_work : List ℕ → ℕ
-verify_work image = meta 0 + data_length image
+verify_work image = own_meta 0 + data_length image
 
 -- the most that a listing asks for
 abbrev pub list_work : List ℕ → ℕ
-list_work image = meta (sizes_read image) + data_length image
+list_work image = own_meta (sizes_read image) + data_length image
 
 -- the most that an extraction asks for: as a listing, and the part that is written
 abbrev pub extract_work : List ℕ → ℕ → ℕ

@@ -108,7 +108,7 @@ pub(crate) fn find_listed_part<S: Source, A: Allocator>(
     position: u32,
 ) -> Result<Span, Fault>
     requires { 64 + size ≤ length (S.device source.old).bytes }
-    ensures uses { UsesAtMost (16 * (length (sizes (slice (S.device source.old).bytes 64 size))
+    ensures uses { UsesAtMost (12 * (length (sizes (slice (S.device source.old).bytes 64 size))
         + 1))
         (is_read result) (S.device source.old) (S.device source.new) }
     ensures room { room.new ≡ room.old }
@@ -142,7 +142,7 @@ pub(crate) fn find_part<S: Source, A: Allocator>(
     position: u32,
 ) -> Result<Span, Fault>
     requires { 64 + header.now.size ≤ length (S.device source.old).bytes }
-    ensures uses { UsesAtMost (16 * (sizes_read_with (has_parts header.now.kind)
+    ensures uses { UsesAtMost (12 * (sizes_read_with (has_parts header.now.kind)
         (payload (S.device source.old).bytes header.now) + 1))
         (is_read result) (S.device source.old) (S.device source.new) }
     ensures room { room.new ≡ room.old }
