@@ -9,3 +9,4 @@ pub mod NodeLaws
 pub mod HashLaws
 pub mod PlaceLaws
 pub mod ExtractionLaws
+pub mod FieldLaws

@@ -11,3 +11,4 @@ pub mod Nodes
 pub mod Rooms
 pub mod Shows
 pub mod Lists
+pub mod FieldTexts

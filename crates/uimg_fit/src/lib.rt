@@ -11,11 +11,13 @@ mod lists;
 mod names;
 mod nodes;
 mod places;
+mod properties;
 mod puts;
 pub mod samples;
 mod shows;
 #[cfg(test)]
 mod tests;
+mod tree;
 
 pub use extraction::extract;
 pub use fault::{Fault, FitFault};

@@ -1,6 +1,6 @@
 use uimg_blob::Span;
 
-/// A table of names that FIT's texts are looked up in.
+/// A table of names that texts are looked up in.
 #[derive(Clone, Copy, Debug, PartialEq, Eq)]
 pub(crate) enum Table {
     /// Image types.
@@ -28,11 +28,20 @@ pub(crate) enum Show {
     List,
 }
 
-/// A property that is printed: its label, padded with blanks, where its value stands, if it is there,
-/// and what that is printed as.
+/// What stands behind a label.
+#[derive(Clone, Copy, Debug, PartialEq, Eq)]
+pub(crate) enum Content {
+    /// A property's value, where it is there.
+    Property(Show, Option<Span>),
+    /// A time, where there is one.
+    Time(Option<u32>),
+    /// A size, or that it is not known.
+    Size(Option<u32>),
+}
+
+/// A label, padded with blanks, and what stands behind it.
 #[derive(Clone, Copy, Debug, PartialEq, Eq)]
 pub(crate) struct Field {
     pub(crate) label: &'static [u8],
-    pub(crate) value: Option<Span>,
-    pub(crate) show: Show,
+    pub(crate) content: Content,
 }
