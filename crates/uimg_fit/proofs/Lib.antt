@@ -10,3 +10,5 @@ pub mod HashLaws
 pub mod PlaceLaws
 pub mod ExtractionLaws
 pub mod FieldLaws
+pub mod AllowanceLaws
+pub mod SharesLaws

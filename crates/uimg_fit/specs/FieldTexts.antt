@@ -12,14 +12,14 @@ use Rattle.uimg_fit.specs.Shows.{shown, time_line, size_line}
 unfoldable pub image_text : Option ℕ → Option ℕ → List (NamedOf Spot) → List ℕ
 image_text time size own =
     shown Text (codes "  Description:  ") (bytes_of own (codes "description"))
-    ++ time_line (codes "  Created:      ") time
-    ++ shown (Name Kinds) (codes "  Type:         ") (bytes_of own (codes "type"))
-    ++ shown (Name Compressions) (codes "  Compression:  ") (bytes_of own (codes "compression"))
-    ++ size_line (codes "  Data Size:    ") size
-    ++ shown (Name Architectures) (codes "  Architecture: ") (bytes_of own (codes "arch"))
-    ++ shown (Name Systems) (codes "  OS:           ") (bytes_of own (codes "os"))
-    ++ shown Address (codes "  Load Address: ") (bytes_of own (codes "load"))
-    ++ shown Address (codes "  Entry Point:  ") (bytes_of own (codes "entry"))
+    ++ (time_line (codes "  Created:      ") time
+    ++ (shown (Name Kinds) (codes "  Type:         ") (bytes_of own (codes "type"))
+    ++ (shown (Name Compressions) (codes "  Compression:  ") (bytes_of own (codes "compression"))
+    ++ (size_line (codes "  Data Size:    ") size
+    ++ (shown (Name Architectures) (codes "  Architecture: ") (bytes_of own (codes "arch"))
+    ++ (shown (Name Systems) (codes "  OS:           ") (bytes_of own (codes "os"))
+    ++ (shown Address (codes "  Load Address: ") (bytes_of own (codes "load"))
+    ++ shown Address (codes "  Entry Point:  ") (bytes_of own (codes "entry")))))))))
 
 -- the lines of a hash node
 unfoldable pub hash_text : List (NamedOf Spot) → List ℕ
@@ -31,10 +31,10 @@ hash_text own =
 unfoldable pub configuration_text : List (NamedOf Spot) → List ℕ
 configuration_text own =
     shown Text (codes "  Description:  ") (bytes_of own (codes "description"))
-    ++ shown Text (codes "  Kernel:       ") (bytes_of own (codes "kernel"))
-    ++ shown Text (codes "  Init Ramdisk: ") (bytes_of own (codes "ramdisk"))
-    ++ shown AList (codes "  FDT:          ") (bytes_of own (codes "fdt"))
-    ++ shown AList (codes "  Loadables:    ") (bytes_of own (codes "loadables"))
+    ++ (shown Text (codes "  Kernel:       ") (bytes_of own (codes "kernel"))
+    ++ (shown Text (codes "  Init Ramdisk: ") (bytes_of own (codes "ramdisk"))
+    ++ (shown AList (codes "  FDT:          ") (bytes_of own (codes "fdt"))
+    ++ shown AList (codes "  Loadables:    ") (bytes_of own (codes "loadables")))))
 
 -- how many bytes a value has, none where it is missing
 abbrev pub size_of : List (NamedOf Spot) → List ℕ → ℕ

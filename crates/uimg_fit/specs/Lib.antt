@@ -12,3 +12,4 @@ pub mod Rooms
 pub mod Shows
 pub mod Lists
 pub mod FieldTexts
+pub mod Allowances
