@@ -47,3 +47,6 @@ pub field_failed : (s m t : Sink) (file now : List ℕ) (fs : List Field) (i : �
 field_failed s m t file now fs i d same within put told =
     let here : Written true m t (field_lines file (get_or fs i d)) = subst (λ (w : List ℕ). Written true m t (field_lines w (get_or fs i d))) same told in
     record { all = tt; prefix = prefix_at s m t (field_lines file) fs i d within put here.prefix }
+
+pub keep : (a x y : List ℕ) → x ≡ y → a ++ x ≡ a ++ y
+keep a x y p = ap (λ (w : List ℕ). a ++ w) p

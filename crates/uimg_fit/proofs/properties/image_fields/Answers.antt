@@ -3,19 +3,18 @@ use Rattle.std.specs.Prelude.{codes}
 use Rattle.uimg_blob.specs.Roles.{in_images}
 use Rattle.uimg_fit.specs.declared.shows.Table.TheVariants.{Kinds, Compressions, Architectures, Systems}
 use Rattle.uimg_fit.specs.Files.{bytes_of}
+use Rattle.uimg_fit.specs.Shows.{time_line, size_line}
 use Rattle.uimg_fit.specs.FieldTexts.{image_text}
-use Rattle.uimg_fit.proofs.FieldLaws.{◌⊕◌, last, name_cost, address_cost}
+use Rattle.uimg_fit.proofs.FieldLaws.{◌⊕◌, keep, last, name_cost, address_cost}
 use Rattle.uimg_fit.proofs.properties.image_fields.Goals as goal
 
 pub returns-clause-lines : goal.returns-clause-lines
 unfolding image_text
 returns-clause-lines g c = λ file t read found n.
     c.property.ensures.lines file t read in_images found n refl
-    ⊕ (refl
-    ⊕ (c.property-2.ensures.lines file t read in_images found n refl
+    ⊕ (keep (time_line (codes "  Created:      ") c.args.time) _ _ (c.property-2.ensures.lines file t read in_images found n refl
     ⊕ (c.property-3.ensures.lines file t read in_images found n refl
-    ⊕ (refl
-    ⊕ (c.property-4.ensures.lines file t read in_images found n refl
+    ⊕ (keep (size_line (codes "  Data Size:    ") c.args.size) _ _ (c.property-4.ensures.lines file t read in_images found n refl
     ⊕ (c.property-5.ensures.lines file t read in_images found n refl
     ⊕ (c.property-6.ensures.lines file t read in_images found n refl
     ⊕ last (c.property-7.ensures.lines file t read in_images found n refl))))))))
