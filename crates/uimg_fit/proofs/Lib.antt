@@ -12,3 +12,4 @@ pub mod ExtractionLaws
 pub mod FieldLaws
 pub mod AllowanceLaws
 pub mod SharesLaws
+pub mod TellingLaws

@@ -1,5 +1,5 @@
 -- Texts that are written one after another.
-use Rattle.std.proofs.Common.{◌≡◌, ◌≤◌, ◌+◌, ◌-◌, ℕ, List, [], ◌∷◌, ◌++◌, Bool, true, false, append_assoc, append-nil, ap, sym, subst, ◌∙◌, arith}
+use Rattle.std.proofs.Common.{◌≡◌, ◌≤◌, ◌+◌, ◌-◌, ℕ, List, [], ◌∷◌, ◌++◌, Bool, true, false, append_assoc, append-nil, codes, ap, sym, subst, ◌∙◌, arith}
 use Rattle.uimg_texts.specs.Slices.{slice}
 use Rattle.uimg_base.specs.Outcome.{line}
 use Rattle.uimg_base.specs.Sink.{Sink, AppendsAll}
@@ -39,3 +39,7 @@ three_parts file at done next all few =
 -- a failure in the second of three parts
 pub stopped : (s m t : Sink) (xs ys zs whole : List ℕ) → whole ≡ xs ++ (ys ++ zs) → AppendsAll s m xs → Written true m t ys → Written true s t whole
 stopped s m t xs ys zs whole is p q = subst (λ (w : List ℕ). Written true s t w) (sym is) (p ▶ cut m t ys zs q)
+
+-- a title: what stands before the name, the name, and the rest
+pub title_parts : (before number name : List ℕ) → (before ++ (number ++ (codes " (" ++ (name ++ codes ")")))) ++ 10 ∷ [] ≡ (before ++ (number ++ codes " (")) ++ (name ++ 41 ∷ 10 ∷ [])
+title_parts before number name = simp append_assoc

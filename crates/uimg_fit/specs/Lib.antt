@@ -13,3 +13,5 @@ pub mod Shows
 pub mod Lists
 pub mod FieldTexts
 pub mod Allowances
+pub mod Telling
+pub mod NodeLines

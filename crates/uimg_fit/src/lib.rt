@@ -7,6 +7,7 @@ mod fault;
 mod fields;
 mod hexadecimal;
 mod images;
+mod listed_nodes;
 mod lists;
 mod names;
 mod nodes;
@@ -17,6 +18,7 @@ pub mod samples;
 mod shows;
 #[cfg(test)]
 mod tests;
+mod titles;
 mod tree;
 
 pub use extraction::extract;
