@@ -1,5 +1,5 @@
 -- What is listed of nodes, one after another.
-use Rattle.std.proofs.Common.{◌≡◌, ◌≤◌, ◌+◌, ℕ, suc, List, [], ◌∷◌, ◌++◌, Option, Bool, true, false, ap, sym, ◌∙◌, subst, arith}
+use Rattle.std.proofs.Common.{◌≡◌, ◌≤◌, ◌<◌, ◌+◌, ℕ, List, [], ◌∷◌, ◌++◌, Option, Some, None, IfSome, Bool, true, false, refl, ap, sym, ◌∙◌, subst, add-one, arith}
 use Rattle.std.specs.List.{sum_by}
 use Rattle.std.proofs.lemmas.List.Sums.{sum_by-cons}
 use Rattle.uimg_base.specs.Device.{Device}
@@ -7,11 +7,15 @@ use Rattle.uimg_base.specs.Sink.{Sink}
 use Rattle.uimg_base.specs.Writing.{Written}
 use Rattle.uimg_blob.specs.declared.nodes.Blob.{Blob}
 use Rattle.uimg_blob.specs.Grammar.{Siblings}
+use Rattle.uimg_blob.specs.Roles.{level_after}
 use Rattle.uimg_blob.specs.LookUps.{NodeOf}
 use Rattle.uimg_blob.specs.Spots.{Spot}
 use Rattle.uimg_fit.specs.Allowances.{node_allowance}
 use Rattle.uimg_fit.specs.Nodes.{IsRead}
-use Rattle.uimg_fit.specs.NodeLines.{title_text}
+use Rattle.uimg_fit.specs.declared.listed_nodes.Kind.{Kind}
+use Rattle.uimg_fit.specs.declared.listed_nodes.Kind.TheVariants.{Image, Configuration}
+use Rattle.uimg_fit.specs.Listing.{numbered}
+use Rattle.uimg_fit.specs.NodeLines.{title_text, level_of}
 use Rattle.uimg_fit.specs.Telling.{Lists}
 use Rattle.uimg_fit.proofs.PutLaws.{◌▶◌, cut, nothing}
 
@@ -73,3 +77,25 @@ pub titled : (e : Bool) (s t : Sink) (before : List ℕ) (number : ℕ) (name ot
     → Written e s t (title_text before number name ++ xs) → Written e s t (title_text before number other ++ ys)
 titled e s t before number name other xs ys named are told =
     subst (λ (w : List ℕ). Written e s t (title_text before number w ++ ys)) named (subst (λ (w : List ℕ). Written e s t (title_text before number name ++ w)) are told)
+
+-- numbered lines, one more
+pub numbered_more : (lines : ℕ → NodeOf Spot → List ℕ) (i : ℕ) (n : NodeOf Spot) (ns : List (NodeOf Spot)) → numbered lines i (n ∷ ns) ≡ lines i n ++ numbered lines (i + 1) ns
+unfolding numbered
+numbered_more lines i n ns = rw add-one refl
+
+pub numbered_none : (lines : ℕ → NodeOf Spot → List ℕ) (i : ℕ) → numbered lines i [] ≡ []
+unfolding numbered
+numbered_none lines i = refl
+
+-- the numbers of nodes grow with their count
+pub within_next : (o : Option ℕ) (count i size : ℕ) → count ≤ i → IfSome o (λ j. i < j) → IfSome o (λ j. j < size) → IfSome o (λ j. (count + 1 ≤ j) × (j < size))
+within_next None count i size le later within = tt
+within_next (Some j) count i size le later within = (omega (arith, le, later), within)
+
+pub none_after : (o : Option ℕ) (count size : ℕ) → size ≤ count → IfSome o (λ j. (count ≤ j) × (j < size)) → o ≡ None
+none_after None count size le within = refl
+none_after (Some j) count size le within = absurd (omega (arith, le, within.0, within.1))
+
+pub same_level : (kind : Kind) (name : List ℕ) → level_after (level_of kind) name ≡ level_of kind
+same_level (Image time) name = refl
+same_level Configuration name = refl

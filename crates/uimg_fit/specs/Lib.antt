@@ -15,3 +15,5 @@ pub mod FieldTexts
 pub mod Allowances
 pub mod Telling
 pub mod NodeLines
+pub mod Heads
+pub mod ListingParts

@@ -5,6 +5,7 @@ mod addresses;
 mod extraction;
 mod fault;
 mod fields;
+mod heads;
 mod hexadecimal;
 mod images;
 mod listed_nodes;
