@@ -13,3 +13,4 @@ pub mod FieldLaws
 pub mod AllowanceLaws
 pub mod SharesLaws
 pub mod TellingLaws
+pub mod ListingLaws

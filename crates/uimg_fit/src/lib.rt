@@ -9,6 +9,7 @@ mod heads;
 mod hexadecimal;
 mod images;
 mod listed_nodes;
+mod listing;
 mod lists;
 mod names;
 mod nodes;
@@ -24,3 +25,4 @@ mod tree;
 
 pub use extraction::extract;
 pub use fault::{Fault, FitFault};
+pub use listing::list;
