@@ -14,3 +14,4 @@ pub mod AllowanceLaws
 pub mod SharesLaws
 pub mod TellingLaws
 pub mod ListingLaws
+pub mod WithinLaws

@@ -43,3 +43,6 @@ stopped s m t xs ys zs whole is p q = subst (λ (w : List ℕ). Written true s t
 -- a title: what stands before the name, the name, and the rest
 pub title_parts : (before number name : List ℕ) → (before ++ (number ++ (codes " (" ++ (name ++ codes ")")))) ++ 10 ∷ [] ≡ (before ++ (number ++ codes " (")) ++ (name ++ 41 ∷ 10 ∷ [])
 title_parts before number name = simp append_assoc
+
+pub quoted_parts : (before name : List ℕ) → (before ++ (name ++ 39 ∷ [])) ++ 10 ∷ [] ≡ before ++ (name ++ 39 ∷ 10 ∷ [])
+quoted_parts before name = simp append_assoc
