@@ -1,3 +1,5 @@
+mod listings;
+
 use crate::places::{Place, decide};
 use crate::samples::{
     Demo, FOUR_HASHES, demo_fit, external_fit, five_hash_fit, four_hash_fit, position_fit,
