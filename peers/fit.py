@@ -6,7 +6,9 @@ words), behind the tree (`-E`) or at a position (`-E -p`). `report(fit)` is the 
 image has to get, and `report(fit, changed)` the one after a byte of a payload was changed.
 
 `sections(text)` are the lines of a listing, image by image, and `differs(own, real)` says what is
-not the same in two of them, where the differences of `OWN_LINES` and `unavailable` are none.
+not the same in two of them, but for `OWN_LINES` and lines that end with `MISSING`. dumpimage lists
+the default configuration only where the configurations stand right behind the images (it asks the
+node behind these for it): `listed(fit, sections)` leaves it out where it does.
 """
 
 import os
@@ -22,7 +24,10 @@ ADDRESSES = ["<0>", "<0x80000>", "<0xffffffff>", "<0 0x80000>", "<1 0x80000000>"
 SIZES = [32, 33, 35, 100, 8191, 8192, 8193, 20000, 100000]
 
 # What uimg lists of each image that has it, and dumpimage of some types of images alone.
-OWN_LINES = [b"  Architecture", b"  OS", b"  Load Address", b"  Entry Point"]
+OWN_LINES = (b"  Architecture", b"  OS", b"  Load Address", b"  Entry Point")
+
+# What dumpimage prints of a property that is missing; uimg leaves the line out.
+MISSING = (b" unavailable", b" Unknown OS")
 
 
 class Image:
@@ -130,9 +135,14 @@ def sections(text):
     return cut
 
 
+def listed(fit, cut):
+    """The sections of a listing that dumpimage has too."""
+    return [part for part in cut if not (fit.before and part[0].startswith(b" Default "))]
+
+
 def differs(own, real):
     """What is not the same in two sections: the lines of one that the other has to have."""
-    lacks = [line for line in real if line not in own and not line.endswith(b" unavailable")]
-    more = [line for line in own if line not in real and not line.startswith(tuple(OWN_LINES))]
+    lacks = [line for line in real if line not in own and not line.endswith(MISSING)]
+    more = [line for line in own if line not in real and not line.startswith(OWN_LINES)]
     both = [line for line in own if line in real] == [line for line in real if line in own]
     return lacks + more + ([] if both else [b"another order"])

@@ -228,11 +228,11 @@ def print_sources(bench):
     return same.differences + refused.differences
 
 
-def compare_listing(count, uimg, path, case):
+def compare_listing(count, uimg, path, case, given):
     """The listing of a FIT by both, image by image, as far as both print the same facts."""
     status, own = output([uimg, "dumpimage", "-l", path])
     _, real = output(["dumpimage", "-l", path])
-    own, real = fit.sections(own), fit.sections(real)
+    own, real = fit.listed(given, fit.sections(own)), fit.sections(real)
     count.expect(f"listing of {case}", (status, len(own)), (0, len(real)))
     for here, there in zip(own, real):
         count.expect(f"lines of {case}", fit.differs(here, there), [])
@@ -271,7 +271,7 @@ def compare_fits(uimg, placement):
             count.images += len(given.images)
             path = fit.build(folder, given, placement)
             case = f"FIT {number} by mkimage {' '.join(placement)}"
-            compare_listing(count, uimg, path, case)
+            compare_listing(count, uimg, path, case, given)
             count.expect(f"report on {case}", output([uimg, "verify", path]), fit.report(given))
             compare_payloads(count, uimg, folder, path, case, given.images)
             compare_changed(count, uimg, folder, path, case, given)

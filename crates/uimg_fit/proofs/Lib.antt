@@ -3,6 +3,9 @@ pub mod ReadLaws
 pub mod ImageLaws
 pub mod CellLaws
 pub mod PlanLaws
+pub mod PutLaws
+pub mod ShowLaws
+pub mod ListLaws
 pub mod NodeLaws
 pub mod HashLaws
 pub mod SumLaws
@@ -16,3 +19,7 @@ pub mod SharesLaws
 pub mod HashReportLaws
 pub mod ImageReportLaws
 pub mod ReportLaws
+pub mod FieldLaws
+pub mod TellingLaws
+pub mod ListingLaws
+pub mod WithinLaws

@@ -14,4 +14,11 @@ pub mod Work
 pub mod Lying
 pub mod Nodes
 pub mod Rooms
+pub mod Shows
+pub mod Lists
+pub mod FieldTexts
 pub mod Allowances
+pub mod Telling
+pub mod NodeLines
+pub mod Heads
+pub mod ListingParts

@@ -1,3 +1,4 @@
+mod listings;
 mod reports;
 
 use crate::places::{Place, decide};

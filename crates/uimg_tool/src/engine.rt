@@ -10,7 +10,6 @@ ghost use Rattle.uimg_tool.specs.Headline.{outcome_in, outcome_of, work_in, work
 
 use crate::command::{Action, Command};
 use crate::fault::Fault;
-use crate::fit_stub::{FitEngine, NoFit};
 use crate::formats::is_fit;
 use std::alloc::Allocator;
 use std::io::Write;
@@ -47,7 +46,7 @@ pub(crate) fn run_legacy<S: Source, A: Allocator, W: Write>(
 }
 
 // The action by the engine of FIT images.
-fn run_fit<E: FitEngine, S: Source, A: Allocator, W: Write>(
+fn run_fit<S: Source, A: Allocator, W: Write>(
     action: Action,
     source: &mut S,
     room: &mut Room<A>,
@@ -68,15 +67,15 @@ fn run_fit<E: FitEngine, S: Source, A: Allocator, W: Write>(
         out.old out.new }
 {
     let status = match action {
-        Action::List => E::list(source, room, out)?,
-        Action::Verify => E::verify(source, room, out)?,
+        Action::List => uimg_fit::list(source, room, out)?,
+        Action::Verify => uimg_fit::verify(source, room, out)?,
         Action::Extract(position) => uimg_fit::extract(position, source, room, out)?,
     };
     Ok(status)
 }
 
 // The action on a file that is read as a FIT image, or as a legacy image.
-fn run_in<E: FitEngine, S: Source, A: Allocator, W: Write>(
+fn run_in<S: Source, A: Allocator, W: Write>(
     fit: bool,
     action: Action,
     source: &mut S,
@@ -98,14 +97,14 @@ fn run_in<E: FitEngine, S: Source, A: Allocator, W: Write>(
         out.old out.new }
 {
     if fit {
-        run_fit::<E, S, A, W>(action, source, room, out)
+        run_fit(action, source, room, out)
     } else {
         run_legacy(action, source, room, out)
     }
 }
 
 // The command by the engine of the format that the file is read as.
-pub(crate) fn run_by_form<E: FitEngine, S: Source, A: Allocator, W: Write>(
+pub(crate) fn run_by_form<S: Source, A: Allocator, W: Write>(
     command: &Command,
     source: &mut S,
     room: &mut Room<A>,
@@ -130,7 +129,7 @@ pub(crate) fn run_by_form<E: FitEngine, S: Source, A: Allocator, W: Write>(
 {
     room.clear();
     let fit = is_fit(command.form, source)?;
-    run_in::<E, S, A, W>(fit, command.action, source, room, out)
+    run_in(fit, command.action, source, room, out)
 }
 
 /// Carries out a command on an image: writes its listing, its verification report, one part of a
@@ -183,5 +182,5 @@ pub fn run<S: Source, A: Allocator, W: Write>(
         room.new ≡ record room.old { entries = [] } }
     ensures same { SameDevice (S.device source.old) (S.device source.new) }
 {
-    run_by_form::<NoFit, S, A, W>(command, source, room, out)
+    run_by_form(command, source, room, out)
 }

@@ -8,7 +8,6 @@ ghost use Rattle.uimg_tool.specs.Making.{options_of, names_of, FitNames, Lacks, 
 use crate::command::Command;
 use crate::engine::run_by_form;
 use crate::fault::Fault;
-use crate::fit_stub::NoFit;
 use crate::make_command::MakeCommand;
 use crate::making::make;
 use std::alloc::Allocator;
@@ -35,7 +34,7 @@ pub fn run_in_memory<A: Allocator, B: Allocator>(
 {
     let mut source = MemSource::new(image);
     let mut out = Out::new(Vec::new(alloc));
-    let end = run_by_form::<NoFit, _, _, _>(command, &mut source, room, &mut out);
+    let end = run_by_form(command, &mut source, room, &mut out);
     (end, out.into_inner())
 }
 

@@ -5,7 +5,6 @@ mod command;
 mod disk_files;
 mod engine;
 mod fault;
-mod fit_stub;
 mod formats;
 mod in_memory;
 mod main_program;

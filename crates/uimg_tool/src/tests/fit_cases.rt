@@ -14,14 +14,14 @@ const FIRST: Action = Action::Extract(0);
 
 #[test]
 fn four_hash_fit_and_external_fit(rt: HostRuntime) -> Result<(), Fail> {
-    for (image, meta) in [
-        (four_hash_fit(rt.alloc())?, 32364),
-        (external_fit(rt.alloc())?, 33388),
-        (position_fit(rt.alloc())?, 33388),
+    for (image, meta, hashed, unpacked) in [
+        (four_hash_fit(rt.alloc())?, 32364, 32376, 32367),
+        (external_fit(rt.alloc())?, 33388, 33400, 33391),
+        (position_fit(rt.alloc())?, 33388, 33400, 33391),
     ] {
         expect_run(&rt, &image, LIST, meta, DONE, DEMO_LISTING)?;
-        expect_run(&rt, &image, VERIFY, meta + 12, DONE, DEMO_REPORT)?;
-        expect_run(&rt, &image, FIRST, meta + 3, DONE, "abc")?;
+        expect_run(&rt, &image, VERIFY, hashed, DONE, DEMO_REPORT)?;
+        expect_run(&rt, &image, FIRST, unpacked, DONE, "abc")?;
         let none = fit(FitFault::NoSuchImage);
         expect_run(&rt, &image, Action::Extract(1), meta, none, "")?;
         assert_eq!(rt; ran(rt.alloc(), VERIFY, &image).held, 9344);

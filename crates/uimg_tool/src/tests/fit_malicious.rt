@@ -40,7 +40,7 @@ fn every_struct_size(rt: HostRuntime) -> Result<(), Fail> {
         assert!(rt; left.asked <= 32364);
         match left.end {
             Err(Fault::Blob(BlobFault::Truncated, at)) => {
-                assert!(rt; at <= 56 + size as u64);
+                assert!(rt; at < 60 + size as u64);
                 for (known, place) in [
                     (0, 56),
                     (4, 56),
@@ -95,7 +95,7 @@ fn long_names(rt: HostRuntime) -> Result<(), Fail> {
         let left = ran(rt.alloc(), LIST, &image);
         if length == 255 {
             assert_eq!(rt; left.end, DONE);
-            assert_eq!(rt; left.text.len(), 86 + 30 + 255);
+            assert_eq!(rt; left.text.len(), 98 + 255);
         } else {
             assert_eq!(rt; left.end, blob(BlobFault::BadNodeName, 76));
             assert_eq!(rt; left.text.len(), 0);

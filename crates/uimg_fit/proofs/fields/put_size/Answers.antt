@@ -1,0 +1,6 @@
+use Rattle.std.proofs.Common.{rules}
+use Rattle.uimg_fit.proofs.PutLaws.{◌▶◌}
+use Rattle.uimg_fit.proofs.fields.put_size.Goals as goal
+
+pub returns-in-Ok-clause-told : goal.returns-in-Ok-clause-told
+returns-in-Ok-clause-told g c = c.in-Ok.ensures.all ▶ c.put.ensures.told
