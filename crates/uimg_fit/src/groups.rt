@@ -16,6 +16,9 @@ use std::alloc::Allocator;
 use uimg_base::{Bundle, Room, Source, SourceFault};
 use uimg_blob::{Blob, Key};
 
+// How many sums a bundle has room for.
+const MOST: usize = 8;
+
 /// Hash nodes that follow one another, and the sums for those whose values are compared.
 #[derive(Drop)]
 pub(crate) struct Group {
@@ -81,7 +84,7 @@ pub(crate) fn gather<S: Source, A: Allocator>(
         let Some(hash) = next else {
             return Ok(Group { bundle, count });
         };
-        if bundle.len() == 8 {
+        if bundle.len() == MOST {
             return Ok(Group { bundle, count });
         }
         let plan = plan_at(source, blob, room, hash)?;

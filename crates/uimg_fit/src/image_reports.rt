@@ -77,6 +77,7 @@ fn report_image<S: Source, A: Allocator, W: Write>(
     }
 }
 
+// The status of a report.
 fn status(are_right: bool) -> Status
     ensures { result ≡ status_of are_right }
 {

@@ -17,6 +17,7 @@ pub(crate) enum Plan {
     Compared(Algo, Span),
 }
 
+// What is to be done about a value by a known algorithm.
 #[tactic(auto, unfolding(crate::specs::Plans::plan_for))]
 fn plan_by(algo: Algo, value: Option<Span>) -> Plan
     ensures plan { result ≡ plan_by_value algo value }
@@ -28,6 +29,7 @@ fn plan_by(algo: Algo, value: Option<Span>) -> Plan
     }
 }
 
+// What is to be done about a value by the name of an algorithm.
 fn plan_named(name: &[u8], value: Option<Span>) -> Plan
     ensures plan { result ≡ plan_by_algo (algo_named name.now) value }
     ensures value { IsOf value result }

@@ -1,6 +1,6 @@
 use crate::samples::{
-    ABC_CRC, ALGO, Payload, begin_images, crc_fit, external_fit, finish_images, four_hash_fit, put_hash,
-    put_payload, set_cell,
+    ABC_CRC, ALGO, Payload, begin_images, crc_fit, external_fit, finish_images, four_hash_fit,
+    put_hash, put_payload, set_cell,
 };
 use crate::{Fault, FitFault, verify};
 use std::alloc::Global;
@@ -36,7 +36,11 @@ fn each_word_comes_in_its_case(rt: HostRuntime) -> Result<(), Fail> {
     sample.end_node()?;
     let rows: [(&[u8], &[u8], &[u8]); 5] = [
         (b"hash-3", b"sha3\0", &ABC_CRC),
-        (b"hash-4", b"crc32 and more than 31 bytes of a name\0", &ABC_CRC),
+        (
+            b"hash-4",
+            b"crc32 and more than 31 bytes of a name\0",
+            &ABC_CRC,
+        ),
         (b"hash-5", b"crc32\0", &ABC_CRC[..3]),
         (b"hash-6", b"crc32\0", &[0; 4]),
         (b"hash", b"crc32", &ABC_CRC),

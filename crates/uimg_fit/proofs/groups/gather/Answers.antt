@@ -9,13 +9,13 @@ pub returns-in_default-clause-gathered : goal.returns-in_default-clause-gathered
 returns-in_default-clause-gathered g c = λ honest t read hs at.
     group_of_all t hs _ _ _ c.loop-count.next c.in_default.is (c.loop-count.invariant.taken honest t read hs at)
 
-pub returns-then-len-eq8-clause-some : goal.returns-then-len-eq8-clause-some
-returns-then-len-eq8-clause-some g c =
-    above_zero c.loop-count.count (λ none. omega (arith, c.len.ensures [] [] (c.loop-count.invariant.empty none), c.if-len-eq8.true))
+pub returns-then-len-eq-MOST-clause-some : goal.returns-then-len-eq-MOST-clause-some
+returns-then-len-eq-MOST-clause-some g c =
+    above_zero c.loop-count.count (λ none. omega (arith, c.len.ensures [] [] (c.loop-count.invariant.empty none), c.if-len-eq-MOST.true))
 
-pub returns-then-len-eq8-clause-gathered : goal.returns-then-len-eq8-clause-gathered
-returns-then-len-eq8-clause-gathered g c = λ honest t read hs at.
-    group_of_eight t hs _ _ _ c.loop-count.next c.len.result c.if-len-eq8.true c.len.ensures (c.loop-count.invariant.taken honest t read hs at)
+pub returns-then-len-eq-MOST-clause-gathered : goal.returns-then-len-eq-MOST-clause-gathered
+returns-then-len-eq-MOST-clause-gathered g c = λ honest t read hs at.
+    group_of_eight t hs _ _ _ c.loop-count.next c.len.result c.if-len-eq-MOST.true c.len.ensures (c.loop-count.invariant.taken honest t read hs at)
 
 pub returns-in_err-plan-clause-gathered : goal.returns-in_err-plan-clause-gathered
 returns-in_err-plan-clause-gathered g c = λ honest t read hs at.
@@ -42,7 +42,7 @@ loop-count-preserved g c = record {
       let now = subst (λ (b : Bool). IsTrue b) (sym same.honest) honest in
       let here = subst (λ (xs : List ℕ). IsRead xs c.args.blob.now c.args.room.now.entries t) (sym same.bytes) read in
       let sums = c.len.ensures (algos_of k.taken) [] k.holds in
-      let less : length (algos_of k.taken) < 8 = omega (arith, k.few, sums, c.if-len-eq8.false) in
+      let less : length (algos_of k.taken) < 8 = omega (arith, k.few, sums, c.if-len-eq-MOST.false) in
       take_one t hs asked new c.loop-count.count c.in-Some.hash c.loop-count.bundle k c.next_hash-next.result _ c.add_planned.new.bundle c.in_ok-plan.plan
       less (c.in_ok-plan.ensures.plan now t here k.at.hash k.at.more k.at.at) c.plan_at.ensures.uses.asked c.add_planned.ensures
       (c.next_hash-next.ensures.hashes t read.indexed k.at.hash k.at.more k.at.at);
