@@ -1,7 +1,6 @@
 -- Fields, by the values of their properties.
-use Rattle.std.proofs.Common.{◌≡◌, ℕ, ◌+◌, ◌≤◌, ◌<◌, take, get_or, List, [], ◌++◌, length, min, Option, Some, None, Bool, true, IsTrue, if◌then◌else◌, refl, ap, sym, ◌∙◌, subst, append-nil, arith}
+use Rattle.std.proofs.Common.{◌≡◌, ℕ, ◌≤◌, ◌<◌, take, get_or, List, [], ◌++◌, length, Option, Some, None, true, IsTrue, refl, ap, ◌∙◌, subst, append-nil, arith}
 use Rattle.std.specs.Option.{option_map, option_map_or}
-use Rattle.uimg_blob.specs.declared.keys.Key.{Key}
 use Rattle.uimg_blob.specs.declared.keys.Key.TheVariants.{Algo, Value}
 use Rattle.uimg_blob.specs.Indexed.{value_span, keeps}
 use Rattle.uimg_blob.specs.Roles.{role_at, in_image, is_hash}

@@ -71,9 +71,10 @@ unfolding before_nul emitted line_after
 ended_piece label [] t l is few = absurd (some_none (sym is))
 ended_piece label (zero ∷ p) t l is few =
     let none_before : [] ≡ t = some_some [] t is in
-    let last : p ≡ [] = empty p (omega (arith, few, ap (λ (w : List ℕ). length w) none_before)) in
-    (ap (λ (w : List ℕ). start_of label l ++ 10 ∷ emitted label Next w) last ∙ ap (λ (w : List ℕ). start_of label l ++ (w ++ 10 ∷ [])) none_before,
-    ap (line_after Next) last)
+    let last : p ≡ [] = empty p (omega (arith, few, ap (λ (w : List ℕ). length w) none_before)) in (
+      ap (λ (w : List ℕ). start_of label l ++ 10 ∷ emitted label Next w) last ∙ ap (λ (w : List ℕ). start_of label l ++ (w ++ 10 ∷ [])) none_before,
+      ap (line_after Next) last,
+    )
 ended_piece label (suc n ∷ p) t l is few = by_nul (before_nul p)
     (λ without. absurd (some_none (sym is ∙ ap (behind n) without)))
     (λ name found.

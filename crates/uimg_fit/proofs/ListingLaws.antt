@@ -1,5 +1,5 @@
 -- The lines that are written are those of the listing.
-use Rattle.std.proofs.Common.{◌≡◌, ◌≤◌, ◌+◌, ℕ, suc, List, [], ◌∷◌, ◌++◌, length, take, replicate, Option, Some, None, Result, Ok, Err, Bool, true, false, codes, decimal, refl, ap, sym, ◌∙◌, subst, append_assoc, arith}
+use Rattle.std.proofs.Common.{◌≡◌, ℕ, suc, List, [], ◌∷◌, ◌++◌, take, replicate, Option, Some, None, Result, Ok, Err, codes, decimal, refl, ap, sym, ◌∙◌, append_assoc}
 use Rattle.std.specs.List.{flat_map}
 use Rattle.std.specs.Option.{option_map, option_map_or}
 use Rattle.uimg_texts.specs.Nul.{text}
@@ -22,10 +22,10 @@ use Rattle.uimg_fit.specs.Places.{place}
 use Rattle.uimg_fit.specs.Values.{pieces}
 use Rattle.uimg_fit.specs.Shows.{value_lines, named, lines_of, shown, time_line, size_line}
 use Rattle.uimg_fit.specs.FieldTexts.{image_text, hash_text, configuration_text}
-use Rattle.uimg_fit.specs.NodeLines.{title_text, size_in, node_lines}
+use Rattle.uimg_fit.specs.NodeLines.{size_in, node_lines}
 use Rattle.uimg_fit.specs.Heads.{description_line, created_line, default_line}
 use Rattle.uimg_fit.specs.ListingParts.{images_text, configurations_text}
-use Rattle.uimg_fit.specs.Listing.{labelled, field, list_lines, list_field, time_of, head_lines, size_or, hash_fields, title, image_fields, image_lines, configuration_fields, configuration_lines, numbered, configurations_lines, value_or, lists, list_of}
+use Rattle.uimg_fit.specs.Listing.{labelled, list_lines, list_field, time_of, head_lines, size_or, title, image_fields, image_lines, configuration_fields, configuration_lines, numbered, configurations_lines, lists, list_of}
 
 numbered_same : (f g : ℕ → NodeOf Spot → List ℕ) → ((i : ℕ) (n : NodeOf Spot) → f i n ≡ g i n) → (i : ℕ) (ns : List (NodeOf Spot)) → numbered f i ns ≡ numbered g i ns
 unfolding numbered

@@ -1,5 +1,5 @@
 -- What values are printed as.
-use Rattle.std.proofs.Common.{◌≡◌, ◌≢◌, ◌<◌, ◌≤◌, ◌+◌, ◌-◌, ℕ, zero, suc, List, [], ◌∷◌, ◌++◌, length, take, find, Option, Some, None, Bool, true, false, ◌&&◌, ◌==◌, nat_lt, if◌then◌else◌, cond, codes, refl, ap, sym, ◌∙◌, subst, arith}
+use Rattle.std.proofs.Common.{◌≡◌, ◌≢◌, ◌<◌, ℕ, List, [], ◌∷◌, ◌++◌, length, find, Option, Some, None, Bool, true, ◌==◌, nat_lt, cond, codes, refl, ap, ◌∙◌, arith}
 use Rattle.std.specs.Option.{option_map, option_map_or}
 use Rattle.std.specs.List.{list_all}
 use Rattle.std.specs.Str.{bytes_eq}
@@ -7,7 +7,6 @@ use Rattle.std.proofs.lemmas.Bool.{and_parts, eqb-true, ltb-true}
 use Rattle.std.proofs.lemmas.Slice.Eq.{bytes_eq-Decides}
 use Rattle.hex.specs.Hex.{encode_with, encode_lower}
 use Rattle.uimg_texts.specs.Names.{Row, code_of, printed}
-use Rattle.uimg_texts.specs.Nul.{text}
 use Rattle.uimg_blob.proofs.PhaseLaws.{by_bool}
 use Rattle.uimg_fit.specs.declared.shows.Table.{Table}
 use Rattle.uimg_fit.specs.declared.shows.Table.TheVariants.{Kinds, Compressions, Architectures, Systems}

@@ -1,13 +1,11 @@
 -- What a listing asks for is within what it may.
-use Rattle.std.proofs.Common.{◌≡◌, ◌≤◌, ◌+◌, ◌*◌, ℕ, List, [], length, Option, Some, None, Result, Ok, Err, IfSome, codes, refl, ap, sym, ◌∙◌, subst, arith}
+use Rattle.std.proofs.Common.{◌≡◌, ◌≤◌, ◌+◌, ◌*◌, ℕ, List, length, Option, Some, None, Result, Ok, Err, IfSome, refl, ap, sym, ◌∙◌, subst, arith}
 use Rattle.std.specs.Result.{IfOk}
 use Rattle.std.specs.Option.{option_map, option_map_or}
-use Rattle.uimg_texts.specs.Slices.{slice}
 use Rattle.uimg_base.proofs.Slices.{length-slice}
 use Rattle.uimg_base.specs.declared.ranges.MoveFault.{MoveFault}
 use Rattle.uimg_base.specs.declared.ranges.MoveFault.TheVariants as move
 use Rattle.uimg_base.specs.declared.status.Status.{Status}
-use Rattle.uimg_base.specs.Outcome.{End}
 use Rattle.uimg_blob.specs.declared.texts.Span.{Span}
 use Rattle.uimg_blob.specs.Blob.{tree}
 use Rattle.uimg_blob.specs.Counts.{nodes_met, texts_met}

@@ -1,5 +1,5 @@
 -- The lines of the fields of a node.
-use Rattle.std.specs.Prelude.{◌≡◌, ℕ, ◌+◌, List, ◌++◌, length, Option, codes}
+use Rattle.std.specs.Prelude.{ℕ, List, ◌++◌, length, Option, codes}
 use Rattle.std.specs.Option.{option_map_or}
 use Rattle.uimg_blob.specs.Plain.{NamedOf}
 use Rattle.uimg_blob.specs.Spots.{Spot}

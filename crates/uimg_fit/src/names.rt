@@ -19,8 +19,11 @@ use uimg_base::{
 use uimg_blob::{Span, short_text};
 
 const UNKNOWN_KIND: &str = "Unknown Image";
+
 const UNKNOWN_COMPRESSION: &str = "Unknown Compression";
+
 const UNKNOWN_ARCHITECTURE: &str = "Unknown Architecture";
+
 const UNKNOWN_SYSTEM: &str = "Unknown OS";
 
 // The printed name of an image type.

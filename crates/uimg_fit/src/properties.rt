@@ -63,21 +63,70 @@ pub(crate) fn image_fields<A: Allocator>(
         sum_by field_cost result ≤ 144 + size_of found.own (codes "description") }
 {
     [
-        property(blob, room, image, Key::Description, b"  Description:  ", Show::Text),
+        property(
+            blob,
+            room,
+            image,
+            Key::Description,
+            b"  Description:  ",
+            Show::Text,
+        ),
         Field {
             label: b"  Created:      ",
             content: Content::Time(time),
         },
-        property(blob, room, image, Key::Kind, b"  Type:         ", Show::Name(Table::Kinds)),
-        property(blob, room, image, Key::Compression, b"  Compression:  ", Show::Name(Table::Compressions)),
+        property(
+            blob,
+            room,
+            image,
+            Key::Kind,
+            b"  Type:         ",
+            Show::Name(Table::Kinds),
+        ),
+        property(
+            blob,
+            room,
+            image,
+            Key::Compression,
+            b"  Compression:  ",
+            Show::Name(Table::Compressions),
+        ),
         Field {
             label: b"  Data Size:    ",
             content: Content::Size(size),
         },
-        property(blob, room, image, Key::Arch, b"  Architecture: ", Show::Name(Table::Architectures)),
-        property(blob, room, image, Key::Os, b"  OS:           ", Show::Name(Table::Systems)),
-        property(blob, room, image, Key::Load, b"  Load Address: ", Show::Address),
-        property(blob, room, image, Key::Entry, b"  Entry Point:  ", Show::Address),
+        property(
+            blob,
+            room,
+            image,
+            Key::Arch,
+            b"  Architecture: ",
+            Show::Name(Table::Architectures),
+        ),
+        property(
+            blob,
+            room,
+            image,
+            Key::Os,
+            b"  OS:           ",
+            Show::Name(Table::Systems),
+        ),
+        property(
+            blob,
+            room,
+            image,
+            Key::Load,
+            b"  Load Address: ",
+            Show::Address,
+        ),
+        property(
+            blob,
+            room,
+            image,
+            Key::Entry,
+            b"  Entry Point:  ",
+            Show::Address,
+        ),
     ]
 }
 
@@ -96,7 +145,14 @@ pub(crate) fn hash_fields<A: Allocator>(blob: &Blob, room: &Room<A>, hash: usize
 {
     [
         property(blob, room, hash, Key::Algo, b"  Hash algo:    ", Show::Text),
-        property(blob, room, hash, Key::Value, b"  Hash value:   ", Show::Hexadecimal),
+        property(
+            blob,
+            room,
+            hash,
+            Key::Value,
+            b"  Hash value:   ",
+            Show::Hexadecimal,
+        ),
     ]
 }
 
@@ -119,10 +175,45 @@ pub(crate) fn configuration_fields<A: Allocator>(
         + (size_of found.own (codes "fdt") + size_of found.own (codes "loadables")))) }
 {
     [
-        property(blob, room, configuration, Key::Description, b"  Description:  ", Show::Text),
-        property(blob, room, configuration, Key::Kernel, b"  Kernel:       ", Show::Text),
-        property(blob, room, configuration, Key::Ramdisk, b"  Init Ramdisk: ", Show::Text),
-        property(blob, room, configuration, Key::Fdt, b"  FDT:          ", Show::List),
-        property(blob, room, configuration, Key::Loadables, b"  Loadables:    ", Show::List),
+        property(
+            blob,
+            room,
+            configuration,
+            Key::Description,
+            b"  Description:  ",
+            Show::Text,
+        ),
+        property(
+            blob,
+            room,
+            configuration,
+            Key::Kernel,
+            b"  Kernel:       ",
+            Show::Text,
+        ),
+        property(
+            blob,
+            room,
+            configuration,
+            Key::Ramdisk,
+            b"  Init Ramdisk: ",
+            Show::Text,
+        ),
+        property(
+            blob,
+            room,
+            configuration,
+            Key::Fdt,
+            b"  FDT:          ",
+            Show::List,
+        ),
+        property(
+            blob,
+            room,
+            configuration,
+            Key::Loadables,
+            b"  Loadables:    ",
+            Show::List,
+        ),
     ]
 }

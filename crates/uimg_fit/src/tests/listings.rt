@@ -1,6 +1,6 @@
 use crate::samples::{
-    DEFAULT, DESCRIPTION, Demo, FDT, FOUR_HASHES, LOADABLES, OS, RAMDISK, TYPE,
-    begin_images, demo_fit, external_fit, finish, four_hash_fit,
+    DEFAULT, DESCRIPTION, Demo, FDT, FOUR_HASHES, LOADABLES, OS, RAMDISK, TYPE, begin_images,
+    demo_fit, external_fit, finish, four_hash_fit,
 };
 use crate::{Fault, FitFault, list};
 use std::alloc::Global;
@@ -129,7 +129,9 @@ fn refused_listings(rt: HostRuntime) -> Result<(), Fail> {
     let fit = finish(sample, alloc)?;
     let (answer, text) = listing(alloc, &fit);
     assert_eq!(rt; answer, Err(Fault::Fit(FitFault::NoImages)));
-    assert!(rt; text.as_slice() == b"FIT description: none\nCreated:         unavailable\n".as_slice());
+    assert!(rt;
+        text.as_slice() == b"FIT description: none\nCreated:         unavailable\n".as_slice()
+    );
     let (answer, text) = listing(alloc, b"short");
     assert!(rt; matches!(answer, Err(Fault::Blob(_, 0))));
     assert!(rt; text.is_empty());

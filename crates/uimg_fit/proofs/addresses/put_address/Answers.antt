@@ -1,4 +1,4 @@
-use Rattle.std.proofs.Common.{rules, ◌≡◌, ◌≢◌, ◌+◌, ◌≤◌, ℕ, List, length, is_err, ap, sym, subst, ◌∙◌, ◌++◌, codes, arith}
+use Rattle.std.proofs.Common.{rules, ◌≡◌, ◌+◌, ◌≤◌, ℕ, List, length, is_err, ap, sym, subst, ◌∙◌, ◌++◌, codes}
 use Rattle.hex.specs.Hex.{encode_lower}
 use Rattle.uimg_base.specs.Outcome.{line}
 use Rattle.uimg_base.specs.Writing.{Written}

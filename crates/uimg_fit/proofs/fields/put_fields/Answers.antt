@@ -1,10 +1,8 @@
-use Rattle.std.proofs.Common.{rules, ◌≡◌, ◌≤◌, ℕ, List, Bool, true, false, is_err, IsTrue, length, take, ap, sym, subst, arith}
+use Rattle.std.proofs.Common.{rules, ◌≡◌, List, Bool, true, is_err, IsTrue, take, sym, subst, arith}
 use Rattle.std.specs.List.{flat_map}
 use Rattle.std.proofs.lemmas.List.{take_all}
 use Rattle.uimg_base.specs.Sink.{AppendsAll}
-use Rattle.uimg_base.specs.Writing.{Written}
-use Rattle.uimg_base.proofs.SinkLaws.{prefix_at}
-use Rattle.uimg_blob.proofs.TextLaws.{written_all, written_some}
+use Rattle.uimg_blob.proofs.TextLaws.{written_all}
 use Rattle.uimg_fit.specs.declared.shows.Field.{Field}
 use Rattle.uimg_fit.specs.Shows.{field_lines}
 use Rattle.uimg_fit.proofs.FieldLaws.{field_failed}

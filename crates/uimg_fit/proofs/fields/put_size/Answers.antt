@@ -1,4 +1,3 @@
-use Rattle.std.proofs.Common.{rules}
 use Rattle.uimg_fit.proofs.PutLaws.{◌▶◌}
 use Rattle.uimg_fit.proofs.fields.put_size.Goals as goal
 

@@ -1,4 +1,4 @@
-use Rattle.std.proofs.Common.{◌≡◌, ◌++◌, ℕ, Option, Some, ap, sym, subst}
+use Rattle.std.proofs.Common.{ℕ, Option, sym, subst}
 use Rattle.std.specs.Prelude.{is_err}
 use Rattle.uimg_base.specs.Writing.{Written}
 use Rattle.uimg_fit.specs.Shows.{size_line}

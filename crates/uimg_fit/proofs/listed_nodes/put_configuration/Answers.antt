@@ -1,10 +1,6 @@
-use Rattle.std.proofs.Common.{◌++◌, ℕ, List, refl, is_err, subst, arith}
+use Rattle.std.proofs.Common.{refl, is_err, arith}
 use Rattle.std.specs.Prelude.{codes}
-use Rattle.std.specs.List.{flat_map}
-use Rattle.uimg_base.specs.Writing.{Written}
 use Rattle.uimg_blob.specs.Roles.{in_configurations}
-use Rattle.uimg_fit.specs.FieldTexts.{configuration_text}
-use Rattle.uimg_fit.specs.NodeLines.{title_text}
 use Rattle.uimg_fit.proofs.SharesLaws.{two_texts, one_text}
 use Rattle.uimg_fit.proofs.TellingLaws.{titled}
 use Rattle.uimg_fit.proofs.listed_nodes.put_configuration.Goals as goal

@@ -1,4 +1,4 @@
-use Rattle.std.proofs.Common.{rules, ◌++◌, ℕ, List, Option, Result, Bool, refl, is_err, IsTrue, ap, sym, subst, ◌∙◌, arith, codes}
+use Rattle.std.proofs.Common.{◌++◌, ℕ, Option, Bool, refl, is_err, IsTrue, ap, sym, subst, ◌∙◌, arith, codes}
 use Rattle.std.specs.List.{flat_map}
 use Rattle.uimg_base.specs.Writing.{Written}
 use Rattle.uimg_blob.specs.LookUps.{hashes}

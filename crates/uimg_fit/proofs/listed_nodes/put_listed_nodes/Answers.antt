@@ -1,4 +1,4 @@
-use Rattle.std.proofs.Common.{rules, ◌≡◌, ◌≤◌, ◌<◌, ◌+◌, ◌∷◌, ℕ, List, length, Option, Some, None, IfSome, Bool, true, is_err, IsTrue, refl, ap, sym, subst, ◌∙◌, false, arith}
+use Rattle.std.proofs.Common.{rules, ◌≡◌, ◌≤◌, ◌<◌, ◌+◌, ℕ, List, length, Option, Some, IfSome, Bool, true, is_err, IsTrue, refl, ap, sym, subst, ◌∙◌, false, arith}
 use Rattle.uimg_base.specs.Held.{Held}
 use Rattle.uimg_blob.specs.LookUps.{NodeOf}
 use Rattle.uimg_blob.specs.Roles.{Level}

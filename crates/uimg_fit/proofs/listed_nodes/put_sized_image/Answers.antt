@@ -1,7 +1,6 @@
 use Rattle.std.proofs.Common.{rules, ◌≡◌, ◌+◌, ◌*◌, ◌++◌, ℕ, List, Bool, true, false, refl, is_err, IsTrue, ap, sym, subst, arith, append_assoc, codes}
 use Rattle.std.specs.List.{flat_map, sum_by}
 use Rattle.uimg_base.specs.Held.{Held}
-use Rattle.uimg_base.specs.Writing.{Written}
 use Rattle.uimg_blob.specs.Roles.{in_images}
 use Rattle.uimg_blob.specs.LookUps.{hashes}
 use Rattle.uimg_fit.specs.Allowances.{text_sizes, node_allowance}
@@ -20,7 +19,7 @@ returns-in_err-put_node-clause-told g c = λ honest t read found n.
     let short = c.name_of-name.ensures.short file t read in_images found n in
     let few = one_text found.own (codes "description") refl in
     let head : Lists true (748 + 4 * text_sizes found.own) (g.S.Source.device c.args.source.now) (g.S.Source.device c.put_node.new.source) c.args.out.now c.put_node.new.out
-        (title_text (codes " Image ") c.args.number found.name ++ image_text c.args.time c.args.size found.own) = record {
+    (title_text (codes " Image ") c.args.number found.name ++ image_text c.args.time c.args.size found.own) = record {
       asked = omega (arith, c.put_node.ensures.uses.asked, cost, few, short);
       written = titled true c.args.out.now c.put_node.new.out (codes " Image ") c.args.number _ _ _ _
           (c.name_of-name.ensures.name file t read in_images found n) (c.image_fields-fields.ensures.lines file t read found n) (c.in_err-put_node.ensures.told honest);
@@ -39,7 +38,7 @@ returns-clause-told g c = λ honest t read found n.
     let short = c.name_of-name.ensures.short file t read in_images found n in
     let few = one_text found.own (codes "description") refl in
     let head : Lists false (748 + 4 * text_sizes found.own) (g.S.Source.device c.args.source.now) (g.S.Source.device c.put_node.new.source) c.args.out.now c.put_node.new.out
-        (title_text (codes " Image ") c.args.number found.name ++ image_text c.args.time c.args.size found.own) = record {
+    (title_text (codes " Image ") c.args.number found.name ++ image_text c.args.time c.args.size found.own) = record {
       asked = omega (arith, c.put_node.ensures.uses.asked, cost, few, short);
       written = titled false c.args.out.now c.put_node.new.out (codes " Image ") c.args.number _ _ _ _
           (c.name_of-name.ensures.name file t read in_images found n) (c.image_fields-fields.ensures.lines file t read found n) (c.in_ok-put_node.ensures.told honest);

@@ -1,8 +1,8 @@
-use Rattle.std.proofs.Common.{rules, ◌≡◌, ◌≤◌, ◌+◌, ◌++◌, ℕ, List, length, Option, Some, None, Bool, refl, IsTrue, codes, ap, sym, ◌∙◌, subst, arith}
+use Rattle.std.proofs.Common.{rules, ◌++◌, ℕ, List, length, Option, Bool, refl, IsTrue, codes, ap, sym, ◌∙◌, subst, arith}
 use Rattle.std.specs.Option.{option_and_then}
 use Rattle.std.proofs.lemmas.Result.{err_from_is_err_and}
 use Rattle.uimg_base.specs.Held.{Held}
-use Rattle.uimg_base.specs.Outcome.{End, Outcome, Tells, after}
+use Rattle.uimg_base.specs.Outcome.{End, Outcome, Tells}
 use Rattle.uimg_base.specs.Sink.{AppendsAll, AppendsPrefix}
 use Rattle.uimg_base.proofs.SinkLaws.{prefix_first}
 use Rattle.uimg_base.proofs.OutcomeLaws.{Tells-after}
@@ -10,11 +10,10 @@ use Rattle.uimg_blob.specs.LookUps.{images}
 use Rattle.uimg_blob.specs.Spots.{spots}
 use Rattle.uimg_fit.specs.declared.fault.Fault.{Fault}
 use Rattle.uimg_fit.specs.Faults.{end_of}
-use Rattle.uimg_fit.specs.Files.{cell, number, bytes_in, number_in, root_own}
+use Rattle.uimg_fit.specs.Files.{number, bytes_in, number_in, root_own}
 use Rattle.uimg_fit.specs.Heads.{description_line, created_line}
 use Rattle.uimg_fit.specs.Listing.{lists, list_of, head_lines}
-use Rattle.uimg_fit.specs.ListingParts.{body_allowance, TellsWithin}
-use Rattle.uimg_fit.specs.Nodes.{HasTree, IsRead}
+use Rattle.uimg_fit.specs.Nodes.{HasTree}
 use Rattle.uimg_fit.proofs.ListingLaws.{head_is, list_is}
 use Rattle.uimg_fit.proofs.SharesLaws.{one_text}
 use Rattle.uimg_fit.proofs.TellingLaws.{read_same}
@@ -49,7 +48,7 @@ returns-in_err-put_head-clause-told g c = λ honest.
     let second = c.cell.ensures.uses.same in
     let now = subst (λ (b : Bool). IsTrue b) (sym first.honest) honest in
     let time = c.in_ok-time.ensures.number now ∙ ap (λ (w : List ℕ). number_in w c.root_value.result) first.bytes
-        ∙ ap (λ (o : Option (List ℕ)). option_and_then number o) (sym (c.root_value.ensures.bytes file t h.read)) in
+    ∙ ap (λ (o : Option (List ℕ)). option_and_then number o) (sym (c.root_value.ensures.bytes file t h.read)) in
     let after_cell = second.bytes ∙ first.bytes in
     let honest_then = subst (λ (b : Bool). IsTrue b) (sym (second.honest ∙ first.honest)) honest in
     let p = err_from_is_err_and c.from_residual-in_err-put_head.result c.from_residual-in_err-put_head.ensures.1 in
@@ -77,7 +76,7 @@ returns-clause-uses g c = record {
       let second = c.cell.ensures.uses.same in
       let now = subst (λ (b : Bool). IsTrue b) (sym first.honest) honest in
       let time = c.in_ok-time.ensures.number now ∙ ap (λ (w : List ℕ). number_in w c.root_value.result) first.bytes
-          ∙ ap (λ (o : Option (List ℕ)). option_and_then number o) (sym (c.root_value.ensures.bytes file t h.read)) in
+      ∙ ap (λ (o : Option (List ℕ)). option_and_then number o) (sym (c.root_value.ensures.bytes file t h.read)) in
       let after_cell = second.bytes ∙ first.bytes in
       let honest_then = subst (λ (b : Bool). IsTrue b) (sym (second.honest ∙ first.honest)) honest in
       let third = c.put_head.ensures.uses.same in
@@ -101,7 +100,7 @@ returns-clause-told g c = λ honest.
     let second = c.cell.ensures.uses.same in
     let now = subst (λ (b : Bool). IsTrue b) (sym first.honest) honest in
     let time = c.in_ok-time.ensures.number now ∙ ap (λ (w : List ℕ). number_in w c.root_value.result) first.bytes
-        ∙ ap (λ (o : Option (List ℕ)). option_and_then number o) (sym (c.root_value.ensures.bytes file t h.read)) in
+    ∙ ap (λ (o : Option (List ℕ)). option_and_then number o) (sym (c.root_value.ensures.bytes file t h.read)) in
     let after_cell = second.bytes ∙ first.bytes in
     let honest_then = subst (λ (b : Bool). IsTrue b) (sym (second.honest ∙ first.honest)) honest in
     let third = c.put_head.ensures.uses.same in

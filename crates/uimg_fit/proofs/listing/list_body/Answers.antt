@@ -1,4 +1,4 @@
-use Rattle.std.proofs.Common.{rules, ◌≡◌, ◌++◌, ℕ, List, Option, Some, None, Bool, refl, IsTrue, sym, subst}
+use Rattle.std.proofs.Common.{ℕ, List, Option, Some, None, refl, sym, subst}
 use Rattle.std.proofs.lemmas.Result.{err_from_is_err_and}
 use Rattle.uimg_base.specs.Outcome.{End, done}
 use Rattle.uimg_base.specs.Sink.{AppendsAll, AppendsPrefix}

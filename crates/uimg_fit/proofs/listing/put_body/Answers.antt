@@ -27,6 +27,6 @@ returns-clause-told g c = λ honest t read found at.
     let now = subst (λ (b : Bool). IsTrue b) (sym same.honest) honest in
     let here = read_same _ m.bytes c.args.blob.now _ c.put_listed_nodes.new.room.entries t same.bytes (ap (λ (r : Held). r.entries) c.put_listed_nodes.ensures.room) read in
     let tail = subst (λ (w : List ℕ). Lists e (configurations_allowance (configurations (spots t))) m f c.put_listed_nodes.new.out c.put_configurations.new.out (configurations_text w (configurations (spots t)))) same.bytes
-        (c.put_configurations.ensures.told now t here) in
+    (c.put_configurations.ensures.told now t here) in
     then_lists e (sum_by node_allowance found) (configurations_allowance (configurations (spots t))) d m f c.args.out.now c.put_listed_nodes.new.out c.put_configurations.new.out
     (images_text d.bytes c.args.time found) (configurations_text d.bytes (configurations (spots t))) (c.in_ok-put_listed_nodes.ensures.told honest t read found at) tail

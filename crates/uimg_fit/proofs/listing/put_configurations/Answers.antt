@@ -1,4 +1,4 @@
-use Rattle.std.proofs.Common.{rules, ◌≡◌, ◌+◌, ◌*◌, ◌++◌, ℕ, List, Option, Some, Bool, true, false, refl, is_err, IsTrue, codes, ap, sym, subst, arith}
+use Rattle.std.proofs.Common.{rules, ◌≡◌, ◌+◌, ◌*◌, ℕ, List, Option, Bool, true, false, refl, is_err, IsTrue, codes, ap, sym, subst, arith}
 use Rattle.std.specs.List.{sum_by}
 use Rattle.uimg_base.specs.Held.{Held}
 use Rattle.uimg_base.specs.Writing.{Written}
@@ -51,10 +51,10 @@ returns-clause-told g c = λ honest t read.
     let few = one_text h.found.own (codes "default") refl in
     let told = subst (λ (v : Option (List ℕ)). Written false c.args.out.now c.put_default.new.out (default_line v)) (sym value) (c.in_ok-put_default.ensures.told honest) in
     let head : Lists false (760 + 4 * text_sizes h.found.own) d m c.args.out.now c.put_default.new.out (default_line (bytes_of h.found.own (codes "default"))) =
-        record { asked = omega (arith, c.put_default.ensures.uses.asked, size, few); written = told } in
+    record { asked = omega (arith, c.put_default.ensures.uses.asked, size, few); written = told } in
     let from = subst (λ (l : Level). AreFrom t l c.child_of-first.result (listed h.found.below)) h.children (c.child_of-first.ensures.children t here.indexed h.level h.found h.node) in
     let tail = subst (λ (w : List ℕ). Lists e (sum_by node_allowance (listed h.found.below)) m f c.put_default.new.out c.put_listed_nodes.new.out (numbered (node_lines w Configuration) 0 (listed h.found.below))) same.bytes
-        (c.put_listed_nodes.ensures.told now t here (listed h.found.below) from) in
+    (c.put_listed_nodes.ensures.told now t here (listed h.found.below) from) in
     subst (λ (o : Option (NodeOf Spot)). Lists e (configurations_allowance o) d f c.args.out.now c.put_listed_nodes.new.out (configurations_text d.bytes o)) (sym h.is)
     (more_lists e _ (node_allowance h.found) d f c.args.out.now c.put_listed_nodes.new.out _ (omega (arith, children_allowed h.found))
     (then_lists e (760 + 4 * text_sizes h.found.own) (sum_by node_allowance (listed h.found.below)) d m f c.args.out.now c.put_default.new.out c.put_listed_nodes.new.out

@@ -1,4 +1,4 @@
-use Rattle.std.proofs.Common.{rules, ◌≡◌, ◌+◌, ℕ, List, length, min, ap, ◌∙◌}
+use Rattle.std.proofs.Common.{◌≡◌, ◌+◌, ℕ, List, length, min, ap, ◌∙◌}
 use Rattle.uimg_texts.specs.Nul.{text}
 use Rattle.uimg_fit.proofs.ListLaws.{first_is_piece}
 use Rattle.uimg_fit.proofs.lists.first_piece.Goals as goal

@@ -1,8 +1,6 @@
-use Rattle.std.proofs.Common.{rules, ◌≡◌, ◌⊎◌, inl, inr, ◌++◌, [], ◌∷◌, ◌∙◌, subst, sym, ap, ℕ, List, true, false, is_err, append-nil}
+use Rattle.std.proofs.Common.{rules, ◌≡◌, ◌⊎◌, inl, inr, ◌++◌, [], ◌∙◌, subst, sym, ap, ℕ, List, true, false, is_err, append-nil}
 use Rattle.uimg_texts.specs.Slices.{slice}
 use Rattle.uimg_base.specs.Writing.{Written}
-use Rattle.uimg_blob.proofs.TextLaws.{written_all}
-use Rattle.uimg_base.specs.Sink.{AppendsAll}
 use Rattle.uimg_fit.specs.declared.lists.Line.{Line}
 use Rattle.uimg_fit.specs.declared.lists.Line.TheVariants.{First, Next, Open}
 use Rattle.uimg_fit.specs.Lists.{emitted, line_after, end_of_line}

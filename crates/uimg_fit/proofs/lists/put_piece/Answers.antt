@@ -1,4 +1,4 @@
-use Rattle.std.proofs.Common.{rules, ◌≡◌, ◌≢◌, ◌++◌, ◌∷◌, [], ◌∙◌, subst, sym, ap, refl, ℕ, List, length, true, false, is_err}
+use Rattle.std.proofs.Common.{rules, ◌≡◌, ◌≢◌, ◌++◌, ◌∙◌, subst, sym, ap, refl, ℕ, List, length, true, false, is_err}
 use Rattle.uimg_texts.specs.Nul.{text}
 use Rattle.uimg_base.specs.Outcome.{line}
 use Rattle.uimg_base.specs.Writing.{Written}

@@ -1,7 +1,6 @@
-use Rattle.std.proofs.Common.{rules, ◌≡◌, ◌+◌, ◌-◌, ◌++◌, ◌∙◌, subst, sym, ap, refl, ℕ, List, length, take, drop, true, false, is_err, take-append-drop, length-drop, arith}
+use Rattle.std.proofs.Common.{rules, ◌≡◌, ◌+◌, ◌++◌, ◌∙◌, subst, sym, ap, refl, ℕ, List, length, take, drop, true, is_err, take-append-drop, length-drop, arith}
 use Rattle.std.proofs.Math.Seq.{take-add}
 use Rattle.uimg_base.specs.Sink.{AppendsAll}
-use Rattle.uimg_base.specs.Writing.{Written}
 use Rattle.uimg_base.proofs.SinkLaws.{Appends-none, all_then}
 use Rattle.uimg_fit.specs.declared.lists.Line.{Line}
 use Rattle.uimg_fit.specs.Lists.{emitted, line_after}
