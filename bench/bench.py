@@ -1,11 +1,12 @@
 #!/usr/bin/env python3
-"""Times uimg over a large legacy image, and the calls of uimg_base that move payloads.
+"""Times uimg over a large legacy image and over FIT images, and the calls of uimg_base that move payloads.
 
 Each command runs several times over the same file, which lies in the page cache; the best run
-counts. It prints a table of MB/s (millions of bytes a second), peak memory, and the time beside the
-last row of the same kind. dumpimage and mkimage are left out where they are not installed.
+counts. It prints a table of seconds, of MB/s (millions of bytes of payload a second), of peak memory, and
+of the time beside the last row of the same kind. Tools that are not installed are left out.
 """
 
+import itertools
 import os
 import shutil
 import struct
@@ -14,6 +15,8 @@ import sys
 import tempfile
 import time
 import zlib
+
+import fits
 
 SIZE = 256 * 1024 * 1024
 RUNS = 5
@@ -26,6 +29,12 @@ ZLIB = (
     "        sum = zlib.crc32(block, sum)\n"
     "print(f'{sum:08x}')\n"
 )
+
+INSIDE = 64 * 1024 * 1024
+OUTSIDE = 512 * 1024 * 1024
+
+DIGESTS = 'md5sum "$0"; sha1sum "$0"; sha256sum "$0"'
+OPENSSL = 'for sum in md5 sha1 sha256; do openssl dgst -$sum "$0"; done'
 
 ZLIB_AND_COPY = f'{sys.executable} -c "{ZLIB}" "$0" && cp "$0" "$1"'
 
@@ -84,8 +93,8 @@ def make_image(payload, image):
         file.write(struct.pack(">7I", *fields) + codes + data)
 
 
-def rows(uimg, base, folder):
-    """What is timed: its kind, its name, the command, and where its output goes."""
+def legacy_rows(uimg, base, folder):
+    """What is timed of a legacy image: its kind, its name, the command, and where its output goes."""
     file, image = os.path.join(folder, "payload.bin"), os.path.join(folder, "payload.img")
     text, copy = os.path.join(folder, "text"), os.path.join(folder, "copy.bin")
     make_file(file)
@@ -111,22 +120,57 @@ def rows(uimg, base, folder):
     yield "build", "mkimage -d", build, text
 
 
+def fit_rows(uimg, folder):
+    """What is timed of FIT images: the same, and how many bytes the payload has."""
+    nodes, inside, outside = (os.path.join(folder, f"{name}.itb") for name in ("n", "i", "o"))
+    part, big = os.path.join(folder, "part.bin"), os.path.join(folder, "payload.bin")
+    text, copy = os.path.join(folder, "text"), os.path.join(folder, "copy.bin")
+    with open(big, "rb") as file:
+        data = file.read(INSIDE)
+    with open(part, "wb") as file:
+        file.write(data)
+    fits.write_nodes(nodes)
+    fits.write_inside(inside, data)
+    fits.write_outside(outside, data, OUTSIDE // INSIDE)
+    for kind, path in (("20005 nodes", nodes), ("64 MiB in", inside), ("512 MiB out", outside)):
+        yield f"list {kind}", "uimg dumpimage -l", [uimg, "dumpimage", "-l", path], text, 0
+        yield f"list {kind}", "dumpimage -l", ["dumpimage", "-l", path], text, 0
+    for kind, path, size in (("64 MiB in", inside, INSIDE), ("512 MiB out", outside, OUTSIDE)):
+        extract = ["dumpimage", "-T", "flat_dt", "-p", "0", "-o", copy, path]
+        yield f"extract {kind}", "uimg dumpimage -o", [uimg, *extract], text, size
+        yield f"extract {kind}", "cp", ["cp", path, copy], text, size
+        yield f"extract {kind}", "dumpimage -o", extract, text, size
+    digests = ["sh", "-c", DIGESTS, part]
+    yield "verify 4 sums", "uimg verify", [uimg, "verify", inside], text, INSIDE
+    yield "verify 4 sums", "zlib.crc32 alone", [sys.executable, "-c", ZLIB, part], text, INSIDE
+    yield "verify 4 sums", "openssl, 3 of them", ["sh", "-c", OPENSSL, part], text, INSIDE
+    yield "verify 4 sums", "md5sum and 2 more", digests, text, INSIDE
+
+
 def main():
     uimg, base = (os.path.abspath(path) for path in sys.argv[1:3])
     with tempfile.TemporaryDirectory() as folder:
+        legacy = [(*row, SIZE) for row in legacy_rows(uimg, base, folder)]
         measured = [
-            (kind, name, *measure(command, output))
-            for kind, name, command, output in rows(uimg, base, folder)
+            (kind, name, size, *measure(command, output))
+            for kind, name, command, output, size in itertools.chain(legacy, fit_rows(uimg, folder))
             if shutil.which(command[0])
         ]
-    beside = {kind: spent for kind, _, spent, _ in measured}
-    print(f"| {'What':8} | {'By':20} | {'MB/s':>6} | {'peak KiB':>8} | {'time, ratio':>11} |")
-    print(f"|{'-' * 10}|{'-' * 22}|{'-' * 8}|{'-' * 10}|{'-' * 13}|")
-    for kind, name, spent, peak in measured:
-        rate = SIZE / spent / 1e6
-        ratio = spent / beside[kind]
-        print(f"| {kind:8} | {name:20} | {rate:6.0f} | {peak:8} | {ratio:11.2f} |")
-    print(f"\n{SIZE} bytes, best of {RUNS}; the ratio is to the last row of the same kind.")
+    beside = {kind: spent for kind, _, _, spent, _ in measured}
+    widths = [19, 20, 7, 5, 8, 11]
+    print_row(["What", "By", "seconds", "MB/s", "peak KiB", "time, ratio"], widths)
+    print("|" + "|".join("-" * (width + 2) for width in widths) + "|")
+    for kind, name, size, spent, peak in measured:
+        rate = f"{size / spent / 1e6:.0f}" if size else ""
+        print_row([kind, name, f"{spent:.3f}", rate, peak, f"{spent / beside[kind]:.2f}"], widths)
+    print(f"\nBest of {RUNS}; the ratio is to the last row of the same kind. Without another size the")
+    print(f"payload has {SIZE} bytes.")
+
+
+def print_row(values, widths):
+    first = [f"{value:{width}}" for value, width in zip(values[:2], widths)]
+    rest = [f"{value:>{width}}" for value, width in zip(values[2:], widths[2:])]
+    print("| " + " | ".join(first + rest) + " |")
 
 
 main()

@@ -4,9 +4,11 @@
 It makes legacy images of every type with the real mkimage, and shows that uimg lists their fields
 alike, verifies them, and unpacks them to the bytes that went in. Then it builds images of every
 type, architecture, operating system and compression with both, and shows that they are the same
-byte for byte, and that the real tools accept them. Where dtc is installed it compares the compiling
-of image-tree source with it too. It prints tables of what was compared, and every difference; it
-installs nothing.
+byte for byte, and that the real tools accept them. Where dtc is installed too it makes FIT images with the real
+mkimage, which needs it, and shows that uimg lists them alike, finds every hash right, unpacks their
+payloads, and finds the hashes wrong of a payload that was changed; and it compares the compiling of
+image-tree source with dtc. It prints tables of what was compared, and every difference; it installs
+nothing.
 """
 
 import itertools
@@ -16,6 +18,7 @@ import subprocess
 import sys
 import tempfile
 
+import fit
 import its
 
 SINGLE = ["standalone", "kernel", "ramdisk", "firmware", "filesystem", "kernel_noload"]
@@ -29,6 +32,11 @@ SYSTEMS = (
 )
 COMPRESSIONS = "none gzip bzip2 lzma lzo lz4 zstd".split()
 ENTRIES = [(), ("-a", "80000"), ("-a", "0x1000", "-e", "1040"), ("-e", "fffffff0")]
+PLACEMENTS = [
+    ("inside", []),
+    ("behind the tree, `-E`", ["-E"]),
+    ("at a position, `-E -p`", ["-E", "-p", "8000"]),
+]
 DATA = [b"abc", b"defg", b"hijkl" * 2000, b"\0", bytes(range(256)) * 33, b"ab"]
 CODES = [
     ("arm", "linux", "none"),
@@ -220,6 +228,71 @@ def print_sources(bench):
     return same.differences + refused.differences
 
 
+def compare_listing(count, uimg, path, case, given):
+    """The listing of a FIT by both, image by image, as far as both print the same facts."""
+    status, own = output([uimg, "dumpimage", "-l", path])
+    _, real = output(["dumpimage", "-l", path])
+    own, real = fit.listed(given, fit.sections(own)), fit.sections(real)
+    count.expect(f"listing of {case}", (status, len(own)), (0, len(real)))
+    for here, there in zip(own, real):
+        count.expect(f"lines of {case}", fit.differs(here, there), [])
+
+
+def compare_payloads(count, uimg, folder, path, case, images):
+    """Each payload as uimg and dumpimage unpack it, and the bytes that went in."""
+    for position, image in enumerate(images):
+        for tool in ([uimg, "dumpimage"], ["dumpimage"]):
+            out = os.path.join(folder, "payload")
+            status, _ = output([*tool, "-T", "flat_dt", "-p", str(position), "-o", out, path])
+            with open(out, "rb") as file:
+                same = file.read() == image.payload
+            count.expect(f"payload {position} of {case} by {tool[-1]}", (status, same), (0, True))
+            os.remove(out)
+
+
+def compare_changed(count, uimg, folder, path, case, given):
+    """The report on a FIT in which one byte of one payload is another."""
+    with open(path, "rb") as file:
+        whole = file.read()
+    changed = os.path.join(folder, "changed.itb")
+    for number, image in enumerate(given.images):
+        at = whole.index(image.payload) + (0, len(image.payload) - 1)[number % 2]
+        with open(changed, "wb") as file:
+            file.write(whole[:at] + bytes([whole[at] ^ 1]) + whole[at + 1 :])
+        there = fit.report(given, image)
+        count.expect(f"report on {case}, payload {number} changed", output([uimg, "verify", changed]), there)
+
+
+def compare_fits(uimg, placement):
+    """FIT images that the real mkimage made: listed, verified, unpacked, and verified when changed."""
+    count = Count()
+    with tempfile.TemporaryDirectory() as folder:
+        for number, given in enumerate(fit.fits(7, 60)):
+            count.images += len(given.images)
+            path = fit.build(folder, given, placement)
+            case = f"FIT {number} by mkimage {' '.join(placement)}"
+            compare_listing(count, uimg, path, case, given)
+            count.expect(f"report on {case}", output([uimg, "verify", path]), fit.report(given))
+            compare_payloads(count, uimg, folder, path, case, given.images)
+            compare_changed(count, uimg, folder, path, case, given)
+    return count
+
+
+def print_fits(uimg):
+    """The table of the FIT images. It gives the differences."""
+    if shutil.which("dtc") is None:
+        print("\npeers: dtc is not installed (Debian: device-tree-compiler); no FIT was compared")
+        return []
+    print("\n| Payloads of a FIT | Images read, in 60 FITs | Differences |")
+    print("|---|---|---|")
+    differences = []
+    for name, placement in PLACEMENTS:
+        count = compare_fits(uimg, placement)
+        print(f"| {name} | {count.images} | {len(count.differences)} |", flush=True)
+        differences += count.differences
+    return differences
+
+
 def main():
     uimg, bench = (os.path.abspath(path) for path in sys.argv[1:3])
     if shutil.which("mkimage") is None:
@@ -233,6 +306,7 @@ def main():
         row = [read.images, len(read.differences), made.images, len(made.differences)]
         print(f"| {kind} | {' | '.join(str(value) for value in row)} |", flush=True)
         differences += read.differences + made.differences
+    differences += print_fits(uimg)
     differences += print_sources(bench)
     for what, here, there in differences[:10]:
         print(f"\n{what}\n  uimg: {str(here)[:400]}\n  peer: {str(there)[:400]}")

@@ -1,6 +1,5 @@
 -- What never fails.
-use Rattle.std.proofs.Common.{◌≡◌, ◌<◌, ◌^◌, ℕ, Bool, true, false, subst, refl, arith}
-use Rattle.std.specs.Prelude.{◌-◌}
+use Rattle.std.proofs.Common.{◌≡◌, ℕ, Bool, true, false, refl, arith}
 use Rattle.uimg_base.specs.Device.{RisesIf}
 
 -- a count that is 0 before and after did not rise

@@ -5,3 +5,4 @@ pub mod SizeLine
 pub mod WritingLaws
 pub mod StreamLaws
 pub mod DeviceLaws
+pub mod AheadLaws

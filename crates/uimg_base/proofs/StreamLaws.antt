@@ -5,7 +5,6 @@ use Rattle.std.proofs.Math.Seq.{take-append-add}
 use Rattle.std.proofs.lemmas.List.{take-take, length-take-le}
 use Rattle.std.proofs.lemmas.Slice.{take-put_mid}
 use borrow.Rule.Slice.PartMut.{put_mid}
-use Rattle.uimg_texts.specs.Slices.{slice}
 use Rattle.uimg_base.specs.Streams.{Stream, moved, ReadsOn, SameBytes}
 use Rattle.uimg_base.proofs.Slices.{slice-add}
 

@@ -10,4 +10,5 @@ pub mod Named
 pub mod Writing
 pub mod Using
 pub mod Streams
+pub mod Ahead
 pub mod Shelves

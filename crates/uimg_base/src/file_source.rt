@@ -13,7 +13,9 @@ use std::rt::Files;
 
 /// A file as a source, read by seek and read, as a `SeekSource` is.
 ///
-/// It keeps the length that was found when it was opened. No contract says which bytes a disk gives,
+/// It keeps the length that was found when it was opened. Reads of fewer than 4096 bytes are served
+/// from two windows of 4096 bytes that are read ahead, never past that length; where a read ahead
+/// fails or is short, just the bytes that were asked for are read. No contract says which bytes a disk gives,
 /// so it is not claimed to be honest: that its reads answer the bytes of one unchanging file is the
 /// user's premise. Contracts see zeros in place of its bytes.
 #[derive(Drop)]

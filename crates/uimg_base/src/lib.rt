@@ -22,6 +22,7 @@ mod source;
 mod status;
 #[cfg(test)]
 mod tests;
+mod windows;
 
 pub use file_shelf::FileShelf;
 pub use file_source::FileSource;

@@ -1,16 +1,19 @@
-ghost use Rattle.std.specs.Prelude.{◌≡◌, ◌≤◌, length, is_err, true, IfOk, IfSome, IsTrue, OnOk};
+ghost use Rattle.std.specs.Prelude.{◌≡◌, ◌≤◌, length, is_err, true, Some, IfOk, IfSome, IsTrue, OnOk};
 ghost use Rattle.uimg_base.specs.Device.{RisesIf, asked_more};
+ghost use Rattle.uimg_base.specs.Ahead.{AreAhead};
 ghost use Rattle.uimg_base.specs.Streams.{StandsAt, SameBytes, HoldsFrom, HasLength, ReadsOn};
 
 use crate::seek_read::SeekRead;
 use crate::source::SourceFault;
+use crate::windows::{AHEAD, Windows};
 use std::io::ErrorKind;
 
-/// How an open file is read: where it stands, where that is known, its length, and the counters of a
-/// source.
+/// How an open file is read: where it stands, where that is known, what was read ahead of it, its
+/// length, and the counters of a source.
 #[derive(Drop)]
 pub(crate) struct Reading {
     pub(crate) position: Option<u64>,
+    pub(crate) windows: Windows,
     pub(crate) length: u64,
     pub(crate) asked: u128,
     pub(crate) failures: u64,
@@ -21,6 +24,7 @@ impl Reading {
     pub(crate) fn of<F: SeekRead>(file: &mut F) -> Result<Reading, SourceFault>
         ensures same { SameBytes (F.stream file.old) (F.stream file.new) }
         ensures stands { IfOk result (λ r. StandsAt r.position (F.stream file.new)) }
+        ensures ahead { IfOk result (λ r. AreAhead r.windows (F.stream file.new)) }
         ensures whole { IfOk result (λ r. HasLength r.length (F.stream file.new)) }
         ensures asked { IfOk result (λ r. r.asked ≡ 0) }
         ensures failures { IfOk result (λ r. r.failures ≡ 0) }
@@ -30,6 +34,7 @@ impl Reading {
         };
         Ok(Reading {
             position: Some(length),
+            windows: Windows::new(),
             length,
             asked: 0,
             failures: 0,
@@ -45,7 +50,9 @@ impl Reading {
         to: &mut [u8],
     ) -> Result<(), SourceFault>
         requires stands { StandsAt self.old.position (F.stream file.old) }
+        requires ahead { AreAhead self.old.windows (F.stream file.old) }
         ensures stands { StandsAt self.new.position (F.stream file.new) }
+        ensures ahead { AreAhead self.new.windows (F.stream file.new) }
         ensures same { SameBytes (F.stream file.old) (F.stream file.new) }
         ensures length { self.new.length ≡ self.old.length }
         ensures bytes { OnOk result (HoldsFrom at (F.stream file.old) to.new) }
@@ -53,18 +60,39 @@ impl Reading {
         ensures failures { RisesIf (is_err result) self.old.failures self.new.failures }
     {
         self.asked = self.asked.saturating_add(to.len() as u128);
-        if fill_from(file, &mut self.position, at, to) {
+        if self.fill(file, at, to) {
             Ok(())
         } else {
             self.failures = self.failures.saturating_add(1);
             Err(SourceFault)
         }
     }
+
+    // Fills `to` from what was read ahead, where it is small, or else by just the bytes asked for.
+    fn fill<F: SeekRead>(&mut self, file: &mut F, at: u64, to: &mut [u8]) -> bool
+        requires stands { StandsAt self.old.position (F.stream file.old) }
+        requires ahead { AreAhead self.old.windows (F.stream file.old) }
+        ensures stands { StandsAt self.new.position (F.stream file.new) }
+        ensures ahead { AreAhead self.new.windows (F.stream file.new) }
+        ensures same { SameBytes (F.stream file.old) (F.stream file.new) }
+        ensures length { self.new.length ≡ self.old.length }
+        ensures asked { self.new.asked ≡ self.old.asked }
+        ensures failures { self.new.failures ≡ self.old.failures }
+        ensures bytes { IsTrue result → HoldsFrom at (F.stream file.old) to.new }
+    {
+        if to.len() < AHEAD {
+            let most = u64::min(AHEAD as u64, self.length.saturating_sub(at)) as usize;
+            if self.windows.fill(file, &mut self.position, at, most, to) {
+                return true;
+            }
+        }
+        fill_from(file, &mut self.position, at, to)
+    }
 }
 
 // Reads once, and gives how many bytes came: none where a signal interrupted it. At the file's end and
 // after any other error it gives no number.
-fn read_some<F: SeekRead>(file: &mut F, to: &mut [u8]) -> Option<usize>
+pub(crate) fn read_some<F: SeekRead>(file: &mut F, to: &mut [u8]) -> Option<usize>
     ensures same { SameBytes (F.stream file.old) (F.stream file.new) }
     ensures bound { IfSome result (λ n. n ≤ length to.old) }
     ensures reads { IfSome result (λ n. ReadsOn n (F.stream file.old) (F.stream file.new) to.new) }
@@ -96,8 +124,23 @@ fn fill<F: SeekRead>(file: &mut F, to: &mut [u8]) -> bool
     to.is_empty()
 }
 
-// Reads at an offset until `to` is full, and says whether it is. `position` is where the file stands,
-// or none where that is not known; a file that stands at the offset is not moved there.
+// Moves a file to an offset, unless it stands there, and says whether it does then. `position` is
+// where the file stands, or none where that is not known.
+pub(crate) fn move_to<F: SeekRead>(file: &mut F, position: &mut Option<u64>, at: u64) -> bool
+    requires stands { StandsAt position.old (F.stream file.old) }
+    ensures stands { StandsAt position.new (F.stream file.new) }
+    ensures same { SameBytes (F.stream file.old) (F.stream file.new) }
+    ensures there { IsTrue result → StandsAt (Some at) (F.stream file.new) }
+{
+    if *position == Some(at) {
+        return true;
+    }
+    let moved = file.move_to(at).is_ok();
+    *position = if moved { Some(at) } else { None };
+    moved
+}
+
+// Reads at an offset until `to` is full, and says whether it is.
 fn fill_from<F: SeekRead>(file: &mut F, position: &mut Option<u64>, at: u64, to: &mut [u8]) -> bool
     requires stands { StandsAt position.old (F.stream file.old) }
     ensures stands { StandsAt position.new (F.stream file.new) }
@@ -107,8 +150,7 @@ fn fill_from<F: SeekRead>(file: &mut F, position: &mut Option<u64>, at: u64, to:
     if to.is_empty() {
         return true;
     }
-    if *position != Some(at) && file.move_to(at).is_err() {
-        *position = None;
+    if !move_to(file, position, at) {
         return false;
     }
     let full = fill(file, to);

@@ -2,6 +2,7 @@ ghost use Rattle.std.specs.Prelude.{◌≡◌, ◌^◌, ◌<◌, true, IfOk, IfS
 ghost use Rattle.std.proofs.Common.{rules};
 ghost use Rattle.std.proofs.Props.{props};
 ghost use Rattle.uimg_base.specs.Device.{IsFresh};
+ghost use Rattle.uimg_base.specs.Ahead.{IsAhead};
 ghost use Rattle.uimg_base.specs.Streams.{StandsAt, HasLength, bytes_of, short_bytes};
 
 use crate::reading::Reading;
@@ -10,7 +11,7 @@ use crate::source::{Source, SourceFault};
 
 /// An open file as a source, read by seek and read.
 ///
-/// It keeps the length that was found when it was made. Over a file whose bytes contracts know it is
+/// It keeps the length that was found when it was made, and reads ahead as a `FileSource` does. Over a file whose bytes contracts know it is
 /// an honest source of these bytes; over any other, contracts see zeros in place of its bytes, and it
 /// is not claimed to be honest.
 #[derive(Drop)]
@@ -19,6 +20,8 @@ pub struct SeekSource<F: SeekRead> {
     reading: Reading,
     ghost short: { reading.length < 2 ^ 64 },
     ghost stands: { StandsAt reading.position (F.stream file) } by { Prim.hlevel props },
+    ghost first_ahead: { IsAhead reading.windows.first (F.stream file) } by { Prim.hlevel props },
+    ghost second_ahead: { IsAhead reading.windows.second (F.stream file) } by { Prim.hlevel props },
     ghost whole: { HasLength reading.length (F.stream file) } by { Prim.hlevel props },
 }
 

@@ -8,6 +8,7 @@ mod named_files;
 mod outputs;
 mod rooms;
 mod shelves;
+mod windows;
 
 use crate::Source;
 

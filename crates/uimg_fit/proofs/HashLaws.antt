@@ -76,11 +76,11 @@ after_are t blob es i next hash more indexed at sibling =
     let same : next ≡ at.row.next_sibling = sibling at.row (record { nodes = t; indexed = indexed; is = at.is }) in
     subst (λ (o : Option ℕ). HashesFrom t o more) (sym same) at.rest
 
-abbrev head_or : NodeOf Spot → List (NodeOf Spot) → NodeOf Spot
+abbrev pub head_or : NodeOf Spot → List (NodeOf Spot) → NodeOf Spot
 head_or n [] = n
 head_or n (m ∷ ms) = m
 
-abbrev rest_of : List (NodeOf Spot) → List (NodeOf Spot)
+abbrev pub rest_of : List (NodeOf Spot) → List (NodeOf Spot)
 rest_of [] = []
 rest_of (m ∷ ms) = ms
 

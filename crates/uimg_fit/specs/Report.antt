@@ -12,43 +12,41 @@ use Rattle.uimg_blob.specs.Spots.{Spot}
 use Rattle.uimg_fit.specs.declared.fault.Fault.{Fault}
 use Rattle.uimg_fit.specs.declared.fault.Fault.TheVariants.{Fit}
 use Rattle.uimg_fit.specs.declared.fault.FitFault.{FitFault}
+use Rattle.uimg_fit.specs.declared.words.Word.{Word}
+use Rattle.uimg_fit.specs.declared.words.Word.TheVariants.{Malformed, Unsupported, Right, Wrong}
 use Rattle.uimg_fit.specs.Files.{images_of, bytes_of}
 use Rattle.uimg_fit.specs.Places.{payload}
 
--- what is said of a hash node
-pub data Word : Type 0 where
-  malformed : Word
-  unsupported : Word
-  right : Word
-  wrong : Word
-
+-- what is printed of a hash node
 abbrev pub word_text : Word → List ℕ
-word_text malformed = codes "malformed"
-word_text unsupported = codes "unsupported"
-word_text right = codes "ok"
-word_text wrong = codes "bad"
+word_text Malformed = codes "malformed"
+word_text Unsupported = codes "unsupported"
+word_text Right = codes "ok"
+word_text Wrong = codes "bad"
 
 abbrev pub is_right : Word → Bool
-is_right right = true
-is_right _ = false
+is_right Malformed = false
+is_right Unsupported = false
+is_right Right = true
+is_right Wrong = false
 
 -- whether a value is the digest of a payload; one of another length is malformed
 unfoldable pub compared : Algo → List ℕ → List ℕ → Word
 compared algo value message =
-    if length value == digest_size algo then (if bytes_eq value (digest_by algo message) then right else wrong) else malformed
+    if length value == digest_size algo then (if bytes_eq value (digest_by algo message) then Right else Wrong) else Malformed
 
 -- The word of a hash node, by the name of its algorithm and its value, each of which may be missing: a missing name comes
 -- first, then an unknown one, then a missing value.
 abbrev pub by_value : Algo → Option (List ℕ) → List ℕ → Word
-by_value algo None message = malformed
+by_value algo None message = Malformed
 by_value algo (Some value) message = compared algo value message
 
 abbrev pub by_algo : Option Algo → Option (List ℕ) → List ℕ → Word
-by_algo None value message = unsupported
+by_algo None value message = Unsupported
 by_algo (Some algo) value message = by_value algo value message
 
 abbrev pub by_name : Option (List ℕ) → Option (List ℕ) → List ℕ → Word
-by_name None value message = malformed
+by_name None value message = Malformed
 by_name (Some name) value message = by_algo (algo_named name) value message
 
 -- the name of a hash node's algorithm

@@ -8,7 +8,9 @@ use Rattle.uimg_fit.specs.declared.fault.Fault.{Fault}
 use Rattle.uimg_fit.specs.declared.fault.FitFault.{FitFault}
 use Rattle.uimg_fit.specs.Files.{images_of}
 use Rattle.uimg_fit.specs.Places.{payload}
-use Rattle.uimg_fit.specs.Report.{Word, right, wrong, word_of}
+use Rattle.uimg_fit.specs.declared.words.Word.{Word}
+use Rattle.uimg_fit.specs.declared.words.Word.TheVariants.{Malformed, Unsupported, Right, Wrong}
+use Rattle.uimg_fit.specs.Report.{word_of}
 use Rattle.uimg_fit.specs.Extraction.{extract_of}
 
 -- the length of a payload that is there
@@ -18,9 +20,10 @@ payload_length (Err fault) = 0
 
 -- the word says that a digest was compared
 abbrev pub is_compared : Word → Bool
-is_compared right = true
-is_compared wrong = true
-is_compared _ = false
+is_compared Malformed = false
+is_compared Unsupported = false
+is_compared Right = true
+is_compared Wrong = true
 
 -- how often a payload is read for so many sums: once for each eight
 abbrev pub passes : ℕ → ℕ

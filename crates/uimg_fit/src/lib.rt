@@ -1,17 +1,41 @@
 //! FIT images: listing, verification and extraction.
 #![tactic(auto)]
 
+mod addresses;
+mod digests;
 mod extraction;
 mod fault;
+mod fields;
+mod groups;
+mod hash_lines;
+mod hash_reports;
+mod heads;
+mod hexadecimal;
+mod image_reports;
 mod images;
+mod judging;
+mod listed_nodes;
+mod listing;
+mod lists;
+mod names;
 mod nodes;
 mod placement;
 mod places;
+mod plans;
+mod properties;
+mod puts;
+mod report;
 pub mod samples;
+mod shows;
 #[cfg(test)]
 mod tests;
+mod titles;
 mod tree;
+mod walks;
+mod words;
 
 pub use extraction::extract;
 pub use fault::{Fault, FitFault};
+pub use listing::list;
 pub use placement::Placement;
+pub use report::verify;

@@ -92,6 +92,7 @@ pub(crate) fn next_of<A: Allocator>(blob: &Blob, room: &Room<A>, node: usize) ->
     requires within { node < length room.now.entries }
     requires indexed { Indexed blob.now room.now.entries }
     ensures within { IfSome result (λ i. i < length room.now.entries) }
+    ensures later { IfSome result (λ i. node < i) }
     ensures next { (t : Siblings) → IsIndexed t blob.now room.now.entries →
         (level : Level) (found : NodeOf Spot) (more : List (NodeOf Spot)) →
         AreFrom t level (Some node) (found ∷ more) → AreFrom t (level_after level found.name) result more }
@@ -106,6 +107,7 @@ fn hash_from<A: Allocator>(blob: &Blob, room: &Room<A>, first: Option<usize>) ->
     ensures within { IfSome result (λ i. i < length room.now.entries) }
     ensures hashes { (t : Siblings) → IsIndexed t blob.now room.now.entries →
         (hs : List (NodeOf Spot)) → HashesFrom t first hs → HashesAt t result hs }
+    ensures later { (n : ℕ) → IfSome first (λ i. n < i) → IfSome result (λ i. n < i) }
 {
     let mut next = first;
     while let Some(child) = next {
@@ -136,6 +138,7 @@ pub(crate) fn next_hash<A: Allocator>(blob: &Blob, room: &Room<A>, hash: usize) 
     ensures hashes { (t : Siblings) → IsIndexed t blob.now room.now.entries →
         (found : NodeOf Spot) (more : List (NodeOf Spot)) → HashAt t hash found more →
         HashesAt t result more }
+    ensures later { IfSome result (λ i. hash < i) }
 {
     hash_from(blob, room, blob.next_sibling(room, hash))
 }

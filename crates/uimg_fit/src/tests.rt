@@ -1,3 +1,6 @@
+mod listings;
+mod reports;
+
 use crate::places::{Place, decide};
 use crate::samples::{
     Demo, FOUR_HASHES, demo_fit, external_fit, five_hash_fit, four_hash_fit, position_fit,

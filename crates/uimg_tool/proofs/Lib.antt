@@ -1,2 +1,1 @@
 pub mod MakingLaws
-pub mod HeadlineLaws

@@ -13,12 +13,12 @@ use Rattle.uimg_legacy.specs.declared.options.Options.{Options}
 use Rattle.uimg_legacy.specs.Devices.{failures_of, OneRisesIf}
 use Rattle.uimg_legacy.specs.Listing.{list_of}
 use Rattle.uimg_tool.specs.declared.fault.Fault.{Fault}
-use Rattle.uimg_tool.specs.declared.fault.Fault.TheVariants.{Legacy, Read, Put, NoFile, Keep, OutOfMemory}
+use Rattle.uimg_tool.specs.declared.fault.Fault.TheVariants.{Legacy, Blob, Fit, Read, Put, NoFile, Keep, OutOfMemory}
 use Rattle.uimg_legacy.specs.declared.fault.Fault.TheVariants as legacy
 use Rattle.uimg_legacy.specs.declared.fault.Fault.{Fault as LegacyEngineFault}
 use Rattle.uimg_legacy.specs.Faults.{is_read as legacy_is_read}
-use Rattle.uimg_tool.specs.Faults.{end_of, is_read, is_keep, fault_of}
-use Rattle.uimg_tool.specs.Headline.{legacy_outcome}
+use Rattle.uimg_tool.specs.Faults.{end_of, is_read, is_keep, of_legacy}
+use Rattle.uimg_tool.specs.Headline.{outcome_as}
 use Rattle.uimg_tool.specs.Making.{HaveParts, Keeps, Makes, BuildsNames, StopsMaking, MakesAnswer}
 
 -- names that have parts have files
@@ -30,6 +30,8 @@ have_files files (name ∷ names) (part ∷ parts) have = All-cons (λ name. IsS
 -- why an image is not built, where nothing is listed
 pub building_stops : (X : Type 0) (options : Options) (files : List ℕ → Option (List ℕ)) (names : List (List ℕ)) (f : Fault) (image built : Sink) (s : Sink) → is_keep {X = X} (Err f) ≡ false → BuildsNames {X = X} options files names (Err f) image built → StopsMaking options files names f s s
 building_stops X options files names (Legacy f) image built s never stop = (record { parts = stop.parts; have = stop.have; refused = stop.builds }, refl)
+building_stops X options files names (Blob f at) image built s never stop = absurd stop.builds
+building_stops X options files names (Fit f) image built s never stop = absurd stop.builds
 building_stops X options files names Read image built s never stop = record { parts = stop.parts; have = stop.have; prefix = prefix_none s _ }
 building_stops X options files names Put image built s never stop = (
   record { parts = stop.parts; have = stop.have; accepted = stop.builds.0 },
@@ -59,9 +61,9 @@ all_told Done o s t told = told.1
 all_told NotRight o s t told = told.1
 
 -- what is kept, and then listed
-pub listing_makes : (options : Options) (files : List ℕ → Option (List ℕ)) (names : List (List ℕ)) (kept now : Device) (status : Status) (s t : Sink) → Keeps options files names kept → SameDevice kept now → Tells (end_of (Ok status)) (legacy_outcome (list_of kept.bytes)) s t → Makes options files names now s t
+pub listing_makes : (options : Options) (files : List ℕ → Option (List ℕ)) (names : List (List ℕ)) (kept now : Device) (status : Status) (s t : Sink) → Keeps options files names kept → SameDevice kept now → Tells (end_of (Ok status)) (outcome_as Legacy (list_of kept.bytes)) s t → Makes options files names now s t
 listing_makes options files names kept now status s t keeps same told =
-    let listed = all_told status (legacy_outcome (list_of kept.bytes)) s t told in
+    let listed = all_told status (outcome_as Legacy (list_of kept.bytes)) s t told in
     record {
       keeps = record {
         parts = keeps.parts;
@@ -90,7 +92,7 @@ none_fails device never true old new rises =
     never_rises true _ _ rises.rose (no_failures device never old rises.number) (no_failures device never new rises.number)
 
 -- the fault of a building that is no failed read
-pub no_read_kept : (X Y : Type 0) (fault : LegacyEngineFault) → legacy_is_read {X = X} (Err fault) ≡ false → is_read {X = Y} (Err (fault_of fault)) ≡ false
+pub no_read_kept : (X Y : Type 0) (fault : LegacyEngineFault) → legacy_is_read {X = X} (Err fault) ≡ false → is_read {X = Y} (Err (of_legacy fault)) ≡ false
 no_read_kept X Y (legacy.Legacy f) e = refl
 no_read_kept X Y legacy.Read e = e
 no_read_kept X Y legacy.Put e = refl

@@ -3,16 +3,26 @@ use Rattle.std.specs.Prelude.{Result, Ok, Err, Option, Some, None, Bool, true, f
 use Rattle.uimg_base.specs.Outcome.{End, done, not_right, refused}
 use Rattle.uimg_base.specs.declared.status.Status.{Status}
 use Rattle.uimg_base.specs.declared.status.Status.TheVariants.{Done, NotRight}
+use Rattle.uimg_blob.specs.Faults.{refuses_memory}
+use Rattle.uimg_fit.specs.declared.fault.Fault.TheVariants as fit
+use Rattle.uimg_fit.specs.declared.fault.Fault.{Fault as FitEngineFault}
 use Rattle.uimg_legacy.specs.declared.fault.Fault.TheVariants as legacy
 use Rattle.uimg_legacy.specs.declared.fault.Fault.{Fault as LegacyEngineFault}
 use Rattle.uimg_tool.specs.declared.fault.Fault.{Fault}
-use Rattle.uimg_tool.specs.declared.fault.Fault.TheVariants.{Legacy, Read, Put, NoFile, Keep, OutOfMemory}
+use Rattle.uimg_tool.specs.declared.fault.Fault.TheVariants.{Legacy, Blob, Fit, Read, Put, NoFile, Keep, OutOfMemory}
 
--- the command's fault that a fault of the legacy engine is
-abbrev pub fault_of : LegacyEngineFault → Fault
-fault_of (legacy.Legacy f) = Legacy f
-fault_of legacy.Read = Read
-fault_of legacy.Put = Put
+-- the command's fault that a fault of the engine of legacy images is
+abbrev pub of_legacy : LegacyEngineFault → Fault
+of_legacy (legacy.Legacy f) = Legacy f
+of_legacy legacy.Read = Read
+of_legacy legacy.Put = Put
+
+-- the command's fault that a fault of the engine of FIT images is
+abbrev pub of_fit : FitEngineFault → Fault
+of_fit (fit.Blob f at) = Blob f at
+of_fit (fit.Fit f) = Fit f
+of_fit fit.Read = Read
+of_fit fit.Put = Put
 
 -- the answer is that a read failed
 abbrev pub is_read : {X : Type 0} → Result X Fault → Bool
@@ -24,9 +34,16 @@ abbrev pub is_put : {X : Type 0} → Result X Fault → Bool
 is_put (Err Put) = true
 is_put _ = false
 
--- the answer is that the image is refused
+-- the answer is that the memory for the table of a FIT image's nodes was refused
+abbrev pub is_no_memory : {X : Type 0} → Result X Fault → Bool
+is_no_memory (Err (Blob fault at)) = refuses_memory fault
+is_no_memory _ = false
+
+-- the answer is that the image is refused, or the memory for the table of its nodes
 abbrev pub is_refused : {X : Type 0} → Result X Fault → Bool
 is_refused (Err (Legacy fault)) = true
+is_refused (Err (Blob fault at)) = true
+is_refused (Err (Fit fault)) = true
 is_refused _ = false
 
 -- the answer is that what was written could not be read
@@ -53,11 +70,17 @@ is_of_making (Err Keep) = true
 is_of_making (Err OutOfMemory) = true
 is_of_making _ = false
 
--- The end that an answer tells, where no device failed. A command on an image answers none of the last three,
--- which no outcome has as its end.
+-- an end, or none where memory was refused
+abbrev pub unless_memory : Bool → End Fault → Option (End Fault)
+unless_memory true e = None
+unless_memory false e = Some e
+
+-- The end that an answer tells, where no device failed and no memory was refused. A command on an image answers none of the
+-- last three, which no outcome has as its end.
 abbrev pub end_of : Result Status Fault → Option (End Fault)
 end_of (Ok Done) = Some done
 end_of (Ok NotRight) = Some not_right
 end_of (Err Read) = None
 end_of (Err Put) = None
+end_of (Err (Blob fault at)) = unless_memory (refuses_memory fault) (refused (Blob fault at))
 end_of (Err fault) = Some (refused fault)

@@ -1,49 +1,102 @@
--- What a command on an image has to write, how it has to end, and how much it may ask for.
-use Rattle.std.specs.Prelude.{◌≡◌, ℕ, ◌-◌, ◌^◌, ◌<◌, List, Result, Some, ⊤, Bool, true, false}
+-- What a command on an image has to write, how it has to end, how much it may ask for, and what memory it may take.
+use Rattle.std.specs.Prelude.{◌≡◌, ℕ, ◌+◌, ◌-◌, ◌^◌, ◌<◌, List, [], length, nat_lt, ◌==◌, if◌then◌else◌, Result, Some, ⊤, Bool, true, false, IsTrue}
 use Rattle.uimg_base.specs.Device.{Device}
+use Rattle.uimg_base.specs.Held.{Held}
 use Rattle.uimg_base.specs.Ranges.{ReadsAhead}
 use Rattle.uimg_base.specs.Sink.{Sink, AppendsAll}
 use Rattle.uimg_base.specs.Outcome.{End, Outcome, done, not_right, refused}
 use Rattle.uimg_base.specs.declared.status.Status.{Status}
+use Rattle.uimg_texts.specs.Numbers.{be32}
+use Rattle.uimg_blob.specs.Counts.{nodes_met}
+use Rattle.uimg_fit.specs.declared.fault.Fault.{Fault as FitEngineFault}
+use Rattle.uimg_fit.specs.Rooms.{TakesNodes}
+use Rattle.uimg_fit.specs.Listing as fit_listing
+use Rattle.uimg_fit.specs.Report as fit_report
+use Rattle.uimg_fit.specs.Extraction as fit_extraction
+use Rattle.uimg_fit.specs.Work as fit
 use Rattle.uimg_legacy.specs.declared.fault.LegacyFault.{LegacyFault}
-use Rattle.uimg_legacy.specs.Listing.{list_of}
-use Rattle.uimg_legacy.specs.Report.{verify_of}
-use Rattle.uimg_legacy.specs.Extraction.{extract_of}
+use Rattle.uimg_legacy.specs.Listing as legacy_listing
+use Rattle.uimg_legacy.specs.Report as legacy_report
+use Rattle.uimg_legacy.specs.Extraction as legacy_extraction
 use Rattle.uimg_legacy.specs.Work as legacy
 use Rattle.uimg_tool.specs.declared.fault.Fault.{Fault}
 use Rattle.uimg_tool.specs.declared.fault.Fault.TheVariants.{Legacy}
 use Rattle.uimg_tool.specs.declared.command.Action.{Action}
 use Rattle.uimg_tool.specs.declared.command.Action.TheVariants as action
-use Rattle.uimg_tool.specs.Faults.{end_of}
+use Rattle.uimg_tool.specs.declared.command.Command.{Command}
+use Rattle.uimg_tool.specs.declared.command.Form.{Form}
+use Rattle.uimg_tool.specs.declared.command.Form.TheVariants as form
+use Rattle.uimg_tool.specs.Faults.{end_of, of_fit}
 
--- the end of a command on a legacy image
-abbrev pub legacy_end : End LegacyFault → End Fault
-legacy_end done = done
-legacy_end not_right = not_right
-legacy_end (refused fault) = refused (Legacy fault)
+-- the file begins with the magic number of a devicetree blob (Devicetree Specification, section 5.2)
+unfoldable pub begins_as_blob : List ℕ → Bool
+begins_as_blob file = if nat_lt (length file) 4 then false else be32 file 0 == 0xd00dfeed
 
-abbrev pub legacy_outcome : Outcome LegacyFault → Outcome Fault
-legacy_outcome o = record { text = o.text; end = legacy_end o.end }
+-- The file is read as a FIT image: that is asked for, or its first bytes tell it. Any other file is read as a legacy image.
+abbrev pub is_fit : Form → List ℕ → Bool
+is_fit form.Guess file = begins_as_blob file
+is_fit form.Legacy file = false
+is_fit form.Fit file = true
 
--- the outcome of an action on an image: its listing, its report, or its part at a position
-abbrev pub outcome_of : Action → List ℕ → Outcome Fault
-outcome_of action.List image = legacy_outcome (list_of image)
-outcome_of action.Verify image = legacy_outcome (verify_of image)
-outcome_of (action.Extract position) image = legacy_outcome (extract_of image position)
+-- an outcome whose fault is told in another way
+abbrev pub end_as : {F : Type 0} → (F → Fault) → End F → End Fault
+end_as name done = done
+end_as name not_right = not_right
+end_as name (refused fault) = refused (name fault)
 
--- the most bytes that an action asks for
-abbrev pub work : Action → List ℕ → ℕ
-work action.List image = legacy.list_work image
-work action.Verify image = legacy.verify_work image
-work (action.Extract position) image = legacy.extract_work image position
+abbrev pub outcome_as : {F : Type 0} → (F → Fault) → Outcome F → Outcome Fault
+outcome_as name o = record { text = o.text; end = end_as name o.end }
 
--- An extraction asked for at most its work without the part, the bytes that it wrote, and a window of 8192 more.
+-- the outcome of an action on a legacy image: its listing, its report, or its part at a position
+abbrev pub legacy_outcome : Action → List ℕ → Outcome LegacyFault
+legacy_outcome action.List file = legacy_listing.list_of file
+legacy_outcome action.Verify file = legacy_report.verify_of file
+legacy_outcome (action.Extract position) file = legacy_extraction.extract_of file position
+
+-- the outcome of an action on a FIT image: its listing, its report, or the payload of its image at a position
+abbrev pub fit_outcome : Action → List ℕ → Outcome FitEngineFault
+fit_outcome action.List file = fit_listing.list_of file
+fit_outcome action.Verify file = fit_report.verify_of file
+fit_outcome (action.Extract position) file = fit_extraction.extract_of file position
+
+-- the outcome of an action on a file that is read as a FIT image, or as a legacy image
+abbrev pub outcome_in : Bool → Action → List ℕ → Outcome Fault
+outcome_in true action file = outcome_as of_fit (fit_outcome action file)
+outcome_in false action file = outcome_as Legacy (legacy_outcome action file)
+
+-- the outcome of a command on a file
+abbrev pub outcome_of : Command → List ℕ → Outcome Fault
+outcome_of command file = outcome_in (is_fit command.form file) command.action file
+
+-- the most bytes that the engine of a format asks for
+abbrev pub work_in : Bool → Action → List ℕ → ℕ
+work_in true action.List file = fit.list_work file
+work_in true action.Verify file = fit.verify_work file
+work_in true (action.Extract position) file = fit.extract_work file position
+work_in false action.List file = legacy.list_work file
+work_in false action.Verify file = legacy.verify_work file
+work_in false (action.Extract position) file = legacy.extract_work file position
+
+-- The most bytes that a command asks for: the four that tell the format, and what the format's engine asks for. Beside payloads
+-- that is `64 + 1024 * (nodes + properties) + 4 * (bytes of texts + NOPs)` for a FIT image, each counted as it is met, and
+-- `64 + 16 * (sizes + 1)` for a legacy image.
+abbrev pub work : Command → List ℕ → ℕ
+work command file = 4 + work_in (is_fit command.form file) command.action file
+
+-- how many entries a command's table has at most: one for each node of a FIT image, none for a legacy image
+abbrev pub nodes_in : Bool → List ℕ → ℕ
+nodes_in true file = nodes_met file
+nodes_in false file = 0
+
+abbrev pub nodes_of : Command → List ℕ → ℕ
+nodes_of command file = nodes_in (is_fit command.form file) file
+
+-- An extraction asked for at most its work without the payload, the bytes that it wrote, and a window of 8192 more.
 -- Of other actions this says nothing.
-abbrev pub ExtractsAhead : Action → (old new : Device) → Sink → Sink → Type 0
-ExtractsAhead action.List old new s t = ⊤
-ExtractsAhead action.Verify old new s t = ⊤
-ExtractsAhead (action.Extract position) old new s t =
-    ReadsAhead (legacy.list_work old.bytes) old new s t (extract_of old.bytes position).text
+abbrev pub ExtractsAhead : ℕ → Action → Outcome Fault → (old new : Device) → Sink → Sink → Type 0
+ExtractsAhead most action.List o old new s t = ⊤
+ExtractsAhead most action.Verify o old new s t = ⊤
+ExtractsAhead most (action.Extract position) o old new s t = ReadsAhead most old new s t o.text
 
 -- An extraction that is refused has written nothing. Of other actions and answers this says nothing.
 abbrev pub KeepsOutput : Action → Bool → (old new : Sink) → Type 0
@@ -55,6 +108,22 @@ KeepsOutput (action.Extract position) false old new = ⊤
 -- a counter was below its greatest value, and did not rise
 abbrev pub Stays : ℕ → ℕ → Type 0
 Stays old new = (old < 2 ^ 64 - 1) × (new ≡ old)
+
+-- no growth of the table of a FIT image was refused; a legacy image has no table
+abbrev pub GrowthsSucceed : Bool → (old new : Held) → Type 0
+GrowthsSucceed true old new = Stays old.refused new.refused
+GrowthsSucceed false old new = ⊤
+
+-- The file is surely read as a legacy image: that is asked for, or the bytes of an honest source tell it.
+abbrev pub IsLegacy : Form → Device → Type 0
+IsLegacy form.Guess source = IsTrue source.honest × (begins_as_blob source.bytes ≡ false)
+IsLegacy form.Legacy source = ⊤
+IsLegacy form.Fit source = ⊥
+
+-- What a command does to a room: it takes memory for a table of nodes, or none.
+abbrev pub Takes : Bool → Device → Bool → (old new : Held) → Type 0
+Takes true source no_memory old new = TakesNodes source no_memory old new
+Takes false source no_memory old new = (new ≡ record old { entries = [] }) × (no_memory ≡ false)
 
 -- the answer is the outcome's end, and exactly its text was appended
 abbrev pub Meets : Result Status Fault → Outcome Fault → Sink → Sink → Type 0

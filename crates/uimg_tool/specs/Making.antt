@@ -12,7 +12,7 @@ use Rattle.uimg_legacy.specs.Building.{data_of, data_to_build, legacy_built, bui
 use Rattle.uimg_legacy.specs.Devices.{bytes_of, AreHonest}
 use Rattle.uimg_legacy.specs.ReadsBack.{ReadsBack}
 use Rattle.uimg_tool.specs.declared.fault.Fault.{Fault}
-use Rattle.uimg_tool.specs.declared.fault.Fault.TheVariants.{Legacy, Read, Put, NoFile, Keep, OutOfMemory}
+use Rattle.uimg_tool.specs.declared.fault.Fault.TheVariants.{Legacy, Blob, Fit, Read, Put, NoFile, Keep, OutOfMemory}
 use Rattle.uimg_tool.specs.Faults.{is_no_file}
 use Rattle.uimg_tool.specs.declared.make_command.MakeCommand.{MakeCommand}
 use Rattle.uimg_tool.specs.declared.make_command.MakeCommand.TheVariants.{Parts}
@@ -122,6 +122,8 @@ BuildsNames options files names result s t = BuildsThese options files names res
 -- what the fault of a making says of what was appended
 abbrev pub StopsMaking : Options → (List ℕ → Option (List ℕ)) → List (List ℕ) → Fault → Sink → Sink → Type 0
 StopsMaking options files names (Legacy fault) s t = Refuses options files names fault × (t ≡ s)
+StopsMaking options files names (Blob fault at) s t = ⊥
+StopsMaking options files names (Fit fault) s t = ⊥
 StopsMaking options files names Read s t = Breaks options files names s t
 StopsMaking options files names Put s t = Accepts options files names × Breaks options files names s t
 StopsMaking options files names (NoFile i) s t = Misses files names i × (t ≡ s)

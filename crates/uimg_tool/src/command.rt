@@ -7,18 +7,23 @@ pub enum Action {
     /// Its verification report is written.
     Verify,
 
-    /// The part of this position, counted from 0, is written.
+    /// The part of a legacy image, or the payload of the image in a FIT, at this position, counted from
+    /// 0, is written.
     Extract(u32),
 }
 
 /// The format that an image is read as.
 #[derive(Clone, Copy, Debug, PartialEq, Eq)]
 pub enum Form {
-    /// The format that its first bytes tell. Legacy images are the only ones that are read yet.
+    /// The format that its first four bytes tell: a FIT image where they are `0xd00dfeed`, a legacy
+    /// image otherwise, also where there are fewer.
     Guess,
 
     /// A legacy image.
     Legacy,
+
+    /// A FIT image.
+    Fit,
 }
 
 /// A command on an image.

@@ -1,5 +1,8 @@
 use std::alloc::AllocError;
 use thiserror::Error;
+use uimg_base::SourceFault;
+use uimg_blob::BlobFault;
+use uimg_fit::FitFault;
 use uimg_legacy::LegacyFault;
 
 /// Why a command on an image, or the making of one, stopped. Its text is the line that the program
@@ -9,6 +12,15 @@ pub enum Fault {
     /// The legacy image, or the parts that one is made from, are refused.
     #[error("{0}")]
     Legacy(LegacyFault),
+
+    /// The blob of the FIT image is refused, or the memory for the table of its nodes was; the offset
+    /// is counted from the file's start.
+    #[error("{0} at {1}")]
+    Blob(BlobFault, u64),
+
+    /// The FIT image is refused.
+    #[error("{0}")]
+    Fit(FitFault),
 
     /// A read failed.
     #[error("read failed")]
@@ -33,9 +45,9 @@ pub enum Fault {
 
 impl From<uimg_legacy::Fault> for Fault {
     ghost use Rattle.std.specs.Prelude.{◌≡◌};
-    ghost use Rattle.uimg_tool.specs.Faults.{fault_of};
+    ghost use Rattle.uimg_tool.specs.Faults.{of_legacy};
 
-    ghost from_gives = { λ f e. e ≡ fault_of f };
+    ghost from_gives = { λ f e. e ≡ of_legacy f };
 
     fn from(fault: uimg_legacy::Fault) -> Fault {
         match fault {
@@ -43,6 +55,33 @@ impl From<uimg_legacy::Fault> for Fault {
             uimg_legacy::Fault::Read => Fault::Read,
             uimg_legacy::Fault::Put => Fault::Put,
         }
+    }
+}
+
+impl From<uimg_fit::Fault> for Fault {
+    ghost use Rattle.std.specs.Prelude.{◌≡◌};
+    ghost use Rattle.uimg_tool.specs.Faults.{of_fit};
+
+    ghost from_gives = { λ f e. e ≡ of_fit f };
+
+    fn from(fault: uimg_fit::Fault) -> Fault {
+        match fault {
+            uimg_fit::Fault::Blob(blob, at) => Fault::Blob(blob, at),
+            uimg_fit::Fault::Fit(own) => Fault::Fit(own),
+            uimg_fit::Fault::Read => Fault::Read,
+            uimg_fit::Fault::Put => Fault::Put,
+        }
+    }
+}
+
+impl From<SourceFault> for Fault {
+    ghost use Rattle.std.specs.Prelude.{◌≡◌};
+    ghost use Rattle.uimg_tool.specs.declared.fault.Fault.TheVariants.{Read};
+
+    ghost from_gives = { λ _ e. e ≡ Read };
+
+    fn from(_fault: SourceFault) -> Fault {
+        Fault::Read
     }
 }
 

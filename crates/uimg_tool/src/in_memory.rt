@@ -1,12 +1,12 @@
 //! `run` and `make` over memory alone, where nothing but memory can fail.
 ghost use Rattle.std.specs.Prelude.{◌≡◌, false, Some, IfErr};
 ghost use Rattle.uimg_base.specs.Named.{bytes_named};
-ghost use Rattle.uimg_tool.specs.Faults.{is_read, is_put, is_keep, end_of};
-ghost use Rattle.uimg_tool.specs.Headline.{outcome_of};
+ghost use Rattle.uimg_tool.specs.Faults.{is_read, is_put, is_no_memory, is_keep, end_of};
+ghost use Rattle.uimg_tool.specs.Headline.{outcome_of, is_fit};
 ghost use Rattle.uimg_tool.specs.Making.{options_of, names_of, FitNames, Lacks, timed, MakesAnswer};
 
 use crate::command::Command;
-use crate::engine::run;
+use crate::engine::run_by_form;
 use crate::fault::Fault;
 use crate::make_command::MakeCommand;
 use crate::making::make;
@@ -16,23 +16,25 @@ use uimg_base::{MemFiles, MemKept, MemShelf, MemSource, Out, Room, Source, Statu
 
 /// Carries out a command on the bytes of an image: the answer of `run`, and all that was written.
 ///
-/// The answer and the text are exactly the outcome of the command, unless it is `Fault::Put`: the
-/// memory for the text was refused then. `Fault::Read` never comes.
+/// The answer and the text are exactly the outcome of the command, unless memory was refused: it is
+/// `Fault::Put` where that for the text was, and `OutOfMemory` of the blob where that for the table of
+/// a FIT image's nodes was, which a legacy image does not have. `Fault::Read` never comes.
 pub fn run_in_memory<A: Allocator, B: Allocator>(
     alloc: B,
     command: &Command,
     image: &[u8],
     room: &mut Room<A>,
 ) -> (Result<Status, Fault>, Vec<u8, B>)
-    ensures text { is_put result.0 ≡ false →
-        result.1.items ≡ (outcome_of command.now.action image.now).text }
-    ensures end { is_put result.0 ≡ false →
-        end_of result.0 ≡ Some (outcome_of command.now.action image.now).end }
+    ensures text { is_put result.0 ≡ false → is_no_memory result.0 ≡ false →
+        result.1.items ≡ (outcome_of command.now image.now).text }
+    ensures end { is_put result.0 ≡ false → is_no_memory result.0 ≡ false →
+        end_of result.0 ≡ Some (outcome_of command.now image.now).end }
     ensures read { is_read result.0 ≡ false }
+    ensures legacy { is_fit command.now.form image.now ≡ false → is_no_memory result.0 ≡ false }
 {
     let mut source = MemSource::new(image);
     let mut out = Out::new(Vec::new(alloc));
-    let end = run(command, &mut source, room, &mut out);
+    let end = run_by_form(command, &mut source, room, &mut out);
     (end, out.into_inner())
 }
 

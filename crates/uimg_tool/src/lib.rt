@@ -5,6 +5,7 @@ mod command;
 mod disk_files;
 mod engine;
 mod fault;
+mod formats;
 mod in_memory;
 mod main_program;
 mod make_command;

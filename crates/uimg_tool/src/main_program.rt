@@ -12,6 +12,8 @@ use std::io::{BufWriter, Write};
 use std::rt::Files;
 use thiserror::Error;
 use uimg_base::{FileShelf, FileSource, Out, Room, Status};
+use uimg_blob::BlobFault;
+use uimg_fit::FitFault;
 
 /// All is done.
 const DONE: u8 = 0;
@@ -96,7 +98,16 @@ fn tell<V: Write, D: Display>(err: &mut V, fault: &D, status: u8) -> u8 {
 fn status_of(fault: &RequestFault<'_>) -> u8 {
     match fault {
         RequestFault::Stopped(Fault::Legacy(_)) => REFUSED,
+        RequestFault::Stopped(Fault::Blob(fault, _)) if *fault != BlobFault::OutOfMemory => REFUSED,
+        RequestFault::Stopped(Fault::Fit(fault)) => status_of_fit(*fault),
         _ => FAILED,
+    }
+}
+
+fn status_of_fit(fault: FitFault) -> u8 {
+    match fault {
+        FitFault::OutOfMemory | FitFault::NoFile | FitFault::ReadFailed => FAILED,
+        _ => REFUSED,
     }
 }
 
@@ -214,6 +225,36 @@ mod tests {
                 Err(RequestFault::Stopped(Fault::Legacy(LegacyFault::EmptyPart))),
                 "uimg: L9 empty part\n",
                 1,
+            ),
+            (
+                Err(RequestFault::Stopped(Fault::Blob(BlobFault::BadToken, 64))),
+                "uimg: B5 bad token at 64\n",
+                1,
+            ),
+            (
+                Err(RequestFault::Stopped(Fault::Blob(BlobFault::OutOfMemory, 284))),
+                "uimg: B11 out of memory at 284\n",
+                3,
+            ),
+            (
+                Err(RequestFault::Stopped(Fault::Fit(FitFault::TooLarge))),
+                "uimg: F7 too large\n",
+                1,
+            ),
+            (
+                Err(RequestFault::Stopped(Fault::Fit(FitFault::OutOfMemory))),
+                "uimg: F8 out of memory\n",
+                3,
+            ),
+            (
+                Err(RequestFault::Stopped(Fault::Fit(FitFault::NoFile))),
+                "uimg: F9 no file\n",
+                3,
+            ),
+            (
+                Err(RequestFault::Stopped(Fault::Fit(FitFault::ReadFailed))),
+                "uimg: F10 read failed\n",
+                3,
             ),
             (
                 Err(RequestFault::Stopped(Fault::Read)),

@@ -1,6 +1,7 @@
 use super::images::ABC_KERNEL;
 use super::{expect, expect_on, ran_words};
 use std::test::Fail;
+use uimg_fit::samples::four_hash_fit;
 
 // The program's own checks: each is one line, before any file is opened.
 #[test]
@@ -19,7 +20,7 @@ fn own_faults(rt: HostRuntime) -> Result<(), Fail> {
         "",
         "uimg: no -l or -o\n",
     )?;
-    for name in ["", "Kernel", "flat_dt", "list"] {
+    for name in ["", "Kernel", "flat-dt", "list"] {
         let words = ["dumpimage", "-l", "-T", name, "none.img"];
         expect(&rt, &words, 2, "", "uimg: unknown name\n")?;
         let words = [
@@ -41,19 +42,16 @@ fn own_faults(rt: HostRuntime) -> Result<(), Fail> {
     Ok(())
 }
 
-// A FIT, or what begins as one, is no legacy image.
+// A FIT is no legacy image, and a legacy image no FIT.
 #[test]
 fn wrong_forms(rt: HostRuntime) -> Result<(), Fail> {
-    let mut fit = [0; 64];
-    fit[..4].copy_from_slice(b"\xd0\x0d\xfe\xed");
+    let fit = four_hash_fit(rt.alloc())?;
     let words = ["dumpimage", "-T", "kernel", "-l", "form.img"];
     expect_on(&rt, &fit, &words, 1, "", "uimg: L2 bad magic\n")?;
-    let words = ["dumpimage", "-l", "form.img"];
-    expect_on(&rt, &fit, &words, 1, "", "uimg: L2 bad magic\n")?;
     let words = ["dumpimage", "-T", "flat_dt", "-l", "form.img"];
-    expect_on(&rt, &ABC_KERNEL, &words, 2, "", "uimg: unknown name\n")?;
+    expect_on(&rt, &ABC_KERNEL, &words, 1, "", "uimg: B2 bad magic at 0\n")?;
     let words = ["dumpimage", "form.img"];
-    expect_on(&rt, &ABC_KERNEL, &words, 2, "", "uimg: no -l or -o\n")
+    expect_on(&rt, &fit, &words, 2, "", "uimg: no -l or -o\n")
 }
 
 // What the library of command lines answers: its text goes to standard error, with status 2.

@@ -15,19 +15,19 @@ pub(super) fn command<'a>(alloc: Global) -> Result<clap::Command<'a>, AllocError
             alloc,
             "type",
             'T',
-            "Ask for a legacy image, by any of the short names below",
+            "Ask for a legacy or a FIT image, by a short name below",
         ))?
         .arg(value(
             alloc,
             "position",
             'p',
-            "Extract the part of this number, counted from 0",
+            "Extract the part or payload of this number, counted from 0",
         ))?
         .arg(value(
             alloc,
             "outfile",
             'o',
-            "Write the extracted part to this file",
+            "Write what is extracted to this file",
         ))?
         .arg(image(alloc, "The image"))
 }
@@ -54,11 +54,12 @@ pub(super) fn request<'a>(matches: &ArgMatches<'a>) -> Result<RunRequest<'a>, Wo
     })
 }
 
-// The format of an image type's short name. FIT images, which flat_dt asks for, are not read yet.
+// The format of an image type's short name.
 fn form_named(name: &str) -> Result<Form, WordsFault> {
     match kind_code(name.as_bytes()) {
-        Some(FLAT_DT) | None => Err(WordsFault::UnknownName),
+        Some(FLAT_DT) => Ok(Form::Fit),
         Some(_) => Ok(Form::Legacy),
+        None => Err(WordsFault::UnknownName),
     }
 }
 

@@ -10,7 +10,7 @@ pub(super) const MKIMAGE_NOTES: &str = "Short names:
   <comp>  none gzip bzip2 lzma lzo lz4 zstd
 
 A value that begins with '-' stands right behind its option, as in -n-x.
-FIT images are not made or read yet: -l answers 'L2 bad magic' for one.
+FIT images are listed by -l, and are not made yet.
 
 Examples:
   uimg mkimage -A arm64 -C none -a 80000 -n 'kernel 6.1' -d Image uImage
@@ -25,15 +25,15 @@ Exit status:
 /// The notes of dumpimage.
 pub(super) const DUMPIMAGE_NOTES: &str = "Short names:
   <type>  standalone kernel ramdisk multi firmware script filesystem
-          kernel_noload
+          flat_dt kernel_noload
 
-Each of them asks for a legacy image, whatever type its header has.
-FIT images, for which flat_dt will ask, are not read yet: 'L2 bad magic' is
-answered for one.
+flat_dt asks for a FIT image, each other name for a legacy image, whatever type
+its header has. Without -T the first four bytes tell the format.
 
 Examples:
   uimg dumpimage -l uImage
   uimg dumpimage -p 1 -o initrd.gz multi.img
+  uimg dumpimage -T flat_dt -p 0 -o Image kernel.itb
 
 Exit status:
   0  The image was listed, or the part extracted
@@ -43,16 +43,18 @@ Exit status:
 
 /// The notes of verify.
 pub(super) const VERIFY_NOTES: &str =
-    "The checksums are those of the header and of the data. The table of sizes of
-the types multi and script is not checked: dumpimage -l reads it.
-FIT images are not read yet: 'L2 bad magic' is answered for one.
+    "The checksums of a legacy image are those of the header and of the data. The
+table of sizes of the types multi and script is not checked: dumpimage -l reads
+it. Of a FIT image each hash node of each image is reported on: ok, bad,
+malformed or unsupported. An image without hash nodes is unhashed. Signatures
+are not checked.
 
 Examples:
   uimg verify uImage
-  uimg verify uImage && cp uImage /boot
+  uimg verify kernel.itb && cp kernel.itb /boot
 
 Exit status:
-  0  Both checksums are right
+  0  All checksums are right
   1  A checksum is not right, or the image is refused
   2  The command line is wrong
   3  A file cannot be opened, or a read, a write or memory failed";
@@ -90,7 +92,7 @@ mod tests {
                 .all(|name| comp_code(name.as_bytes()).is_some())
         );
         let kind = row(DUMPIMAGE_NOTES, "<type>", "\n\n");
-        assert_eq!(rt; kind.split_whitespace().count(), 8);
+        assert_eq!(rt; kind.split_whitespace().count(), 9);
         assert!(rt;
             kind.split_whitespace()
                 .all(|name| kind_code(name.as_bytes()).is_some())

@@ -1,6 +1,4 @@
-use Rattle.std.proofs.Common.{rules, ◌≡◌, ◌+◌, ◌-◌, ◌≤◌, ℕ, length, length-drop, length-take, subst, sym, ◌∙◌, arith}
-use Rattle.std.specs.Prelude.{Option, List}
-use Rattle.uimg_base.specs.Streams.{Stream, ReadsOn}
+use Rattle.std.proofs.Common.{rules, ◌≡◌, ◌+◌, ◌-◌, ◌≤◌, length, sym}
 use Rattle.uimg_base.proofs.StreamLaws.{reads_more}
 use Rattle.uimg_base.proofs.reading.fill.Goals as goal
 

@@ -11,6 +11,7 @@ returns-then-is_hash-clause-hashes g c = λ t indexed hs from.
 pub loop-next-preserved : goal.loop-next-preserved
 loop-next-preserved g c = record {
   within = search rules;
+  later = search rules;
   left = λ t indexed hs from.
       passed t _ _ c.in-Some.child c.next_sibling-next.result hs indexed
       (subst (λ (o : Option ℕ). HashesFrom t o hs) c.in-Some.is (c.loop-next.invariant.left t indexed hs from))

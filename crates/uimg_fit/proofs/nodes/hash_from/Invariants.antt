@@ -1,4 +1,4 @@
-use Rattle.std.proofs.Common.{◌-◌, ◌<◌, List, length, IfSome}
+use Rattle.std.proofs.Common.{◌-◌, ◌<◌, ℕ, List, length, IfSome}
 use Rattle.std.specs.Option.{option_map_or}
 use Rattle.uimg_blob.specs.Grammar.{Siblings}
 use Rattle.uimg_blob.specs.Indexed.{IsIndexed}
@@ -11,6 +11,7 @@ use Rattle.uimg_fit.proofs.nodes.hash_from.Given as goal
 abbrev pub invariant-loop-next : goal.invariant-loop-next
 invariant-loop-next g l = record {
   within : IfSome l.next (λ i. i < length l.room.entries);
+  later : (n : ℕ) → IfSome l.fn.first (λ i. n < i) → IfSome l.next (λ i. n < i);
   left : (t : Siblings) → IsIndexed t l.blob l.room.entries → (hs : List (NodeOf Spot)) → HashesFrom t l.fn.first hs → HashesFrom t l.next hs;
 }
 

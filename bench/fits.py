@@ -1,0 +1,91 @@
+"""FIT images for the benchmark, written without any tool."""
+
+import hashlib
+import struct
+import zlib
+
+NAMES = [
+    "description", "timestamp", "data", "type", "arch", "os", "compression", "load", "entry",
+    "algo", "value", "default", "kernel", "data-offset", "data-size",
+]  # fmt: skip
+STRINGS = b"".join(name.encode() + b"\0" for name in NAMES)
+
+
+def padded(data):
+    return data + bytes(-len(data) % 4)
+
+
+def prop(name, value):
+    at = STRINGS.index(name.encode() + b"\0")
+    return struct.pack(">3I", 3, len(value), at) + padded(value)
+
+
+def text(name, value):
+    return prop(name, value.encode() + b"\0")
+
+
+def node(name, *parts):
+    head = struct.pack(">I", 1) + padded(name.encode() + b"\0")
+    return head + b"".join(parts) + struct.pack(">I", 2)
+
+
+def blob(root):
+    """The header, an empty reservation block, the structure block and the strings."""
+    structure = root + struct.pack(">I", 9)
+    strings_at = 56 + len(structure)
+    total = (strings_at + len(STRINGS) + 3) // 4 * 4
+    words = [0xD00DFEED, total, 56, strings_at, 40, 17, 16, 0, len(STRINGS), len(structure)]
+    whole = struct.pack(">10I", *words) + bytes(16) + structure + STRINGS
+    return whole + bytes(total - len(whole))
+
+
+def image(name, payload, hashes):
+    """An image whose payload stands at these properties."""
+    fields = [text("description", "bench"), payload, text("type", "kernel"), text("arch", "arm64")]
+    fields += [text("os", "linux"), text("compression", "none")]
+    fields += [prop("load", struct.pack(">I", 0x80000)), prop("entry", struct.pack(">I", 0x80000))]
+    nodes = [
+        node(f"hash-{number}", text("algo", algo), prop("value", value))
+        for number, (algo, value) in enumerate(hashes)
+    ]
+    return node(name, *fields, *nodes)
+
+
+def fit(images, configurations=1):
+    """A FIT of these images."""
+    own = [text("description", "bench"), prop("timestamp", struct.pack(">I", 1700000000))]
+    below = [
+        node(f"conf-{number}", text("description", "c"), text("kernel", "kernel"))
+        for number in range(configurations)
+    ]
+    tree = [node("images", *images), node("configurations", text("default", "conf-0"), *below)]
+    return blob(node("", *own, *tree))
+
+
+def four_hashes(data):
+    hashes = [("crc32", struct.pack(">I", zlib.crc32(data)))]
+    return hashes + [(name, hashlib.new(name, data).digest()) for name in ("md5", "sha1", "sha256")]
+
+
+def write_nodes(path):
+    """20005 nodes: 10000 images with a hash node each, two configurations, and the three above them."""
+    hashes = [("crc32", struct.pack(">I", zlib.crc32(b"abc")))]
+    images = [image(f"kernel-{number}", prop("data", b"abc"), hashes) for number in range(10000)]
+    with open(path, "wb") as file:
+        file.write(fit(images, 2))
+
+
+def write_inside(path, data):
+    """One image with its payload in the blob, and four hash nodes."""
+    with open(path, "wb") as file:
+        file.write(fit([image("kernel", prop("data", data), four_hashes(data))]))
+
+
+def write_outside(path, data, count):
+    """One image with so many copies of the data behind the blob, and no hash node."""
+    size = struct.pack(">I", len(data) * count)
+    payload = prop("data-offset", bytes(4)) + prop("data-size", size)
+    with open(path, "wb") as file:
+        file.write(fit([image("kernel", payload, [])]))
+        for _ in range(count):
+            file.write(data)

@@ -1,0 +1,20 @@
+-- The lines of a listing that name no image and no configuration.
+use Rattle.std.specs.Prelude.{ℕ, List, [], ◌++◌, Option, codes}
+use Rattle.std.specs.Option.{option_map_or}
+use Rattle.uimg_base.specs.Outcome.{line}
+use Rattle.uimg_texts.specs.Nul.{text}
+use Rattle.uimg_texts.specs.Times.{time_text}
+use Rattle.uimg_blob.specs.declared.texts.Span.{Span}
+
+-- how many bytes stand at a span, if there is one
+abbrev pub span_size : Option Span → ℕ
+span_size value = option_map_or (λ s. s.length) value 0
+
+abbrev pub description_line : Option (List ℕ) → List ℕ
+description_line value = line (codes "FIT description: " ++ option_map_or text value (codes "unavailable"))
+
+abbrev pub created_line : Option ℕ → List ℕ
+created_line time = line (codes "Created:         " ++ option_map_or time_text time (codes "unavailable"))
+
+abbrev pub default_line : Option (List ℕ) → List ℕ
+default_line value = option_map_or (λ v. line (codes " Default Configuration: '" ++ (text v ++ codes "'"))) value []

@@ -1,0 +1,38 @@
+ghost use Rattle.std.specs.Prelude.{◌≡◌, false, IsTrue, IfOk, is_err};
+ghost use Rattle.uimg_base.specs.Using.{Asks};
+ghost use Rattle.uimg_tool.specs.Headline.{begins_as_blob, is_fit};
+
+use crate::command::Form;
+use uimg_base::{Source, SourceFault, number_at};
+
+// What each devicetree blob begins with.
+const BLOB_MAGIC: u32 = 0xd00d_feed;
+
+// Whether a file begins as a blob does.
+#[tactic(auto, unfolding(crate::specs::Headline::begins_as_blob, uimg_texts::specs::Numbers::be32))]
+fn begins_as_blob<S: Source>(source: &mut S) -> Result<bool, SourceFault>
+    ensures uses { Asks 4 (is_err result) (S.device source.old) (S.device source.new) }
+    ensures told { IsTrue (S.device source.old).honest →
+        IfOk result (λ begins. begins ≡ begins_as_blob (S.device source.old).bytes) }
+{
+    if source.size()? < 4 {
+        return Ok(false);
+    }
+    let mut magic = [0; 4];
+    source.fill_at(0, &mut magic)?;
+    Ok(number_at(&magic, 0) == BLOB_MAGIC)
+}
+
+// Whether a file is read as a FIT image: where that is asked for, or its first bytes tell it.
+pub(crate) fn is_fit<S: Source>(form: Form, source: &mut S) -> Result<bool, SourceFault>
+    ensures uses { Asks 4 (is_err result) (S.device source.old) (S.device source.new) }
+    ensures asked_for { form ≡ Form.Legacy → IfOk result (λ fit. fit ≡ false) }
+    ensures told { IsTrue (S.device source.old).honest →
+        IfOk result (λ fit. fit ≡ is_fit form (S.device source.old).bytes) }
+{
+    match form {
+        Form::Guess => begins_as_blob(source),
+        Form::Legacy => Ok(false),
+        Form::Fit => Ok(true),
+    }
+}
