@@ -19,7 +19,8 @@ use Rattle.uimg_fit.specs.declared.fault.Fault.{Fault}
 use Rattle.uimg_fit.specs.declared.fault.FitFault.{FitFault}
 use Rattle.uimg_fit.specs.Files.{images_of, bytes_of}
 use Rattle.uimg_fit.specs.Places.{payload}
-use Rattle.uimg_fit.specs.Report.{right, compared, by_value, by_algo, by_name, word_of, are_right, report}
+use Rattle.uimg_fit.specs.declared.words.Word.TheVariants.{Right}
+use Rattle.uimg_fit.specs.Report.{compared, by_value, by_algo, by_name, word_of, are_right, report}
 use Rattle.uimg_fit.specs.Extraction.{of_images, payload_of}
 use Rattle.uimg_blob.specs.Plain.{Nodes}
 use Rattle.uimg_fit.specs.Building.{data_of}
@@ -32,7 +33,7 @@ abbrev pub plain : NodeOf Spot → NodeOf (List ℕ)
 plain n = node_with (λ s. s.bytes) n
 
 -- a digest is right
-compared-digest : (algo : Algo) (value message : List ℕ) → value ≡ digest_by algo message → compared algo value message ≡ right
+compared-digest : (algo : Algo) (value message : List ℕ) → value ≡ digest_by algo message → compared algo value message ≡ Right
 unfolding compared
 compared-digest algo value message e =
     let len : length value ≡ digest_size algo = ap (λ (w : List ℕ). length w) e ∙ length-digest_by algo message in
@@ -41,7 +42,7 @@ compared-digest algo value message e =
     rw (is_size, same) refl
 
 by_known : (name : Option (List ℕ)) (value : Option (List ℕ)) (message : List ℕ) (algo : Algo) → option_and_then (λ n. algo_named (text n)) name ≡ Some algo → value ≡ Some (digest_by algo message)
-    → by_name (option_map text name) value message ≡ right
+    → by_name (option_map text name) value message ≡ Right
 by_known None value message algo known is = absurd (cc)
 by_known (Some n) value message algo known is =
     ap (λ (a : Option Algo). by_algo a value message) known
@@ -49,7 +50,7 @@ by_known (Some n) value message algo known is =
     ∙ compared-digest algo (digest_by algo message) message refl
 
 -- the word of a hash node that has the digest
-word-right : (message : List ℕ) (h : NodeOf Spot) → IsDigest message (plain h) → word_of message h ≡ right
+word-right : (message : List ℕ) (h : NodeOf Spot) → IsDigest message (plain h) → word_of message h ≡ Right
 word-right message h d =
     let name : option_and_then (λ n. algo_named (text n)) (bytes_of h.own (codes "algo")) ≡ Some d.algo =
     ap (λ (o : Option (List ℕ)). option_and_then (λ n. algo_named (text n)) o) (sym (first-with (λ s. s.bytes) h.own (codes "algo"))) ∙ d.known in
