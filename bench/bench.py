@@ -1,14 +1,18 @@
 #!/usr/bin/env python3
 """Times uimg over a large legacy image and over FIT images, and the calls of uimg_base that move payloads.
 
-Each command runs several times over the same file, which lies in the page cache; the best run
-counts. It prints a table of seconds, of MB/s (millions of bytes of payload a second), of peak memory, and
-of the time beside the last row of the same kind. Tools that are not installed are left out.
+The commands of one kind run several times in turn over the same file. It prints a table of the best
+and the median seconds, of MB/s at best (millions of bytes of payload a second), of peak memory, and of
+the best time beside the last row of the same kind. Tools that are not installed are left out.
+
+The files lie in a folder that BENCH_DIR names, or else in memory where the system has /dev/shm: on a
+disk the writes' noise hides everything else.
 """
 
 import itertools
 import os
 import shutil
+import statistics
 import struct
 import subprocess
 import sys
@@ -18,7 +22,7 @@ import zlib
 
 import fits
 
-SIZE = 256 * 1024 * 1024
+SIZE = 512 * 1024 * 1024
 RUNS = 5
 
 ZLIB = (
@@ -76,9 +80,13 @@ def peak_memory(command, output):
     return peak
 
 
-def measure(command, output):
-    """The least wall time of several runs, and the peak memory."""
-    return min(seconds(command, output) for _ in range(RUNS)), peak_memory(command, output)
+def measure_in_turn(rows):
+    """The wall times of each row's command, which run in turn, and its peak memory."""
+    times = [[] for _ in rows]
+    for _ in range(RUNS):
+        for row, spent in zip(rows, times):
+            spent.append(seconds(row[2], row[3]))
+    return [(spent, peak_memory(row[2], row[3])) for row, spent in zip(rows, times)]
 
 
 def make_image(payload, image):
@@ -147,24 +155,37 @@ def fit_rows(uimg, folder):
     yield "verify 4 sums", "md5sum and 2 more", digests, text, INSIDE
 
 
+def bench_folder():
+    """A folder for the files, which goes away at the end."""
+    memory = "/dev/shm" if os.path.isdir("/dev/shm") else None
+    return tempfile.TemporaryDirectory(dir=os.environ.get("BENCH_DIR", memory))
+
+
+def print_kind(rows, widths):
+    """Measures the rows of one kind, and prints them."""
+    measured = measure_in_turn(rows)
+    beside = min(measured[-1][0])
+    for (kind, name, _, _, size), (times, peak) in zip(rows, measured):
+        best = min(times)
+        rate = f"{size / best / 1e6:.0f}" if size else ""
+        values = [kind, name, f"{best:.3f}", f"{statistics.median(times):.3f}", rate]
+        print_row([*values, peak if best > 0.01 else "", f"{best / beside:.2f}"], widths)
+
+
 def main():
     uimg, base = (os.path.abspath(path) for path in sys.argv[1:3])
-    with tempfile.TemporaryDirectory() as folder:
-        legacy = [(*row, SIZE) for row in legacy_rows(uimg, base, folder)]
-        measured = [
-            (kind, name, size, *measure(command, output))
-            for kind, name, command, output, size in itertools.chain(legacy, fit_rows(uimg, folder))
-            if shutil.which(command[0])
-        ]
-    beside = {kind: spent for kind, _, _, spent, _ in measured}
-    widths = [19, 20, 7, 5, 8, 11]
-    print_row(["What", "By", "seconds", "MB/s", "peak KiB", "time, ratio"], widths)
+    widths = [19, 20, 7, 7, 5, 8, 11]
+    print_row(["What", "By", "best s", "median", "MB/s", "peak KiB", "time, ratio"], widths)
     print("|" + "|".join("-" * (width + 2) for width in widths) + "|")
-    for kind, name, size, spent, peak in measured:
-        rate = f"{size / spent / 1e6:.0f}" if size else ""
-        print_row([kind, name, f"{spent:.3f}", rate, peak, f"{spent / beside[kind]:.2f}"], widths)
-    print(f"\nBest of {RUNS}; the ratio is to the last row of the same kind. Without another size the")
-    print(f"payload has {SIZE} bytes.")
+    with bench_folder() as folder:
+        legacy = ((*row, SIZE) for row in legacy_rows(uimg, base, folder))
+        rows = itertools.chain(legacy, fit_rows(uimg, folder))
+        installed = (row for row in rows if shutil.which(row[2][0]))
+        for _, kind in itertools.groupby(installed, key=lambda row: row[0]):
+            print_kind(list(kind), widths)
+    print(f"\nBest and median of {RUNS} runs, taken in turn; the ratio is of the best times, to the last row of the")
+    print(f"same kind. Without another size the payload has {SIZE} bytes. The memory of a command that ends")
+    print("within a hundredth of a second is not seen.")
 
 
 def print_row(values, widths):
