@@ -29,7 +29,7 @@ count=$(($(echo "$crates" | wc -l)))
 mkdir -p bin out && : > $log && : > "out/$program.begun" || exit 1
 
 echo "This proves the $count crates of $program, lowest first, and builds bin/$program."
-echo "It takes about 6 minutes on 4 cores the first time, and less from then on."
+echo "It takes up to half an hour on 4 cores the first time, and less from then on."
 echo "The log is $log."
 trap 'echo; echo "interrupted: the next make goes on from what is proved"; exit 130' INT
 at=0 begun=$(date +%s)
