@@ -48,28 +48,44 @@ abbrev pub with_root : {V : Type 0} → List ℕ → V → NodesOf V → NodesOf
 with_root key value no_node = no_node
 with_root key value (a_node name own below after) = a_node name (with key value own) below after
 
+-- The steps of filling are over any values: `read` gives the bytes of a value, `made` the value of bytes.
+
 -- the algorithm of a hash node, if its name is known
-abbrev pub algo_in : List Named → Option Algo
-algo_in own = option_and_then (λ name. algo_named (text name)) (first own (codes "algo"))
+abbrev pub algo_by : {V : Type 0} → (V → List ℕ) → List (NamedOf V) → Option Algo
+algo_by read own = option_and_then (λ name. algo_named (text (read name))) (first own (codes "algo"))
 
 -- a hash node with the digest of a payload; one whose algorithm is unknown stays
-abbrev pub with_digest : List ℕ → NodeOf (List ℕ) → NodeOf (List ℕ)
-with_digest message h = option_map_or (λ algo. record h { own = with (codes "value") (digest_by algo message) h.own }) (algo_in h.own) h
+abbrev pub with_digest_by : {V : Type 0} → (V → List ℕ) → (List ℕ → V) → List ℕ → NodeOf V → NodeOf V
+with_digest_by read made message h =
+    option_map_or (λ algo. record h { own = with (codes "value") (made (digest_by algo message)) h.own }) (algo_by read h.own) h
 
 -- a child of an image: a hash node with the digest, any other as it is
-abbrev pub hashed : List ℕ → NodeOf (List ℕ) → NodeOf (List ℕ)
-hashed message h = if is_hash h.name then with_digest message h else h
+abbrev pub hashed_by : {V : Type 0} → (V → List ℕ) → (List ℕ → V) → List ℕ → NodeOf V → NodeOf V
+hashed_by read made message h = if is_hash h.name then with_digest_by read made message h else h
 
 -- an image with the digests of its first `data`, and no place outside the blob
-abbrev pub filled_image : NodeOf (List ℕ) → NodeOf (List ℕ)
-filled_image image = record image {
+abbrev pub filled_image_by : {V : Type 0} → (V → List ℕ) → (List ℕ → V) → NodeOf V → NodeOf V
+filled_image_by read made image = record image {
   own = without_external image.own;
-  below = option_map_or (λ message. each (hashed message) image.below) (first image.own (codes "data")) image.below;
+  below = option_map_or (λ payload. each (hashed_by read made (read payload)) image.below) (first image.own (codes "data")) image.below;
 }
 
 -- a tree with a time and its images' digests
+abbrev pub filled_by : {V : Type 0} → (V → List ℕ) → (List ℕ → V) → ℕ → NodesOf V → NodesOf V
+filled_by read made time t = with_root (codes "timestamp") (made (word time)) (with_images (each (filled_image_by read made)) t)
+
+-- the same where the values are bytes
+abbrev pub algo_in : List Named → Option Algo
+algo_in own = algo_by (λ value. value) own
+
+abbrev pub hashed : List ℕ → NodeOf (List ℕ) → NodeOf (List ℕ)
+hashed message h = hashed_by (λ value. value) (λ value. value) message h
+
+abbrev pub filled_image : NodeOf (List ℕ) → NodeOf (List ℕ)
+filled_image image = filled_image_by (λ value. value) (λ value. value) image
+
 abbrev pub filled : ℕ → Nodes → Nodes
-filled time t = with_root (codes "timestamp") (word time) (with_images (each filled_image) t)
+filled time t = filled_by (λ value. value) (λ value. value) time t
 
 -- A hash node's algorithm is known and its first `value` is the digest of a payload.
 pub record IsDigest (message : List ℕ) (h : NodeOf (List ℕ)) : Type 0 where

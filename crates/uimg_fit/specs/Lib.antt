@@ -21,6 +21,8 @@ pub mod Allowances
 pub mod Filling
 pub mod Building
 pub mod Refusing
+pub mod FillAnswers
+pub mod BuildAnswers
 pub mod Sources
 pub mod ReadsBack
 pub mod Telling

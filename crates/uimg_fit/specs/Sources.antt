@@ -1,15 +1,19 @@
--- The same placing where payloads stay in their files.
-use Rattle.std.specs.Prelude.{ℕ, ◌+◌, List, [], ◌∷◌, if◌then◌else◌, codes}
+-- The same filling and placing where payloads stay in their files.
+use Rattle.std.specs.Prelude.{ℕ, ◌+◌, List, [], ◌∷◌, if◌then◌else◌, Option, codes}
 use Rattle.std.specs.Option.{option_map_or}
 use Rattle.std.specs.Str.{bytes_eq}
 use Rattle.uimg_texts.specs.Numbers.{up4}
 use Rattle.uimg_blob.specs.Plain.{NamedOf, no_node, a_node}
 use Rattle.uimg_tree.specs.Encoding.{word}
-use Rattle.uimg_tree.specs.Content.{Content, Unread, bytes, size_of}
+use Rattle.uimg_tree.specs.Content.{Content, Unread, bytes, bytes_in, size_of}
 use Rattle.uimg_fit.specs.declared.placement.Placement.{Placement}
 use Rattle.uimg_fit.specs.declared.placement.Placement.TheVariants.{Inside, After, At}
 use Rattle.uimg_blob.specs.LookUps.{first}
-use Rattle.uimg_fit.specs.Filling.{with_images}
+use Rattle.uimg_fit.specs.Filling.{with_images, filled_by}
+
+-- a tree with a time and its images' digests, where files have these bytes at their names: each file stays one
+abbrev pub filled_source : (List ℕ → Option (List ℕ)) → ℕ → Unread → Unread
+filled_source files time t = filled_by (bytes_in files) bytes time t
 
 -- properties, the first `data` moved to a place
 unfoldable pub source_own : List ℕ → ℕ → List (NamedOf Content) → List (NamedOf Content)

@@ -1,11 +1,13 @@
-//! FIT images: listing, verification and extraction.
+//! FIT images: listing, verification, extraction, filling and building.
 #![tactic(auto)]
 
 mod addresses;
+mod building;
 mod digests;
 mod extraction;
 mod fault;
 mod fields;
+mod filling;
 mod groups;
 mod hash_lines;
 mod hash_reports;
@@ -34,8 +36,10 @@ mod tree;
 mod walks;
 mod words;
 
+pub use building::build;
 pub use extraction::extract;
 pub use fault::{Fault, FitFault};
+pub use filling::fill;
 pub use listing::list;
 pub use placement::Placement;
 pub use report::verify;

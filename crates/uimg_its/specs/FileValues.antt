@@ -7,18 +7,7 @@ use Rattle.uimg_tree.specs.declared.tree.Node.{Node}
 use Rattle.uimg_tree.specs.Content.{Content, Unread, bytes, file, IsKept}
 use Rattle.uimg_its.specs.Parts.{FileBytes}
 
--- A file stands under the name `data` alone.
-abbrev pub StandsAtData : List ℕ → Content → Type 0
-StandsAtData n (bytes b) = ⊤
-StandsAtData n (file name size) = n ≡ codes "data"
-
--- Only properties named `data` are files, in all nodes.
-abbrev pub FilesAtData : Unread → Type 0
-FilesAtData no_node = ⊤
-FilesAtData (a_node name own below after) =
-    AllByRecursion (λ p. StandsAtData p.name p.value) own × FilesAtData below × FilesAtData after
-
--- The same of one value, and honest files have the file, with as many bytes as are kept of it.
+-- A file stands under the name `data` alone, and honest files have it, with as many bytes as are kept of it.
 abbrev pub IsSound : Bool → FileBytes → List ℕ → Content → Type 0
 IsSound honest files n (bytes b) = ⊤
 IsSound honest files n (file name size) = (n ≡ codes "data") × (IsTrue honest → IsKept files (file name size))

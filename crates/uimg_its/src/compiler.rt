@@ -1,12 +1,12 @@
 ghost use Rattle.std.specs.Prelude.{◌≡◌, ◌<◌, [], List, IfOk, IsTrue, length, false};
 ghost use Rattle.uimg_blob.specs.Plain.{Nodes};
-ghost use Rattle.uimg_tree.specs.Content.{AreKept, in_full};
+ghost use Rattle.uimg_tree.specs.Content.{AreKept, FilesAtData, in_full};
 ghost use Rattle.uimg_tree.specs.Trees.{node_of};
 ghost use Rattle.uimg_tree.specs.UsingFiles.{UsesFiles};
 ghost use Rattle.uimg_its.specs.Words.{Word, words};
 ghost use Rattle.uimg_its.specs.Answers.{Gives, is_outside, tells_no_file, is_no_file};
 ghost use Rattle.uimg_its.specs.Parts.{FileBytes, parts_of};
-ghost use Rattle.uimg_its.specs.FileValues.{IsSoundNode, FilesAtData};
+ghost use Rattle.uimg_its.specs.FileValues.{IsSoundNode};
 ghost use Rattle.uimg_its.specs.Seen.{word_of};
 ghost use Rattle.uimg_its.specs.Compiled.{Accepts, finds_no_file};
 ghost use Rattle.uimg_its.specs.Reader.{version, is_version, alone, source};

@@ -1,5 +1,6 @@
 -- What a tree is made of before its files are read.
-use Rattle.std.specs.Prelude.{◌≡◌, ℕ, suc, ◌+◌, List, [], length, Option, Some, unwrap_or, ⊤}
+use Rattle.std.specs.Prelude.{◌≡◌, ℕ, suc, ◌+◌, List, [], length, Option, Some, unwrap_or, ⊤, codes}
+use Rattle.std.specs.List.{AllByRecursion}
 use Rattle.uimg_blob.specs.Plain.{NodesOf, Nodes, no_node, a_node, with_values, AllValues}
 
 -- The value of a property: bytes, or those of the file of a name, which has so many.
@@ -38,6 +39,17 @@ AreKept files t = AllValues (IsKept files) t
 abbrev pub IsBytes : Content → Type 0
 IsBytes (bytes b) = ⊤
 IsBytes (file name size) = ⊥
+
+-- A file stands under the name `data` alone.
+abbrev pub StandsAtData : List ℕ → Content → Type 0
+StandsAtData n (bytes b) = ⊤
+StandsAtData n (file name size) = n ≡ codes "data"
+
+-- Only properties named `data` are files, in all nodes.
+abbrev pub FilesAtData : Unread → Type 0
+FilesAtData no_node = ⊤
+FilesAtData (a_node name own below after) =
+    AllByRecursion (λ p. StandsAtData p.name p.value) own × FilesAtData below × FilesAtData after
 
 -- how many nodes there are, those below each counted twice
 abbrev pub count : {V : Type 0} → NodesOf V → ℕ

@@ -1,0 +1,63 @@
+ghost use Rattle.std.specs.Prelude.{◌≡◌, IsTrue, OnOk, false};
+ghost use Rattle.uimg_base.specs.Device.{RisesIf};
+ghost use Rattle.uimg_tree.specs.Content.{AreKept, in_full};
+ghost use Rattle.uimg_tree.specs.Trees.{node_of};
+ghost use Rattle.uimg_tree.specs.UsingFiles.{UsesFiles};
+ghost use Rattle.uimg_fit.specs.BuildAnswers.{is_no_file, is_before_writing, BuildsAnswer};
+ghost use Rattle.uimg_fit.specs.Building.{built};
+ghost use Rattle.uimg_fit.specs.Faults.{is_put, is_read};
+ghost use Rattle.uimg_fit.specs.Filling.{IsFilled};
+ghost use Rattle.uimg_fit.specs.ReadsBack.{ReadsBack};
+
+use crate::fault::{Fault, FitFault};
+use crate::placement::Placement;
+use std::alloc::Allocator;
+use std::io::Write;
+use uimg_base::{Files, Out, Source};
+use uimg_tree::Tree;
+
+/// Builds the FIT image of a tree: its blob (Devicetree Specification, chapter 5), and behind it the
+/// payloads that do not stand in it (Flattened Image Tree format, "External data").
+///
+/// With `Inside` the tree is written as it is. With `After` and `At` two cells stand in the place of
+/// the first `data` of each image, `data-offset` or `data-position`, and `data-size`; the payloads
+/// follow in order, each padded with zeros to a multiple of 4, and zeros fill up to the position of
+/// the first. An image without `data` is left as it is.
+///
+/// All memory is taken, and all is refused, before the first byte: `BadNodeName` or
+/// `BadPropertyName` of the blob, at offset 0, for the first bad name in the order of writing;
+/// `TooLarge` where the blob has more than 4294967295 bytes; `PositionTooLow` where the payloads would
+/// begin before the blob's end; `TooLarge` where the file has more than 4294967295 bytes;
+/// `OutOfMemory` where memory was refused. `Put` comes exactly where a write failed, `NoFile` exactly
+/// where the open of a file was refused, `Read` where a read of one failed or its size is another than
+/// the tree keeps; over honest files of the kept sizes a prefix of the image was written then.
+///
+/// A file is opened once, when its payload is written, and goes through a window of 8192 bytes. The
+/// image of a filled tree verifies, and each payload is found in it.
+pub fn build<F: Files, W: Write, A: Allocator + Copy>(
+    alloc: A,
+    tree: &Tree<A>,
+    files: &mut F,
+    placement: Placement,
+    out: &mut Out<W>,
+) -> Result<(), Fault>
+    ensures files { UsesFiles (is_no_file result) (F.map files.old) (F.map files.new) }
+    ensures found { IsTrue (F.map files.old).complete →
+        AreKept (F.map files.old).bytes (node_of tree.now.root) → is_no_file result ≡ false }
+    ensures steady { IsTrue F.Opened.steady → IsTrue (F.map files.old).honest →
+        AreKept (F.map files.old).bytes (node_of tree.now.root) → is_read result ≡ false }
+    ensures faults { RisesIf (is_put result) out.old.faults out.new.faults }
+    ensures untouched { IsTrue (is_before_writing result) → out.new ≡ out.old }
+    ensures built { IsTrue (F.map files.old).honest →
+        AreKept (F.map files.old).bytes (node_of tree.now.root) →
+        BuildsAnswer (in_full (F.map files.old).bytes (node_of tree.now.root)) placement result
+        out.old out.new }
+    ensures reads_back { IsTrue (F.map files.old).honest →
+        AreKept (F.map files.old).bytes (node_of tree.now.root) →
+        IsFilled (in_full (F.map files.old).bytes (node_of tree.now.root)) →
+        OnOk result (ReadsBack
+        (built (in_full (F.map files.old).bytes (node_of tree.now.root)) placement)
+        (in_full (F.map files.old).bytes (node_of tree.now.root))) }
+{
+    Err(Fault::Fit(FitFault::OutOfMemory))
+}

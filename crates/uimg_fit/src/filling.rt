@@ -1,0 +1,45 @@
+ghost use Rattle.std.specs.Prelude.{◌≡◌, IsTrue, false};
+ghost use Rattle.uimg_tree.specs.Content.{AreKept, FilesAtData};
+ghost use Rattle.uimg_tree.specs.Trees.{node_of};
+ghost use Rattle.uimg_tree.specs.UsingFiles.{UsesFiles};
+ghost use Rattle.uimg_fit.specs.FillAnswers.{opens_no_file, fails_to_read, FillsAnswer};
+
+use crate::fault::FitFault;
+use std::alloc::Allocator;
+use uimg_base::{Files, Source};
+use uimg_tree::Tree;
+
+/// Fills a tree before it is built: sets the root's `timestamp`, removes `data-offset`, `data-size`
+/// and `data-position` of each image, and sets the `value` of each hash node to the digest of the
+/// image's first `data` (Flattened Image Tree format, "Hash nodes"). A property that is there is
+/// replaced in its place, a new one comes last. `time` is in seconds since 1970.
+///
+/// The caller sees to it that only properties named `data` are files. An image's file is opened once
+/// if the image has hash nodes, and read once through a window of 8192 bytes for all of them; it
+/// stays a file in the tree.
+///
+/// The first refusal ends it, and the tree is dropped: `NoImages`; then image by image `NoData`,
+/// `UnknownAlgo` of the first hash node whose `algo` is missing or unknown, `NoFile` exactly where the
+/// open of its file was refused, and `ReadFailed` where a read of it failed or it has another size
+/// than the tree keeps. `OutOfMemory` comes where memory for a property was refused.
+pub fn fill<F: Files, A: Allocator + Copy>(
+    alloc: A,
+    tree: Tree<A>,
+    time: u32,
+    files: &mut F,
+) -> Result<Tree<A>, FitFault>
+    requires { FilesAtData (node_of tree.root) }
+    // The files are what they were, and `NoFile` comes exactly where they refused an open.
+    ensures files { UsesFiles (opens_no_file result) (F.map files.old) (F.map files.new) }
+    ensures found { IsTrue (F.map files.old).complete →
+        AreKept (F.map files.old).bytes (node_of tree.root) → opens_no_file result ≡ false }
+    ensures steady { IsTrue F.Opened.steady → IsTrue (F.map files.old).honest →
+        AreKept (F.map files.old).bytes (node_of tree.root) → fails_to_read result ≡ false }
+    // The tree is filled, and each file stays as it stands; or the first fault is answered.
+    ensures filled { IsTrue (F.map files.old).honest →
+        AreKept (F.map files.old).bytes (node_of tree.root) →
+        FillsAnswer (λ filled. node_of filled.root) (F.map files.old).bytes time
+        (node_of tree.root) result }
+{
+    Err(FitFault::OutOfMemory)
+}
