@@ -155,6 +155,29 @@ def fit_rows(uimg, folder):
     yield "verify 4 sums", "md5sum and 2 more", digests, text, INSIDE
 
 
+def build_rows(uimg, folder):
+    """What is timed of the building of FIT images from source: the same."""
+    part, big = os.path.join(folder, "part.bin"), os.path.join(folder, "payload.bin")
+    four = [fits.source_image(0, fits.included(part), ["crc32", "md5", "sha1", "sha256"])]
+    one = [fits.source_image(0, fits.included(big), ["sha256"])]
+    small = fits.write_small_files(folder, 1000, 4096)
+    # dtc reads fewer than 10000 nodes side by side.
+    nodes = [fits.source_image(number, "[61 62 63]", [], 3) for number in range(5000)]
+    built, text = os.path.join(folder, "built.itb"), os.path.join(folder, "text")
+    for kind, images, words, size in (
+        ("64 MiB in, 4 sums", four, [], INSIDE),
+        ("512 MiB out, sha256", one, ["-E"], OUTSIDE),
+        ("1000 of 4 KiB", small, [], 1000 * 4096),
+        ("20005 nodes", nodes, [], 0),
+    ):
+        path = os.path.join(folder, f"{len(images)}-{size}.its")
+        fits.write_source(path, images)
+        make = ["mkimage", *words, "-f", path, built]
+        yield f"build {kind}", "uimg mkimage -f", [uimg, *make], text, size
+        yield f"build {kind}", "dtc alone", ["dtc", "-q", "-o", built, path], text, size
+        yield f"build {kind}", "mkimage -f", make, text, size
+
+
 def bench_folder():
     """A folder for the files, which goes away at the end."""
     memory = "/dev/shm" if os.path.isdir("/dev/shm") else None
@@ -174,12 +197,12 @@ def print_kind(rows, widths):
 
 def main():
     uimg, base = (os.path.abspath(path) for path in sys.argv[1:3])
-    widths = [19, 20, 7, 7, 5, 8, 11]
+    widths = [25, 20, 7, 7, 5, 8, 11]
     print_row(["What", "By", "best s", "median", "MB/s", "peak KiB", "time, ratio"], widths)
     print("|" + "|".join("-" * (width + 2) for width in widths) + "|")
     with bench_folder() as folder:
         legacy = ((*row, SIZE) for row in legacy_rows(uimg, base, folder))
-        rows = itertools.chain(legacy, fit_rows(uimg, folder))
+        rows = itertools.chain(legacy, fit_rows(uimg, folder), build_rows(uimg, folder))
         installed = (row for row in rows if shutil.which(row[2][0]))
         for _, kind in itertools.groupby(installed, key=lambda row: row[0]):
             print_kind(list(kind), widths)

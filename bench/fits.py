@@ -1,6 +1,7 @@
-"""FIT images for the benchmark, written without any tool."""
+"""FIT images for the benchmark, written without any tool, and sources of some that tools build."""
 
 import hashlib
+import os
 import struct
 import zlib
 
@@ -89,3 +90,40 @@ def write_outside(path, data, count):
         file.write(fit([image("kernel", payload, [])]))
         for _ in range(count):
             file.write(data)
+
+
+def source(images):
+    """Image-tree source of these images, with two configurations."""
+    below = "".join(f'conf-{number} {{ kernel = "kernel-0"; }};\n' for number in range(2))
+    configurations = 'configurations {\ndefault = "conf-0";\n' + below + "};\n"
+    body = 'description = "bench";\nimages {\n' + "".join(images) + "};\n" + configurations
+    return "/dts-v1/;\n/ {\n" + body + "};\n"
+
+
+def source_image(number, data, algos, notes=0):
+    """Source of one image, with a hash node for each algorithm and so many other nodes."""
+    nodes = [f'hash-{i} {{ algo = "{algo}"; }};' for i, algo in enumerate(algos)]
+    nodes += [f'note-{i} {{ description = "n"; }};' for i in range(notes)]
+    fields = ['type = "kernel";', 'arch = "arm64";', 'os = "linux";', 'compression = "none";']
+    lines = [f"data = {data};", *fields, "load = <0x80000>;", "entry = <0x80000>;", *nodes]
+    return f"kernel-{number} {{ " + " ".join(lines) + " };\n"
+
+
+def included(path):
+    return f'/incbin/("{path}")'
+
+
+def write_source(path, images):
+    with open(path, "w") as file:
+        file.write(source(images))
+
+
+def write_small_files(folder, count, size):
+    """Files of so many bytes each, and source of an image of each, with its sha256."""
+    images = []
+    for number in range(count):
+        path = os.path.join(folder, f"small-{number}.bin")
+        with open(path, "wb") as file:
+            file.write(hashlib.sha256(str(number).encode()).digest() * (size // 32))
+        images.append(source_image(number, included(path), ["sha256"]))
+    return images

@@ -6,7 +6,9 @@ alike, verifies them, and unpacks them to the bytes that went in. Then it builds
 type, architecture, operating system and compression with both, and shows that they are the same
 byte for byte, and that the real tools accept them. Where dtc is installed too it makes FIT images with the real
 mkimage, which needs it, and shows that uimg lists them alike, finds every hash right, unpacks their
-payloads, and finds the hashes wrong of a payload that was changed; and it compares the compiling of
+payloads, and finds the hashes wrong of a payload that was changed; it builds the same FIT images from
+their sources with both, and shows that the trees are the same, that every hash is that of the digest
+tools, and that the real tools list and unpack what uimg built; and it compares the compiling of
 image-tree source with dtc. It prints tables of what was compared, and every difference; it installs
 nothing.
 """
@@ -19,7 +21,9 @@ import sys
 import tempfile
 
 import fit
+import fit_builds
 import its
+from counting import Count, output
 
 SINGLE = ["standalone", "kernel", "ramdisk", "firmware", "filesystem", "kernel_noload"]
 PARTS = ["multi", "script"]
@@ -70,25 +74,9 @@ def real_image(folder, image, kind, code, name, time, addresses, parts):
     subprocess.run(command, env=environment, check=True, capture_output=True)
 
 
-def output(command):
-    """The status and standard output of a command, in UTC."""
-    done = subprocess.run(command, env=dict(os.environ, TZ="UTC"), capture_output=True)
-    return done.returncode, done.stdout
-
-
 def listing(text):
     """The lines of a listing that both tools have: mkimage's `Offset` lines are left out."""
     return [line for line in text.split(b"\n") if b"Offset = " not in line]
-
-
-class Count:
-    def __init__(self):
-        self.images = 0
-        self.differences = []
-
-    def expect(self, what, here, there):
-        if here != there:
-            self.differences.append((what, here, there))
 
 
 def compare(count, uimg, folder, kind, code, name, time, addresses, parts):
@@ -279,17 +267,18 @@ def compare_fits(uimg, placement):
 
 
 def print_fits(uimg):
-    """The table of the FIT images. It gives the differences."""
+    """The tables of the FIT images. It gives the differences."""
     if shutil.which("dtc") is None:
         print("\npeers: dtc is not installed (Debian: device-tree-compiler); no FIT was compared")
         return []
-    print("\n| Payloads of a FIT | Images read, in 60 FITs | Differences |")
-    print("|---|---|---|")
+    print("\n| Payloads of a FIT | Images read, in 60 FITs | Differences | Images built by both | Differences |")
+    print("|---|---|---|---|---|")
     differences = []
     for name, placement in PLACEMENTS:
-        count = compare_fits(uimg, placement)
-        print(f"| {name} | {count.images} | {len(count.differences)} |", flush=True)
-        differences += count.differences
+        read, made = compare_fits(uimg, placement), fit_builds.compare_builds(uimg, placement)
+        row = [read.images, len(read.differences), made.images, len(made.differences)]
+        print(f"| {name} | {' | '.join(str(value) for value in row)} |", flush=True)
+        differences += read.differences + made.differences
     return differences
 
 

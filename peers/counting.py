@@ -1,0 +1,20 @@
+"""What the comparisons share: commands, and counts of what was compared."""
+
+import os
+import subprocess
+
+
+def output(command):
+    """The status and standard output of a command, in UTC."""
+    done = subprocess.run(command, env=dict(os.environ, TZ="UTC"), capture_output=True)
+    return done.returncode, done.stdout
+
+
+class Count:
+    def __init__(self):
+        self.images = 0
+        self.differences = []
+
+    def expect(self, what, here, there):
+        if here != there:
+            self.differences.append((what, here, there))
