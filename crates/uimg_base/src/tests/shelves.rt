@@ -63,7 +63,7 @@ fn a_file_is_made_by_the_first_write(rt: HostRuntime) -> Result<(), Fail> {
     shelf.flush()?;
     assert!(rt; !fs::exists(&rt, path)?);
     shelf.write_all(b"ab")?;
-    assert_eq!(rt; fs::read(&rt, path)?.as_slice(), b"ab".as_slice());
+    assert!(rt; fs::exists(&rt, path)?);
     shelf.write_all(b"cde")?;
     shelf.flush()?;
     assert_eq!(rt; fs::read(&rt, path)?.as_slice(), b"abcde".as_slice());
@@ -108,6 +108,34 @@ fn a_file_that_cannot_be_made_is_a_failed_write(rt: HostRuntime) -> Result<(), F
         assert!(rt; shelf.keep().is_err());
     }
     assert!(rt; !fs::exists(&rt, "shelf_no")?);
+    Ok(())
+}
+
+// Small writes are gathered, one of 8192 bytes goes straight to the file, behind what was gathered.
+#[test]
+fn large_writes_go_straight_to_the_file(rt: HostRuntime) -> Result<(), Fail> {
+    let path = "shelf_large.bin";
+    let mut shelf = FileShelf::new(&rt, path);
+    shelf.write_all(b"head")?;
+    assert_eq!(rt; fs::read(&rt, path)?.len(), 0);
+    shelf.write_all(&[b'a'; 8192])?;
+    assert_eq!(rt; fs::read(&rt, path)?.len(), 8196);
+    shelf.write_all(b"tail")?;
+    let mut kept = shelf.keep()?;
+    assert_eq!(rt; kept.size()?, 8200);
+    assert!(rt; reads_as(&mut kept, 2, b"adaa"));
+    assert!(rt; reads_as(&mut kept, 8194, b"aatail"));
+    fs::remove_file(&rt, path)?;
+    Ok(())
+}
+
+// A full device takes no byte: what was gathered for it is told when it is written.
+#[test]
+fn a_full_device_is_told_by_the_flush(rt: HostRuntime) -> Result<(), Fail> {
+    let mut shelf = FileShelf::new(&rt, "/dev/full");
+    shelf.write_all(b"abc")?;
+    assert!(rt; shelf.flush().is_err());
+    assert!(rt; shelf.keep().is_err());
     Ok(())
 }
 
