@@ -13,6 +13,7 @@ use Rattle.uimg_blob.specs.Spots.{Spot}
 use Rattle.uimg_blob.proofs.PhaseLaws.{some_none, some_some, by_bool, true_false}
 use Rattle.uimg_fit.specs.Files.{bytes_of, root_own}
 use Rattle.uimg_fit.specs.Allowances.{text_size, text_sizes, allowance, node_allowance}
+use Rattle.uimg_fit.specs.FieldTexts.{size_of}
 
 -- one that is found
 found_le : {X : Type 0} (f : X → ℕ) (p : X → Bool) (xs : List X) (x : X) → find p xs ≡ Some x → f x ≤ sum_by f xs
@@ -118,10 +119,6 @@ children_allowed n = omega (arith, children_of n)
 -- the hash nodes of an image
 pub hashes_allowed : (image : NodeOf Spot) → sum_by node_allowance (hashes image) + (760 + 4 * text_sizes image.own) ≤ node_allowance image
 hashes_allowed image = omega (arith, children_of image, kept_le node_allowance (λ h. is_hash h.name) (listed image.below))
-
--- the length of a value, 0 where there is none
-abbrev pub size_of : List (NamedOf Spot) → List ℕ → ℕ
-size_of own key = option_map_or length (bytes_of own key) 0
 
 named_size : (key : List ℕ) (p : NamedOf Spot) → is_text key ≡ true → bytes_eq key p.name ≡ true → text_size p ≡ length p.value.bytes
 named_size key p text same =

@@ -22,7 +22,8 @@ use Rattle.uimg_fit.specs.Files.{bytes_of, bytes_in, root_own}
 use Rattle.uimg_fit.specs.Heads.{span_size}
 use Rattle.uimg_fit.specs.ListingParts.{configurations_allowance, body_allowance}
 use Rattle.uimg_fit.proofs.AllowanceLaws.{tree-paid}
-use Rattle.uimg_fit.proofs.SharesLaws.{size_of, images_allowed, both_allowed}
+use Rattle.uimg_fit.specs.FieldTexts.{size_of}
+use Rattle.uimg_fit.proofs.SharesLaws.{images_allowed, both_allowed}
 
 size_by : (o : Option Spot) → span_size (option_map value_span o) ≡ option_map_or length (option_map (λ s. s.bytes) o) 0
 size_by None = refl

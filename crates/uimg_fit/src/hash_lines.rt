@@ -36,7 +36,7 @@ pub(crate) fn put_span<S: Source, A: Allocator, W: Write>(
     requires { span.place + span.length ≤ length (S.device source.old).bytes }
     ensures uses { Asks span.length (is_read result) (S.device source.old) (S.device source.new) }
     ensures room { room.new ≡ room.old }
-    ensures kept { is_refused result ≡ false }
+    ensures not_refused { is_refused result ≡ false }
     ensures faults { RisesIf (is_put result) out.old.faults out.new.faults }
     ensures told { IsTrue (S.device source.old).honest → Written (is_err result) out.old out.new
         (slice (S.device source.old).bytes span.place span.length) }
@@ -56,7 +56,7 @@ fn put_name<S: Source, A: Allocator, W: Write>(
     requires { span.place + span.length ≤ length (S.device source.old).bytes }
     ensures uses { Asks span.length (is_read result) (S.device source.old) (S.device source.new) }
     ensures room { room.new ≡ room.old }
-    ensures kept { is_refused result ≡ false }
+    ensures not_refused { is_refused result ≡ false }
     ensures faults { RisesIf (is_put result) out.old.faults out.new.faults }
     ensures told { IsTrue (S.device source.old).honest → Written (is_err result) out.old out.new
         (slice (S.device source.old).bytes span.place span.length ++ codes " ") }
@@ -77,7 +77,7 @@ fn put_algo<S: Source, A: Allocator, W: Write>(
     ensures uses { Asks (span_length algo) (is_read result)
         (S.device source.old) (S.device source.new) }
     ensures room { room.new ≡ room.old }
-    ensures kept { is_refused result ≡ false }
+    ensures not_refused { is_refused result ≡ false }
     ensures faults { RisesIf (is_put result) out.old.faults out.new.faults }
     ensures told { IsTrue (S.device source.old).honest → Written (is_err result) out.old out.new
         (algo_text (S.device source.old).bytes algo) }
@@ -109,7 +109,7 @@ fn put_names<S: Source, A: Allocator, W: Write>(
     ensures uses { Asks (line.image.length + line.hash.length)
         (is_read result) (S.device source.old) (S.device source.new) }
     ensures room { room.new ≡ room.old }
-    ensures kept { is_refused result ≡ false }
+    ensures not_refused { is_refused result ≡ false }
     ensures faults { RisesIf (is_put result) out.old.faults out.new.faults }
     ensures told { IsTrue (S.device source.old).honest → Written (is_err result) out.old out.new
         (names_text (S.device source.old).bytes line) }
@@ -131,7 +131,7 @@ fn put_end<S: Source, A: Allocator, W: Write>(
     ensures uses { Asks (span_length line.algo) (is_read result)
         (S.device source.old) (S.device source.new) }
     ensures room { room.new ≡ room.old }
-    ensures kept { is_refused result ≡ false }
+    ensures not_refused { is_refused result ≡ false }
     ensures faults { RisesIf (is_put result) out.old.faults out.new.faults }
     ensures told { IsTrue (S.device source.old).honest → Written (is_err result) out.old out.new
         (end_text (S.device source.old).bytes line) }
@@ -156,7 +156,7 @@ pub(crate) fn put_hash_line<S: Source, A: Allocator, W: Write>(
     ensures uses { Asks (line.image.length + line.hash.length + span_length line.algo)
         (is_read result) (S.device source.old) (S.device source.new) }
     ensures room { room.new ≡ room.old }
-    ensures kept { is_refused result ≡ false }
+    ensures not_refused { is_refused result ≡ false }
     ensures faults { RisesIf (is_put result) out.old.faults out.new.faults }
     ensures told { IsTrue (S.device source.old).honest → Written (is_err result) out.old out.new
         (hash_text (S.device source.old).bytes line) }
@@ -177,7 +177,7 @@ pub(crate) fn put_unhashed<S: Source, A: Allocator, W: Write>(
     requires { image.place + image.length ≤ length (S.device source.old).bytes }
     ensures uses { Asks image.length (is_read result) (S.device source.old) (S.device source.new) }
     ensures room { room.new ≡ room.old }
-    ensures kept { is_refused result ≡ false }
+    ensures not_refused { is_refused result ≡ false }
     ensures faults { RisesIf (is_put result) out.old.faults out.new.faults }
     ensures told { IsTrue (S.device source.old).honest → Written (is_err result) out.old out.new
         (slice (S.device source.old).bytes image.place image.length

@@ -34,7 +34,7 @@ fn report_found<S: Source, A: Allocator, W: Write>(
     requires payload { place.at + place.size ≤ length (S.device source.old).bytes }
     ensures uses { Uses (is_read result) (S.device source.old) (S.device source.new) }
     ensures room { room.new ≡ room.old }
-    ensures kept { is_refused result ≡ false }
+    ensures not_refused { is_refused result ≡ false }
     ensures faults { RisesIf (is_put result) out.old.faults out.new.faults }
     ensures told { IsTrue (S.device source.old).honest → (t : Siblings) →
         IsRead (S.device source.old).bytes blob.now room.old.entries t →

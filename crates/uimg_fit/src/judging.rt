@@ -59,7 +59,7 @@ fn put_judged<S: Source, A: Allocator, W: Write>(
     requires name { image.place + image.length ≤ length (S.device source.old).bytes }
     ensures uses { Uses (is_read result) (S.device source.old) (S.device source.new) }
     ensures room { room.new ≡ room.old }
-    ensures kept { is_refused result ≡ false }
+    ensures not_refused { is_refused result ≡ false }
     ensures faults { RisesIf (is_put result) out.old.faults out.new.faults }
     ensures told { IsTrue (S.device source.old).honest → (t : Siblings) →
         IsRead (S.device source.old).bytes blob.now room.old.entries t →
@@ -96,7 +96,7 @@ pub(crate) fn put_hash<S: Source, A: Allocator, W: Write>(
     requires name { image.place + image.length ≤ length (S.device source.old).bytes }
     ensures uses { Uses (is_read result) (S.device source.old) (S.device source.new) }
     ensures room { room.new ≡ room.old }
-    ensures kept { is_refused result ≡ false }
+    ensures not_refused { is_refused result ≡ false }
     ensures faults { RisesIf (is_put result) out.old.faults out.new.faults }
     ensures told { IsTrue (S.device source.old).honest → (t : Siblings) →
         IsRead (S.device source.old).bytes blob.now room.old.entries t →

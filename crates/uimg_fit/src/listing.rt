@@ -90,7 +90,7 @@ fn list_body<S: Source, A: Allocator, W: Write>(
     requires { InFile (length (S.device source.old).bytes) blob.now room.old.entries }
     ensures uses { Uses (is_read result) (S.device source.old) (S.device source.new) }
     ensures room { room.new ≡ room.old }
-    ensures kept { is_out_of_memory result ≡ false }
+    ensures memory { is_out_of_memory result ≡ false }
     ensures faults { RisesIf (is_put result) out.old.faults out.new.faults }
     ensures told { IsTrue (S.device source.old).honest → (t : Siblings) →
         IsRead (S.device source.old).bytes blob.now room.old.entries t →

@@ -119,7 +119,7 @@ pub(crate) fn payload_place<S: Source, A: Allocator>(
     requires inside { InFile (length (S.device source.old).bytes) blob.now room.now.entries }
     ensures uses { Asks 12 (is_read result) (S.device source.old) (S.device source.new) }
     ensures no_put { is_put result ≡ false }
-    ensures no_refused_memory { is_out_of_memory result ≡ false }
+    ensures memory { is_out_of_memory result ≡ false }
     ensures inside { IfOk result (λ p. p.at + p.size ≤ length (S.device source.old).bytes) }
     ensures told { IsTrue (S.device source.old).honest → (t : Siblings) →
         IsRead (S.device source.old).bytes blob.now room.now.entries t → (found : NodeOf Spot) →

@@ -48,7 +48,7 @@ fn put_next<S: Source, A: Allocator, W: Write>(
     requires name { image.place + image.length ≤ length (S.device source.old).bytes }
     ensures uses { Uses (is_read result) (S.device source.old) (S.device source.new) }
     ensures room { room.new ≡ room.old }
-    ensures kept { is_refused result ≡ false }
+    ensures not_refused { is_refused result ≡ false }
     ensures faults { RisesIf (is_put result) out.old.faults out.new.faults }
     ensures within { IfOk result (λ w. IfSome w.next (λ i. i < length room.old.entries)) }
     ensures few { IfOk result (λ w. w.used ≤ walk.used + 1) }
@@ -95,7 +95,7 @@ pub(crate) fn put_group<S: Source, A: Allocator, W: Write>(
     requires name { image.place + image.length ≤ length (S.device source.old).bytes }
     ensures uses { Uses (is_read result) (S.device source.old) (S.device source.new) }
     ensures room { room.new ≡ room.old }
-    ensures kept { is_refused result ≡ false }
+    ensures not_refused { is_refused result ≡ false }
     ensures faults { RisesIf (is_put result) out.old.faults out.new.faults }
     ensures within { IfOk result (λ w. IfSome w.next (λ i. i < length room.old.entries)) }
     ensures later { IfOk result (λ w. IfSome w.next (λ i. first < i)) }

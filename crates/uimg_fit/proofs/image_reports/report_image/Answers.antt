@@ -7,7 +7,7 @@ use Rattle.uimg_fit.proofs.ImageReportLaws.{image_told, image_cut, keeps_memory}
 use Rattle.uimg_fit.proofs.image_reports.report_image.Goals as goal
 
 pub returns-in-Ok-clause-memory : goal.returns-in-Ok-clause-memory
-returns-in-Ok-clause-memory g c = keeps_memory c.report_found.result c.report_found.ensures.kept
+returns-in-Ok-clause-memory g c = keeps_memory c.report_found.result c.report_found.ensures.not_refused
 
 pub returns-in-Ok-clause-told : goal.returns-in-Ok-clause-told
 returns-in-Ok-clause-told g c = λ honest t read found n.
@@ -21,7 +21,7 @@ returns-in-Ok-clause-told g c = λ honest t read found n.
     let told = subst (λ (xs : List ℕ). ReportsFound found (slice xs place.at place.size) place.size (d c.payload_place.new.source).asked (d c.report_found.new.source).asked c.report_found.result c.args.out.now c.report_found.new.out)
     same.bytes (c.report_found.ensures.told now t here found n) in
     image_told file found message place.size (d c.args.source.now).asked (d c.payload_place.new.source).asked (d c.report_found.new.source).asked c.report_found.result c.args.out.now c.report_found.new.out
-    (c.in-Ok.ensures.told honest t read found n) (length-slice file place.at place.size c.in-Ok.ensures.inside) c.payload_place.ensures.uses.asked c.report_found.ensures.kept told
+    (c.in-Ok.ensures.told honest t read found n) (length-slice file place.at place.size c.in-Ok.ensures.inside) c.payload_place.ensures.uses.asked c.report_found.ensures.not_refused told
 
 pub returns-in-Err-clause-told : goal.returns-in-Err-clause-told
 returns-in-Err-clause-told g c = λ honest t read found n.
