@@ -32,3 +32,4 @@ pub mod FieldLaws
 pub mod TellingLaws
 pub mod ListingLaws
 pub mod WithinLaws
+pub mod BehindLaws

@@ -29,3 +29,4 @@ pub mod Telling
 pub mod NodeLines
 pub mod Heads
 pub mod ListingParts
+pub mod Behind
