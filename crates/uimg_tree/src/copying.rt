@@ -1,5 +1,4 @@
 ghost use Rattle.std.specs.Prelude.{◌≡◌, IfOk};
-ghost use Rattle.uimg_tree.specs.Trees.{node_of};
 
 use crate::byte_list::ByteList;
 use crate::nodes::ThisNode;
@@ -79,4 +78,17 @@ pub fn copy_node<A: Allocator + Copy>(alloc: A, node: &Node<A>) -> Result<Node<A
     ensures { IfOk result (λ copy. copy ≡ node.now) }
 {
     copy_this(alloc, ThisNode { node })
+}
+
+/// A copy of nodes and of those below them. `AllocError` comes only where memory was refused. The depth
+/// of its calls is that of the nodes.
+pub fn copy_nodes<A: Allocator + Copy>(alloc: A, nodes: &Nodes<A>) -> Result<Nodes<A>, AllocError>
+    ensures { IfOk result (λ copy. copy ≡ nodes.now) }
+{
+    let mut copies = Vec::new(alloc);
+    for node in nodes.items() {
+        let copy = copy_this(alloc, ThisNode { node })?;
+        copies.push(copy)?;
+    }
+    Ok(Nodes::of(copies))
 }

@@ -21,7 +21,7 @@ mod words;
 mod writing;
 
 pub use byte_list::ByteList;
-pub use copying::{copy_bytes, copy_node, copy_properties, copy_property, copy_value};
+pub use copying::{copy_bytes, copy_node, copy_nodes, copy_properties, copy_property, copy_value};
 pub use fault::TreeFault;
 pub use layout::Layout;
 pub use measuring::measure;
