@@ -33,3 +33,4 @@ pub mod TellingLaws
 pub mod ListingLaws
 pub mod WithinLaws
 pub mod BehindLaws
+pub mod PlacingLaws

@@ -30,3 +30,4 @@ pub mod NodeLines
 pub mod Heads
 pub mod ListingParts
 pub mod Behind
+pub mod Placing
