@@ -34,3 +34,5 @@ pub mod FieldLaws
 pub mod TellingLaws
 pub mod ListingLaws
 pub mod WithinLaws
+pub mod BehindLaws
+pub mod PlacingLaws

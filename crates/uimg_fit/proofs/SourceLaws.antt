@@ -40,7 +40,7 @@ module _ (files : List ℕ → Option (List ℕ)) where
   room-step None kept = refl
   room-step (Some c) kept = length-padded (read c) ∙ ap (λ (n : ℕ). up4 n) (kept-size files c kept)
 
-  room-same : (own : List (NamedOf Content)) → AllByRecursion (λ p. IsKept files p.value) own → length (padded (data_of (map (with_value read) own))) ≡ room_of own
+  pub room-same : (own : List (NamedOf Content)) → AllByRecursion (λ p. IsKept files p.value) own → length (padded (data_of (map (with_value read) own))) ≡ room_of own
   room-same own kept =
       ap (λ (o : Option (List ℕ)). length (padded (unwrap_or o []))) (first-with read own (codes "data"))
       ∙ room-step (first own (codes "data")) (first-has (IsKept files) own (codes "data") kept)

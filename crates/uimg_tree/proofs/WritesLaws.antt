@@ -13,7 +13,7 @@ use Rattle.uimg_base.proofs.WritingLaws.{written_then}
 use Rattle.uimg_tree.specs.declared.fault.TreeFault.{TreeFault}
 use Rattle.uimg_tree.specs.declared.fault.TreeFault.TheVariants.{Put}
 use Rattle.uimg_tree.specs.Content.{Content, bytes, bytes_in, IsKept, IsBytes}
-use Rattle.uimg_tree.specs.Faults.{is_put, is_no_file}
+use Rattle.uimg_tree.specs.Faults.{is_put, is_no_file, is_read}
 use Rattle.uimg_tree.specs.Pieces.{WritesPieces}
 
 -- the answer of a call that writes
@@ -52,9 +52,9 @@ same-files a b c p q = record { bytes = q.bytes ∙ p.bytes; honest = q.honest �
 pub rises-then : (e : Bool) (a b c : ℕ) → b ≡ a → RisesIf e b c → RisesIf e a c
 rises-then e a b c p q = subst (λ (n : ℕ). RisesIf e n c) p q
 
-module _ (r : Answer) (m n k : FileMap) (s t u : Sink) (xs ys : List Content) where
+module _ (steady : Bool) (r : Answer) (m n k : FileMap) (s t u : Sink) (xs ys : List Content) where
   -- the first pieces, and then the others
-  pub goes : WritesPieces went_well m n s t xs → WritesPieces r n k t u ys → WritesPieces r m k s u (xs ++ ys)
+  pub goes : WritesPieces steady went_well m n s t xs → WritesPieces steady r n k t u ys → WritesPieces steady r m k s u (xs ++ ys)
   goes p q =
       let same = p.files.same in
       record {
@@ -63,6 +63,9 @@ module _ (r : Answer) (m n k : FileMap) (s t u : Sink) (xs ys : List Content) wh
         found = λ complete kept.
             let later = subst (λ (f : List ℕ → Option (List ℕ)). AllByRecursion (IsKept f) ys) (sym same.bytes) (all-second (IsKept m.bytes) xs ys kept) in
             q.found (subst IsTrue (sym same.complete) complete) later;
+        reads = λ always honest kept.
+            let later = subst (λ (f : List ℕ → Option (List ℕ)). AllByRecursion (IsKept f) ys) (sym same.bytes) (all-second (IsKept m.bytes) xs ys kept) in
+            q.reads always (subst IsTrue (sym same.honest) honest) later;
         in_memory = λ embedded. q.in_memory (all-second IsBytes xs ys embedded);
         kept = λ honest.
             let later = subst (λ (f : List ℕ → Option (List ℕ)). OnFalse (is_err r) (AllByRecursion (IsKept f) ys)) same.bytes (q.kept (subst IsTrue (sym same.honest) honest)) in
@@ -78,11 +81,12 @@ module _ (r : Answer) (m n k : FileMap) (s t u : Sink) (xs ys : List Content) wh
       kept-both false h k = all-both (IsKept m.bytes) xs ys h k
 
 -- a refusal in the first pieces
-pub stops : (f : TreeFault) (m n : FileMap) (s t : Sink) (xs ys : List Content) → WritesPieces (failed f) m n s t xs → WritesPieces (failed f) m n s t (xs ++ ys)
-stops f m n s t xs ys p = record {
+pub stops : (steady : Bool) (f : TreeFault) (m n : FileMap) (s t : Sink) (xs ys : List Content) → WritesPieces steady (failed f) m n s t xs → WritesPieces steady (failed f) m n s t (xs ++ ys)
+stops steady f m n s t xs ys p = record {
   files = p.files;
   faults = p.faults;
   found = λ complete kept. p.found complete (all-first (IsKept m.bytes) xs ys kept);
+  reads = λ always honest kept. p.reads always honest (all-first (IsKept m.bytes) xs ys kept);
   in_memory = λ embedded. p.in_memory (all-first IsBytes xs ys embedded);
   kept = λ honest. p.kept honest;
   written = λ honest. subst (λ (w : List ℕ). Written true s t w) (sym (flat_map-both (bytes_in m.bytes) xs ys)) (record {
@@ -92,41 +96,44 @@ stops f m n s t xs ys p = record {
 }
 
 -- nothing is written, and no file opened
-pub nothing : (m : FileMap) (s : Sink) → WritesPieces went_well m m s s []
-nothing m s = record {
+pub nothing : (steady : Bool) (m : FileMap) (s : Sink) → WritesPieces steady went_well m m s s []
+nothing steady m s = record {
   files = record { same = record { bytes = refl; honest = refl; complete = refl }; refusals = refl };
   faults = refl;
   found = λ complete kept. refl;
+  reads = λ always honest kept. refl;
   in_memory = λ embedded. refl;
   kept = λ honest. tt;
   written = λ honest. record { all = record { appended = Appends-none s.contents }; prefix = prefix_none s [] };
 }
 
 -- bytes that are put are a piece
-pub puts-all : (m : FileMap) (s t : Sink) (b : List ℕ) → Writes false s t b → WritesPieces went_well m m s t (bytes b ∷ [])
-puts-all m s t b p = record {
+pub puts-all : (steady : Bool) (m : FileMap) (s t : Sink) (b : List ℕ) → Writes false s t b → WritesPieces steady went_well m m s t (bytes b ∷ [])
+puts-all steady m s t b p = record {
   files = record { same = record { bytes = refl; honest = refl; complete = refl }; refusals = refl };
   faults = p.faults;
   found = λ complete kept. refl;
+  reads = λ always honest kept. refl;
   in_memory = λ embedded. refl;
   kept = λ honest. (tt, tt);
   written = λ honest. subst (λ (w : List ℕ). Written false s t w) (sym (append-nil b)) (record { all = p.all; prefix = p.prefix });
 }
 
-pub puts-prefix : (m : FileMap) (s t : Sink) (b : List ℕ) → Writes true s t b → WritesPieces (failed Put) m m s t (bytes b ∷ [])
-puts-prefix m s t b p = record {
+pub puts-prefix : (steady : Bool) (m : FileMap) (s t : Sink) (b : List ℕ) → Writes true s t b → WritesPieces steady (failed Put) m m s t (bytes b ∷ [])
+puts-prefix steady m s t b p = record {
   files = record { same = record { bytes = refl; honest = refl; complete = refl }; refusals = refl };
   faults = p.faults;
   found = λ complete kept. refl;
+  reads = λ always honest kept. refl;
   in_memory = λ embedded. refl;
   kept = λ honest. tt;
   written = λ honest. subst (λ (w : List ℕ). Written true s t w) (sym (append-nil b)) (record { all = p.all; prefix = p.prefix });
 }
 
 -- an answer that is a refusal
-pub refused : (r : Answer) (f : TreeFault) (m n : FileMap) (s t : Sink) (xs : List Content) → IsErrAnd r (λ e. e ≡ f) → WritesPieces (failed f) m n s t xs → WritesPieces r m n s t xs
-refused (Ok x) f m n s t xs h p = absurd h
-refused (Err e) f m n s t xs h p = subst (λ (g : TreeFault). WritesPieces (failed g) m n s t xs) (sym h) p
+pub refused : (steady : Bool) (r : Answer) (f : TreeFault) (m n : FileMap) (s t : Sink) (xs : List Content) → IsErrAnd r (λ e. e ≡ f) → WritesPieces steady (failed f) m n s t xs → WritesPieces steady r m n s t xs
+refused steady (Ok x) f m n s t xs h p = absurd h
+refused steady (Err e) f m n s t xs h p = subst (λ (g : TreeFault). WritesPieces steady (failed g) m n s t xs) (sym h) p
 
 -- the elements before one, that one, and the rest
 pub flat_map-at : {X Y : Type 0} (f : X → List Y) (xs : List X) (i : ℕ) (d : X) → i < length xs → flat_map f xs ≡ flat_map f (take i xs) ++ f (get_or xs i d) ++ flat_map f (drop (suc i) xs)
@@ -144,22 +151,22 @@ flat_map-suc f (x ∷ xs) zero d h = append-nil (f x)
 flat_map-suc {Y = Y} f (x ∷ xs) (suc i) d h = ap (λ (w : List Y). f x ++ w) (flat_map-suc f xs i d (omega (arith, h))) ∙ sym (append_assoc (f x) (flat_map f (take i xs)) (f (get_or xs i d)))
 
 -- the pieces of a list of elements, one after another
-module _ {X : Type 0} (f : X → List Content) (xs : List X) (i : ℕ) (d : X) (h : i < length xs) (m n k : FileMap) (s t u : Sink) where
-  pub each-goes : WritesPieces went_well m n s t (flat_map f (take i xs)) → WritesPieces went_well n k t u (f (get_or xs i d)) → WritesPieces went_well m k s u (flat_map f (take (i + 1) xs))
+module _ (steady : Bool) {X : Type 0} (f : X → List Content) (xs : List X) (i : ℕ) (d : X) (h : i < length xs) (m n k : FileMap) (s t u : Sink) where
+  pub each-goes : WritesPieces steady went_well m n s t (flat_map f (take i xs)) → WritesPieces steady went_well n k t u (f (get_or xs i d)) → WritesPieces steady went_well m k s u (flat_map f (take (i + 1) xs))
   each-goes p q =
       let next : suc i ≡ i + 1 = omega arith in
-      subst (λ (ps : List Content). WritesPieces went_well m k s u ps) (sym (flat_map-suc f xs i d h) ∙ ap (λ (j : ℕ). flat_map f (take j xs)) next)
-      (goes went_well m n k s t u (flat_map f (take i xs)) (f (get_or xs i d)) p q)
+      subst (λ (ps : List Content). WritesPieces steady went_well m k s u ps) (sym (flat_map-suc f xs i d h) ∙ ap (λ (j : ℕ). flat_map f (take j xs)) next)
+      (goes steady went_well m n k s t u (flat_map f (take i xs)) (f (get_or xs i d)) p q)
 
-  pub each-stops : (e : TreeFault) → WritesPieces went_well m n s t (flat_map f (take i xs)) → WritesPieces (failed e) n k t u (f (get_or xs i d)) → WritesPieces (failed e) m k s u (flat_map f xs)
+  pub each-stops : (e : TreeFault) → WritesPieces steady went_well m n s t (flat_map f (take i xs)) → WritesPieces steady (failed e) n k t u (f (get_or xs i d)) → WritesPieces steady (failed e) m k s u (flat_map f xs)
   each-stops e p q =
-      subst (λ (ps : List Content). WritesPieces (failed e) m k s u ps) (sym (flat_map-at f xs i d h))
-      (stops e m k s u (flat_map f (take i xs) ++ f (get_or xs i d)) (flat_map f (drop (suc i) xs))
-      (goes (failed e) m n k s t u (flat_map f (take i xs)) (f (get_or xs i d)) p q))
+      subst (λ (ps : List Content). WritesPieces steady (failed e) m k s u ps) (sym (flat_map-at f xs i d h))
+      (stops steady e m k s u (flat_map f (take i xs) ++ f (get_or xs i d)) (flat_map f (drop (suc i) xs))
+      (goes steady (failed e) m n k s t u (flat_map f (take i xs)) (f (get_or xs i d)) p q))
 
 -- all elements
-pub each-all : {X : Type 0} (f : X → List Content) (xs : List X) (i : ℕ) (h : length xs ≤ i) (m n : FileMap) (s t : Sink) → WritesPieces went_well m n s t (flat_map f (take i xs)) → WritesPieces went_well m n s t (flat_map f xs)
-each-all {X = X} f xs i h m n s t p = subst (λ (l : List X). WritesPieces went_well m n s t (flat_map f l)) (take_all i xs h) p
+pub each-all : (steady : Bool) {X : Type 0} (f : X → List Content) (xs : List X) (i : ℕ) (h : length xs ≤ i) (m n : FileMap) (s t : Sink) → WritesPieces steady went_well m n s t (flat_map f (take i xs)) → WritesPieces steady went_well m n s t (flat_map f xs)
+each-all steady {X = X} f xs i h m n s t p = subst (λ (l : List X). WritesPieces steady went_well m n s t (flat_map f l)) (take_all i xs h) p
 
 -- a fact on all, at one
 pub all-at : {X Y : Type 0} (P : Y → Type 0) (f : X → Y) (xs : List X) (i : ℕ) (d : X) → i < length xs → AllByRecursion P (map f xs) → P (f (get_or xs i d))
@@ -168,15 +175,16 @@ all-at P f (x ∷ xs) zero d h all = all.0
 all-at P f (x ∷ xs) (suc i) d h all = all-at P f xs i d (omega (arith, h)) all.1
 
 -- bytes that are put together are three pieces
-pub together : (e : Bool) (r : Answer) (m : FileMap) (s t : Sink) (a b c : List ℕ) → is_err r ≡ e → is_put r ≡ e → is_no_file r ≡ false → Writes e s t (a ++ b ++ c)
-    → WritesPieces r m m s t (bytes a ∷ bytes b ∷ bytes c ∷ [])
-together e r m s t a b c errs put opened p =
+pub together : (steady : Bool) (e : Bool) (r : Answer) (m : FileMap) (s t : Sink) (a b c : List ℕ) → is_err r ≡ e → is_put r ≡ e → is_no_file r ≡ false → is_read r ≡ false → Writes e s t (a ++ b ++ c)
+    → WritesPieces steady r m m s t (bytes a ∷ bytes b ∷ bytes c ∷ [])
+together steady e r m s t a b c errs put opened read p =
     let text : a ++ b ++ c ≡ a ++ (b ++ (c ++ [])) = append_assoc a b c ∙ ap (λ (w : List ℕ). a ++ (b ++ w)) (sym (append-nil c)) in
     let same : Written e s t (a ++ b ++ c) = record { all = p.all; prefix = p.prefix } in
     record {
       files = record { same = record { bytes = refl; honest = refl; complete = refl }; refusals = subst (λ (q : Bool). RisesIf q m.refusals m.refusals) (sym opened) refl };
       faults = subst (λ (q : Bool). RisesIf q s.faults t.faults) (sym put) p.faults;
       found = λ complete kept. opened;
+      reads = λ always honest kept. read;
       in_memory = λ embedded. errs ∙ sym put;
       kept = λ honest. kept_all (is_err r);
       written = λ honest. subst (λ (q : Bool). Written q s t (a ++ (b ++ (c ++ [])))) (sym errs) (subst (λ (w : List ℕ). Written e s t w) text same);
@@ -188,19 +196,19 @@ together e r m s t a b c errs put opened p =
 
 infixr 5 ◌▶◌
 -- the first pieces, and then the others
-pub ◌▶◌ : {r : Answer} {m n k : FileMap} {s t u : Sink} {xs ys : List Content} → WritesPieces went_well m n s t xs → WritesPieces r n k t u ys → WritesPieces r m k s u (xs ++ ys)
-p ▶ q = goes _ _ _ _ _ _ _ _ _ p q
+pub ◌▶◌ : {steady : Bool} {r : Answer} {m n k : FileMap} {s t u : Sink} {xs ys : List Content} → WritesPieces steady went_well m n s t xs → WritesPieces steady r n k t u ys → WritesPieces steady r m k s u (xs ++ ys)
+p ▶ q = goes _ _ _ _ _ _ _ _ _ _ p q
 
 -- a refusal in the first pieces
-pub before : {f : TreeFault} {m n : FileMap} {s t : Sink} {xs : List Content} (ys : List Content) → WritesPieces (failed f) m n s t xs → WritesPieces (failed f) m n s t (xs ++ ys)
-before ys p = stops _ _ _ _ _ _ ys p
+pub before : {steady : Bool} {f : TreeFault} {m n : FileMap} {s t : Sink} {xs : List Content} (ys : List Content) → WritesPieces steady (failed f) m n s t xs → WritesPieces steady (failed f) m n s t (xs ++ ys)
+before ys p = stops _ _ _ _ _ _ _ ys p
 
 -- bytes that are put are a piece, all of them or a prefix
-pub all-put : {m : FileMap} {s t : Sink} {b : List ℕ} → Writes false s t b → WritesPieces went_well m m s t (bytes b ∷ [])
-all-put p = puts-all _ _ _ _ p
+pub all-put : {steady : Bool} {m : FileMap} {s t : Sink} {b : List ℕ} → Writes false s t b → WritesPieces steady went_well m m s t (bytes b ∷ [])
+all-put p = puts-all _ _ _ _ _ p
 
-pub prefix-put : {m : FileMap} {s t : Sink} {b : List ℕ} → Writes true s t b → WritesPieces (failed Put) m m s t (bytes b ∷ [])
-prefix-put p = puts-prefix _ _ _ _ p
+pub prefix-put : {steady : Bool} {m : FileMap} {s t : Sink} {b : List ℕ} → Writes true s t b → WritesPieces steady (failed Put) m m s t (bytes b ∷ [])
+prefix-put p = puts-prefix _ _ _ _ _ p
 
 -- what holds where an answer is not a refusal
 pub on-ok : {P Q : Type 0} (r : Answer) → (P → Q) → OnFalse (is_err r) P → OnOk r Q

@@ -1,5 +1,5 @@
 -- A blob as pieces in order, each of them bytes or a file.
-use Rattle.std.specs.Prelude.{◌≡◌, ℕ, ◌+◌, ◌-◌, List, [], ◌∷◌, ◌++◌, length, replicate, Result, IsTrue, is_err, false}
+use Rattle.std.specs.Prelude.{◌≡◌, ℕ, ◌+◌, ◌-◌, List, [], ◌∷◌, ◌++◌, length, replicate, Result, Bool, IsTrue, is_err, false}
 use Rattle.std.specs.Bool.{OnFalse}
 use Rattle.std.specs.List.{flat_map, AllByRecursion}
 use Rattle.uimg_texts.specs.Numbers.{up4}
@@ -12,7 +12,7 @@ use Rattle.uimg_tree.specs.declared.fault.TreeFault.{TreeFault}
 use Rattle.uimg_tree.specs.Content.{Content, Unread, bytes, size_of, bytes_in, IsKept, IsBytes}
 use Rattle.uimg_tree.specs.Encoding.{word, padded, ended, name_offset, strings, header}
 use Rattle.uimg_tree.specs.Layouts.{Plan}
-use Rattle.uimg_tree.specs.Faults.{is_put, is_no_file}
+use Rattle.uimg_tree.specs.Faults.{is_put, is_no_file, is_read}
 use Rattle.uimg_tree.specs.UsingFiles.{UsesFiles}
 
 -- the zeros behind so many bytes, up to a multiple of 4
@@ -48,11 +48,13 @@ blob_pieces p t =
 
 -- What a call that writes pieces did to files and to an output. Where it ended well, and the files are honest, each piece
 -- that is a file is kept, and all was appended; else a prefix was.
-pub record WritesPieces {X : Type 0} (answer : Result X TreeFault) (old new : FileMap) (s t : Sink) (pieces : List Content) : Type 0 where
+pub record WritesPieces {X : Type 0} (steady : Bool) (answer : Result X TreeFault) (old new : FileMap) (s t : Sink) (pieces : List Content) : Type 0 where
   pub files : UsesFiles (is_no_file answer) old new
   pub faults : RisesIf (is_put answer) s.faults t.faults
   -- complete files refuse none that is kept
   pub found : IsTrue old.complete → AllByRecursion (IsKept old.bytes) pieces → is_no_file answer ≡ false
+  -- of what is opened as a steady source, no read fails where each file is kept
+  pub reads : IsTrue steady → IsTrue old.honest → AllByRecursion (IsKept old.bytes) pieces → is_read answer ≡ false
   -- where no piece is a file, only a write can fail
   pub in_memory : AllByRecursion IsBytes pieces → is_err answer ≡ is_put answer
   pub kept : IsTrue old.honest → OnFalse (is_err answer) (AllByRecursion (IsKept old.bytes) pieces)

@@ -39,7 +39,8 @@ pub(crate) fn put_file<F: Files, W: Write>(
     window: &mut [u8; WINDOW],
     out: &mut Out<W>,
 ) -> Result<(), TreeFault>
-    ensures { WritesPieces result (F.map files.old) (F.map files.new) out.old out.new
+    ensures { WritesPieces F.Opened.steady result (F.map files.old) (F.map files.new)
+        out.old out.new
         (file name.now size ∷ []) }
 {
     let Ok(mut source) = files.open(name) else {

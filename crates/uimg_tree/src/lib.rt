@@ -3,12 +3,14 @@
 
 mod byte_list;
 mod checking;
+mod copying;
 mod fault;
 mod file_pieces;
 mod layout;
 mod measuring;
 mod names;
 mod nodes;
+mod payloads;
 mod properties;
 mod props;
 mod sizes;
@@ -19,9 +21,11 @@ mod words;
 mod writing;
 
 pub use byte_list::ByteList;
+pub use copying::{copy_bytes, copy_node, copy_nodes, copy_properties, copy_property, copy_value};
 pub use fault::TreeFault;
 pub use layout::Layout;
 pub use measuring::measure;
+pub use payloads::{put_padded, value_size};
 pub use props::{Prop, Props, Value};
 pub use tree::{Node, Nodes, Tree};
 pub use writing::write_tree;

@@ -38,7 +38,8 @@ pub(crate) fn put_node<F: Files, W: Write, A: Allocator>(
 ) -> Result<(), TreeFault>
     requires strings { length (strings (texts names.now)) < 2 ^ 32 }
     requires fit { AllValues (λ c. size_of c < 2 ^ 32) (node_of this.node.now) }
-    ensures { WritesPieces result (F.map files.old) (F.map files.new) out.old out.new
+    ensures { WritesPieces F.Opened.steady result (F.map files.old) (F.map files.new)
+        out.old out.new
         (nodes_pieces (texts names.now) (node_of this.entry.node.now)) }
 {
     put_begin_node(this.node.name.items(), out)?;
@@ -62,7 +63,8 @@ fn put_nodes<F: Files, W: Write, A: Allocator>(
 ) -> Result<(), TreeFault>
     requires strings { length (strings (texts names.now)) < 2 ^ 32 }
     requires fit { AllValues (λ c. size_of c < 2 ^ 32) these.nodes.now }
-    ensures { WritesPieces result (F.map files.old) (F.map files.new) out.old out.new
+    ensures { WritesPieces F.Opened.steady result (F.map files.old) (F.map files.new)
+        out.old out.new
         (nodes_pieces (texts names.now) these.entry.nodes.now) }
 {
     for node in these.nodes.items() {

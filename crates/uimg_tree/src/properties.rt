@@ -25,7 +25,8 @@ fn put_from_file<F: Files, W: Write>(
     window: &mut [u8; WINDOW],
     out: &mut Out<W>,
 ) -> Result<(), TreeFault>
-    ensures { WritesPieces result (F.map files.old) (F.map files.new) out.old out.new
+    ensures { WritesPieces F.Opened.steady result (F.map files.old) (F.map files.new)
+        out.old out.new
         (bytes (head_bytes size offset) ∷ file name.now size ∷ bytes (padding size) ∷ []) }
 {
     put_head(size, offset, out)?;
@@ -44,7 +45,8 @@ fn put_property<F: Files, W: Write, A: Allocator>(
 ) -> Result<(), TreeFault>
     requires strings { length (strings (texts names.now)) < 2 ^ 32 }
     requires fits { size_of (content prop.now.value) < 2 ^ 32 }
-    ensures { WritesPieces result (F.map files.old) (F.map files.new) out.old out.new
+    ensures { WritesPieces F.Opened.steady result (F.map files.old) (F.map files.new)
+        out.old out.new
         (property_pieces (texts names.now) (property prop.now)) }
 {
     let offset = name_offset(names, prop.name.items());
@@ -69,7 +71,8 @@ pub(crate) fn put_properties<F: Files, W: Write, A: Allocator>(
 ) -> Result<(), TreeFault>
     requires strings { length (strings (texts names.now)) < 2 ^ 32 }
     requires fit { AllByRecursion (λ p. size_of p.value < 2 ^ 32) props.now }
-    ensures { WritesPieces result (F.map files.old) (F.map files.new) out.old out.new
+    ensures { WritesPieces F.Opened.steady result (F.map files.old) (F.map files.new)
+        out.old out.new
         (flat_map (property_pieces (texts names.now)) props.now) }
 {
     for prop in props.items() {

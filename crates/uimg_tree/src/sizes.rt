@@ -1,28 +1,17 @@
 ghost use Rattle.std.specs.Prelude.{◌≡◌, ◌^◌, min, length};
-ghost use Rattle.uimg_tree.specs.Content.{size_of};
 ghost use Rattle.uimg_tree.specs.Encoding.{strings};
 ghost use Rattle.uimg_tree.specs.Layouts.{properties_size, nodes_size};
 ghost use Rattle.uimg_tree.specs.Names.{texts};
-ghost use Rattle.uimg_tree.specs.Properties.{content};
 ghost use Rattle.uimg_tree.specs.Trees.{node_of};
 
 use crate::nodes::ThisNode;
-use crate::props::{Props, Value};
+use crate::payloads::value_size;
+use crate::props::Props;
 use std::alloc::Allocator;
 use uimg_base::up4;
 
 // Sizes are counted up to 2^36, which is too large for a blob: so no sum of them wraps.
 const MOST: u64 = 0x10_0000_0000;
-
-// How many bytes a value has.
-fn value_size<A: Allocator>(value: &Value<A>) -> u64
-    ensures { result ≡ size_of (content value.now) }
-{
-    match value {
-        Value::Bytes(bytes) => bytes.items().len() as u64,
-        Value::File { name: _, size } => *size,
-    }
-}
 
 // How many bytes the tokens of properties take, at most 2^36.
 fn properties_size<A: Allocator>(props: &Props<A>) -> u64

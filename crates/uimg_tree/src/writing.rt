@@ -4,7 +4,7 @@ ghost use Rattle.uimg_base.specs.Writing.{Writes, Written};
 ghost use Rattle.uimg_blob.specs.Plain.{AllValues, AreNamed};
 ghost use Rattle.uimg_tree.specs.Content.{in_full, AreKept, IsBytes};
 ghost use Rattle.uimg_tree.specs.Encoding.{ended, header, strings, encode};
-ghost use Rattle.uimg_tree.specs.Faults.{is_put, is_no_file};
+ghost use Rattle.uimg_tree.specs.Faults.{is_put, is_no_file, is_read};
 ghost use Rattle.uimg_tree.specs.Layouts.{plan_of, totalsize};
 ghost use Rattle.uimg_tree.specs.Names.{texts};
 ghost use Rattle.uimg_tree.specs.Pieces.{padding, blob_pieces, WritesPieces};
@@ -84,7 +84,8 @@ fn put_blob<F: Files, W: Write, A: Allocator>(
 ) -> Result<(), TreeFault>
     requires { layout.now ≡ plan_of (node_of tree.now.root) }
     ensures fits { totalsize layout.now < 2 ^ 32 }
-    ensures writes { WritesPieces result (F.map files.old) (F.map files.new) out.old out.new
+    ensures writes { WritesPieces F.Opened.steady result (F.map files.old) (F.map files.new)
+        out.old out.new
         (blob_pieces layout.now (node_of tree.now.root)) }
 {
     let mut window = [0; WINDOW];
@@ -113,7 +114,8 @@ fn put_blob<F: Files, W: Write, A: Allocator>(
 ///
 /// `Put` comes exactly where a write failed, `NoFile` exactly where an open was refused, `Read`
 /// where a read of a file failed or its size is another; a tree without files is refused by a failed
-/// write alone. Over honest files of the kept sizes the bytes of `encode` were written, or at a
+/// write alone, and no read fails over honest files of the kept sizes that are opened as steady sources
+/// (those in memory). Over honest files of the kept sizes the bytes of `encode` were written, or at a
 /// refusal a prefix of them; and a file that begins with these bytes reads back as the tree.
 ///
 /// It takes no memory. The depth of its calls is that of the tree.
@@ -128,6 +130,8 @@ pub fn write_tree<F: Files, W: Write, A: Allocator>(
     ensures faults { RisesIf (is_put result) out.old.faults out.new.faults }
     ensures found { IsTrue (F.map files.old).complete →
         AreKept (F.map files.old).bytes (node_of tree.now.root) → is_no_file result ≡ false }
+    ensures steady { IsTrue F.Opened.steady → IsTrue (F.map files.old).honest →
+        AreKept (F.map files.old).bytes (node_of tree.now.root) → is_read result ≡ false }
     ensures in_memory { AllValues IsBytes (node_of tree.now.root) → is_err result ≡ is_put result }
     ensures kept { IsTrue (F.map files.old).honest →
         OnOk result (AreKept (F.map files.old).bytes (node_of tree.now.root)) }

@@ -20,7 +20,7 @@ put_node-returns-in_err-put_begin_node g t c =
     let node = c.args.this.node.now in
     let begin = subst (λ (n : List ℕ). Writes true c.args.out.now c.put_begin_node.new.out (begin_bytes n)) c.items.ensures c.in_err-put_begin_node.ensures in
     let rest = flat_map (property_pieces names) node.props ++ (nodes_pieces names node.children ++ bytes (word 2) ∷ []) in
-    refused _ Put _ _ _ _ _ c.from_residual.ensures.1 (before rest (prefix-put begin))
+    refused g.F.Opened.Source.steady _ Put _ _ _ _ _ c.from_residual.ensures.1 (before rest (prefix-put begin))
 
 pub put_node-returns-in_err-put_properties : goal.put_node-returns-in_err-put_properties
 unfolding nodes_pieces
@@ -29,19 +29,19 @@ put_node-returns-in_err-put_properties g t c =
     let node = c.args.this.node.now in
     let begin = subst (λ (n : List ℕ). Writes false c.args.out.now c.put_begin_node.new.out (begin_bytes n)) c.items.ensures c.in_ok-put_begin_node.ensures in
     let rest = nodes_pieces names node.children ++ bytes (word 2) ∷ [] in
-    refused _ _ _ _ _ _ _ c.from_residual-in_err-put_properties.ensures.1 (all-put begin ▶ before rest c.in_err-put_properties.ensures)
+    refused g.F.Opened.Source.steady _ _ _ _ _ _ _ c.from_residual-in_err-put_properties.ensures.1 (all-put begin ▶ before rest c.in_err-put_properties.ensures)
 
 pub put_node-returns-in_err-put_nodes : goal.put_node-returns-in_err-put_nodes
 unfolding nodes_pieces
 put_node-returns-in_err-put_nodes g t c =
     let begin = subst (λ (n : List ℕ). Writes false c.args.out.now c.put_begin_node.new.out (begin_bytes n)) c.items.ensures c.in_ok-put_begin_node.ensures in
-    refused _ _ _ _ _ _ _ c.from_residual-in_err-put_nodes.ensures.1 (all-put begin ▶ c.in_ok-put_properties.ensures ▶ before (bytes (word 2) ∷ []) c.in_err-put_nodes.ensures)
+    refused g.F.Opened.Source.steady _ _ _ _ _ _ _ c.from_residual-in_err-put_nodes.ensures.1 (all-put begin ▶ c.in_ok-put_properties.ensures ▶ before (bytes (word 2) ∷ []) c.in_err-put_nodes.ensures)
 
 pub put_node-returns-in_err-put_end_node : goal.put_node-returns-in_err-put_end_node
 unfolding nodes_pieces
 put_node-returns-in_err-put_end_node g t c =
     let begin = subst (λ (n : List ℕ). Writes false c.args.out.now c.put_begin_node.new.out (begin_bytes n)) c.items.ensures c.in_ok-put_begin_node.ensures in
-    refused _ _ _ _ _ _ _ c.from_residual-in_err-put_end_node.ensures.1 (all-put begin ▶ c.in_ok-put_properties.ensures ▶ c.in_ok-put_nodes.ensures ▶ prefix-put c.in_err-put_end_node.ensures)
+    refused g.F.Opened.Source.steady _ _ _ _ _ _ _ c.from_residual-in_err-put_end_node.ensures.1 (all-put begin ▶ c.in_ok-put_properties.ensures ▶ c.in_ok-put_nodes.ensures ▶ prefix-put c.in_err-put_end_node.ensures)
 
 pub put_node-returns : goal.put_node-returns
 unfolding nodes_pieces
@@ -72,10 +72,10 @@ put_nodes-returns-in_err-put_node g t c =
     let names = texts c.args.names.now in
     let f : Node g.row.A.Denot → List Content = λ n. nodes_pieces names (node_of n) in
     let fault = c.in_err-put_node.field-0.0 in
-    let here = subst (λ (x : Node g.row.A.Denot). WritesPieces (failed fault) n k c.loop-node.out c.put_node.new.out (f x)) c.node-item.is c.in_err-put_node.ensures in
-    let whole = each-stops f items c.loop-node.node-index c.node-item.result c.loop-node-test.true m n k s c.loop-node.out c.put_node.new.out fault c.loop-node.invariant here in
-    refused c.from_residual.result fault m k s c.put_node.new.out _ c.from_residual.ensures.1
-    (subst (λ (ps : List Content). WritesPieces (failed fault) m k s c.put_node.new.out ps)
+    let here = subst (λ (x : Node g.row.A.Denot). WritesPieces g.F.Opened.Source.steady (failed fault) n k c.loop-node.out c.put_node.new.out (f x)) c.node-item.is c.in_err-put_node.ensures in
+    let whole = each-stops g.F.Opened.Source.steady f items c.loop-node.node-index c.node-item.result c.loop-node-test.true m n k s c.loop-node.out c.put_node.new.out fault c.loop-node.invariant here in
+    refused g.F.Opened.Source.steady c.from_residual.result fault m k s c.put_node.new.out _ c.from_residual.ensures.1
+    (subst (λ (ps : List Content). WritesPieces g.F.Opened.Source.steady (failed fault) m k s c.put_node.new.out ps)
     (siblings-pieces names items ∙ ap (λ (l : Unread). nodes_pieces names l) c.items-node-items.ensures) whole)
 
 pub put_nodes-loop-node-preserved : goal.put_nodes-loop-node-preserved
@@ -85,8 +85,8 @@ put_nodes-loop-node-preserved g t c =
     let k = g.F.Files.map c.put_node.new.files in
     let items = c.items-node-items.result.now in
     let f : Node g.row.A.Denot → List Content = λ n. nodes_pieces (texts c.args.names.now) (node_of n) in
-    let here = subst (λ (x : Node g.row.A.Denot). WritesPieces went_well n k c.loop-node.out c.put_node.new.out (f x)) c.node-item.is c.in_ok-put_node.ensures in
-    each-goes f items c.loop-node.node-index c.node-item.result c.loop-node-test.true m n k c.args.out.now c.loop-node.out c.put_node.new.out c.loop-node.invariant here
+    let here = subst (λ (x : Node g.row.A.Denot). WritesPieces g.F.Opened.Source.steady went_well n k c.loop-node.out c.put_node.new.out (f x)) c.node-item.is c.in_ok-put_node.ensures in
+    each-goes g.F.Opened.Source.steady f items c.loop-node.node-index c.node-item.result c.loop-node-test.true m n k c.args.out.now c.loop-node.out c.put_node.new.out c.loop-node.invariant here
 
 pub put_nodes-returns : goal.put_nodes-returns
 put_nodes-returns g t c =
@@ -95,6 +95,6 @@ put_nodes-returns g t c =
     let items = c.items-node-items.result.now in
     let names = texts c.args.names.now in
     let f : Node g.row.A.Denot → List Content = λ n. nodes_pieces names (node_of n) in
-    let whole = each-all f items c.loop-node.node-index c.loop-node-test.false m n c.args.out.now c.loop-node.out c.loop-node.invariant in
-    subst (λ (ps : List Content). WritesPieces went_well m n c.args.out.now c.loop-node.out ps)
+    let whole = each-all g.F.Opened.Source.steady f items c.loop-node.node-index c.loop-node-test.false m n c.args.out.now c.loop-node.out c.loop-node.invariant in
+    subst (λ (ps : List Content). WritesPieces g.F.Opened.Source.steady went_well m n c.args.out.now c.loop-node.out ps)
     (siblings-pieces names items ∙ ap (λ (l : Unread). nodes_pieces names l) c.items-node-items.ensures) whole

@@ -17,5 +17,5 @@ decreases-put_nodes g l = count l.these.nodes.now
 -- the nodes before the index were written
 abbrev pub invariant-put_nodes-loop-node : goal.invariant-put_nodes-loop-node
 invariant-put_nodes-loop-node g l =
-    WritesPieces went_well (g.F.Files.map l.fn.files) (g.F.Files.map l.files) l.fn.out l.out
+    WritesPieces g.F.Opened.Source.steady went_well (g.F.Files.map l.fn.files) (g.F.Files.map l.files) l.fn.out l.out
     (flat_map (λ n. nodes_pieces (texts l.names) (node_of n)) (take l.node-index l.node-items))

@@ -28,10 +28,10 @@ returns-in_err-put_property g c =
     let f : Prop g.row.A.Denot → List Content = λ p. property_pieces names (property p) in
     let d = c.prop-item.result in
     let fault = c.in_err-put_property.field-0.0 in
-    let here = subst (λ (p : Prop g.row.A.Denot). WritesPieces (failed fault) n k c.loop-prop.out c.put_property.new.out (f p)) c.prop-item.is c.in_err-put_property.ensures in
-    let whole = each-stops f items c.loop-prop.prop-index d c.loop-prop-test.true m n k c.args.out.now c.loop-prop.out c.put_property.new.out fault c.loop-prop.invariant here in
-    refused c.from_residual.result fault m k c.args.out.now c.put_property.new.out _ c.from_residual.ensures.1
-    (subst (λ (ps : List Content). WritesPieces (failed fault) m k c.args.out.now c.put_property.new.out ps)
+    let here = subst (λ (p : Prop g.row.A.Denot). WritesPieces g.F.Opened.Source.steady (failed fault) n k c.loop-prop.out c.put_property.new.out (f p)) c.prop-item.is c.in_err-put_property.ensures in
+    let whole = each-stops g.F.Opened.Source.steady f items c.loop-prop.prop-index d c.loop-prop-test.true m n k c.args.out.now c.loop-prop.out c.put_property.new.out fault c.loop-prop.invariant here in
+    refused g.F.Opened.Source.steady c.from_residual.result fault m k c.args.out.now c.put_property.new.out _ c.from_residual.ensures.1
+    (subst (λ (ps : List Content). WritesPieces g.F.Opened.Source.steady (failed fault) m k c.args.out.now c.put_property.new.out ps)
     (sym (flat_map-map (property_pieces names) property items) ∙ ap (λ (l : List (NamedOf Content)). flat_map (property_pieces names) l) c.items-prop-items.ensures) whole)
 
 pub loop-prop-preserved : goal.loop-prop-preserved
@@ -41,8 +41,8 @@ loop-prop-preserved g c =
     let k = device c.put_property.new.files in
     let items = c.items-prop-items.result.now in
     let f : Prop g.row.A.Denot → List Content = λ p. property_pieces (texts c.args.names.now) (property p) in
-    let here = subst (λ (p : Prop g.row.A.Denot). WritesPieces went_well n k c.loop-prop.out c.put_property.new.out (f p)) c.prop-item.is c.in_ok-put_property.ensures in
-    each-goes f items c.loop-prop.prop-index c.prop-item.result c.loop-prop-test.true (device c.args.files.now) n k c.args.out.now c.loop-prop.out c.put_property.new.out c.loop-prop.invariant here
+    let here = subst (λ (p : Prop g.row.A.Denot). WritesPieces g.F.Opened.Source.steady went_well n k c.loop-prop.out c.put_property.new.out (f p)) c.prop-item.is c.in_ok-put_property.ensures in
+    each-goes g.F.Opened.Source.steady f items c.loop-prop.prop-index c.prop-item.result c.loop-prop-test.true (device c.args.files.now) n k c.args.out.now c.loop-prop.out c.put_property.new.out c.loop-prop.invariant here
 
 pub returns : goal.returns
 returns g c =
@@ -52,6 +52,6 @@ returns g c =
     let items = c.items-prop-items.result.now in
     let names = texts c.args.names.now in
     let f : Prop g.row.A.Denot → List Content = λ p. property_pieces names (property p) in
-    let whole = each-all f items c.loop-prop.prop-index c.loop-prop-test.false m n c.args.out.now c.loop-prop.out c.loop-prop.invariant in
-    subst (λ (ps : List Content). WritesPieces went_well m n c.args.out.now c.loop-prop.out ps)
+    let whole = each-all g.F.Opened.Source.steady f items c.loop-prop.prop-index c.loop-prop-test.false m n c.args.out.now c.loop-prop.out c.loop-prop.invariant in
+    subst (λ (ps : List Content). WritesPieces g.F.Opened.Source.steady went_well m n c.args.out.now c.loop-prop.out ps)
     (sym (flat_map-map (property_pieces names) property items) ∙ ap (λ (l : List (NamedOf Content)). flat_map (property_pieces names) l) c.items-prop-items.ensures) whole

@@ -9,5 +9,5 @@ use Rattle.uimg_tree.proofs.properties.put_properties.Given as goal
 -- the properties before the index were written
 abbrev pub invariant-loop-prop : goal.invariant-loop-prop
 invariant-loop-prop g l =
-    WritesPieces went_well (g.F.Files.map l.fn.files) (g.F.Files.map l.files) l.fn.out l.out
+    WritesPieces g.F.Opened.Source.steady went_well (g.F.Files.map l.fn.files) (g.F.Files.map l.files) l.fn.out l.out
     (flat_map (λ p. property_pieces (texts l.names) (property p)) (take l.prop-index l.prop-items))

@@ -33,9 +33,9 @@ returns-in_err-put_whole-in-Bytes g c =
     let is : content c.args.prop.now.value ≡ bytes value = ap content c.in-Bytes.is in
     let here : offset ≡ name_offset names p.name = c.name_offset-offset.ensures ∙ ap (λ (n : List ℕ). name_offset names n) c.items.ensures in
     let put = subst (λ (w : List ℕ). Writes true s t (whole_bytes w offset)) c.items-in-Bytes.ensures c.in_err-put_whole-in-Bytes.ensures in
-    refused c.from_residual.result Put m m s t _ c.from_residual.ensures.1
-    (subst (λ (ps : List Content). WritesPieces (failed Put) m m s t ps) (pieces names p (bytes value) offset is here)
-    (together true (failed Put) m s t (head_bytes (length value) offset) value (padding (length value)) refl refl refl put))
+    refused g.F.Opened.Source.steady c.from_residual.result Put m m s t _ c.from_residual.ensures.1
+    (subst (λ (ps : List Content). WritesPieces g.F.Opened.Source.steady (failed Put) m m s t ps) (pieces names p (bytes value) offset is here)
+    (together g.F.Opened.Source.steady true (failed Put) m s t (head_bytes (length value) offset) value (padding (length value)) refl refl refl refl put))
 
 pub returns-in_ok-put_whole-in-Bytes : goal.returns-in_ok-put_whole-in-Bytes
 unfolding whole_bytes
@@ -50,8 +50,8 @@ returns-in_ok-put_whole-in-Bytes g c =
     let is : content c.args.prop.now.value ≡ bytes value = ap content c.in-Bytes.is in
     let here : offset ≡ name_offset names p.name = c.name_offset-offset.ensures ∙ ap (λ (n : List ℕ). name_offset names n) c.items.ensures in
     let put = subst (λ (w : List ℕ). Writes false s t (whole_bytes w offset)) c.items-in-Bytes.ensures c.in_ok-put_whole-in-Bytes.ensures in
-    subst (λ (ps : List Content). WritesPieces went_well m m s t ps) (pieces names p (bytes value) offset is here)
-    (together false went_well m s t (head_bytes (length value) offset) value (padding (length value)) refl refl refl put)
+    subst (λ (ps : List Content). WritesPieces g.F.Opened.Source.steady went_well m m s t ps) (pieces names p (bytes value) offset is here)
+    (together g.F.Opened.Source.steady false went_well m s t (head_bytes (length value) offset) value (padding (length value)) refl refl refl refl put)
 
 pub returns-in-File : goal.returns-in-File
 returns-in-File g c =
@@ -64,5 +64,5 @@ returns-in-File g c =
     let offset = c.name_offset-offset.result in
     let is : content c.args.prop.now.value ≡ file name size = ap content c.in-File.is in
     let here : offset ≡ name_offset names p.name = c.name_offset-offset.ensures ∙ ap (λ (n : List ℕ). name_offset names n) c.items.ensures in
-    let put = subst (λ (w : List ℕ). WritesPieces c.put_from_file.result m n c.args.out.now c.put_from_file.new.out (bytes (head_bytes size offset) ∷ file w size ∷ bytes (padding size) ∷ [])) c.items-in-File.ensures c.put_from_file.ensures in
-    subst (λ (ps : List Content). WritesPieces c.put_from_file.result m n c.args.out.now c.put_from_file.new.out ps) (pieces names p (file name size) offset is here) put
+    let put = subst (λ (w : List ℕ). WritesPieces g.F.Opened.Source.steady c.put_from_file.result m n c.args.out.now c.put_from_file.new.out (bytes (head_bytes size offset) ∷ file w size ∷ bytes (padding size) ∷ [])) c.items-in-File.ensures c.put_from_file.ensures in
+    subst (λ (ps : List Content). WritesPieces g.F.Opened.Source.steady c.put_from_file.result m n c.args.out.now c.put_from_file.new.out ps) (pieces names p (file name size) offset is here) put

@@ -1,0 +1,61 @@
+ghost use Rattle.std.specs.Prelude.{◌≡◌, ◌∷◌, [], length};
+ghost use Rattle.uimg_tree.specs.Content.{bytes, size_of};
+ghost use Rattle.uimg_tree.specs.Pieces.{padding, WritesPieces};
+ghost use Rattle.uimg_tree.specs.Properties.{content};
+
+use crate::fault::TreeFault;
+use crate::file_pieces::put_file;
+use crate::props::Value;
+use crate::words::put_padding;
+use std::alloc::Allocator;
+use std::io::Write;
+use uimg_base::{Files, Out, WINDOW};
+
+// Writes a value.
+fn put_value<F: Files, W: Write, A: Allocator>(
+    value: &Value<A>,
+    files: &mut F,
+    window: &mut [u8; WINDOW],
+    out: &mut Out<W>,
+) -> Result<(), TreeFault>
+    ensures { WritesPieces F.Opened.steady result (F.map files.old) (F.map files.new)
+        out.old out.new (content value.now ∷ []) }
+{
+    match value {
+        Value::Bytes(list) => {
+            out.put_all(list.items())?;
+            Ok(())
+        }
+        Value::File { name, size } => put_file(name.items(), *size, files, window, out),
+    }
+}
+
+/// How many bytes a value has: of a file, how many the tree keeps.
+pub fn value_size<A: Allocator>(value: &Value<A>) -> u64
+    ensures { result ≡ size_of (content value.now) }
+{
+    match value {
+        Value::Bytes(list) => list.items().len() as u64,
+        Value::File { name: _, size } => *size,
+    }
+}
+
+/// Writes a value, and the zeros that bring it to a multiple of 4.
+///
+/// A file is opened, goes through the window, and is never held in memory whole. One whose size is not
+/// the one that is kept is answered as a failed read, before a byte of it. `Put` comes exactly where a
+/// write failed, `NoFile` exactly where an open was refused. Over honest files of the kept sizes all was
+/// written, or at a refusal a prefix.
+pub fn put_padded<F: Files, W: Write, A: Allocator>(
+    value: &Value<A>,
+    files: &mut F,
+    window: &mut [u8; WINDOW],
+    out: &mut Out<W>,
+) -> Result<(), TreeFault>
+    ensures { WritesPieces F.Opened.steady result (F.map files.old) (F.map files.new)
+        out.old out.new (content value.now ∷ bytes (padding (size_of (content value.now))) ∷ []) }
+{
+    put_value(value, files, window, out)?;
+    put_padding(value_size(value), out)?;
+    Ok(())
+}
