@@ -1,8 +1,8 @@
 -- What stands behind a blob before the files are read, and after.
-use Rattle.std.proofs.Common.{◌≡◌, ◌≤◌, ◌<◌, ℕ, ◌+◌, ◌-◌, List, [], ◌∷◌, ◌++◌, length, map, replicate, Option, Some, None, Bool, true, false, nat_lt, unwrap_or, if◌then◌else◌, refl, ap, sym, ◌∙◌, codes, arith, append-nil, length-append}
+use Rattle.std.proofs.Common.{◌≡◌, ◌≤◌, ◌<◌, ℕ, ◌+◌, ◌-◌, List, [], ◌∷◌, ◌++◌, length, map, replicate, Option, Some, None, Bool, true, false, nat_lt, min, ◌^◌, unwrap_or, if◌then◌else◌, refl, ap, sym, ◌∙◌, codes, arith, append-nil, length-append}
 use Rattle.std.specs.List.{flat_map, AllByRecursion}
 use Rattle.std.specs.Option.{option_map, IfSome}
-use Rattle.std.proofs.lemmas.Bool.{le-ltb, ltb-false}
+use Rattle.std.proofs.lemmas.Bool.{le-ltb, ltb-false, ltb-true}
 use Rattle.std.proofs.lemmas.List.{length-replicate}
 use Rattle.uimg_texts.specs.Numbers.{up4}
 use Rattle.uimg_blob.specs.Plain.{NamedOf, Nodes, with_value, with_values, AllValues}
@@ -137,3 +137,23 @@ module _ (files : List ℕ → Option (List ℕ)) where
       ∙ fault-step (nat_lt 4294967295 (length (encode (moved (in_full files t) placement)))) (is_low size placement) (nat_lt 4294967295 (length (built (in_full files t) placement)))
       (nat_lt 4294967295 (file_size size (rooms (images_in t)) placement)) fits
       (λ high. ap (λ (n : ℕ). nat_lt 4294967295 n) (length-built size t placement kept is high))
+
+-- counting up to 2^36 is enough
+
+test-step : (n a b : ℕ) (x y : Bool) → nat_lt n a ≡ x → nat_lt n b ≡ y → (n < a → n < b) → (n < b → n < a) → x ≡ y
+test-step n a b true true e f h k = refl
+test-step n a b false false e f h k = refl
+test-step n a b true false e f h k = let l : n < b = h (ltb-true n a e) in let m : b ≤ n = ltb-false n b f in absurd (omega (arith, l, m))
+test-step n a b false true e f h k = let l : n < a = k (ltb-true n b f) in let m : a ≤ n = ltb-false n a e in absurd (omega (arith, l, m))
+
+same-test : (n a b : ℕ) → (n < a → n < b) → (n < b → n < a) → nat_lt n a ≡ nat_lt n b
+same-test n a b h k = test-step n a b (nat_lt n a) (nat_lt n b) refl refl h k
+
+size-capped : (size room : ℕ) (placement : Placement) → nat_lt 4294967295 (file_size size (min room (2 ^ 36)) placement) ≡ nat_lt 4294967295 (file_size size room placement)
+size-capped size room Inside = refl
+size-capped size room After = same-test 4294967295 (size + min room (2 ^ 36)) (size + room) (λ h. omega (arith, h)) (λ h. omega (arith, h))
+size-capped size room (At p) = same-test 4294967295 (p + min room (2 ^ 36)) (p + room) (λ h. omega (arith, h)) (λ h. omega (arith, h))
+
+pub end-capped : (size room : ℕ) (placement : Placement) → end_fault size (min room (2 ^ 36)) placement ≡ end_fault size room placement
+unfolding end_fault
+end-capped size room placement = ap (λ (b : Bool). if is_low size placement then Some PositionTooLow else if b then Some TooLarge else None) (size-capped size room placement)

@@ -36,3 +36,6 @@ pub mod ListingLaws
 pub mod WithinLaws
 pub mod BehindLaws
 pub mod PlacingLaws
+pub mod NamesLaw
+pub mod BuildLaws
+pub mod SendLaws

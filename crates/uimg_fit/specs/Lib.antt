@@ -31,3 +31,4 @@ pub mod Heads
 pub mod ListingParts
 pub mod Behind
 pub mod Placing
+pub mod BuildSteps

@@ -1,20 +1,118 @@
 ghost use Rattle.std.specs.Prelude.{◌≡◌, IsTrue, OnOk, false};
 ghost use Rattle.uimg_base.specs.Device.{RisesIf};
 ghost use Rattle.uimg_tree.specs.Content.{AreKept, in_full};
+ghost use Rattle.uimg_tree.specs.Layouts.{plan_of, totalsize};
 ghost use Rattle.uimg_tree.specs.Trees.{node_of};
 ghost use Rattle.uimg_tree.specs.UsingFiles.{UsesFiles};
 ghost use Rattle.uimg_fit.specs.BuildAnswers.{is_no_file, is_before_writing, BuildsAnswer};
+ghost use Rattle.uimg_fit.specs.BuildSteps.{of_measure, MeasuresTree, WritesText, Builds};
 ghost use Rattle.uimg_fit.specs.Building.{built};
 ghost use Rattle.uimg_fit.specs.Faults.{is_put, is_read};
 ghost use Rattle.uimg_fit.specs.Filling.{IsFilled};
 ghost use Rattle.uimg_fit.specs.ReadsBack.{ReadsBack};
+ghost use Rattle.uimg_fit.specs.Refusing.{is_low};
+ghost use Rattle.uimg_fit.specs.Sources.{moved_source};
 
+use crate::behind::{check_payloads, put_behind};
 use crate::fault::{Fault, FitFault};
 use crate::placement::Placement;
+use crate::placing::place;
 use std::alloc::Allocator;
 use std::io::Write;
 use uimg_base::{Files, Out, Source};
-use uimg_tree::Tree;
+use uimg_blob::BlobFault;
+use uimg_tree::{Layout, Tree, TreeFault, measure, write_tree};
+
+// The fault of a tree that can't be measured.
+fn of_measure(fault: BlobFault) -> Fault
+    ensures { result ≡ of_measure fault }
+{
+    match fault {
+        BlobFault::TooLarge => Fault::Fit(FitFault::TooLarge),
+        BlobFault::OutOfMemory => Fault::Fit(FitFault::OutOfMemory),
+        _ => Fault::Blob(fault, 0),
+    }
+}
+
+// Measures the blob of a tree.
+fn measure_placed<'a, A: Allocator>(
+    alloc: A,
+    placed: &'a Tree<A>,
+) -> Result<Layout<'a, A>, Fault>
+    ensures { MeasuresTree result (node_of placed.now.root) }
+{
+    match measure(alloc, placed) {
+        Ok(layout) => Ok(layout),
+        Err(fault) => Err(of_measure(fault)),
+    }
+}
+
+// Writes the file of a tree, of which a copy has the payloads placed.
+fn write_file<F: Files, W: Write, A: Allocator>(
+    placed: &Tree<A>,
+    layout: &Layout<A>,
+    tree: &Tree<A>,
+    placement: Placement,
+    files: &mut F,
+    out: &mut Out<W>,
+) -> Result<(), TreeFault>
+    requires plan { layout.now ≡ plan_of (node_of placed.now.root) }
+    requires placed { node_of placed.now.root ≡ moved_source (node_of tree.now.root) placement }
+    requires high { is_low (totalsize layout.now) placement ≡ false }
+    ensures { WritesText F.Opened.steady (node_of tree.now.root) result (F.map files.old)
+        (F.map files.new) out.old out.new
+        (λ files. built (in_full files (node_of tree.now.root)) placement) }
+{
+    write_tree(placed, layout, files, out)?;
+    put_behind(layout.totalsize(), tree, placement, files, out)
+}
+
+// Builds the file of a tree, of which a copy has the payloads placed.
+fn build_placed<F: Files, W: Write, A: Allocator>(
+    alloc: A,
+    placed: &Tree<A>,
+    tree: &Tree<A>,
+    placement: Placement,
+    files: &mut F,
+    out: &mut Out<W>,
+) -> Result<(), Fault>
+    requires { node_of placed.now.root ≡ moved_source (node_of tree.now.root) placement }
+    ensures { Builds F.Opened.steady (node_of tree.now.root) placement result (F.map files.old)
+        (F.map files.new) out.old out.new }
+{
+    let layout = measure_placed(alloc, placed)?;
+    check_payloads(layout.totalsize(), tree, placement)?;
+    write_file(placed, &layout, tree, placement, files, out)?;
+    Ok(())
+}
+
+// Places the payloads of a tree, and builds its file.
+fn place_and_build<F: Files, W: Write, A: Allocator + Copy>(
+    alloc: A,
+    tree: &Tree<A>,
+    placement: Placement,
+    files: &mut F,
+    out: &mut Out<W>,
+) -> Result<(), Fault>
+    ensures { Builds F.Opened.steady (node_of tree.now.root) placement result (F.map files.old)
+        (F.map files.new) out.old out.new }
+{
+    match placement {
+        Placement::Inside => build_placed(alloc, tree, tree, placement, files, out),
+        Placement::After => {
+            let Ok(placed) = place(alloc, tree, b"data-offset", 0) else {
+                return Err(Fault::Fit(FitFault::OutOfMemory));
+            };
+            build_placed(alloc, &placed, tree, placement, files, out)
+        }
+        Placement::At(position) => {
+            let Ok(placed) = place(alloc, tree, b"data-position", position) else {
+                return Err(Fault::Fit(FitFault::OutOfMemory));
+            };
+            build_placed(alloc, &placed, tree, placement, files, out)
+        }
+    }
+}
 
 /// Builds the FIT image of a tree: its blob (Devicetree Specification, chapter 5), and behind it the
 /// payloads that do not stand in it (Flattened Image Tree format, "External data").
@@ -59,5 +157,5 @@ pub fn build<F: Files, W: Write, A: Allocator + Copy>(
         (built (in_full (F.map files.old).bytes (node_of tree.now.root)) placement)
         (in_full (F.map files.old).bytes (node_of tree.now.root))) }
 {
-    Err(Fault::Fit(FitFault::OutOfMemory))
+    place_and_build(alloc, tree, placement, files, out)
 }

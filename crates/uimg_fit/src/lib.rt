@@ -2,6 +2,7 @@
 #![tactic(auto)]
 
 mod addresses;
+mod behind;
 mod building;
 mod digests;
 mod extraction;

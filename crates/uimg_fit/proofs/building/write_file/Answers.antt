@@ -1,0 +1,45 @@
+use Rattle.std.proofs.Common.{◌≡◌, List, ℕ, Option, ap, sym, ◌∙◌}
+use Rattle.uimg_tree.specs.Content.{Unread, in_full}
+use Rattle.uimg_tree.specs.Encoding.{encode}
+use Rattle.uimg_tree.specs.Layouts.{plan_of, totalsize}
+use Rattle.uimg_tree.specs.Trees.{node_of}
+use Rattle.uimg_fit.specs.Building.{moved, behind}
+use Rattle.uimg_fit.specs.Sources.{moved_source}
+use Rattle.uimg_fit.proofs.SendLaws.{Text, went_well, failed, goes, stops, refused, blob-sent, behind-sent}
+use Rattle.uimg_fit.proofs.building.write_file.Goals as goal
+
+pub returns-in_err-write_tree : goal.returns-in_err-write_tree
+returns-in_err-write_tree g c =
+    let steady = g.F.Opened.Source.steady in
+    let t = node_of c.args.tree.now.root in
+    let placement = c.args.placement in
+    let m = g.F.Files.map c.args.files.now in
+    let n = g.F.Files.map c.write_tree.new.files in
+    let s = c.args.out.now in
+    let u = c.write_tree.new.out in
+    let e = c.in_err-write_tree.field-0.0 in
+    let w = c.in_err-write_tree.ensures in
+    let a : Text = λ files. encode (moved (in_full files t) placement) in
+    let b : Text = λ files. behind (in_full files t) placement in
+    refused steady t c.from_residual.result e m n s u _ c.from_residual.ensures.1
+    (stops steady t e m n s u a b (blob-sent steady t placement (failed e) m n s u (node_of c.args.placed.now.root) c.requires.placed w.files w.faults w.found w.steady w.written))
+
+pub returns : goal.returns
+returns g c =
+    let steady = g.F.Opened.Source.steady in
+    let t = node_of c.args.tree.now.root in
+    let placement = c.args.placement in
+    let m = g.F.Files.map c.args.files.now in
+    let n = g.F.Files.map c.write_tree.new.files in
+    let k = g.F.Files.map c.put_behind.new.files in
+    let s = c.args.out.now in
+    let u = c.write_tree.new.out in
+    let v = c.put_behind.new.out in
+    let r = c.put_behind.result in
+    let w = c.in_ok-write_tree.ensures in
+    let a : Text = λ files. encode (moved (in_full files t) placement) in
+    let b : Text = λ files. behind (in_full files t) placement in
+    let size : totalsize (plan_of (moved_source t placement)) ≡ c.totalsize.result =
+    ap (λ (p : Unread). totalsize (plan_of p)) (sym c.requires.placed) ∙ ap totalsize (sym c.requires.plan) ∙ sym c.totalsize.ensures in
+    goes steady t r m n k s u v a b (blob-sent steady t placement went_well m n s u (node_of c.args.placed.now.root) c.requires.placed w.files w.faults w.found w.steady w.written)
+    (behind-sent steady t placement r n k u v c.totalsize.result size c.put_behind.ensures)
