@@ -1,1 +1,4 @@
 pub mod MakingLaws
+pub mod TreeLaws
+pub mod TreeListing
+pub mod CommandLaws

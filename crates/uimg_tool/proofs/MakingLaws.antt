@@ -3,23 +3,26 @@ use Rattle.std.proofs.Common.{◌≡◌, ◌∷◌, [], ℕ, List, Option, IsSom
 use Rattle.std.proofs.Math.Nat.{suc-ne-zero}
 use Rattle.std.proofs.lemmas.List.Elements.{All-nil, All-cons}
 use Rattle.uimg_base.specs.Device.{Device, SameDevice}
-use Rattle.uimg_base.specs.Sink.{Sink, AppendsAll}
-use Rattle.uimg_base.specs.Outcome.{Outcome, Tells}
+use Rattle.uimg_base.specs.Sink.{Sink, AppendsAll, AppendsPrefix}
+use Rattle.uimg_base.specs.Outcome.{Outcome, done, refused, Tells}
 use Rattle.uimg_base.specs.declared.status.Status.{Status}
 use Rattle.uimg_base.specs.declared.status.Status.TheVariants.{Done, NotRight}
 use Rattle.uimg_base.proofs.SinkLaws.{prefix_none, appended_to_nothing}
 use Rattle.uimg_base.proofs.DeviceLaws.{never_rises}
+use Rattle.uimg_blob.specs.Faults.{refuses_memory}
+use Rattle.uimg_legacy.specs.declared.fault.LegacyFault.{LegacyFault}
 use Rattle.uimg_legacy.specs.declared.options.Options.{Options}
+use Rattle.uimg_legacy.specs.Building.{legacy_built}
 use Rattle.uimg_legacy.specs.Devices.{failures_of, OneRisesIf}
 use Rattle.uimg_legacy.specs.Listing.{list_of}
 use Rattle.uimg_tool.specs.declared.fault.Fault.{Fault}
-use Rattle.uimg_tool.specs.declared.fault.Fault.TheVariants.{Legacy, Blob, Fit, Read, Put, NoFile, Keep, OutOfMemory}
+use Rattle.uimg_tool.specs.declared.fault.Fault.TheVariants.{Legacy, Blob, Fit, Its, Read, Put, NoFile, Keep, OutOfMemory}
 use Rattle.uimg_legacy.specs.declared.fault.Fault.TheVariants as legacy
 use Rattle.uimg_legacy.specs.declared.fault.Fault.{Fault as LegacyEngineFault}
 use Rattle.uimg_legacy.specs.Faults.{is_read as legacy_is_read}
-use Rattle.uimg_tool.specs.Faults.{end_of, is_read, is_keep, of_legacy}
-use Rattle.uimg_tool.specs.Headline.{outcome_as}
-use Rattle.uimg_tool.specs.Making.{HaveParts, Keeps, Makes, BuildsNames, StopsMaking, MakesAnswer}
+use Rattle.uimg_tool.specs.Faults.{end_of, unless_memory, is_read, is_keep, is_no_memory, is_of_making, of_legacy}
+use Rattle.uimg_tool.specs.Headline.{end_as, outcome_as}
+use Rattle.uimg_tool.specs.Making.{HaveParts, Keeps, Makes, Breaks, BuildsNames, StopsMaking, MakesAnswer}
 
 -- names that have parts have files
 pub have_files : (files : List ℕ → Option (List ℕ)) (names parts : List (List ℕ)) → HaveParts files names parts → All (λ name. IsSome (files name)) names
@@ -32,6 +35,7 @@ pub building_stops : (X : Type 0) (options : Options) (files : List ℕ → Opti
 building_stops X options files names (Legacy f) image built s never stop = (record { parts = stop.parts; have = stop.have; refused = stop.builds }, refl)
 building_stops X options files names (Blob f at) image built s never stop = absurd stop.builds
 building_stops X options files names (Fit f) image built s never stop = absurd stop.builds
+building_stops X options files names (Its f) image built s never stop = absurd stop.builds
 building_stops X options files names Read image built s never stop = record { parts = stop.parts; have = stop.have; prefix = prefix_none s _ }
 building_stops X options files names Put image built s never stop = (
   record { parts = stop.parts; have = stop.have; accepted = stop.builds.0 },
@@ -56,7 +60,7 @@ keeping X options files names x image built kept builds empty whole honest =
     }
 
 -- all of a text that some end tells
-all_told : (status : Status) (o : Outcome Fault) (s t : Sink) → Tells (end_of (Ok status)) o s t → AppendsAll s t o.text
+pub all_told : (status : Status) (o : Outcome Fault) (s t : Sink) → Tells (end_of (Ok status)) o s t → AppendsAll s t o.text
 all_told Done o s t told = told.1
 all_told NotRight o s t told = told.1
 
@@ -79,6 +83,34 @@ listing_makes options files names kept now status s t keeps same told =
       done = keeps.image.reads_back.listing;
     }
 
+-- a listing that ends well is not refused
+not_done : (o : Outcome LegacyFault) (f : Fault) (s t : Sink) → o.end ≡ done → Tells (Some (refused f)) (outcome_as Legacy o) s t → ⊥
+not_done o f s t ends told = let e : refused f ≡ done = sym told.0 ∙ ap (end_as Legacy) ends in absurd (cc)
+
+no_blob : (b : Bool) (o : Outcome LegacyFault) (f : Fault) (s t : Sink) → o.end ≡ done → b ≡ false → Tells (unless_memory b (refused f)) (outcome_as Legacy o) s t → ⊥
+no_blob true o f s t ends is told = absurd (cc)
+no_blob false o f s t ends is told = not_done o f s t ends told
+
+broken : (options : Options) (files : List ℕ → Option (List ℕ)) (names : List (List ℕ)) (kept : Device) (s t : Sink) (keeps : Keeps options files names kept) → AppendsPrefix s t (list_of (legacy_built options keeps.parts)).text → Breaks options files names s t
+broken options files names kept s t keeps prefix = record { parts = keeps.parts; have = keeps.have; prefix = prefix }
+
+listing_stops_by : (options : Options) (files : List ℕ → Option (List ℕ)) (names : List (List ℕ)) (kept : Device) (f : Fault) (s t : Sink) (keeps : Keeps options files names kept) → is_of_making {X = Status} (Err f) ≡ false → is_no_memory {X = Status} (Err f) ≡ false → Tells (end_of (Err f)) (outcome_as Legacy (list_of (legacy_built options keeps.parts))) s t → StopsMaking options files names f s t
+listing_stops_by options files names kept (Legacy f) s t keeps not no_memory told = absurd (not_done _ _ s t keeps.image.reads_back.listing told)
+listing_stops_by options files names kept (Blob f at) s t keeps not no_memory told = absurd (no_blob (refuses_memory f) _ _ s t keeps.image.reads_back.listing no_memory told)
+listing_stops_by options files names kept (Fit f) s t keeps not no_memory told = absurd (not_done _ _ s t keeps.image.reads_back.listing told)
+listing_stops_by options files names kept (Its f) s t keeps not no_memory told = absurd (not_done _ _ s t keeps.image.reads_back.listing told)
+listing_stops_by options files names kept Read s t keeps not no_memory told = broken options files names kept s t keeps told
+listing_stops_by options files names kept Put s t keeps not no_memory told =
+    (record { parts = keeps.parts; have = keeps.have; accepted = keeps.image.accepted }, broken options files names kept s t keeps told)
+listing_stops_by options files names kept (NoFile i) s t keeps not no_memory told = absurd (not_done _ _ s t keeps.image.reads_back.listing told)
+listing_stops_by options files names kept Keep s t keeps not no_memory told = absurd (not_done _ _ s t keeps.image.reads_back.listing told)
+listing_stops_by options files names kept OutOfMemory s t keeps not no_memory told = absurd (not_done _ _ s t keeps.image.reads_back.listing told)
+
+-- why the listing of what was kept stops
+pub listing_stops : (options : Options) (files : List ℕ → Option (List ℕ)) (names : List (List ℕ)) (kept : Device) (f : Fault) (s t : Sink) → Keeps options files names kept → is_of_making {X = Status} (Err f) ≡ false → is_no_memory {X = Status} (Err f) ≡ false → Tells (end_of (Err f)) (outcome_as Legacy (list_of kept.bytes)) s t → StopsMaking options files names f s t
+listing_stops options files names kept f s t keeps not no_memory told =
+    listing_stops_by options files names kept f s t keeps not no_memory (subst (λ (image : List ℕ). Tells (end_of (Err f)) (outcome_as Legacy (list_of image)) s t) keeps.image.bytes told)
+
 -- devices that never fail have no failure at any number
 pub no_failures : {S : Type 0} (device : S → Device) → ((s : S) → (device s).failures ≡ 0) → (sources : List S) (i : ℕ) → failures_of (map device sources) i ≡ 0
 no_failures device never [] i = refl
@@ -96,7 +128,3 @@ pub no_read_kept : (X Y : Type 0) (fault : LegacyEngineFault) → legacy_is_read
 no_read_kept X Y (legacy.Legacy f) e = refl
 no_read_kept X Y legacy.Read e = e
 no_read_kept X Y legacy.Put e = refl
-
--- an answer over files is one over the same files
-pub made_of_same : {K : Type 0} (device : K → Device) (options : Options) (a b : List ℕ → Option (List ℕ)) (names : List (List ℕ)) (result : Result K Fault) (s t : Sink) → a ≡ b → MakesAnswer device options a names result s t → MakesAnswer device options b names result s t
-made_of_same device options a b names result s t same made = subst (λ (files : List ℕ → Option (List ℕ)). MakesAnswer device options files names result s t) same made

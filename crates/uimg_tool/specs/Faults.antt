@@ -1,15 +1,18 @@
 -- What the answers of a command say.
-use Rattle.std.specs.Prelude.{Result, Ok, Err, Option, Some, None, Bool, true, false}
+use Rattle.std.specs.Prelude.{Result, Ok, Err, Option, Some, None, Bool, true, false, not}
 use Rattle.uimg_base.specs.Outcome.{End, done, not_right, refused}
 use Rattle.uimg_base.specs.declared.status.Status.{Status}
 use Rattle.uimg_base.specs.declared.status.Status.TheVariants.{Done, NotRight}
 use Rattle.uimg_blob.specs.Faults.{refuses_memory}
 use Rattle.uimg_fit.specs.declared.fault.Fault.TheVariants as fit
 use Rattle.uimg_fit.specs.declared.fault.Fault.{Fault as FitEngineFault}
+use Rattle.uimg_fit.specs.declared.fault.FitFault.{FitFault}
+use Rattle.uimg_fit.specs.declared.fault.FitFault.TheVariants as fit_fault
+use Rattle.uimg_its.specs.Answers.{tells_no_file}
 use Rattle.uimg_legacy.specs.declared.fault.Fault.TheVariants as legacy
 use Rattle.uimg_legacy.specs.declared.fault.Fault.{Fault as LegacyEngineFault}
 use Rattle.uimg_tool.specs.declared.fault.Fault.{Fault}
-use Rattle.uimg_tool.specs.declared.fault.Fault.TheVariants.{Legacy, Blob, Fit, Read, Put, NoFile, Keep, OutOfMemory}
+use Rattle.uimg_tool.specs.declared.fault.Fault.TheVariants.{Legacy, Blob, Fit, Its, Read, Put, NoFile, Keep, OutOfMemory}
 
 -- the command's fault that a fault of the engine of legacy images is
 abbrev pub of_legacy : LegacyEngineFault → Fault
@@ -51,20 +54,41 @@ abbrev pub is_keep : {X : Type 0} → Result X Fault → Bool
 is_keep (Err Keep) = true
 is_keep _ = false
 
--- the answer is that the image, the files, or the memory for them were refused: nothing is written then
+-- the fault of images is that the open of a payload's file was refused
+abbrev pub refuses_payload : FitFault → Bool
+refuses_payload fit_fault.NoFile = true
+refuses_payload _ = false
+
+-- the answer is that the image, the files, the source or the memory for them were refused: nothing is written then, unless
+-- a payload's file could not be opened
 abbrev pub is_before_building : {X : Type 0} → Result X Fault → Bool
 is_before_building (Err (Legacy fault)) = true
+is_before_building (Err (Blob fault at)) = true
+is_before_building (Err (Fit fault)) = not (refuses_payload fault)
+is_before_building (Err (Its fault)) = true
 is_before_building (Err (NoFile i)) = true
 is_before_building (Err OutOfMemory) = true
 is_before_building _ = false
 
--- the answer is that a file could not be opened
+-- the answer is that a file of the command could not be opened
 abbrev pub is_no_file : {X : Type 0} → Result X Fault → Bool
 is_no_file (Err (NoFile i)) = true
 is_no_file _ = false
 
+-- the answer is that the source could not be opened, or a file that is read into its tree
+abbrev pub is_no_text : {X : Type 0} → Result X Fault → Bool
+is_no_text (Err (NoFile i)) = true
+is_no_text (Err (Its fault)) = tells_no_file fault.kind
+is_no_text _ = false
+
+-- the answer is that a payload's file could not be opened
+abbrev pub is_no_payload : {X : Type 0} → Result X Fault → Bool
+is_no_payload (Err (Fit fault)) = refuses_payload fault
+is_no_payload _ = false
+
 -- the answer is one that only a making gives: nothing is listed then
 abbrev pub is_of_making : {X : Type 0} → Result X Fault → Bool
+is_of_making (Err (Its fault)) = true
 is_of_making (Err (NoFile i)) = true
 is_of_making (Err Keep) = true
 is_of_making (Err OutOfMemory) = true
@@ -76,7 +100,7 @@ unless_memory true e = None
 unless_memory false e = Some e
 
 -- The end that an answer tells, where no device failed and no memory was refused. A command on an image answers none of the
--- last three, which no outcome has as its end.
+-- faults of a making, which no outcome has as its end.
 abbrev pub end_of : Result Status Fault → Option (End Fault)
 end_of (Ok Done) = Some done
 end_of (Ok NotRight) = Some not_right

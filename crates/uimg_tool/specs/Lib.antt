@@ -1,3 +1,5 @@
 pub mod Faults
 pub mod Headline
 pub mod Making
+pub mod MakingTrees
+pub mod Commands

@@ -12,18 +12,8 @@ use Rattle.uimg_legacy.specs.Building.{data_of, data_to_build, legacy_built, bui
 use Rattle.uimg_legacy.specs.Devices.{bytes_of, AreHonest}
 use Rattle.uimg_legacy.specs.ReadsBack.{ReadsBack}
 use Rattle.uimg_tool.specs.declared.fault.Fault.{Fault}
-use Rattle.uimg_tool.specs.declared.fault.Fault.TheVariants.{Legacy, Blob, Fit, Read, Put, NoFile, Keep, OutOfMemory}
+use Rattle.uimg_tool.specs.declared.fault.Fault.TheVariants.{Legacy, Blob, Fit, Its, Read, Put, NoFile, Keep, OutOfMemory}
 use Rattle.uimg_tool.specs.Faults.{is_no_file}
-use Rattle.uimg_tool.specs.declared.make_command.MakeCommand.{MakeCommand}
-use Rattle.uimg_tool.specs.declared.make_command.MakeCommand.TheVariants.{Parts}
-
--- the options of a command
-abbrev pub options_of : MakeCommand → Options
-options_of (Parts options files) = options
-
--- the names of a command's files
-abbrev pub names_of : MakeCommand → List (List ℕ)
-names_of (Parts options files) = map (λ name. name.items) files.items
 
 -- There is a name, and no second one unless the type is multi or script.
 pub record FitNames (options : Options) (names : List (List ℕ)) : Type 0 where
@@ -124,6 +114,7 @@ abbrev pub StopsMaking : Options → (List ℕ → Option (List ℕ)) → List (
 StopsMaking options files names (Legacy fault) s t = Refuses options files names fault × (t ≡ s)
 StopsMaking options files names (Blob fault at) s t = ⊥
 StopsMaking options files names (Fit fault) s t = ⊥
+StopsMaking options files names (Its fault) s t = ⊥
 StopsMaking options files names Read s t = Breaks options files names s t
 StopsMaking options files names Put s t = Accepts options files names × Breaks options files names s t
 StopsMaking options files names (NoFile i) s t = Misses files names i × (t ≡ s)

@@ -3,6 +3,7 @@ use thiserror::Error;
 use uimg_base::SourceFault;
 use uimg_blob::BlobFault;
 use uimg_fit::FitFault;
+use uimg_its::ItsFault;
 use uimg_legacy::LegacyFault;
 
 /// Why a command on an image, or the making of one, stopped. Its text is the line that the program
@@ -14,13 +15,17 @@ pub enum Fault {
     Legacy(LegacyFault),
 
     /// The blob of the FIT image is refused, or the memory for the table of its nodes was; the offset
-    /// is counted from the file's start.
+    /// is counted from the file's start. A name of the tree that one is made from is refused at 0.
     #[error("{0} at {1}")]
     Blob(BlobFault, u64),
 
-    /// The FIT image is refused.
+    /// The FIT image, or the tree that one is made from, is refused.
     #[error("{0}")]
     Fit(FitFault),
+
+    /// The image source is not compiled. Only `make` answers it.
+    #[error("{0}")]
+    Its(ItsFault),
 
     /// A read failed.
     #[error("read failed")]
@@ -30,7 +35,8 @@ pub enum Fault {
     #[error("write failed")]
     Put,
 
-    /// The file of this number, counted from 0, could not be opened. Only `make` answers it.
+    /// The file of this number, counted from 0, could not be opened; an image source is number 0. Only
+    /// `make` answers it.
     #[error("cannot read file {0}")]
     NoFile(u64),
 
@@ -38,7 +44,8 @@ pub enum Fault {
     #[error("cannot read what was written")]
     Keep,
 
-    /// The memory for the opened files was refused. Only `make` answers it.
+    /// The memory for the opened files, or for the text of the image source, was refused. Only `make`
+    /// answers it.
     #[error("out of memory")]
     OutOfMemory,
 }

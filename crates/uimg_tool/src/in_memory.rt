@@ -3,7 +3,7 @@ ghost use Rattle.std.specs.Prelude.{◌≡◌, false, Some, IfErr};
 ghost use Rattle.uimg_base.specs.Named.{bytes_named};
 ghost use Rattle.uimg_tool.specs.Faults.{is_read, is_put, is_no_memory, is_keep, end_of};
 ghost use Rattle.uimg_tool.specs.Headline.{outcome_of, is_fit};
-ghost use Rattle.uimg_tool.specs.Making.{options_of, names_of, FitNames, Lacks, timed, MakesAnswer};
+ghost use Rattle.uimg_tool.specs.Commands.{IsFit, LacksFile, MakesCommand};
 
 use crate::command::Command;
 use crate::engine::run_by_form;
@@ -42,11 +42,11 @@ pub fn run_in_memory<A: Allocator, B: Allocator>(
 /// bytes, and gives it as a source: what `make` does over these.
 ///
 /// It is the image of the files' bytes, which reads back, and exactly its listing was written.
-/// `Fault::NoFile` comes only for a name that no file has, and neither `Fault::Read` nor
-/// `Fault::Keep` ever comes. `Fault::OutOfMemory` comes where the memory for the opened files was
-/// refused, `Fault::Put` where a write of the listing failed, or the memory for the image was
-/// refused.
-pub fn make_in_memory<W: Write, A: Allocator, B: Allocator, H: Allocator>(
+/// `Fault::NoFile` comes only for a name that no file has, and neither `Fault::Read`, `Fault::Keep` nor
+/// `NoFile` of a FIT image ever comes. `Fault::OutOfMemory` comes where the memory for the opened files
+/// or for the text was refused, `Fault::Put` where a write of the listing failed, or the memory for the
+/// image was refused.
+pub fn make_in_memory<W: Write, A: Allocator + Copy, B: Allocator, H: Allocator>(
     alloc: A,
     command: &MakeCommand,
     time: u32,
@@ -55,12 +55,10 @@ pub fn make_in_memory<W: Write, A: Allocator, B: Allocator, H: Allocator>(
     room: &mut Room<B>,
     out: &mut Out<W>,
 ) -> Result<MemKept<H>, Fault>
-    requires fit { FitNames (options_of command.now) (names_of command.now) }
-    ensures made { MakesAnswer (⟦<MemKept<H> as Source>⟧.device)
-        (timed (options_of command.now) time) (λ name. bytes_named name files.now)
-        (names_of command.now) result out.old out.new }
-    ensures missing { IfErr result (Lacks (λ name. bytes_named name files.now)
-        (names_of command.now)) }
+    requires fit { IsFit command.now }
+    ensures made { MakesCommand (⟦<MemKept<H> as Source>⟧.device) command.now time
+        (λ name. bytes_named name files.now) result out.old out.new }
+    ensures missing { IfErr result (LacksFile command.now (λ name. bytes_named name files.now)) }
     ensures read { is_read result ≡ false }
     ensures keep { is_keep result ≡ false }
 {

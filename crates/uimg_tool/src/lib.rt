@@ -10,6 +10,9 @@ mod in_memory;
 mod main_program;
 mod make_command;
 mod making;
+mod making_lists;
+mod making_parts;
+mod making_trees;
 mod number_words;
 #[cfg(test)]
 mod tests;

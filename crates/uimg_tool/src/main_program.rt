@@ -14,6 +14,7 @@ use thiserror::Error;
 use uimg_base::{FileShelf, FileSource, Out, Room, Status};
 use uimg_blob::BlobFault;
 use uimg_fit::FitFault;
+use uimg_its::Kind;
 
 /// All is done.
 const DONE: u8 = 0;
@@ -100,6 +101,7 @@ fn status_of(fault: &RequestFault<'_>) -> u8 {
         RequestFault::Stopped(Fault::Legacy(_)) => REFUSED,
         RequestFault::Stopped(Fault::Blob(fault, _)) if *fault != BlobFault::OutOfMemory => REFUSED,
         RequestFault::Stopped(Fault::Fit(fault)) => status_of_fit(*fault),
+        RequestFault::Stopped(Fault::Its(fault)) => status_of_source(fault.kind),
         _ => FAILED,
     }
 }
@@ -107,6 +109,13 @@ fn status_of(fault: &RequestFault<'_>) -> u8 {
 fn status_of_fit(fault: FitFault) -> u8 {
     match fault {
         FitFault::OutOfMemory | FitFault::NoFile | FitFault::ReadFailed => FAILED,
+        _ => REFUSED,
+    }
+}
+
+fn status_of_source(kind: Kind) -> u8 {
+    match kind {
+        Kind::NoFile | Kind::ReadFailed | Kind::OutOfMemory => FAILED,
         _ => REFUSED,
     }
 }
@@ -180,7 +189,7 @@ fn make_image<'a, R: Files + AllocGlobal, W: Write>(
         rt.alloc(),
         &request.command,
         request.time,
-        &mut DiskFiles::new(rt, ""),
+        &mut DiskFiles::new(rt, request.folder),
         FileShelf::new(rt, request.outfile),
         &mut Room::new(rt.alloc()),
         &mut Out::new(out),
@@ -194,18 +203,20 @@ fn make_image<'a, R: Files + AllocGlobal, W: Write>(
 // Why a making stopped, with the path that the command line gave.
 fn stopped_making<'a>(request: &'a MakeRequest<'_>, fault: Fault) -> RequestFault<'a> {
     match fault {
-        Fault::NoFile(number) => RequestFault::CannotRead(file_name(&request.command, number)),
+        Fault::NoFile(number) => RequestFault::CannotRead(file_path(request, number)),
         Fault::Keep => RequestFault::CannotRead(request.outfile),
         _ => RequestFault::Stopped(fault),
     }
 }
 
-// The name of a file of a command line, as the line gave it.
-fn file_name(command: &MakeCommand, number: u64) -> &str {
-    let MakeCommand::Parts { options: _, files } = command;
-    match files.get(number as usize) {
-        Some(name) => str::from_utf8(name).unwrap_or(""),
-        None => "",
+// The path of a file of a command line, as the line gave it.
+fn file_path<'a>(request: &'a MakeRequest<'_>, number: u64) -> &'a str {
+    match &request.command {
+        MakeCommand::Parts { options: _, files } => match files.get(number as usize) {
+            Some(name) => str::from_utf8(name).unwrap_or(""),
+            None => "",
+        },
+        MakeCommand::Tree { .. } => request.source,
     }
 }
 

@@ -1,3 +1,4 @@
+use uimg_fit::Placement;
 use uimg_legacy::Options;
 
 /// What an image is made from.
@@ -11,5 +12,14 @@ pub enum MakeCommand {
         /// The names of the files: at least one, and exactly one unless the type is multi or
         /// script.
         files: Vec<Vec<u8>>,
+    },
+
+    /// A FIT image is built from image-tree source.
+    Tree {
+        /// The name of the source's file.
+        source: Vec<u8>,
+
+        /// Where its payloads stand.
+        placement: Placement,
     },
 }

@@ -61,10 +61,6 @@ pub enum WordsFault {
     #[error("-d with -f")]
     DataWithSource,
 
-    /// A source, which cannot be compiled yet.
-    #[error("-f is not there yet: image source cannot be compiled")]
-    SourceNotYet,
-
     /// The word of -A, -O, -T or -C is no known short name.
     #[error("unknown name")]
     UnknownName,

@@ -10,15 +10,17 @@ pub(super) const MKIMAGE_NOTES: &str = "Short names:
   <comp>  none gzip bzip2 lzma lzo lz4 zstd
 
 A value that begins with '-' stands right behind its option, as in -n-x.
-FIT images are listed by -l, and are not made yet.
+With -f the options before -d have no effect, and with -d -E and -p have none.
+Files that the image source names are looked for in its folder.
 
 Examples:
   uimg mkimage -A arm64 -C none -a 80000 -n 'kernel 6.1' -d Image uImage
   uimg mkimage -A arm -T multi -d zImage:initrd.gz multi.img
+  uimg mkimage -f kernel.its -E -p 1000 kernel.itb
 
 Exit status:
   0  The image was made, or listed
-  1  The image or a part is refused
+  1  The image, a part or the image source is refused
   2  The command line is wrong
   3  A file cannot be opened, or a read, a write or memory failed";
 

@@ -1,6 +1,6 @@
 ghost use Rattle.std.specs.Prelude.{◌≡◌, ◌≢◌, false, length, IfOk};
 ghost use Rattle.uimg_legacy.specs.Parts.{has_parts};
-ghost use Rattle.uimg_tool.specs.Making.{FitNames, options_of, names_of};
+ghost use Rattle.uimg_tool.specs.Commands.{IsFit, is_fit_prop};
 
 use super::help_notes::MKIMAGE_NOTES;
 use super::{Request, RunRequest, WordsFault, flag, image, value};
@@ -10,6 +10,7 @@ use crate::number_words::{decimal, hexadecimal};
 use clap::ArgMatches;
 use std::alloc::{AllocError, Global};
 use uimg_base::{FLAT_DT, arch_code, comp_code, kind_code, os_code};
+use uimg_fit::Placement;
 use uimg_legacy::{Options, has_parts, name_field};
 
 /// The making of an image.
@@ -21,10 +22,16 @@ pub struct MakeRequest<'a> {
     /// The time of the making, in seconds since 1970.
     pub time: u32,
 
+    /// The path of the image source, or an empty text where it is made from data.
+    pub source: &'a str,
+
+    /// The folder of the files, the current one where it is empty.
+    pub folder: &'a str,
+
     /// The path of the image.
     pub outfile: &'a str,
 
-    ghost fits: { FitNames (options_of command) (names_of command) },
+    ghost fits: { IsFit command } by { is_fit_prop command },
 }
 
 pub(super) fn command<'a>(alloc: Global) -> Result<clap::Command<'a>, AllocError> {
@@ -80,12 +87,7 @@ fn source_options<'a>(
     command: clap::Command<'a>,
 ) -> Result<clap::Command<'a>, AllocError> {
     command
-        .arg(value(
-            alloc,
-            "source",
-            'f',
-            "Image source, which cannot be compiled yet",
-        ))?
+        .arg(value(alloc, "source", 'f', "The image source of a FIT image"))?
         .arg(flag(
             alloc,
             "external",
@@ -120,7 +122,11 @@ pub(super) fn request<'a>(
     match (matches.get_str("data"), matches.get_str("source")) {
         (None, None) => Err(WordsFault::NoDataOrSource),
         (Some(_), Some(_)) => Err(WordsFault::DataWithSource),
-        (None, Some(_)) => Err(WordsFault::SourceNotYet),
+        (None, Some(source)) => {
+            let placement = placement(matches)?;
+            let time = time(epoch, now)?;
+            Ok(Request::Make(tree_request(alloc, source, placement, time, image)?))
+        }
         (Some(data), None) => {
             let options = options(matches)?;
             let time = time(epoch, now)?;
@@ -141,8 +147,47 @@ fn parts_request<'a>(
     Ok(MakeRequest {
         command: MakeCommand::Parts { options, files },
         time,
+        source: "",
+        folder: "",
         outfile,
     })
+}
+
+// The making of an image from the source of the word of -f, whose folder is that of its files.
+fn tree_request<'a>(
+    alloc: Global,
+    path: &'a str,
+    placement: Placement,
+    time: u32,
+    outfile: &'a str,
+) -> Result<MakeRequest<'a>, AllocError> {
+    let (folder, name) = cut_behind_folder(path);
+    let source = Vec::from_slice(alloc, name.as_bytes())?;
+    Ok(MakeRequest {
+        command: MakeCommand::Tree { source, placement },
+        time,
+        source: path,
+        folder,
+        outfile,
+    })
+}
+
+// A path, cut behind its last slash.
+fn cut_behind_folder(path: &str) -> (&str, &str) {
+    match path.rfind('/') {
+        Some(slash) => path.split_at(slash + 1),
+        None => ("", path),
+    }
+}
+
+// Where the options place the payloads. The number of -p is looked at without -E too.
+fn placement(matches: &ArgMatches<'_>) -> Result<Placement, WordsFault> {
+    let position = address(matches.get_str("position"), 0)?;
+    match (matches.get_flag("external"), position) {
+        (false, _) => Ok(Placement::Inside),
+        (true, 0) => Ok(Placement::After),
+        (true, _) => Ok(Placement::At(position)),
+    }
 }
 
 // The names that the word of -d has for an image type.

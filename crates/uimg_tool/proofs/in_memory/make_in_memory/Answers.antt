@@ -1,7 +1,7 @@
-use Rattle.std.proofs.Common.{rules, ◌≡◌, ℕ, List, Option, IfErr, ap, subst, refl}
+use Rattle.std.proofs.Common.{rules, ℕ, List, Option, IfErr, ap, subst, refl}
 use Rattle.uimg_base.specs.Named.{FileMap}
-use Rattle.uimg_tool.specs.Making.{names_of, Lacks}
-use Rattle.uimg_tool.proofs.MakingLaws.{made_of_same}
+use Rattle.uimg_tool.specs.Commands.{LacksFile}
+use Rattle.uimg_tool.proofs.CommandLaws.{made_of_same, lacks_file}
 use Rattle.uimg_tool.proofs.in_memory.make_in_memory.Goals as goal
 
 pub returns-clause-made : goal.returns-clause-made
@@ -10,6 +10,6 @@ returns-clause-made g c =
 
 pub returns-clause-missing : goal.returns-clause-missing
 returns-clause-missing g c =
-    subst (λ (files : List ℕ → Option (List ℕ)). IfErr c.make.result (Lacks files (names_of c.args.command.now)))
+    subst (λ (files : List ℕ → Option (List ℕ)). IfErr c.make.result (LacksFile c.args.command.now files))
     (ap (λ (m : FileMap). m.bytes) c.new.ensures)
-    (c.make.ensures.files.missing (search rules))
+    (lacks_file _ c.args.command.now c.make.result _ _ c.make.ensures.files (search rules, refl, search rules) (search rules))

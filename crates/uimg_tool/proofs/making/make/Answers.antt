@@ -1,19 +1,30 @@
 use Rattle.std.proofs.Common.{rules, ◌≡◌, Some, []}
 use Rattle.std.proofs.lemmas.Result.{err_from_is_err_and}
-use Rattle.uimg_tool.specs.Making.{options_of, timed}
-use Rattle.uimg_tool.proofs.MakingLaws.{building_stops, keeping, listing_makes}
+use Rattle.uimg_tool.proofs.CommandLaws.{building_stops_command, keeping_command, listing_makes_command, listing_stops_command, room_stays}
 use Rattle.uimg_tool.proofs.making.make.Goals as goal
 
 pub returns-in_err-build_image-clause-made : goal.returns-in_err-build_image-clause-made
 returns-in_err-build_image-clause-made g c = λ files shelf empty.
     let p = err_from_is_err_and c.from_residual.result c.from_residual.ensures.1 in
     let never = c.in_err-build_image.ensures.never_keep in
-    rw (p.1, p.2) (building_stops _ _ _ _ c.in_err-build_image.field-0.0 _ _ _ never (c.in_err-build_image.ensures.built files))
+    rw (p.1, p.2) (building_stops_command _ g.H.Kept.Source.device c.args.command.now c.args.time _ c.in_err-build_image.field-0.0 _ _ _ never (c.in_err-build_image.ensures.built files))
+
+pub returns-in_err-build_image-clause-room : goal.returns-in_err-build_image-clause-room
+returns-in_err-build_image-clause-room g c =
+    let p = err_from_is_err_and c.from_residual.result c.from_residual.ensures.1 in
+    rw (p.1, p.2) (room_stays _ g.H.Kept.Source.device _ c.args.command.now c.args.time _ c.in_err-build_image.field-0.0 _ _ _ _ c.clear.ensures c.in_err-build_image.ensures.built)
+
+pub returns-in_err-list_kept-clause-made : goal.returns-in_err-list_kept-clause-made
+returns-in_err-list_kept-clause-made g c = λ files shelf empty.
+    let p = err_from_is_err_and c.from_residual-in_err-list_kept.result c.from_residual-in_err-list_kept.ensures.1 in
+    let kept = c.in_ok-kept.ensures.kept shelf in
+    let none : c.new-image.result.contents ≡ Some [] = search rules in
+    let keeps = keeping_command c.args.command.now c.args.time _ _ _ _ (g.H.Kept.Source.device c.in_ok-kept.kept) (c.in_ok-build_image.ensures.built files) none kept.0 kept.1 in
+    rw (p.1, p.2) (listing_stops_command g.H.Kept.Source.device c.args.command.now c.args.time _ _ c.in_err-list_kept.field-0.0 _ _ _ _ keeps c.in_err-list_kept.ensures.not_making c.in_err-list_kept.ensures.room (c.in_err-list_kept.ensures.told kept.1))
 
 pub returns-clause-made : goal.returns-clause-made
 returns-clause-made g c = λ files shelf empty.
-    let options = timed (options_of c.args.command.now) c.args.time in
     let kept = c.in_ok-kept.ensures.kept shelf in
     let none : c.new-image.result.contents ≡ Some [] = search rules in
-    let keeps = keeping _ options _ _ _ _ _ (g.H.Kept.Source.device c.in_ok-kept.kept) (c.in_ok-build_image.ensures.built files) none kept.0 kept.1 in
-    listing_makes options _ _ _ _ c.in_ok-run_legacy.field-0 _ _ keeps c.run_legacy.ensures.uses.same (c.in_ok-run_legacy.ensures.told keeps.image.honest)
+    let keeps = keeping_command c.args.command.now c.args.time _ _ _ _ (g.H.Kept.Source.device c.in_ok-kept.kept) (c.in_ok-build_image.ensures.built files) none kept.0 kept.1 in
+    listing_makes_command g.H.Kept.Source.device _ c.args.command.now c.args.time _ _ c.in_ok-list_kept.field-0 _ _ keeps c.list_kept.ensures.same (c.in_ok-list_kept.ensures.told kept.1)

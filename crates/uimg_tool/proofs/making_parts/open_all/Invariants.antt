@@ -2,7 +2,7 @@ use Rattle.std.proofs.Common.{◌≡◌, length, map, take, IsTrue}
 use Rattle.uimg_base.specs.Named.{SameFiles}
 use Rattle.uimg_legacy.specs.Devices.{bytes_of, AreHonest}
 use Rattle.uimg_tool.specs.Making.{HaveParts}
-use Rattle.uimg_tool.proofs.making.open_all.Given as goal
+use Rattle.uimg_tool.proofs.making_parts.open_all.Given as goal
 
 -- the first names are opened
 abbrev pub invariant-loop-i : goal.invariant-loop-i

@@ -1,7 +1,7 @@
 use Rattle.std.proofs.lemmas.List.{take-map}
 use Rattle.std.proofs.Math.ListN.{length-map}
 use Rattle.uimg_tool.proofs.MakingLaws.{have_files}
-use Rattle.uimg_tool.proofs.making.open_all.Goals as goal
+use Rattle.uimg_tool.proofs.making_parts.open_all.Goals as goal
 
 pub returns-in_default-clause-opened : goal.returns-in_default-clause-opened
 returns-in_default-clause-opened g c = λ honest. record {

@@ -2,7 +2,7 @@ use Rattle.std.proofs.Common.{rules}
 use Rattle.std.specs.Bool.{⊤}
 use Rattle.std.proofs.lemmas.Result.{err_from_is_err_and}
 use Rattle.uimg_tool.proofs.MakingLaws.{none_fails, no_read_kept}
-use Rattle.uimg_tool.proofs.making.build_parts.Goals as goal
+use Rattle.uimg_tool.proofs.making_parts.build_opened.Goals as goal
 
 pub returns-in_err-build-clause-reads : goal.returns-in_err-build-clause-reads
 returns-in_err-build-clause-reads g c = λ steady.

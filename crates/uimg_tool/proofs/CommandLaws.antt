@@ -1,0 +1,83 @@
+-- What a making says, by its command.
+use Rattle.std.proofs.Common.{◌≡◌, ℕ, List, [], Option, Some, Result, Ok, Err, Bool, true, false, IsTrue, IfErr, map, ap, sym, subst, refl}
+use Rattle.std.specs.Bool.{⊤}
+use Rattle.uimg_base.specs.Device.{Device, SameDevice, RisesIf}
+use Rattle.uimg_base.specs.Held.{Held}
+use Rattle.uimg_base.specs.Named.{FileMap}
+use Rattle.uimg_base.specs.Sink.{Sink}
+use Rattle.uimg_base.specs.Outcome.{Tells}
+use Rattle.uimg_base.specs.declared.status.Status.{Status}
+use Rattle.uimg_tool.specs.declared.fault.Fault.{Fault}
+use Rattle.uimg_tool.specs.declared.fault.Fault.TheVariants.{Legacy, Blob, Fit, Its, Read, Put, NoFile, Keep, OutOfMemory}
+use Rattle.uimg_tool.specs.declared.make_command.MakeCommand.{MakeCommand}
+use Rattle.uimg_tool.specs.declared.make_command.MakeCommand.TheVariants.{Parts, Tree}
+use Rattle.uimg_tool.specs.Faults.{end_of, is_keep, is_of_making, is_no_memory, is_no_payload}
+use Rattle.uimg_tool.specs.Making.{timed, Keeps}
+use Rattle.uimg_tool.specs.MakingTrees.{KeepsTree}
+use Rattle.uimg_tool.specs.Commands.{LacksSource, LacksPayload, LacksFile, OpensToMake, BuildsCommand, MakesCommand, LeavesRoom, listing_of, TakesListing}
+use Rattle.uimg_tool.proofs.MakingLaws.{building_stops, keeping, listing_makes, listing_stops}
+use Rattle.uimg_tool.proofs.TreeListing.{building_stops_tree, keeping_tree, listing_makes_tree, listing_stops_tree, no_memory_built}
+
+-- what is kept
+abbrev KeepsCommand : MakeCommand → ℕ → (List ℕ → Option (List ℕ)) → Device → Type 0
+KeepsCommand (Parts options names) time files kept = Keeps (timed options time) files (map (λ name. name.items) names.items) kept
+KeepsCommand (Tree source placement) time files kept = KeepsTree files source.items time placement kept
+
+-- why an image is not built, where nothing is listed
+pub building_stops_command : (X : Type 0) {K : Type 0} (device : K → Device) (command : MakeCommand) (time : ℕ) (files : List ℕ → Option (List ℕ)) (f : Fault) (image now s : Sink) → is_keep {X = X} (Err f) ≡ false → BuildsCommand {X = X} command time files (Err f) image now → MakesCommand device command time files (Err f) s s
+building_stops_command X device (Parts options names) time files f image now s never stop = building_stops X _ files _ f image now s never stop
+building_stops_command X device (Tree source placement) time files f image now s never stop = building_stops_tree X files source.items time placement f image now s stop
+
+-- an image that was built on an empty shelf, and kept
+pub keeping_command : {X : Type 0} (command : MakeCommand) (time : ℕ) (files : List ℕ → Option (List ℕ)) (x : X) (image now : Sink) (kept : Device) → BuildsCommand command time files (Ok x) image now → image.contents ≡ Some [] → now.contents ≡ Some kept.bytes → IsTrue kept.honest → KeepsCommand command time files kept
+keeping_command {X = X} (Parts options names) time files x image now kept builds empty whole honest = keeping X _ files _ x image now kept builds empty whole honest
+keeping_command (Tree source placement) time files x image now kept builds empty whole honest = keeping_tree files source.items time placement image now kept builds empty whole honest
+
+-- what is kept, and then listed
+pub listing_makes_command : {K : Type 0} (device : K → Device) (k : K) (command : MakeCommand) (time : ℕ) (files : List ℕ → Option (List ℕ)) (kept : Device) (status : Status) (s t : Sink) → KeepsCommand command time files kept → SameDevice kept (device k) → Tells (end_of (Ok status)) (listing_of command kept.bytes) s t → MakesCommand device command time files (Ok k) s t
+listing_makes_command device k (Parts options names) time files kept status s t keeps same told = listing_makes _ files _ kept (device k) status s t keeps same told
+listing_makes_command device k (Tree source placement) time files kept status s t keeps same told = listing_makes_tree files source.items time placement kept (device k) status s t keeps same told
+
+-- why the listing stops
+pub listing_stops_command : {K : Type 0} (device : K → Device) (command : MakeCommand) (time : ℕ) (files : List ℕ → Option (List ℕ)) (kept : Device) (f : Fault) (s t : Sink) (old new : Held) → KeepsCommand command time files kept → is_of_making {X = Status} (Err f) ≡ false → TakesListing command kept (is_no_memory {X = Status} (Err f)) old new → Tells (end_of (Err f)) (listing_of command kept.bytes) s t → MakesCommand device command time files (Err f) s t
+listing_stops_command device (Parts options names) time files kept f s t old new keeps not takes told = listing_stops _ files _ kept f s t keeps not takes.1 told
+listing_stops_command device (Tree source placement) time files kept f s t old new keeps not takes told = listing_stops_tree files source.items time placement kept f s t keeps not told
+
+-- the room, where no image is built
+pub room_stays : (X : Type 0) {K : Type 0} (device : K → Device) (honest : Bool) (command : MakeCommand) (time : ℕ) (files : List ℕ → Option (List ℕ)) (f : Fault) (image now : Sink) (old new : Held) → new ≡ record old { entries = [] } → (IsTrue honest → BuildsCommand {X = X} command time files (Err f) image now) → LeavesRoom device honest command (Err f) old new
+room_stays X device honest (Parts options names) time files f image now old new cleared built = cleared
+room_stays X device honest (Tree source placement) time files f image now old new cleared built = λ is.
+    subst (λ (b : Bool). RisesIf b old.refused new.refused) (sym (no_memory_built X ⊤ files source.items time placement f image now (built is))) (ap (λ (h : Held). h.refused) cleared)
+
+-- an answer over files is one over the same files
+pub made_of_same : {K : Type 0} (device : K → Device) (command : MakeCommand) (time : ℕ) (a b : List ℕ → Option (List ℕ)) (result : Result K Fault) (s t : Sink) → a ≡ b → MakesCommand device command time a result s t → MakesCommand device command time b result s t
+made_of_same device command time a b result s t same made = subst (λ (files : List ℕ → Option (List ℕ)). MakesCommand device command time files result s t) same made
+
+-- what files that are complete and honest lack
+lacks_by : (files : List ℕ → Option (List ℕ)) (source : List ℕ) (f : Fault) → LacksSource files source f → is_no_payload {X = ⊤} (Err f) ≡ false → LacksPayload files source f
+lacks_by files source (Legacy f) lacks found = tt
+lacks_by files source (Blob f at) lacks found = tt
+lacks_by files source (Fit f) lacks found = found
+lacks_by files source (Its f) lacks found = tt
+lacks_by files source Read lacks found = tt
+lacks_by files source Put lacks found = tt
+lacks_by files source (NoFile i) lacks found = lacks
+lacks_by files source Keep lacks found = tt
+lacks_by files source OutOfMemory lacks found = tt
+
+payload_again : (X Y : Type 0) (f : Fault) → is_no_payload {X = X} (Err f) ≡ false → is_no_payload {X = Y} (Err f) ≡ false
+payload_again X Y (Legacy f) h = refl
+payload_again X Y (Blob f at) h = refl
+payload_again X Y (Fit f) h = h
+payload_again X Y (Its f) h = refl
+payload_again X Y Read h = refl
+payload_again X Y Put h = refl
+payload_again X Y (NoFile i) h = refl
+payload_again X Y Keep h = refl
+payload_again X Y OutOfMemory h = refl
+
+pub lacks_file : {X : Type 0} (sure : Type 0) (command : MakeCommand) (result : Result X Fault) (old new : FileMap) → OpensToMake sure command result old new → sure → IsTrue old.complete → IfErr result (LacksFile command old.bytes)
+lacks_file sure (Parts options names) result old new opens is complete = opens.missing complete
+lacks_file sure (Tree source placement) (Ok x) old new opens is complete = tt
+lacks_file {X = X} sure (Tree source placement) (Err f) old new opens is complete =
+    lacks_by old.bytes source.items f (opens.missing complete) (payload_again X ⊤ f (opens.found is complete))

@@ -1,0 +1,105 @@
+-- What the making of an image gives, by its command.
+use Rattle.std.specs.Prelude.{◌≡◌, ℕ, List, [], map, Option, None, Result, Ok, Err, IsTrue, IfErr, Bool, false, ⊤}
+use Rattle.std.specs.Bool.{OnFalse}
+use Rattle.std.proofs.Props.{props}
+use Rattle.uimg_base.specs.Device.{Device, Rose, RisesIf}
+use Rattle.uimg_base.specs.Held.{Held}
+use Rattle.uimg_base.specs.Named.{FileMap, SameFiles}
+use Rattle.uimg_base.specs.Outcome.{Outcome}
+use Rattle.uimg_base.specs.Sink.{Sink}
+use Rattle.uimg_fit.specs.Rooms.{TakesNodes}
+use Rattle.uimg_tool.specs.declared.fault.Fault.{Fault}
+use Rattle.uimg_tool.specs.declared.fault.Fault.TheVariants.{NoFile, Fit}
+use Rattle.uimg_tool.specs.declared.command.Action.TheVariants as Action
+use Rattle.uimg_tool.specs.declared.command.Form.TheVariants as Form
+use Rattle.uimg_tool.specs.declared.make_command.MakeCommand.{MakeCommand}
+use Rattle.uimg_tool.specs.declared.make_command.MakeCommand.TheVariants.{Parts, Tree}
+use Rattle.uimg_tool.specs.Faults.{is_no_memory, is_no_text, is_no_payload, refuses_payload}
+use Rattle.uimg_tool.specs.Headline.{outcome_in, outcome_of, Takes}
+use Rattle.uimg_tool.specs.Making.{FitNames, timed, OpensNames, Lacks, BuildsNames, MakesAnswer}
+use Rattle.uimg_tool.specs.MakingTrees.{BuildsSource, MakesSource}
+
+-- The names of a command's files are such as its options want.
+abbrev pub IsFit : MakeCommand → Type 0
+IsFit (Parts options files) = FitNames options (map (λ name. name.items) files.items)
+IsFit (Tree source placement) = ⊤
+
+pub is_fit_prop : (command : MakeCommand) → IsProp (IsFit command)
+is_fit_prop (Parts options files) = Prim.hlevel props
+is_fit_prop (Tree source placement) = Prim.hlevel props
+
+-- Files have the sizes that a command keeps of them: those of a tree do where the files are honest, and parts keep none.
+abbrev pub KeepsSizes : MakeCommand → FileMap → Type 0
+KeepsSizes (Parts options files) map = ⊤
+KeepsSizes (Tree source placement) map = IsTrue map.honest
+
+-- a source whose open was refused has no bytes; of other faults this says nothing
+abbrev pub LacksSource : (List ℕ → Option (List ℕ)) → List ℕ → Fault → Type 0
+LacksSource files source (NoFile i) = files source ≡ None
+LacksSource files source _ = ⊤
+
+-- The files are what they were, a refusal was counted exactly where the answer is that the source or a file of it could not
+-- be opened, and complete files refuse only a source that has no bytes, and no payload where they are honest.
+pub record OpensSource {X : Type 0} (source : List ℕ) (result : Result X Fault) (old new : FileMap) : Type 0 where
+  pub same : SameFiles old new
+  pub text : OnFalse (is_no_payload result) (RisesIf (is_no_text result) old.refusals new.refusals)
+  pub payload : IsTrue (is_no_payload result) → Rose old.refusals new.refusals
+  pub missing : IsTrue old.complete → IfErr result (LacksSource old.bytes source)
+  pub found : IsTrue old.complete → IsTrue old.honest → is_no_payload result ≡ false
+
+-- what a building did to the files
+abbrev pub OpensToBuild : {X : Type 0} → MakeCommand → Result X Fault → FileMap → FileMap → Type 0
+OpensToBuild (Parts options files) result old new = OpensNames (map (λ name. name.items) files.items) result old new
+OpensToBuild (Tree source placement) result old new = OpensSource source.items result old new
+
+-- What a making did to the files. That no payload was opened may be told of a kept file that is not what was written: then
+-- no refusal has to be counted.
+pub record OpensKept {X : Type 0} (sure : Type 0) (source : List ℕ) (result : Result X Fault) (old new : FileMap) : Type 0 where
+  pub same : SameFiles old new
+  pub text : OnFalse (is_no_payload result) (RisesIf (is_no_text result) old.refusals new.refusals)
+  pub payload : sure → IsTrue (is_no_payload result) → Rose old.refusals new.refusals
+  pub missing : IsTrue old.complete → IfErr result (LacksSource old.bytes source)
+  pub found : sure → IsTrue old.complete → is_no_payload result ≡ false
+
+abbrev pub OpensToMake : {X : Type 0} → Type 0 → MakeCommand → Result X Fault → FileMap → FileMap → Type 0
+OpensToMake sure (Parts options files) result old new = OpensNames (map (λ name. name.items) files.items) result old new
+OpensToMake sure (Tree source placement) result old new = OpensKept sure source.items result old new
+
+-- what the answer of a building says of the files, and of what was appended
+abbrev pub BuildsCommand : {X : Type 0} → MakeCommand → ℕ → (List ℕ → Option (List ℕ)) → Result X Fault → Sink → Sink → Type 0
+BuildsCommand (Parts options names) time files result s t = BuildsNames (timed options time) files (map (λ name. name.items) names.items) result s t
+BuildsCommand (Tree source placement) time files result s t = BuildsSource files source.items time placement result s t
+
+-- what the answer of a making says of the files, and of what was listed
+abbrev pub MakesCommand : {K : Type 0} → (K → Device) → MakeCommand → ℕ → (List ℕ → Option (List ℕ)) → Result K Fault → Sink → Sink → Type 0
+MakesCommand device (Parts options names) time files result s t = MakesAnswer device (timed options time) files (map (λ name. name.items) names.items) result s t
+MakesCommand device (Tree source placement) time files result s t = MakesSource device files source.items time placement result s t
+
+-- Files that are complete and honest lack what a fault says: a name, or the source. They lack no payload.
+abbrev pub LacksPayload : (List ℕ → Option (List ℕ)) → List ℕ → Fault → Type 0
+LacksPayload files source (Fit fault) = refuses_payload fault ≡ false
+LacksPayload files source fault = LacksSource files source fault
+
+abbrev pub LacksFile : MakeCommand → (List ℕ → Option (List ℕ)) → Fault → Type 0
+LacksFile (Parts options names) files fault = Lacks files (map (λ name. name.items) names.items) fault
+LacksFile (Tree source placement) files fault = LacksPayload files source.items fault
+
+-- What a making that lists a FIT image did to a room: it took memory for the nodes of what is kept, and where it is refused, a
+-- refusal was counted exactly where the memory for them was, if the files are honest.
+abbrev pub TakesKept : {K : Type 0} → (K → Device) → Bool → Result K Fault → (old new : Held) → Type 0
+TakesKept device honest (Ok kept) old new = TakesNodes (device kept) false old new
+TakesKept device honest (Err fault) old new = IsTrue honest → RisesIf (is_no_memory {X = ⊤} (Err fault)) old.refused new.refused
+
+abbrev pub LeavesRoom : {K : Type 0} → (K → Device) → Bool → MakeCommand → Result K Fault → (old new : Held) → Type 0
+LeavesRoom device honest (Parts options files) result old new = new ≡ record old { entries = [] }
+LeavesRoom device honest (Tree source placement) result old new = TakesKept device honest result old new
+
+-- the listing of an image that was made
+abbrev pub listing_of : MakeCommand → List ℕ → Outcome Fault
+listing_of (Parts options files) file = outcome_in false Action.List file
+listing_of (Tree source placement) file = outcome_of (record { action = Action.List; form = Form.Guess }) file
+
+-- what that listing did to a room
+abbrev pub TakesListing : MakeCommand → Device → Bool → (old new : Held) → Type 0
+TakesListing (Parts options files) kept no_memory old new = Takes false kept no_memory old new
+TakesListing (Tree source placement) kept no_memory old new = TakesNodes kept no_memory old new

@@ -1,0 +1,44 @@
+//! The listing of an image that was made.
+ghost use Rattle.std.specs.Prelude.{◌≡◌, false, IsTrue};
+ghost use Rattle.uimg_base.specs.Device.{SameDevice, RisesIf};
+ghost use Rattle.uimg_base.specs.Outcome.{Tells};
+ghost use Rattle.uimg_tool.specs.Faults.{is_read, is_put, is_no_memory, is_of_making, end_of};
+ghost use Rattle.uimg_tool.specs.Commands.{listing_of, TakesListing};
+
+use crate::command::{Action, Command, Form};
+use crate::engine::{run_by_form, run_legacy};
+use crate::fault::Fault;
+use crate::make_command::MakeCommand;
+use std::alloc::Allocator;
+use std::io::Write;
+use uimg_base::{Out, Room, Source, Status};
+
+/// Writes the listing of what was kept: of a legacy image, or of the format that its first bytes tell.
+pub(crate) fn list_kept<S: Source, A: Allocator, W: Write>(
+    command: &MakeCommand,
+    kept: &mut S,
+    room: &mut Room<A>,
+    out: &mut Out<W>,
+) -> Result<Status, Fault>
+    ensures same { SameDevice (S.device kept.old) (S.device kept.new) }
+    ensures failures { RisesIf (is_read result) (S.device kept.old).failures
+        (S.device kept.new).failures }
+    ensures room { TakesListing command.now (S.device kept.old) (is_no_memory result)
+        room.old room.new }
+    ensures faults { RisesIf (is_put result) out.old.faults out.new.faults }
+    ensures not_making { is_of_making result ≡ false }
+    ensures told { IsTrue (S.device kept.old).honest →
+        Tells (end_of result) (listing_of command.now (S.device kept.old).bytes)
+        out.old out.new }
+{
+    match command {
+        MakeCommand::Parts { .. } => run_legacy(Action::List, kept, room, out),
+        MakeCommand::Tree { .. } => {
+            let command = Command {
+                action: Action::List,
+                form: Form::Guess,
+            };
+            run_by_form(&command, kept, room, out)
+        },
+    }
+}
