@@ -1,6 +1,8 @@
 -- What a making says, by its command.
-use Rattle.std.proofs.Common.{◌≡◌, ℕ, List, [], Option, Some, Result, Ok, Err, Bool, true, false, IsTrue, IfErr, map, ap, sym, subst, refl}
+use Rattle.std.proofs.Common.{◌≡◌, ℕ, List, [], Option, Some, Result, Ok, Err, Bool, true, false, None, IsSome, IsTrue, IfErr, map, ap, sym, subst, refl}
 use Rattle.std.specs.Bool.{⊤}
+use Rattle.std.specs.Io.KnownBytes.{Appends}
+use Rattle.std.specs.Io.KnownBytes as Io
 use Rattle.uimg_base.specs.Device.{Device, SameDevice, RisesIf}
 use Rattle.uimg_base.specs.Held.{Held}
 use Rattle.uimg_base.specs.Named.{FileMap}
@@ -29,9 +31,28 @@ building_stops_command X device (Parts options names) time files f image now s n
 building_stops_command X device (Tree source placement) time files f image now s never stop = building_stops_tree X files source.items time placement f image now s stop
 
 -- an image that was built on an empty shelf, and kept
-pub keeping_command : {X : Type 0} (command : MakeCommand) (time : ℕ) (files : List ℕ → Option (List ℕ)) (x : X) (image now : Sink) (kept : Device) → BuildsCommand command time files (Ok x) image now → image.contents ≡ Some [] → now.contents ≡ Some kept.bytes → IsTrue kept.honest → KeepsCommand command time files kept
-keeping_command {X = X} (Parts options names) time files x image now kept builds empty whole honest = keeping X _ files _ x image now kept builds empty whole honest
-keeping_command (Tree source placement) time files x image now kept builds empty whole honest = keeping_tree files source.items time placement image now kept builds empty whole honest
+keeping_written : {X : Type 0} (command : MakeCommand) (time : ℕ) (files : List ℕ → Option (List ℕ)) (x : X) (image now : Sink) (kept : Device) → BuildsCommand command time files (Ok x) image now → image.contents ≡ Some [] → now.contents ≡ Some kept.bytes → IsTrue kept.honest → KeepsCommand command time files kept
+keeping_written {X = X} (Parts options names) time files x image now kept builds empty whole honest = keeping X _ files _ x image now kept builds empty whole honest
+keeping_written (Tree source placement) time files x image now kept builds empty whole honest = keeping_tree files source.items time placement image now kept builds empty whole honest
+
+-- what is known of an output that was written to stays known when it is written out
+known_after : (old new : Option (List ℕ)) (bytes : List ℕ) → old ≡ Some [] → Appends old new bytes → IsSome new
+known_after None new bytes empty appended = absurd (cc)
+known_after (Some a) None bytes empty appended = absurd appended
+known_after (Some a) (Some now) bytes empty appended = refl
+
+known_built : {X : Type 0} (command : MakeCommand) (time : ℕ) (files : List ℕ → Option (List ℕ)) (x : X) (image now : Sink) → BuildsCommand command time files (Ok x) image now → image.contents ≡ Some [] → IsSome now.contents
+known_built (Parts options names) time files x image now builds empty = known_after _ _ _ empty builds.builds.written.appended
+known_built (Tree source placement) time files x image now builds empty = known_after _ _ _ empty builds.written.appended
+
+written_out : (now held : Option (List ℕ)) (bytes : List ℕ) → IsSome now → Io.Keeps now held → held ≡ Some bytes → now ≡ Some bytes
+written_out None held bytes known keeps whole = absurd (cc)
+written_out (Some a) None bytes known keeps whole = absurd keeps
+written_out (Some a) (Some b) bytes known keeps whole = cc
+
+pub keeping_command : {X : Type 0} (command : MakeCommand) (time : ℕ) (files : List ℕ → Option (List ℕ)) (x : X) (image now : Sink) (held : Option (List ℕ)) (kept : Device) → BuildsCommand command time files (Ok x) image now → image.contents ≡ Some [] → Io.Keeps now.contents held → held ≡ Some kept.bytes → IsTrue kept.honest → KeepsCommand command time files kept
+keeping_command command time files x image now held kept builds empty out whole honest =
+    keeping_written command time files x image now kept builds empty (written_out now.contents held kept.bytes (known_built command time files x image now builds empty) out whole) honest
 
 -- what is kept, and then listed
 pub listing_makes_command : {K : Type 0} (device : K → Device) (k : K) (command : MakeCommand) (time : ℕ) (files : List ℕ → Option (List ℕ)) (kept : Device) (status : Status) (s t : Sink) → KeepsCommand command time files kept → SameDevice kept (device k) → Tells (end_of (Ok status)) (listing_of command kept.bytes) s t → MakesCommand device command time files (Ok k) s t

@@ -1,4 +1,5 @@
 ghost use Rattle.std.specs.Prelude.{◌≡◌, ◌<◌, ◌^◌, ◌-◌, false, Some, [], IsTrue, IsOk, IfOk, IfErr};
+ghost use Rattle.std.specs.Io.KnownBytes.{Keeps};
 ghost use Rattle.uimg_base.specs.Device.{RisesIf};
 ghost use Rattle.uimg_tool.specs.Faults.{is_read, is_put, is_keep, is_before_building, is_of_making};
 ghost use Rattle.uimg_tool.specs.Commands.{IsFit, KeepsSizes, OpensToBuild, OpensToMake, BuildsCommand, MakesCommand, LeavesRoom};
@@ -59,14 +60,26 @@ pub fn build_image<F: Files, W: Write, A: Allocator + Copy>(
     }
 }
 
+// The shelf, once all that was written to it is written out.
+fn write_out<H: Shelf>(image: Out<H>) -> Result<H, Fault>
+    ensures written { IfOk result (λ shelf. Keeps image.contents (H.contents shelf)) }
+    ensures fault { IfErr result (λ fault. fault ≡ Fault.Put) }
+{
+    let mut shelf = image.into_inner();
+    match shelf.flush() {
+        Ok(()) => Ok(shelf),
+        Err(_) => Err(Fault::Put),
+    }
+}
+
 // Keeps what was written to a shelf.
-fn keep<H: Shelf>(image: Out<H>) -> Result<H::Kept, Fault>
+fn keep<H: Shelf>(shelf: H) -> Result<H::Kept, Fault>
     ensures kept { IsTrue H.honest → IfOk result (λ kept.
-        (image.contents ≡ Some (H.Kept.device kept).bytes) × IsTrue (H.Kept.device kept).honest) }
+        (H.contents shelf ≡ Some (H.Kept.device kept).bytes) × IsTrue (H.Kept.device kept).honest) }
     ensures fault { IfErr result (λ fault. fault ≡ Fault.Keep) }
     ensures steady { IsTrue H.steady → IsOk result }
 {
-    match image.into_inner().keep() {
+    match shelf.keep() {
         Ok(kept) => Ok(kept),
         Err(_) => Err(Fault::Keep),
     }
@@ -110,7 +123,8 @@ pub fn make<F: Files, H: Shelf, W: Write, A: Allocator + Copy, B: Allocator>(
     room.clear();
     let mut image = Out::new(shelf);
     build_image(alloc, command, time, files, &mut image)?;
-    let mut kept = keep(image)?;
+    let shelf = write_out(image)?;
+    let mut kept = keep(shelf)?;
     list_kept(command, &mut kept, room, out)?;
     Ok(kept)
 }

@@ -19,12 +19,12 @@ returns-in_err-list_kept-clause-made g c = λ files shelf empty.
     let p = err_from_is_err_and c.from_residual-in_err-list_kept.result c.from_residual-in_err-list_kept.ensures.1 in
     let kept = c.in_ok-kept.ensures.kept shelf in
     let none : c.new-image.result.contents ≡ Some [] = search rules in
-    let keeps = keeping_command c.args.command.now c.args.time _ _ _ _ (g.H.Kept.Source.device c.in_ok-kept.kept) (c.in_ok-build_image.ensures.built files) none kept.0 kept.1 in
+    let keeps = keeping_command c.args.command.now c.args.time _ _ _ _ _ (g.H.Kept.Source.device c.in_ok-kept.kept) (c.in_ok-build_image.ensures.built files) none c.in_ok-shelf.ensures.written kept.0 kept.1 in
     rw (p.1, p.2) (listing_stops_command g.H.Kept.Source.device c.args.command.now c.args.time _ _ c.in_err-list_kept.field-0.0 _ _ _ _ keeps c.in_err-list_kept.ensures.not_making c.in_err-list_kept.ensures.room (c.in_err-list_kept.ensures.told kept.1))
 
 pub returns-clause-made : goal.returns-clause-made
 returns-clause-made g c = λ files shelf empty.
     let kept = c.in_ok-kept.ensures.kept shelf in
     let none : c.new-image.result.contents ≡ Some [] = search rules in
-    let keeps = keeping_command c.args.command.now c.args.time _ _ _ _ (g.H.Kept.Source.device c.in_ok-kept.kept) (c.in_ok-build_image.ensures.built files) none kept.0 kept.1 in
+    let keeps = keeping_command c.args.command.now c.args.time _ _ _ _ _ (g.H.Kept.Source.device c.in_ok-kept.kept) (c.in_ok-build_image.ensures.built files) none c.in_ok-shelf.ensures.written kept.0 kept.1 in
     listing_makes_command g.H.Kept.Source.device _ c.args.command.now c.args.time _ _ c.in_ok-list_kept.field-0 _ _ keeps c.list_kept.ensures.same (c.in_ok-list_kept.ensures.told kept.1)
