@@ -23,6 +23,8 @@ pub mod InsideLaw
 pub mod MovedLaws
 pub mod OutsideLaw
 pub mod FillLaw
+pub mod FillSourceLaws
+pub mod FillKeepsLaw
 pub mod BuiltLaw
 pub mod SourceLaws
 pub mod HashReportLaws
