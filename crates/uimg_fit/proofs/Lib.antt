@@ -34,3 +34,10 @@ pub mod FieldLaws
 pub mod TellingLaws
 pub mod ListingLaws
 pub mod WithinLaws
+pub mod AlgoSetLaws
+pub mod SettingLaws
+pub mod FilledHashLaws
+pub mod EachLaws
+pub mod ImageFillLaws
+pub mod ImagesFillLaws
+pub mod InMemoryLaws

@@ -29,3 +29,5 @@ pub mod Telling
 pub mod NodeLines
 pub mod Heads
 pub mod ListingParts
+pub mod PayloadSums
+pub mod ImageFillings

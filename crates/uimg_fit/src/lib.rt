@@ -2,11 +2,14 @@
 #![tactic(auto)]
 
 mod addresses;
+mod algo_sets;
 mod building;
 mod digests;
 mod extraction;
 mod fault;
 mod fields;
+mod filled_hashes;
+mod filled_images;
 mod filling;
 mod groups;
 mod hash_lines;
@@ -21,6 +24,7 @@ mod listing;
 mod lists;
 mod names;
 mod nodes;
+mod payload_sums;
 mod placement;
 mod places;
 mod plans;
@@ -28,6 +32,7 @@ mod properties;
 mod puts;
 mod report;
 pub mod samples;
+mod setting;
 mod shows;
 #[cfg(test)]
 mod tests;
