@@ -39,3 +39,10 @@ pub mod PlacingLaws
 pub mod NamesLaw
 pub mod BuildLaws
 pub mod SendLaws
+pub mod AlgoSetLaws
+pub mod SettingLaws
+pub mod FilledHashLaws
+pub mod EachLaws
+pub mod ImageFillLaws
+pub mod ImagesFillLaws
+pub mod InMemoryLaws

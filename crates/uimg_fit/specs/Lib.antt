@@ -32,3 +32,5 @@ pub mod ListingParts
 pub mod Behind
 pub mod Placing
 pub mod BuildSteps
+pub mod PayloadSums
+pub mod ImageFillings

@@ -35,7 +35,7 @@ fn feed_window<S: Source>(
 }
 
 // Feeds the `len` bytes at an offset to all sums, through a window.
-fn feed_through<S: Source>(
+pub(crate) fn feed_through<S: Source>(
     bundle: &mut Bundle,
     source: &mut S,
     window: &mut [u8; WINDOW],

@@ -1,13 +1,30 @@
-ghost use Rattle.std.specs.Prelude.{◌≡◌, IsTrue, false};
-ghost use Rattle.uimg_tree.specs.Content.{AreKept, FilesAtData};
+ghost use Rattle.std.specs.Prelude.{◌≡◌, codes, IsTrue, IfOk, IfErr, false};
+ghost use Rattle.uimg_tree.specs.Content.{bytes, AreKept, FilesAtData};
+ghost use Rattle.uimg_tree.specs.Encoding.{word};
+ghost use Rattle.uimg_fit.specs.Filling.{with};
+ghost use Rattle.uimg_fit.specs.declared.fault.FitFault.TheVariants.{OutOfMemory};
 ghost use Rattle.uimg_tree.specs.Trees.{node_of};
 ghost use Rattle.uimg_tree.specs.UsingFiles.{UsesFiles};
 ghost use Rattle.uimg_fit.specs.FillAnswers.{opens_no_file, fails_to_read, FillsAnswer};
 
 use crate::fault::FitFault;
+use crate::setting::{copied, with_value};
 use std::alloc::Allocator;
 use uimg_base::{Files, Source};
-use uimg_tree::Tree;
+use uimg_tree::{Props, Tree, Value};
+
+// Properties with the time.
+fn with_time<A: Allocator + Copy>(
+    alloc: A,
+    props: Props<A>,
+    time: u32,
+) -> Result<Props<A>, FitFault>
+    ensures set { IfOk result (λ own. own ≡ with (codes "timestamp") (bytes (word time)) props) }
+    ensures memory { IfErr result (λ fault. fault ≡ OutOfMemory) }
+{
+    let value = Value::Bytes(copied(alloc, &time.to_be_bytes())?);
+    with_value(alloc, props, b"timestamp", value)
+}
 
 /// Fills a tree before it is built: sets the root's `timestamp`, removes `data-offset`, `data-size`
 /// and `data-position` of each image, and sets the `value` of each hash node to the digest of the

@@ -3,11 +3,14 @@
 
 mod addresses;
 mod behind;
+mod algo_sets;
 mod building;
 mod digests;
 mod extraction;
 mod fault;
 mod fields;
+mod filled_hashes;
+mod filled_images;
 mod filling;
 mod groups;
 mod hash_lines;
@@ -24,6 +27,7 @@ mod names;
 mod nodes;
 mod payload_sizes;
 mod payloads;
+mod payload_sums;
 mod placement;
 mod places;
 mod placing;
@@ -32,6 +36,7 @@ mod properties;
 mod puts;
 mod report;
 pub mod samples;
+mod setting;
 mod shows;
 #[cfg(test)]
 mod tests;

@@ -1,0 +1,93 @@
+use Rattle.std.proofs.Common.{◌≡◌, ◌<◌, ◌∙◌, ℕ, List, Bool, Option, None, Err, length, map, set, get_or, arith, ap, refl, subst, sym, IsTrue}
+use Rattle.std.proofs.Math.ListN.{length-set}
+use Rattle.std.specs.Bool.{⊤}
+use Rattle.uimg_tree.specs.declared.tree.Node.{Node}
+use Rattle.uimg_fit.specs.Behind.{entry}
+use Rattle.uimg_fit.specs.ImageFillings.{filled_over, fault_in_memory, FillsImage, IsKeptImage}
+use Rattle.uimg_fit.proofs.EachLaws.{same-at, rest-more, changed-more}
+use Rattle.uimg_fit.proofs.ImagesFillLaws.{images-refused, sound-more, entry-at, none-sound}
+use Rattle.uimg_fit.proofs.filled_images.fill_images.Goals as goal
+
+pub loop-image-init : goal.loop-image-init
+loop-image-init g c = record {
+  long = refl;
+  same = record { bytes = refl; honest = refl; complete = refl };
+  refusals = refl;
+  rest = refl;
+  filled = λ honest. record { rest = refl; done = refl };
+  sound = λ honest. none-sound;
+}
+
+pub returns-in-Err-clause-found : goal.returns-in-Err-clause-found
+returns-in-Err-clause-found g c = λ complete all.
+    let old = c.args.images.now in
+    let now = c.loop-image.images in
+    let i = c.loop-image.image-index in
+    let d = c.image-item.result in
+    let s = c.loop-image.invariant in
+    let files = (g.F.Files.map c.args.files.now).bytes in
+    let in_now : i < length now = omega arith in
+    let in_old : i < length old = omega (arith, s.long) in
+    let here : get_or now i d ≡ get_or old i d = same-at entry (filled_over files) old now i d in_old in_now s.rest in
+    let kept = subst (λ (n : Node _). IsKeptImage files (entry n)) (sym here) (entry-at (IsKeptImage files) old i d in_old all) in
+    c.in-Err.ensures.found (subst (λ (b : Bool). IsTrue b) (sym s.same.complete) complete)
+    (subst (λ (b : List ℕ → Option (List ℕ)). IsKeptImage b (entry (get_or now i d))) (sym s.same.bytes) kept)
+
+pub returns-in-Err-clause-steady : goal.returns-in-Err-clause-steady
+returns-in-Err-clause-steady g c = λ steady honest all.
+    let old = c.args.images.now in
+    let now = c.loop-image.images in
+    let i = c.loop-image.image-index in
+    let d = c.image-item.result in
+    let s = c.loop-image.invariant in
+    let files = (g.F.Files.map c.args.files.now).bytes in
+    let in_now : i < length now = omega arith in
+    let in_old : i < length old = omega (arith, s.long) in
+    let here : get_or now i d ≡ get_or old i d = same-at entry (filled_over files) old now i d in_old in_now s.rest in
+    let kept = subst (λ (n : Node _). IsKeptImage files (entry n)) (sym here) (entry-at (IsKeptImage files) old i d in_old all) in
+    c.in-Err.ensures.steady steady (subst (λ (b : Bool). IsTrue b) (sym s.same.honest) honest)
+    (subst (λ (b : List ℕ → Option (List ℕ)). IsKeptImage b (entry (get_or now i d))) (sym s.same.bytes) kept)
+
+pub returns-in-Err-clause-filled : goal.returns-in-Err-clause-filled
+returns-in-Err-clause-filled g c = λ honest.
+    let old = c.args.images.now in
+    let now = c.loop-image.images in
+    let i = c.loop-image.image-index in
+    let d = c.image-item.result in
+    let s = c.loop-image.invariant in
+    let files = (g.F.Files.map c.args.files.now).bytes in
+    let new = entry c.fill_image.new.image in
+    let in_now : i < length now = omega arith in
+    let in_old : i < length old = omega (arith, s.long) in
+    let here : get_or now i d ≡ get_or old i d = same-at entry (filled_over files) old now i d in_old in_now s.rest in
+    let told = c.in-Err.ensures.filled (subst (λ (b : Bool). IsTrue b) (sym s.same.honest) honest) in
+    let same = subst (λ (b : List ℕ → Option (List ℕ)). FillsImage {X = ⊤} b (entry (get_or now i d)) new (Err c.in-Err.fault)) s.same.bytes told in
+    images-refused files old i d in_old (s.sound honest) ⊤ ⊤ new (map entry (set now i c.fill_image.new.image)) c.in-Err.fault
+    (subst (λ (n : Node _). FillsImage {X = ⊤} files (entry n) new (Err c.in-Err.fault)) here same)
+
+pub loop-image-preserved : goal.loop-image-preserved
+loop-image-preserved g c =
+    let old = c.args.images.now in
+    let now = c.loop-image.images in
+    let i = c.loop-image.image-index in
+    let d = c.image-item.result in
+    let s = c.loop-image.invariant in
+    let used = c.in-Ok.ensures.files in
+    let files = (g.F.Files.map c.args.files.now).bytes in
+    let new = c.fill_image.new.image in
+    let in_now : i < length now = omega arith in
+    let in_old : i < length old = omega (arith, s.long) in
+    let here : get_or now i d ≡ get_or old i d = same-at entry (filled_over files) old now i d in_old in_now s.rest in
+    record {
+      long = length-set now i new ∙ s.long;
+      same = record { bytes = used.same.bytes ∙ s.same.bytes; honest = used.same.honest ∙ s.same.honest; complete = used.same.complete ∙ s.same.complete };
+      refusals = used.refusals ∙ s.refusals;
+      rest = rest-more old now i d new in_old in_now s.rest;
+      filled = λ honest.
+          let told = c.in-Ok.ensures.filled (subst (λ (b : Bool). IsTrue b) (sym s.same.honest) honest) in
+          changed-more entry (filled_over files) old now i d new in_old in_now (s.filled honest)
+          (told.1 ∙ ap (λ (b : List ℕ → Option (List ℕ)). filled_over b (entry (get_or now i d))) s.same.bytes ∙ ap (λ (n : Node _). filled_over files (entry n)) here);
+      sound = λ honest.
+          let told = c.in-Ok.ensures.filled (subst (λ (b : Bool). IsTrue b) (sym s.same.honest) honest) in
+          sound-more old i d in_old (s.sound honest) (subst (λ (n : Node _). fault_in_memory (entry n) ≡ None) here told.0);
+    }
