@@ -175,7 +175,8 @@ fn a_bad_property_name(rt: HostRuntime) -> Result<(), Fail> {
     let own = prop(alloc, b"a\0b", value)?;
     props.push(own)?;
     let root = node(alloc, b"", props, Vec::new(alloc))?;
-    assert!(rt; is_refused(alloc, &Tree { root }, BlobFault::BadPropertyName));
+    let tree = Tree { root };
+    assert!(rt; is_refused(alloc, &tree, BlobFault::BadPropertyName));
     Ok(())
 }
 
