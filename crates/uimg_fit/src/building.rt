@@ -35,10 +35,7 @@ fn of_measure(fault: BlobFault) -> Fault
 }
 
 // Measures the blob of a tree.
-fn measure_placed<'a, A: Allocator>(
-    alloc: A,
-    placed: &'a Tree<A>,
-) -> Result<Layout<'a, A>, Fault>
+fn measure_placed<'a, A: Allocator>(alloc: A, placed: &'a Tree<A>) -> Result<Layout<'a, A>, Fault>
     ensures { MeasuresTree result (node_of placed.now.root) }
 {
     match measure(alloc, placed) {

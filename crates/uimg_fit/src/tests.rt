@@ -1,3 +1,5 @@
+mod build_trees;
+mod builds;
 mod listings;
 mod reports;
 

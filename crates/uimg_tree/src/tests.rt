@@ -4,4 +4,5 @@ mod blobs;
 mod devices;
 mod layouts;
 mod memory;
+mod payloads;
 mod shapes;

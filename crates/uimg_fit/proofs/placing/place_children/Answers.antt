@@ -20,7 +20,7 @@ loop-node-preserved g c =
     let done = c.loop-node.copies.items in
     let more : drop i items ≡ d ∷ drop (i + 1) items = drop_more items i d c.loop-node-test.true ∙ ap (λ (p : Node g.row.A.Denot). p ∷ drop (i + 1) items) (sym c.node-item.is) in
     elim c.if-moved.branch [
-      then-moved+in_ok-copy+in_ok-push w ↦
+      | then-moved+in_ok-copy+in_ok-push w ↦
           behind-goes is_images f done (drop (i + 1) items) _ (drop i items) c.if-moved.copies.items d w.in_ok-copy.copy c.loop-node.moved c.if-moved.moved more c.loop-node.invariant
           w.if-moved.true w.moved-is (ap (λ v. v.items) w.copies-is ∙ w.in_ok-push.ensures.items) w.in_ok-copy.ensures
       | else-moved+then-is_images+in_ok-placed+in_ok-push-2 w ↦

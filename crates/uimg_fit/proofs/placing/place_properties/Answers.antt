@@ -19,7 +19,7 @@ loop-prop-preserved g c =
     let d = c.prop-item.result in
     let more : drop i items ≡ d ∷ drop (i + 1) items = drop_more items i d c.loop-prop-test.true ∙ ap (λ (p : Prop g.row.A.Denot). p ∷ drop (i + 1) items) (sym c.prop-item.is) in
     elim c.if-moved.branch [
-      then-moved+in_ok-copy+in_ok-push w ↦
+      | then-moved+in_ok-copy+in_ok-push w ↦
           behind-goes is_data f c.loop-prop.copies.items (drop (i + 1) items) _ (drop i items) c.if-moved.copies.items d w.in_ok-copy.copy c.loop-prop.moved c.if-moved.moved more c.loop-prop.invariant
           w.if-moved.true w.moved-is (ap (λ v. v.items) w.copies-is ∙ w.in_ok-push.ensures.items) w.in_ok-copy.ensures
       | else-moved+then-is_data+in_ok-add_cells w ↦
