@@ -2,6 +2,8 @@
 use super::tree_sources::*;
 use super::{expect, expect_at};
 use std::fs;
+use std::process::Abort;
+use std::rt::Files;
 use std::test::Fail;
 
 const IMAGE: &str = "refused_trees.itb";
@@ -33,67 +35,57 @@ const NO_ALGO: &str = "/dts-v1/; / { images { a { data = []; hash { }; }; }; };"
 const NO_DATA: &str =
     "/dts-v1/; / { images { a { data = []; }; b { hash { algo = \"x\"; }; }; }; };";
 
+// The making of a source of these pieces ends with a line, and no file is made.
+fn refuses<R: Files + AllocGlobal + Abort>(
+    rt: &R,
+    pieces: &[&str],
+    options: &[&str],
+    status: u8,
+    line: &str,
+) -> Result<(), Fail> {
+    let (end, out, err) = ran_source(rt, "refused_trees.its", pieces, options, IMAGE)?;
+    assert_eq!(rt; err.as_slice(), line.as_bytes());
+    assert_eq!(rt; (end, out.len()), (status, 0), "{line}");
+    assert!(rt; !fs::exists(rt, IMAGE)?, "{line}");
+    Ok(())
+}
+
 // Each is one line, and no file is made.
 #[test]
 fn refused_sources(rt: HostRuntime) -> Result<(), Fail> {
-    let path = "refused_trees.its";
     fs::write(&rt, "abc.bin", "abc")?;
-    let rows: [(&[&str], &[&str], u8, &str); 13] = [
-        (&[""], &[], 1, "uimg: I2 bad syntax at line 1\n"),
+    let rows = [
+        ("", 1, "uimg: I2 bad syntax at line 1\n"),
         (
-            &["/dts-v1/;\n/ { };\n/* open"],
-            &[],
+            "/dts-v1/;\n/ { };\n/* open",
             1,
             "uimg: I1 bad token at line 3\n",
         ),
         (
-            &[REFERENCE],
-            &[],
+            REFERENCE,
             1,
             "uimg: I3 out of profile: reference at line 5\n",
         ),
         (
-            &["/dts-v1/;\n/ { v = <08>; };\n"],
-            &[],
+            "/dts-v1/;\n/ { v = <08>; };\n",
             1,
             "uimg: I4 bad number at line 2\n",
         ),
-        (&[NO_FILE], &[], 3, "uimg: I5 no file at line 3\n"),
-        (&["/dts-v1/; / { };"], &[], 1, "uimg: F1 no images\n"),
-        (&[NO_DATA], &["-E"], 1, "uimg: F2 no data\n"),
-        (&[NO_ALGO], &[], 1, "uimg: F5 unknown algorithm\n"),
-        (&SHA3, &[], 1, "uimg: F5 unknown algorithm\n"),
-        (
-            &FOUR_HASH,
-            &["-E", "-p", "300"],
-            1,
-            "uimg: F6 position too low\n",
-        ),
-        (
-            &FOUR_HASH,
-            &["-E", "-p", "1"],
-            1,
-            "uimg: F6 position too low\n",
-        ),
-        (
-            &FOUR_HASH,
-            &["-E", "-p", "31b"],
-            1,
-            "uimg: F6 position too low\n",
-        ),
-        (
-            &FOUR_HASH,
-            &["-E", "-p", "ffffffff"],
-            1,
-            "uimg: F7 too large\n",
-        ),
+        (NO_FILE, 3, "uimg: I5 no file at line 3\n"),
+        ("/dts-v1/; / { };", 1, "uimg: F1 no images\n"),
+        (NO_DATA, 1, "uimg: F2 no data\n"),
+        (NO_ALGO, 1, "uimg: F5 unknown algorithm\n"),
     ];
-    for (pieces, options, status, line) in rows {
-        let (end, out, err) = ran_source(&rt, path, pieces, options, IMAGE)?;
-        assert_eq!(rt; err.as_slice(), line.as_bytes());
-        assert_eq!(rt; (end, out.len()), (status, 0), "{line}");
-        assert!(rt; !fs::exists(&rt, IMAGE)?, "{line}");
+    for (text, status, line) in rows {
+        refuses(&rt, &[text], &[], status, line)?;
     }
+    refuses(&rt, &SHA3, &[], 1, "uimg: F5 unknown algorithm\n")?;
+    for position in ["1", "300", "31b"] {
+        let options = ["-E", "-p", position];
+        refuses(&rt, &FOUR_HASH, &options, 1, "uimg: F6 position too low\n")?;
+    }
+    let options = ["-E", "-p", "ffffffff"];
+    refuses(&rt, &FOUR_HASH, &options, 1, "uimg: F7 too large\n")?;
     fs::remove_file(&rt, "abc.bin")?;
     Ok(())
 }

@@ -76,6 +76,16 @@ enum Expected {
     External,
     Position,
     Length,
+    First,
+}
+
+fn pieces_of(expected: Expected) -> &'static [&'static str] {
+    match expected {
+        Expected::Five => &FIVE_HASH,
+        Expected::TwoCells => &TWO_CELLS,
+        Expected::First => &CONFIGURATIONS_FIRST,
+        _ => &FOUR_HASH,
+    }
 }
 
 fn sample(alloc: Global, expected: Expected) -> Result<Option<Vec<u8>>, AllocError> {
@@ -92,7 +102,7 @@ fn sample(alloc: Global, expected: Expected) -> Result<Option<Vec<u8>>, AllocErr
         )?,
         Expected::External => external_fit(alloc)?,
         Expected::Position => position_fit(alloc)?,
-        Expected::Length => return Ok(None),
+        Expected::Length | Expected::First => return Ok(None),
     };
     Ok(Some(bytes))
 }
@@ -101,24 +111,23 @@ fn sample(alloc: Global, expected: Expected) -> Result<Option<Vec<u8>>, AllocErr
 #[test]
 fn demos(rt: HostRuntime) -> Result<(), Fail> {
     fs::write(&rt, "abc.bin", "abc")?;
-    let rows: [(&[&str], &[&str], Expected, usize); 9] = [
-        (&FOUR_HASH, &[], Expected::Four, 760),
-        (&FOUR_HASH, &["-p", "400"], Expected::Four, 760),
+    let rows: [(&[&str], Expected, usize); 9] = [
+        (&[], Expected::Four, 760),
+        (&["-p", "400"], Expected::Four, 760),
         (
-            &FOUR_HASH,
             &["-A", "x", "-T", "flat_dt", "-a", "x"],
             Expected::Four,
             760,
         ),
-        (&FOUR_HASH, &["-E"], Expected::External, 800),
-        (&FOUR_HASH, &["-E", "-p", "0"], Expected::External, 800),
-        (&FOUR_HASH, &["-E", "-p", "400"], Expected::Position, 1028),
-        (&FOUR_HASH, &["-p", "0x400", "-E"], Expected::Position, 1028),
-        (&FOUR_HASH, &["-E", "-p", "31c"], Expected::Length, 800),
-        (&CONFIGURATIONS_FIRST, &[], Expected::Length, 760),
+        (&["-E"], Expected::External, 800),
+        (&["-E", "-p", "0"], Expected::External, 800),
+        (&["-E", "-p", "400"], Expected::Position, 1028),
+        (&["-p", "0x400", "-E"], Expected::Position, 1028),
+        (&["-E", "-p", "31c"], Expected::Length, 800),
+        (&[], Expected::First, 760),
     ];
-    for (pieces, options, expected, length) in rows {
-        let (image, listing) = made_of(&rt, "trees.its", pieces, options, IMAGE)?;
+    for (options, expected, length) in rows {
+        let (image, listing) = made_of(&rt, "trees.its", pieces_of(expected), options, IMAGE)?;
         assert_eq!(rt; listing.as_slice(), DEMO_LISTING.as_bytes(), "{options:?}");
         assert_eq!(rt; image.len(), length, "{options:?}");
         if let Some(bytes) = sample(rt.alloc(), expected)? {
@@ -140,13 +149,19 @@ fn demos(rt: HostRuntime) -> Result<(), Fail> {
 #[test]
 fn demos_that_differ(rt: HostRuntime) -> Result<(), Fail> {
     fs::write(&rt, "abc.bin", "abc")?;
-    let rows: [(&[&str], Expected, &str, usize); 3] = [
-        (&FOUR_HASH, Expected::Four, "  Hash algo:    sha256\n", 4),
-        (&FIVE_HASH, Expected::Five, FIFTH_HASH, 5),
-        (&TWO_CELLS, Expected::TwoCells, WIDE_ADDRESSES, 4),
+    let rows = [
+        (Expected::Four, "  Hash algo:    sha256\n", 4),
+        (Expected::Five, FIFTH_HASH, 5),
+        (Expected::TwoCells, WIDE_ADDRESSES, 4),
     ];
-    for (pieces, expected, lines, hashes) in rows {
-        let (mut image, listing) = made_of(&rt, "differ.its", pieces, &[], OTHER_IMAGE)?;
+    for (expected, lines, hashes) in rows {
+        let (mut image, listing) = made_of(
+            &rt,
+            "differ.its",
+            pieces_of(expected),
+            &[],
+            OTHER_IMAGE,
+        )?;
         if let Some(bytes) = sample(rt.alloc(), expected)? {
             assert_eq!(rt; image.as_slice(), bytes.as_slice());
         }
