@@ -12,7 +12,8 @@ use crate::algo_sets::is_empty;
 use crate::fault::FitFault;
 use crate::filled_hashes::{algos_of, fill_children};
 use crate::payload_sums::payload_digests;
-use crate::setting::{first_value, without_external};
+use crate::payloads::payload_of;
+use crate::setting::without_external;
 use std::alloc::Allocator;
 use std::mem;
 use uimg_base::Files;
@@ -60,7 +61,7 @@ fn fill_image<F: Files, A: Allocator + Copy>(
     ensures filled { IsTrue (F.map files.old).honest →
         FillsImage (F.map files.old).bytes (entry image.old) (entry image.new) result }
 {
-    let Some(payload) = first_value(&image.props, b"data") else {
+    let Some(payload) = payload_of(&image.props) else {
         return Err(FitFault::NoData);
     };
     let nodes = mem::replace(&mut image.children, Nodes::of(Vec::new(alloc)));

@@ -6,6 +6,7 @@ ghost use Rattle.uimg_tree.specs.Properties.{content};
 ghost use Rattle.uimg_tree.specs.Trees.{node_of};
 ghost use Rattle.uimg_fit.specs.Behind.{entry, images_in};
 
+use crate::setting::first_value;
 use std::alloc::Allocator;
 use uimg_tree::{Node, Prop, Props, Value};
 
@@ -39,10 +40,5 @@ pub(crate) fn images_of<A: Allocator>(root: &Node<A>) -> &[Node<A>]
 pub(crate) fn payload_of<A: Allocator>(props: &Props<A>) -> Option<&Value<A>>
     ensures { option_map (λ value. content value.now) result ≡ first props.now (codes "data") }
 {
-    for prop in props.items() {
-        if is_data(prop) {
-            return Some(&prop.value);
-        }
-    }
-    None
+    first_value(props, b"data")
 }

@@ -10,15 +10,15 @@ ghost use Rattle.uimg_fit.specs.declared.fault.FitFault.TheVariants.{OutOfMemory
 
 use crate::fault::FitFault;
 use std::alloc::Allocator;
-use uimg_tree::{ByteList, Prop, Props, Value};
+use uimg_tree::{ByteList, Prop, Props, Value, copy_bytes};
 
 /// A copy of bytes.
 pub(crate) fn copied<A: Allocator>(alloc: A, bytes: &[u8]) -> Result<ByteList<A>, FitFault>
     ensures bytes { IfOk result (λ l. l ≡ bytes.now) }
     ensures memory { IfErr result (λ fault. fault ≡ OutOfMemory) }
 {
-    match Vec::from_slice(alloc, bytes) {
-        Ok(bytes) => Ok(ByteList::of(bytes)),
+    match copy_bytes(alloc, bytes) {
+        Ok(copy) => Ok(copy),
         Err(_) => Err(FitFault::OutOfMemory),
     }
 }

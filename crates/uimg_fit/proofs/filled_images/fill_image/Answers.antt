@@ -14,13 +14,13 @@ use Rattle.uimg_fit.proofs.ImageFillLaws.{no-data, image-refused, image-filled, 
 use Rattle.uimg_fit.proofs.filled_images.fill_image.Goals as goal
 
 pub returns-in_default-clause-filled : goal.returns-in_default-clause-filled
-returns-in_default-clause-filled g c = λ honest. no-data (entry c.args.image.now) (sym c.first_value.ensures ∙ content-none _ c.first_value.result c.in_default.is)
+returns-in_default-clause-filled g c = λ honest. no-data (entry c.args.image.now) (sym c.payload_of.ensures ∙ content-none _ c.payload_of.result c.in_default.is)
 
 pub returns-in-Err-clause-filled : goal.returns-in-Err-clause-filled
 returns-in-Err-clause-filled g c = λ honest.
     let files = (g.F.Files.map c.args.files.now).bytes in
     let payload = content c.in-Some.payload.now in
-    let there = sym c.first_value.ensures ∙ content-some _ c.first_value.result c.in-Some.payload c.in-Some.is in
+    let there = sym c.payload_of.ensures ∙ content-some _ c.payload_of.result c.in-Some.payload c.in-Some.is in
     let below : siblings c.as_mut_slice.result.now ≡ c.args.image.now.children = ap siblings c.as_mut_slice.ensures.value ∙ c.into_vec-list.ensures ∙ c.replace-nodes.ensures.value in
     image-refused ⊤ (λ (u : ⊤). siblings c.fill_hashes.new.nodes) files (entry c.args.image.now) (record { name = c.args.image.now.name; own = c.args.image.now.props; below = c.replace-nodes.new.dest }) payload c.in-Err.fault there
     (subst (λ (t : Unread). FillsHashes (λ (u : ⊤). siblings c.fill_hashes.new.nodes) files payload t (Err c.in-Err.fault)) below (c.in-Err.ensures.filled honest))
@@ -29,7 +29,7 @@ pub returns-clause-filled : goal.returns-clause-filled
 returns-clause-filled g c = λ honest.
     let files = (g.F.Files.map c.args.files.now).bytes in
     let payload = content c.in-Some.payload.now in
-    let there = sym c.first_value.ensures ∙ content-some _ c.first_value.result c.in-Some.payload c.in-Some.is in
+    let there = sym c.payload_of.ensures ∙ content-some _ c.payload_of.result c.in-Some.payload c.in-Some.is in
     let below : siblings c.as_mut_slice.result.now ≡ c.args.image.now.children = ap siblings c.as_mut_slice.ensures.value ∙ c.into_vec-list.ensures ∙ c.replace-nodes.ensures.value in
     let slots = c.as_mut_slice.ensures in
     let long : length c.into_vec-list.result.items ≡ c.into_vec-list.result.len = ap (λ (l : List (Node _)). length l) (sym slots.value) ∙ slots.len in
