@@ -2,8 +2,8 @@
 #![tactic(auto)]
 
 mod addresses;
-mod behind;
 mod algo_sets;
+mod behind;
 mod building;
 mod digests;
 mod extraction;
@@ -26,8 +26,8 @@ mod lists;
 mod names;
 mod nodes;
 mod payload_sizes;
-mod payloads;
 mod payload_sums;
+mod payloads;
 mod placement;
 mod places;
 mod placing;

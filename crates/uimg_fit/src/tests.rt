@@ -1,5 +1,6 @@
 mod build_trees;
 mod builds;
+mod fills;
 mod listings;
 mod reports;
 
