@@ -46,3 +46,4 @@ pub mod EachLaws
 pub mod ImageFillLaws
 pub mod ImagesFillLaws
 pub mod InMemoryLaws
+pub mod FillTreeLaws

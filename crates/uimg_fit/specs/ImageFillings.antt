@@ -1,14 +1,15 @@
 -- What filling does to an image, by what is in memory and the bytes of its payload.
-use Rattle.std.specs.Prelude.{◌≡◌, ◌≢◌, ℕ, List, [], ◌∷◌, ◌++◌, map, Bool, true, false, is_some, Option, Some, None, Result, Ok, Err, codes, ⊤}
+use Rattle.std.specs.Prelude.{◌≡◌, ◌≢◌, ℕ, List, [], ◌∷◌, ◌++◌, map, Bool, true, false, is_some, find, Option, Some, None, Result, Ok, Err, codes, ⊤}
 use Rattle.std.specs.List.{filter, list_all, AllByRecursion}
-use Rattle.std.specs.Option.{option_map_or, IfSome}
+use Rattle.std.specs.Option.{option_map, option_map_or, IfSome}
+use Rattle.std.specs.Str.{bytes_eq}
 use Rattle.uimg_blob.specs.LookUps.{NodeOf, listed, first, hashes}
 use Rattle.uimg_blob.specs.Roles.{is_hash}
 use Rattle.uimg_tree.specs.declared.tree.Node.{Node}
 use Rattle.uimg_tree.specs.Content.{Content, Unread, bytes, file, bytes_in, IsKept}
 use Rattle.uimg_fit.specs.declared.fault.FitFault.{FitFault}
-use Rattle.uimg_fit.specs.declared.fault.FitFault.TheVariants.{UnknownAlgo, OutOfMemory, NoFile, ReadFailed}
-use Rattle.uimg_fit.specs.Filling.{without_external, each, algo_by, hashed_by}
+use Rattle.uimg_fit.specs.declared.fault.FitFault.TheVariants.{NoImages, UnknownAlgo, OutOfMemory, NoFile, ReadFailed}
+use Rattle.uimg_fit.specs.Filling.{without_external, each, in_first, algo_by, hashed_by}
 use Rattle.uimg_fit.specs.Refusing.{image_fault, first_fault}
 use Rattle.uimg_fit.specs.FillAnswers.{node_in_full}
 use Rattle.uimg_fit.specs.PayloadSums.{no_files, in_memory}
@@ -95,3 +96,34 @@ FillsImages files old new (Err fault) = first_in_memory old ≡ Some fault
 -- The file of an image's payload is kept.
 abbrev pub IsKeptImage : (List ℕ → Option (List ℕ)) → NodeOf Content → Type 0
 IsKeptImage files image = IfSome (first image.own (codes "data")) (IsKept files)
+
+-- what is said of a node whose children are images that were to be filled
+abbrev pub FillsParent : {A X : Type 0} → (List ℕ → Option (List ℕ)) → Node A → Node A → Result X FitFault → Type 0
+FillsParent files old new (Ok x) = (first_in_memory (listed old.children) ≡ None) × (new ≡ record old { children = each (filled_over files) old.children })
+FillsParent files old new (Err OutOfMemory) = ⊤
+FillsParent files old new (Err NoFile) = StopsAmong (listed old.children)
+FillsParent files old new (Err ReadFailed) = StopsAmong (listed old.children)
+FillsParent files old new (Err fault) = first_in_memory (listed old.children) ≡ Some fault
+
+-- the images among the children of the root
+abbrev pub images_among : Unread → Option (List (NodeOf Content))
+images_among t = option_map (λ c. listed c.below) (find (λ c. bytes_eq (codes "images") c.name) (listed t))
+
+-- why they aren't filled, whatever their files have
+abbrev pub fault_among : Option (List (NodeOf Content)) → Option FitFault
+fault_among None = Some NoImages
+fault_among (Some images) = first_in_memory images
+
+-- Filling stops at the file of one of the root's images.
+pub record StopsBelow (t : Unread) : Type 0 where
+  pub images : List (NodeOf Content)
+  pub are_images : images_among t ≡ Some images
+  pub stops : StopsAmong images
+
+-- what is said of the children of a root that was to be filled
+abbrev pub FillsBelow : {X : Type 0} → (List ℕ → Option (List ℕ)) → Unread → Unread → Result X FitFault → Type 0
+FillsBelow files old new (Ok x) = (fault_among (images_among old) ≡ None) × (new ≡ in_first (codes "images") (each (filled_over files)) old)
+FillsBelow files old new (Err OutOfMemory) = ⊤
+FillsBelow files old new (Err NoFile) = StopsBelow old
+FillsBelow files old new (Err ReadFailed) = StopsBelow old
+FillsBelow files old new (Err fault) = fault_among (images_among old) ≡ Some fault

@@ -1,17 +1,25 @@
-ghost use Rattle.std.specs.Prelude.{◌≡◌, codes, IsTrue, IfOk, IfErr, false};
+ghost use Rattle.std.specs.Prelude.{◌≡◌, codes, not, IsTrue, IfOk, IfErr, false};
+ghost use Rattle.std.specs.List.{prefix_len, AllByRecursion};
+ghost use Rattle.std.specs.Option.{IfSome};
+ghost use Rattle.std.specs.Str.{bytes_eq};
+ghost use Rattle.uimg_blob.specs.LookUps.{listed};
 ghost use Rattle.uimg_tree.specs.Content.{bytes, AreKept, FilesAtData};
 ghost use Rattle.uimg_tree.specs.Encoding.{word};
 ghost use Rattle.uimg_fit.specs.Filling.{with};
 ghost use Rattle.uimg_fit.specs.declared.fault.FitFault.TheVariants.{OutOfMemory};
-ghost use Rattle.uimg_tree.specs.Trees.{node_of};
+ghost use Rattle.uimg_tree.specs.Trees.{node_of, siblings};
 ghost use Rattle.uimg_tree.specs.UsingFiles.{UsesFiles};
 ghost use Rattle.uimg_fit.specs.FillAnswers.{opens_no_file, fails_to_read, FillsAnswer};
+ghost use Rattle.uimg_fit.specs.ImageFillings.{IsKeptImage, FillsParent, FillsBelow, images_among};
 
 use crate::fault::FitFault;
+use crate::filled_images::fill_images;
+use crate::payloads::is_images;
 use crate::setting::{copied, with_value};
 use std::alloc::Allocator;
+use std::mem;
 use uimg_base::{Files, Source};
-use uimg_tree::{Props, Tree, Value};
+use uimg_tree::{Node, Nodes, Props, Tree, Value};
 
 // Properties with the time.
 fn with_time<A: Allocator + Copy>(
@@ -24,6 +32,61 @@ fn with_time<A: Allocator + Copy>(
 {
     let value = Value::Bytes(copied(alloc, &time.to_be_bytes())?);
     with_value(alloc, props, b"timestamp", value)
+}
+
+// How many nodes stand before the first that is named `images`.
+fn before_images<A: Allocator>(nodes: &[Node<A>]) -> usize
+    ensures { result ≡ prefix_len (λ n. not (bytes_eq (codes "images") n.name)) nodes.now }
+{
+    nodes.iter().take_while(|node| !is_images(node)).count()
+}
+
+// Fills the images that are the children of a node.
+fn fill_parent<F: Files, A: Allocator + Copy>(
+    alloc: A,
+    parent: &mut Node<A>,
+    files: &mut F,
+) -> Result<(), FitFault>
+    ensures files { UsesFiles (opens_no_file result) (F.map files.old) (F.map files.new) }
+    ensures found { IsTrue (F.map files.old).complete →
+        AllByRecursion (IsKeptImage (F.map files.old).bytes) (listed parent.old.children) →
+        opens_no_file result ≡ false }
+    ensures steady { IsTrue F.Opened.steady → IsTrue (F.map files.old).honest →
+        AllByRecursion (IsKeptImage (F.map files.old).bytes) (listed parent.old.children) →
+        fails_to_read result ≡ false }
+    ensures filled { IsTrue (F.map files.old).honest → FillsParent (F.map files.old).bytes
+        parent.old parent.new result }
+{
+    let nodes = mem::replace(&mut parent.children, Nodes::of(Vec::new(alloc)));
+    let mut images = nodes.into_vec();
+    match fill_images(alloc, images.as_mut_slice(), files) {
+        Ok(()) => {}
+        Err(fault) => return Err(fault),
+    }
+    parent.children = Nodes::of(images);
+    Ok(())
+}
+
+// Fills the images of a root, whose children these are.
+fn fill_below<F: Files, A: Allocator + Copy>(
+    alloc: A,
+    nodes: &mut [Node<A>],
+    files: &mut F,
+) -> Result<(), FitFault>
+    ensures files { UsesFiles (opens_no_file result) (F.map files.old) (F.map files.new) }
+    ensures found { IsTrue (F.map files.old).complete → IfSome (images_among (siblings nodes.old))
+        (AllByRecursion (IsKeptImage (F.map files.old).bytes)) → opens_no_file result ≡ false }
+    ensures steady { IsTrue F.Opened.steady → IsTrue (F.map files.old).honest →
+        IfSome (images_among (siblings nodes.old))
+        (AllByRecursion (IsKeptImage (F.map files.old).bytes)) → fails_to_read result ≡ false }
+    ensures filled { IsTrue (F.map files.old).honest → FillsBelow (F.map files.old).bytes
+        (siblings nodes.old) (siblings nodes.new) result }
+{
+    let at = before_images(nodes);
+    if at >= nodes.len() {
+        return Err(FitFault::NoImages);
+    }
+    fill_parent(alloc, &mut nodes[at], files)
 }
 
 /// Fills a tree before it is built: sets the root's `timestamp`, removes `data-offset`, `data-size`
@@ -58,5 +121,24 @@ pub fn fill<F: Files, A: Allocator + Copy>(
         FillsAnswer (λ filled. node_of filled.root) (F.map files.old).bytes time
         (node_of tree.root) result }
 {
-    Err(FitFault::OutOfMemory)
+    let Tree { root } = tree;
+    let Node {
+        name,
+        props,
+        children,
+    } = root;
+    let mut nodes = children.into_vec();
+    match fill_below(alloc, nodes.as_mut_slice(), files) {
+        Ok(()) => {}
+        Err(fault) => return Err(fault),
+    }
+    let props = with_time(alloc, props, time)?;
+    let children = Nodes::of(nodes);
+    Ok(Tree {
+        root: Node {
+            name,
+            props,
+            children,
+        },
+    })
 }

@@ -224,6 +224,7 @@ fn file_path<'a>(request: &'a MakeRequest<'_>, number: u64) -> &'a str {
 mod tests {
     use super::*;
     use std::test::Fail;
+    use uimg_its::{Construct, ItsFault};
     use uimg_legacy::LegacyFault;
 
     // Each end has its line on standard error, or none, and its status.
@@ -265,6 +266,22 @@ mod tests {
             (
                 Err(RequestFault::Stopped(Fault::Fit(FitFault::ReadFailed))),
                 "uimg: F10 read failed\n",
+                3,
+            ),
+            (
+                Err(RequestFault::Stopped(Fault::Its(ItsFault {
+                    kind: Kind::OutOfProfile(Construct::Reference),
+                    line: 3,
+                }))),
+                "uimg: I3 out of profile: reference at line 3\n",
+                1,
+            ),
+            (
+                Err(RequestFault::Stopped(Fault::Its(ItsFault {
+                    kind: Kind::OutOfMemory,
+                    line: 12,
+                }))),
+                "uimg: I7 out of memory at line 12\n",
                 3,
             ),
             (

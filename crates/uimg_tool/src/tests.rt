@@ -4,6 +4,7 @@ mod disk_files;
 mod extractions;
 mod failing_makes;
 mod failing_streams;
+mod failing_trees;
 mod files;
 mod fit_cases;
 mod fit_devices;
@@ -18,7 +19,10 @@ mod make_lines;
 mod makes;
 mod memory;
 mod pieces;
+mod refused_trees;
 mod reports;
+mod tree_sources;
+mod trees;
 mod wrong_lines;
 
 use crate::program;

@@ -51,7 +51,7 @@ impl<H: Shelf> Shelf for CutShelf<H> {
 }
 
 // What the making of the words from these files answers, and what it lists.
-fn made_by<R: AllocGlobal + Abort, A: Allocator, F: Files, H: Shelf>(
+fn made_by<R: AllocGlobal + Abort, A: Allocator + Copy, F: Files, H: Shelf>(
     rt: &R,
     alloc: A,
     words: &[&str],
@@ -76,7 +76,7 @@ fn made_by<R: AllocGlobal + Abort, A: Allocator, F: Files, H: Shelf>(
 }
 
 // The same of an image of type multi.
-fn made<R: AllocGlobal + Abort, A: Allocator, F: Files, H: Shelf>(
+fn made<R: AllocGlobal + Abort, A: Allocator + Copy, F: Files, H: Shelf>(
     rt: &R,
     alloc: A,
     data: &str,
@@ -89,7 +89,7 @@ fn made<R: AllocGlobal + Abort, A: Allocator, F: Files, H: Shelf>(
 
 // The same with a fuse round the files: opens are refused from a number on, and the source of the
 // open number `turn` lets so many calls through.
-fn made_fused<R: AllocGlobal + Abort, A: Allocator, F: Files + Drop, H: Shelf>(
+fn made_fused<R: AllocGlobal + Abort, A: Allocator + Copy, F: Files + Drop, H: Shelf>(
     rt: &R,
     alloc: A,
     data: &str,

@@ -99,18 +99,6 @@ fn bad_epochs(rt: HostRuntime) -> Result<(), Fail> {
     Ok(())
 }
 
-// With a source the options of a legacy image are not checked.
-#[test]
-fn a_source(rt: HostRuntime) -> Result<(), Fail> {
-    let lines: [&[&str]; 3] = [
-        &["-f", "none.its"],
-        &["-f", "none.its", "-E", "-p", "400"],
-        &["-f", "none.its", "-A", "x", "-T", "flat_dt", "-a", "x"],
-    ];
-    let text = "uimg: -f is not there yet: image source cannot be compiled\n";
-    refuses(&rt, None, &lines, text)
-}
-
 // What the library of command lines answers: its text goes to standard error, with status 2.
 #[test]
 fn no_makes(rt: HostRuntime) -> Result<(), Fail> {

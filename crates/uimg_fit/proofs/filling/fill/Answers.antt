@@ -1,0 +1,52 @@
+use Rattle.std.proofs.Common.{◌≡◌, ◌∙◌, List, length, map, ap, sym, subst, arith, rules, Option, None, Err, codes}
+use Rattle.std.specs.List.{AllByRecursion}
+use Rattle.std.specs.Option.{IfSome}
+use Rattle.std.specs.Bool.{⊤}
+use Rattle.std.proofs.lemmas.Result.{err_from_is_err_and}
+use Rattle.uimg_blob.specs.LookUps.{NodeOf}
+use Rattle.uimg_tree.specs.Content.{Content, Unread}
+use Rattle.uimg_tree.specs.Trees.{siblings, node_of}
+use Rattle.uimg_tree.specs.declared.tree.Node.{Node}
+use Rattle.uimg_tree.specs.declared.tree.Tree.{Tree}
+use Rattle.uimg_fit.specs.ImageFillings.{IsKeptImage, images_among, FillsBelow, fault_among, filled_over}
+use Rattle.uimg_fit.specs.Filling.{in_first, each}
+use Rattle.uimg_fit.proofs.EachLaws.{written-back}
+use Rattle.uimg_fit.proofs.FillTreeLaws.{kept-below, told-filled, told-refused}
+use Rattle.uimg_fit.proofs.filling.fill.Goals as goal
+
+pub returns-in-Err-clause-found : goal.returns-in-Err-clause-found
+returns-in-Err-clause-found g c = λ complete kept.
+    let root = c.args.tree.root in
+    let files = (g.F.Files.map c.args.files.now).bytes in
+    let below : siblings c.as_mut_slice.result.now ≡ root.children = ap siblings c.as_mut_slice.ensures.value ∙ c.into_vec-nodes.ensures in
+    c.in-Err.ensures.found complete
+    (subst (λ (t : Unread). IfSome (images_among t) (AllByRecursion (IsKeptImage files))) (sym below) (kept-below files root.name root.props root.children kept))
+
+pub returns-in-Err-clause-steady : goal.returns-in-Err-clause-steady
+returns-in-Err-clause-steady g c = λ steady honest kept.
+    let root = c.args.tree.root in
+    let files = (g.F.Files.map c.args.files.now).bytes in
+    let below : siblings c.as_mut_slice.result.now ≡ root.children = ap siblings c.as_mut_slice.ensures.value ∙ c.into_vec-nodes.ensures in
+    c.in-Err.ensures.steady steady honest
+    (subst (λ (t : Unread). IfSome (images_among t) (AllByRecursion (IsKeptImage files))) (sym below) (kept-below files root.name root.props root.children kept))
+
+pub returns-in-Err-clause-filled : goal.returns-in-Err-clause-filled
+returns-in-Err-clause-filled g c = λ honest kept.
+    let root = c.args.tree.root in
+    let files = (g.F.Files.map c.args.files.now).bytes in
+    let below : siblings c.as_mut_slice.result.now ≡ root.children = ap siblings c.as_mut_slice.ensures.value ∙ c.into_vec-nodes.ensures in
+    told-refused files root.name root.props root.children (Tree g.row.A.Denot) ⊤ (λ filled. node_of filled.root) c.args.time (siblings c.fill_below.new.nodes) c.in-Err.fault c.requires
+    (subst (λ (t : Unread). FillsBelow {X = ⊤} files t (siblings c.fill_below.new.nodes) (Err c.in-Err.fault)) below (c.in-Err.ensures.filled honest))
+
+pub returns-clause-filled : goal.returns-clause-filled
+returns-clause-filled g c = λ honest kept.
+    let root = c.args.tree.root in
+    let files = (g.F.Files.map c.args.files.now).bytes in
+    let below : siblings c.as_mut_slice.result.now ≡ root.children = ap siblings c.as_mut_slice.ensures.value ∙ c.into_vec-nodes.ensures in
+    let slots = c.as_mut_slice.ensures in
+    let long : length c.into_vec-nodes.result.items ≡ c.into_vec-nodes.result.len = ap (λ (l : List (Node _)). length l) (sym slots.value) ∙ slots.len in
+    let back = written-back c.into_vec-nodes.result.len c.fill_below.new.nodes c.into_vec-nodes.result.items (omega (arith, long, slots.len, c.fill_below.auto.nodes)) long (omega (arith, slots.len, c.fill_below.auto.nodes)) in
+    let f = c.in-Ok.ensures.filled honest in
+    told-filled files root.name root.props root.children c.args.time c.in_ok-props.props c.of-children.result c.requires kept c.in_ok-props.ensures.set
+    (sym (ap (λ (t : Unread). fault_among (images_among t)) below) ∙ f.0)
+    (c.of-children.ensures ∙ ap siblings back ∙ f.1 ∙ ap (λ (t : Unread). in_first (codes "images") (each (filled_over files)) t) below)
