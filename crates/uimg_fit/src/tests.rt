@@ -3,6 +3,7 @@ mod builds;
 mod fills;
 mod listings;
 mod reports;
+mod sound_trees;
 
 use crate::places::{Place, decide};
 use crate::samples::{

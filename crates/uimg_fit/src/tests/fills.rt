@@ -2,9 +2,10 @@ use super::build_trees::{
     bytes, file, hashed_image, image, leaf, node, prop, unfilled_demo, with_images,
 };
 use super::builds::{ABC, built};
+use super::sound_trees::filled;
 use crate::samples::{ABC_CRC, ABC_MD5, four_hash_fit, set_cell};
 use crate::setting::first_value;
-use crate::{FitFault, Placement, fill};
+use crate::{FitFault, Placement};
 use linked_list_allocator::LocalHeap;
 use std::alloc::{AllocError, Allocator, Global};
 use std::test::Fail;
@@ -40,8 +41,8 @@ fn four_hashes_are_filled(rt: HostRuntime) -> Result<(), Fail> {
         let payload = file(alloc, b"abc.bin", 3)?;
         let in_file = unfilled_demo(alloc, payload)?;
         let mut files = MemFiles::new(&ABC);
-        let first = fill(alloc, in_memory, time, &mut files)?;
-        let second = fill(alloc, in_file, time, &mut files)?;
+        let first = filled(alloc, in_memory, time, &mut files)?;
+        let second = filled(alloc, in_file, time, &mut files)?;
         assert!(rt; is_file(&second, b"abc.bin", 3));
         for tree in [&first, &second] {
             let (answer, fit) = built(alloc, tree, &ABC, Placement::Inside);
@@ -54,7 +55,11 @@ fn four_hashes_are_filled(rt: HostRuntime) -> Result<(), Fail> {
 
 // The children of an image: two hash nodes with values that are wrong or stand first, and two nodes
 // that are no hash nodes.
-fn mixed_children(alloc: Global, crc: &[u8], md5: &[u8]) -> Result<Vec<Node<Global>>, AllocError> {
+fn mixed_children<'a>(
+    alloc: Global,
+    crc: &'a [u8],
+    md5: &'a [u8],
+) -> Result<Vec<Node<Global>>, AllocError> {
     let mut children = Vec::new(alloc);
     for (name, pairs) in [
         (
@@ -147,9 +152,9 @@ fn the_rest_stays(rt: HostRuntime) -> Result<(), Fail> {
     let alloc = rt.alloc();
     let tree = mixed_tree(alloc, b"stale", false)?;
     let want = mixed_tree(alloc, b"\x12\x34\x56\x78", true)?;
-    let filled = fill(alloc, tree, 0x12345678, &mut MemFiles::new(&ABC))?;
-    assert!(rt; is_file(&filled, b"abc.bin", 3));
-    let (answer, fit) = built(alloc, &filled, &ABC, Placement::Inside);
+    let tree = filled(alloc, tree, 0x12345678, &mut MemFiles::new(&ABC))?;
+    assert!(rt; is_file(&tree, b"abc.bin", 3));
+    let (answer, fit) = built(alloc, &tree, &ABC, Placement::Inside);
     assert!(rt; answer.is_ok());
     let (answer, wanted) = built(alloc, &want, &ABC, Placement::Inside);
     assert!(rt; answer.is_ok());
@@ -171,22 +176,34 @@ fn of_file(alloc: Global, size: u64, algos: &[&[u8]]) -> Result<Tree<Global>, Al
     of_image(alloc, own)
 }
 
+// What is answered where so many files can be opened, and so many calls of the first get through.
+fn fused<F: Files + Drop>(
+    alloc: Global,
+    tree: Tree<Global>,
+    files: F,
+    opens: u64,
+    calls: u64,
+) -> Result<Tree<Global>, FitFault> {
+    let mut files = FuseFiles::new(files, opens, 0, calls);
+    filled(alloc, tree, 0, &mut files)
+}
+
 // No file is opened for a payload in memory, nor for an image without hash nodes: where each open is
 // refused, both are filled.
 #[test]
 fn no_file_is_opened(rt: HostRuntime) -> Result<(), Fail> {
     let alloc = rt.alloc();
-    let mut files = FuseFiles::new(MemFiles::new(&ABC), 0, 0, 0);
     let payload = bytes(alloc, b"abc")?;
     let in_memory = unfilled_demo(alloc, payload)?;
-    assert!(rt; fill(alloc, in_memory, 0, &mut files).is_ok());
+    assert!(rt; fused(alloc, in_memory, MemFiles::new(&ABC), 0, 0).is_ok());
     let payload = file(alloc, b"abc.bin", 3)?;
     let plain = image(alloc, b"a", payload)?;
     let unhashed = of_image(alloc, plain)?;
-    assert!(rt; fill(alloc, unhashed, 0, &mut files).is_ok());
+    assert!(rt; fused(alloc, unhashed, MemFiles::new(&ABC), 0, 0).is_ok());
     let payload = file(alloc, b"abc.bin", 3)?;
     let in_file = unfilled_demo(alloc, payload)?;
-    assert!(rt; fill(alloc, in_file, 0, &mut files).err() == Some(FitFault::NoFile));
+    let answer = fused(alloc, in_file, MemFiles::new(&ABC), 0, 0);
+    assert!(rt; answer.err() == Some(FitFault::NoFile));
     Ok(())
 }
 
@@ -241,15 +258,13 @@ fn one_pass_for_all_hashes(rt: HostRuntime) -> Result<(), Fail> {
     let algos = DIGESTS.map(|(algo, _)| algo);
     for calls in 0..4u64 {
         let tree = of_file(alloc, 20000, &algos)?;
-        let mut files = FuseFiles::new(MemFiles::new(&named), 1, 0, calls);
-        let answer = fill(alloc, tree, 0, &mut files);
+        let answer = fused(alloc, tree, MemFiles::new(&named), 1, calls);
         assert!(rt; answer.err() == Some(FitFault::ReadFailed), "at {calls}");
     }
     let tree = of_file(alloc, 20000, &algos)?;
-    let mut files = FuseFiles::new(MemFiles::new(&named), 1, 0, 4);
-    let filled = fill(alloc, tree, 0, &mut files)?;
-    assert!(rt; is_file(&filled, b"f", 20000));
-    let Some(image) = first_image(&filled) else {
+    let tree = fused(alloc, tree, MemFiles::new(&named), 1, 4)?;
+    assert!(rt; is_file(&tree, b"f", 20000));
+    let Some(image) = first_image(&tree) else {
         return Err(FitFault::NoImages.into());
     };
     assert_eq!(rt; image.children.items().len(), 9);
@@ -335,16 +350,16 @@ fn faults_in_their_order(rt: HostRuntime) -> Result<(), Fail> {
         ),
     ] {
         let tree = of_rows(alloc, &[first, second])?;
-        let answer = fill(alloc, tree, 0, &mut MemFiles::new(&ABC));
+        let answer = filled(alloc, tree, 0, &mut MemFiles::new(&ABC));
         assert!(rt; answer.err() == want);
     }
     let bare = Tree {
         root: leaf(alloc, b"images", &[(b"images", b"")])?,
     };
-    let answer = fill(alloc, bare, 0, &mut MemFiles::new(&ABC));
+    let answer = filled(alloc, bare, 0, &mut MemFiles::new(&ABC));
     assert!(rt; answer.err() == Some(FitFault::NoImages));
     let none = with_images(alloc, Vec::new(alloc))?;
-    assert!(rt; fill(alloc, none, 0, &mut MemFiles::new(&ABC)).is_ok());
+    assert!(rt; filled(alloc, none, 0, &mut MemFiles::new(&ABC)).is_ok());
     Ok(())
 }
 
@@ -361,7 +376,7 @@ fn each_growth_of_filling_refused(rt: HostRuntime) -> Result<(), Fail> {
         let Ok(filler) = Vec::<u8, &LocalHeap>::with_capacity(&heap, 16 * taken) else {
             break;
         };
-        match fill(&heap, tree, 0, &mut MemFiles::new(&ABC)) {
+        match filled(&heap, tree, 0, &mut MemFiles::new(&ABC)) {
             Ok(_) => {
                 assert_eq!(rt; refused, 0);
                 whole = whole.saturating_add(1);
