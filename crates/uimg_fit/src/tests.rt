@@ -1,7 +1,9 @@
 mod build_trees;
 mod builds;
+mod fills;
 mod listings;
 mod reports;
+mod sound_trees;
 
 use crate::places::{Place, decide};
 use crate::samples::{

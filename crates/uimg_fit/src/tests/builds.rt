@@ -8,12 +8,12 @@ use uimg_base::{Files, FuseFiles, FuseWriter, MemFiles, Out};
 use uimg_blob::BlobFault;
 use uimg_tree::Tree;
 
-const ABC: [(&[u8], &[u8]); 1] = [(b"abc.bin", b"abc")];
+pub(super) const ABC: [(&[u8], &[u8]); 1] = [(b"abc.bin", b"abc")];
 
 const PLACEMENTS: [Placement; 3] = [Placement::Inside, Placement::After, Placement::At(1024)];
 
 // What is answered, and written, over these files.
-fn built(
+pub(super) fn built(
     alloc: Global,
     tree: &Tree<Global>,
     named: &[(&[u8], &[u8])],
