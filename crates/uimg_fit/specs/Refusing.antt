@@ -42,7 +42,7 @@ is_low size Inside = Bool.false
 is_low size After = Bool.false
 is_low size (At p) = nat_lt p size
 
--- whether a tree can be built, or the first fault
+-- whether a tree whose names are good can be built, or the first fault
 unfoldable pub build_fault : Nodes → Placement → Option FitFault
 build_fault t placement =
     if nat_lt 4294967295 (length (encode (moved t placement))) then Some TooLarge

@@ -127,8 +127,9 @@ fn place_and_build<F: Files, W: Write, A: Allocator + Copy>(
 /// where the open of a file was refused, `Read` where a read of one failed or its size is another than
 /// the tree keeps; over honest files of the kept sizes a prefix of the image was written then.
 ///
-/// A file is opened once, when its payload is written, and goes through a window of 8192 bytes. The
-/// image of a filled tree verifies, and each payload is found in it.
+/// A file is opened once for each value that it is, when that is written, and goes through a window of
+/// 8192 bytes. The image of a filled tree verifies, and each payload is found in it. The depth of the
+/// calls is that of the tree.
 pub fn build<F: Files, W: Write, A: Allocator + Copy>(
     alloc: A,
     tree: &Tree<A>,

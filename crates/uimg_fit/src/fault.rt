@@ -34,7 +34,7 @@ pub enum FitFault {
     /// A payload's file could not be opened.
     #[error("F9 no file")]
     NoFile,
-    /// A read of a payload's file failed.
+    /// A read of a payload's file failed, or the file has another size than the tree keeps.
     #[error("F10 read failed")]
     ReadFailed,
 }
@@ -43,13 +43,13 @@ pub enum FitFault {
 #[derive(Clone, Copy, Debug, PartialEq, Eq, Error)]
 pub enum Fault {
     /// The blob is refused, or the memory for its table of nodes was; the offset is counted from the
-    /// file's start.
+    /// file's start. Of a tree that is built it is a bad name, at offset 0.
     #[error("{0} at {1}")]
     Blob(BlobFault, u64),
     /// The images are refused.
     #[error("{0}")]
     Fit(FitFault),
-    /// A read failed.
+    /// A read failed, or a payload's file has another size than the tree keeps.
     #[error("read failed")]
     Read,
     /// A write failed.

@@ -75,7 +75,8 @@ pub record BuildsTree (files : List ℕ → Option (List ℕ)) (source : List �
   pub written : AppendsAll s t (built tree placement)
   pub reads_back : ReadsBack (built tree placement) tree
 
--- Why an image is refused for its images: the tree isn't filled, or what is filled isn't built.
+-- Why an image is refused for its images: the tree isn't filled, or what is filled isn't built (of which the fault alone says
+-- why, and nothing was appended).
 pub data StopsAtImages (files : List ℕ → Option (List ℕ)) (source : List ℕ) (time : ℕ) (placement : Placement) (fault : FitFault) (s t : Sink) : Type 0 where
   unfilled : Unfilled files source time fault → t ≡ s → StopsAtImages files source time placement fault s t
   unbuilt : BuildsFilled {X = ⊤} files source time placement (Err (fit.Fit fault)) s t → StopsAtImages files source time placement fault s t

@@ -64,7 +64,8 @@ fn open_in<R: rt::Files + AllocGlobal>(
     if folder.is_empty() || name.starts_with('/') {
         return FileSource::open(rt, name);
     }
-    match format!(in rt.alloc(); "{folder}/{name}") {
+    let separator = if folder.ends_with('/') { "" } else { "/" };
+    match format!(in rt.alloc(); "{folder}{separator}{name}") {
         Ok(path) => FileSource::open(rt, path.as_str()),
         Err(_) => Err(SourceFault),
     }

@@ -27,7 +27,7 @@ pub enum Fault {
     #[error("{0}")]
     Its(ItsFault),
 
-    /// A read failed.
+    /// A read failed, or a file of an image that is made has another size than was found at first.
     #[error("read failed")]
     Read,
 

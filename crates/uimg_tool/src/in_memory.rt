@@ -44,8 +44,9 @@ pub fn run_in_memory<A: Allocator, B: Allocator>(
 /// It is the image of the files' bytes, which reads back, and exactly its listing was written.
 /// `Fault::NoFile` comes only for a name that no file has, and neither `Fault::Read`, `Fault::Keep` nor
 /// `NoFile` of a FIT image ever comes. `Fault::OutOfMemory` comes where the memory for the opened files
-/// or for the text was refused, `Fault::Put` where a write of the listing failed, or the memory for the
-/// image was refused.
+/// or for the text was refused, `OutOfMemory` of `Its`, `Fit` and `Blob` where that for the tree, or for
+/// the table of the image's nodes, was, and `Fault::Put` where a write of the listing failed, or the
+/// memory for the image was refused.
 pub fn make_in_memory<W: Write, A: Allocator + Copy, B: Allocator, H: Allocator>(
     alloc: A,
     command: &MakeCommand,

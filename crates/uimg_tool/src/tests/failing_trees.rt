@@ -74,7 +74,7 @@ fn files_that_fail(rt: HostRuntime) -> Result<(), Fail> {
         let listing = if fault.is_none() { DEMO_LISTING } else { "" };
         assert_eq!(rt; listed.as_slice(), listing.as_bytes());
         let there = fs::exists(&rt, path)?;
-        assert!(rt; begun || !there);
+        assert_eq!(rt; there, begun);
         if there {
             let image = fs::read(&rt, path)?;
             assert!(rt; whole.as_slice().starts_with(&image));
