@@ -29,26 +29,32 @@ fn is_file<A: Allocator>(tree: &Tree<A>, want: &[u8], length: u64) -> bool {
     }
 }
 
-// The sample's bytes come of its tree, with the time in the root, wherever the payload comes from.
+// Whether a tree is built to these bytes, its payloads inside.
+fn is_built(alloc: Global, tree: &Tree<Global>, want: &[u8]) -> bool {
+    let (answer, fit) = built(alloc, tree, &ABC, Placement::Inside);
+    answer.is_ok() && fit.as_slice() == want
+}
+
+// Whether the sample's bytes come of its tree, with a time in the root, wherever the payload comes from.
+fn four_hashes_at(alloc: Global, time: u32) -> Result<bool, Fail> {
+    let mut want = four_hash_fit(alloc)?;
+    set_cell(want.as_mut_slice(), 112, time);
+    let payload = bytes(alloc, b"abc")?;
+    let in_memory = unfilled_demo(alloc, payload)?;
+    let payload = file(alloc, b"abc.bin", 3)?;
+    let in_file = unfilled_demo(alloc, payload)?;
+    let mut files = MemFiles::new(&ABC);
+    let first = filled(alloc, in_memory, time, &mut files)?;
+    let second = filled(alloc, in_file, time, &mut files)?;
+    Ok(is_file(&second, b"abc.bin", 3)
+        && is_built(alloc, &first, want.as_slice())
+        && is_built(alloc, &second, want.as_slice()))
+}
+
 #[test]
 fn four_hashes_are_filled(rt: HostRuntime) -> Result<(), Fail> {
-    let alloc = rt.alloc();
     for time in [0, 1, 0x5f5e1234, 0xffffffff] {
-        let mut want = four_hash_fit(alloc)?;
-        set_cell(want.as_mut_slice(), 112, time);
-        let payload = bytes(alloc, b"abc")?;
-        let in_memory = unfilled_demo(alloc, payload)?;
-        let payload = file(alloc, b"abc.bin", 3)?;
-        let in_file = unfilled_demo(alloc, payload)?;
-        let mut files = MemFiles::new(&ABC);
-        let first = filled(alloc, in_memory, time, &mut files)?;
-        let second = filled(alloc, in_file, time, &mut files)?;
-        assert!(rt; is_file(&second, b"abc.bin", 3));
-        for tree in [&first, &second] {
-            let (answer, fit) = built(alloc, tree, &ABC, Placement::Inside);
-            assert!(rt; answer.is_ok());
-            assert!(rt; fit.as_slice() == want.as_slice());
-        }
+        assert!(rt; four_hashes_at(rt.alloc(), time)?, "at {time}");
     }
     Ok(())
 }

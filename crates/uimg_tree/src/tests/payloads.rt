@@ -2,7 +2,7 @@ use super::shapes::{family, list};
 use crate::{TreeFault, Value, copy_node, copy_value, put_padded, value_size};
 use std::alloc::Global;
 use std::test::Fail;
-use uimg_base::{FuseFiles, FuseWriter, MemFiles, Out, WINDOW};
+use uimg_base::{Files, FuseFiles, FuseWriter, MemFiles, Out, WINDOW};
 
 // What is answered, and written, for a value over these files.
 fn put(
@@ -54,6 +54,33 @@ fn values_are_padded(rt: HostRuntime) -> Result<(), Fail> {
     Ok(())
 }
 
+// The same, where the file answers its size alone.
+fn put_unread<F: Files + Drop>(
+    alloc: Global,
+    value: &Value<Global>,
+    files: F,
+) -> (Result<(), TreeFault>, Vec<u8>) {
+    let mut window = [0; WINDOW];
+    let mut fused = FuseFiles::new(files, 1, 0, 1);
+    let mut out = Out::new(Vec::new(alloc));
+    let answer = put_padded(value, &mut fused, &mut window, &mut out);
+    (answer, out.into_inner())
+}
+
+// The same, where the output takes so many bytes.
+fn put_cut<F: Files + Drop>(
+    alloc: Global,
+    value: &Value<Global>,
+    files: F,
+    taken: u64,
+) -> (Result<(), TreeFault>, Vec<u8>) {
+    let mut window = [0; WINDOW];
+    let mut own = files;
+    let mut out = Out::new(FuseWriter::new(Vec::new(alloc), taken));
+    let answer = put_padded(value, &mut own, &mut window, &mut out);
+    (answer, out.into_inner().into_inner())
+}
+
 // A file that is missing or has another size leaves nothing, a failed read and a failed write a prefix.
 #[test]
 fn values_that_fail(rt: HostRuntime) -> Result<(), Fail> {
@@ -68,18 +95,12 @@ fn values_that_fail(rt: HostRuntime) -> Result<(), Fail> {
         assert_eq!(rt; written.len(), 0);
     }
     let named: [(&[u8], &[u8]); 1] = [(b"f", b"12345")];
-    let mut window = [0; WINDOW];
-    let mut files = FuseFiles::new(MemFiles::new(&named), 1, 0, 1);
-    let mut out = Out::new(Vec::new(alloc));
-    let answer = put_padded(&value, &mut files, &mut window, &mut out);
+    let (answer, written) = put_unread(alloc, &value, MemFiles::new(&named));
     assert!(rt; answer == Err(TreeFault::Read));
-    assert_eq!(rt; out.into_inner().len(), 0);
+    assert_eq!(rt; written.len(), 0);
     for taken in 0..8u64 {
-        let mut files = MemFiles::new(&named);
-        let mut out = Out::new(FuseWriter::new(Vec::new(alloc), taken));
-        let answer = put_padded(&value, &mut files, &mut window, &mut out);
+        let (answer, written) = put_cut(alloc, &value, MemFiles::new(&named), taken);
         assert!(rt; answer == Err(TreeFault::Put), "at {taken}");
-        let written = out.into_inner().into_inner();
         assert_eq!(rt; written.len() as u64, taken);
         assert!(rt; b"12345\0\0\0".starts_with(written.as_slice()));
     }
