@@ -46,9 +46,11 @@ fn four_hashes_at(alloc: Global, time: u32) -> Result<bool, Fail> {
     let mut files = MemFiles::new(&ABC);
     let first = filled(alloc, in_memory, time, &mut files)?;
     let second = filled(alloc, in_file, time, &mut files)?;
-    Ok(is_file(&second, b"abc.bin", 3)
-        && is_built(alloc, &first, want.as_slice())
-        && is_built(alloc, &second, want.as_slice()))
+    Ok(
+        is_file(&second, b"abc.bin", 3)
+            && is_built(alloc, &first, want.as_slice())
+            && is_built(alloc, &second, want.as_slice()),
+    )
 }
 
 #[test]

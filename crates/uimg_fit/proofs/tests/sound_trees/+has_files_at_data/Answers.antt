@@ -31,5 +31,8 @@ returns g t c =
     let items = c.items-node-items.result.now in
     let i = c.loop-node.node-index in
     let none : drop i items ≡ [] = drop_of_length-le items {i = i} c.loop-node-test.false in
-    λ is. (c.are_sound.ensures c.if-not-are_sound.false,
-      subst (λ (l : Unread). FilesAtData l) c.items-node-items.ensures (c.loop-node.invariant (subst (λ (l : List (Node g.row.A.Denot)). FilesAtData (siblings l)) (sym none) tt)), tt)
+    λ is. (
+      c.are_sound.ensures c.if-not-are_sound.false,
+      subst (λ (l : Unread). FilesAtData l) c.items-node-items.ensures (c.loop-node.invariant (subst (λ (l : List (Node g.row.A.Denot)). FilesAtData (siblings l)) (sym none) tt)),
+      tt,
+    )
