@@ -4,21 +4,18 @@ use Rattle.std.specs.List.{flat_map, AllByRecursion}
 use Rattle.std.specs.Option.{option_map, IfSome}
 use Rattle.std.proofs.lemmas.Bool.{le-ltb, ltb-false, ltb-true}
 use Rattle.std.proofs.lemmas.List.{length-replicate}
-use Rattle.uimg_texts.specs.Numbers.{up4}
-use Rattle.uimg_blob.specs.Plain.{NamedOf, Nodes, with_value, with_values, AllValues}
+use Rattle.uimg_blob.specs.Plain.{with_value}
 use Rattle.uimg_blob.specs.LookUps.{NodeOf, first, images}
-use Rattle.uimg_tree.specs.Content.{Content, Unread, IsKept, AreKept, bytes, bytes_in, size_of, in_full}
+use Rattle.uimg_tree.specs.Content.{Content, Unread, IsKept, AreKept, bytes_in, size_of, in_full}
 use Rattle.uimg_tree.specs.Encoding.{padded, encode}
 use Rattle.uimg_tree.specs.Pieces.{padding}
 use Rattle.uimg_tree.proofs.SizeLaws.{kept-size}
 use Rattle.uimg_tree.proofs.WritesLaws.{flat_map-both, all-both}
-use Rattle.uimg_fit.specs.declared.fault.FitFault.{FitFault}
 use Rattle.uimg_fit.specs.declared.fault.FitFault.TheVariants.{PositionTooLow, TooLarge}
 use Rattle.uimg_fit.specs.declared.placement.Placement.{Placement}
 use Rattle.uimg_fit.specs.declared.placement.Placement.TheVariants.{Inside, After, At}
 use Rattle.uimg_fit.specs.Building.{data_of, moved, payloads, behind, built}
 use Rattle.uimg_fit.specs.Refusing.{is_low, build_fault}
-use Rattle.uimg_fit.specs.Sources.{room_of}
 use Rattle.uimg_fit.specs.Behind.{images_in, padded_pieces, payload_pieces, rooms, behind_pieces, file_size, end_fault}
 use Rattle.uimg_fit.proofs.LookUpLaws.{NodeHas, node_with, first-with, first-has, images-with, images-has}
 use Rattle.uimg_fit.proofs.SourceLaws.{room-same}

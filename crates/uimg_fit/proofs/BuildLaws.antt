@@ -1,43 +1,34 @@
 -- What building does, step by step.
-use Rattle.std.proofs.Common.{◌≡◌, ◌≤◌, ◌<◌, ◌^◌, ℕ, ◌+◌, List, [], ◌∷◌, ◌++◌, length, Option, Some, None, Result, Ok, Err, Bool, true, false, IsTrue, is_err, nat_lt, if◌then◌else◌, refl, ap, sym, subst, ◌∙◌, arith}
-use Rattle.std.specs.Bool.{OnFalse}
-use Rattle.std.specs.List.{flat_map, AllByRecursion}
+use Rattle.std.proofs.Common.{◌≡◌, ◌≤◌, ◌<◌, ℕ, List, [], ◌∷◌, length, Option, Some, None, Result, Ok, Err, Bool, true, false, IsTrue, nat_lt, if◌then◌else◌, refl, ap, sym, subst, ◌∙◌}
 use Rattle.std.specs.Option.{option_or}
-use Rattle.std.proofs.lemmas.Bool.{lt-ltb, ltb-true, ltb-false}
+use Rattle.std.proofs.lemmas.Bool.{lt-ltb, ltb-true}
 use Rattle.std.specs.Result.{IsErrAnd, OnOk}
-use Rattle.uimg_base.specs.Device.{RisesIf}
 use Rattle.uimg_base.specs.Named.{FileMap, SameFiles}
 use Rattle.uimg_base.specs.Sink.{Sink}
-use Rattle.uimg_base.specs.Writing.{Written}
-use Rattle.uimg_base.proofs.SinkLaws.{prefix_first}
-use Rattle.uimg_base.proofs.WritingLaws.{written_then}
 use Rattle.uimg_blob.specs.declared.fault.BlobFault.{BlobFault}
 use Rattle.uimg_blob.specs.declared.fault.BlobFault.TheVariants as blob
-use Rattle.uimg_blob.specs.Plain.{NamedOf, NodesOf, no_node, a_node, with_values, AllValues}
+use Rattle.uimg_blob.specs.Plain.{NamedOf, NodesOf, no_node, a_node}
 use Rattle.uimg_tree.specs.declared.fault.TreeFault.{TreeFault}
 use Rattle.uimg_tree.specs.declared.fault.TreeFault.TheVariants as tree
-use Rattle.uimg_tree.specs.Content.{Content, Unread, AreKept, IsKept, bytes_in, in_full}
+use Rattle.uimg_tree.specs.Content.{Unread, AreKept, IsKept, bytes_in, in_full}
 use Rattle.uimg_tree.specs.Encoding.{encode}
-use Rattle.uimg_tree.specs.Faults as writing
 use Rattle.uimg_tree.specs.Layouts.{Plan, plan_of, totalsize}
 use Rattle.uimg_tree.specs.Measured.{is_name, bad_property, bad_name, measured_with, measured, Measures}
-use Rattle.uimg_tree.specs.Pieces.{WritesPieces}
 use Rattle.uimg_tree.proofs.TotalLaws.{encode-size}
-use Rattle.uimg_tree.proofs.WritesLaws.{rises-then}
 use Rattle.uimg_fit.specs.declared.fault.Fault.{Fault}
 use Rattle.uimg_fit.specs.declared.fault.Fault.TheVariants.{Blob, Fit, Read, Put}
 use Rattle.uimg_fit.specs.declared.fault.FitFault.{FitFault}
 use Rattle.uimg_fit.specs.declared.fault.FitFault.TheVariants.{NoImages, NoData, DataOutside, NoSuchImage, UnknownAlgo, PositionTooLow, TooLarge, OutOfMemory, NoFile, ReadFailed}
 use Rattle.uimg_fit.specs.declared.placement.Placement.{Placement}
-use Rattle.uimg_fit.specs.Behind.{images_in, rooms, behind_pieces, file_size, end_fault}
+use Rattle.uimg_fit.specs.Behind.{images_in, rooms, file_size, end_fault}
 use Rattle.uimg_fit.specs.BuildAnswers.{CanBuild, BuildsAnswer}
-use Rattle.uimg_fit.specs.Building.{moved, behind, built}
+use Rattle.uimg_fit.specs.Building.{moved, built}
 use Rattle.uimg_fit.specs.BuildSteps.{of_measure, of_writing, MeasuresTree, WritesText, Builds}
 use Rattle.uimg_fit.specs.Filling.{IsFilled}
 use Rattle.uimg_fit.specs.ReadsBack.{ReadsBack}
 use Rattle.uimg_fit.specs.Refusing.{is_low, build_fault}
 use Rattle.uimg_fit.specs.Sources.{moved_source}
-use Rattle.uimg_fit.proofs.BehindLaws.{behind-kept, behind-joined, fault-same}
+use Rattle.uimg_fit.proofs.BehindLaws.{fault-same}
 use Rattle.uimg_fit.proofs.BuiltLaw.{reads_back}
 use Rattle.uimg_fit.proofs.NamesLaw.{name-values, placed-names, placed-values}
 use Rattle.uimg_fit.proofs.SourceLaws.{moved-source}

@@ -1,12 +1,12 @@
 -- Filling leaves each file as it stands: what is so of each value, and of any bytes, is so of each value of the filled tree.
-use Rattle.std.proofs.Common.{◌≡◌, ℕ, List, [], ◌∷◌, Option, Some, None, Bool, true, false, not, cond, if◌then◌else◌, codes}
-use Rattle.std.specs.List.{filter, list_any, AllByRecursion}
+use Rattle.std.proofs.Common.{ℕ, List, [], ◌∷◌, Option, Some, None, Bool, true, false, not, cond, if◌then◌else◌, codes}
+use Rattle.std.specs.List.{list_any, AllByRecursion}
 use Rattle.std.specs.Option.{option_map_or}
 use Rattle.std.specs.Str.{bytes_eq}
 use Rattle.uimg_sums.specs.declared.algo.Algo.{Algo}
 use Rattle.uimg_sums.specs.Algorithms.{digest_by}
 use Rattle.uimg_blob.specs.Roles.{is_hash}
-use Rattle.uimg_blob.specs.Plain.{NamedOf, NodesOf, no_node, a_node, AllValues}
+use Rattle.uimg_blob.specs.Plain.{NamedOf, no_node, a_node, AllValues}
 use Rattle.uimg_blob.specs.LookUps.{NodeOf, first}
 use Rattle.uimg_tree.specs.Encoding.{word}
 use Rattle.uimg_tree.specs.Content.{Content, Unread, bytes, bytes_in, IsKept, AreKept}

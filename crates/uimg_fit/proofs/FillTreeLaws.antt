@@ -4,8 +4,8 @@ use Rattle.std.specs.List.{filter, list_all, prefix_len, AllByRecursion}
 use Rattle.std.specs.Option.{option_map, option_or, IfSome}
 use Rattle.std.specs.Str.{bytes_eq}
 use Rattle.uimg_blob.specs.Roles.{is_hash}
-use Rattle.uimg_blob.specs.Plain.{NamedOf, Nodes, no_node, a_node, with_values, AllValues}
-use Rattle.uimg_blob.specs.LookUps.{NodeOf, listed, first, images, hashes}
+use Rattle.uimg_blob.specs.Plain.{NamedOf, Nodes, no_node, a_node}
+use Rattle.uimg_blob.specs.LookUps.{NodeOf, listed, first, images}
 use Rattle.uimg_tree.specs.declared.tree.Node.{Node}
 use Rattle.uimg_tree.specs.Content.{Content, Unread, bytes, bytes_in, in_full, IsKept, AreKept, FilesAtData}
 use Rattle.uimg_tree.specs.Trees.{siblings}
@@ -15,15 +15,15 @@ use Rattle.uimg_fit.specs.declared.fault.FitFault.{FitFault}
 use Rattle.uimg_fit.specs.declared.fault.FitFault.TheVariants.{NoImages, NoData, DataOutside, NoSuchImage, UnknownAlgo, PositionTooLow, TooLarge, OutOfMemory, NoFile, ReadFailed}
 use Rattle.uimg_fit.specs.FillAnswers.{node_in_full, Fills, StopsAtFile, FillsAnswer}
 use Rattle.uimg_fit.specs.Filling.{each, in_first, with, filled, filled_image_by, algo_by}
-use Rattle.uimg_fit.specs.ImageFillings.{filled_over, fault_in_memory, first_in_memory, StopsAtImage, StopsAmong, FillsImages, FillsParent, IsKeptImage, images_among, fault_among, StopsBelow, FillsBelow}
+use Rattle.uimg_fit.specs.ImageFillings.{filled_over, fault_in_memory, first_in_memory, StopsAmong, FillsImages, FillsParent, IsKeptImage, images_among, fault_among, StopsBelow, FillsBelow}
 use Rattle.uimg_fit.specs.PayloadSums.{no_files, in_memory}
 use Rattle.uimg_fit.specs.Refusing.{image_fault, first_fault, fault_of, fill_from, fill_of}
 use Rattle.uimg_fit.specs.Sources.{filled_source}
 use Rattle.uimg_fit.proofs.FillLaw.{fill-filled}
 use Rattle.uimg_fit.proofs.FillSourceLaws.{filled-read}
 use Rattle.uimg_fit.proofs.FillKeepsLaw.{filled-kept}
-use Rattle.uimg_fit.proofs.ImageFillLaws.{listed-siblings, fault-with}
-use Rattle.uimg_fit.proofs.ImagesFillLaws.{fault-behind, none-sound}
+use Rattle.uimg_fit.proofs.ImageFillLaws.{fault-with}
+use Rattle.uimg_fit.proofs.ImagesFillLaws.{fault-behind}
 use Rattle.uimg_fit.proofs.InMemoryLaws.{algo-same, image-same}
 use Rattle.uimg_fit.proofs.LookUpLaws.{NodeHas, first-has, images-has, images-with}
 

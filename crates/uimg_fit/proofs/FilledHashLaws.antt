@@ -1,5 +1,5 @@
 -- The hash nodes of an image one by one.
-use Rattle.std.proofs.Common.{◌≡◌, ◌<◌, ℕ, zero, suc, List, [], ◌∷◌, ◌++◌, length, map, take, drop, get_or, replicate, Option, Some, None, Bool, true, false, cond, refl, ap, sym, subst, ◌∙◌, arith, Result, Ok, Err, OnOk}
+use Rattle.std.proofs.Common.{◌≡◌, ◌<◌, ℕ, zero, suc, List, [], ◌∷◌, length, map, take, get_or, replicate, None, Bool, true, false, cond, refl, ◌∙◌, arith, Result, Ok, Err, OnOk}
 use Rattle.std.specs.List.{filter, AllByRecursion}
 use Rattle.std.proofs.lemmas.List.{take_at}
 use Rattle.uimg_sums.specs.declared.algo.Algo.{Algo}

@@ -1,5 +1,5 @@
 -- Filling an image by what is in memory.
-use Rattle.std.proofs.Common.{◌≡◌, ◌≢◌, ℕ, List, [], ◌∷◌, map, Option, Some, None, Bool, true, false, not, cond, ◌&&◌, IfErr, OnOk, is_some, is_none, if◌then◌else◌, Result, Ok, Err, refl, ap, sym, subst, ◌∙◌, codes}
+use Rattle.std.proofs.Common.{◌≡◌, ◌≢◌, ℕ, List, [], ◌∷◌, map, Option, Some, None, Bool, true, false, cond, ◌&&◌, IfErr, OnOk, is_some, is_none, if◌then◌else◌, Result, Ok, Err, refl, ap, sym, ◌∙◌, codes}
 use Rattle.std.specs.List.{filter, list_all, AllByRecursion}
 use Rattle.std.specs.Option.{option_map, option_map_or, option_and_then, IfSome}
 use Rattle.uimg_sums.specs.declared.algo.Algo.{Algo}
@@ -10,7 +10,7 @@ use Rattle.uimg_blob.specs.Roles.{is_hash}
 use Rattle.uimg_blob.specs.Plain.{NamedOf, no_node, a_node, with_value}
 use Rattle.uimg_blob.specs.LookUps.{NodeOf, listed, first, hashes}
 use Rattle.uimg_tree.specs.declared.tree.Node.{Node}
-use Rattle.uimg_tree.specs.Content.{Content, Unread, bytes, file, bytes_in, IsKept}
+use Rattle.uimg_tree.specs.Content.{Content, Unread, bytes, file, bytes_in}
 use Rattle.uimg_tree.specs.Trees.{siblings}
 use Rattle.uimg_fit.specs.declared.algo_sets.AlgoSet.{AlgoSet}
 use Rattle.uimg_fit.specs.declared.fault.FitFault.{FitFault}
@@ -21,7 +21,7 @@ use Rattle.uimg_fit.specs.FillAnswers.{node_in_full}
 use Rattle.uimg_fit.specs.Behind.{entry}
 use Rattle.uimg_fit.specs.ImageFillings.{hashed_in, filled_over, fault_in_memory, are_known, IsFileFault, StopsAtPayload, FillsHashes, StopsAtImage, FillsImage}
 use Rattle.uimg_fit.specs.PayloadSums.{has, is_empty, no_algos, no_files, in_memory, all_marked, IsCovered}
-use Rattle.uimg_fit.proofs.AlgoSetLaws.{Marks, marks-all, marks-none}
+use Rattle.uimg_fit.proofs.AlgoSetLaws.{marks-all, marks-none}
 use Rattle.uimg_fit.proofs.LookUpLaws.{node_with, first-with, hashes-with}
 
 -- nodes as a list

@@ -1,8 +1,8 @@
 -- Filling images one after the other.
-use Rattle.std.proofs.Common.{◌≡◌, ℕ, zero, suc, ◌+◌, ◌<◌, ◌≤◌, List, [], ◌∷◌, ◌++◌, length, map, take, drop, get_or, Option, Some, None, Result, Ok, Err, refl, ap, sym, ◌∙◌, arith}
+use Rattle.std.proofs.Common.{◌≡◌, ℕ, zero, suc, ◌+◌, ◌<◌, List, [], ◌∷◌, ◌++◌, length, map, take, drop, get_or, Option, Some, None, Err, refl, ap, sym, ◌∙◌, arith}
 use Rattle.std.specs.List.{AllByRecursion}
 use Rattle.std.specs.Option.{option_or}
-use Rattle.std.proofs.lemmas.List.{drop_more, take_more, map-append}
+use Rattle.std.proofs.lemmas.List.{take_more, map-append}
 use Rattle.uimg_blob.specs.LookUps.{NodeOf}
 use Rattle.uimg_tree.specs.declared.tree.Node.{Node}
 use Rattle.uimg_tree.specs.Content.{Content}

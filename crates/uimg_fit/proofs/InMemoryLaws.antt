@@ -1,6 +1,6 @@
 -- Where only `data` is in files, what filling decides is in memory.
-use Rattle.std.proofs.Common.{◌≡◌, ℕ, List, [], ◌∷◌, map, find, Option, Some, None, Bool, true, false, cond, is_some, if◌then◌else◌, refl, ap, sym, ◌∙◌, codes}
-use Rattle.std.specs.List.{filter, list_all, AllByRecursion}
+use Rattle.std.proofs.Common.{◌≡◌, ℕ, List, [], ◌∷◌, find, Option, Some, None, Bool, true, false, cond, if◌then◌else◌, refl, ap, sym, ◌∙◌, codes}
+use Rattle.std.specs.List.{AllByRecursion}
 use Rattle.std.specs.Option.{option_map, option_map_or, option_and_then}
 use Rattle.std.specs.Str.{bytes_eq}
 use Rattle.uimg_sums.specs.declared.algo.Algo.{Algo}

@@ -1,5 +1,5 @@
 -- Placing neither adds nor loses a bad name, and keeps the files that are kept.
-use Rattle.std.proofs.Common.{◌≡◌, ℕ, ◌+◌, List, [], ◌∷◌, length, map, Option, Some, None, Bool, true, false, if◌then◌else◌, refl, ap, sym, ◌∙◌, codes}
+use Rattle.std.proofs.Common.{◌≡◌, ℕ, ◌+◌, List, [], ◌∷◌, map, Option, Some, Bool, true, false, if◌then◌else◌, refl, ap, sym, ◌∙◌, codes}
 use Rattle.std.specs.List.{AllByRecursion}
 use Rattle.std.specs.Option.{option_or}
 use Rattle.std.specs.Str.{bytes_eq}
@@ -7,7 +7,7 @@ use Rattle.std.proofs.lemmas.Slice.Eq.{bytes_eq-Decides}
 use Rattle.uimg_blob.specs.declared.fault.BlobFault.{BlobFault}
 use Rattle.uimg_blob.specs.declared.fault.BlobFault.TheVariants.{BadNodeName, BadPropertyName}
 use Rattle.uimg_blob.specs.Plain.{NamedOf, NodesOf, no_node, a_node, with_value, with_values, AllValues}
-use Rattle.uimg_tree.specs.Content.{Content, Unread, bytes, bytes_in, size_of, in_full}
+use Rattle.uimg_tree.specs.Content.{Content, Unread, bytes, size_of}
 use Rattle.uimg_tree.specs.Encoding.{word}
 use Rattle.uimg_tree.specs.Measured.{is_name, bad_property, bad_name}
 use Rattle.uimg_fit.specs.declared.placement.Placement.{Placement}

@@ -1,9 +1,8 @@
 -- Placing over lists is placing of the tree.
-use Rattle.std.proofs.Common.{◌≡◌, ℕ, ◌+◌, ◌%◌, ◌/◌, List, [], ◌∷◌, ◌++◌, length, map, drop, Option, Some, Bool, true, false, if◌then◌else◌, find, unwrap_or, refl, ap, sym, ◌∙◌, codes, arith, append-nil, append_assoc}
+use Rattle.std.proofs.Common.{◌≡◌, ℕ, ◌+◌, ◌%◌, ◌/◌, List, [], ◌∷◌, ◌++◌, map, Option, Some, Bool, true, false, if◌then◌else◌, find, unwrap_or, refl, ap, sym, ◌∙◌, codes, arith, append-nil, append_assoc}
 use Rattle.std.specs.Option.{option_map}
 use Rattle.std.specs.Str.{bytes_eq}
-use Rattle.uimg_texts.specs.Numbers.{up4}
-use Rattle.uimg_blob.specs.Plain.{NamedOf, a_node, no_node}
+use Rattle.uimg_blob.specs.Plain.{NamedOf, a_node}
 use Rattle.uimg_blob.specs.LookUps.{NodeOf, listed}
 use Rattle.uimg_tree.specs.declared.props.Prop.{Prop}
 use Rattle.uimg_tree.specs.declared.tree.Node.{Node}

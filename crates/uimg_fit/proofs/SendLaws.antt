@@ -1,15 +1,14 @@
 -- A blob that is written, and then what stands behind it.
-use Rattle.std.proofs.Common.{◌≡◌, ◌≤◌, ℕ, List, ◌++◌, length, Option, Result, Ok, Err, Bool, true, false, IsTrue, is_err, ap, sym, subst, ◌∙◌, refl}
-use Rattle.std.specs.List.{flat_map, AllByRecursion}
+use Rattle.std.proofs.Common.{◌≡◌, ℕ, List, ◌++◌, Option, Result, Ok, Err, Bool, false, IsTrue, is_err, ap, sym, subst, ◌∙◌}
 use Rattle.std.specs.Result.{IsErrAnd}
 use Rattle.uimg_base.specs.Device.{RisesIf}
-use Rattle.uimg_base.specs.Named.{FileMap, SameFiles}
+use Rattle.uimg_base.specs.Named.{FileMap}
 use Rattle.uimg_base.specs.Sink.{Sink}
 use Rattle.uimg_base.specs.Writing.{Written}
 use Rattle.uimg_base.proofs.SinkLaws.{prefix_first}
 use Rattle.uimg_base.proofs.WritingLaws.{written_then}
 use Rattle.uimg_tree.specs.declared.fault.TreeFault.{TreeFault}
-use Rattle.uimg_tree.specs.Content.{Content, Unread, AreKept, IsKept, bytes_in, in_full}
+use Rattle.uimg_tree.specs.Content.{Unread, AreKept, in_full}
 use Rattle.uimg_tree.specs.Encoding.{encode}
 use Rattle.uimg_tree.specs.Faults.{is_no_file, is_put, is_read}
 use Rattle.uimg_tree.specs.Layouts.{plan_of, totalsize}

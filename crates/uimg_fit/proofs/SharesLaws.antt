@@ -11,7 +11,7 @@ use Rattle.uimg_blob.specs.Plain.{NamedOf, NodesOf, no_node, a_node}
 use Rattle.uimg_blob.specs.LookUps.{NodeOf, listed, images, configurations, hashes}
 use Rattle.uimg_blob.specs.Spots.{Spot}
 use Rattle.uimg_blob.proofs.PhaseLaws.{some_none, some_some, by_bool, true_false}
-use Rattle.uimg_fit.specs.Files.{bytes_of, root_own}
+use Rattle.uimg_fit.specs.Files.{root_own}
 use Rattle.uimg_fit.specs.Allowances.{text_size, text_sizes, allowance, node_allowance}
 use Rattle.uimg_fit.specs.FieldTexts.{size_of}
 

@@ -1,8 +1,7 @@
 -- What stands behind a blob, where payloads stay in their files.
-use Rattle.std.specs.Prelude.{ℕ, ◌+◌, ◌-◌, List, [], ◌∷◌, Bool, replicate, nat_lt, if◌then◌else◌, Option, Some, None, unwrap_or, codes, Result, Ok, Err}
+use Rattle.std.specs.Prelude.{ℕ, ◌+◌, ◌-◌, List, [], ◌∷◌, replicate, nat_lt, if◌then◌else◌, Option, Some, None, unwrap_or, codes, Result, Ok, Err}
 use Rattle.std.specs.List.{flat_map}
-use Rattle.std.specs.Option.{option_map_or}
-use Rattle.uimg_blob.specs.Plain.{NamedOf, NodesOf}
+use Rattle.uimg_blob.specs.Plain.{NodesOf}
 use Rattle.uimg_blob.specs.LookUps.{NodeOf, first, images}
 use Rattle.uimg_tree.specs.declared.tree.Node.{Node}
 use Rattle.uimg_tree.specs.Content.{Content, Unread, bytes, size_of}

@@ -1,5 +1,5 @@
 -- What building answers, over files that have those of the tree.
-use Rattle.std.specs.Prelude.{◌≡◌, ℕ, Bool, true, false, Option, Some, None, Result, Ok, Err, ⊤}
+use Rattle.std.specs.Prelude.{◌≡◌, Bool, true, false, Some, None, Result, Ok, Err, ⊤}
 use Rattle.uimg_base.specs.Sink.{Sink, AppendsAll, AppendsPrefix}
 use Rattle.uimg_blob.specs.Plain.{Nodes}
 use Rattle.uimg_tree.specs.Measured.{bad_name}

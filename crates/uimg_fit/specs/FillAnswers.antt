@@ -1,10 +1,10 @@
 -- What filling answers, over files that have those of the tree.
 use Rattle.std.specs.Prelude.{◌≡◌, ◌≢◌, ℕ, List, [], ◌∷◌, ◌++◌, map, Bool, true, false, Option, Some, None, Result, Ok, Err, codes, ⊤}
-use Rattle.uimg_blob.specs.Plain.{NamedOf, with_value, with_values}
+use Rattle.uimg_blob.specs.Plain.{with_value, with_values}
 use Rattle.uimg_blob.specs.LookUps.{NodeOf, first, images, hashes}
 use Rattle.uimg_tree.specs.Content.{Content, Unread, file, bytes_in, in_full, AreKept}
 use Rattle.uimg_fit.specs.declared.fault.FitFault.{FitFault}
-use Rattle.uimg_fit.specs.declared.fault.FitFault.TheVariants.{NoImages, NoData, UnknownAlgo, OutOfMemory, NoFile, ReadFailed}
+use Rattle.uimg_fit.specs.declared.fault.FitFault.TheVariants.{OutOfMemory, NoFile, ReadFailed}
 use Rattle.uimg_fit.specs.Filling.{IsFilled}
 use Rattle.uimg_fit.specs.Sources.{filled_source}
 use Rattle.uimg_fit.specs.Refusing.{first_fault, fill_of}

@@ -1,6 +1,6 @@
 -- What filling does to an image, by what is in memory and the bytes of its payload.
 use Rattle.std.specs.Prelude.{◌≡◌, ◌≢◌, ℕ, List, [], ◌∷◌, ◌++◌, map, Bool, true, false, is_some, find, Option, Some, None, Result, Ok, Err, codes, ⊤}
-use Rattle.std.specs.List.{filter, list_all, AllByRecursion}
+use Rattle.std.specs.List.{filter, list_all}
 use Rattle.std.specs.Option.{option_map, option_map_or, IfSome}
 use Rattle.std.specs.Str.{bytes_eq}
 use Rattle.uimg_blob.specs.LookUps.{NodeOf, listed, first, hashes}

@@ -6,7 +6,6 @@ use Rattle.uimg_sums.specs.declared.algo.Algo.{Algo}
 use Rattle.uimg_sums.specs.declared.bundle.Bundle.{Bundle}
 use Rattle.uimg_sums.specs.Bundle.{Holds}
 use Rattle.uimg_sums.specs.declared.algo.Algo.TheVariants.{Crc32, Md5, Sha1, Sha256, Sha384, Sha512}
-use Rattle.uimg_blob.specs.Plain.{NamedOf}
 use Rattle.uimg_blob.specs.LookUps.{NodeOf}
 use Rattle.uimg_tree.specs.Content.{Content, bytes_in}
 use Rattle.uimg_fit.specs.declared.algo_sets.AlgoSet.{AlgoSet}

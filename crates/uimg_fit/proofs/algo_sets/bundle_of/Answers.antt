@@ -1,4 +1,4 @@
-use Rattle.std.proofs.Common.{arith, refl}
+use Rattle.std.proofs.Common.{arith}
 use Rattle.uimg_fit.specs.PayloadSums.{all_algos}
 use Rattle.uimg_fit.proofs.AlgoSetLaws.{sums-more}
 use Rattle.uimg_fit.proofs.algo_sets.bundle_of.Goals as goal

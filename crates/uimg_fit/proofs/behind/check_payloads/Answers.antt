@@ -1,4 +1,4 @@
-use Rattle.std.proofs.Common.{List, map, ap, ◌∙◌, min, ◌^◌, ℕ}
+use Rattle.std.proofs.Common.{List, ap, ◌∙◌, min, ◌^◌, ℕ}
 use Rattle.uimg_blob.specs.LookUps.{NodeOf}
 use Rattle.uimg_tree.specs.Content.{Content}
 use Rattle.uimg_tree.specs.Trees.{node_of}

@@ -1,4 +1,4 @@
-use Rattle.std.proofs.Common.{List, ◌∷◌, ap, sym, subst}
+use Rattle.std.proofs.Common.{List, sym, subst}
 use Rattle.std.specs.List.{flat_map}
 use Rattle.uimg_blob.specs.LookUps.{NodeOf}
 use Rattle.uimg_tree.specs.Content.{Content}

@@ -1,4 +1,4 @@
-use Rattle.std.proofs.Common.{rules, ◌≡◌, ◌≤◌, ◌-◌, ◌+◌, ◌++◌, ℕ, List, take, replicate, is_err, true, false, ap, sym, subst, ◌∙◌, arith}
+use Rattle.std.proofs.Common.{rules, ◌≡◌, ◌≤◌, ◌-◌, ◌+◌, ◌++◌, ℕ, List, take, replicate, is_err, true, false, ap, subst, ◌∙◌, arith}
 use Rattle.std.proofs.lemmas.List.{take-replicate, replicate-append-replicate}
 use Rattle.uimg_base.specs.Writing.{Writes}
 use Rattle.uimg_base.proofs.WritingLaws.{◌▷◌, stops}

@@ -1,4 +1,4 @@
-use Rattle.std.proofs.Common.{◌≡◌, List, ℕ, Option, ap, sym, ◌∙◌}
+use Rattle.std.proofs.Common.{◌≡◌, ap, sym, ◌∙◌}
 use Rattle.uimg_tree.specs.Content.{Unread, in_full}
 use Rattle.uimg_tree.specs.Encoding.{encode}
 use Rattle.uimg_tree.specs.Layouts.{plan_of, totalsize}

@@ -1,4 +1,4 @@
-use Rattle.std.proofs.Common.{◌≡◌, ◌<◌, ℕ, length, get_or, arith, ap, subst, sym, true, ◌∙◌}
+use Rattle.std.proofs.Common.{◌≡◌, ◌<◌, length, get_or, arith, ap, subst, sym, true, ◌∙◌}
 use Rattle.std.proofs.Math.ListN.{length-set}
 use Rattle.uimg_blob.specs.Roles.{is_hash}
 use Rattle.uimg_tree.specs.declared.tree.Node.{Node}

@@ -1,10 +1,9 @@
-use Rattle.std.proofs.Common.{rules, ◌≡◌, ◌∙◌, refl, sym, ap, Option, Some}
+use Rattle.std.proofs.Common.{◌∙◌, refl, sym, ap, Option, Some}
 use Rattle.std.specs.Bool.{⊤}
 use Rattle.uimg_fit.specs.declared.algo_sets.AlgoSet.{AlgoSet}
 use Rattle.uimg_tree.specs.Content.{bytes_in}
 use Rattle.uimg_tree.specs.Properties.{content}
 use Rattle.uimg_tree.specs.Trees.{siblings}
-use Rattle.uimg_fit.specs.PayloadSums.{no_algos}
 use Rattle.uimg_fit.proofs.ImageFillLaws.{not-known, all-known, all-covered, none-hashed, some-hashed, stops-at, empty-is, some-are, children-filled}
 use Rattle.uimg_fit.proofs.filled_images.fill_hashes.Goals as goal
 

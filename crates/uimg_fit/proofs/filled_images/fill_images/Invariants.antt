@@ -1,4 +1,4 @@
-use Rattle.std.proofs.Common.{◌≡◌, List, length, map, take, drop, None, IsTrue}
+use Rattle.std.proofs.Common.{◌≡◌, length, map, take, drop, None, IsTrue}
 use Rattle.uimg_base.specs.Named.{SameFiles}
 use Rattle.uimg_fit.specs.Behind.{entry}
 use Rattle.uimg_fit.specs.ImageFillings.{filled_over, first_in_memory}

@@ -1,6 +1,6 @@
 use Rattle.uimg_fit.specs.PayloadSums.{chosen}
 use Rattle.uimg_fit.proofs.AlgoSetLaws.{at-place, chosen-few}
-use Rattle.std.proofs.Common.{◌≡◌, ◌∙◌, ap, Option, Some}
+use Rattle.std.proofs.Common.{◌∙◌, ap}
 use Rattle.std.specs.List.{slice_get}
 use Rattle.uimg_fit.proofs.payload_sums.digest_of.Goals as goal
 

@@ -1,4 +1,4 @@
-use Rattle.std.proofs.Common.{◌≡◌, ◌≤◌, ◌∙◌, [], List, ℕ, Bool, length, sym, subst, ap, arith, IsTrue}
+use Rattle.std.proofs.Common.{◌≤◌, ◌∙◌, [], List, ℕ, Bool, length, sym, subst, ap, arith, IsTrue}
 use Rattle.std.proofs.lemmas.List.{take_all}
 use Rattle.uimg_sums.specs.Bundle.{Holds}
 use Rattle.uimg_texts.specs.Slices.{slice}

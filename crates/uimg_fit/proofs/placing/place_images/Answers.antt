@@ -1,10 +1,10 @@
-use Rattle.std.proofs.Common.{◌≡◌, ◌∷◌, ◌++◌, ◌+◌, ◌%◌, ◌∙◌, List, [], ap, sym, drop, ℕ, arith}
+use Rattle.std.proofs.Common.{◌≡◌, ◌∷◌, ◌++◌, ◌+◌, ◌%◌, ◌∙◌, List, [], ap, sym, drop, arith}
 use Rattle.std.proofs.lemmas.List.{drop_more}
 use Rattle.std.proofs.Math.ListN.{drop_of_length-le}
 use Rattle.uimg_tree.specs.declared.tree.Node.{Node}
 use Rattle.uimg_tree.specs.Content.{Unread}
 use Rattle.uimg_tree.specs.Trees.{siblings}
-use Rattle.uimg_fit.specs.Placing.{placed_image, placed_images}
+use Rattle.uimg_fit.specs.Placing.{placed_images}
 use Rattle.uimg_fit.specs.Sources.{room_of, source_from}
 use Rattle.uimg_fit.proofs.PlacingLaws.{image-goes, images-end, images-placed}
 use Rattle.uimg_fit.proofs.placing.place_images.Goals as goal

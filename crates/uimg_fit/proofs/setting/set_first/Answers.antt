@@ -1,4 +1,4 @@
-use Rattle.std.proofs.Common.{rules, arith, ◌∙◌, sym, subst, ap, map, ◌≡◌, List, ℕ}
+use Rattle.std.proofs.Common.{rules, arith, ◌∙◌, subst, ap, map, ◌≡◌, List, ℕ}
 use Rattle.uimg_tree.specs.declared.props.Prop.{Prop}
 use Rattle.uimg_tree.specs.Properties.{property}
 use Rattle.uimg_fit.proofs.FilledHashLaws.{on-ok}
