@@ -1,5 +1,5 @@
 -- What a making says, by its command.
-use Rattle.std.proofs.Common.{◌≡◌, ℕ, List, [], Option, Some, Result, Ok, Err, Bool, true, false, None, IsSome, IsTrue, IfErr, map, ap, sym, subst, refl}
+use Rattle.std.proofs.Common.{◌≡◌, ℕ, List, [], Option, Some, Result, Ok, Err, Bool, false, None, IsSome, IsTrue, IfErr, map, ap, sym, subst, refl}
 use Rattle.std.specs.Bool.{⊤}
 use Rattle.std.specs.Io.KnownBytes.{Appends}
 use Rattle.std.specs.Io.KnownBytes as Io

@@ -1,5 +1,5 @@
 -- The files of names, and what a making leaves.
-use Rattle.std.proofs.Common.{◌≡◌, ◌∷◌, [], ℕ, List, Option, IsSome, None, Some, Result, Ok, Err, Bool, true, false, IsTrue, zero, suc, map, length, drop, get_or, All, ◌∙◌, ap, sym, subst, refl}
+use Rattle.std.proofs.Common.{◌≡◌, ◌∷◌, [], ℕ, List, Option, IsSome, None, Some, Ok, Err, Bool, true, false, IsTrue, zero, suc, map, length, drop, get_or, All, ◌∙◌, ap, sym, subst, refl}
 use Rattle.std.proofs.Math.Nat.{suc-ne-zero}
 use Rattle.std.proofs.lemmas.List.Elements.{All-nil, All-cons}
 use Rattle.uimg_base.specs.Device.{Device, SameDevice}
@@ -22,7 +22,7 @@ use Rattle.uimg_legacy.specs.declared.fault.Fault.{Fault as LegacyEngineFault}
 use Rattle.uimg_legacy.specs.Faults.{is_read as legacy_is_read}
 use Rattle.uimg_tool.specs.Faults.{end_of, unless_memory, is_read, is_keep, is_no_memory, is_of_making, of_legacy}
 use Rattle.uimg_tool.specs.Headline.{end_as, outcome_as}
-use Rattle.uimg_tool.specs.Making.{HaveParts, Keeps, Makes, Breaks, BuildsNames, StopsMaking, MakesAnswer}
+use Rattle.uimg_tool.specs.Making.{HaveParts, Keeps, Makes, Breaks, BuildsNames, StopsMaking}
 
 -- names that have parts have files
 pub have_files : (files : List ℕ → Option (List ℕ)) (names parts : List (List ℕ)) → HaveParts files names parts → All (λ name. IsSome (files name)) names

@@ -1,5 +1,5 @@
 -- The tree of a source, and what its reading and its building say.
-use Rattle.std.proofs.Common.{◌≡◌, ℕ, List, Option, IsSome, None, Some, Result, Ok, Err, Bool, true, false, IsTrue, IfErr, OnOk, ◌∙◌, ap, sym, subst, refl}
+use Rattle.std.proofs.Common.{◌≡◌, ℕ, List, Option, Some, Err, Bool, true, false, IsTrue, ◌∙◌, sym, subst, refl}
 use Rattle.std.specs.Bool.{OnFalse, ⊤}
 use Rattle.uimg_base.specs.Device.{Rose, RisesIf}
 use Rattle.uimg_base.specs.Named.{FileMap, SameFiles}
@@ -23,7 +23,6 @@ use Rattle.uimg_fit.specs.FillAnswers.{opens_no_file, Fills, FillsAnswer}
 use Rattle.uimg_fit.specs.Filling.{IsFilled}
 use Rattle.uimg_fit.specs.ReadsBack.{ReadsBack}
 use Rattle.uimg_tool.specs.declared.fault.Fault.{Fault}
-use Rattle.uimg_tool.specs.declared.fault.Fault.TheVariants.{Fit}
 use Rattle.uimg_tool.specs.Faults.{of_fit, is_read, is_no_text, is_no_payload, refuses_payload}
 use Rattle.uimg_tool.specs.Commands.{LacksSource, OpensSource}
 use Rattle.uimg_tool.specs.MakingTrees.{SpellsTree, RefusesText, FillsTree, Unfilled, FillsSource, BuildsTree, BuildsSource, unbuilt, unwritten}

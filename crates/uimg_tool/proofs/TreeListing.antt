@@ -1,12 +1,11 @@
 -- What was made of a source is kept and listed.
-use Rattle.std.proofs.Common.{◌≡◌, ◌≤◌, ℕ, length, arith, List, [], ◌∷◌, Option, IfSome, IsSome, None, Some, Result, Ok, Err, Bool, true, false, IsTrue, if◌then◌else◌, ◌∙◌, ap, sym, subst, refl}
+use Rattle.std.proofs.Common.{◌≡◌, ◌≤◌, ℕ, length, arith, List, [], ◌∷◌, Option, IfSome, None, Some, Result, Ok, Err, Bool, true, false, IsTrue, if◌then◌else◌, ◌∙◌, ap, sym, subst, refl}
 use Rattle.std.specs.Bool.{⊤}
 use Rattle.std.specs.Option.{option_or}
 use Rattle.std.proofs.lemmas.Bool.{le-ltb}
-use Rattle.uimg_base.specs.Device.{Device, SameDevice, RisesIf}
-use Rattle.uimg_base.specs.Held.{Held}
+use Rattle.uimg_base.specs.Device.{Device, SameDevice}
 use Rattle.uimg_base.specs.Results.{◌>>=◌}
-use Rattle.uimg_base.specs.Sink.{Sink, AppendsAll, AppendsPrefix}
+use Rattle.uimg_base.specs.Sink.{Sink, AppendsPrefix}
 use Rattle.uimg_base.specs.Outcome.{Outcome, done, refused, Tells, unless_refused, after}
 use Rattle.uimg_base.specs.declared.status.Status.{Status}
 use Rattle.uimg_base.proofs.SinkLaws.{prefix_none, appended_to_nothing}
@@ -33,9 +32,9 @@ use Rattle.uimg_tool.specs.declared.command.Action.TheVariants as action
 use Rattle.uimg_tool.specs.declared.command.Form.TheVariants as form
 use Rattle.uimg_tool.specs.declared.fault.Fault.{Fault}
 use Rattle.uimg_tool.specs.declared.fault.Fault.TheVariants.{Legacy, Blob, Fit, Its, Read, Put, NoFile, Keep, OutOfMemory}
-use Rattle.uimg_tool.specs.Faults.{end_of, unless_memory, of_fit, is_keep, is_of_making, is_no_memory}
+use Rattle.uimg_tool.specs.Faults.{end_of, unless_memory, of_fit, is_of_making, is_no_memory}
 use Rattle.uimg_tool.specs.Headline.{begins_as_blob, end_as, outcome_as, outcome_in, outcome_of}
-use Rattle.uimg_tool.specs.MakingTrees.{AcceptsTree, BuildsFilled, BuildsTree, StopsAtImages, unfilled, unbuilt, StopsAtRead, before, unwritten, StopsReading, unread, unlisted, BuildsSource, KeepsTree, MakesTree, BreaksTree, StopsAtBlob, unnamed, no_table, StopsSource}
+use Rattle.uimg_tool.specs.MakingTrees.{BuildsTree, StopsAtImages, unfilled, unbuilt, StopsAtRead, before, unwritten, StopsReading, unread, unlisted, BuildsSource, KeepsTree, MakesTree, BreaksTree, StopsAtBlob, unnamed, no_table, StopsSource}
 use Rattle.uimg_tool.proofs.MakingLaws.{all_told}
 
 -- What is built begins as a blob.

@@ -1,5 +1,5 @@
 -- What the making of a FIT image from its source gives.
-use Rattle.std.specs.Prelude.{◌≡◌, ℕ, List, Option, Some, None, IsSome, Result, Ok, Err, IsTrue, true, ⊤}
+use Rattle.std.specs.Prelude.{◌≡◌, ℕ, List, Option, Some, IsSome, Result, Ok, Err, IsTrue, true, ⊤}
 use Rattle.std.specs.Bool.{OnFalse}
 use Rattle.uimg_base.specs.Device.{Device}
 use Rattle.uimg_base.specs.Sink.{Sink, AppendsAll, AppendsPrefix}
