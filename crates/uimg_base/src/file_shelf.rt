@@ -1,5 +1,8 @@
-ghost use Rattle.std.specs.Prelude.{false};
-ghost use Rattle.uimg_base.specs.Shelves.{contents_of};
+ghost use Rattle.std.specs.Prelude.{◌≡◌, [], false, IfSome, IsSome, OnOk};
+ghost use Rattle.std.specs.Io.{WritesAtMost};
+ghost use Rattle.std.specs.Io.Buffered.{writer_buffer, writer_contents};
+ghost use Rattle.std.specs.Io.KnownBytes.{Keeps, WriteAppends};
+ghost use Rattle.uimg_base.specs.Shelves.{contents_of, BeginsFirst};
 
 use crate::file_source::FileSource;
 use crate::shelves::Shelf;
@@ -35,11 +38,17 @@ impl<'a, R: Files + AllocGlobal> FileShelf<'a, R> {
 }
 
 impl<'a, R: Files + AllocGlobal> Write for FileShelf<'a, R> {
-    ghost use Rattle.std.specs.Io.Buffered.{writer_contents};
-
     ghost contents = { λ s. contents_of (writer_contents R.File.contents) s.file };
 
-    fn write(&mut self, buf: &[u8]) -> io::Result<usize> {
+    /// Writes to the file, which the first write makes.
+    fn write(&mut self, buf: &[u8]) -> io::Result<usize>
+        ensures bound { WritesAtMost result buf.now }
+        ensures bytes { WriteAppends (contents_of (writer_contents R.File.contents) self.old.file)
+            (contents_of (writer_contents R.File.contents) self.new.file) result buf.now }
+        ensures made { OnOk result (IsSome self.new.file) }
+        ensures first { BeginsFirst (writer_contents R.File.contents) self.old.file result
+            (contents_of (writer_contents R.File.contents) self.new.file) buf.now }
+    {
         let mut file = match self.file.take() {
             Some(file) => file,
             None => BufWriter::new(self.rt.alloc(), fs::create(self.rt, self.path)?)?,
@@ -49,7 +58,12 @@ impl<'a, R: Files + AllocGlobal> Write for FileShelf<'a, R> {
         count
     }
 
-    fn flush(&mut self) -> io::Result<()> {
+    /// Writes what is gathered to the file.
+    fn flush(&mut self) -> io::Result<()>
+        ensures bytes { Keeps (contents_of (writer_contents R.File.contents) self.old.file)
+            (contents_of (writer_contents R.File.contents) self.new.file) }
+        ensures written { OnOk result (IfSome self.new.file (λ file. writer_buffer file ≡ [])) }
+    {
         match &mut self.file {
             Some(file) => file.flush(),
             None => Ok(()),

@@ -1,4 +1,4 @@
-ghost use Rattle.std.specs.Prelude.{◌≡◌, None, OnErr, IfOk, IsTrue, is_err};
+ghost use Rattle.std.specs.Prelude.{◌≡◌, ◌≤◌, ◌+◌, None, OnErr, IfOk, IsTrue, is_err};
 ghost use Rattle.uimg_base.specs.Device.{RisesIf};
 ghost use Rattle.uimg_base.specs.Named.{FileMap, SameFiles, Opens};
 
@@ -19,13 +19,14 @@ pub trait Files {
 
     /// Opens the file of this name, as a source of which nothing was asked yet.
     ///
-    /// `SourceFault` comes only where the open was refused: the refusals rose in this call (or
+    /// `SourceFault` comes only where the open was refused: the refusals rose in this call, by 1 (or
     /// stood at their greatest value).
     fn open(&mut self, name: &[u8]) -> Result<Self::Opened, SourceFault>
         ensures same { SameFiles (map self.old) (map self.new) }
         ensures missing { IsTrue (map self.old).complete →
             OnErr result ((map self.old).bytes name.now ≡ None) }
         ensures refusals { RisesIf (is_err result) (map self.old).refusals (map self.new).refusals }
+        ensures counted { (map self.new).refusals ≤ (map self.old).refusals + 1 }
         ensures opened { IfOk result (λ opened.
             Opens (map self.old) name.now (Self.Opened.device opened)) };
 }

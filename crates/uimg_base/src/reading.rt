@@ -1,4 +1,4 @@
-ghost use Rattle.std.specs.Prelude.{◌≡◌, ◌≤◌, length, is_err, true, Some, IfOk, IfSome, IsTrue, OnOk};
+ghost use Rattle.std.specs.Prelude.{◌≡◌, ◌≤◌, ◌+◌, length, is_err, true, Some, IfOk, IfSome, IsTrue, OnOk};
 ghost use Rattle.uimg_base.specs.Device.{RisesIf, asked_more};
 ghost use Rattle.uimg_base.specs.Ahead.{AreAhead};
 ghost use Rattle.uimg_base.specs.Streams.{StandsAt, SameBytes, HoldsFrom, HasLength, ReadsOn};
@@ -58,6 +58,7 @@ impl Reading {
         ensures bytes { OnOk result (HoldsFrom at (F.stream file.old) to.new) }
         ensures asked { self.new.asked ≡ asked_more self.old.asked (length to.old) }
         ensures failures { RisesIf (is_err result) self.old.failures self.new.failures }
+        ensures counted { self.new.failures ≤ self.old.failures + 1 }
     {
         self.asked = self.asked.saturating_add(to.len() as u128);
         if self.fill(file, at, to) {

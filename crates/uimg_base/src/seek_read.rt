@@ -31,8 +31,8 @@ pub trait SeekRead: Drop {
         ensures { MovesToEnd result (stream self.old) (stream self.new) };
 }
 
-/// A file of the operating system. Contracts know nothing of its bytes; that each call is just one
-/// call of the file's own `read` or `seek` they do know.
+/// A file of the operating system. Contracts know nothing of its bytes; but that a call takes from the
+/// file's own reader what it gives, and moves to where it says, they do know.
 #[derive(Drop)]
 pub struct DiskFile<F: Read + Seek> {
     pub(crate) file: F,

@@ -24,21 +24,22 @@ pub trait Source: Drop {
 
     /// How many bytes the source has.
     ///
-    /// `SourceFault` comes only where `failures` rose in this call (or stood at its greatest
+    /// `SourceFault` comes only where `failures` rose in this call, by 1 (or stood at its greatest
     /// value).
     fn size(&mut self) -> Result<u64, SourceFault>
         ensures length { IfOk result (λ n. n ≡ length (device self.old).bytes) }
         ensures same { SameDevice (device self.old) (device self.new) }
         ensures asked { (device self.new).asked ≡ (device self.old).asked }
         ensures failures { RisesIf (is_err result) (device self.old).failures
-            (device self.new).failures };
+            (device self.new).failures }
+        ensures counted { (device self.new).failures ≤ (device self.old).failures + 1 };
 
     /// Fills `to` with the bytes that begin at the offset `at`.
     ///
     /// The caller sees to it that the range lies in the source. An honest source gives the bytes
     /// there. `asked` rises by the length of `to`, after a failure too. `SourceFault` comes only
-    /// where `failures` rose in this call (or stood at its greatest value); what `to` holds then is
-    /// left open.
+    /// where `failures` rose in this call, by 1 (or stood at its greatest value); what `to` holds then
+    /// is left open.
     fn fill_at(&mut self, at: u64, to: &mut [u8]) -> Result<(), SourceFault>
         requires { at + length to.old ≤ length (device self.old).bytes }
         ensures bytes { IsTrue (device self.old).honest →
@@ -47,7 +48,8 @@ pub trait Source: Drop {
         ensures asked { (device self.new).asked
             ≡ asked_more (device self.old).asked (length to.old) }
         ensures failures { RisesIf (is_err result) (device self.old).failures
-            (device self.new).failures };
+            (device self.new).failures }
+        ensures counted { (device self.new).failures ≤ (device self.old).failures + 1 };
 
     /// How many bytes were asked for by `fill_at`, failed calls too. It stays at its greatest
     /// value.

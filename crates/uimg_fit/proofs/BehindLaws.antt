@@ -16,9 +16,10 @@ use Rattle.uimg_fit.specs.declared.placement.Placement.{Placement}
 use Rattle.uimg_fit.specs.declared.placement.Placement.TheVariants.{Inside, After, At}
 use Rattle.uimg_fit.specs.Building.{data_of, moved, payloads, behind, built}
 use Rattle.uimg_fit.specs.Refusing.{is_low, build_fault}
-use Rattle.uimg_fit.specs.Behind.{images_in, padded_pieces, payload_pieces, rooms, behind_pieces, file_size, end_fault}
+use Rattle.uimg_fit.specs.Behind.{images_in, padded_pieces, payload_pieces, padded_sizes, behind_pieces, file_size, end_fault}
 use Rattle.uimg_fit.proofs.LookUpLaws.{NodeHas, node_with, first-with, first-has, images-with, images-has}
-use Rattle.uimg_fit.proofs.SourceLaws.{room-same}
+use Rattle.uimg_fit.proofs.MovedLaws.{padded-length}
+use Rattle.uimg_fit.proofs.UnreadLaws.{padded-same}
 
 module _ (files : List ℕ → Option (List ℕ)) where
   abbrev read : Content → List ℕ
@@ -58,25 +59,25 @@ module _ (files : List ℕ → Option (List ℕ)) where
       images-step (images t) (images-has (IsKept files) t kept)
       ∙ ap (λ (o : Option (List (NodeOf (List ℕ)))). flat_map padded_of (unwrap_or o [])) (sym (images-with read t))
 
-  rooms-each : (is : List (NodeOf Content)) → AllByRecursion kept_node is → length (flat_map padded_of (map (node_with read) is)) ≡ rooms is
-  unfolding rooms
-  rooms-each [] kept = refl
-  rooms-each (i ∷ is) kept =
+  sizes-each : (is : List (NodeOf Content)) → AllByRecursion kept_node is → length (flat_map padded_of (map (node_with read) is)) ≡ padded_sizes is
+  unfolding padded_sizes
+  sizes-each [] kept = refl
+  sizes-each (i ∷ is) kept =
       let own = padded (data_of (map (with_value read) i.own)) in
       let more = flat_map padded_of (map (node_with read) is) in
-      omega (arith, length-append own more, room-same files i.own kept.0.0, rooms-each is kept.1)
+      omega (arith, length-append own more, padded-length (map (with_value read) i.own), padded-same files i.own kept.0.0, sizes-each is kept.1)
 
-  rooms-step : (o : Option (List (NodeOf Content))) → IfSome o (AllByRecursion kept_node)
-      → length (flat_map padded_of (unwrap_or (option_map (λ (l : List (NodeOf Content)). map (node_with read) l) o) [])) ≡ rooms (unwrap_or o [])
-  unfolding rooms
-  rooms-step None kept = refl
-  rooms-step (Some is) kept = rooms-each is kept
+  sizes-step : (o : Option (List (NodeOf Content))) → IfSome o (AllByRecursion kept_node)
+      → length (flat_map padded_of (unwrap_or (option_map (λ (l : List (NodeOf Content)). map (node_with read) l) o) [])) ≡ padded_sizes (unwrap_or o [])
+  unfolding padded_sizes
+  sizes-step None kept = refl
+  sizes-step (Some is) kept = sizes-each is kept
 
   -- they take as many bytes as are counted
-  pub length-payloads : (t : Unread) → AreKept files t → length (payloads (in_full files t)) ≡ rooms (images_in t)
+  pub length-payloads : (t : Unread) → AreKept files t → length (payloads (in_full files t)) ≡ padded_sizes (images_in t)
   length-payloads t kept =
       ap (λ (o : Option (List (NodeOf (List ℕ)))). length (flat_map padded_of (unwrap_or o []))) (images-with read t)
-      ∙ rooms-step (images t) (images-has (IsKept files) t kept)
+      ∙ sizes-step (images t) (images-has (IsKept files) t kept)
 
   pieces-kept : (o : Option Content) → IfSome o (IsKept files) → AllByRecursion (IsKept files) (padded_pieces o)
   pieces-kept None kept = tt
@@ -108,7 +109,7 @@ module _ (files : List ℕ → Option (List ℕ)) where
       ∙ ap (λ (n : ℕ). replicate (p - n) 0 ++ payloads (in_full files t)) (sym is)
 
   length-built : (size : ℕ) (t : Unread) (placement : Placement) → AreKept files t → length (encode (moved (in_full files t) placement)) ≡ size → is_low size placement ≡ false
-      → length (built (in_full files t) placement) ≡ file_size size (rooms (images_in t)) placement
+      → length (built (in_full files t) placement) ≡ file_size size (padded_sizes (images_in t)) placement
   length-built size t Inside kept is high = ap (λ (w : List ℕ). length w) (append-nil (encode (in_full files t))) ∙ is
   length-built size t After kept is high =
       omega (arith, length-append (encode (moved (in_full files t) After)) (payloads (in_full files t)), is, length-payloads t kept)
@@ -126,13 +127,13 @@ module _ (files : List ℕ → Option (List ℕ)) where
 
   -- why the file of a tree whose blob isn't too large can't be built
   pub fault-same : (size : ℕ) (t : Unread) (placement : Placement) → AreKept files t → length (encode (moved (in_full files t) placement)) ≡ size → size ≤ 4294967295
-      → build_fault (in_full files t) placement ≡ end_fault size (rooms (images_in t)) placement
+      → build_fault (in_full files t) placement ≡ end_fault size (padded_sizes (images_in t)) placement
   unfolding build_fault end_fault
   fault-same size t placement kept is small =
       let fits : nat_lt 4294967295 (length (encode (moved (in_full files t) placement))) ≡ false = ap (λ (n : ℕ). nat_lt 4294967295 n) is ∙ le-ltb _ _ small in
       ap (λ (n : ℕ). if nat_lt 4294967295 (length (encode (moved (in_full files t) placement))) then Some TooLarge else if is_low n placement then Some PositionTooLow else if nat_lt 4294967295 (length (built (in_full files t) placement)) then Some TooLarge else None) is
       ∙ fault-step (nat_lt 4294967295 (length (encode (moved (in_full files t) placement)))) (is_low size placement) (nat_lt 4294967295 (length (built (in_full files t) placement)))
-      (nat_lt 4294967295 (file_size size (rooms (images_in t)) placement)) fits
+      (nat_lt 4294967295 (file_size size (padded_sizes (images_in t)) placement)) fits
       (λ high. ap (λ (n : ℕ). nat_lt 4294967295 n) (length-built size t placement kept is high))
 
 -- counting up to 2^36 is enough

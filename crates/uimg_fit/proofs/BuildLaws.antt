@@ -20,18 +20,18 @@ use Rattle.uimg_fit.specs.declared.fault.Fault.TheVariants.{Blob, Fit, Read, Put
 use Rattle.uimg_fit.specs.declared.fault.FitFault.{FitFault}
 use Rattle.uimg_fit.specs.declared.fault.FitFault.TheVariants.{NoImages, NoData, DataOutside, NoSuchImage, UnknownAlgo, PositionTooLow, TooLarge, OutOfMemory, NoFile, ReadFailed}
 use Rattle.uimg_fit.specs.declared.placement.Placement.{Placement}
-use Rattle.uimg_fit.specs.Behind.{images_in, rooms, file_size, end_fault}
+use Rattle.uimg_fit.specs.Behind.{images_in, padded_sizes, file_size, end_fault}
 use Rattle.uimg_fit.specs.BuildAnswers.{CanBuild, BuildsAnswer}
 use Rattle.uimg_fit.specs.Building.{moved, built}
 use Rattle.uimg_fit.specs.BuildSteps.{of_measure, of_writing, MeasuresTree, WritesText, Builds}
 use Rattle.uimg_fit.specs.Filling.{IsFilled}
 use Rattle.uimg_fit.specs.ReadsBack.{ReadsBack}
 use Rattle.uimg_fit.specs.Refusing.{is_low, build_fault}
-use Rattle.uimg_fit.specs.Sources.{moved_source}
+use Rattle.uimg_fit.specs.UnreadTrees.{moved_unread}
 use Rattle.uimg_fit.proofs.BehindLaws.{fault-same}
 use Rattle.uimg_fit.proofs.BuiltLaw.{reads_back}
 use Rattle.uimg_fit.proofs.NamesLaw.{name-values, placed-names, placed-values}
-use Rattle.uimg_fit.proofs.SourceLaws.{moved-source}
+use Rattle.uimg_fit.proofs.UnreadLaws.{moved-unread}
 
 -- no bad name is told as a large blob
 
@@ -111,16 +111,16 @@ measured-err t blob.OutOfMemory e = tt
 
 -- a tree that is placed and one whose files are read, of the same tree
 module _ (t : Unread) (placement : Placement) where
-  names : (files : List ℕ → Option (List ℕ)) → bad_name (moved_source t placement) ≡ bad_name (in_full files t)
+  names : (files : List ℕ → Option (List ℕ)) → bad_name (moved_unread t placement) ≡ bad_name (in_full files t)
   names files = placed-names t placement ∙ sym (name-values (bytes_in files) t)
 
-  pub placed-kept : (files : List ℕ → Option (List ℕ)) → AreKept files t → AreKept files (moved_source t placement)
+  pub placed-kept : (files : List ℕ → Option (List ℕ)) → AreKept files t → AreKept files (moved_unread t placement)
   placed-kept files kept = placed-values (IsKept files) (λ b. tt) t placement kept
 
-  pub placed-size : (files : List ℕ → Option (List ℕ)) → AreKept files t → length (encode (moved (in_full files t) placement)) ≡ totalsize (plan_of (moved_source t placement))
-  placed-size files kept = ap (λ u. length (encode u)) (moved-source files t placement kept) ∙ encode-size files (moved_source t placement) (placed-kept files kept)
+  pub placed-size : (files : List ℕ → Option (List ℕ)) → AreKept files t → length (encode (moved (in_full files t) placement)) ≡ totalsize (plan_of (moved_unread t placement))
+  placed-size files kept = ap (λ u. length (encode u)) (moved-unread files t placement kept) ∙ encode-size files (moved_unread t placement) (placed-kept files kept)
 
-  pub large-fault : (files : List ℕ → Option (List ℕ)) → AreKept files t → 4294967295 < totalsize (plan_of (moved_source t placement)) → build_fault (in_full files t) placement ≡ Some TooLarge
+  pub large-fault : (files : List ℕ → Option (List ℕ)) → AreKept files t → 4294967295 < totalsize (plan_of (moved_unread t placement)) → build_fault (in_full files t) placement ≡ Some TooLarge
   unfolding build_fault
   large-fault files kept large =
       let over : nat_lt 4294967295 (length (encode (moved (in_full files t) placement))) ≡ true = ap (λ (n : ℕ). nat_lt 4294967295 n) (placed-size files kept) ∙ lt-ltb _ _ large in
@@ -148,17 +148,19 @@ module _ (steady : Bool) (t : Unread) (placement : Placement) (m : FileMap) (s :
     reads = λ always honest kept. refl;
     faults = refl;
     untouched = λ before. refl;
+    kept = λ honest. tt;
     told = λ honest kept. tt;
   }
 
   -- the tree can't be measured
-  pub unmeasured : (e : Fault) → (let r : Result Plan Fault = Err e in MeasuresTree r (moved_source t placement)) → Builds steady t placement (failed e) m m s s
+  pub unmeasured : (e : Fault) → (let r : Result Plan Fault = Err e in MeasuresTree r (moved_unread t placement)) → Builds steady t placement (failed e) m m s s
   unmeasured (Blob fault at) h = record {
     files = record { same = same-map m; refusals = refl };
     found = λ complete kept. refl;
     reads = λ always honest kept. refl;
     faults = refl;
     untouched = λ before. refl;
+    kept = λ honest. tt;
     told = λ honest kept. (sym (names t placement m.bytes) ∙ h.0, h.1);
   }
   unmeasured (Fit OutOfMemory) h = out_of_memory
@@ -168,6 +170,7 @@ module _ (steady : Bool) (t : Unread) (placement : Placement) (m : FileMap) (s :
     reads = λ always honest kept. refl;
     faults = refl;
     untouched = λ before. refl;
+    kept = λ honest. tt;
     told = λ honest kept. (sym (names t placement m.bytes) ∙ h.0, large-fault t placement m.bytes kept h.1);
   }
   unmeasured (Fit NoImages) h = absurd h
@@ -181,14 +184,14 @@ module _ (steady : Bool) (t : Unread) (placement : Placement) (m : FileMap) (s :
   unmeasured Read h = absurd h
   unmeasured Put h = absurd h
 
-  module _ (p : Plan) (is : (let r : Result Plan Fault = Ok p in MeasuresTree r (moved_source t placement))) (small : totalsize p ≤ 4294967295) where
+  module _ (p : Plan) (is : (let r : Result Plan Fault = Ok p in MeasuresTree r (moved_unread t placement))) (small : totalsize p ≤ 4294967295) where
     sized : (files : List ℕ → Option (List ℕ)) → AreKept files t → length (encode (moved (in_full files t) placement)) ≡ totalsize p
     sized files kept = placed-size t placement files kept ∙ ap totalsize is.1
 
     named : (files : List ℕ → Option (List ℕ)) → bad_name (in_full files t) ≡ None
     named files = sym (names t placement files) ∙ is.0
 
-    fault-is : (files : List ℕ → Option (List ℕ)) → AreKept files t → build_fault (in_full files t) placement ≡ end_fault (totalsize p) (rooms (images_in t)) placement
+    fault-is : (files : List ℕ → Option (List ℕ)) → AreKept files t → build_fault (in_full files t) placement ≡ end_fault (totalsize p) (padded_sizes (images_in t)) placement
     fault-is files kept = fault-same files (totalsize p) t placement kept (sized files kept) small
 
     chosen : (P : FitFault → Type 0) (b c : Bool) (f : FitFault) → (if b then Some PositionTooLow else if c then Some TooLarge else None) ≡ Some f → P PositionTooLow → P TooLarge → P f
@@ -197,7 +200,7 @@ module _ (steady : Bool) (t : Unread) (placement : Placement) (m : FileMap) (s :
     chosen P false false f e h k = absurd (cc)
 
     abbrev ToldBy : FitFault → Type 0
-    ToldBy f = end_fault (totalsize p) (rooms (images_in t)) placement ≡ Some f → Builds steady t placement (failed (Fit f)) m m s s
+    ToldBy f = end_fault (totalsize p) (padded_sizes (images_in t)) placement ≡ Some f → Builds steady t placement (failed (Fit f)) m m s s
 
     low-told : ToldBy PositionTooLow
     low-told e = record {
@@ -206,6 +209,7 @@ module _ (steady : Bool) (t : Unread) (placement : Placement) (m : FileMap) (s :
       reads = λ always honest kept. refl;
       faults = refl;
       untouched = λ before. refl;
+      kept = λ honest. tt;
       told = λ honest kept. (named m.bytes, fault-is m.bytes kept ∙ e);
     }
 
@@ -216,15 +220,16 @@ module _ (steady : Bool) (t : Unread) (placement : Placement) (m : FileMap) (s :
       reads = λ always honest kept. refl;
       faults = refl;
       untouched = λ before. refl;
+      kept = λ honest. tt;
       told = λ honest kept. (named m.bytes, fault-is m.bytes kept ∙ e);
     }
 
     -- the payloads can't stand behind the blob
     pub no_room : (f : FitFault) → ToldBy f
     unfolding end_fault
-    no_room f e = chosen ToldBy (is_low (totalsize p) placement) (nat_lt 4294967295 (file_size (totalsize p) (rooms (images_in t)) placement)) f e low-told large-end-told e
+    no_room f e = chosen ToldBy (is_low (totalsize p) placement) (nat_lt 4294967295 (file_size (totalsize p) (padded_sizes (images_in t)) placement)) f e low-told large-end-told e
 
-    module _ (good : end_fault (totalsize p) (rooms (images_in t)) placement ≡ None) (n : FileMap) (u : Sink) where
+    module _ (good : end_fault (totalsize p) (padded_sizes (images_in t)) placement ≡ None) (n : FileMap) (u : Sink) where
       can : AreKept m.bytes t → CanBuild (in_full m.bytes t) placement
       can kept = record { named = named m.bytes; fits = fault-is m.bytes kept ∙ good }
 
@@ -232,13 +237,14 @@ module _ (steady : Bool) (t : Unread) (placement : Placement) (m : FileMap) (s :
       Sent r = WritesText steady t r m n s u (λ files. built (in_full files t) placement)
 
       -- all was written
-      pub all-sent : Sent (Ok tt) → Builds steady t placement went_well m n s u
-      all-sent w = record {
+      pub all-sent : (IsTrue m.honest → AreKept m.bytes t) → Sent (Ok tt) → Builds steady t placement went_well m n s u
+      all-sent are_kept w = record {
         files = w.files;
         found = λ complete kept. refl;
         reads = λ always honest kept. refl;
         faults = w.faults;
         untouched = λ before. absurd (not-true before);
+        kept = λ honest. are_kept honest;
         told = λ honest kept. (can kept, (w.written honest kept).all);
       }
         where
@@ -253,6 +259,7 @@ module _ (steady : Bool) (t : Unread) (placement : Placement) (m : FileMap) (s :
         reads = λ always honest kept. refl;
         faults = w.faults;
         untouched = λ before. absurd (let no_end : false ≡ true = before in cc);
+        kept = λ honest. tt;
         told = λ honest kept. (can kept, (w.written honest kept).prefix);
       }
       not-sent tree.Read w = record {
@@ -261,6 +268,7 @@ module _ (steady : Bool) (t : Unread) (placement : Placement) (m : FileMap) (s :
         reads = w.reads;
         faults = w.faults;
         untouched = λ before. absurd (let no_end : false ≡ true = before in cc);
+        kept = λ honest. tt;
         told = λ honest kept. (can kept, (w.written honest kept).prefix);
       }
       not-sent tree.NoFile w = record {
@@ -269,6 +277,7 @@ module _ (steady : Bool) (t : Unread) (placement : Placement) (m : FileMap) (s :
         reads = λ always honest kept. refl;
         faults = w.faults;
         untouched = λ before. absurd (let no_end : false ≡ true = before in cc);
+        kept = λ honest. tt;
         told = λ honest kept. (can kept, (w.written honest kept).prefix);
       }
 

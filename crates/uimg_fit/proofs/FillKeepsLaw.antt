@@ -11,7 +11,7 @@ use Rattle.uimg_blob.specs.LookUps.{NodeOf, first}
 use Rattle.uimg_tree.specs.Encoding.{word}
 use Rattle.uimg_tree.specs.Content.{Content, Unread, bytes, bytes_in, IsKept, AreKept}
 use Rattle.uimg_fit.specs.Filling.{with, external_names, without_external, each, in_first, with_images, with_root, algo_by, with_digest_by, hashed_by, filled_image_by}
-use Rattle.uimg_fit.specs.Sources.{filled_source}
+use Rattle.uimg_fit.specs.UnreadTrees.{filled_unread}
 use Rattle.uimg_fit.proofs.LookUpLaws.{NodeHas}
 
 module _ (files : List ℕ → Option (List ℕ)) where
@@ -88,6 +88,6 @@ module _ (files : List ℕ → Option (List ℕ)) where
   root-kept key value no_node h = tt
   root-kept key value (a_node name own below after) h = (with-kept key value own h.0, h.1, h.2)
 
-  pub filled-kept : (time : ℕ) (t : Unread) → AreKept files t → AreKept files (filled_source files time t)
+  pub filled-kept : (time : ℕ) (t : Unread) → AreKept files t → AreKept files (filled_unread files time t)
   filled-kept time t h =
       root-kept (codes "timestamp") (word time) (with_images (each (filled_image_by (bytes_in files) bytes)) t) (images-kept t h)

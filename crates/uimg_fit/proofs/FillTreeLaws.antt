@@ -18,9 +18,9 @@ use Rattle.uimg_fit.specs.Filling.{each, in_first, with, filled, filled_image_by
 use Rattle.uimg_fit.specs.ImageFillings.{filled_over, fault_in_memory, first_in_memory, StopsAmong, FillsImages, FillsParent, IsKeptImage, images_among, fault_among, StopsBelow, FillsBelow}
 use Rattle.uimg_fit.specs.PayloadSums.{no_files, in_memory}
 use Rattle.uimg_fit.specs.Refusing.{image_fault, first_fault, fault_of, fill_from, fill_of}
-use Rattle.uimg_fit.specs.Sources.{filled_source}
+use Rattle.uimg_fit.specs.UnreadTrees.{filled_unread}
 use Rattle.uimg_fit.proofs.FillLaw.{fill-filled}
-use Rattle.uimg_fit.proofs.FillSourceLaws.{filled-read}
+use Rattle.uimg_fit.proofs.FillUnreadLaws.{filled-read}
 use Rattle.uimg_fit.proofs.FillKeepsLaw.{filled-kept}
 use Rattle.uimg_fit.proofs.ImageFillLaws.{fault-with}
 use Rattle.uimg_fit.proofs.ImagesFillLaws.{fault-behind}
@@ -84,11 +84,14 @@ unfolding listed
 images-gone [] past = refl
 images-gone (n ∷ ns) past = gone-step (is_images n) n ns (find (λ c. bytes_eq (codes "images") c.name) (listed (siblings ns))) (λ p. images-gone ns p) past
 
+pub none-among : {A : Type 0} (ns : List (Node A)) → length ns ≤ before ns → images_among (siblings ns) ≡ None
+none-among ns past = ap (λ (o : Option (NodeOf Content)). option_map (λ c. listed c.below) o) (images-gone ns past)
+
 pub no-images : {A : Type 0} (ns : List (Node A)) → length ns ≤ before ns → fault_among (images_among (siblings ns)) ≡ Some NoImages
-no-images ns past = ap (λ (o : Option (NodeOf Content)). fault_among (option_map (λ c. listed c.below) o)) (images-gone ns past)
+no-images ns past = ap fault_among (none-among ns past)
 
 -- a node whose children are images
-pub refused-parent : {A : Type 0} (X Y : Type 0) (files : List ℕ → Option (List ℕ)) (old new : Node A) (is now : List (NodeOf Content)) (fault : FitFault) → is ≡ listed old.children
+refused-parent : {A : Type 0} (X Y : Type 0) (files : List ℕ → Option (List ℕ)) (old new : Node A) (is now : List (NodeOf Content)) (fault : FitFault) → is ≡ listed old.children
     → FillsImages {X = X} files is now (Err fault) → FillsParent {X = Y} files old new (Err fault)
 refused-parent X Y files old new is now NoImages same h = sym (ap first_in_memory same) ∙ h
 refused-parent X Y files old new is now NoData same h = sym (ap first_in_memory same) ∙ h
@@ -100,6 +103,12 @@ refused-parent X Y files old new is now TooLarge same h = sym (ap first_in_memor
 refused-parent X Y files old new is now OutOfMemory same h = tt
 refused-parent X Y files old new is now NoFile same h = subst StopsAmong same h
 refused-parent X Y files old new is now ReadFailed same h = subst StopsAmong same h
+
+pub parent-told : {A : Type 0} (X : Type 0) (r : Result X FitFault) (files : List ℕ → Option (List ℕ)) (old new : Node A) (is now : List (NodeOf Content)) → is ≡ listed old.children
+    → (now ≡ map (filled_over files) is → new ≡ record old { children = each (filled_over files) old.children })
+    → FillsImages files is now r → FillsParent files old new r
+parent-told X (Ok x) files old new is now same gives h = (sym (ap first_in_memory same) ∙ h.0, gives h.1)
+parent-told X (Err fault) files old new is now same gives h = refused-parent X X files old new is now fault same h
 
 -- a root
 module _ {A : Type 0} (files : List ℕ → Option (List ℕ)) (ns : List (Node A)) (d new : Node A) (within : before ns < length ns) where
@@ -246,7 +255,7 @@ module _ (files : List ℕ → Option (List ℕ)) where
         → fault_among (images_among below) ≡ None → new ≡ in_first (codes "images") (each (filled_over files)) below → Fills files time t (a_node name more new no_node)
     told-filled time more new at kept set none is =
         let u : Unread = a_node name more new no_node in
-        let source : u ≡ filled_source files time t =
+        let source : u ≡ filled_unread files time t =
         ap (λ (l : List (NamedOf Content)). a_node name l new no_node) set
         ∙ ap (λ (v : Unread). a_node name (with (codes "timestamp") (bytes (word time)) own) v no_node) (is ∙ in-same (codes "images") below at.1) in
         let accepted : fill_of time (in_full files t) ≡ Ok (in_full files u) =

@@ -112,10 +112,13 @@ module _ {A : Type 0} (ns : List (Node A)) (t : Unread) (is : siblings ns ≡ t)
   pub all-covered : (set : AlgoSet) → all_marked no_algos found ≡ Some set → AllByRecursion (IsCovered set) found
   all-covered set h = (marks-all no_algos set found h).covered
 
-  pub none-hashed : (message : List ℕ) → all_marked no_algos found ≡ Some no_algos → t ≡ each (hashed_in message) t
-  none-hashed message h =
+  pub none-found : all_marked no_algos found ≡ Some no_algos → filter (λ h. is_hash h.name) (listed t) ≡ []
+  none-found h =
       let m = marks-all no_algos no_algos found h in
-      sym (each-unhashed message t (sym same ∙ none-marked found m.covered m.known))
+      sym same ∙ none-marked found m.covered m.known
+
+  pub none-hashed : (message : List ℕ) → all_marked no_algos found ≡ Some no_algos → t ≡ each (hashed_in message) t
+  none-hashed message h = sym (each-unhashed message t (none-found h))
 
   pub some-hashed : (set : AlgoSet) → all_marked no_algos found ≡ Some set → set ≢ no_algos → filter (λ h. is_hash h.name) (listed t) ≢ []
   unfolding all_marked
@@ -175,15 +178,15 @@ pub no-data : (image : NodeOf Content) → first image.own (codes "data") ≡ No
 no-data image gone =
     fault-with no_files image ∙ ap (λ (o : Option Content). fault_by o (are_known image.below)) gone
 
-sound-of : (image : NodeOf Content) (c : Content) (b : Bool) → first image.own (codes "data") ≡ Some c → are_known image.below ≡ b → fault_in_memory image ≡ (if b then None else Some UnknownAlgo)
+pub sound-of : (image : NodeOf Content) (c : Content) (b : Bool) → first image.own (codes "data") ≡ Some c → are_known image.below ≡ b → fault_in_memory image ≡ (if b then None else Some UnknownAlgo)
 sound-of image c b there known =
     fault-with no_files image ∙ ap (λ (o : Option Content). fault_by o (are_known image.below)) there ∙ ap (λ (k : Bool). if k then None else Some UnknownAlgo) known
 
-stops-image : (image : NodeOf Content) (c : Content) → first image.own (codes "data") ≡ Some c → StopsAtPayload c image.below → StopsAtImage image
+pub stops-image : (image : NodeOf Content) (c : Content) → first image.own (codes "data") ≡ Some c → StopsAtPayload c image.below → StopsAtImage image
 stops-image image c there s =
     record { sound = sound-of image c true there s.known; name = s.name; size = s.size; is_file = there ∙ ap (λ (d : Content). let o : Option Content = Some d in o) s.is_file; is_hashed = s.is_hashed }
 
-pub image-refused : {X : Type 0} (Y : Type 0) (view : X → Unread) (files : List ℕ → Option (List ℕ)) (image new : NodeOf Content) (c : Content) (fault : FitFault) → first image.own (codes "data") ≡ Some c
+image-refused : {X : Type 0} (Y : Type 0) (view : X → Unread) (files : List ℕ → Option (List ℕ)) (image new : NodeOf Content) (c : Content) (fault : FitFault) → first image.own (codes "data") ≡ Some c
     → FillsHashes view files c image.below (Err fault) → FillsImage {X = Y} files image new (Err fault)
 image-refused Y view files image new c NoImages there h = absurd h
 image-refused Y view files image new c NoData there h = absurd h
@@ -196,7 +199,7 @@ image-refused Y view files image new c OutOfMemory there h = tt
 image-refused Y view files image new c NoFile there h = stops-image image c there h
 image-refused Y view files image new c ReadFailed there h = stops-image image c there h
 
-pub image-filled : (files : List ℕ → Option (List ℕ)) (image : NodeOf Content) (c : Content) (below : Unread) → first image.own (codes "data") ≡ Some c
+image-filled : (files : List ℕ → Option (List ℕ)) (image : NodeOf Content) (c : Content) (below : Unread) → first image.own (codes "data") ≡ Some c
     → are_known image.below ≡ true → below ≡ each (hashed_in (bytes_in files c)) image.below
     → (fault_in_memory image ≡ None) × (record { name = image.name; own = without_external image.own; below = below } ≡ filled_over files image)
 image-filled files image c below there known is = (
@@ -204,6 +207,12 @@ image-filled files image c below there known is = (
   ap (λ (t : Unread). let n : NodeOf Content = record { name = image.name; own = without_external image.own; below = t } in n)
       (is ∙ sym (ap (λ (o : Option Content). option_map_or (λ d. each (hashed_in (bytes_in files d)) image.below) o image.below) there)),
 )
+
+pub image-told : (X : Type 0) (r : Result X FitFault) (files : List ℕ → Option (List ℕ)) (image : NodeOf Content) (c : Content) (below : Unread) → first image.own (codes "data") ≡ Some c
+    → FillsHashes (λ x. below) files c image.below r → FillsImage files image (record { name = image.name; own = without_external image.own; below = below }) r
+image-told X (Ok x) files image c below there h = image-filled files image c below there h.0 h.1
+image-told X (Err fault) files image c below there h =
+    image-refused {X = X} X (λ x. below) files image (record { name = image.name; own = without_external image.own; below = below }) c fault there h
 
 -- what was looked up
 pub content-none : {X : Type 0} (f : X → Content) (o : Option X) → o ≡ None → option_map f o ≡ None

@@ -12,6 +12,7 @@ pub mod SumLaws
 pub mod GroupLaws
 pub mod PlaceLaws
 pub mod ExtractionLaws
+pub mod KeptLaws
 pub mod LineLaws
 pub mod WalkLaws
 pub mod AllowanceLaws
@@ -23,10 +24,10 @@ pub mod InsideLaw
 pub mod MovedLaws
 pub mod OutsideLaw
 pub mod FillLaw
-pub mod FillSourceLaws
+pub mod FillUnreadLaws
 pub mod FillKeepsLaw
 pub mod BuiltLaw
-pub mod SourceLaws
+pub mod UnreadLaws
 pub mod HashReportLaws
 pub mod ImageReportLaws
 pub mod ReportLaws
@@ -47,3 +48,4 @@ pub mod ImageFillLaws
 pub mod ImagesFillLaws
 pub mod InMemoryLaws
 pub mod FillTreeLaws
+pub mod FillOrderLaws

@@ -1,15 +1,25 @@
 -- The images of a tree whose payloads were moved.
-use Rattle.std.proofs.Common.{◌≡◌, ◌<◌, ◌^◌, ℕ, ◌+◌, List, [], ◌∷◌, length, Option, Some, None, Bool, true, false, if◌then◌else◌, cond, find, refl, ap, sym, ◌∙◌, codes, arith}
+use Rattle.std.proofs.Common.{◌≡◌, ◌<◌, ◌^◌, ℕ, ◌+◌, List, [], ◌∷◌, length, Option, Some, None, Bool, true, false, if◌then◌else◌, cond, find, unwrap_or, refl, ap, sym, ◌∙◌, codes, arith}
 use Rattle.std.specs.List.{AllByRecursion}
-use Rattle.std.specs.Option.{option_map}
+use Rattle.std.specs.Option.{option_map, option_map_or}
 use Rattle.std.specs.Str.{bytes_eq}
 use Rattle.std.proofs.lemmas.Nat.{from_be_bytes-to_be_bytes_4}
+use Rattle.uimg_texts.specs.Numbers.{up4}
 use Rattle.uimg_blob.specs.Plain.{Named, Nodes, no_node, a_node, IsName, AreNamed}
 use Rattle.uimg_tree.specs.Encoding.{word, padded}
+use Rattle.uimg_tree.proofs.TokenLaws.{length-padded}
 use Rattle.uimg_blob.specs.LookUps.{NodeOf, listed, first, images}
 use Rattle.uimg_fit.specs.Files.{number}
 use Rattle.uimg_fit.specs.Filling.{in_first, with_images}
-use Rattle.uimg_fit.specs.Building.{data_of, moved_own, moved_from}
+use Rattle.uimg_fit.specs.Building.{data_of, padded_size, moved_own, moved_from, moved_from_by, moved_own_by}
+
+-- a payload with the zeros behind it
+padded-step : (o : Option (List ℕ)) → length (padded (unwrap_or o [])) ≡ option_map_or (λ (payload : List ℕ). up4 (length payload)) o 0
+padded-step None = refl
+padded-step (Some payload) = length-padded payload
+
+pub padded-length : (own : List Named) → length (padded (data_of own)) ≡ padded_size own
+padded-length own = padded-step (first own (codes "data"))
 
 -- the three names
 
@@ -23,13 +33,13 @@ moved_node key at i = record i { own = moved_own key at i.own }
 
 unfoldable pub moved_nodes : List ℕ → ℕ → List (NodeOf (List ℕ)) → List (NodeOf (List ℕ))
 moved_nodes key at [] = []
-moved_nodes key at (i ∷ is) = moved_node key at i ∷ moved_nodes key (at + length (padded (data_of i.own))) is
+moved_nodes key at (i ∷ is) = moved_node key at i ∷ moved_nodes key (at + padded_size i.own) is
 
 listed-moved : (key : List ℕ) (at : ℕ) (t : Nodes) → listed (moved_from key at t) ≡ moved_nodes key at (listed t)
-unfolding listed moved_from moved_nodes
+unfolding listed moved_from_by moved_nodes
 listed-moved key at no_node = refl
 listed-moved key at (a_node name own below after) =
-    ap (λ (l : List (NodeOf (List ℕ))). moved_node key at (record { name = name; own = own; below = below }) ∷ l) (listed-moved key (at + length (padded (data_of own))) after)
+    ap (λ (l : List (NodeOf (List ℕ))). moved_node key at (record { name = name; own = own; below = below }) ∷ l) (listed-moved key (at + padded_size own) after)
 
 -- a node, its children by a function
 abbrev pub node_in : (Nodes → Nodes) → NodeOf (List ℕ) → NodeOf (List ℕ)
@@ -81,14 +91,14 @@ named-step true key at p own moved k h hs ms = (k, (size-name, hs))
 named-step false key at p own moved k h hs ms = (h, ms)
 
 named-moved_own : (key : List ℕ) (at : ℕ) (own : List Named) → IsName key → AllByRecursion (λ p. IsName p.name) own → AllByRecursion (λ p. IsName p.name) (moved_own key at own)
-unfolding moved_own
+unfolding moved_own_by
 named-moved_own key at [] k h = tt
 named-moved_own key at (p ∷ own) k h = named-step (bytes_eq (codes "data") p.name) key at p own (moved_own key at own) k h.0 h.1 (named-moved_own key at own k h.1)
 
 named-moved : (key : List ℕ) (at : ℕ) (t : Nodes) → IsName key → AreNamed t → AreNamed (moved_from key at t)
-unfolding moved_from
+unfolding moved_from_by
 named-moved key at no_node k h = tt
-named-moved key at (a_node name own below after) k h = (h.0, named-moved_own key at own k h.1, h.2, named-moved key (at + length (padded (data_of own))) after k h.3)
+named-moved key at (a_node name own below after) k h = (h.0, named-moved_own key at own k h.1, h.2, named-moved key (at + padded_size own) after k h.3)
 
 named-choice : (b : Bool) (t u : Nodes) → AreNamed t → AreNamed u → AreNamed (if b then t else u)
 named-choice true t u h k = h
@@ -149,7 +159,7 @@ module _ (key other : List ℕ) (at : ℕ) (key_key : bytes_eq key key ≡ true)
 
   pub is_moved : (own : List Named) (message : List ℕ) → first own (codes "data") ≡ Some message → first own key ≡ None → first own (codes "data-size") ≡ None → first own other ≡ None
       → IsMoved key at (length message) other (moved_own key at own)
-  unfolding moved_own
+  unfolding moved_own_by
   is_moved [] message has no_key no_size no_other = absurd (cc)
   is_moved (p ∷ own) message has no_key no_size no_other =
       moved-step (bytes_eq (codes "data") p.name) p own (moved_own key at own) message has no_key no_size no_other (λ h k s o. is_moved own message h k s o)

@@ -19,14 +19,14 @@ use Rattle.uimg_fit.specs.declared.places.Place.{Place}
 use Rattle.uimg_fit.specs.Files.{number, cell}
 use Rattle.uimg_fit.specs.Places.{place, bytes_at}
 use Rattle.uimg_fit.specs.Filling.{in_first, IsFilledImage, IsFilled, IsDigest}
-use Rattle.uimg_fit.specs.Building.{data_of, moved_own, moved_from, moved, payloads, built}
+use Rattle.uimg_fit.specs.Building.{data_of, padded_size, moved_own, moved_from, moved, payloads, built}
 use Rattle.uimg_fit.specs.ReadsBack.{ReadsBack}
 use Rattle.uimg_tree.proofs.TokenLaws.{drop-piece}
 use Rattle.uimg_fit.proofs.SpotLaws.{piece-within, piece-lies}
 use Rattle.uimg_fit.proofs.LookUpLaws.{first-with}
 use Rattle.uimg_fit.proofs.SoundLaws.{plain, IsSound, AreSound, reads_back-sound}
 use Rattle.uimg_fit.proofs.InsideLaw.{images-read}
-use Rattle.uimg_fit.proofs.MovedLaws.{moved_node, moved_nodes, images-moved, named-images, offset_is_name, position_is_name, number-word, is_moved}
+use Rattle.uimg_fit.proofs.MovedLaws.{moved_node, moved_nodes, images-moved, named-images, offset_is_name, position_is_name, number-word, padded-length, is_moved}
 
 -- a number that is read is that of the value without its place
 cell-plain : (i : NodeOf Spot) (key : List ℕ) → cell i.own key ≡ option_and_then number (first (plain i).own key)
@@ -87,7 +87,8 @@ module _ (key other : List ℕ) (base : ℕ) (file : List ℕ)
       let piece = padded (data_of f.own) in
       let here : drop (base + at) file ≡ piece ++ (stored fs ++ rest) = h ∙ append_assoc piece (stored fs) rest in
       let first_same : plain i ≡ moved_node key at f = cc in
-      let more_same : map plain is ≡ moved_nodes key (at + length piece) fs = cc in
+      let next_same : map plain is ≡ moved_nodes key (at + padded_size f.own) fs = cc in
+      let more_same : map plain is ≡ moved_nodes key (at + length piece) fs = next_same ∙ ap (λ (n : ℕ). moved_nodes key (at + n) fs) (sym (padded-length f.own)) in
       let place : base + at + length piece ≡ base + (at + length piece) = omega arith in
       let there : drop (base + (at + length piece)) file ≡ stored fs ++ rest =
       ap (λ (k : ℕ). drop k file) (sym place) ∙ drop-piece file (base + at) piece (stored fs ++ rest) (length piece) refl here in

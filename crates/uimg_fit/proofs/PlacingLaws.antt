@@ -10,9 +10,10 @@ use Rattle.uimg_tree.specs.Content.{Content, Unread, bytes, size_of}
 use Rattle.uimg_tree.specs.Encoding.{word}
 use Rattle.uimg_tree.specs.Properties.{property, content}
 use Rattle.uimg_tree.specs.Trees.{siblings}
+use Rattle.uimg_fit.specs.Building.{moved_from_by, moved_own_by}
 use Rattle.uimg_fit.specs.Behind.{entry}
 use Rattle.uimg_fit.specs.Filling.{in_first}
-use Rattle.uimg_fit.specs.Sources.{room_of, source_own, source_from}
+use Rattle.uimg_fit.specs.UnreadTrees.{padded_size_of, unread_own, unread_from}
 use Rattle.uimg_fit.specs.Placing.{at_first, left_of, cells, is_data, placed_properties, placed_image, placed_images, is_images, with_placed, placed_children}
 
 module _ {X : Type 0} (test : X → Bool) (f : X → List X) (done rest whole : List X) (d : X) where
@@ -71,27 +72,27 @@ own-step : {A : Type 0} (b : Bool) (key : List ℕ) (at : ℕ) (p : Prop A) (ps 
 own-step true key at p ps more own h = refl
 own-step false key at p ps more own h = ap (λ (l : List (NamedOf Content)). property p ∷ l) h
 
-pub own-placed : {A : Type 0} (key : List ℕ) (at : ℕ) (ps : List (Prop A)) → map property (placed_properties key at ps) ≡ source_own key at (map property ps)
-unfolding at_first source_own
+pub own-placed : {A : Type 0} (key : List ℕ) (at : ℕ) (ps : List (Prop A)) → map property (placed_properties key at ps) ≡ unread_own key at (map property ps)
+unfolding at_first moved_own_by
 own-placed key at [] = refl
-own-placed key at (p ∷ ps) = own-step (is_data p) key at p ps (placed_properties key at ps) (source_own key at (map property ps)) (own-placed key at ps)
+own-placed key at (p ∷ ps) = own-step (is_data p) key at p ps (placed_properties key at ps) (unread_own key at (map property ps)) (own-placed key at ps)
 
 children-step : {A : Type 0} (b : Bool) (key : List ℕ) (at : ℕ) (n : Node A) (ns more : List (Node A)) (t : Unread) → siblings more ≡ t
     → siblings (if b then with_placed key at n ∷ ns else n ∷ more)
-    ≡ (if b then a_node n.name n.props (source_from key at n.children) (siblings ns) else a_node n.name n.props n.children t)
+    ≡ (if b then a_node n.name n.props (unread_from key at n.children) (siblings ns) else a_node n.name n.props n.children t)
 children-step true key at n ns more t h = refl
 children-step false key at n ns more t h = ap (λ (u : Unread). a_node n.name n.props n.children u) h
 
-pub children-placed : {A : Type 0} (key : List ℕ) (at : ℕ) (ns : List (Node A)) → siblings (placed_children key at ns) ≡ in_first (codes "images") (source_from key at) (siblings ns)
+pub children-placed : {A : Type 0} (key : List ℕ) (at : ℕ) (ns : List (Node A)) → siblings (placed_children key at ns) ≡ in_first (codes "images") (unread_from key at) (siblings ns)
 unfolding at_first in_first
 children-placed key at [] = refl
 children-placed key at (n ∷ ns) =
-    children-step (is_images n) key at n ns (placed_children key at ns) (in_first (codes "images") (source_from key at) (siblings ns)) (children-placed key at ns)
+    children-step (is_images n) key at n ns (placed_children key at ns) (in_first (codes "images") (unread_from key at) (siblings ns)) (children-placed key at ns)
 
-pub images-placed : {A : Type 0} (key : List ℕ) (at : ℕ) (ns : List (Node A)) → siblings (placed_images key at ns) ≡ source_from key at (siblings ns)
-unfolding placed_images source_from
+pub images-placed : {A : Type 0} (key : List ℕ) (at : ℕ) (ns : List (Node A)) → siblings (placed_images key at ns) ≡ unread_from key at (siblings ns)
+unfolding placed_images moved_from_by
 images-placed key at [] = refl
-images-placed key at (n ∷ ns) = ap (λ (u : Unread). a_node n.name (source_own key at n.props) n.children u) (images-placed key (at + room_of n.props) ns)
+images-placed key at (n ∷ ns) = ap (λ (u : Unread). a_node n.name (unread_own key at n.props) n.children u) (images-placed key (at + padded_size_of n.props) ns)
 
 -- a place counts by its lowest 32 bits
 
@@ -117,25 +118,25 @@ own-step-same true key a b p own more others e h =
     ap (λ (w : List ℕ). let l : List (NamedOf Content) = record { name = key; value = bytes w } ∷ record { name = codes "data-size"; value = bytes (word (size_of p.value)) } ∷ own in l) e
 own-step-same false key a b p own more others e h = ap (λ (l : List (NamedOf Content)). p ∷ l) h
 
-own-same : (key : List ℕ) (a b : ℕ) (own : List (NamedOf Content)) → word a ≡ word b → source_own key a own ≡ source_own key b own
-unfolding source_own
+own-same : (key : List ℕ) (a b : ℕ) (own : List (NamedOf Content)) → word a ≡ word b → unread_own key a own ≡ unread_own key b own
+unfolding moved_own_by
 own-same key a b [] e = refl
-own-same key a b (p ∷ own) e = own-step-same (bytes_eq (codes "data") p.name) key a b p own (source_own key a own) (source_own key b own) e (own-same key a b own e)
+own-same key a b (p ∷ own) e = own-step-same (bytes_eq (codes "data") p.name) key a b p own (unread_own key a own) (unread_own key b own) e (own-same key a b own e)
 
 pub images-same : {A : Type 0} (key : List ℕ) (a b : ℕ) (ns : List (Node A)) → a % 4294967296 ≡ b % 4294967296 → placed_images key a ns ≡ placed_images key b ns
 unfolding placed_images
 images-same key a b [] e = refl
 images-same {A = A} key a b (n ∷ ns) e =
-    ap (λ (own : List (NamedOf Content)). let l : List (Node A) = record n { props = own } ∷ placed_images key (a + room_of n.props) ns in l) (own-same key a b n.props (word-same a b e))
-    ∙ ap (λ (l : List (Node A)). placed_image key b n ∷ l) (images-same key (a + room_of n.props) (b + room_of n.props) ns (omega (arith, e)))
+    ap (λ (own : List (NamedOf Content)). let l : List (Node A) = record n { props = own } ∷ placed_images key (a + padded_size_of n.props) ns in l) (own-same key a b n.props (word-same a b e))
+    ∙ ap (λ (l : List (Node A)). placed_image key b n ∷ l) (images-same key (a + padded_size_of n.props) (b + padded_size_of n.props) ns (omega (arith, e)))
 
 module _ {A : Type 0} (key : List ℕ) (at next : ℕ) (done whole rest : List (Node A)) (d : Node A) where
   -- one image more
-  pub image-goes : (ns : List (Node A)) → ns ≡ d ∷ rest → next % 4294967296 ≡ (at + room_of d.props) % 4294967296 → done ++ placed_images key at ns ≡ whole → (done ++ placed_image key at d ∷ []) ++ placed_images key next rest ≡ whole
+  pub image-goes : (ns : List (Node A)) → ns ≡ d ∷ rest → next % 4294967296 ≡ (at + padded_size_of d.props) % 4294967296 → done ++ placed_images key at ns ≡ whole → (done ++ placed_image key at d ∷ []) ++ placed_images key next rest ≡ whole
   unfolding placed_images
   image-goes ns e same h =
       append_assoc done (placed_image key at d ∷ []) (placed_images key next rest)
-      ∙ ap (λ (l : List (Node A)). done ++ (placed_image key at d ∷ l)) (images-same key next (at + room_of d.props) rest same)
+      ∙ ap (λ (l : List (Node A)). done ++ (placed_image key at d ∷ l)) (images-same key next (at + padded_size_of d.props) rest same)
       ∙ ap (λ (l : List (Node A)). done ++ placed_images key at l) (sym e) ∙ h
 
 pub images-end : {A : Type 0} (key : List ℕ) (at : ℕ) (done whole ns : List (Node A)) → ns ≡ [] → done ++ placed_images key at ns ≡ whole → done ≡ whole

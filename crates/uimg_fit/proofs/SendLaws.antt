@@ -19,10 +19,10 @@ use Rattle.uimg_fit.specs.declared.placement.Placement.{Placement}
 use Rattle.uimg_fit.specs.Behind.{behind_pieces}
 use Rattle.uimg_fit.specs.Building.{moved, behind}
 use Rattle.uimg_fit.specs.BuildSteps.{WritesText}
-use Rattle.uimg_fit.specs.Sources.{moved_source}
+use Rattle.uimg_fit.specs.UnreadTrees.{moved_unread}
 use Rattle.uimg_fit.proofs.BehindLaws.{behind-kept, behind-joined}
 use Rattle.uimg_fit.proofs.BuildLaws.{placed-kept, placed-size}
-use Rattle.uimg_fit.proofs.SourceLaws.{moved-source}
+use Rattle.uimg_fit.proofs.UnreadLaws.{moved-unread}
 
 abbrev pub Answer : Type 0
 Answer = Result (Unit {0}) TreeFault
@@ -73,7 +73,7 @@ module _ (steady : Bool) (t : Unread) where
 
   module _ (placement : Placement) (r : Answer) (m n : FileMap) (s u : Sink) where
     -- the blob of a tree whose payloads are placed
-    pub blob-sent : (placed : Unread) → placed ≡ moved_source t placement → UsesFiles (is_no_file r) m n → RisesIf (is_put r) s.faults u.faults
+    pub blob-sent : (placed : Unread) → placed ≡ moved_unread t placement → UsesFiles (is_no_file r) m n → RisesIf (is_put r) s.faults u.faults
         → (IsTrue m.complete → AreKept m.bytes placed → is_no_file r ≡ false)
         → (IsTrue steady → IsTrue m.honest → AreKept m.bytes placed → is_read r ≡ false)
         → (IsTrue m.honest → AreKept m.bytes placed → Written (is_err r) s u (encode (in_full m.bytes placed)))
@@ -84,7 +84,7 @@ module _ (steady : Bool) (t : Unread) where
       found = λ complete kept. found complete (all_kept kept);
       reads = λ always honest kept. reads always honest (all_kept kept);
       written = λ honest kept.
-          subst (λ (w : List ℕ). Written (is_err r) s u w) (ap (λ (p : Unread). encode (in_full m.bytes p)) is ∙ ap encode (sym (moved-source m.bytes t placement kept)))
+          subst (λ (w : List ℕ). Written (is_err r) s u w) (ap (λ (p : Unread). encode (in_full m.bytes p)) is ∙ ap encode (sym (moved-unread m.bytes t placement kept)))
           (written honest (all_kept kept));
     }
       where
@@ -92,7 +92,7 @@ module _ (steady : Bool) (t : Unread) where
         all_kept kept = subst (λ (p : Unread). AreKept m.bytes p) (sym is) (placed-kept t placement m.bytes kept)
 
     -- what stands behind it
-    pub behind-sent : (size : ℕ) → totalsize (plan_of (moved_source t placement)) ≡ size → WritesPieces steady r m n s u (behind_pieces size t placement) → WritesText steady t r m n s u (λ files. behind (in_full files t) placement)
+    pub behind-sent : (size : ℕ) → totalsize (plan_of (moved_unread t placement)) ≡ size → WritesPieces steady r m n s u (behind_pieces size t placement) → WritesText steady t r m n s u (λ files. behind (in_full files t) placement)
     behind-sent size is p = record {
       files = p.files;
       faults = p.faults;

@@ -11,7 +11,7 @@ use Rattle.uimg_fit.specs.declared.fault.FitFault.TheVariants.{PositionTooLow, T
 use Rattle.uimg_fit.specs.declared.placement.Placement.{Placement}
 use Rattle.uimg_fit.specs.declared.placement.Placement.TheVariants.{Inside, After, At}
 use Rattle.uimg_fit.specs.Refusing.{is_low}
-use Rattle.uimg_fit.specs.Sources.{room_of}
+use Rattle.uimg_fit.specs.UnreadTrees.{padded_size_of}
 
 -- a node among those that follow it
 abbrev pub entry : {A : Type 0} → Node A → NodeOf Content
@@ -31,9 +31,9 @@ abbrev pub payload_pieces : NodeOf Content → List Content
 payload_pieces i = padded_pieces (first i.own (codes "data"))
 
 -- how many bytes the payloads of images take, each padded
-unfoldable pub rooms : List (NodeOf Content) → ℕ
-rooms [] = 0
-rooms (i ∷ is) = room_of i.own + rooms is
+unfoldable pub padded_sizes : List (NodeOf Content) → ℕ
+padded_sizes [] = 0
+padded_sizes (i ∷ is) = padded_size_of i.own + padded_sizes is
 
 -- what stands after a blob of so many bytes
 abbrev pub behind_pieces : ℕ → Unread → Placement → List Content
@@ -43,15 +43,15 @@ behind_pieces size t (At p) = bytes (replicate (p - size) 0) ∷ flat_map payloa
 
 -- how many bytes the file has
 abbrev pub file_size : ℕ → ℕ → Placement → ℕ
-file_size size room Inside = size
-file_size size room After = size + room
-file_size size room (At p) = p + room
+file_size size padded Inside = size
+file_size size padded After = size + padded
+file_size size padded (At p) = p + padded
 
 -- why payloads of so many bytes can't stand behind a blob of so many
 unfoldable pub end_fault : ℕ → ℕ → Placement → Option FitFault
-end_fault size room placement =
+end_fault size padded placement =
     if is_low size placement then Some PositionTooLow
-    else if nat_lt 4294967295 (file_size size room placement) then Some TooLarge
+    else if nat_lt 4294967295 (file_size size padded placement) then Some TooLarge
     else None
 
 -- the fault of an answer, if it is one

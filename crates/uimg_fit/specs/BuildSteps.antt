@@ -1,5 +1,6 @@
 -- What the steps of building do.
 use Rattle.std.specs.Prelude.{◌≡◌, ◌<◌, ℕ, Bool, IsTrue, List, Option, Some, None, Result, Ok, Err, ⊤, false, is_err}
+use Rattle.std.specs.Result.{OnOk}
 use Rattle.uimg_base.specs.Device.{RisesIf}
 use Rattle.uimg_base.specs.Named.{FileMap}
 use Rattle.uimg_base.specs.Sink.{Sink}
@@ -57,4 +58,5 @@ pub record Builds {X : Type 0} (steady : Bool) (t : Unread) (placement : Placeme
   pub reads : IsTrue steady → IsTrue old.honest → AreKept old.bytes t → is_read answer ≡ false
   pub faults : RisesIf (is_put answer) s.faults u.faults
   pub untouched : IsTrue (is_before_writing answer) → u ≡ s
+  pub kept : IsTrue old.honest → OnOk answer (AreKept old.bytes t)
   pub told : IsTrue old.honest → AreKept old.bytes t → BuildsAnswer (in_full old.bytes t) placement answer s u

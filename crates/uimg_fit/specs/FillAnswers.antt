@@ -6,7 +6,7 @@ use Rattle.uimg_tree.specs.Content.{Content, Unread, file, bytes_in, in_full, Ar
 use Rattle.uimg_fit.specs.declared.fault.FitFault.{FitFault}
 use Rattle.uimg_fit.specs.declared.fault.FitFault.TheVariants.{OutOfMemory, NoFile, ReadFailed}
 use Rattle.uimg_fit.specs.Filling.{IsFilled}
-use Rattle.uimg_fit.specs.Sources.{filled_source}
+use Rattle.uimg_fit.specs.UnreadTrees.{filled_unread}
 use Rattle.uimg_fit.specs.Refusing.{first_fault, fill_of}
 
 -- the answer is that an open was refused
@@ -29,7 +29,7 @@ node_in_full files image = record {
 
 -- A tree is filled as another: no file of it is read into it, and none is another.
 pub record Fills (files : List ℕ → Option (List ℕ)) (time : ℕ) (t u : Unread) : Type 0 where
-  pub source : u ≡ filled_source files time t
+  pub source : u ≡ filled_unread files time t
   pub accepted : fill_of time (in_full files t) ≡ Ok (in_full files u)
   pub is_filled : IsFilled (in_full files u)
   pub kept : AreKept files u

@@ -23,7 +23,7 @@ pub mod Building
 pub mod Refusing
 pub mod FillAnswers
 pub mod BuildAnswers
-pub mod Sources
+pub mod UnreadTrees
 pub mod ReadsBack
 pub mod Telling
 pub mod NodeLines
@@ -34,3 +34,4 @@ pub mod Placing
 pub mod BuildSteps
 pub mod PayloadSums
 pub mod ImageFillings
+pub mod FillOrder

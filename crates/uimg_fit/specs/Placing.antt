@@ -7,7 +7,7 @@ use Rattle.uimg_tree.specs.declared.tree.Node.{Node}
 use Rattle.uimg_tree.specs.Content.{size_of}
 use Rattle.uimg_tree.specs.Encoding.{word}
 use Rattle.uimg_tree.specs.Properties.{content}
-use Rattle.uimg_fit.specs.Sources.{room_of, source_own, source_from}
+use Rattle.uimg_fit.specs.UnreadTrees.{padded_size_of, unread_own, unread_from}
 
 -- a list, the first element that passes a test by a function
 unfoldable pub at_first : {X : Type 0} → (X → Bool) → (X → List X) → List X → List X
@@ -36,19 +36,19 @@ placed_properties key at ps = at_first is_data (cells key at) ps
 
 -- an image, its payload moved to a place
 abbrev pub placed_image : {A : Type 0} → List ℕ → ℕ → Node A → Node A
-placed_image key at n = record n { props = source_own key at n.props }
+placed_image key at n = record n { props = unread_own key at n.props }
 
 -- images, one after the other from a place on
 unfoldable pub placed_images : {A : Type 0} → List ℕ → ℕ → List (Node A) → List (Node A)
 placed_images key at [] = []
-placed_images key at (n ∷ ns) = placed_image key at n ∷ placed_images key (at + room_of n.props) ns
+placed_images key at (n ∷ ns) = placed_image key at n ∷ placed_images key (at + padded_size_of n.props) ns
 
 abbrev pub is_images : {A : Type 0} → Node A → Bool
 is_images n = bytes_eq (codes "images") n.name
 
 -- a node, its children being images that are placed
 abbrev pub with_placed : {A : Type 0} → List ℕ → ℕ → Node A → Node A
-with_placed key at n = record n { children = source_from key at n.children }
+with_placed key at n = record n { children = unread_from key at n.children }
 
 -- the root's children
 abbrev pub placed_children : {A : Type 0} → List ℕ → ℕ → List (Node A) → List (Node A)

@@ -3,7 +3,7 @@ ghost use Rattle.std.specs.List.{flat_map};
 ghost use Rattle.uimg_base.specs.Writing.{Writes};
 ghost use Rattle.uimg_tree.specs.Pieces.{WritesPieces};
 ghost use Rattle.uimg_tree.specs.Trees.{node_of};
-ghost use Rattle.uimg_fit.specs.Behind.{entry, payload_pieces, images_in, rooms, behind_pieces, end_fault, fault_in};
+ghost use Rattle.uimg_fit.specs.Behind.{entry, payload_pieces, images_in, padded_sizes, behind_pieces, end_fault, fault_in};
 ghost use Rattle.uimg_fit.specs.Refusing.{is_low};
 
 use crate::fault::FitFault;
@@ -21,14 +21,14 @@ const LARGEST: u64 = 0xffff_ffff;
 // Refuses payloads that would begin before the end of a blob of so many bytes, and a file that is too
 // large.
 #[tactic(auto, unfolding(crate::specs::Behind::end_fault))]
-fn check_end(size: u32, room: u64, placement: Placement) -> Result<(), FitFault>
-    requires { room ≤ 2 ^ 36 }
-    ensures { fault_in result ≡ end_fault size room placement }
+fn check_end(size: u32, padded: u64, placement: Placement) -> Result<(), FitFault>
+    requires { padded ≤ 2 ^ 36 }
+    ensures { fault_in result ≡ end_fault size padded placement }
 {
     match placement {
         Placement::Inside => Ok(()),
         Placement::After => {
-            if size as u64 + room > LARGEST {
+            if size as u64 + padded > LARGEST {
                 return Err(FitFault::TooLarge);
             }
             Ok(())
@@ -37,7 +37,7 @@ fn check_end(size: u32, room: u64, placement: Placement) -> Result<(), FitFault>
             if position < size {
                 return Err(FitFault::PositionTooLow);
             }
-            if position as u64 + room > LARGEST {
+            if position as u64 + padded > LARGEST {
                 return Err(FitFault::TooLarge);
             }
             Ok(())
@@ -52,7 +52,7 @@ pub(crate) fn check_payloads<A: Allocator>(
     placement: Placement,
 ) -> Result<(), FitFault>
     ensures { fault_in result
-        ≡ end_fault size (rooms (images_in (node_of tree.now.root))) placement }
+        ≡ end_fault size (padded_sizes (images_in (node_of tree.now.root))) placement }
 {
     check_end(size, payloads_size(images_of(&tree.root)), placement)
 }
@@ -64,7 +64,7 @@ fn put_zeros<W: Write>(count: u32, out: &mut Out<W>) -> Result<(), PutFault>
     let zeros = [0; WINDOW];
     let mut left = count;
     while left > 0 {
-        let next = u32::min(left, 8192);
+        let next = u32::min(left, WINDOW as u32);
         out.put_all(&zeros[..next as usize])?;
         left -= next;
     }

@@ -11,7 +11,7 @@ ghost use Rattle.uimg_fit.specs.Faults.{is_put, is_read};
 ghost use Rattle.uimg_fit.specs.Filling.{IsFilled};
 ghost use Rattle.uimg_fit.specs.ReadsBack.{ReadsBack};
 ghost use Rattle.uimg_fit.specs.Refusing.{is_low};
-ghost use Rattle.uimg_fit.specs.Sources.{moved_source};
+ghost use Rattle.uimg_fit.specs.UnreadTrees.{moved_unread};
 
 use crate::behind::{check_payloads, put_behind};
 use crate::fault::{Fault, FitFault};
@@ -54,9 +54,11 @@ fn write_file<F: Files, W: Write, A: Allocator>(
     out: &mut Out<W>,
 ) -> Result<(), TreeFault>
     requires plan { layout.now ≡ plan_of (node_of placed.now.root) }
-    requires placed { node_of placed.now.root ≡ moved_source (node_of tree.now.root) placement }
+    requires placed { node_of placed.now.root ≡ moved_unread (node_of tree.now.root) placement }
     requires high { is_low (totalsize layout.now) placement ≡ false }
-    ensures { WritesText F.Opened.steady (node_of tree.now.root) result (F.map files.old)
+    ensures kept { IsTrue (F.map files.old).honest →
+        OnOk result (AreKept (F.map files.old).bytes (node_of tree.now.root)) }
+    ensures sent { WritesText F.Opened.steady (node_of tree.now.root) result (F.map files.old)
         (F.map files.new) out.old out.new
         (λ files. built (in_full files (node_of tree.now.root)) placement) }
 {
@@ -73,7 +75,7 @@ fn build_placed<F: Files, W: Write, A: Allocator>(
     files: &mut F,
     out: &mut Out<W>,
 ) -> Result<(), Fault>
-    requires { node_of placed.now.root ≡ moved_source (node_of tree.now.root) placement }
+    requires { node_of placed.now.root ≡ moved_unread (node_of tree.now.root) placement }
     ensures { Builds F.Opened.steady (node_of tree.now.root) placement result (F.map files.old)
         (F.map files.new) out.old out.new }
 {
@@ -125,7 +127,8 @@ fn place_and_build<F: Files, W: Write, A: Allocator + Copy>(
 /// begin before the blob's end; `TooLarge` where the file has more than 4294967295 bytes;
 /// `OutOfMemory` where memory was refused. `Put` comes exactly where a write failed, `NoFile` exactly
 /// where the open of a file was refused, `Read` where a read of one failed or its size is another than
-/// the tree keeps; over honest files of the kept sizes a prefix of the image was written then.
+/// the tree keeps; over honest files of the kept sizes a prefix of the image was written then. No file
+/// of another size is ever part of an image that was built.
 ///
 /// A file is opened once for each value that it is, when that is written, and goes through a window of
 /// 8192 bytes. The image of a filled tree verifies, and each payload is found in it. The depth of the
@@ -144,6 +147,8 @@ pub fn build<F: Files, W: Write, A: Allocator + Copy>(
         AreKept (F.map files.old).bytes (node_of tree.now.root) → is_read result ≡ false }
     ensures faults { RisesIf (is_put result) out.old.faults out.new.faults }
     ensures untouched { IsTrue (is_before_writing result) → out.new ≡ out.old }
+    ensures kept { IsTrue (F.map files.old).honest →
+        OnOk result (AreKept (F.map files.old).bytes (node_of tree.now.root)) }
     ensures built { IsTrue (F.map files.old).honest →
         AreKept (F.map files.old).bytes (node_of tree.now.root) →
         BuildsAnswer (in_full (F.map files.old).bytes (node_of tree.now.root)) placement result

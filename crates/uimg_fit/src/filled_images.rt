@@ -1,11 +1,14 @@
-ghost use Rattle.std.specs.Prelude.{◌≡◌, false, map, IsTrue};
-ghost use Rattle.std.specs.List.{AllByRecursion};
+ghost use Rattle.std.specs.Prelude.{◌≡◌, ◌≢◌, [], false, map, Some, IsTrue, OnOk};
+ghost use Rattle.std.specs.List.{filter, AllByRecursion};
+ghost use Rattle.uimg_blob.specs.LookUps.{listed};
+ghost use Rattle.uimg_blob.specs.Roles.{is_hash};
 ghost use Rattle.uimg_tree.specs.Content.{IsKept};
 ghost use Rattle.uimg_tree.specs.Properties.{content};
 ghost use Rattle.uimg_tree.specs.Trees.{siblings};
 ghost use Rattle.uimg_tree.specs.UsingFiles.{UsesFiles};
 ghost use Rattle.uimg_fit.specs.FillAnswers.{opens_no_file, fails_to_read};
 ghost use Rattle.uimg_fit.specs.Behind.{entry};
+ghost use Rattle.uimg_fit.specs.FillOrder.{FillsNext, FillsInOrder};
 ghost use Rattle.uimg_fit.specs.ImageFillings.{FillsHashes, FillsImage, FillsImages, IsKeptImage};
 
 use crate::algo_sets::is_empty;
@@ -34,6 +37,9 @@ fn fill_hashes<F: Files, A: Allocator + Copy>(
     ensures filled { IsTrue (F.map files.old).honest →
         FillsHashes (λ u. siblings nodes.new) (F.map files.old).bytes (content payload.now)
         (siblings nodes.old) result }
+    ensures kept { IsTrue (F.map files.old).honest → OnOk result (
+        filter (λ h. is_hash h.name) (listed (siblings nodes.old)) ≢ [] →
+        IsKept (F.map files.old).bytes (content payload.now)) }
 {
     let Some(set) = algos_of(nodes) else {
         return Err(FitFault::UnknownAlgo);
@@ -60,20 +66,19 @@ fn fill_image<F: Files, A: Allocator + Copy>(
         IsKeptImage (F.map files.old).bytes (entry image.old) → fails_to_read result ≡ false }
     ensures filled { IsTrue (F.map files.old).honest →
         FillsImage (F.map files.old).bytes (entry image.old) (entry image.new) result }
+    ensures order { IsTrue (F.map files.old).honest →
+        FillsNext (F.map files.old) F.Opened.steady (entry image.old) result }
 {
     let Some(payload) = payload_of(&image.props) else {
         return Err(FitFault::NoData);
     };
     let nodes = mem::replace(&mut image.children, Nodes::of(Vec::new(alloc)));
     let mut list = nodes.into_vec();
-    match fill_hashes(alloc, list.as_mut_slice(), payload, files) {
-        Ok(()) => {}
-        Err(fault) => return Err(fault),
-    }
+    let answer = fill_hashes(alloc, list.as_mut_slice(), payload, files);
     image.children = Nodes::of(list);
     let props = mem::replace(&mut image.props, Props::of(Vec::new(alloc)));
     image.props = without_external(props);
-    Ok(())
+    answer
 }
 
 /// Fills images in order, up to the first that is refused.
@@ -91,12 +96,11 @@ pub(crate) fn fill_images<F: Files, A: Allocator + Copy>(
         fails_to_read result ≡ false }
     ensures filled { IsTrue (F.map files.old).honest → FillsImages (F.map files.old).bytes
         (map entry images.old) (map entry images.new) result }
+    ensures order { IsTrue (F.map files.old).honest →
+        FillsInOrder (F.map files.old) F.Opened.steady (Some (map entry images.old)) result }
 {
     for image in images.iter_mut() {
-        match fill_image(alloc, image, files) {
-            Ok(()) => {}
-            Err(fault) => return Err(fault),
-        }
+        fill_image(alloc, image, files)?;
     }
     Ok(())
 }

@@ -1,8 +1,8 @@
-ghost use Rattle.std.specs.Prelude.{◌≡◌, codes, not, IsTrue, IfOk, IfErr, false};
+ghost use Rattle.std.specs.Prelude.{◌≡◌, codes, not, Some, IsTrue, IfOk, IfErr, false};
 ghost use Rattle.std.specs.List.{prefix_len, AllByRecursion};
 ghost use Rattle.std.specs.Option.{IfSome};
 ghost use Rattle.std.specs.Str.{bytes_eq};
-ghost use Rattle.uimg_blob.specs.LookUps.{listed};
+ghost use Rattle.uimg_blob.specs.LookUps.{images, listed};
 ghost use Rattle.uimg_tree.specs.Content.{bytes, AreKept, FilesAtData};
 ghost use Rattle.uimg_tree.specs.Encoding.{word};
 ghost use Rattle.uimg_fit.specs.Filling.{with};
@@ -10,6 +10,7 @@ ghost use Rattle.uimg_fit.specs.declared.fault.FitFault.TheVariants.{OutOfMemory
 ghost use Rattle.uimg_tree.specs.Trees.{node_of, siblings};
 ghost use Rattle.uimg_tree.specs.UsingFiles.{UsesFiles};
 ghost use Rattle.uimg_fit.specs.FillAnswers.{opens_no_file, fails_to_read, FillsAnswer};
+ghost use Rattle.uimg_fit.specs.FillOrder.{FillsInOrder};
 ghost use Rattle.uimg_fit.specs.ImageFillings.{IsKeptImage, FillsParent, FillsBelow, images_among};
 
 use crate::fault::FitFault;
@@ -56,15 +57,14 @@ fn fill_parent<F: Files, A: Allocator + Copy>(
         fails_to_read result ≡ false }
     ensures filled { IsTrue (F.map files.old).honest → FillsParent (F.map files.old).bytes
         parent.old parent.new result }
+    ensures order { IsTrue (F.map files.old).honest →
+        FillsInOrder (F.map files.old) F.Opened.steady (Some (listed parent.old.children)) result }
 {
     let nodes = mem::replace(&mut parent.children, Nodes::of(Vec::new(alloc)));
     let mut images = nodes.into_vec();
-    match fill_images(alloc, images.as_mut_slice(), files) {
-        Ok(()) => {}
-        Err(fault) => return Err(fault),
-    }
+    let answer = fill_images(alloc, images.as_mut_slice(), files);
     parent.children = Nodes::of(images);
-    Ok(())
+    answer
 }
 
 // Fills the images of a root, whose children these are.
@@ -81,6 +81,8 @@ fn fill_below<F: Files, A: Allocator + Copy>(
         (AllByRecursion (IsKeptImage (F.map files.old).bytes)) → fails_to_read result ≡ false }
     ensures filled { IsTrue (F.map files.old).honest → FillsBelow (F.map files.old).bytes
         (siblings nodes.old) (siblings nodes.new) result }
+    ensures order { IsTrue (F.map files.old).honest →
+        FillsInOrder (F.map files.old) F.Opened.steady (images_among (siblings nodes.old)) result }
 {
     let at = before_images(nodes);
     if at >= nodes.len() {
@@ -120,6 +122,12 @@ pub fn fill<F: Files, A: Allocator + Copy>(
         AreKept (F.map files.old).bytes (node_of tree.root) →
         FillsAnswer (λ filled. node_of filled.root) (F.map files.old).bytes time
         (node_of tree.root) result }
+    // Image by image, over files of any sizes: filling goes past an image with hash nodes only where
+    // its file has the size that the tree keeps, and stops at the first image that it can't pass.
+    // Where the files are complete, `NoFile`, and where what they open is steady, `ReadFailed`, comes
+    // only if the file of that image is missing or has another size, whatever the others are.
+    ensures order { IsTrue (F.map files.old).honest →
+        FillsInOrder (F.map files.old) F.Opened.steady (images (node_of tree.root)) result }
 {
     let Tree { root } = tree;
     let Node {
@@ -128,10 +136,7 @@ pub fn fill<F: Files, A: Allocator + Copy>(
         children,
     } = root;
     let mut nodes = children.into_vec();
-    match fill_below(alloc, nodes.as_mut_slice(), files) {
-        Ok(()) => {}
-        Err(fault) => return Err(fault),
-    }
+    fill_below(alloc, nodes.as_mut_slice(), files)?;
     let props = with_time(alloc, props, time)?;
     let children = Nodes::of(nodes);
     Ok(Tree {

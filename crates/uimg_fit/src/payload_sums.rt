@@ -22,6 +22,7 @@ use uimg_tree::Value;
 // Feeds a source that has so many bytes; one of another size is a failed read.
 fn feed_source<S: Source>(bundle: &mut Bundle, source: &mut S, size: u64) -> Result<(), FitFault>
     ensures memory { IfErr result (λ fault. fault ≡ ReadFailed) }
+    ensures sized { OnOk result (length (S.device source.old).bytes ≡ size) }
     ensures failures { length (S.device source.old).bytes ≡ size →
         RisesIf (fails_to_read result) (S.device source.old).failures (S.device source.new).failures }
     ensures fed { IsTrue (S.device source.old).honest → OnOk result (
@@ -52,6 +53,8 @@ fn feed_file<F: Files>(
         IsKept (F.map files.old).bytes (file name.now size) → opens_no_file result ≡ false }
     ensures steady { IsTrue F.Opened.steady → IsTrue (F.map files.old).honest →
         IsKept (F.map files.old).bytes (file name.now size) → fails_to_read result ≡ false }
+    ensures kept { IsTrue (F.map files.old).honest →
+        OnOk result (IsKept (F.map files.old).bytes (file name.now size)) }
     ensures fed { IsTrue (F.map files.old).honest → OnOk result (
         (algos : List Algo) → Holds bundle.old algos [] →
         Holds bundle.new algos (bytes_in (F.map files.old).bytes (file name.now size))) }
@@ -74,6 +77,8 @@ fn feed_payload<F: Files, A: Allocator>(
         IsKept (F.map files.old).bytes (content payload.now) → opens_no_file result ≡ false }
     ensures steady { IsTrue F.Opened.steady → IsTrue (F.map files.old).honest →
         IsKept (F.map files.old).bytes (content payload.now) → fails_to_read result ≡ false }
+    ensures kept { IsTrue (F.map files.old).honest →
+        OnOk result (IsKept (F.map files.old).bytes (content payload.now)) }
     ensures fed { IsTrue (F.map files.old).honest → OnOk result (
         (algos : List Algo) → Holds bundle.old algos [] →
         Holds bundle.new algos (bytes_in (F.map files.old).bytes (content payload.now))) }
@@ -99,6 +104,8 @@ pub(crate) fn payload_digests<F: Files, A: Allocator>(
         IsKept (F.map files.old).bytes (content payload.now) → opens_no_file result ≡ false }
     ensures steady { IsTrue F.Opened.steady → IsTrue (F.map files.old).honest →
         IsKept (F.map files.old).bytes (content payload.now) → fails_to_read result ≡ false }
+    ensures kept { IsTrue (F.map files.old).honest →
+        OnOk result (IsKept (F.map files.old).bytes (content payload.now)) }
     ensures digests { IsTrue (F.map files.old).honest → IfOk result (λ digests. digests
         ≡ padded_digests (chosen set) (bytes_in (F.map files.old).bytes (content payload.now))) }
 {

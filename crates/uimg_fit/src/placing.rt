@@ -2,18 +2,15 @@ ghost use Rattle.std.specs.Prelude.{◌≡◌, ◌∷◌, [], ◌++◌, IfOk, On
 ghost use Rattle.uimg_tree.specs.Trees.{node_of};
 ghost use Rattle.uimg_fit.specs.Filling.{in_first, with_images};
 ghost use Rattle.uimg_fit.specs.Placing.{cell, cells, placed_image, with_placed};
-ghost use Rattle.uimg_fit.specs.Sources.{source_own, source_from};
+ghost use Rattle.uimg_fit.specs.UnreadTrees.{unread_own, unread_from};
 
-use crate::payload_sizes::room_in_cell;
+use crate::payload_sizes::{CELL, padded_size_in_cell};
 use crate::payloads::{is_data, is_images};
 use std::alloc::{AllocError, Allocator};
 use uimg_tree::{
     Node, Nodes, Prop, Props, Tree, Value, copy_bytes, copy_node, copy_nodes, copy_properties,
     copy_property, value_size,
 };
-
-// A cell keeps a number's remainder by this.
-const CELL: u64 = 0x1_0000_0000;
 
 // A property of four bytes.
 fn cell<A: Allocator + Copy>(alloc: A, name: &[u8], number: u32) -> Result<Prop<A>, AllocError>
@@ -55,15 +52,12 @@ fn place_properties<A: Allocator + Copy>(
     key: &[u8],
     at: u32,
 ) -> Result<Props<A>, AllocError>
-    ensures { IfOk result (λ placed. placed ≡ source_own key.now at props.now) }
+    ensures { IfOk result (λ placed. placed ≡ unread_own key.now at props.now) }
 {
     let mut copies = Vec::new(alloc);
     let mut moved = false;
     for prop in props.items() {
-        if moved {
-            let copy = copy_property(alloc, prop)?;
-            copies.push(copy)?;
-        } else if is_data(prop) {
+        if !moved && is_data(prop) {
             add_cells(alloc, &mut copies, key, at, prop)?;
             moved = true;
         } else {
@@ -100,14 +94,14 @@ fn place_images<A: Allocator + Copy>(
     key: &[u8],
     at: u32,
 ) -> Result<Nodes<A>, AllocError>
-    ensures { IfOk result (λ placed. placed ≡ source_from key.now at images.now) }
+    ensures { IfOk result (λ placed. placed ≡ unread_from key.now at images.now) }
 {
     let mut copies = Vec::new(alloc);
     let mut at = at;
     for image in images.items() {
         let copy = place_image(alloc, image, key, at)?;
         copies.push(copy)?;
-        at = at.wrapping_add(room_in_cell(&image.props));
+        at = at.wrapping_add(padded_size_in_cell(&image.props));
     }
     Ok(Nodes::of(copies))
 }
@@ -139,22 +133,18 @@ fn place_children<A: Allocator + Copy>(
     at: u32,
 ) -> Result<Nodes<A>, AllocError>
     ensures { IfOk result (λ placed.
-        placed ≡ in_first (codes "images") (source_from key.now at) nodes.now) }
+        placed ≡ in_first (codes "images") (unread_from key.now at) nodes.now) }
 {
     let mut copies = Vec::new(alloc);
     let mut moved = false;
     for node in nodes.items() {
-        if moved {
-            let copy = copy_node(alloc, node)?;
-            copies.push(copy)?;
-        } else if is_images(node) {
-            let placed = place_in(alloc, node, key, at)?;
-            copies.push(placed)?;
+        let copy = if !moved && is_images(node) {
             moved = true;
+            place_in(alloc, node, key, at)?
         } else {
-            let copy = copy_node(alloc, node)?;
-            copies.push(copy)?;
-        }
+            copy_node(alloc, node)?
+        };
+        copies.push(copy)?;
     }
     Ok(Nodes::of(copies))
 }
@@ -168,7 +158,7 @@ pub(crate) fn place<A: Allocator + Copy>(
     at: u32,
 ) -> Result<Tree<A>, AllocError>
     ensures { IfOk result (λ placed.
-        node_of placed.root ≡ with_images (source_from key.now at) (node_of tree.now.root)) }
+        node_of placed.root ≡ with_images (unread_from key.now at) (node_of tree.now.root)) }
 {
     let name = copy_bytes(alloc, tree.root.name.items())?;
     let props = copy_properties(alloc, &tree.root.props)?;

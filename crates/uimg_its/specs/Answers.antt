@@ -30,6 +30,29 @@ abbrev pub is_no_file : {X : Type 0} → Result X Stop → Bool
 is_no_file (Ok x) = false
 is_no_file (Err stop) = tells_no_file stop.kind
 
+-- the reason is that a read of a file failed
+abbrev pub tells_unread : Kind → Bool
+tells_unread BadToken = false
+tells_unread BadSyntax = false
+tells_unread (OutOfProfile construct) = false
+tells_unread BadNumber = false
+tells_unread NoFile = false
+tells_unread ReadFailed = true
+tells_unread OutOfMemory = false
+
+-- an answer has that reason
+abbrev pub is_unread : {X : Type 0} → Result X Stop → Bool
+is_unread (Ok x) = false
+is_unread (Err stop) = tells_unread stop.kind
+
+-- the reason lies in no file
+abbrev pub NotInFile : Kind → Type 0
+NotInFile kind = (tells_no_file kind ≡ false) × (tells_unread kind ≡ false)
+
+-- Any refusal is for a reason that lies in no file.
+abbrev pub NeverInFile : {X : Type 0} → Result X Stop → Type 0
+NeverInFile result = (is_no_file result ≡ false) × (is_unread result ≡ false)
+
 -- A refusal for a reason in the text says that there is nothing to read. Any other says nothing of the text.
 abbrev pub Refuses : {Y : Type 0} → Kind → Option Y → Type 0
 Refuses kind read = OnFalse (is_outside kind) (read ≡ None)

@@ -6,12 +6,17 @@ use Rattle.uimg_tree.specs.Content.{in_full}
 use Rattle.uimg_tree.specs.Trees.{node_of}
 use Rattle.uimg_its.specs.declared.fault.ItsFault.{ItsFault}
 use Rattle.uimg_its.specs.Parts.{FileBytes}
-use Rattle.uimg_its.specs.Answers.{is_outside, tells_no_file}
+use Rattle.uimg_its.specs.Answers.{is_outside, tells_no_file, tells_unread}
 
 -- the answer is that the open of a file was refused
 abbrev pub finds_no_file : {X : Type 0} → Result X ItsFault → Bool
 finds_no_file (Ok x) = false
 finds_no_file (Err fault) = tells_no_file fault.kind
+
+-- the answer is that a read of a file failed
+abbrev pub fails_to_read : {X : Type 0} → Result X ItsFault → Bool
+fails_to_read (Ok x) = false
+fails_to_read (Err fault) = tells_unread fault.kind
 
 -- Where the words of a text spell a tree, the answer is that tree, or a refusal for a reason outside the text.
 abbrev pub Accepts : {A : Type 0} → FileBytes → Result (Tree A) ItsFault → Nodes → Type 0

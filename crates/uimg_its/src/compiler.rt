@@ -4,11 +4,11 @@ ghost use Rattle.uimg_tree.specs.Content.{AreKept, FilesAtData, in_full};
 ghost use Rattle.uimg_tree.specs.Trees.{node_of};
 ghost use Rattle.uimg_tree.specs.UsingFiles.{UsesFiles};
 ghost use Rattle.uimg_its.specs.Words.{Word, words};
-ghost use Rattle.uimg_its.specs.Answers.{Gives, is_outside, tells_no_file, is_no_file};
+ghost use Rattle.uimg_its.specs.Answers.{Gives, is_outside, is_no_file, NotInFile, NeverInFile, is_unread};
 ghost use Rattle.uimg_its.specs.Parts.{FileBytes, parts_of};
 ghost use Rattle.uimg_its.specs.FileValues.{IsSoundNode};
 ghost use Rattle.uimg_its.specs.Seen.{word_of};
-ghost use Rattle.uimg_its.specs.Compiled.{Accepts, finds_no_file};
+ghost use Rattle.uimg_its.specs.Compiled.{Accepts, finds_no_file, fails_to_read};
 ghost use Rattle.uimg_its.specs.Reader.{version, is_version, alone, source};
 ghost use Rattle.uimg_its.specs.Grammar.{Spells};
 
@@ -38,7 +38,7 @@ fn is_version(word: Found<'_>) -> bool
 // The text behind the directive that begins a source.
 fn version(text: &[u8]) -> Result<&[u8], Stop>
     ensures gives { Gives (λ x. words x.now) result (version (words text.now)) }
-    ensures no_file { is_no_file result ≡ false }
+    ensures no_file { NeverInFile result }
 {
     let (token, rest) = need_word(text)?;
     if is_version(token.word) {
@@ -51,7 +51,7 @@ fn version(text: &[u8]) -> Result<&[u8], Stop>
 // A word stands behind the root: the text behind the word tells whether it begins a second root.
 fn second_root(token: Token<'_>, rest: &[u8]) -> Stop
     ensures in_text { is_outside result.kind ≡ false }
-    ensures no_file { tells_no_file result.kind ≡ false }
+    ensures no_file { NotInFile result.kind }
 {
     if is_mark(Mark::Slash, token.word) && expect(Mark::BraceOpen, Place::Outside, rest).is_ok() {
         Stop {
@@ -68,7 +68,7 @@ fn alone<A: Allocator>(root: Node<A>, text: &[u8]) -> Result<Node<A>, Stop>
     ensures root { IfOk result (λ node. node ≡ root) }
     ensures gives { (files : FileBytes) →
         Gives (parts_of files) result (alone (parts_of files root) (words text.now)) }
-    ensures no_file { is_no_file result ≡ false }
+    ensures no_file { NeverInFile result }
 {
     match next_word(text)? {
         None => Ok(root),
@@ -84,6 +84,7 @@ fn source<F: Files, A: Allocator + Copy>(
     text: &[u8],
 ) -> Result<Node<A>, Stop>
     ensures files { UsesFiles (is_no_file result) (F.map files.old) (F.map files.new) }
+    ensures steady { IsTrue F.Opened.steady → is_unread result ≡ false }
     ensures gives { IsTrue (F.map files.old).honest →
         Gives (parts_of (F.map files.old).bytes) result
         (source (F.map files.old).bytes (words text.now)) }
@@ -107,10 +108,10 @@ fn source<F: Files, A: Allocator + Copy>(
 /// [`Value::File`]; any other is read whole.
 ///
 /// The fault is that of the first word at which the text cannot go on. `NoFile` comes exactly where
-/// an open was refused, `ReadFailed` where a read of an opened file failed, `OutOfMemory` where
-/// memory was refused. Over honest files the others come only where the text spells no tree. The
-/// time that it takes grows with the text and the files that are read, and nodes are read by calls
-/// inside one another, at most 64 deep.
+/// an open was refused, `ReadFailed` where a read of an opened file failed, so never where what the
+/// files open is steady, and `OutOfMemory` where memory was refused. Over honest files the others
+/// come only where the text spells no tree. The time that it takes grows with the text and the files
+/// that are read, and nodes are read by calls inside one another, at most 64 deep.
 ///
 /// [`Construct`]: crate::Construct
 /// [`Value::File`]: crate::Value::File
@@ -121,6 +122,8 @@ pub fn compile<F: Files, A: Allocator + Copy>(
 ) -> Result<Tree<A>, ItsFault>
     // The files are what they were, and `NoFile` comes exactly where they refused an open.
     ensures files { UsesFiles (finds_no_file result) (F.map files.old) (F.map files.new) }
+    // Where what the files open never fails, `ReadFailed` is not answered.
+    ensures steady { IsTrue F.Opened.steady → fails_to_read result ≡ false }
     // Only properties named `data` are files.
     ensures at_data { IfOk result (λ tree. FilesAtData (node_of tree.root)) }
     // Each of these files is there, with the size that is kept.

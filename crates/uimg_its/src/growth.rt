@@ -1,6 +1,6 @@
 ghost use Rattle.std.specs.Prelude.{◌≡◌, ◌++◌, ◌∷◌, [], OnOk, IfOk, true, false};
 ghost use Rattle.uimg_its.specs.Strings.{string_bytes};
-ghost use Rattle.uimg_its.specs.Answers.{IsOutside, is_outside, tells_no_file, is_no_file};
+ghost use Rattle.uimg_its.specs.Answers.{IsOutside, is_outside, NotInFile, NeverInFile};
 
 use crate::fault::Kind;
 use crate::stop::Stop;
@@ -11,7 +11,7 @@ use uimg_tree::ByteList;
 /// Memory was refused at a word.
 pub(crate) fn out_of_memory(left: usize) -> Stop
     ensures outside { is_outside result.kind ≡ true }
-    ensures no_file { tells_no_file result.kind ≡ false }
+    ensures no_file { NotInFile result.kind }
 {
     Stop {
         kind: Kind::OutOfMemory,
@@ -27,7 +27,7 @@ pub(crate) fn append<A: Allocator>(
 ) -> Result<(), Stop>
     ensures appended { OnOk result (out.new.items ≡ out.old.items ++ bytes.now) }
     ensures outside { IsOutside result }
-    ensures no_file { is_no_file result ≡ false }
+    ensures no_file { NeverInFile result }
 {
     match out.extend_from_slice(bytes) {
         Ok(()) => Ok(()),
@@ -43,7 +43,7 @@ pub(crate) fn append_string<A: Allocator>(
 ) -> Result<(), Stop>
     ensures appended { OnOk result (out.new.items ≡ out.old.items ++ string_bytes 0 text.now) }
     ensures outside { IsOutside result }
-    ensures no_file { is_no_file result ≡ false }
+    ensures no_file { NeverInFile result }
 {
     match push_string(out, text) {
         Ok(()) => Ok(()),
@@ -55,7 +55,7 @@ pub(crate) fn append_string<A: Allocator>(
 pub(crate) fn copied<A: Allocator>(alloc: A, name: &[u8], left: usize) -> Result<ByteList<A>, Stop>
     ensures name { IfOk result (λ l. l ≡ name.now) }
     ensures outside { IsOutside result }
-    ensures no_file { is_no_file result ≡ false }
+    ensures no_file { NeverInFile result }
 {
     match Vec::from_slice(alloc, name) {
         Ok(bytes) => Ok(ByteList::of(bytes)),

@@ -5,7 +5,7 @@ ghost use Rattle.uimg_tree.specs.Content.{bytes_in};
 ghost use Rattle.uimg_tree.specs.Properties.{content};
 ghost use Rattle.uimg_its.specs.Strings.{string_bytes};
 ghost use Rattle.uimg_its.specs.Words.{words};
-ghost use Rattle.uimg_its.specs.Answers.{Gives, IsOutside, is_outside, tells_no_file, is_no_file};
+ghost use Rattle.uimg_its.specs.Answers.{Gives, IsOutside, is_outside, is_no_file, NotInFile, NeverInFile, is_unread};
 ghost use Rattle.uimg_its.specs.Steps.{with_front};
 ghost use Rattle.uimg_its.specs.Reader.{string, string_in, file, expect, is_incbin, lone_file};
 ghost use Rattle.uimg_its.specs.FileValues.{IsSoundIn};
@@ -31,6 +31,7 @@ fn read_whole<S: Source, A: Allocator>(
         IfOk result (λ v. v.items ≡ (S.device source.old).bytes) }
     ensures outside { IsOutside result }
     ensures no_file { is_no_file result ≡ false }
+    ensures steady { IsTrue S.steady → is_unread result ≡ false }
 {
     let read_failed = Stop {
         kind: Kind::ReadFailed,
@@ -56,6 +57,7 @@ fn read_file<F: Files, A: Allocator>(
     left: usize,
 ) -> Result<Vec<u8, A>, Stop>
     ensures files { UsesFiles (is_no_file result) (F.map files.old) (F.map files.new) }
+    ensures steady { IsTrue F.Opened.steady → is_unread result ≡ false }
     ensures gives { IsTrue (F.map files.old).honest →
         Gives (λ v. v.items) result ((F.map files.old).bytes name.now) }
 {
@@ -72,7 +74,7 @@ fn read_file<F: Files, A: Allocator>(
 fn string_in(token: Token<'_>) -> Result<&[u8], Stop>
     ensures gives { Gives (λ s. string_bytes 0 s.now) result
         (string_in (word_of token.entry.word)) }
-    ensures no_file { is_no_file result ≡ false }
+    ensures no_file { NeverInFile result }
 {
     match token.word {
         Word::Text(string) => Ok(string),
@@ -84,7 +86,7 @@ fn string_in(token: Token<'_>) -> Result<&[u8], Stop>
 fn string(text: &[u8]) -> Result<(&[u8], &[u8]), Stop>
     ensures gives { Gives (λ x. (string_bytes 0 x.0.now, words x.1.now)) result
         (string (words text.now)) }
-    ensures no_file { is_no_file result ≡ false }
+    ensures no_file { NeverInFile result }
     ensures shorter { IfOk result (λ x. length x.1.now < length text.now) }
 {
     let (token, rest) = need_word(text)?;
@@ -95,7 +97,7 @@ fn string(text: &[u8]) -> Result<(&[u8], &[u8]), Stop>
 // A word behind the name of a file that does not close the parentheses.
 fn not_closed(token: Token<'_>) -> Stop
     ensures in_text { is_outside result.kind ≡ false }
-    ensures no_file { tells_no_file result.kind ≡ false }
+    ensures no_file { NotInFile result.kind }
 {
     match token.word {
         Word::Mark(Mark::Comma) => Stop {
@@ -109,7 +111,7 @@ fn not_closed(token: Token<'_>) -> Stop
 // The text behind the parenthesis that closes the name of a file.
 fn close(text: &[u8]) -> Result<&[u8], Stop>
     ensures gives { Gives (λ x. words x.now) result (expect ParenClose (words text.now)) }
-    ensures no_file { is_no_file result ≡ false }
+    ensures no_file { NeverInFile result }
     ensures shorter { IfOk result (λ x. length x.now < length text.now) }
 {
     let (token, rest) = need_word(text)?;
@@ -131,6 +133,7 @@ pub(crate) fn file<'a, F: Files, A: Allocator + Copy>(
     text: &'a [u8],
 ) -> Result<&'a [u8], Stop>
     ensures files { UsesFiles (is_no_file result) (F.map files.old) (F.map files.new) }
+    ensures steady { IsTrue F.Opened.steady → is_unread result ≡ false }
     ensures gives { IsTrue (F.map files.old).honest →
         Gives (λ rest. (out.new.items, words rest.now)) result
         (with_front out.old.items (file (F.map files.old).bytes (words text.now))) }
@@ -198,6 +201,7 @@ pub(crate) fn kept<F: Files, A: Allocator>(
     left: usize,
 ) -> Result<Value<A>, Stop>
     ensures files { UsesFiles (is_no_file result) (F.map files.old) (F.map files.new) }
+    ensures steady { IsTrue F.Opened.steady → is_unread result ≡ false }
     ensures outside { IsOutside result }
     ensures there { IsTrue (F.map files.old).honest → IfOk result (λ v.
         (F.map files.old).bytes name.items ≡ Some (bytes_in (F.map files.old).bytes (content v))) }

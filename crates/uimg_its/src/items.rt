@@ -1,7 +1,7 @@
 ghost use Rattle.std.specs.Prelude.{◌≡◌, ◌<◌, IfOk, length, false};
 ghost use Rattle.std.specs.Option.{option_map};
 ghost use Rattle.uimg_its.specs.Words.{words};
-ghost use Rattle.uimg_its.specs.Answers.{Gives, is_outside, tells_no_file, is_no_file};
+ghost use Rattle.uimg_its.specs.Answers.{Gives, is_outside, NotInFile, NeverInFile};
 ghost use Rattle.uimg_its.specs.Reader.{item_of, item_after, name_in, labelled, item, named};
 ghost use Rattle.uimg_its.specs.Seen.{word_of, item_is};
 
@@ -36,7 +36,7 @@ pub(crate) struct Head<'a> {
 
 fn item_of<'a>(name: &'a [u8], token: Token<'a>) -> Result<Item<'a>, Stop>
     ensures gives { Gives item_is result (item_of name.now (word_of token.entry.word)) }
-    ensures no_file { is_no_file result ≡ false }
+    ensures no_file { NeverInFile result }
 {
     match token.word {
         Word::Mark(Mark::Semicolon) => Ok(Item::Empty(name)),
@@ -49,7 +49,7 @@ fn item_of<'a>(name: &'a [u8], token: Token<'a>) -> Result<Item<'a>, Stop>
 // A name of an item is too long.
 fn long_name(left: usize) -> Stop
     ensures in_text { is_outside result.kind ≡ false }
-    ensures no_file { tells_no_file result.kind ≡ false }
+    ensures no_file { NotInFile result.kind }
 {
     Stop {
         kind: Kind::BadSyntax,
@@ -61,7 +61,7 @@ fn long_name(left: usize) -> Stop
 fn item_after<'a>(name: &'a [u8], left: usize, token: Token<'a>) -> Result<Option<Item<'a>>, Stop>
     ensures gives { Gives (option_map item_is) result
         (item_after name.now (word_of token.entry.word)) }
-    ensures no_file { is_no_file result ≡ false }
+    ensures no_file { NeverInFile result }
 {
     match token.word {
         Word::Mark(Mark::Colon) => Ok(None),
@@ -72,7 +72,7 @@ fn item_after<'a>(name: &'a [u8], left: usize, token: Token<'a>) -> Result<Optio
 
 fn name_in(token: Token<'_>) -> Result<&[u8], Stop>
     ensures gives { Gives (λ n. n.now) result (name_in (word_of token.entry.word)) }
-    ensures no_file { is_no_file result ≡ false }
+    ensures no_file { NeverInFile result }
 {
     match token.word {
         Word::Name(name) => Ok(name),
@@ -85,7 +85,7 @@ fn name_in(token: Token<'_>) -> Result<&[u8], Stop>
 fn labelled(text: &[u8]) -> Result<(Option<Item<'_>>, Token<'_>, &[u8]), Stop>
     ensures gives { Gives (λ x. (option_map item_is x.0, words x.2.now)) result
         (labelled (words text.now)) }
-    ensures no_file { is_no_file result ≡ false }
+    ensures no_file { NeverInFile result }
     ensures shorter { IfOk result (λ x. length x.2.now < length text.now) }
 {
     let (first, behind) = need_word(text)?;
@@ -99,7 +99,7 @@ fn labelled(text: &[u8]) -> Result<(Option<Item<'_>>, Token<'_>, &[u8]), Stop>
 fn named(text: &[u8]) -> Result<Head<'_>, Stop>
     ensures gives { Gives (λ h. (item_is h.item, words h.rest.now)) result
         (named (words text.now)) }
-    ensures no_file { is_no_file result ≡ false }
+    ensures no_file { NeverInFile result }
     ensures shorter { IfOk result (λ h. length h.rest.now < length text.now) }
 {
     let mut left = text;
@@ -117,7 +117,7 @@ fn named(text: &[u8]) -> Result<Head<'_>, Stop>
 pub(crate) fn read_item(text: &[u8]) -> Result<Head<'_>, Stop>
     ensures gives { Gives (λ h. (item_is h.item, words h.rest.now)) result
         (item (words text.now)) }
-    ensures no_file { is_no_file result ≡ false }
+    ensures no_file { NeverInFile result }
     ensures shorter { IfOk result (λ h. length h.rest.now < length text.now) }
 {
     let (last, rest) = need_word(text)?;

@@ -2,7 +2,7 @@ ghost use Rattle.std.specs.Prelude.{◌≡◌, ◌<◌, ◌≤◌, ◌++◌, IfO
 ghost use Rattle.std.specs.Option.{option_map};
 ghost use Rattle.uimg_its.specs.Words.{words};
 ghost use Rattle.uimg_its.specs.Cells.{element};
-ghost use Rattle.uimg_its.specs.Answers.{Gives, is_outside, tells_no_file, is_no_file};
+ghost use Rattle.uimg_its.specs.Answers.{Gives, is_outside, NotInFile, NeverInFile};
 ghost use Rattle.uimg_its.specs.Steps.{with_front, step_front, before};
 ghost use Rattle.uimg_its.specs.Reader.{element_word, element_step, listed};
 ghost use Rattle.uimg_its.specs.Seen.{word_of};
@@ -27,7 +27,7 @@ pub(crate) enum Listed {
 fn element_word(list: Listed, token: Token<'_>) -> Result<Option<&[u8]>, Stop>
     ensures gives { Gives (option_map (λ n. n.now)) result
         (element_word list (word_of token.entry.word)) }
-    ensures no_file { is_no_file result ≡ false }
+    ensures no_file { NeverInFile result }
 {
     match (list, token.word) {
         (Listed::Cells, Word::Mark(Mark::Greater)) => Ok(None),
@@ -41,7 +41,7 @@ fn element_word(list: Listed, token: Token<'_>) -> Result<Option<&[u8]>, Stop>
 // A word is no number, or no bytes.
 fn bad_number(left: usize) -> Stop
     ensures in_text { is_outside result.kind ≡ false }
-    ensures no_file { tells_no_file result.kind ≡ false }
+    ensures no_file { NotInFile result.kind }
 {
     Stop {
         kind: Kind::BadNumber,
@@ -53,7 +53,7 @@ fn bad_number(left: usize) -> Stop
 fn push_cell<A: Allocator>(out: &mut Vec<u8, A>, name: &[u8], left: usize) -> Result<(), Stop>
     ensures gives { Gives (λ _. out.new.items) result
         (before out.old.items (element Cells name.now)) }
-    ensures no_file { is_no_file result ≡ false }
+    ensures no_file { NeverInFile result }
 {
     match cell(name) {
         Some(n) => append(out, &n.to_be_bytes(), left),
@@ -65,7 +65,7 @@ fn push_cell<A: Allocator>(out: &mut Vec<u8, A>, name: &[u8], left: usize) -> Re
 fn push_bytes<A: Allocator>(out: &mut Vec<u8, A>, name: &[u8], left: usize) -> Result<(), Stop>
     ensures gives { Gives (λ _. out.new.items) result
         (before out.old.items (element Bytes name.now)) }
-    ensures no_file { is_no_file result ≡ false }
+    ensures no_file { NeverInFile result }
 {
     let mut i = 0;
     while i < name.len() {
@@ -90,7 +90,7 @@ fn push_element<A: Allocator>(
 ) -> Result<(), Stop>
     ensures gives { Gives (λ _. out.new.items) result
         (before out.old.items (element list name.now)) }
-    ensures no_file { is_no_file result ≡ false }
+    ensures no_file { NeverInFile result }
 {
     match list {
         Listed::Cells => push_cell(out, name, left),
@@ -107,7 +107,7 @@ fn element_step<'a, A: Allocator>(
 ) -> Result<(bool, &'a [u8]), Stop>
     ensures gives { Gives (λ x. (x.0, out.new.items, words x.1.now)) result
         (step_front out.old.items (element_step list (words text.now))) }
-    ensures no_file { is_no_file result ≡ false }
+    ensures no_file { NeverInFile result }
     ensures shorter { IfOk result (λ x. length x.1.now < length text.now) }
 {
     let (token, rest) = need_word(text)?;
@@ -128,7 +128,7 @@ pub(crate) fn read_list<'a, A: Allocator>(
 ) -> Result<&'a [u8], Stop>
     ensures gives { Gives (λ rest. (out.new.items, words rest.now)) result
         (with_front out.old.items (listed list (words text.now))) }
-    ensures no_file { is_no_file result ≡ false }
+    ensures no_file { NeverInFile result }
     ensures shorter { IfOk result (λ rest. length rest.now < length text.now) }
 {
     let mut rest = text;

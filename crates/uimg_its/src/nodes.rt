@@ -2,7 +2,7 @@ ghost use Rattle.std.specs.Prelude.{◌≡◌, ◌<◌, ◌≤◌, ◌++◌, ◌
 ghost use Rattle.uimg_base.specs.Named.{FileMap};
 ghost use Rattle.uimg_tree.specs.UsingFiles.{UsesFiles};
 ghost use Rattle.uimg_its.specs.Words.{words};
-ghost use Rattle.uimg_its.specs.Answers.{Gives, IsOutside, is_outside, tells_no_file, is_no_file};
+ghost use Rattle.uimg_its.specs.Answers.{Gives, IsOutside, is_outside, is_no_file, NotInFile, NeverInFile, is_unread};
 ghost use Rattle.uimg_its.specs.Parts.{FileBytes, props_in_full, parts_of, all_parts_of, chain, child_found};
 ghost use Rattle.uimg_its.specs.FileValues.{AreSound, IsSoundNode, AreSoundNodes};
 ghost use Rattle.uimg_its.specs.Reader.{inside, child_step, children, node_within};
@@ -47,7 +47,7 @@ fn push_node<A: Allocator>(
     ensures sound { OnOk result ((files : FileMap) → AreSoundNodes files nodes.old.items →
         IsSoundNode files node → AreSoundNodes files nodes.new.items) }
     ensures outside { IsOutside result }
-    ensures no_file { is_no_file result ≡ false }
+    ensures no_file { NeverInFile result }
 {
     let Ok(()) = nodes.push(node) else {
         return Err(out_of_memory(left));
@@ -58,7 +58,7 @@ fn push_node<A: Allocator>(
 // A node is more levels below the root than there may be.
 fn too_deep(left: usize) -> Stop
     ensures in_text { is_outside result.kind ≡ false }
-    ensures no_file { tells_no_file result.kind ≡ false }
+    ensures no_file { NotInFile result.kind }
 {
     Stop {
         kind: Kind::OutOfProfile(Construct::Depth),
@@ -78,6 +78,7 @@ fn inside<'a, F: Files, A: Allocator + Copy>(
     text: &'a [u8],
 ) -> Result<(Node<A>, &'a [u8]), Stop>
     ensures files { UsesFiles (is_no_file result) (F.map files.old) (F.map files.new) }
+    ensures steady { IsTrue F.Opened.steady → is_unread result ≡ false }
     ensures gives { IsTrue (F.map files.old).honest → Gives (λ x.
         (parts_of (F.map files.old).bytes x.0, words x.1.now)) result
         (inside (F.map files.old).bytes (children levels (F.map files.old).bytes) name
@@ -102,6 +103,7 @@ pub(crate) fn node<'a, F: Files, A: Allocator + Copy>(
     text: &'a [u8],
 ) -> Result<(Node<A>, &'a [u8]), Stop>
     ensures files { UsesFiles (is_no_file result) (F.map files.old) (F.map files.new) }
+    ensures steady { IsTrue F.Opened.steady → is_unread result ≡ false }
     ensures gives { IsTrue (F.map files.old).honest → Gives (λ x.
         (parts_of (F.map files.old).bytes x.0, words x.1.now)) result
         (node_within levels (F.map files.old).bytes name.now (words text.now)) }
@@ -125,6 +127,7 @@ fn child<'a, F: Files, A: Allocator + Copy>(
     text: &'a [u8],
 ) -> Result<(Option<Node<A>>, &'a [u8]), Stop>
     ensures files { UsesFiles (is_no_file result) (F.map files.old) (F.map files.new) }
+    ensures steady { IsTrue F.Opened.steady → is_unread result ≡ false }
     ensures gives { IsTrue (F.map files.old).honest → Gives (λ x.
         child_found (F.map files.old).bytes x.0 (words x.1.now)) result
         (child_step (node_within levels (F.map files.old).bytes) (words text.now)) }
@@ -152,6 +155,7 @@ fn children<'a, F: Files, A: Allocator + Copy>(
     text: &'a [u8],
 ) -> Result<(Vec<Node<A>, A>, &'a [u8]), Stop>
     ensures files { UsesFiles (is_no_file result) (F.map files.old) (F.map files.new) }
+    ensures steady { IsTrue F.Opened.steady → is_unread result ≡ false }
     ensures gives { IsTrue (F.map files.old).honest → Gives (λ x.
         (all_parts_of (F.map files.old).bytes x.0.items, words x.1.now)) result
         (children levels (F.map files.old).bytes (words text.now)) }

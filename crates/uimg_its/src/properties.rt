@@ -3,7 +3,7 @@ ghost use Rattle.uimg_base.specs.Named.{FileMap};
 ghost use Rattle.uimg_tree.specs.UsingFiles.{UsesFiles};
 ghost use Rattle.uimg_tree.specs.Properties.{property, content};
 ghost use Rattle.uimg_its.specs.Words.{words};
-ghost use Rattle.uimg_its.specs.Answers.{Gives, IsOutside, is_no_file};
+ghost use Rattle.uimg_its.specs.Answers.{Gives, IsOutside, is_no_file, NeverInFile, is_unread};
 ghost use Rattle.uimg_its.specs.Steps.{step_front};
 ghost use Rattle.uimg_its.specs.Parts.{props_in_full};
 ghost use Rattle.uimg_its.specs.FileValues.{IsSoundIn, AreSound};
@@ -30,7 +30,7 @@ fn push_property<A: Allocator>(
     ensures sound { OnOk result ((files : FileMap) → AreSound files (map property props.old.items) →
         IsSoundIn files name.now (content value) → AreSound files (map property props.new.items)) }
     ensures outside { IsOutside result }
-    ensures no_file { is_no_file result ≡ false }
+    ensures no_file { NeverInFile result }
 {
     let name = copied(alloc, name, left)?;
     let Ok(()) = props.push(Prop { name, value }) else {
@@ -48,6 +48,7 @@ fn property_step<'a, F: Files, A: Allocator + Copy>(
     text: &'a [u8],
 ) -> Result<(bool, &'a [u8]), Stop>
     ensures files { UsesFiles (is_no_file result) (F.map files.old) (F.map files.new) }
+    ensures steady { IsTrue F.Opened.steady → is_unread result ≡ false }
     ensures gives { IsTrue (F.map files.old).honest → Gives (λ x.
         (x.0, props_in_full (F.map files.old).bytes (map property props.new.items), words x.1.now))
         result (step_front (props_in_full (F.map files.old).bytes (map property props.old.items))
@@ -80,6 +81,7 @@ pub(crate) fn properties<'a, F: Files, A: Allocator + Copy>(
     text: &'a [u8],
 ) -> Result<(Props<A>, &'a [u8]), Stop>
     ensures files { UsesFiles (is_no_file result) (F.map files.old) (F.map files.new) }
+    ensures steady { IsTrue F.Opened.steady → is_unread result ≡ false }
     ensures gives { IsTrue (F.map files.old).honest → Gives (λ x.
         (props_in_full (F.map files.old).bytes x.0, words x.1.now)) result
         (properties (F.map files.old).bytes (words text.now)) }

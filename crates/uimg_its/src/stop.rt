@@ -1,5 +1,5 @@
 ghost use Rattle.std.specs.Prelude.{◌≡◌, false, true};
-ghost use Rattle.uimg_its.specs.Answers.{is_outside, tells_no_file};
+ghost use Rattle.uimg_its.specs.Answers.{is_outside, NotInFile};
 ghost use Rattle.uimg_its.specs.declared.fault.Kind.TheVariants as kinds;
 
 use crate::fault::{Construct, Kind};
@@ -26,7 +26,7 @@ pub(crate) enum Place {
 /// A text ends too early.
 pub(crate) fn ends_early() -> Stop
     ensures in_text { is_outside result.kind ≡ false }
-    ensures no_file { tells_no_file result.kind ≡ false }
+    ensures no_file { NotInFile result.kind }
 {
     Stop {
         kind: Kind::BadSyntax,
@@ -37,7 +37,7 @@ pub(crate) fn ends_early() -> Stop
 /// A text cannot go on with a word at this place.
 pub(crate) fn unexpected(token: Token<'_>, place: Place) -> Stop
     ensures in_text { is_outside result.kind ≡ false }
-    ensures no_file { tells_no_file result.kind ≡ false }
+    ensures no_file { NotInFile result.kind }
 {
     let kind = match token.word {
         Word::Directive(_) => Kind::OutOfProfile(Construct::Directive),

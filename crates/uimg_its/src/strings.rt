@@ -1,6 +1,6 @@
 ghost use Rattle.std.specs.Prelude.{◌≡◌, ◌≤◌, ◌+◌, ◌++◌, length, IfSome, OnOk, false};
 ghost use Rattle.uimg_its.specs.Strings.{unit, escape, zero_escape, hex_escape, string_end, string_bytes};
-ghost use Rattle.uimg_its.specs.Answers.{is_outside, tells_no_file};
+ghost use Rattle.uimg_its.specs.Answers.{is_outside, NotInFile};
 
 use crate::bytes::after;
 use crate::fault::{Construct, Kind};
@@ -77,7 +77,7 @@ pub(crate) fn string_length(text: &[u8]) -> Option<usize>
 /// Why no string begins behind a quote: it is not closed, or else an escape in it is bad.
 pub(crate) fn string_fault(text: &[u8]) -> Kind
     ensures in_text { is_outside result ≡ false }
-    ensures no_file { tells_no_file result ≡ false }
+    ensures no_file { NotInFile result }
 {
     let mut escaped = false;
     for b in text {

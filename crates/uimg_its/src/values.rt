@@ -3,7 +3,7 @@ ghost use Rattle.uimg_tree.specs.UsingFiles.{UsesFiles};
 ghost use Rattle.uimg_tree.specs.Content.{bytes_in};
 ghost use Rattle.uimg_tree.specs.Properties.{content};
 ghost use Rattle.uimg_its.specs.Words.{words};
-ghost use Rattle.uimg_its.specs.Answers.{Gives, IsOutside, is_no_file};
+ghost use Rattle.uimg_its.specs.Answers.{Gives, IsOutside, is_no_file, NeverInFile, is_unread};
 ghost use Rattle.uimg_its.specs.Steps.{with_front, step_front};
 ghost use Rattle.uimg_its.specs.Reader.{ends, value_of, value_step, values};
 ghost use Rattle.uimg_its.specs.FileValues.{IsSoundIn};
@@ -22,7 +22,7 @@ use uimg_tree::{ByteList, Value};
 // Whether a value is the last, by the word behind it.
 fn ends(token: Token<'_>) -> Result<bool, Stop>
     ensures gives { Gives (λ x. x) result (ends (word_of token.entry.word)) }
-    ensures no_file { is_no_file result ≡ false }
+    ensures no_file { NeverInFile result }
 {
     match token.word {
         Word::Mark(Mark::Comma) => Ok(false),
@@ -41,6 +41,7 @@ fn value_of<'a, F: Files, A: Allocator + Copy>(
     text: &'a [u8],
 ) -> Result<&'a [u8], Stop>
     ensures files { UsesFiles (is_no_file result) (F.map files.old) (F.map files.new) }
+    ensures steady { IsTrue F.Opened.steady → is_unread result ≡ false }
     ensures gives { IsTrue (F.map files.old).honest →
         Gives (λ rest. (out.new.items, words rest.now)) result (with_front out.old.items
         (value_of (F.map files.old).bytes (word_of token.entry.word) (words text.now))) }
@@ -70,6 +71,7 @@ fn value_step<'a, F: Files, A: Allocator + Copy>(
     text: &'a [u8],
 ) -> Result<(bool, &'a [u8]), Stop>
     ensures files { UsesFiles (is_no_file result) (F.map files.old) (F.map files.new) }
+    ensures steady { IsTrue F.Opened.steady → is_unread result ≡ false }
     ensures gives { IsTrue (F.map files.old).honest →
         Gives (λ x. (x.0, out.new.items, words x.1.now)) result
         (step_front out.old.items (value_step (F.map files.old).bytes (words text.now))) }
@@ -90,6 +92,7 @@ fn values<'a, F: Files, A: Allocator + Copy>(
     text: &'a [u8],
 ) -> Result<&'a [u8], Stop>
     ensures files { UsesFiles (is_no_file result) (F.map files.old) (F.map files.new) }
+    ensures steady { IsTrue F.Opened.steady → is_unread result ≡ false }
     ensures gives { IsTrue (F.map files.old).honest →
         Gives (λ rest. (out.new.items, words rest.now)) result
         (with_front out.old.items (values (F.map files.old).bytes (words text.now))) }
@@ -113,6 +116,7 @@ fn data_file<'a, F: Files, A: Allocator>(
     text: &'a [u8],
 ) -> Result<Option<(Value<A>, &'a [u8])>, Stop>
     ensures files { UsesFiles (is_no_file result) (F.map files.old) (F.map files.new) }
+    ensures steady { IsTrue F.Opened.steady → is_unread result ≡ false }
     ensures gives { IsTrue (F.map files.old).honest → IfOk result (λ found. IfSome found (λ x.
         values (F.map files.old).bytes (words text.now)
         ≡ Some (bytes_in (F.map files.old).bytes (content x.0), words x.1.now))) }
@@ -139,6 +143,7 @@ pub(crate) fn assigned<'a, F: Files, A: Allocator + Copy>(
     text: &'a [u8],
 ) -> Result<(Value<A>, &'a [u8]), Stop>
     ensures files { UsesFiles (is_no_file result) (F.map files.old) (F.map files.new) }
+    ensures steady { IsTrue F.Opened.steady → is_unread result ≡ false }
     ensures gives { IsTrue (F.map files.old).honest →
         Gives (λ x. (bytes_in (F.map files.old).bytes (content x.0), words x.1.now)) result
         (values (F.map files.old).bytes (words text.now)) }

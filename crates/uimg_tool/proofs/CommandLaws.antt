@@ -1,24 +1,26 @@
 -- What a making says, by its command.
-use Rattle.std.proofs.Common.{◌≡◌, ℕ, List, [], Option, Some, Result, Ok, Err, Bool, false, None, IsSome, IsTrue, IfErr, map, ap, sym, subst, refl}
+use Rattle.std.proofs.Common.{◌≡◌, ◌≤◌, max, ◌∙◌, ℕ, List, [], Option, Some, Result, Ok, Err, Bool, false, None, IsSome, IsTrue, IfErr, map, ap, sym, subst, refl}
 use Rattle.std.specs.Bool.{⊤}
 use Rattle.std.specs.Io.KnownBytes.{Appends}
 use Rattle.std.specs.Io.KnownBytes as Io
 use Rattle.uimg_base.specs.Device.{Device, SameDevice, RisesIf}
-use Rattle.uimg_base.specs.Held.{Held}
+use Rattle.uimg_base.specs.Held.{Held, held_bytes}
 use Rattle.uimg_base.specs.Named.{FileMap}
 use Rattle.uimg_base.specs.Sink.{Sink}
 use Rattle.uimg_base.specs.Outcome.{Tells}
 use Rattle.uimg_base.specs.declared.status.Status.{Status}
+use Rattle.uimg_blob.specs.Counts.{nodes_met}
+use Rattle.uimg_fit.specs.declared.fault.FitFault.{FitFault}
 use Rattle.uimg_tool.specs.declared.fault.Fault.{Fault}
 use Rattle.uimg_tool.specs.declared.fault.Fault.TheVariants.{Legacy, Blob, Fit, Its, Read, Put, NoFile, Keep, OutOfMemory}
 use Rattle.uimg_tool.specs.declared.make_command.MakeCommand.{MakeCommand}
 use Rattle.uimg_tool.specs.declared.make_command.MakeCommand.TheVariants.{Parts, Tree}
-use Rattle.uimg_tool.specs.Faults.{end_of, is_keep, is_of_making, is_no_memory, is_no_payload}
+use Rattle.uimg_tool.specs.Faults.{end_of, is_lost_payload, is_keep, is_of_making, is_no_memory, is_no_payload}
 use Rattle.uimg_tool.specs.Making.{timed, Keeps}
-use Rattle.uimg_tool.specs.MakingTrees.{KeepsTree}
-use Rattle.uimg_tool.specs.Commands.{LacksSource, LacksPayload, LacksFile, OpensToMake, BuildsCommand, MakesCommand, LeavesRoom, listing_of, TakesListing}
-use Rattle.uimg_tool.proofs.MakingLaws.{building_stops, keeping, listing_makes, listing_stops}
-use Rattle.uimg_tool.proofs.TreeListing.{building_stops_tree, keeping_tree, listing_makes_tree, listing_stops_tree, no_memory_built}
+use Rattle.uimg_tool.specs.MakingTrees.{KeepsTree, only_cleared, for_nodes}
+use Rattle.uimg_tool.specs.Commands.{LacksSource, LacksPayload, LacksFile, OpensToMake, BuildsCommand, MakesCommand, LeavesRoom, HoldsCommand, listing_of, TakesListing}
+use Rattle.uimg_tool.proofs.MakingLaws.{building_stops, keeping, listing_makes, listing_stops, none_lost}
+use Rattle.uimg_tool.proofs.TreeListing.{building_stops_tree, keeping_tree, listing_makes_tree, listing_stops_tree, none_lost_tree, no_memory_built}
 
 -- what is kept
 abbrev KeepsCommand : MakeCommand → ℕ → (List ℕ → Option (List ℕ)) → Device → Type 0
@@ -64,11 +66,46 @@ pub listing_stops_command : {K : Type 0} (device : K → Device) (command : Make
 listing_stops_command device (Parts options names) time files kept f s t old new keeps not takes told = listing_stops _ files _ kept f s t keeps not takes.1 told
 listing_stops_command device (Tree source placement) time files kept f s t old new keeps not takes told = listing_stops_tree files source.items time placement kept f s t keeps not told
 
+-- the listing of what is kept loses no payload
+no_fit_listed : (command : MakeCommand) (time : ℕ) (files : List ℕ → Option (List ℕ)) (kept : Device) (f : FitFault) (s t : Sink) → KeepsCommand command time files kept → Tells (end_of (Err (Fit f))) (listing_of command kept.bytes) s t → ⊥
+no_fit_listed (Parts options names) time files kept f s t keeps told = none_lost _ files _ kept f s t keeps told
+no_fit_listed (Tree source placement) time files kept f s t keeps told = none_lost_tree files source.items time placement kept f s t keeps told
+
+pub listing_loses_none : (X : Type 0) (command : MakeCommand) (time : ℕ) (files : List ℕ → Option (List ℕ)) (kept : Device) (f : Fault) (s t : Sink) → KeepsCommand command time files kept → Tells (end_of (Err f)) (listing_of command kept.bytes) s t → is_lost_payload {X = X} (Err f) ≡ false
+listing_loses_none X command time files kept (Legacy f) s t keeps told = refl
+listing_loses_none X command time files kept (Blob f at) s t keeps told = refl
+listing_loses_none X command time files kept (Fit f) s t keeps told = absurd (no_fit_listed command time files kept f s t keeps told)
+listing_loses_none X command time files kept (Its f) s t keeps told = refl
+listing_loses_none X command time files kept Read s t keeps told = refl
+listing_loses_none X command time files kept Put s t keeps told = refl
+listing_loses_none X command time files kept (NoFile i) s t keeps told = refl
+listing_loses_none X command time files kept Keep s t keeps told = refl
+listing_loses_none X command time files kept OutOfMemory s t keeps told = refl
+
 -- the room, where no image is built
 pub room_stays : (X : Type 0) {K : Type 0} (device : K → Device) (honest : Bool) (command : MakeCommand) (time : ℕ) (files : List ℕ → Option (List ℕ)) (f : Fault) (image now : Sink) (old new : Held) → new ≡ record old { entries = [] } → (IsTrue honest → BuildsCommand {X = X} command time files (Err f) image now) → LeavesRoom device honest command (Err f) old new
 room_stays X device honest (Parts options names) time files f image now old new cleared built = cleared
-room_stays X device honest (Tree source placement) time files f image now old new cleared built = λ is.
-    subst (λ (b : Bool). RisesIf b old.refused new.refused) (sym (no_memory_built X ⊤ files source.items time placement f image now (built is))) (ap (λ (h : Held). h.refused) cleared)
+room_stays X device honest (Tree source placement) time files f image now old new cleared built =
+    record {
+      cleared = λ is. cleared;
+      refused = λ is. subst (λ (b : Bool). RisesIf b old.refused new.refused) (sym (no_memory_built X ⊤ files source.items time placement f image now (built is))) (ap (λ (h : Held). h.refused) cleared);
+    }
+
+-- the room, where nothing is listed, and where what is kept is
+pub holds_nothing : (command : MakeCommand) (time : ℕ) (files : List ℕ → Option (List ℕ)) (old new : Held) → new ≡ record old { entries = [] } → HoldsCommand command time files old new
+holds_nothing (Parts options names) time files old new cleared = cleared
+holds_nothing (Tree source placement) time files old new cleared = only_cleared cleared
+
+pub holds_listed : (command : MakeCommand) (time : ℕ) (files : List ℕ → Option (List ℕ)) (kept : Device) (no_memory : Bool) (old now new : Held) → now ≡ record old { entries = [] } → KeepsCommand command time files kept → TakesListing command kept no_memory now new → HoldsCommand command time files old new
+holds_listed (Parts options names) time files kept no_memory old now new cleared keeps takes = takes.0 ∙ ap (λ (h : Held). record h { entries = [] }) cleared
+holds_listed (Tree source placement) time files kept no_memory old now new cleared keeps takes =
+    for_nodes (record {
+      tree = keeps.tree;
+      accepts = keeps.accepts;
+      peak =
+          subst (λ (bytes : List ℕ). new.peak ≤ max old.peak (held_bytes (nodes_met bytes))) keeps.bytes
+          (subst (λ (h : Held). new.peak ≤ max h.peak (held_bytes (nodes_met kept.bytes))) cleared (takes.peak keeps.honest));
+    })
 
 -- an answer over files is one over the same files
 pub made_of_same : {K : Type 0} (device : K → Device) (command : MakeCommand) (time : ℕ) (a b : List ℕ → Option (List ℕ)) (result : Result K Fault) (s t : Sink) → a ≡ b → MakesCommand device command time a result s t → MakesCommand device command time b result s t

@@ -10,6 +10,7 @@ use Rattle.uimg_base.specs.declared.status.Status.TheVariants.{Done, NotRight}
 use Rattle.uimg_base.proofs.SinkLaws.{prefix_none, appended_to_nothing}
 use Rattle.uimg_base.proofs.DeviceLaws.{never_rises}
 use Rattle.uimg_blob.specs.Faults.{refuses_memory}
+use Rattle.uimg_fit.specs.declared.fault.FitFault.{FitFault}
 use Rattle.uimg_legacy.specs.declared.fault.LegacyFault.{LegacyFault}
 use Rattle.uimg_legacy.specs.declared.options.Options.{Options}
 use Rattle.uimg_legacy.specs.Building.{legacy_built}
@@ -20,7 +21,7 @@ use Rattle.uimg_tool.specs.declared.fault.Fault.TheVariants.{Legacy, Blob, Fit, 
 use Rattle.uimg_legacy.specs.declared.fault.Fault.TheVariants as legacy
 use Rattle.uimg_legacy.specs.declared.fault.Fault.{Fault as LegacyEngineFault}
 use Rattle.uimg_legacy.specs.Faults.{is_read as legacy_is_read}
-use Rattle.uimg_tool.specs.Faults.{end_of, unless_memory, is_read, is_keep, is_no_memory, is_of_making, of_legacy}
+use Rattle.uimg_tool.specs.Faults.{end_of, unless_memory, is_unread, is_keep, is_no_memory, is_of_making, of_legacy}
 use Rattle.uimg_tool.specs.Headline.{end_as, outcome_as}
 use Rattle.uimg_tool.specs.Making.{HaveParts, Keeps, Makes, Breaks, BuildsNames, StopsMaking}
 
@@ -111,6 +112,11 @@ pub listing_stops : (options : Options) (files : List ℕ → Option (List ℕ))
 listing_stops options files names kept f s t keeps not no_memory told =
     listing_stops_by options files names kept f s t keeps not no_memory (subst (λ (image : List ℕ). Tells (end_of (Err f)) (outcome_as Legacy (list_of image)) s t) keeps.image.bytes told)
 
+-- the listing of what was kept loses no payload
+pub none_lost : (options : Options) (files : List ℕ → Option (List ℕ)) (names : List (List ℕ)) (kept : Device) (f : FitFault) (s t : Sink) → Keeps options files names kept → Tells (end_of (Err (Fit f))) (outcome_as Legacy (list_of kept.bytes)) s t → ⊥
+none_lost options files names kept f s t keeps told =
+    not_done _ (Fit f) s t keeps.image.reads_back.listing (subst (λ (image : List ℕ). Tells (end_of (Err (Fit f))) (outcome_as Legacy (list_of image)) s t) keeps.image.bytes told)
+
 -- devices that never fail have no failure at any number
 pub no_failures : {S : Type 0} (device : S → Device) → ((s : S) → (device s).failures ≡ 0) → (sources : List S) (i : ℕ) → failures_of (map device sources) i ≡ 0
 no_failures device never [] i = refl
@@ -124,7 +130,7 @@ none_fails device never true old new rises =
     never_rises true _ _ rises.rose (no_failures device never old rises.number) (no_failures device never new rises.number)
 
 -- the fault of a building that is no failed read
-pub no_read_kept : (X Y : Type 0) (fault : LegacyEngineFault) → legacy_is_read {X = X} (Err fault) ≡ false → is_read {X = Y} (Err (of_legacy fault)) ≡ false
+pub no_read_kept : (X Y : Type 0) (fault : LegacyEngineFault) → legacy_is_read {X = X} (Err fault) ≡ false → is_unread {X = Y} (Err (of_legacy fault)) ≡ false
 no_read_kept X Y (legacy.Legacy f) e = refl
 no_read_kept X Y legacy.Read e = e
 no_read_kept X Y legacy.Put e = refl

@@ -1,11 +1,12 @@
 -- The tree of a source, and what its reading and its building say.
-use Rattle.std.proofs.Common.{◌≡◌, ℕ, List, Option, Some, Err, Bool, true, false, IsTrue, ◌∙◌, sym, subst, refl}
+use Rattle.std.proofs.Common.{◌≡◌, ℕ, length, nat_lt, List, Option, None, Some, IfSome, Err, Bool, true, false, IsTrue, if◌then◌else◌, ◌∙◌, sym, subst, refl}
 use Rattle.std.specs.Bool.{OnFalse, ⊤}
 use Rattle.uimg_base.specs.Device.{Rose, RisesIf}
 use Rattle.uimg_base.specs.Named.{FileMap, SameFiles}
 use Rattle.uimg_base.specs.Sink.{Sink, AppendsAll}
 use Rattle.uimg_blob.specs.Plain.{Nodes}
 use Rattle.uimg_tree.specs.Content.{Unread, AreKept, in_full}
+use Rattle.uimg_tree.specs.Encoding.{encode}
 use Rattle.uimg_tree.specs.UsingFiles.{UsesFiles}
 use Rattle.uimg_its.specs.Answers.{is_outside}
 use Rattle.uimg_its.specs.Grammar.{Spells}
@@ -17,13 +18,14 @@ use Rattle.uimg_fit.specs.declared.fault.FitFault.{FitFault}
 use Rattle.uimg_fit.specs.declared.fault.FitFault.TheVariants as fit_fault
 use Rattle.uimg_fit.specs.declared.placement.Placement.{Placement}
 use Rattle.uimg_fit.specs.BuildAnswers.{is_no_file as fit_is_no_file, CanBuild, BuildsAnswer}
-use Rattle.uimg_fit.specs.Building.{built}
+use Rattle.uimg_fit.specs.Building.{moved, built}
 use Rattle.uimg_fit.specs.Faults.{is_read as fit_is_read}
-use Rattle.uimg_fit.specs.FillAnswers.{opens_no_file, Fills, FillsAnswer}
+use Rattle.uimg_fit.specs.FillAnswers.{opens_no_file, fails_to_read, Fills, FillsAnswer}
 use Rattle.uimg_fit.specs.Filling.{IsFilled}
 use Rattle.uimg_fit.specs.ReadsBack.{ReadsBack}
+use Rattle.uimg_fit.specs.Refusing.{is_low, build_fault}
 use Rattle.uimg_tool.specs.declared.fault.Fault.{Fault}
-use Rattle.uimg_tool.specs.Faults.{of_fit, is_read, is_no_text, is_no_payload, refuses_payload}
+use Rattle.uimg_tool.specs.Faults.{of_fit, is_unread, is_no_text, is_no_payload, refuses_payload, is_lost_payload, loses_payload}
 use Rattle.uimg_tool.specs.Commands.{LacksSource, OpensSource}
 use Rattle.uimg_tool.specs.MakingTrees.{SpellsTree, RefusesText, FillsTree, Unfilled, FillsSource, BuildsTree, BuildsSource, unbuilt, unwritten}
 
@@ -134,11 +136,57 @@ lacks_of_building files source (fit.Fit f) = tt
 lacks_of_building files source fit.Read = tt
 lacks_of_building files source fit.Put = tt
 
-pub read_of_building : (X Y : Type 0) (fault : FitEngineFault) → fit_is_read {X = Y} (Err fault) ≡ false → is_read {X = X} (Err (of_fit fault)) ≡ false
+pub read_of_building : (X Y : Type 0) (fault : FitEngineFault) → fit_is_read {X = Y} (Err fault) ≡ false → is_unread {X = X} (Err (of_fit fault)) ≡ false
 read_of_building X Y (fit.Blob f at) h = refl
 read_of_building X Y (fit.Fit f) h = refl
 read_of_building X Y fit.Read h = h
 read_of_building X Y fit.Put h = refl
+
+-- what loses a payload's file
+pub lost_of_filling : (X : Type 0) (f : FitFault) → loses_payload f ≡ fails_to_read {X = X} (Err f)
+lost_of_filling X fit_fault.NoImages = refl
+lost_of_filling X fit_fault.NoData = refl
+lost_of_filling X fit_fault.DataOutside = refl
+lost_of_filling X fit_fault.NoSuchImage = refl
+lost_of_filling X fit_fault.UnknownAlgo = refl
+lost_of_filling X fit_fault.PositionTooLow = refl
+lost_of_filling X fit_fault.TooLarge = refl
+lost_of_filling X fit_fault.OutOfMemory = refl
+lost_of_filling X fit_fault.NoFile = refl
+lost_of_filling X fit_fault.ReadFailed = refl
+
+-- no building does
+abbrev KeepsPayload : Option FitFault → Type 0
+KeepsPayload fault = IfSome fault (λ f. loses_payload f ≡ false)
+
+kept_payload : (a b c : Bool) → KeepsPayload (if a then Some fit_fault.TooLarge else if b then Some fit_fault.PositionTooLow else if c then Some fit_fault.TooLarge else None)
+kept_payload true b c = refl
+kept_payload false true c = refl
+kept_payload false false true = refl
+kept_payload false false false = tt
+
+keeps_payload : (t : Nodes) (placement : Placement) → KeepsPayload (build_fault t placement)
+unfolding build_fault
+keeps_payload t placement =
+    kept_payload (nat_lt 4294967295 (length (encode (moved t placement)))) (is_low (length (encode (moved t placement))) placement) (nat_lt 4294967295 (length (built t placement)))
+
+lost_by : (t : Nodes) (placement : Placement) (f : FitFault) (s u : Sink) → BuildsAnswer {X = ⊤} t placement (Err (fit.Fit f)) s u → loses_payload f ≡ false
+lost_by t placement fit_fault.NoImages s u builds = refl
+lost_by t placement fit_fault.NoData s u builds = refl
+lost_by t placement fit_fault.DataOutside s u builds = refl
+lost_by t placement fit_fault.NoSuchImage s u builds = refl
+lost_by t placement fit_fault.UnknownAlgo s u builds = refl
+lost_by t placement fit_fault.PositionTooLow s u builds = refl
+lost_by t placement fit_fault.TooLarge s u builds = refl
+lost_by t placement fit_fault.OutOfMemory s u builds = refl
+lost_by t placement fit_fault.NoFile s u builds = refl
+lost_by t placement fit_fault.ReadFailed s u builds = subst KeepsPayload builds.1 (keeps_payload t placement)
+
+pub lost_of_building : (X : Type 0) (t : Nodes) (placement : Placement) (fault : FitEngineFault) (s u : Sink) → BuildsAnswer {X = ⊤} t placement (Err fault) s u → is_lost_payload {X = X} (Err (of_fit fault)) ≡ false
+lost_of_building X t placement (fit.Blob f at) s u builds = refl
+lost_of_building X t placement (fit.Fit f) s u builds = lost_by t placement f s u builds
+lost_of_building X t placement fit.Read s u builds = refl
+lost_of_building X t placement fit.Put s u builds = refl
 
 stays_by : (b : Bool) (old new : ℕ) → RisesIf b old new → OnFalse b (new ≡ old)
 stays_by true old new h = tt

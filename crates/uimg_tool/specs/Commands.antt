@@ -14,19 +14,19 @@ use Rattle.uimg_tool.specs.declared.command.Action.TheVariants as Action
 use Rattle.uimg_tool.specs.declared.command.Form.TheVariants as Form
 use Rattle.uimg_tool.specs.declared.make_command.MakeCommand.{MakeCommand}
 use Rattle.uimg_tool.specs.declared.make_command.MakeCommand.TheVariants.{Parts, Tree}
-use Rattle.uimg_tool.specs.Faults.{is_no_memory, is_no_text, is_no_payload, refuses_payload}
+use Rattle.uimg_tool.specs.Faults.{is_no_memory, is_of_making, is_no_text, is_no_payload, refuses_payload}
 use Rattle.uimg_tool.specs.Headline.{outcome_in, outcome_of, Takes}
 use Rattle.uimg_tool.specs.Making.{FitNames, timed, OpensNames, Lacks, BuildsNames, MakesAnswer}
-use Rattle.uimg_tool.specs.MakingTrees.{BuildsSource, MakesSource}
+use Rattle.uimg_tool.specs.MakingTrees.{BuildsSource, MakesSource, HoldsSource}
 
 -- The names of a command's files are such as its options want.
-abbrev pub IsFit : MakeCommand → Type 0
-IsFit (Parts options files) = FitNames options (map (λ name. name.items) files.items)
-IsFit (Tree source placement) = ⊤
+abbrev pub HasFitNames : MakeCommand → Type 0
+HasFitNames (Parts options files) = FitNames options (map (λ name. name.items) files.items)
+HasFitNames (Tree source placement) = ⊤
 
-pub is_fit_prop : (command : MakeCommand) → IsProp (IsFit command)
-is_fit_prop (Parts options files) = Prim.hlevel props
-is_fit_prop (Tree source placement) = Prim.hlevel props
+pub has_fit_names_prop : (command : MakeCommand) → IsProp (HasFitNames command)
+has_fit_names_prop (Parts options files) = Prim.hlevel props
+has_fit_names_prop (Tree source placement) = Prim.hlevel props
 
 -- Files have the sizes that a command keeps of them: those of a tree do where the files are honest, and parts keep none.
 abbrev pub KeepsSizes : MakeCommand → FileMap → Type 0
@@ -84,15 +84,25 @@ abbrev pub LacksFile : MakeCommand → (List ℕ → Option (List ℕ)) → Faul
 LacksFile (Parts options names) files fault = Lacks files (map (λ name. name.items) names.items) fault
 LacksFile (Tree source placement) files fault = LacksPayload files source.items fault
 
--- What a making that lists a FIT image did to a room: it took memory for the nodes of what is kept, and where it is refused, a
--- refusal was counted exactly where the memory for them was, if the files are honest.
+-- What a making from a source that is refused did to a room: where a fault comes that no listing gives, it cleared the room
+-- and did nothing else. A refusal was counted exactly where the memory for the nodes was refused, if the files are honest.
+pub record LeavesRefused (honest of_making no_memory : Bool) (old new : Held) : Type 0 where
+  pub cleared : IsTrue of_making → new ≡ record old { entries = [] }
+  pub refused : IsTrue honest → RisesIf no_memory old.refused new.refused
+
+-- What a making that lists a FIT image did to a room: it took memory for the nodes of what is kept, or it is refused.
 abbrev pub TakesKept : {K : Type 0} → (K → Device) → Bool → Result K Fault → (old new : Held) → Type 0
 TakesKept device honest (Ok kept) old new = TakesNodes (device kept) false old new
-TakesKept device honest (Err fault) old new = IsTrue honest → RisesIf (is_no_memory {X = ⊤} (Err fault)) old.refused new.refused
+TakesKept device honest (Err fault) old new = LeavesRefused honest (is_of_making {X = ⊤} (Err fault)) (is_no_memory {X = ⊤} (Err fault)) old new
 
 abbrev pub LeavesRoom : {K : Type 0} → (K → Device) → Bool → MakeCommand → Result K Fault → (old new : Held) → Type 0
 LeavesRoom device honest (Parts options files) result old new = new ≡ record old { entries = [] }
 LeavesRoom device honest (Tree source placement) result old new = TakesKept device honest result old new
+
+-- What a making did to a room, whatever its answer: to list parts takes no memory, and to list a FIT image that for its nodes.
+abbrev pub HoldsCommand : MakeCommand → ℕ → (List ℕ → Option (List ℕ)) → (old new : Held) → Type 0
+HoldsCommand (Parts options names) time files old new = new ≡ record old { entries = [] }
+HoldsCommand (Tree source placement) time files old new = HoldsSource files source.items time placement old new
 
 -- the listing of an image that was made
 abbrev pub listing_of : MakeCommand → List ℕ → Outcome Fault

@@ -8,7 +8,7 @@ use Rattle.uimg_fit.specs.declared.fault.Fault.TheVariants as fit
 use Rattle.uimg_fit.specs.declared.fault.Fault.{Fault as FitEngineFault}
 use Rattle.uimg_fit.specs.declared.fault.FitFault.{FitFault}
 use Rattle.uimg_fit.specs.declared.fault.FitFault.TheVariants as fit_fault
-use Rattle.uimg_its.specs.Answers.{tells_no_file}
+use Rattle.uimg_its.specs.Answers.{tells_no_file, tells_unread}
 use Rattle.uimg_legacy.specs.declared.fault.Fault.TheVariants as legacy
 use Rattle.uimg_legacy.specs.declared.fault.Fault.{Fault as LegacyEngineFault}
 use Rattle.uimg_tool.specs.declared.fault.Fault.{Fault}
@@ -31,6 +31,12 @@ of_fit fit.Put = Put
 abbrev pub is_read : {X : Type 0} → Result X Fault → Bool
 is_read (Err Read) = true
 is_read _ = false
+
+-- the answer is that a read failed, of a file that is read into a tree too
+abbrev pub is_unread : {X : Type 0} → Result X Fault → Bool
+is_unread (Err Read) = true
+is_unread (Err (Its fault)) = tells_unread fault.kind
+is_unread _ = false
 
 -- the answer is that a write failed
 abbrev pub is_put : {X : Type 0} → Result X Fault → Bool
@@ -85,6 +91,16 @@ is_no_text _ = false
 abbrev pub is_no_payload : {X : Type 0} → Result X Fault → Bool
 is_no_payload (Err (Fit fault)) = refuses_payload fault
 is_no_payload _ = false
+
+-- the fault of images is that a read of a payload's file failed, or that it has another size
+abbrev pub loses_payload : FitFault → Bool
+loses_payload fit_fault.ReadFailed = true
+loses_payload _ = false
+
+-- the answer is that a read of a payload's file failed while its hashes were filled in, or that it has another size
+abbrev pub is_lost_payload : {X : Type 0} → Result X Fault → Bool
+is_lost_payload (Err (Fit fault)) = loses_payload fault
+is_lost_payload _ = false
 
 -- the answer is one that only a making gives: nothing is listed then
 abbrev pub is_of_making : {X : Type 0} → Result X Fault → Bool

@@ -1,9 +1,11 @@
 -- What the making of a FIT image from its source gives.
-use Rattle.std.specs.Prelude.{◌≡◌, ℕ, List, Option, Some, IsSome, Result, Ok, Err, IsTrue, true, ⊤}
+use Rattle.std.specs.Prelude.{◌≡◌, ◌≤◌, ℕ, max, List, [], Option, Some, IsSome, Result, Ok, Err, IsTrue, true, ⊤}
 use Rattle.std.specs.Bool.{OnFalse}
 use Rattle.uimg_base.specs.Device.{Device}
+use Rattle.uimg_base.specs.Held.{Held, held_bytes}
 use Rattle.uimg_base.specs.Sink.{Sink, AppendsAll, AppendsPrefix}
 use Rattle.uimg_base.specs.Outcome.{done}
+use Rattle.uimg_blob.specs.Counts.{nodes_met}
 use Rattle.uimg_blob.specs.Faults.{refuses_memory}
 use Rattle.uimg_blob.specs.Plain.{Nodes}
 use Rattle.uimg_blob.specs.declared.fault.BlobFault.{BlobFault}
@@ -166,3 +168,15 @@ StopsSource files source time placement OutOfMemory s t = t ≡ s
 abbrev pub MakesSource : {K : Type 0} → (K → Device) → (List ℕ → Option (List ℕ)) → List ℕ → ℕ → Placement → Result K Fault → Sink → Sink → Type 0
 MakesSource device files source time placement (Ok kept) s t = MakesTree files source time placement (device kept) s t
 MakesSource device files source time placement (Err fault) s t = StopsSource files source time placement fault s t
+
+-- A room took no more memory than for the nodes of the image of the filled tree.
+pub record HoldsNodes (files : List ℕ → Option (List ℕ)) (source : List ℕ) (time : ℕ) (placement : Placement) (old new : Held) : Type 0 where
+  pub tree : Nodes
+  pub accepts : AcceptsTree files source time placement tree
+  pub peak : new.peak ≤ max old.peak (held_bytes (nodes_met (built tree placement)))
+
+-- What the making of an image did to a room, whatever its answer: it cleared it and did nothing else, or it took memory for the
+-- nodes of an image that can be built.
+pub data HoldsSource (files : List ℕ → Option (List ℕ)) (source : List ℕ) (time : ℕ) (placement : Placement) (old new : Held) : Type 0 where
+  only_cleared : new ≡ record old { entries = [] } → HoldsSource files source time placement old new
+  for_nodes : HoldsNodes files source time placement old new → HoldsSource files source time placement old new

@@ -1,6 +1,9 @@
-ghost use Rattle.std.specs.Prelude.{None, false, IfOk};
+ghost use Rattle.std.specs.Prelude.{◌≡◌, None, false, IfOk};
+ghost use Rattle.std.specs.Path.{path_buf_bytes, path_join};
 ghost use Rattle.uimg_base.specs.Device.{IsFresh};
 
+use std::alloc::Allocator;
+use std::path::{Path, PathBuf};
 use std::rt;
 use uimg_base::{FileSource, Files, Source, SourceFault};
 
@@ -18,7 +21,9 @@ pub struct DiskFiles<'a, R: rt::Files + AllocGlobal> {
 impl<'a, R: rt::Files + AllocGlobal> DiskFiles<'a, R> {
     /// The files of a folder, of which no open was refused yet. An empty text is the current
     /// folder.
-    pub fn new(rt: &'a R, folder: &'a str) -> DiskFiles<'a, R> {
+    pub fn new(rt: &'a R, folder: &'a str) -> DiskFiles<'a, R>
+        ensures { (⟦<DiskFiles<'a, R> as Files>⟧.map result).refusals ≡ 0 }
+    {
         DiskFiles {
             rt,
             folder,
@@ -58,15 +63,19 @@ fn open_in<R: rt::Files + AllocGlobal>(
 ) -> Result<FileSource<R::File>, SourceFault>
     ensures { IfOk result (λ source. IsFresh (⟦<FileSource<R::File> as Source>⟧.device source)) }
 {
+    let path = path_in(rt.alloc(), folder, name)?;
+    FileSource::open(rt, path.as_str())
+}
+
+// The path of a name in a folder: the name itself where it begins with `/`.
+fn path_in<A: Allocator>(alloc: A, folder: &str, name: &[u8]) -> Result<PathBuf<A>, SourceFault>
+    ensures { IfOk result (λ path. path_buf_bytes path ≡ path_join folder.now name.now) }
+{
     let Ok(name) = str::from_utf8(name) else {
         return Err(SourceFault);
     };
-    if folder.is_empty() || name.starts_with('/') {
-        return FileSource::open(rt, name);
-    }
-    let separator = if folder.ends_with('/') { "" } else { "/" };
-    match format!(in rt.alloc(); "{folder}{separator}{name}") {
-        Ok(path) => FileSource::open(rt, path.as_str()),
+    match Path::new(folder).join(alloc, name) {
+        Ok(path) => Ok(path),
         Err(_) => Err(SourceFault),
     }
 }

@@ -1,9 +1,9 @@
 //! `run` and `make` over memory alone, where nothing but memory can fail.
 ghost use Rattle.std.specs.Prelude.{◌≡◌, false, Some, IfErr};
 ghost use Rattle.uimg_base.specs.Named.{bytes_named};
-ghost use Rattle.uimg_tool.specs.Faults.{is_read, is_put, is_no_memory, is_keep, end_of};
+ghost use Rattle.uimg_tool.specs.Faults.{is_read, is_unread, is_lost_payload, is_put, is_no_memory, is_keep, end_of};
 ghost use Rattle.uimg_tool.specs.Headline.{outcome_of, is_fit};
-ghost use Rattle.uimg_tool.specs.Commands.{IsFit, LacksFile, MakesCommand};
+ghost use Rattle.uimg_tool.specs.Commands.{HasFitNames, LacksFile, MakesCommand};
 
 use crate::command::Command;
 use crate::engine::run_by_form;
@@ -42,11 +42,12 @@ pub fn run_in_memory<A: Allocator, B: Allocator>(
 /// bytes, and gives it as a source: what `make` does over these.
 ///
 /// It is the image of the files' bytes, which reads back, and exactly its listing was written.
-/// `Fault::NoFile` comes only for a name that no file has, and neither `Fault::Read`, `Fault::Keep` nor
-/// `NoFile` of a FIT image ever comes. `Fault::OutOfMemory` comes where the memory for the opened files
-/// or for the text was refused, `OutOfMemory` of `Its`, `Fit` and `Blob` where that for the tree, or for
-/// the table of the image's nodes, was, and `Fault::Put` where a write of the listing failed, or the
-/// memory for the image was refused.
+/// `Fault::NoFile` comes only for a name that no file has. Neither `Fault::Read` nor `Fault::Keep`
+/// ever comes, and neither `ReadFailed` of `Its` nor `ReadFailed` or `NoFile` of `Fit`.
+/// `Fault::OutOfMemory` comes where the memory for the opened files or for the text was refused,
+/// `OutOfMemory` of `Its`, `Fit` and `Blob` where that for the tree, or for the table of the
+/// image's nodes, was, and `Fault::Put` where a write of the listing failed, or the memory for the
+/// image was refused.
 pub fn make_in_memory<W: Write, A: Allocator + Copy, B: Allocator, H: Allocator>(
     alloc: A,
     command: &MakeCommand,
@@ -56,11 +57,12 @@ pub fn make_in_memory<W: Write, A: Allocator + Copy, B: Allocator, H: Allocator>
     room: &mut Room<B>,
     out: &mut Out<W>,
 ) -> Result<MemKept<H>, Fault>
-    requires fit { IsFit command.now }
+    requires fit { HasFitNames command.now }
     ensures made { MakesCommand (⟦<MemKept<H> as Source>⟧.device) command.now time
         (λ name. bytes_named name files.now) result out.old out.new }
     ensures missing { IfErr result (LacksFile command.now (λ name. bytes_named name files.now)) }
-    ensures read { is_read result ≡ false }
+    ensures read { is_unread result ≡ false }
+    ensures payloads { is_lost_payload result ≡ false }
     ensures keep { is_keep result ≡ false }
 {
     make(

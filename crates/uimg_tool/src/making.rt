@@ -1,8 +1,8 @@
 ghost use Rattle.std.specs.Prelude.{◌≡◌, ◌<◌, ◌^◌, ◌-◌, false, Some, [], IsTrue, IsOk, IfOk, IfErr};
 ghost use Rattle.std.specs.Io.KnownBytes.{Keeps};
-ghost use Rattle.uimg_base.specs.Device.{RisesIf};
-ghost use Rattle.uimg_tool.specs.Faults.{is_read, is_put, is_keep, is_before_building, is_of_making};
-ghost use Rattle.uimg_tool.specs.Commands.{IsFit, KeepsSizes, OpensToBuild, OpensToMake, BuildsCommand, MakesCommand, LeavesRoom};
+ghost use Rattle.uimg_base.specs.Device.{RisesIf, IsFresh};
+ghost use Rattle.uimg_tool.specs.Faults.{is_unread, is_lost_payload, is_put, is_keep, is_before_building, is_of_making};
+ghost use Rattle.uimg_tool.specs.Commands.{HasFitNames, KeepsSizes, OpensToBuild, OpensToMake, BuildsCommand, MakesCommand, LeavesRoom, HoldsCommand};
 
 use crate::fault::Fault;
 use crate::make_command::MakeCommand;
@@ -28,7 +28,9 @@ use uimg_legacy::Options;
 /// `Fault::Blob`, the source or its tree are, as `uimg_its::compile`, `uimg_fit::fill` and
 /// `uimg_fit::build` say. All these come before the first byte, but for a payload's file that cannot be
 /// opened. Then, and at `Fault::Read` and `Fault::Put`, which come where a read or a write failed, a
-/// prefix of the image was appended over honest files.
+/// prefix of the image was appended over honest files. Where what the files open is steady, no read
+/// fails: `Fault::Read` and `ReadFailed` of `Its` never come, of a source over honest files, and
+/// `ReadFailed` of `Fit` never comes over honest ones.
 pub fn build_image<F: Files, W: Write, A: Allocator + Copy>(
     alloc: A,
     command: &MakeCommand,
@@ -36,13 +38,15 @@ pub fn build_image<F: Files, W: Write, A: Allocator + Copy>(
     files: &mut F,
     image: &mut Out<W>,
 ) -> Result<(), Fault>
-    requires fit { IsFit command.now }
+    requires fit { HasFitNames command.now }
     ensures built { IsTrue (F.map files.old).honest →
         BuildsCommand command.now time (F.map files.old).bytes result image.old image.new }
     ensures files { OpensToBuild command.now result (F.map files.old) (F.map files.new) }
     ensures untouched { IsTrue (is_before_building result) → image.new ≡ image.old }
     ensures reads { IsTrue F.Opened.steady → KeepsSizes command.now (F.map files.old) →
-        is_read result ≡ false }
+        is_unread result ≡ false }
+    ensures payloads { IsTrue F.Opened.steady → IsTrue (F.map files.old).honest →
+        is_lost_payload result ≡ false }
     ensures faults { RisesIf (is_put result) image.old.faults image.new.faults }
     ensures never_keep { is_keep result ≡ false }
 {
@@ -78,6 +82,7 @@ fn keep<H: Shelf>(shelf: H) -> Result<H::Kept, Fault>
         (H.contents shelf ≡ Some (H.Kept.device kept).bytes) × IsTrue (H.Kept.device kept).honest) }
     ensures fault { IfErr result (λ fault. fault ≡ Fault.Keep) }
     ensures steady { IsTrue H.steady → IsOk result }
+    ensures fresh { IfOk result (λ kept. IsFresh (H.Kept.device kept)) }
 {
     match shelf.keep() {
         Ok(kept) => Ok(kept),
@@ -96,6 +101,15 @@ fn keep<H: Shelf>(shelf: H) -> Result<H::Kept, Fault>
 /// was refused; over honest ones a prefix of the listing was written then. Where a shelf keeps other
 /// bytes than were written, `Fault::Legacy`, `Fault::Blob` and `Fault::Fit` may also be what the listing
 /// says of them, after some of its lines.
+///
+/// Where what the files open and what the shelf keeps are steady, `Fault::Read` and `ReadFailed` of
+/// `Its` never come, of a source over honest files, and `ReadFailed` of `Fit` never comes over honest
+/// files and an honest, empty shelf. Over a steady shelf `Fault::Keep` never comes. At `Ok` no read of
+/// what was kept has failed.
+///
+/// The room takes memory for the listing alone: none for a legacy image, and over honest files and an
+/// honest, empty shelf at most 128 bytes for each node of the FIT image. Where nothing is listed its
+/// entries are dropped and no more.
 pub fn make<F: Files, H: Shelf, W: Write, A: Allocator + Copy, B: Allocator>(
     alloc: A,
     command: &MakeCommand,
@@ -105,7 +119,7 @@ pub fn make<F: Files, H: Shelf, W: Write, A: Allocator + Copy, B: Allocator>(
     room: &mut Room<B>,
     out: &mut Out<W>,
 ) -> Result<H::Kept, Fault>
-    requires fit { IsFit command.now }
+    requires fit { HasFitNames command.now }
     ensures made { IsTrue (F.map files.old).honest → IsTrue H.honest → H.contents shelf ≡ Some [] →
         MakesCommand H.Kept.device command.now time (F.map files.old).bytes result out.old out.new }
     ensures files { OpensToMake (IsTrue (F.map files.old).honest × IsTrue H.honest
@@ -115,10 +129,15 @@ pub fn make<F: Files, H: Shelf, W: Write, A: Allocator + Copy, B: Allocator>(
     ensures put { out.old.faults < 2 ^ 64 - 1 → IsTrue (is_put result) →
         out.new.faults ≡ out.old.faults → out.new ≡ out.old }
     ensures steady_reads { IsTrue F.Opened.steady → IsTrue H.Kept.steady →
-        KeepsSizes command.now (F.map files.old) → is_read result ≡ false }
+        KeepsSizes command.now (F.map files.old) → is_unread result ≡ false }
+    ensures steady_payloads { IsTrue F.Opened.steady → IsTrue (F.map files.old).honest →
+        IsTrue H.honest → H.contents shelf ≡ Some [] → is_lost_payload result ≡ false }
     ensures steady_keeps { IsTrue H.steady → is_keep result ≡ false }
+    ensures kept_reads { IfOk result (λ kept. (H.Kept.device kept).failures ≡ 0) }
     ensures room { LeavesRoom H.Kept.device (F.map files.old).honest command.now result
         room.old room.new }
+    ensures peak { IsTrue (F.map files.old).honest → IsTrue H.honest → H.contents shelf ≡ Some [] →
+        HoldsCommand command.now time (F.map files.old).bytes room.old room.new }
 {
     room.clear();
     let mut image = Out::new(shelf);

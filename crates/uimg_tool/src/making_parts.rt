@@ -3,7 +3,7 @@ ghost use Rattle.std.specs.Prelude.{◌≡◌, ◌≢◌, false, length, map, Is
 ghost use Rattle.uimg_base.specs.Device.{RisesIf};
 ghost use Rattle.uimg_legacy.specs.Parts.{has_parts};
 ghost use Rattle.uimg_legacy.specs.Devices.{bytes_of, AreHonest};
-ghost use Rattle.uimg_tool.specs.Faults.{is_read, is_put, is_keep, is_before_building, is_of_making};
+ghost use Rattle.uimg_tool.specs.Faults.{is_unread, is_put, is_keep, is_before_building, is_of_making};
 ghost use Rattle.uimg_tool.specs.Making.{FitNames, OpensNames, OpensAnswer, BuildsParts, BuildsNames};
 
 use crate::fault::Fault;
@@ -21,7 +21,7 @@ fn open_all<F: Files, A: Allocator>(
     ensures files { OpensNames (map (λ name. name.items) names.now) result (F.map files.old)
         (F.map files.new) }
     ensures count { IfOk result (λ opened. length opened.items ≡ length names.now) }
-    ensures only_opens { (is_read result ≡ false) × (is_put result ≡ false)
+    ensures only_opens { (is_unread result ≡ false) × (is_put result ≡ false)
         × (is_keep result ≡ false) }
     ensures opened { IsTrue (F.map files.old).honest →
         OpensAnswer (λ opened. map F.Opened.device opened.items)
@@ -50,7 +50,7 @@ fn build_opened<S: Source, W: Write>(
     ensures built { AreHonest (map S.device parts.old) → BuildsParts options.now
         (bytes_of (map S.device parts.old)) result image.old image.new }
     ensures untouched { IsTrue (is_before_building result) → image.new ≡ image.old }
-    ensures reads { IsTrue S.steady → is_read result ≡ false }
+    ensures reads { IsTrue S.steady → is_unread result ≡ false }
     ensures faults { RisesIf (is_put result) image.old.faults image.new.faults }
     ensures not_making { is_of_making result ≡ false }
 {
@@ -73,7 +73,7 @@ pub(crate) fn build_parts<F: Files, W: Write, A: Allocator>(
     ensures files { OpensNames (map (λ name. name.items) names.now) result
         (F.map files.old) (F.map files.new) }
     ensures untouched { IsTrue (is_before_building result) → image.new ≡ image.old }
-    ensures reads { IsTrue F.Opened.steady → is_read result ≡ false }
+    ensures reads { IsTrue F.Opened.steady → is_unread result ≡ false }
     ensures faults { RisesIf (is_put result) image.old.faults image.new.faults }
     ensures never_keep { is_keep result ≡ false }
 {

@@ -3,7 +3,7 @@ ghost use Rattle.std.specs.Prelude.{◌≡◌, false, Some, IsTrue, IsSome, IfEr
 ghost use Rattle.uimg_base.specs.Device.{RisesIf};
 ghost use Rattle.uimg_tree.specs.Trees.{node_of};
 ghost use Rattle.uimg_tree.specs.UsingFiles.{UsesFiles};
-ghost use Rattle.uimg_tool.specs.Faults.{is_read, is_put, is_keep, is_no_file, is_no_text, is_no_payload, is_before_building};
+ghost use Rattle.uimg_tool.specs.Faults.{is_unread, is_lost_payload, is_put, is_keep, is_no_file, is_no_text, is_no_payload, is_before_building};
 ghost use Rattle.uimg_tool.specs.Commands.{LacksSource, OpensSource};
 ghost use Rattle.uimg_tool.specs.MakingTrees.{ReadsText, ReadsTree, BuildsSource};
 
@@ -19,10 +19,10 @@ use uimg_tree::Tree;
 fn read_whole<S: Source, A: Allocator>(alloc: A, source: &mut S) -> Result<Vec<u8, A>, Fault>
     ensures text { IsTrue (S.device source.old).honest →
         ReadsText (λ text. text.items) (Some (S.device source.old).bytes) result }
-    ensures steady { IsTrue S.steady → is_read result ≡ false }
+    ensures steady { IsTrue S.steady → is_unread result ≡ false }
     ensures only_reads { (is_put result ≡ false) × (is_keep result ≡ false)
         × (is_no_file result ≡ false) × (is_no_text result ≡ false)
-        × (is_no_payload result ≡ false) }
+        × (is_no_payload result ≡ false) × (is_lost_payload result ≡ false) }
 {
     let size = source.size()?;
     let mut window = [0; WINDOW];
@@ -45,9 +45,10 @@ fn read_text<F: Files, A: Allocator>(
         IfErr result (LacksSource (F.map files.old).bytes name.now) }
     ensures text { IsTrue (F.map files.old).honest →
         ReadsText (λ text. text.items) ((F.map files.old).bytes name.now) result }
-    ensures steady { IsTrue F.Opened.steady → is_read result ≡ false }
+    ensures steady { IsTrue F.Opened.steady → is_unread result ≡ false }
     ensures only_opens { (is_put result ≡ false) × (is_keep result ≡ false)
-        × (is_no_text result ≡ is_no_file result) × (is_no_payload result ≡ false) }
+        × (is_no_text result ≡ is_no_file result) × (is_no_payload result ≡ false)
+        × (is_lost_payload result ≡ false) }
 {
     match files.open(name) {
         Ok(mut source) => read_whole(alloc, &mut source),
@@ -65,14 +66,13 @@ fn read_tree<F: Files, A: Allocator + Copy>(
     ensures files { OpensSource name.now result (F.map files.old) (F.map files.new) }
     ensures tree { IsTrue (F.map files.old).honest →
         ReadsTree (λ tree. node_of tree.root) (F.map files.old).bytes name.now time result }
-    ensures steady { IsTrue F.Opened.steady → is_read result ≡ false }
+    ensures steady { IsTrue F.Opened.steady → is_unread result ≡ false }
+    ensures payloads { IsTrue F.Opened.steady → IsTrue (F.map files.old).honest →
+        is_lost_payload result ≡ false }
     ensures no_put { is_put result ≡ false }
     ensures no_keep { is_keep result ≡ false }
 {
-    let text = match read_text(alloc, name, files) {
-        Ok(text) => text,
-        Err(fault) => return Err(fault),
-    };
+    let text = read_text(alloc, name, files)?;
     let tree = match compile(alloc, &text, files) {
         Ok(tree) => tree,
         Err(fault) => return Err(Fault::Its(fault)),
@@ -98,14 +98,13 @@ pub(crate) fn build_tree<F: Files, W: Write, A: Allocator + Copy>(
     ensures files { OpensSource name.now result (F.map files.old) (F.map files.new) }
     ensures untouched { IsTrue (is_before_building result) → image.new ≡ image.old }
     ensures reads { IsTrue F.Opened.steady → IsTrue (F.map files.old).honest →
-        is_read result ≡ false }
+        is_unread result ≡ false }
+    ensures payloads { IsTrue F.Opened.steady → IsTrue (F.map files.old).honest →
+        is_lost_payload result ≡ false }
     ensures faults { RisesIf (is_put result) image.old.faults image.new.faults }
     ensures never_keep { is_keep result ≡ false }
 {
-    let tree = match read_tree(alloc, name, time, files) {
-        Ok(tree) => tree,
-        Err(fault) => return Err(fault),
-    };
+    let tree = read_tree(alloc, name, time, files)?;
     match build(alloc, &tree, files, placement, image) {
         Ok(()) => Ok(()),
         Err(fault) => Err(Fault::from(fault)),

@@ -47,7 +47,8 @@ Short names:
 
 A value that begins with '-' stands right behind its option, as in -n-x.
 With -f the options before -d have no effect, and with -d -E and -p have none.
-Files that the image source names are looked for in its folder.
+A position of 0 is as none. Files that the image source names are looked for in
+its folder, unless their names begin with '/'.
 
 Examples:
   uimg mkimage -A arm64 -C none -a 80000 -n 'kernel 6.1' -d Image uImage

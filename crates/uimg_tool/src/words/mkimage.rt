@@ -1,6 +1,6 @@
 ghost use Rattle.std.specs.Prelude.{◌≡◌, ◌≢◌, false, length, IfOk};
 ghost use Rattle.uimg_legacy.specs.Parts.{has_parts};
-ghost use Rattle.uimg_tool.specs.Commands.{IsFit, is_fit_prop};
+ghost use Rattle.uimg_tool.specs.Commands.{HasFitNames, has_fit_names_prop};
 
 use super::help_notes::MKIMAGE_NOTES;
 use super::{Request, RunRequest, WordsFault, flag, image, value};
@@ -31,7 +31,7 @@ pub struct MakeRequest<'a> {
     /// The path of the image.
     pub outfile: &'a str,
 
-    ghost fits: { IsFit command } by { is_fit_prop command },
+    ghost fits: { HasFitNames command } by { has_fit_names_prop command },
 }
 
 pub(super) fn command<'a>(alloc: Global) -> Result<clap::Command<'a>, AllocError> {

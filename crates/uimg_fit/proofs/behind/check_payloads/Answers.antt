@@ -2,7 +2,7 @@ use Rattle.std.proofs.Common.{List, ap, ◌∙◌, min, ◌^◌, ℕ}
 use Rattle.uimg_blob.specs.LookUps.{NodeOf}
 use Rattle.uimg_tree.specs.Content.{Content}
 use Rattle.uimg_tree.specs.Trees.{node_of}
-use Rattle.uimg_fit.specs.Behind.{images_in, rooms, end_fault}
+use Rattle.uimg_fit.specs.Behind.{images_in, padded_sizes, end_fault}
 use Rattle.uimg_fit.proofs.BehindLaws.{end-capped}
 use Rattle.uimg_fit.proofs.behind.check_payloads.Goals as goal
 
@@ -11,5 +11,5 @@ returns g c =
     let size = c.args.size in
     let placement = c.args.placement in
     c.check_end.ensures
-    ∙ ap (λ (n : ℕ). end_fault size n placement) (c.payloads_size.ensures ∙ ap (λ (l : List (NodeOf Content)). min (rooms l) (2 ^ 36)) c.images_of.ensures)
-    ∙ end-capped size (rooms (images_in (node_of c.args.tree.now.root))) placement
+    ∙ ap (λ (n : ℕ). end_fault size n placement) (c.payloads_size.ensures ∙ ap (λ (l : List (NodeOf Content)). min (padded_sizes l) (2 ^ 36)) c.images_of.ensures)
+    ∙ end-capped size (padded_sizes (images_in (node_of c.args.tree.now.root))) placement

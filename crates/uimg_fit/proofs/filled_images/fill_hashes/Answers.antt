@@ -4,7 +4,8 @@ use Rattle.uimg_fit.specs.declared.algo_sets.AlgoSet.{AlgoSet}
 use Rattle.uimg_tree.specs.Content.{bytes_in}
 use Rattle.uimg_tree.specs.Properties.{content}
 use Rattle.uimg_tree.specs.Trees.{siblings}
-use Rattle.uimg_fit.proofs.ImageFillLaws.{not-known, all-known, all-covered, none-hashed, some-hashed, stops-at, empty-is, some-are, children-filled}
+use Rattle.uimg_fit.proofs.FillOrderLaws.{always}
+use Rattle.uimg_fit.proofs.ImageFillLaws.{not-known, all-known, all-covered, none-found, none-hashed, some-hashed, stops-at, empty-is, some-are, children-filled}
 use Rattle.uimg_fit.proofs.filled_images.fill_hashes.Goals as goal
 
 pub returns-in_default-clause-filled : goal.returns-in_default-clause-filled
@@ -35,3 +36,12 @@ returns-in-Ok-clause-filled g c = λ honest.
     (all-known c.args.nodes.now _ refl c.in-Some.set is)
     c.fill_children.ensures.memory
     (c.fill_children.ensures.filled (bytes_in files payload) (c.in-Ok.ensures.digests honest) (all-covered c.args.nodes.now _ refl c.in-Some.set is))
+
+pub returns-then-is_empty-clause-kept : goal.returns-then-is_empty-clause-kept
+returns-then-is_empty-clause-kept g c = λ honest hashed.
+    let is = sym c.algos_of.ensures ∙ c.in-Some.is in
+    let empty = empty-is c.in-Some.set (sym c.is_empty.ensures ∙ c.if-is_empty.true) in
+    absurd (hashed (none-found c.args.nodes.now _ refl (is ∙ ap (λ (s : AlgoSet). let o : Option AlgoSet = Some s in o) empty)))
+
+pub returns-in-Ok-clause-kept : goal.returns-in-Ok-clause-kept
+returns-in-Ok-clause-kept g c = λ honest. always c.fill_children.result (λ hashed. c.in-Ok.ensures.kept honest)

@@ -1,6 +1,8 @@
 use Rattle.std.proofs.Common.{◌≡◌, length, map, take, drop, None, IsTrue}
+use Rattle.std.specs.List.{AllByRecursion}
 use Rattle.uimg_base.specs.Named.{SameFiles}
 use Rattle.uimg_fit.specs.Behind.{entry}
+use Rattle.uimg_fit.specs.FillOrder.{IsPassed}
 use Rattle.uimg_fit.specs.ImageFillings.{filled_over, first_in_memory}
 use Rattle.uimg_fit.proofs.EachLaws.{ChangedTo}
 use Rattle.uimg_fit.proofs.filled_images.fill_images.Given as goal
@@ -16,4 +18,5 @@ invariant-loop-image g l =
       rest : drop l.image-index l.images ≡ drop l.image-index l.fn.images;
       filled : IsTrue files.honest → ChangedTo entry (filled_over files.bytes) l.fn.images l.images l.image-index;
       sound : IsTrue files.honest → first_in_memory (map entry (take l.image-index l.fn.images)) ≡ None;
+      passed : IsTrue files.honest → AllByRecursion (IsPassed files.bytes) (map entry (take l.image-index l.fn.images));
     }

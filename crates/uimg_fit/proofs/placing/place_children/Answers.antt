@@ -6,10 +6,10 @@ use Rattle.uimg_tree.specs.Content.{Unread}
 use Rattle.uimg_tree.specs.Trees.{siblings}
 use Rattle.uimg_fit.specs.Filling.{in_first}
 use Rattle.uimg_fit.specs.Placing.{is_images, with_placed}
-use Rattle.uimg_fit.specs.Sources.{source_from}
+use Rattle.uimg_fit.specs.UnreadTrees.{unread_from}
 use Rattle.uimg_fit.proofs.PlacingLaws.{behind-goes, before-goes, first-goes, no-more, children-placed}
 use Rattle.uimg_fit.proofs.placing.place_children.Goals as goal
-use Rattle.uimg_fit.proofs.placing.place_children.Goals.{then-moved+in_ok-copy+in_ok-push, else-moved+then-is_images+in_ok-placed+in_ok-push-2, else-moved+else-is_images+in_ok-copy-2+in_ok-push-3}
+use Rattle.uimg_fit.proofs.placing.place_children.Goals.{then-not-moved+then-is_images+in_ok-copy, else-not-moved+in_ok-copy-2, else-not-moved-via-then-not-moved+else-is_images, else-not-moved-via-else-not-moved}
 
 pub loop-node-preserved : goal.loop-node-preserved
 loop-node-preserved g c =
@@ -19,17 +19,21 @@ loop-node-preserved g c =
     let d = c.node-item.result in
     let done = c.loop-node.copies.items in
     let more : drop i items ≡ d ∷ drop (i + 1) items = drop_more items i d c.loop-node-test.true ∙ ap (λ (p : Node g.row.A.Denot). p ∷ drop (i + 1) items) (sym c.node-item.is) in
-    elim c.if-moved.branch [
-      | then-moved+in_ok-copy+in_ok-push w ↦
-          behind-goes is_images f done (drop (i + 1) items) _ (drop i items) c.if-moved.copies.items d w.in_ok-copy.copy c.loop-node.moved c.if-moved.moved more c.loop-node.invariant
-          w.if-moved.true w.moved-is (ap (λ v. v.items) w.copies-is ∙ w.in_ok-push.ensures.items) w.in_ok-copy.ensures
-      | else-moved+then-is_images+in_ok-placed+in_ok-push-2 w ↦
-          first-goes is_images f done (drop (i + 1) items) _ (drop i items) c.if-moved.copies.items d d c.loop-node.moved c.if-moved.moved more c.loop-node.invariant
-          w.if-moved.false (sym w.is_images.ensures ∙ w.if-is_images.true) w.moved-is
-          (ap (λ v. v.items) w.copies-is ∙ w.in_ok-push-2.ensures.items ∙ ap (λ (n : Node g.row.A.Denot). done ++ n ∷ []) w.in_ok-placed.ensures)
-      | else-moved+else-is_images+in_ok-copy-2+in_ok-push-3 w ↦
-          before-goes is_images f done (drop (i + 1) items) _ (drop i items) c.if-moved.copies.items d w.in_ok-copy-2.copy c.loop-node.moved c.if-moved.moved more c.loop-node.invariant
-          w.if-moved.false (sym w.is_images.ensures ∙ w.if-is_images.false) w.moved-is (ap (λ v. v.items) w.copies-is ∙ w.in_ok-push-3.ensures.items) w.in_ok-copy-2.ensures
+    let copies = c.push.new.self.items in
+    elim c.if-not-moved.branch [
+      | then-not-moved+then-is_images+in_ok-copy w ↦
+          first-goes is_images f done (drop (i + 1) items) _ (drop i items) copies d d c.loop-node.moved c.if-not-moved.moved more c.loop-node.invariant
+          w.if-not-moved.true (sym w.is_images.ensures ∙ w.if-is_images.true) w.moved-is
+          (c.in_ok-push.ensures.items ∙ ap (λ (n : Node g.row.A.Denot). done ++ n ∷ []) (w.copy-is ∙ w.in_ok-copy.ensures))
+      | else-not-moved+in_ok-copy-2 w ↦
+          elim w.else-not-moved.branch [
+            | else-not-moved-via-then-not-moved+else-is_images h ↦
+                before-goes is_images f done (drop (i + 1) items) _ (drop i items) copies d c.if-not-moved.copy c.loop-node.moved c.if-not-moved.moved more c.loop-node.invariant
+                h.if-not-moved.true (sym h.is_images.ensures ∙ h.if-is_images.false) w.moved-is c.in_ok-push.ensures.items (w.copy-is ∙ w.in_ok-copy-2.ensures)
+            | else-not-moved-via-else-not-moved h ↦
+                behind-goes is_images f done (drop (i + 1) items) _ (drop i items) copies d c.if-not-moved.copy c.loop-node.moved c.if-not-moved.moved more c.loop-node.invariant
+                h.if-not-moved.false w.moved-is c.in_ok-push.ensures.items (w.copy-is ∙ w.in_ok-copy-2.ensures)
+          ]
     ]
 
 pub returns : goal.returns
@@ -40,4 +44,4 @@ returns g c =
     let i = c.loop-node.node-index in
     let whole = no-more is_images (λ n. with_placed key at n ∷ []) c.loop-node.copies.items _ c.loop-node.moved (drop i items) (drop_of_length-le items {i = i} c.loop-node-test.false) c.loop-node.invariant in
     c.of.ensures ∙ ap (λ (l : List (Node g.row.A.Denot)). siblings l) whole ∙ children-placed key at items
-    ∙ ap (λ (t : Unread). in_first (codes "images") (source_from key at) t) c.items-node-items.ensures
+    ∙ ap (λ (t : Unread). in_first (codes "images") (unread_from key at) t) c.items-node-items.ensures

@@ -12,7 +12,7 @@ use Rattle.uimg_blob.specs.LookUps.{NodeOf, first}
 use Rattle.uimg_tree.specs.Encoding.{word}
 use Rattle.uimg_tree.specs.Content.{Content, Unread, bytes, bytes_in}
 use Rattle.uimg_fit.specs.Filling.{with, external_names, without_external, each, in_first, with_images, with_root, algo_by, algo_in, with_digest_by, hashed_by, hashed, filled_image_by, filled_image, filled}
-use Rattle.uimg_fit.specs.Sources.{filled_source}
+use Rattle.uimg_fit.specs.UnreadTrees.{filled_unread}
 use Rattle.uimg_fit.specs.FillAnswers.{node_in_full}
 use Rattle.uimg_fit.proofs.LookUpLaws.{first-with}
 
@@ -134,7 +134,7 @@ module _ (files : List ℕ → Option (List ℕ)) where
   root-read key value (a_node name own below after) =
       ap (λ (l : List Named). a_node name l (with_values read below) (with_values read after)) (with-read key value own)
 
-  pub filled-read : (time : ℕ) (t : Unread) → filled time (with_values read t) ≡ with_values read (filled_source files time t)
+  pub filled-read : (time : ℕ) (t : Unread) → filled time (with_values read t) ≡ with_values read (filled_unread files time t)
   filled-read time t =
       ap (λ (u : Nodes). with_root (codes "timestamp") (word time) u) (images-read t)
       ∙ root-read (codes "timestamp") (word time) (with_images (each (filled_image_by read bytes)) t)
