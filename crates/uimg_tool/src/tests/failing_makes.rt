@@ -1,6 +1,6 @@
-use super::images::{THREE_PART_LISTING, THREE_PART_MULTI};
 use crate::fault::Fault;
 use crate::making::make;
+use crate::samples::THREE_PART_LISTING;
 use crate::words::{Request, read_words};
 use linked_list_allocator::LocalHeap;
 use std::alloc::Allocator;
@@ -12,6 +12,7 @@ use uimg_base::{
     FileShelf, Files, FuseFiles, FuseWriter, MemFiles, MemShelf, Out, Room, Shelf, Source,
     SourceFault,
 };
+use uimg_legacy::samples::THREE_PART_MULTI;
 
 // The files of three-part-multi.
 const NAMED: [(&[u8], &[u8]); 3] = [(b"a", b"abc"), (b"b", b"defg"), (b"c", b"hijkl")];
