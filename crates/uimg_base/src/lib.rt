@@ -20,8 +20,6 @@ mod shelves;
 mod sizes;
 mod source;
 mod status;
-#[cfg(test)]
-mod tests;
 mod windows;
 
 pub use file_shelf::FileShelf;

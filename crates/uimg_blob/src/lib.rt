@@ -14,8 +14,6 @@ mod roles;
 pub mod samples;
 mod slots;
 mod states;
-#[cfg(test)]
-mod tests;
 mod texts;
 mod tokens;
 

@@ -35,11 +35,8 @@ mod plans;
 mod properties;
 mod puts;
 mod report;
-pub mod samples;
 mod setting;
 mod shows;
-#[cfg(test)]
-mod tests;
 mod titles;
 mod tree;
 mod walks;

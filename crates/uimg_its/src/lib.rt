@@ -18,8 +18,6 @@ mod pieces;
 mod properties;
 mod stop;
 mod strings;
-#[cfg(test)]
-mod tests;
 mod values;
 mod words;
 

@@ -14,10 +14,7 @@ mod one_part;
 mod options;
 mod parts;
 mod report;
-pub mod samples;
 mod table;
-#[cfg(test)]
-mod tests;
 
 pub use building::build;
 pub use extraction::extract;

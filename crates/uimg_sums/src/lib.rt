@@ -10,8 +10,6 @@ mod crc_steps;
 mod crc_table;
 mod digests;
 mod sums;
-#[cfg(test)]
-mod tests;
 
 pub use algo::Algo;
 pub use bundle::Bundle;

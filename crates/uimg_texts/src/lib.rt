@@ -10,8 +10,6 @@ mod nul;
 mod numbers;
 mod os;
 mod sizes;
-#[cfg(test)]
-mod tests;
 mod times;
 
 pub use arch::{ARCHITECTURES, arch_code, arch_text};

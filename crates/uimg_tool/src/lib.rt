@@ -14,9 +14,6 @@ mod making_lists;
 mod making_parts;
 mod making_trees;
 mod number_words;
-pub mod samples;
-#[cfg(test)]
-mod tests;
 mod words;
 
 pub use command::{Action, Command, Form};

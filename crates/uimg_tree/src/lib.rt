@@ -14,8 +14,6 @@ mod payloads;
 mod properties;
 mod props;
 mod sizes;
-#[cfg(test)]
-mod tests;
 mod tree;
 mod words;
 mod writing;

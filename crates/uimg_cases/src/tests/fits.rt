@@ -5,7 +5,7 @@ use std::test::Fail;
 use uimg_base::{MemSource, Out, Room, Source, Status};
 use uimg_blob::BlobFault;
 use uimg_fit::FitFault;
-pub(super) use uimg_fit::samples::*;
+pub(super) use uimg_samples::fit::*;
 use uimg_tool::{Action, Command, Fault, Form, run};
 
 pub(super) const DEMO_LISTING: &str = "FIT description: demo

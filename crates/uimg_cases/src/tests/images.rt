@@ -1,6 +1,6 @@
 use uimg_base::crc_of;
-pub(super) use uimg_legacy::samples::{ABC_KERNEL, NO_TABLE_END, PART_OUTSIDE, THREE_PART_MULTI};
-pub(super) use uimg_tool::samples::{ABC_LISTING, THREE_PART_LISTING};
+pub(super) use uimg_samples::legacy::{ABC_KERNEL, NO_TABLE_END, PART_OUTSIDE, THREE_PART_MULTI};
+pub(super) use uimg_samples::listings::{ABC_LISTING, THREE_PART_LISTING};
 
 // The image of abc with another first byte of its name.
 pub(super) fn changed_name() -> [u8; 67] {

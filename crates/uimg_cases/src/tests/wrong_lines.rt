@@ -1,7 +1,7 @@
 use super::images::ABC_KERNEL;
 use super::{expect, expect_on, ran_words};
 use std::test::Fail;
-use uimg_fit::samples::four_hash_fit;
+use uimg_samples::fit::four_hash_fit;
 
 // The program's own checks: each is one line, before any file is opened.
 #[test]

@@ -1,4 +1,4 @@
-//! FIT images for tests, this crate's and those above. The demos are, byte for byte, what dtc makes of the same trees.
+//! FIT images. The demos are, byte for byte, what dtc makes of the same trees.
 
 ghost use Rattle.std.specs.Prelude.{◌<◌, ◌^◌};
 

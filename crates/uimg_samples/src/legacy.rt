@@ -1,4 +1,4 @@
-//! Legacy images for tests, this crate's and those above. Their checksums are zlib's.
+//! Legacy images. Their checksums are zlib's.
 
 /// A kernel of the three bytes `abc`.
 pub const ABC_KERNEL: [u8; 67] = [

@@ -12,7 +12,7 @@ use uimg_base::{
     FileShelf, Files, FuseFiles, FuseWriter, MemFiles, MemShelf, Out, Room, Shelf, Source,
     SourceFault,
 };
-use uimg_legacy::samples::THREE_PART_MULTI;
+use uimg_samples::legacy::THREE_PART_MULTI;
 
 // The files of three-part-multi.
 const NAMED: [(&[u8], &[u8]); 3] = [(b"a", b"abc"), (b"b", b"defg"), (b"c", b"hijkl")];

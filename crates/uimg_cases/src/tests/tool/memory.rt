@@ -3,7 +3,7 @@ use crate::words::{Request, read_words};
 use crate::{Action, Command, Form, make_in_memory, run_in_memory};
 use std::test::Fail;
 use uimg_base::{Out, Room, Source, Status};
-use uimg_legacy::samples::{ABC_KERNEL, THREE_PART_MULTI};
+use uimg_samples::legacy::{ABC_KERNEL, THREE_PART_MULTI};
 
 #[test]
 fn an_image_in_memory_is_listed_and_unpacked(rt: HostRuntime) -> Result<(), Fail> {

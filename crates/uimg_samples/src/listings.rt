@@ -1,5 +1,4 @@
-//! Listings for tests, this crate's and those above: what is printed of the images that
-//! `uimg_legacy::samples` has.
+//! Listings: what is printed of the images that `legacy` has.
 
 /// The listing of the kernel of three bytes.
 pub const ABC_LISTING: &str = "Image Name:   01234567890123456789012345678901

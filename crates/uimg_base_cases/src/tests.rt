@@ -1,0 +1,3 @@
+mod base;
+mod sums;
+mod texts;

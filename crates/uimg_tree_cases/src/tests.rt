@@ -1,0 +1,3 @@
+mod blob;
+mod its;
+mod tree;
