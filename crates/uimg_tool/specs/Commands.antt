@@ -7,7 +7,7 @@ use Rattle.uimg_base.specs.Held.{Held}
 use Rattle.uimg_base.specs.Named.{FileMap, SameFiles}
 use Rattle.uimg_base.specs.Outcome.{Outcome}
 use Rattle.uimg_base.specs.Sink.{Sink}
-use Rattle.uimg_fit.specs.Rooms.{TakesNodes}
+use Rattle.uimg_fit_reading.specs.Rooms.{TakesNodes}
 use Rattle.uimg_tool.specs.declared.fault.Fault.{Fault}
 use Rattle.uimg_tool.specs.declared.fault.Fault.TheVariants.{NoFile, Fit}
 use Rattle.uimg_tool.specs.declared.command.Action.TheVariants as Action

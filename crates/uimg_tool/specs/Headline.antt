@@ -8,12 +8,12 @@ use Rattle.uimg_base.specs.Outcome.{End, Outcome, done, not_right, refused}
 use Rattle.uimg_base.specs.declared.status.Status.{Status}
 use Rattle.uimg_texts.specs.Numbers.{be32}
 use Rattle.uimg_blob.specs.Counts.{nodes_met}
-use Rattle.uimg_fit.specs.declared.fault.Fault.{Fault as FitEngineFault}
-use Rattle.uimg_fit.specs.Rooms.{TakesNodes}
-use Rattle.uimg_fit.specs.Listing as fit_listing
-use Rattle.uimg_fit.specs.Report as fit_report
-use Rattle.uimg_fit.specs.Extraction as fit_extraction
-use Rattle.uimg_fit.specs.Work as fit
+use Rattle.uimg_fit_base.specs.declared.fault.Fault.{Fault as FitEngineFault}
+use Rattle.uimg_fit_reading.specs.Rooms.{TakesNodes}
+use Rattle.uimg_fit_reading.specs.Listing as fit_listing
+use Rattle.uimg_fit_base.specs.Report as fit_report
+use Rattle.uimg_fit_base.specs.Extraction as fit_extraction
+use Rattle.uimg_fit_reading.specs.Work as fit
 use Rattle.uimg_legacy.specs.declared.fault.LegacyFault.{LegacyFault}
 use Rattle.uimg_legacy.specs.Listing as legacy_listing
 use Rattle.uimg_legacy.specs.Report as legacy_report

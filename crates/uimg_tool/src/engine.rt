@@ -4,7 +4,7 @@ ghost use Rattle.uimg_base.specs.Held.{held_bytes};
 ghost use Rattle.uimg_base.specs.Using.{UsesAtMost};
 ghost use Rattle.uimg_base.specs.Sink.{AppendsPrefix};
 ghost use Rattle.uimg_base.specs.Outcome.{Tells};
-ghost use Rattle.uimg_fit.specs.Rooms.{TakesNodes};
+ghost use Rattle.uimg_fit_reading.specs.Rooms.{TakesNodes};
 ghost use Rattle.uimg_tool.specs.Faults.{is_read, is_put, is_no_memory, is_refused, is_of_making, end_of};
 ghost use Rattle.uimg_tool.specs.Headline.{outcome_in, outcome_of, work_in, work, nodes_of, is_fit, ExtractsAhead, KeepsOutput, Stays, GrowthsSucceed, IsLegacy, Takes, Meets};
 
