@@ -5,9 +5,11 @@
 mod fault;
 mod feeds;
 mod place;
+mod placement;
 mod words;
 
 pub use fault::{Fault, FitFault};
 pub use feeds::{digest_at, feed_through};
 pub use place::Place;
+pub use placement::Placement;
 pub use words::{Word, digests_used, is_right, word_text};

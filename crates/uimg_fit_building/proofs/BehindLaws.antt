@@ -12,8 +12,8 @@ use Rattle.uimg_tree.specs.Pieces.{padding}
 use Rattle.uimg_tree.proofs.SizeLaws.{kept-size}
 use Rattle.uimg_tree.proofs.WritesLaws.{flat_map-both, all-both}
 use Rattle.uimg_fit_base.specs.declared.fault.FitFault.TheVariants.{PositionTooLow, TooLarge}
-use Rattle.uimg_fit_building.specs.declared.placement.Placement.{Placement}
-use Rattle.uimg_fit_building.specs.declared.placement.Placement.TheVariants.{Inside, After, At}
+use Rattle.uimg_fit_base.specs.declared.placement.Placement.{Placement}
+use Rattle.uimg_fit_base.specs.declared.placement.Placement.TheVariants.{Inside, After, At}
 use Rattle.uimg_fit_building.specs.Building.{data_of, moved, payloads, behind, built}
 use Rattle.uimg_fit_building.specs.Refusing.{is_low, build_fault}
 use Rattle.uimg_fit_building.specs.Behind.{images_in, padded_pieces, payload_pieces, padded_sizes, behind_pieces, file_size, end_fault}

@@ -10,8 +10,8 @@ use Rattle.uimg_blob.specs.Plain.{Named, Nodes, no_node, a_node, IsName, AreName
 use Rattle.uimg_tree.specs.Encoding.{encode}
 use Rattle.uimg_tree.specs.Measured.{is_name, bad_property, bad_name}
 use Rattle.uimg_fit_base.specs.declared.fault.FitFault.TheVariants.{PositionTooLow, TooLarge}
-use Rattle.uimg_fit_building.specs.declared.placement.Placement.{Placement}
-use Rattle.uimg_fit_building.specs.declared.placement.Placement.TheVariants.{Inside, After, At}
+use Rattle.uimg_fit_base.specs.declared.placement.Placement.{Placement}
+use Rattle.uimg_fit_base.specs.declared.placement.Placement.TheVariants.{Inside, After, At}
 use Rattle.uimg_fit_building.specs.Filling.{IsFilled}
 use Rattle.uimg_fit_building.specs.Building.{moved, built}
 use Rattle.uimg_fit_building.specs.Refusing.{is_low, build_fault}

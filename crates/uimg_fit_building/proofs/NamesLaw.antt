@@ -11,8 +11,8 @@ use Rattle.uimg_tree.specs.Content.{Content, Unread, bytes, size_of}
 use Rattle.uimg_tree.specs.Encoding.{word}
 use Rattle.uimg_tree.specs.Measured.{is_name, bad_property, bad_name}
 use Rattle.uimg_fit_building.specs.Building.{moved_from_by, moved_own_by}
-use Rattle.uimg_fit_building.specs.declared.placement.Placement.{Placement}
-use Rattle.uimg_fit_building.specs.declared.placement.Placement.TheVariants.{Inside, After, At}
+use Rattle.uimg_fit_base.specs.declared.placement.Placement.{Placement}
+use Rattle.uimg_fit_base.specs.declared.placement.Placement.TheVariants.{Inside, After, At}
 use Rattle.uimg_fit_building.specs.Filling.{in_first, with_images}
 use Rattle.uimg_fit_building.specs.UnreadTrees.{unread_own, padded_size_of, unread_from, moved_unread}
 

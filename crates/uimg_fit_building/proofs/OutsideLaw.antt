@@ -11,7 +11,7 @@ use Rattle.uimg_blob.specs.Plain.{Named, Nodes, no_node, a_node, AreNamed}
 use Rattle.uimg_tree.specs.Encoding.{word, padded, encode}
 use Rattle.uimg_tree.proofs.ReadsBackLaw.{length-encode, totalsize}
 use Rattle.uimg_fit_base.specs.declared.fault.FitFault.{FitFault}
-use Rattle.uimg_fit_building.specs.declared.placement.Placement.TheVariants.{After, At}
+use Rattle.uimg_fit_base.specs.declared.placement.Placement.TheVariants.{After, At}
 use Rattle.uimg_blob.specs.LookUps.{NodeOf, first, images, hashes}
 use Rattle.uimg_blob.specs.Spots.{Spot}
 use Rattle.uimg_base.specs.Results.{◌>>=◌}

@@ -15,7 +15,7 @@ use Rattle.uimg_tree.specs.Layouts.{plan_of, totalsize}
 use Rattle.uimg_tree.specs.Pieces.{WritesPieces}
 use Rattle.uimg_tree.specs.UsingFiles.{UsesFiles}
 use Rattle.uimg_tree.proofs.WritesLaws.{rises-then}
-use Rattle.uimg_fit_building.specs.declared.placement.Placement.{Placement}
+use Rattle.uimg_fit_base.specs.declared.placement.Placement.{Placement}
 use Rattle.uimg_fit_building.specs.Behind.{behind_pieces}
 use Rattle.uimg_fit_building.specs.Building.{moved, behind}
 use Rattle.uimg_fit_building.specs.BuildSteps.{WritesText}

@@ -8,8 +8,8 @@ use Rattle.uimg_blob.specs.Plain.{NamedOf, Named, Nodes, no_node, a_node, with_v
 use Rattle.uimg_tree.specs.Encoding.{word}
 use Rattle.uimg_tree.specs.Content.{Content, Unread, IsKept, bytes, bytes_in, size_of}
 use Rattle.uimg_tree.proofs.SizeLaws.{kept-size}
-use Rattle.uimg_fit_building.specs.declared.placement.Placement.{Placement}
-use Rattle.uimg_fit_building.specs.declared.placement.Placement.TheVariants.{Inside, After, At}
+use Rattle.uimg_fit_base.specs.declared.placement.Placement.{Placement}
+use Rattle.uimg_fit_base.specs.declared.placement.Placement.TheVariants.{Inside, After, At}
 use Rattle.uimg_blob.specs.LookUps.{first}
 use Rattle.uimg_fit_building.specs.Filling.{in_first, with_images}
 use Rattle.uimg_fit_building.specs.Building.{padded_size, moved_own, moved_from, moved, moved_from_by, moved_own_by}

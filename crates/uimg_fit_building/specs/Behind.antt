@@ -8,8 +8,8 @@ use Rattle.uimg_tree.specs.Content.{Content, Unread, bytes, size_of}
 use Rattle.uimg_tree.specs.Pieces.{padding}
 use Rattle.uimg_fit_base.specs.declared.fault.FitFault.{FitFault}
 use Rattle.uimg_fit_base.specs.declared.fault.FitFault.TheVariants.{PositionTooLow, TooLarge}
-use Rattle.uimg_fit_building.specs.declared.placement.Placement.{Placement}
-use Rattle.uimg_fit_building.specs.declared.placement.Placement.TheVariants.{Inside, After, At}
+use Rattle.uimg_fit_base.specs.declared.placement.Placement.{Placement}
+use Rattle.uimg_fit_base.specs.declared.placement.Placement.TheVariants.{Inside, After, At}
 use Rattle.uimg_fit_building.specs.Refusing.{is_low}
 use Rattle.uimg_fit_building.specs.UnreadTrees.{padded_size_of}
 

@@ -6,7 +6,7 @@ use Rattle.uimg_tree.specs.Measured.{bad_name}
 use Rattle.uimg_fit_base.specs.declared.fault.Fault.{Fault}
 use Rattle.uimg_fit_base.specs.declared.fault.Fault.TheVariants.{Blob, Fit, Read, Put}
 use Rattle.uimg_fit_base.specs.declared.fault.FitFault.TheVariants.{OutOfMemory, NoFile}
-use Rattle.uimg_fit_building.specs.declared.placement.Placement.{Placement}
+use Rattle.uimg_fit_base.specs.declared.placement.Placement.{Placement}
 use Rattle.uimg_fit_building.specs.Building.{built}
 use Rattle.uimg_fit_building.specs.Refusing.{build_fault}
 

@@ -17,7 +17,7 @@ use Rattle.uimg_tree.specs.UsingFiles.{UsesFiles}
 use Rattle.uimg_fit_base.specs.declared.fault.Fault.{Fault}
 use Rattle.uimg_fit_base.specs.declared.fault.Fault.TheVariants.{Blob, Fit, Read, Put}
 use Rattle.uimg_fit_base.specs.declared.fault.FitFault.TheVariants.{TooLarge, OutOfMemory, NoFile}
-use Rattle.uimg_fit_building.specs.declared.placement.Placement.{Placement}
+use Rattle.uimg_fit_base.specs.declared.placement.Placement.{Placement}
 use Rattle.uimg_fit_building.specs.BuildAnswers.{is_no_file, is_before_writing, BuildsAnswer}
 use Rattle.uimg_fit_base.specs.Faults.{is_read, is_put, of_writing}
 

@@ -6,8 +6,8 @@ use Rattle.std.specs.Str.{bytes_eq}
 use Rattle.uimg_texts.specs.Numbers.{up4}
 use Rattle.uimg_blob.specs.Plain.{NamedOf, NodesOf, Named, Nodes, no_node, a_node}
 use Rattle.uimg_tree.specs.Encoding.{word, padded, encode}
-use Rattle.uimg_fit_building.specs.declared.placement.Placement.{Placement}
-use Rattle.uimg_fit_building.specs.declared.placement.Placement.TheVariants.{Inside, After, At}
+use Rattle.uimg_fit_base.specs.declared.placement.Placement.{Placement}
+use Rattle.uimg_fit_base.specs.declared.placement.Placement.TheVariants.{Inside, After, At}
 use Rattle.uimg_blob.specs.LookUps.{first, images}
 use Rattle.uimg_fit_building.specs.Filling.{with_images}
 

@@ -6,8 +6,8 @@ use Rattle.uimg_blob.specs.Plain.{Nodes}
 use Rattle.uimg_tree.specs.Encoding.{encode}
 use Rattle.uimg_fit_base.specs.declared.fault.FitFault.{FitFault}
 use Rattle.uimg_fit_base.specs.declared.fault.FitFault.TheVariants.{NoImages, NoData, UnknownAlgo, PositionTooLow, TooLarge}
-use Rattle.uimg_fit_building.specs.declared.placement.Placement.{Placement}
-use Rattle.uimg_fit_building.specs.declared.placement.Placement.TheVariants.{Inside, After, At}
+use Rattle.uimg_fit_base.specs.declared.placement.Placement.{Placement}
+use Rattle.uimg_fit_base.specs.declared.placement.Placement.TheVariants.{Inside, After, At}
 use Rattle.uimg_blob.specs.LookUps.{NodeOf, first, images, hashes}
 use Rattle.uimg_fit_building.specs.Filling.{algo_in, filled}
 use Rattle.uimg_fit_building.specs.Building.{moved, built}

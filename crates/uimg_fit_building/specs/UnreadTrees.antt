@@ -2,7 +2,7 @@
 use Rattle.std.specs.Prelude.{ℕ, List, Option}
 use Rattle.uimg_blob.specs.Plain.{NamedOf}
 use Rattle.uimg_tree.specs.Content.{Content, Unread, bytes, bytes_in, size_of}
-use Rattle.uimg_fit_building.specs.declared.placement.Placement.{Placement}
+use Rattle.uimg_fit_base.specs.declared.placement.Placement.{Placement}
 use Rattle.uimg_fit_building.specs.Building.{padded_size_by, moved_own_by, moved_from_by, moved_by}
 use Rattle.uimg_fit_building.specs.Filling.{filled_by}
 

@@ -19,12 +19,11 @@ mod placing;
 
 use crate::building::behind::{check_payloads, put_behind};
 use crate::building::placing::place;
-use crate::placement::Placement;
 use std::alloc::Allocator;
 use std::io::Write;
 use uimg_base::{Files, Out, Source};
 use uimg_blob::BlobFault;
-use uimg_fit_base::{Fault, FitFault};
+use uimg_fit_base::{Fault, FitFault, Placement};
 use uimg_tree::{Layout, Tree, TreeFault, measure, write_tree};
 
 // The fault of a tree that can't be measured.

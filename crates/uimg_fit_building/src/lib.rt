@@ -4,9 +4,7 @@
 mod building;
 mod filling;
 mod payloads;
-mod placement;
 mod setting;
 
 pub use building::build;
 pub use filling::fill;
-pub use placement::Placement;

@@ -16,7 +16,7 @@ use Rattle.uimg_fit_base.specs.declared.fault.Fault.{Fault as FitEngineFault}
 use Rattle.uimg_fit_base.specs.declared.fault.Fault.TheVariants as fit
 use Rattle.uimg_fit_base.specs.declared.fault.FitFault.{FitFault}
 use Rattle.uimg_fit_base.specs.declared.fault.FitFault.TheVariants as fit_fault
-use Rattle.uimg_fit_building.specs.declared.placement.Placement.{Placement}
+use Rattle.uimg_fit_base.specs.declared.placement.Placement.{Placement}
 use Rattle.uimg_fit_building.specs.BuildAnswers.{is_no_file as fit_is_no_file, CanBuild, BuildsAnswer}
 use Rattle.uimg_fit_building.specs.Building.{moved, built}
 use Rattle.uimg_fit_base.specs.Faults.{is_read as fit_is_read}

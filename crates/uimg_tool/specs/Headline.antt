@@ -21,11 +21,11 @@ use Rattle.uimg_legacy.specs.Extraction as legacy_extraction
 use Rattle.uimg_legacy.specs.Work as legacy
 use Rattle.uimg_tool.specs.declared.fault.Fault.{Fault}
 use Rattle.uimg_tool.specs.declared.fault.Fault.TheVariants.{Legacy}
-use Rattle.uimg_tool.specs.declared.command.Action.{Action}
-use Rattle.uimg_tool.specs.declared.command.Action.TheVariants as action
-use Rattle.uimg_tool.specs.declared.command.Command.{Command}
-use Rattle.uimg_tool.specs.declared.command.Form.{Form}
-use Rattle.uimg_tool.specs.declared.command.Form.TheVariants as form
+use Rattle.uimg_words.specs.declared.command.Action.{Action}
+use Rattle.uimg_words.specs.declared.command.Action.TheVariants as action
+use Rattle.uimg_words.specs.declared.command.Command.{Command}
+use Rattle.uimg_words.specs.declared.command.Form.{Form}
+use Rattle.uimg_words.specs.declared.command.Form.TheVariants as form
 use Rattle.uimg_tool.specs.Faults.{end_of, of_fit}
 
 -- the file begins with the magic number of a devicetree blob (Devicetree Specification, section 5.2)

@@ -8,11 +8,10 @@ ghost use Rattle.uimg_fit_building.specs.Refusing.{is_low};
 
 use crate::building::payload_sizes::payloads_size;
 use crate::payloads::{images_of, payload_of};
-use crate::placement::Placement;
 use std::alloc::Allocator;
 use std::io::Write;
 use uimg_base::{Files, Out, PutFault, Source, WINDOW};
-use uimg_fit_base::FitFault;
+use uimg_fit_base::{FitFault, Placement};
 use uimg_tree::{Node, Tree, TreeFault, put_padded};
 
 // The most bytes of a file.

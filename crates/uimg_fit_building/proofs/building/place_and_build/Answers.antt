@@ -1,6 +1,6 @@
 use Rattle.std.proofs.Common.{ap, sym, ◌∙◌}
 use Rattle.uimg_tree.specs.Trees.{node_of}
-use Rattle.uimg_fit_building.specs.declared.placement.Placement.{Placement}
+use Rattle.uimg_fit_base.specs.declared.placement.Placement.{Placement}
 use Rattle.uimg_fit_building.specs.UnreadTrees.{moved_unread}
 use Rattle.uimg_fit_building.proofs.building.place_and_build.Goals as goal
 

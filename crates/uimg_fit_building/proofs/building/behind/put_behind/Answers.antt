@@ -5,7 +5,7 @@ use Rattle.uimg_tree.specs.Content.{Content}
 use Rattle.uimg_tree.specs.Pieces.{WritesPieces}
 use Rattle.uimg_tree.specs.Trees.{node_of}
 use Rattle.uimg_tree.proofs.WritesLaws.{◌▶◌, all-put}
-use Rattle.uimg_fit_building.specs.declared.placement.Placement.{Placement}
+use Rattle.uimg_fit_base.specs.declared.placement.Placement.{Placement}
 use Rattle.uimg_fit_building.specs.Behind.{payload_pieces, behind_pieces}
 use Rattle.uimg_fit_building.proofs.building.behind.put_behind.Goals as goal
 

@@ -1,6 +1,6 @@
 ghost use Rattle.std.specs.Prelude.{◌≡◌, ◌≢◌, false, length, IfOk};
 ghost use Rattle.uimg_legacy.specs.Parts.{has_parts};
-ghost use Rattle.uimg_tool.specs.Commands.{HasFitNames, has_fit_names_prop};
+ghost use Rattle.uimg_words.specs.Commands.{HasFitNames, has_fit_names_prop};
 
 use super::help_notes::MKIMAGE_NOTES;
 use super::{Request, RunRequest, WordsFault, flag, image, value};
@@ -10,7 +10,7 @@ use crate::number_words::{decimal, hexadecimal};
 use clap::ArgMatches;
 use std::alloc::{AllocError, Global};
 use uimg_base::{FLAT_DT, arch_code, comp_code, kind_code, os_code};
-use uimg_fit::Placement;
+use uimg_fit_base::Placement;
 use uimg_legacy::{Options, has_parts, name_field};
 
 /// The making of an image.

@@ -1,4 +1,4 @@
-use uimg_fit::Placement;
+use uimg_fit_base::Placement;
 use uimg_legacy::Options;
 
 /// What an image is made from.
