@@ -1,5 +1,5 @@
 #!/usr/bin/env python3
-"""Times uimg over a large legacy image and over FIT images, and the calls of uimg_base that move payloads.
+"""Times uimg over a large legacy image and over FIT images.
 
 The commands of one kind run several times in turn over the same file. It prints a table of the best
 and the median seconds, of MB/s at best (millions of bytes of payload a second), of peak memory, and of

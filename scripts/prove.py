@@ -98,7 +98,7 @@ class Proof:
         self.reader.start()
 
     def read(self):
-        with open(self.log, "w", encoding="utf-8") as log:
+        with open(self.log, "w", encoding="utf-8", buffering=1) as log:
             for line in self.process.stdout:
                 log.write(line)
                 so_far = re.match(r"so far: (\d+ of \d+) functions", line)
