@@ -6,11 +6,12 @@ where nothing failed.
 
 `rt ci` works side by side by an estimate of memory that is three times what a proof takes. Unless RT_JOBS is
 set, it is set to the number of processors that may be used, fewer where there is too little memory."""
+import glob
 import os
 import re
 import subprocess
 import sys
-import glob
+import time
 
 import prove
 
@@ -18,6 +19,8 @@ RT = os.environ.get("RT", "rt")
 # What the dearest proof takes, in bytes, with what is to spare.
 MEMORY = 5_000_000_000
 PROGRAM = "crates/uimg/out/uimg"
+# A line that tells the end of a proof, or that a crate's wrong bodies are tried.
+STEP = re.compile(r"rt: \w+(: its tests are)? (NOT )?(PROVED|proved)|rt: \w+: trying")
 
 
 def lanes():
@@ -26,12 +29,14 @@ def lanes():
 
 def counted(words, environment):
     """Runs a command, printing what it prints but for its count. Returns how many passed and failed."""
-    passed, failed = 0, 1
+    passed, failed, begun = 0, 1, time.monotonic()
     with subprocess.Popen(words, env=environment, stdout=subprocess.PIPE, text=True, errors="replace") as running:
         for line in running.stdout:
             count = re.fullmatch(r"(\d+) passed, (\d+) failed\n?", line)
             if count:
                 passed, failed = int(count[1]), int(count[2])
+            elif STEP.match(line):
+                print(f"{prove.in_words(time.monotonic() - begun)}: {line}", end="", flush=True)
             else:
                 print(line, end="", flush=True)
     if running.returncode and not failed:
