@@ -1,10 +1,11 @@
-# uimg: `make help` lists the targets. The programs in bin/ are built again only where a source of
-# a crate that they stand on is newer.
+# uimg: `make help` lists the targets. bin/uimg is built again only where a source of a crate that it stands on
+# is newer.
 RT ?= rt
 PREFIX ?= /usr/local
+IMAGE ?= examples/abc-kernel.img
 export RT
 
-.PHONY: all demo test install peers bench clean help
+.PHONY: all demo try check test install peers bench clean help
 .NOTPARALLEL:
 
 ## make          proves what the program stands on, and builds bin/uimg
@@ -14,17 +15,26 @@ all: bin/uimg
 bin/uimg: $(shell scripts/sources.sh uimg)
 	@scripts/build.sh uimg --version
 
-bin/uimg_bench: $(shell scripts/sources.sh uimg_bench)
-	@scripts/build.sh uimg_bench crc data/nine.bin
+bin/uimg_peers: $(shell scripts/sources.sh uimg_peers)
+	@scripts/build.sh uimg_peers index data/kernel.itb
 
-## make demo     the same, and lists a real image
-demo: bin/uimg
-	bin/uimg dumpimage -l examples/abc-kernel.img
+## make demo     lists a real image, or IMAGE=path, within two minutes; then proves the program, and lists it again
+demo:
+	@scripts/demo.sh $(IMAGE)
 
-## make test     the gate: proves every crate from nothing, tries the wrong bodies, runs the tests
+## make try ARGS="dumpimage -l examples/abc-kernel.img"   runs the program before it is proved, with run-time checks
+try:
+	@scripts/try.sh $(ARGS)
+
+## make check CRATE=uimg_its   proves a crate after a change, and runs its tests; without CRATE, all libraries that changed
+check:
+	@scripts/check.sh $(CRATE)
+
+## make test     the gate: proves every crate from nothing, tries the wrong bodies, runs the tests and the examples
 test:
 	@scripts/needs.sh rt python3
-	$(RT) ci
+	@rm -rf out/lanes
+	@python3 scripts/gate.py
 
 ## make install  puts the program and its manual page below PREFIX, which is /usr/local
 install: bin/uimg
@@ -32,14 +42,14 @@ install: bin/uimg
 	install -D -m 644 docs/uimg.1 $(DESTDIR)$(PREFIX)/share/man/man1/uimg.1
 
 ## make peers    compares it with the real mkimage, dumpimage and dtc, where they are installed
-peers: bin/uimg bin/uimg_bench
+peers: bin/uimg bin/uimg_peers
 	@scripts/needs.sh python3
-	python3 peers/peers.py bin/uimg bin/uimg_bench
+	python3 peers/peers.py bin/uimg bin/uimg_peers
 
 ## make bench    times the program beside dumpimage, mkimage, cat and cp
-bench: bin/uimg bin/uimg_bench
+bench: bin/uimg
 	@scripts/needs.sh python3
-	python3 bench/bench.py bin/uimg bin/uimg_bench
+	python3 bench/bench.py bin/uimg
 
 ## make clean    removes all that was built, and what the prover kept
 clean:

@@ -1,5 +1,5 @@
 #!/usr/bin/env python3
-"""Times uimg over a large legacy image and over FIT images, and the calls of uimg_base that move payloads.
+"""Times uimg over a large legacy image and over FIT images.
 
 The commands of one kind run several times in turn over the same file. It prints a table of the best
 and the median seconds, of MB/s at best (millions of bytes of payload a second), of peak memory, and of
@@ -101,7 +101,7 @@ def make_image(payload, image):
         file.write(struct.pack(">7I", *fields) + codes + data)
 
 
-def legacy_rows(uimg, base, folder):
+def legacy_rows(uimg, folder):
     """What is timed of a legacy image: its kind, its name, the command, and where its output goes."""
     file, image = os.path.join(folder, "payload.bin"), os.path.join(folder, "payload.img")
     text, copy = os.path.join(folder, "text"), os.path.join(folder, "copy.bin")
@@ -109,9 +109,7 @@ def legacy_rows(uimg, base, folder):
     make_image(file, image)
     extract = ["dumpimage", "-T", "kernel", "-p", "0", "-o", copy, image]
     yield "read", "cat > /dev/null", ["cat", file], "/dev/null"
-    yield "CRC-32", "uimg_base", [base, "crc", file], text
     yield "CRC-32", "Python's zlib.crc32", [sys.executable, "-c", ZLIB, file], text
-    yield "copy", "uimg_base", [base, "copy", file], copy
     yield "copy", "cat > file", ["cat", file], copy
     yield "copy", "cp", ["cp", file, copy], text
     yield "list", "uimg dumpimage -l", [uimg, "dumpimage", "-l", image], text
@@ -196,12 +194,12 @@ def print_kind(rows, widths):
 
 
 def main():
-    uimg, base = (os.path.abspath(path) for path in sys.argv[1:3])
+    uimg = os.path.abspath(sys.argv[1])
     widths = [25, 20, 7, 7, 5, 8, 11]
     print_row(["What", "By", "best s", "median", "MB/s", "peak KiB", "time, ratio"], widths)
     print("|" + "|".join("-" * (width + 2) for width in widths) + "|")
     with bench_folder() as folder:
-        legacy = ((*row, SIZE) for row in legacy_rows(uimg, base, folder))
+        legacy = ((*row, SIZE) for row in legacy_rows(uimg, folder))
         rows = itertools.chain(legacy, fit_rows(uimg, folder), build_rows(uimg, folder))
         installed = (row for row in rows if shutil.which(row[2][0]))
         for _, kind in itertools.groupby(installed, key=lambda row: row[0]):

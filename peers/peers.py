@@ -165,50 +165,50 @@ def compare_reading(uimg, kind):
     return count
 
 
-def own_blob(bench, folder, text):
+def own_blob(own, folder, text):
     """The blob that uimg makes of a source, or None where it refuses the source."""
     source = os.path.join(folder, "source.its")
     with open(source, "w") as file:
         file.write(text)
-    status, blob = output([bench, "compile", source])
+    status, blob = output([own, "compile", source])
     return blob if status == 0 else None
 
 
-def compare_source(count, bench, folder, name, text):
+def compare_source(count, own, folder, name, text):
     """The tree that dtc reads in the blobs of both; dtc's blob is indexed, with all its nodes."""
     count.images += 1
     real = its.blob(folder, text)
     tree = its.tree(folder, real)
-    own = own_blob(bench, folder, text)
-    count.expect(f"tree of {name}", own and its.tree(folder, own), tree)
+    blob = own_blob(own, folder, text)
+    count.expect(f"tree of {name}", blob and its.tree(folder, blob), tree)
     path = os.path.join(folder, "real.dtb")
     with open(path, "wb") as file:
         file.write(real)
     nodes = sum(line.endswith(b"{") for line in tree.split(b"\n"))
-    count.expect(f"index of {name}", output([bench, "index", path]), (0, b"%d nodes\n" % nodes))
+    count.expect(f"index of {name}", output([own, "index", path]), (0, b"%d nodes\n" % nodes))
 
 
-def compare_sources(bench):
+def compare_sources(own):
     """Sources that both compile, and sources that one of both refuses."""
     same, refused = Count(), Count()
     with tempfile.TemporaryDirectory() as folder:
         its.files(folder)
         for name, text in its.sources(1, 300) + its.examples():
-            compare_source(same, bench, folder, name, text)
+            compare_source(same, own, folder, name, text)
         for name, text in its.refused():
             refused.images += 1
-            here = (own_blob(bench, folder, text) is None, its.blob(folder, text) is None)
+            here = (own_blob(own, folder, text) is None, its.blob(folder, text) is None)
             named = (name not in its.DTC_OWN, name not in its.OUR_OWN)
             refused.expect(f"refusal of {name}", here, named)
     return same, refused
 
 
-def print_sources(bench):
+def print_sources(own):
     """The table of the sources. It gives the differences."""
     if shutil.which("dtc") is None:
         print("\npeers: dtc is not installed (Debian: device-tree-compiler); no source was compared")
         return []
-    same, refused = compare_sources(bench)
+    same, refused = compare_sources(own)
     print("\n| Sources that both compile | Differences | Sources that one refuses | Differences |")
     print("|---|---|---|---|")
     row = [same.images, len(same.differences), refused.images, len(refused.differences)]
@@ -283,7 +283,7 @@ def print_fits(uimg):
 
 
 def main():
-    uimg, bench = (os.path.abspath(path) for path in sys.argv[1:3])
+    uimg, own = (os.path.abspath(path) for path in sys.argv[1:3])
     if shutil.which("mkimage") is None:
         print("peers: mkimage is not installed (Debian: u-boot-tools); nothing was compared")
         return
@@ -296,7 +296,7 @@ def main():
         print(f"| {kind} | {' | '.join(str(value) for value in row)} |", flush=True)
         differences += read.differences + made.differences
     differences += print_fits(uimg)
-    differences += print_sources(bench)
+    differences += print_sources(own)
     for what, here, there in differences[:10]:
         print(f"\n{what}\n  uimg: {str(here)[:400]}\n  peer: {str(there)[:400]}")
     sys.exit(1 if differences else 0)

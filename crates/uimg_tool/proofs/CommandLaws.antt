@@ -10,11 +10,11 @@ use Rattle.uimg_base.specs.Sink.{Sink}
 use Rattle.uimg_base.specs.Outcome.{Tells}
 use Rattle.uimg_base.specs.declared.status.Status.{Status}
 use Rattle.uimg_blob.specs.Counts.{nodes_met}
-use Rattle.uimg_fit.specs.declared.fault.FitFault.{FitFault}
+use Rattle.uimg_fit_base.specs.declared.fault.FitFault.{FitFault}
 use Rattle.uimg_tool.specs.declared.fault.Fault.{Fault}
 use Rattle.uimg_tool.specs.declared.fault.Fault.TheVariants.{Legacy, Blob, Fit, Its, Read, Put, NoFile, Keep, OutOfMemory}
-use Rattle.uimg_tool.specs.declared.make_command.MakeCommand.{MakeCommand}
-use Rattle.uimg_tool.specs.declared.make_command.MakeCommand.TheVariants.{Parts, Tree}
+use Rattle.uimg_words.specs.declared.make_command.MakeCommand.{MakeCommand}
+use Rattle.uimg_words.specs.declared.make_command.MakeCommand.TheVariants.{Parts, Tree}
 use Rattle.uimg_tool.specs.Faults.{end_of, is_lost_payload, is_keep, is_of_making, is_no_memory, is_no_payload}
 use Rattle.uimg_tool.specs.Making.{timed, Keeps}
 use Rattle.uimg_tool.specs.MakingTrees.{KeepsTree, only_cleared, for_nodes}

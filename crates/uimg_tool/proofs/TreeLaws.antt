@@ -12,18 +12,18 @@ use Rattle.uimg_its.specs.Answers.{is_outside}
 use Rattle.uimg_its.specs.Grammar.{Spells}
 use Rattle.uimg_its.specs.Words.{words}
 use Rattle.uimg_its.specs.declared.fault.Kind.{Kind}
-use Rattle.uimg_fit.specs.declared.fault.Fault.{Fault as FitEngineFault}
-use Rattle.uimg_fit.specs.declared.fault.Fault.TheVariants as fit
-use Rattle.uimg_fit.specs.declared.fault.FitFault.{FitFault}
-use Rattle.uimg_fit.specs.declared.fault.FitFault.TheVariants as fit_fault
-use Rattle.uimg_fit.specs.declared.placement.Placement.{Placement}
-use Rattle.uimg_fit.specs.BuildAnswers.{is_no_file as fit_is_no_file, CanBuild, BuildsAnswer}
-use Rattle.uimg_fit.specs.Building.{moved, built}
-use Rattle.uimg_fit.specs.Faults.{is_read as fit_is_read}
-use Rattle.uimg_fit.specs.FillAnswers.{opens_no_file, fails_to_read, Fills, FillsAnswer}
-use Rattle.uimg_fit.specs.Filling.{IsFilled}
-use Rattle.uimg_fit.specs.ReadsBack.{ReadsBack}
-use Rattle.uimg_fit.specs.Refusing.{is_low, build_fault}
+use Rattle.uimg_fit_base.specs.declared.fault.Fault.{Fault as FitEngineFault}
+use Rattle.uimg_fit_base.specs.declared.fault.Fault.TheVariants as fit
+use Rattle.uimg_fit_base.specs.declared.fault.FitFault.{FitFault}
+use Rattle.uimg_fit_base.specs.declared.fault.FitFault.TheVariants as fit_fault
+use Rattle.uimg_fit_base.specs.declared.placement.Placement.{Placement}
+use Rattle.uimg_fit_building.specs.BuildAnswers.{is_no_file as fit_is_no_file, CanBuild, BuildsAnswer}
+use Rattle.uimg_fit_building.specs.Building.{moved, built}
+use Rattle.uimg_fit_base.specs.Faults.{is_read as fit_is_read}
+use Rattle.uimg_fit_building.specs.FillAnswers.{opens_no_file, fails_to_read, Fills, FillsAnswer}
+use Rattle.uimg_fit_building.specs.Filling.{IsFilled}
+use Rattle.uimg_fit_building.specs.ReadsBack.{ReadsBack}
+use Rattle.uimg_fit_building.specs.Refusing.{is_low, build_fault}
 use Rattle.uimg_tool.specs.declared.fault.Fault.{Fault}
 use Rattle.uimg_tool.specs.Faults.{of_fit, is_unread, is_no_text, is_no_payload, refuses_payload, is_lost_payload, loses_payload}
 use Rattle.uimg_tool.specs.Commands.{LacksSource, OpensSource}

@@ -18,18 +18,18 @@ use Rattle.uimg_blob.specs.declared.fault.BlobFault.{BlobFault}
 use Rattle.uimg_blob.specs.declared.fault.BlobFault.TheVariants.{BadNodeName, BadPropertyName}
 use Rattle.uimg_tree.specs.Encoding.{blob}
 use Rattle.uimg_tree.specs.Measured.{is_name, bad_property, bad_name}
-use Rattle.uimg_fit.specs.declared.fault.Fault.{Fault as FitEngineFault}
-use Rattle.uimg_fit.specs.declared.fault.Fault.TheVariants as fit
-use Rattle.uimg_fit.specs.declared.fault.FitFault.{FitFault}
-use Rattle.uimg_fit.specs.declared.fault.FitFault.TheVariants as fit_fault
-use Rattle.uimg_fit.specs.declared.placement.Placement.{Placement}
-use Rattle.uimg_fit.specs.BuildAnswers.{BuildsAnswer}
-use Rattle.uimg_fit.specs.Building.{built}
-use Rattle.uimg_fit.specs.Files.{tree_of, root_own, listed_or}
-use Rattle.uimg_fit.specs.Listing.{head_lines, lists, list_of}
-use Rattle.uimg_fit.specs.Report.{report, verify_of}
-use Rattle.uimg_tool.specs.declared.command.Action.TheVariants as action
-use Rattle.uimg_tool.specs.declared.command.Form.TheVariants as form
+use Rattle.uimg_fit_base.specs.declared.fault.Fault.{Fault as FitEngineFault}
+use Rattle.uimg_fit_base.specs.declared.fault.Fault.TheVariants as fit
+use Rattle.uimg_fit_base.specs.declared.fault.FitFault.{FitFault}
+use Rattle.uimg_fit_base.specs.declared.fault.FitFault.TheVariants as fit_fault
+use Rattle.uimg_fit_base.specs.declared.placement.Placement.{Placement}
+use Rattle.uimg_fit_building.specs.BuildAnswers.{BuildsAnswer}
+use Rattle.uimg_fit_building.specs.Building.{built}
+use Rattle.uimg_fit_base.specs.Files.{tree_of, root_own, listed_or}
+use Rattle.uimg_fit_reading.specs.Listing.{head_lines, lists, list_of}
+use Rattle.uimg_fit_base.specs.Report.{report, verify_of}
+use Rattle.uimg_words.specs.declared.command.Action.TheVariants as action
+use Rattle.uimg_words.specs.declared.command.Form.TheVariants as form
 use Rattle.uimg_tool.specs.declared.fault.Fault.{Fault}
 use Rattle.uimg_tool.specs.declared.fault.Fault.TheVariants.{Legacy, Blob, Fit, Its, Read, Put, NoFile, Keep, OutOfMemory}
 use Rattle.uimg_tool.specs.Faults.{end_of, unless_memory, of_fit, is_of_making, is_no_memory}

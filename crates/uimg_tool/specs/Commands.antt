@@ -1,32 +1,22 @@
 -- What the making of an image gives, by its command.
 use Rattle.std.specs.Prelude.{◌≡◌, ℕ, List, [], map, Option, None, Result, Ok, Err, IsTrue, IfErr, Bool, false, ⊤}
 use Rattle.std.specs.Bool.{OnFalse}
-use Rattle.std.proofs.Props.{props}
 use Rattle.uimg_base.specs.Device.{Device, Rose, RisesIf}
 use Rattle.uimg_base.specs.Held.{Held}
 use Rattle.uimg_base.specs.Named.{FileMap, SameFiles}
 use Rattle.uimg_base.specs.Outcome.{Outcome}
 use Rattle.uimg_base.specs.Sink.{Sink}
-use Rattle.uimg_fit.specs.Rooms.{TakesNodes}
+use Rattle.uimg_fit_reading.specs.Rooms.{TakesNodes}
 use Rattle.uimg_tool.specs.declared.fault.Fault.{Fault}
 use Rattle.uimg_tool.specs.declared.fault.Fault.TheVariants.{NoFile, Fit}
-use Rattle.uimg_tool.specs.declared.command.Action.TheVariants as Action
-use Rattle.uimg_tool.specs.declared.command.Form.TheVariants as Form
-use Rattle.uimg_tool.specs.declared.make_command.MakeCommand.{MakeCommand}
-use Rattle.uimg_tool.specs.declared.make_command.MakeCommand.TheVariants.{Parts, Tree}
+use Rattle.uimg_words.specs.declared.command.Action.TheVariants as Action
+use Rattle.uimg_words.specs.declared.command.Form.TheVariants as Form
+use Rattle.uimg_words.specs.declared.make_command.MakeCommand.{MakeCommand}
+use Rattle.uimg_words.specs.declared.make_command.MakeCommand.TheVariants.{Parts, Tree}
 use Rattle.uimg_tool.specs.Faults.{is_no_memory, is_of_making, is_no_text, is_no_payload, refuses_payload}
 use Rattle.uimg_tool.specs.Headline.{outcome_in, outcome_of, Takes}
-use Rattle.uimg_tool.specs.Making.{FitNames, timed, OpensNames, Lacks, BuildsNames, MakesAnswer}
+use Rattle.uimg_tool.specs.Making.{timed, OpensNames, Lacks, BuildsNames, MakesAnswer}
 use Rattle.uimg_tool.specs.MakingTrees.{BuildsSource, MakesSource, HoldsSource}
-
--- The names of a command's files are such as its options want.
-abbrev pub HasFitNames : MakeCommand → Type 0
-HasFitNames (Parts options files) = FitNames options (map (λ name. name.items) files.items)
-HasFitNames (Tree source placement) = ⊤
-
-pub has_fit_names_prop : (command : MakeCommand) → IsProp (HasFitNames command)
-has_fit_names_prop (Parts options files) = Prim.hlevel props
-has_fit_names_prop (Tree source placement) = Prim.hlevel props
 
 -- Files have the sizes that a command keeps of them: those of a tree do where the files are honest, and parts keep none.
 abbrev pub KeepsSizes : MakeCommand → FileMap → Type 0

@@ -4,10 +4,10 @@ use Rattle.uimg_base.specs.Outcome.{End, done, not_right, refused}
 use Rattle.uimg_base.specs.declared.status.Status.{Status}
 use Rattle.uimg_base.specs.declared.status.Status.TheVariants.{Done, NotRight}
 use Rattle.uimg_blob.specs.Faults.{refuses_memory}
-use Rattle.uimg_fit.specs.declared.fault.Fault.TheVariants as fit
-use Rattle.uimg_fit.specs.declared.fault.Fault.{Fault as FitEngineFault}
-use Rattle.uimg_fit.specs.declared.fault.FitFault.{FitFault}
-use Rattle.uimg_fit.specs.declared.fault.FitFault.TheVariants as fit_fault
+use Rattle.uimg_fit_base.specs.declared.fault.Fault.TheVariants as fit
+use Rattle.uimg_fit_base.specs.declared.fault.Fault.{Fault as FitEngineFault}
+use Rattle.uimg_fit_base.specs.declared.fault.FitFault.{FitFault}
+use Rattle.uimg_fit_base.specs.declared.fault.FitFault.TheVariants as fit_fault
 use Rattle.uimg_its.specs.Answers.{tells_no_file, tells_unread}
 use Rattle.uimg_legacy.specs.declared.fault.Fault.TheVariants as legacy
 use Rattle.uimg_legacy.specs.declared.fault.Fault.{Fault as LegacyEngineFault}

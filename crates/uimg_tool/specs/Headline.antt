@@ -8,12 +8,12 @@ use Rattle.uimg_base.specs.Outcome.{End, Outcome, done, not_right, refused}
 use Rattle.uimg_base.specs.declared.status.Status.{Status}
 use Rattle.uimg_texts.specs.Numbers.{be32}
 use Rattle.uimg_blob.specs.Counts.{nodes_met}
-use Rattle.uimg_fit.specs.declared.fault.Fault.{Fault as FitEngineFault}
-use Rattle.uimg_fit.specs.Rooms.{TakesNodes}
-use Rattle.uimg_fit.specs.Listing as fit_listing
-use Rattle.uimg_fit.specs.Report as fit_report
-use Rattle.uimg_fit.specs.Extraction as fit_extraction
-use Rattle.uimg_fit.specs.Work as fit
+use Rattle.uimg_fit_base.specs.declared.fault.Fault.{Fault as FitEngineFault}
+use Rattle.uimg_fit_reading.specs.Rooms.{TakesNodes}
+use Rattle.uimg_fit_reading.specs.Listing as fit_listing
+use Rattle.uimg_fit_base.specs.Report as fit_report
+use Rattle.uimg_fit_base.specs.Extraction as fit_extraction
+use Rattle.uimg_fit_reading.specs.Work as fit
 use Rattle.uimg_legacy.specs.declared.fault.LegacyFault.{LegacyFault}
 use Rattle.uimg_legacy.specs.Listing as legacy_listing
 use Rattle.uimg_legacy.specs.Report as legacy_report
@@ -21,11 +21,11 @@ use Rattle.uimg_legacy.specs.Extraction as legacy_extraction
 use Rattle.uimg_legacy.specs.Work as legacy
 use Rattle.uimg_tool.specs.declared.fault.Fault.{Fault}
 use Rattle.uimg_tool.specs.declared.fault.Fault.TheVariants.{Legacy}
-use Rattle.uimg_tool.specs.declared.command.Action.{Action}
-use Rattle.uimg_tool.specs.declared.command.Action.TheVariants as action
-use Rattle.uimg_tool.specs.declared.command.Command.{Command}
-use Rattle.uimg_tool.specs.declared.command.Form.{Form}
-use Rattle.uimg_tool.specs.declared.command.Form.TheVariants as form
+use Rattle.uimg_words.specs.declared.command.Action.{Action}
+use Rattle.uimg_words.specs.declared.command.Action.TheVariants as action
+use Rattle.uimg_words.specs.declared.command.Command.{Command}
+use Rattle.uimg_words.specs.declared.command.Form.{Form}
+use Rattle.uimg_words.specs.declared.command.Form.TheVariants as form
 use Rattle.uimg_tool.specs.Faults.{end_of, of_fit}
 
 -- the file begins with the magic number of a devicetree blob (Devicetree Specification, section 5.2)

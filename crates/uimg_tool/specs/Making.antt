@@ -15,11 +15,6 @@ use Rattle.uimg_tool.specs.declared.fault.Fault.{Fault}
 use Rattle.uimg_tool.specs.declared.fault.Fault.TheVariants.{Legacy, Blob, Fit, Its, Read, Put, NoFile, Keep, OutOfMemory}
 use Rattle.uimg_tool.specs.Faults.{is_no_file}
 
--- There is a name, and no second one unless the type is multi or script.
-pub record FitNames (options : Options) (names : List (List ℕ)) : Type 0 where
-  pub some : length names ≢ 0
-  pub single : has_parts options.kind ≡ false → length names ≡ 1
-
 -- the options at the time of the making
 abbrev pub timed : Options → ℕ → Options
 timed options time = record options { time = time }

@@ -14,17 +14,17 @@ use Rattle.uimg_its.specs.Answers.{is_outside}
 use Rattle.uimg_its.specs.Grammar.{Spells}
 use Rattle.uimg_its.specs.Words.{words}
 use Rattle.uimg_its.specs.declared.fault.Kind.{Kind}
-use Rattle.uimg_fit.specs.BuildAnswers.{CanBuild, BuildsAnswer}
-use Rattle.uimg_fit.specs.Building.{built}
-use Rattle.uimg_fit.specs.FillAnswers.{FillsAnswer}
-use Rattle.uimg_fit.specs.Filling.{IsFilled}
-use Rattle.uimg_fit.specs.Listing.{list_of}
-use Rattle.uimg_fit.specs.ReadsBack.{ReadsBack}
-use Rattle.uimg_fit.specs.Refusing.{fill_of}
-use Rattle.uimg_fit.specs.declared.fault.Fault.{Fault as FitEngineFault}
-use Rattle.uimg_fit.specs.declared.fault.Fault.TheVariants as fit
-use Rattle.uimg_fit.specs.declared.fault.FitFault.{FitFault}
-use Rattle.uimg_fit.specs.declared.placement.Placement.{Placement}
+use Rattle.uimg_fit_building.specs.BuildAnswers.{CanBuild, BuildsAnswer}
+use Rattle.uimg_fit_building.specs.Building.{built}
+use Rattle.uimg_fit_building.specs.FillAnswers.{FillsAnswer}
+use Rattle.uimg_fit_building.specs.Filling.{IsFilled}
+use Rattle.uimg_fit_reading.specs.Listing.{list_of}
+use Rattle.uimg_fit_building.specs.ReadsBack.{ReadsBack}
+use Rattle.uimg_fit_building.specs.Refusing.{fill_of}
+use Rattle.uimg_fit_base.specs.declared.fault.Fault.{Fault as FitEngineFault}
+use Rattle.uimg_fit_base.specs.declared.fault.Fault.TheVariants as fit
+use Rattle.uimg_fit_base.specs.declared.fault.FitFault.{FitFault}
+use Rattle.uimg_fit_base.specs.declared.placement.Placement.{Placement}
 use Rattle.uimg_tool.specs.declared.fault.Fault.{Fault}
 use Rattle.uimg_tool.specs.declared.fault.Fault.TheVariants.{Legacy, Blob, Fit, Its, Read, Put, NoFile, Keep, OutOfMemory}
 use Rattle.uimg_tool.specs.Headline.{begins_as_blob}

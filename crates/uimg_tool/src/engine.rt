@@ -4,16 +4,16 @@ ghost use Rattle.uimg_base.specs.Held.{held_bytes};
 ghost use Rattle.uimg_base.specs.Using.{UsesAtMost};
 ghost use Rattle.uimg_base.specs.Sink.{AppendsPrefix};
 ghost use Rattle.uimg_base.specs.Outcome.{Tells};
-ghost use Rattle.uimg_fit.specs.Rooms.{TakesNodes};
+ghost use Rattle.uimg_fit_reading.specs.Rooms.{TakesNodes};
 ghost use Rattle.uimg_tool.specs.Faults.{is_read, is_put, is_no_memory, is_refused, is_of_making, end_of};
 ghost use Rattle.uimg_tool.specs.Headline.{outcome_in, outcome_of, work_in, work, nodes_of, is_fit, ExtractsAhead, KeepsOutput, Stays, GrowthsSucceed, IsLegacy, Takes, Meets};
 
-use crate::command::{Action, Command};
 use crate::fault::Fault;
 use crate::formats::is_fit;
 use std::alloc::Allocator;
 use std::io::Write;
 use uimg_base::{Out, Room, Source, Status};
+use uimg_words::{Action, Command};
 
 // The action by the engine of legacy images.
 pub(crate) fn run_legacy<S: Source, A: Allocator, W: Write>(
@@ -67,9 +67,9 @@ fn run_fit<S: Source, A: Allocator, W: Write>(
         out.old out.new }
 {
     let status = match action {
-        Action::List => uimg_fit::list(source, room, out)?,
-        Action::Verify => uimg_fit::verify(source, room, out)?,
-        Action::Extract(position) => uimg_fit::extract(position, source, room, out)?,
+        Action::List => uimg_fit_reading::list(source, room, out)?,
+        Action::Verify => uimg_fit_reading::verify(source, room, out)?,
+        Action::Extract(position) => uimg_fit_reading::extract(position, source, room, out)?,
     };
     Ok(status)
 }

@@ -2,7 +2,7 @@ use std::alloc::AllocError;
 use thiserror::Error;
 use uimg_base::SourceFault;
 use uimg_blob::BlobFault;
-use uimg_fit::FitFault;
+use uimg_fit_base::FitFault;
 use uimg_its::ItsFault;
 use uimg_legacy::LegacyFault;
 
@@ -65,18 +65,18 @@ impl From<uimg_legacy::Fault> for Fault {
     }
 }
 
-impl From<uimg_fit::Fault> for Fault {
+impl From<uimg_fit_base::Fault> for Fault {
     ghost use Rattle.std.specs.Prelude.{◌≡◌};
     ghost use Rattle.uimg_tool.specs.Faults.{of_fit};
 
     ghost from_gives = { λ f e. e ≡ of_fit f };
 
-    fn from(fault: uimg_fit::Fault) -> Fault {
+    fn from(fault: uimg_fit_base::Fault) -> Fault {
         match fault {
-            uimg_fit::Fault::Blob(blob, at) => Fault::Blob(blob, at),
-            uimg_fit::Fault::Fit(own) => Fault::Fit(own),
-            uimg_fit::Fault::Read => Fault::Read,
-            uimg_fit::Fault::Put => Fault::Put,
+            uimg_fit_base::Fault::Blob(blob, at) => Fault::Blob(blob, at),
+            uimg_fit_base::Fault::Fit(own) => Fault::Fit(own),
+            uimg_fit_base::Fault::Read => Fault::Read,
+            uimg_fit_base::Fault::Put => Fault::Put,
         }
     }
 }

@@ -2,8 +2,8 @@ ghost use Rattle.std.specs.Prelude.{◌≡◌, false, IsTrue, IfOk, is_err};
 ghost use Rattle.uimg_base.specs.Using.{Asks};
 ghost use Rattle.uimg_tool.specs.Headline.{begins_as_blob, is_fit};
 
-use crate::command::Form;
 use uimg_base::{Source, SourceFault, number_at};
+use uimg_words::Form;
 
 // What each devicetree blob begins with.
 const BLOB_MAGIC: u32 = 0xd00d_feed;

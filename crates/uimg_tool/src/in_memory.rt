@@ -3,16 +3,16 @@ ghost use Rattle.std.specs.Prelude.{◌≡◌, false, Some, IfErr};
 ghost use Rattle.uimg_base.specs.Named.{bytes_named};
 ghost use Rattle.uimg_tool.specs.Faults.{is_read, is_unread, is_lost_payload, is_put, is_no_memory, is_keep, end_of};
 ghost use Rattle.uimg_tool.specs.Headline.{outcome_of, is_fit};
-ghost use Rattle.uimg_tool.specs.Commands.{HasFitNames, LacksFile, MakesCommand};
+ghost use Rattle.uimg_words.specs.Commands.{HasFitNames};
+ghost use Rattle.uimg_tool.specs.Commands.{LacksFile, MakesCommand};
 
-use crate::command::Command;
 use crate::engine::run_by_form;
 use crate::fault::Fault;
-use crate::make_command::MakeCommand;
 use crate::making::make;
 use std::alloc::Allocator;
 use std::io::Write;
 use uimg_base::{MemFiles, MemKept, MemShelf, MemSource, Out, Room, Source, Status};
+use uimg_words::{Command, MakeCommand};
 
 /// Carries out a command on the bytes of an image: the answer of `run`, and all that was written.
 ///

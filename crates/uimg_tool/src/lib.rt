@@ -1,26 +1,21 @@
 //! The program uimg as a function of words, streams and files.
 #![tactic(auto)]
 
-mod command;
 mod disk_files;
 mod engine;
 mod fault;
 mod formats;
 mod in_memory;
 mod main_program;
-mod make_command;
 mod making;
 mod making_lists;
 mod making_parts;
 mod making_trees;
-mod number_words;
-mod words;
 
-pub use command::{Action, Command, Form};
 pub use disk_files::DiskFiles;
 pub use engine::run;
 pub use fault::Fault;
 pub use in_memory::{make_in_memory, run_in_memory};
 pub use main_program::program;
-pub use make_command::MakeCommand;
 pub use making::{build_image, make};
+pub use uimg_words::{Action, Command, Form, MakeCommand};

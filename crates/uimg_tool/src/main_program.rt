@@ -3,9 +3,7 @@
 use crate::disk_files::DiskFiles;
 use crate::engine::run;
 use crate::fault::Fault;
-use crate::make_command::MakeCommand;
 use crate::making::make;
-use crate::words::{MakeRequest, Request, RunRequest, WordsFault, read_words};
 use std::fmt::Display;
 use std::fs;
 use std::io::{BufWriter, Write};
@@ -13,8 +11,9 @@ use std::rt::Files;
 use thiserror::Error;
 use uimg_base::{FileShelf, FileSource, Out, Room, Status};
 use uimg_blob::BlobFault;
-use uimg_fit::FitFault;
+use uimg_fit_base::FitFault;
 use uimg_its::Kind;
+use uimg_words::{MakeCommand, MakeRequest, Request, RunRequest, WordsFault, read_words};
 
 /// All is done.
 const DONE: u8 = 0;

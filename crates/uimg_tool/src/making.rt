@@ -2,10 +2,10 @@ ghost use Rattle.std.specs.Prelude.{◌≡◌, ◌<◌, ◌^◌, ◌-◌, false,
 ghost use Rattle.std.specs.Io.KnownBytes.{Keeps};
 ghost use Rattle.uimg_base.specs.Device.{RisesIf, IsFresh};
 ghost use Rattle.uimg_tool.specs.Faults.{is_unread, is_lost_payload, is_put, is_keep, is_before_building, is_of_making};
-ghost use Rattle.uimg_tool.specs.Commands.{HasFitNames, KeepsSizes, OpensToBuild, OpensToMake, BuildsCommand, MakesCommand, LeavesRoom, HoldsCommand};
+ghost use Rattle.uimg_words.specs.Commands.{HasFitNames};
+ghost use Rattle.uimg_tool.specs.Commands.{KeepsSizes, OpensToBuild, OpensToMake, BuildsCommand, MakesCommand, LeavesRoom, HoldsCommand};
 
 use crate::fault::Fault;
-use crate::make_command::MakeCommand;
 use crate::making_lists::list_kept;
 use crate::making_parts::build_parts;
 use crate::making_trees::build_tree;
@@ -13,6 +13,7 @@ use std::alloc::Allocator;
 use std::io::Write;
 use uimg_base::{Files, Out, Room, Shelf, Source};
 use uimg_legacy::Options;
+use uimg_words::MakeCommand;
 
 /// Builds the image of a command at a time, in seconds since 1970, and appends it to `image`.
 ///

@@ -5,13 +5,12 @@ ghost use Rattle.uimg_base.specs.Outcome.{Tells};
 ghost use Rattle.uimg_tool.specs.Faults.{is_read, is_put, is_no_memory, is_of_making, end_of};
 ghost use Rattle.uimg_tool.specs.Commands.{listing_of, TakesListing};
 
-use crate::command::{Action, Command, Form};
 use crate::engine::{run_by_form, run_legacy};
 use crate::fault::Fault;
-use crate::make_command::MakeCommand;
 use std::alloc::Allocator;
 use std::io::Write;
 use uimg_base::{Out, Room, Source, Status};
+use uimg_words::{Action, Command, Form, MakeCommand};
 
 /// Writes the listing of what was kept: of a legacy image, or of the format that its first bytes tell.
 pub(crate) fn list_kept<S: Source, A: Allocator, W: Write>(

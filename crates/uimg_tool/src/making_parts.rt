@@ -4,7 +4,8 @@ ghost use Rattle.uimg_base.specs.Device.{RisesIf};
 ghost use Rattle.uimg_legacy.specs.Parts.{has_parts};
 ghost use Rattle.uimg_legacy.specs.Devices.{bytes_of, AreHonest};
 ghost use Rattle.uimg_tool.specs.Faults.{is_unread, is_put, is_keep, is_before_building, is_of_making};
-ghost use Rattle.uimg_tool.specs.Making.{FitNames, OpensNames, OpensAnswer, BuildsParts, BuildsNames};
+ghost use Rattle.uimg_words.specs.Commands.{FitNames};
+ghost use Rattle.uimg_tool.specs.Making.{OpensNames, OpensAnswer, BuildsParts, BuildsNames};
 
 use crate::fault::Fault;
 use std::alloc::Allocator;

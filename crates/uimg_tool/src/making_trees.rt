@@ -11,7 +11,8 @@ use crate::fault::Fault;
 use std::alloc::Allocator;
 use std::io::Write;
 use uimg_base::{Files, MoveFault, Out, Source, WINDOW, copy_through};
-use uimg_fit::{Placement, build, fill};
+use uimg_fit_base::Placement;
+use uimg_fit_building::{build, fill};
 use uimg_its::compile;
 use uimg_tree::Tree;
 

@@ -1,5 +1,0 @@
-use Rattle.uimg_fit.proofs.PutLaws.{line_then}
-use Rattle.uimg_fit.proofs.addresses.put_address_line.Goals as goal
-
-pub returns-clause-told : goal.returns-clause-told
-returns-clause-told g c = λ honest. line_then _ _ _ _ _ _ c.in_ok-put.ensures.told.all (c.put_address.ensures.told honest)

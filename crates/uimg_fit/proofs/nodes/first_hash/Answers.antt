@@ -1,7 +1,0 @@
-use Rattle.uimg_blob.specs.LookUps.{hashes}
-use Rattle.uimg_fit.proofs.HashLaws.{children_are}
-use Rattle.uimg_fit.proofs.nodes.first_hash.Goals as goal
-
-pub returns-clause-hashes : goal.returns-clause-hashes
-returns-clause-hashes g c = λ t indexed found n.
-    c.hash_from.ensures.hashes t indexed (hashes found) (children_are t _ _ _ found c.first_child.result indexed n c.first_child.ensures.child)

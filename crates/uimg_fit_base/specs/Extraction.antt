@@ -1,0 +1,33 @@
+-- What an extraction writes.
+use Rattle.std.specs.Prelude.{ℕ, List, Option, Some, None, Result, Ok, Err}
+use Rattle.std.specs.List.{slice_get}
+use Rattle.uimg_base.specs.Outcome.{Outcome, done, told, unless_refused}
+use Rattle.uimg_base.specs.Results.{◌>>=◌}
+use Rattle.uimg_blob.specs.LookUps.{NodeOf}
+use Rattle.uimg_blob.specs.Spots.{Spot}
+use Rattle.uimg_fit_base.specs.declared.fault.Fault.{Fault}
+use Rattle.uimg_fit_base.specs.declared.fault.Fault.TheVariants.{Fit}
+use Rattle.uimg_fit_base.specs.declared.fault.FitFault.{FitFault}
+use Rattle.uimg_fit_base.specs.declared.fault.FitFault.TheVariants.{NoSuchImage}
+use Rattle.uimg_fit_base.specs.Files.{images_of}
+use Rattle.uimg_fit_base.specs.Places.{payload}
+
+-- a fault of the images is one of the file
+abbrev pub of_images : {X : Type 0} → Result X FitFault → Result X Fault
+of_images (Ok x) = Ok x
+of_images (Err fault) = Err (Fit fault)
+
+-- the payload of an image, if there is one
+abbrev pub payload_of : List ℕ → Option (NodeOf Spot) → Result (List ℕ) FitFault
+payload_of file (Some image) = payload file image
+payload_of file None = Err NoSuchImage
+
+-- the payload of the image at a position, or the first fault
+abbrev pub payload_at : List ℕ → ℕ → Result (List ℕ) Fault
+payload_at file position = do
+  found ← images_of file
+  of_images (payload_of file (slice_get found position))
+
+-- an extraction writes that payload and nothing else, or nothing
+abbrev pub extract_of : List ℕ → ℕ → Outcome Fault
+extract_of file position = unless_refused (payload_at file position) (λ bytes. told bytes done)

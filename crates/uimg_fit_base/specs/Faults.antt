@@ -1,0 +1,72 @@
+-- What the answers of this crate say.
+use Rattle.std.specs.Prelude.{◌≡◌, ⊤, Result, Ok, Err, Option, Some, None, Bool, true, false}
+use Rattle.uimg_base.specs.Outcome.{End, done, not_right, refused}
+use Rattle.uimg_base.specs.declared.status.Status.{Status}
+use Rattle.uimg_base.specs.declared.status.Status.TheVariants.{Done, NotRight}
+use Rattle.uimg_base.specs.declared.ranges.MoveFault.{MoveFault}
+use Rattle.uimg_base.specs.declared.ranges.MoveFault.TheVariants as move
+use Rattle.uimg_blob.specs.Faults.{refuses_memory}
+use Rattle.uimg_blob.specs.declared.fault.IndexFault.{IndexFault}
+use Rattle.uimg_blob.specs.declared.fault.IndexFault.TheVariants as index
+use Rattle.uimg_fit_base.specs.declared.fault.Fault.{Fault}
+use Rattle.uimg_fit_base.specs.declared.fault.Fault.TheVariants.{Blob, Fit, Read, Put}
+use Rattle.uimg_fit_base.specs.declared.fault.FitFault.TheVariants.{NoFile}
+use Rattle.uimg_tree.specs.declared.fault.TreeFault.{TreeFault}
+use Rattle.uimg_tree.specs.declared.fault.TreeFault.TheVariants as tree
+
+-- the fault of a command that a fault of the index is
+abbrev pub of_index : IndexFault → Fault
+of_index (index.Blob fault at) = Blob fault at
+of_index index.Read = Read
+
+-- a failed copy is a failed read or a failed write
+abbrev pub of_move : MoveFault → Fault
+of_move move.Read = Read
+of_move move.Put = Put
+
+-- the fault of a tree that wasn't written
+abbrev pub of_writing : TreeFault → Fault
+of_writing tree.Put = Put
+of_writing tree.Read = Read
+of_writing tree.NoFile = Fit NoFile
+
+-- the answer is that a read failed
+abbrev pub is_read : {X : Type 0} → Result X Fault → Bool
+is_read (Err Read) = true
+is_read _ = false
+
+-- the answer is that a write failed
+abbrev pub is_put : {X : Type 0} → Result X Fault → Bool
+is_put (Err Put) = true
+is_put _ = false
+
+-- the answer is that memory for the table of nodes was refused
+abbrev pub is_out_of_memory : {X : Type 0} → Result X Fault → Bool
+is_out_of_memory (Err (Blob fault at)) = refuses_memory fault
+is_out_of_memory _ = false
+
+-- an end, or none where memory was refused
+abbrev pub unless_memory : Bool → End Fault → Option (End Fault)
+unless_memory true e = None
+unless_memory false e = Some e
+
+-- the end that an answer tells, where neither a device failed nor memory was refused
+abbrev pub end_of : Result Status Fault → Option (End Fault)
+end_of (Ok Done) = Some done
+end_of (Ok NotRight) = Some not_right
+end_of (Err (Blob fault at)) = unless_memory (refuses_memory fault) (refused (Blob fault at))
+end_of (Err (Fit fault)) = Some (refused (Fit fault))
+end_of (Err _) = None
+
+-- the answer is that the image is refused, or memory for its table of nodes
+abbrev pub is_refused : {X : Type 0} → Result X Fault → Bool
+is_refused (Err (Blob fault at)) = true
+is_refused (Err (Fit fault)) = true
+is_refused _ = false
+
+-- An answer is the value or the fault of a definition, unless a device failed or memory was refused.
+abbrev pub Gives : {X Y : Type 0} → (X → Y) → Result X Fault → Result Y Fault → Type 0
+Gives view (Ok x) r = r ≡ Ok (view x)
+Gives view (Err (Blob fault at)) r = refuses_memory fault ≡ false → r ≡ Err (Blob fault at)
+Gives view (Err (Fit fault)) r = r ≡ Err (Fit fault)
+Gives view (Err _) r = ⊤

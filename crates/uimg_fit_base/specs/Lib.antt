@@ -1,0 +1,6 @@
+pub mod Faults
+pub mod Files
+pub mod Places
+pub mod Report
+pub mod Extraction
+pub mod Lying

@@ -1,0 +1,134 @@
+use thiserror::Error;
+use uimg_base::{MoveFault, PutFault, SourceFault};
+use uimg_blob::{BlobFault, IndexFault};
+use uimg_tree::TreeFault;
+
+/// What is wrong with the images of a FIT image, or with a tree that one is to be built from. Its text
+/// is the line that the program prints.
+#[derive(Clone, Copy, Debug, PartialEq, Eq, Error)]
+pub enum FitFault {
+    /// The root has no child `images`.
+    #[error("F1 no images")]
+    NoImages,
+    /// An image has no payload.
+    #[error("F2 no data")]
+    NoData,
+    /// A payload ends after the file.
+    #[error("F3 data outside")]
+    DataOutside,
+    /// There is no image at the position.
+    #[error("F4 no such image")]
+    NoSuchImage,
+    /// A hash node names no known algorithm.
+    #[error("F5 unknown algorithm")]
+    UnknownAlgo,
+    /// The payloads would begin before the blob's end.
+    #[error("F6 position too low")]
+    PositionTooLow,
+    /// The file would have more than 4294967295 bytes.
+    #[error("F7 too large")]
+    TooLarge,
+    /// Memory was refused.
+    #[error("F8 out of memory")]
+    OutOfMemory,
+    /// A payload's file could not be opened.
+    #[error("F9 no file")]
+    NoFile,
+    /// A read of a payload's file failed, or the file has another size than the tree keeps.
+    #[error("F10 read failed")]
+    ReadFailed,
+}
+
+/// Why a command stopped.
+#[derive(Clone, Copy, Debug, PartialEq, Eq, Error)]
+pub enum Fault {
+    /// The blob is refused, or the memory for its table of nodes was; the offset is counted from the
+    /// file's start. Of a tree that is built it is a bad name, at offset 0.
+    #[error("{0} at {1}")]
+    Blob(BlobFault, u64),
+    /// The images are refused.
+    #[error("{0}")]
+    Fit(FitFault),
+    /// A read failed, or a payload's file has another size than the tree keeps.
+    #[error("read failed")]
+    Read,
+    /// A write failed.
+    #[error("write failed")]
+    Put,
+}
+
+impl From<IndexFault> for Fault {
+    ghost use Rattle.std.specs.Prelude.{◌≡◌};
+    ghost use Rattle.uimg_fit_base.specs.Faults.{of_index};
+
+    ghost from_gives = { λ f e. e ≡ of_index f };
+
+    fn from(fault: IndexFault) -> Fault {
+        match fault {
+            IndexFault::Blob(blob, at) => Fault::Blob(blob, at),
+            IndexFault::Read => Fault::Read,
+        }
+    }
+}
+
+impl From<FitFault> for Fault {
+    ghost use Rattle.std.specs.Prelude.{◌≡◌};
+    ghost use Rattle.uimg_fit_base.specs.declared.fault.Fault.TheVariants.{Fit};
+
+    ghost from_gives = { λ f e. e ≡ Fit f };
+
+    fn from(fault: FitFault) -> Fault {
+        Fault::Fit(fault)
+    }
+}
+
+impl From<SourceFault> for Fault {
+    ghost use Rattle.std.specs.Prelude.{◌≡◌};
+    ghost use Rattle.uimg_fit_base.specs.declared.fault.Fault.TheVariants.{Read};
+
+    ghost from_gives = { λ _ e. e ≡ Read };
+
+    fn from(_fault: SourceFault) -> Fault {
+        Fault::Read
+    }
+}
+
+impl From<PutFault> for Fault {
+    ghost use Rattle.std.specs.Prelude.{◌≡◌};
+    ghost use Rattle.uimg_fit_base.specs.declared.fault.Fault.TheVariants.{Put};
+
+    ghost from_gives = { λ _ e. e ≡ Put };
+
+    fn from(_fault: PutFault) -> Fault {
+        Fault::Put
+    }
+}
+
+impl From<MoveFault> for Fault {
+    ghost use Rattle.std.specs.Prelude.{◌≡◌};
+    ghost use Rattle.uimg_fit_base.specs.Faults.{of_move};
+
+    ghost from_gives = { λ f e. e ≡ of_move f };
+
+    fn from(fault: MoveFault) -> Fault {
+        match fault {
+            MoveFault::Read => Fault::Read,
+            MoveFault::Put => Fault::Put,
+        }
+    }
+}
+
+impl From<TreeFault> for Fault {
+    ghost use Rattle.std.specs.Prelude.{◌≡◌};
+    ghost use Rattle.uimg_fit_base.specs.Faults.{of_writing};
+
+    ghost from_gives = { λ f e. e ≡ of_writing f };
+
+    fn from(fault: TreeFault) -> Fault {
+        match fault {
+            TreeFault::Put => Fault::Put,
+            TreeFault::Read => Fault::Read,
+            TreeFault::NoFile => Fault::Fit(FitFault::NoFile),
+        }
+    }
+}

@@ -1,0 +1,15 @@
+//! What the reading and the building of FIT images both stand on: the faults, the words of a report,
+//! the place of a payload, and payloads that are summed. `specs/` has what FIT images mean.
+#![tactic(auto)]
+
+mod fault;
+mod feeds;
+mod place;
+mod placement;
+mod words;
+
+pub use fault::{Fault, FitFault};
+pub use feeds::{digest_at, feed_through};
+pub use place::Place;
+pub use placement::Placement;
+pub use words::{Word, digests_used, is_right, word_text};

@@ -1,0 +1,42 @@
+-- The hash nodes of an image one by one.
+use Rattle.std.proofs.Common.{◌≡◌, ◌<◌, ℕ, zero, suc, List, [], ◌∷◌, length, map, take, get_or, replicate, None, Bool, true, false, cond, refl, ◌∙◌, arith, Result, Ok, Err, OnOk}
+use Rattle.std.specs.List.{filter, AllByRecursion}
+use Rattle.std.proofs.lemmas.List.{take_at}
+use Rattle.uimg_sums.specs.declared.algo.Algo.{Algo}
+use Rattle.uimg_sums.specs.Algorithms.{algo_named, digest_by, digest_size}
+use Rattle.uimg_sums.specs.AnySum.{padded_digest}
+use Rattle.uimg_sums.proofs.DigestSizes.{length-digest_by}
+use Rattle.uimg_texts.specs.Nul.{before_nul, text}
+use Rattle.uimg_blob.specs.Roles.{is_hash}
+use Rattle.uimg_blob.specs.LookUps.{NodeOf}
+use Rattle.uimg_tree.specs.declared.tree.Node.{Node}
+use Rattle.uimg_tree.specs.Content.{Content}
+use Rattle.uimg_fit_building.specs.declared.filling.algo_sets.AlgoSet.{AlgoSet}
+use Rattle.uimg_fit_building.specs.Behind.{entry}
+use Rattle.uimg_fit_building.specs.PayloadSums.{IsCovered}
+
+-- a value in a file names no algorithm
+pub no_name : algo_named (text []) ≡ None
+unfolding text before_nul
+no_name = refl
+
+-- a digest is the front of its padded form
+pub front-digest : (algo : Algo) (message : List ℕ) → take (digest_size algo) (padded_digest (digest_by algo message)).0 ≡ digest_by algo message
+front-digest algo message = take_at (digest_by algo message) (replicate _ 0) (digest_size algo) (length-digest_by algo message)
+
+pub on-ok : {X F : Type 0} {P Q : Type 0} (r : Result X F) → (P → Q) → OnOk r P → OnOk r Q
+on-ok (Ok x) f h = f h
+on-ok (Err e) f h = tt
+
+-- a hash node among those whose algorithms are in use
+covered-step : (set : AlgoSet) (b : Bool) (h : NodeOf Content) (hs : List (NodeOf Content)) → b ≡ is_hash h.name → AllByRecursion (IsCovered set) (cond b (h ∷ hs) hs)
+    → (is_hash h.name ≡ true → IsCovered set h) × AllByRecursion (IsCovered set) hs
+covered-step set true h hs e all = (λ is. all.0, all.1)
+covered-step set false h hs e all = ((λ is. absurd (let clash : false ≡ true = e ∙ is in cc)), all)
+
+pub covered-at : {A : Type 0} (set : AlgoSet) (ns : List (Node A)) (i : ℕ) (d : Node A) → i < length ns → AllByRecursion (IsCovered set) (filter (λ h. is_hash h.name) (map entry ns))
+    → is_hash (get_or ns i d).name ≡ true → IsCovered set (entry (get_or ns i d))
+covered-at set [] i d within all is = absurd (omega (arith, within))
+covered-at set (n ∷ ns) zero d within all is = (covered-step set (is_hash n.name) (entry n) (filter (λ h. is_hash h.name) (map entry ns)) refl all).0 is
+covered-at set (n ∷ ns) (suc i) d within all is =
+    covered-at set ns i d (omega (arith, within)) (covered-step set (is_hash n.name) (entry n) (filter (λ h. is_hash h.name) (map entry ns)) refl all).1 is

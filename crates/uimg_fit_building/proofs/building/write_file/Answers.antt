@@ -1,0 +1,61 @@
+use Rattle.std.proofs.Common.{◌≡◌, ℕ, List, Option, IsTrue, is_err, ap, sym, subst, ◌∙◌}
+use Rattle.std.specs.Bool.{OnFalse}
+use Rattle.std.specs.List.{AllByRecursion}
+use Rattle.uimg_tree.specs.Content.{Unread, AreKept, IsKept, in_full}
+use Rattle.uimg_tree.specs.Encoding.{encode}
+use Rattle.uimg_tree.specs.Layouts.{plan_of, totalsize}
+use Rattle.uimg_tree.specs.Trees.{node_of}
+use Rattle.uimg_fit_building.specs.Behind.{behind_pieces}
+use Rattle.uimg_fit_building.specs.Building.{moved, behind}
+use Rattle.uimg_fit_building.specs.UnreadTrees.{moved_unread}
+use Rattle.uimg_fit_building.proofs.KeptLaws.{kept-then}
+use Rattle.uimg_fit_building.proofs.SendLaws.{Text, went_well, failed, goes, stops, refused, blob-sent, behind-sent}
+use Rattle.uimg_fit_building.proofs.building.write_file.Goals as goal
+
+pub returns-in_err-write_tree-clause-sent : goal.returns-in_err-write_tree-clause-sent
+returns-in_err-write_tree-clause-sent g c =
+    let steady = g.F.Opened.Source.steady in
+    let t = node_of c.args.tree.now.root in
+    let placement = c.args.placement in
+    let m = g.F.Files.map c.args.files.now in
+    let n = g.F.Files.map c.write_tree.new.files in
+    let s = c.args.out.now in
+    let u = c.write_tree.new.out in
+    let e = c.in_err-write_tree.field-0.0 in
+    let w = c.in_err-write_tree.ensures in
+    let a : Text = λ files. encode (moved (in_full files t) placement) in
+    let b : Text = λ files. behind (in_full files t) placement in
+    refused steady t c.from_residual.result e m n s u _ c.from_residual.ensures.1
+    (stops steady t e m n s u a b (blob-sent steady t placement (failed e) m n s u (node_of c.args.placed.now.root) c.requires.placed w.files w.faults w.found w.steady w.written))
+
+pub returns-clause-kept : goal.returns-clause-kept
+returns-clause-kept g c = λ honest.
+    let t = node_of c.args.tree.now.root in
+    let placement = c.args.placement in
+    let size = c.totalsize.result in
+    let m = g.F.Files.map c.args.files.now in
+    let r = c.put_behind.result in
+    let same = c.in_ok-write_tree.ensures.files.same in
+    kept-then m.bytes r size t placement (subst (λ (u : Unread). AreKept m.bytes u) c.requires.placed (c.in_ok-write_tree.ensures.kept honest))
+    (subst (λ (f : List ℕ → Option (List ℕ)). OnFalse (is_err r) (AllByRecursion (IsKept f) (behind_pieces size t placement))) same.bytes
+    (c.put_behind.ensures.kept (subst IsTrue (sym same.honest) honest)))
+
+pub returns-clause-sent : goal.returns-clause-sent
+returns-clause-sent g c =
+    let steady = g.F.Opened.Source.steady in
+    let t = node_of c.args.tree.now.root in
+    let placement = c.args.placement in
+    let m = g.F.Files.map c.args.files.now in
+    let n = g.F.Files.map c.write_tree.new.files in
+    let k = g.F.Files.map c.put_behind.new.files in
+    let s = c.args.out.now in
+    let u = c.write_tree.new.out in
+    let v = c.put_behind.new.out in
+    let r = c.put_behind.result in
+    let w = c.in_ok-write_tree.ensures in
+    let a : Text = λ files. encode (moved (in_full files t) placement) in
+    let b : Text = λ files. behind (in_full files t) placement in
+    let size : totalsize (plan_of (moved_unread t placement)) ≡ c.totalsize.result =
+    ap (λ (p : Unread). totalsize (plan_of p)) (sym c.requires.placed) ∙ ap totalsize (sym c.requires.plan) ∙ sym c.totalsize.ensures in
+    goes steady t r m n k s u v a b (blob-sent steady t placement went_well m n s u (node_of c.args.placed.now.root) c.requires.placed w.files w.faults w.found w.steady w.written)
+    (behind-sent steady t placement r n k u v c.totalsize.result size c.put_behind.ensures)

@@ -1,0 +1,59 @@
+use Rattle.std.proofs.Common.{◌≡◌, ◌<◌, ◌≤◌, ℕ, List, Option, Some, length, get_or, set, ap, sym, subst, arith}
+use Rattle.std.specs.List.{AllByRecursion}
+use Rattle.std.specs.Bool.{⊤}
+use Rattle.uimg_blob.specs.LookUps.{NodeOf, listed}
+use Rattle.uimg_tree.specs.Content.{Content}
+use Rattle.uimg_tree.specs.Trees.{siblings}
+use Rattle.uimg_tree.specs.declared.tree.Node.{Node}
+use Rattle.uimg_fit_building.specs.FillOrder.{FillsInOrder}
+use Rattle.uimg_fit_building.specs.ImageFillings.{IsKeptImage, FillsParent, FillsBelow}
+use Rattle.uimg_fit_building.proofs.FillTreeLaws.{before, none-among, no-images, among-found, root-told, images-kept}
+use Rattle.uimg_fit_building.proofs.filling.fill_below.Goals as goal
+
+pub returns-then-at-nodes-clause-filled : goal.returns-then-at-nodes-clause-filled
+returns-then-at-nodes-clause-filled g c = λ honest.
+    no-images c.args.nodes.now (let past : length c.args.nodes.now ≤ before c.args.nodes.now = omega (arith, c.if-at-nodes.true, c.before_images-at.ensures) in past)
+
+pub returns-then-at-nodes-clause-order : goal.returns-then-at-nodes-clause-order
+returns-then-at-nodes-clause-order g c = λ honest.
+    none-among c.args.nodes.now (let past : length c.args.nodes.now ≤ before c.args.nodes.now = omega (arith, c.if-at-nodes.true, c.before_images-at.ensures) in past)
+
+pub returns-clause-found : goal.returns-clause-found
+returns-clause-found g c = λ complete all.
+    let ns = c.args.nodes.now in
+    let d = c.index-nodes-at.result in
+    let within : before ns < length ns = omega (arith, c.if-at-nodes.false, c.before_images-at.ensures) in
+    let is : get_or ns c.before_images-at.result d ≡ get_or ns (before ns) d = ap (λ (k : ℕ). get_or ns k d) c.before_images-at.ensures in
+    c.fill_parent.ensures.found complete
+    (subst (λ (n : Node _). AllByRecursion (IsKeptImage (g.F.Files.map c.args.files.now).bytes) (listed n.children)) (sym is) (images-kept (g.F.Files.map c.args.files.now).bytes ns d c.fill_parent.new.parent within all))
+
+pub returns-clause-steady : goal.returns-clause-steady
+returns-clause-steady g c = λ steady honest all.
+    let ns = c.args.nodes.now in
+    let d = c.index-nodes-at.result in
+    let within : before ns < length ns = omega (arith, c.if-at-nodes.false, c.before_images-at.ensures) in
+    let is : get_or ns c.before_images-at.result d ≡ get_or ns (before ns) d = ap (λ (k : ℕ). get_or ns k d) c.before_images-at.ensures in
+    c.fill_parent.ensures.steady steady honest
+    (subst (λ (n : Node _). AllByRecursion (IsKeptImage (g.F.Files.map c.args.files.now).bytes) (listed n.children)) (sym is) (images-kept (g.F.Files.map c.args.files.now).bytes ns d c.fill_parent.new.parent within all))
+
+pub returns-clause-filled : goal.returns-clause-filled
+returns-clause-filled g c = λ honest.
+    let ns = c.args.nodes.now in
+    let d = c.index-nodes-at.result in
+    let new = c.fill_parent.new.parent in
+    let files = (g.F.Files.map c.args.files.now).bytes in
+    let within : before ns < length ns = omega (arith, c.if-at-nodes.false, c.before_images-at.ensures) in
+    let is : get_or ns c.before_images-at.result d ≡ get_or ns (before ns) d = ap (λ (k : ℕ). get_or ns k d) c.before_images-at.ensures in
+    let told = subst (λ (n : Node _). FillsParent files n new c.fill_parent.result) is (c.fill_parent.ensures.filled honest) in
+    subst (λ (k : ℕ). FillsBelow files (siblings ns) (siblings (set ns k new)) c.fill_parent.result) (sym c.before_images-at.ensures)
+    (root-told files ns d new within ⊤ c.fill_parent.result told)
+
+pub returns-clause-order : goal.returns-clause-order
+returns-clause-order g c = λ honest.
+    let ns = c.args.nodes.now in
+    let d = c.index-nodes-at.result in
+    let files = g.F.Files.map c.args.files.now in
+    let within : before ns < length ns = omega (arith, c.if-at-nodes.false, c.before_images-at.ensures) in
+    let is : get_or ns c.before_images-at.result d ≡ get_or ns (before ns) d = ap (λ (k : ℕ). get_or ns k d) c.before_images-at.ensures in
+    let told = subst (λ (n : Node _). FillsInOrder files g.F.Opened.Source.steady (Some (listed n.children)) c.fill_parent.result) is (c.fill_parent.ensures.order honest) in
+    subst (λ (o : Option (List (NodeOf Content))). FillsInOrder files g.F.Opened.Source.steady o c.fill_parent.result) (sym (among-found ns d within)) told

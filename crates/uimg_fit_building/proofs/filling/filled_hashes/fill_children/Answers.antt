@@ -1,0 +1,34 @@
+use Rattle.std.proofs.Common.{◌≡◌, ◌<◌, length, get_or, arith, ap, subst, sym, true, ◌∙◌}
+use Rattle.std.proofs.Math.ListN.{length-set}
+use Rattle.uimg_blob.specs.Roles.{is_hash}
+use Rattle.uimg_tree.specs.declared.tree.Node.{Node}
+use Rattle.uimg_fit_building.specs.Behind.{entry}
+use Rattle.uimg_fit_building.specs.ImageFillings.{hashed_in}
+use Rattle.uimg_fit_building.specs.PayloadSums.{IsCovered}
+use Rattle.uimg_fit_building.proofs.EachLaws.{same-at, changed-more, changed-all}
+use Rattle.uimg_fit_building.proofs.FilledHashLaws.{covered-at}
+use Rattle.uimg_fit_building.proofs.filling.filled_hashes.fill_children.Goals as goal
+
+pub loop-node-preserved : goal.loop-node-preserved
+loop-node-preserved g c =
+    let old = c.args.nodes.now in
+    let now = c.loop-node.nodes in
+    let i = c.loop-node.node-index in
+    let d = c.node-item.result in
+    let child = get_or now i d in
+    let in_now : i < length now = omega arith in
+    let in_old : i < length old = omega (arith, c.loop-node.invariant.long) in
+    record {
+      long = length-set now i c.fill_child.new.node ∙ c.loop-node.invariant.long;
+      changed = λ message all covered.
+          let was = c.loop-node.invariant.changed message all covered in
+          let here : child ≡ get_or old i d = same-at entry (hashed_in message) old now i d in_old in_now was.rest in
+          let covers : is_hash child.name ≡ true → IsCovered c.args.set (entry child) =
+          λ is. subst (λ (n : Node _). IsCovered c.args.set (entry n)) (sym here) (covered-at c.args.set old i d in_old covered (subst (λ (n : Node _). is_hash n.name ≡ true) here is)) in
+          changed-more entry (hashed_in message) old now i d c.fill_child.new.node in_old in_now was
+          (c.in_ok-fill_child.ensures.filled message all covers ∙ ap (λ (n : Node _). hashed_in message (entry n)) here);
+    }
+
+pub returns-clause-filled : goal.returns-clause-filled
+returns-clause-filled g c = λ message all covered.
+    changed-all entry (hashed_in message) c.args.nodes.now c.loop-node.nodes c.loop-node.node-index (omega (arith, c.loop-node.invariant.long)) (omega (arith)) (c.loop-node.invariant.changed message all covered)

@@ -1,0 +1,47 @@
+use Rattle.std.proofs.Common.{◌∙◌, refl, sym, ap, Option, Some}
+use Rattle.std.specs.Bool.{⊤}
+use Rattle.uimg_fit_building.specs.declared.filling.algo_sets.AlgoSet.{AlgoSet}
+use Rattle.uimg_tree.specs.Content.{bytes_in}
+use Rattle.uimg_tree.specs.Properties.{content}
+use Rattle.uimg_tree.specs.Trees.{siblings}
+use Rattle.uimg_fit_building.proofs.FillOrderLaws.{always}
+use Rattle.uimg_fit_building.proofs.ImageFillLaws.{not-known, all-known, all-covered, none-found, none-hashed, some-hashed, stops-at, empty-is, some-are, children-filled}
+use Rattle.uimg_fit_building.proofs.filling.filled_images.fill_hashes.Goals as goal
+
+pub returns-in_default-clause-filled : goal.returns-in_default-clause-filled
+returns-in_default-clause-filled g c = λ honest. not-known c.args.nodes.now _ refl (sym c.algos_of.ensures ∙ c.in_default.is)
+
+pub returns-then-is_empty-clause-filled : goal.returns-then-is_empty-clause-filled
+returns-then-is_empty-clause-filled g c = λ honest.
+    let is = sym c.algos_of.ensures ∙ c.in-Some.is in
+    let empty = empty-is c.in-Some.set (sym c.is_empty.ensures ∙ c.if-is_empty.true) in (
+      all-known c.args.nodes.now _ refl c.in-Some.set is,
+      none-hashed c.args.nodes.now _ refl (bytes_in (g.F.Files.map c.args.files.now).bytes (content c.args.payload.now))
+          (is ∙ ap (λ (s : AlgoSet). let o : Option AlgoSet = Some s in o) empty),
+    )
+
+pub returns-in-Err-clause-filled : goal.returns-in-Err-clause-filled
+returns-in-Err-clause-filled g c = λ honest.
+    let is = sym c.algos_of.ensures ∙ c.in-Some.is in
+    stops-at {X = ⊤} (λ u. siblings c.args.nodes.now) (g.F.Files.map c.args.files.now).bytes (content c.args.payload.now) (siblings c.args.nodes.now) c.in-Err.fault c.in-Err.ensures.faults
+    (all-known c.args.nodes.now _ refl c.in-Some.set is)
+    (some-hashed c.args.nodes.now _ refl c.in-Some.set is (some-are c.in-Some.set (sym c.is_empty.ensures ∙ c.if-is_empty.false)))
+
+pub returns-in-Ok-clause-filled : goal.returns-in-Ok-clause-filled
+returns-in-Ok-clause-filled g c = λ honest.
+    let is = sym c.algos_of.ensures ∙ c.in-Some.is in
+    let files = (g.F.Files.map c.args.files.now).bytes in
+    let payload = content c.args.payload.now in
+    children-filled c.fill_children.result files payload c.args.nodes.now c.fill_children.new.nodes
+    (all-known c.args.nodes.now _ refl c.in-Some.set is)
+    c.fill_children.ensures.memory
+    (c.fill_children.ensures.filled (bytes_in files payload) (c.in-Ok.ensures.digests honest) (all-covered c.args.nodes.now _ refl c.in-Some.set is))
+
+pub returns-then-is_empty-clause-kept : goal.returns-then-is_empty-clause-kept
+returns-then-is_empty-clause-kept g c = λ honest hashed.
+    let is = sym c.algos_of.ensures ∙ c.in-Some.is in
+    let empty = empty-is c.in-Some.set (sym c.is_empty.ensures ∙ c.if-is_empty.true) in
+    absurd (hashed (none-found c.args.nodes.now _ refl (is ∙ ap (λ (s : AlgoSet). let o : Option AlgoSet = Some s in o) empty)))
+
+pub returns-in-Ok-clause-kept : goal.returns-in-Ok-clause-kept
+returns-in-Ok-clause-kept g c = λ honest. always c.fill_children.result (λ hashed. c.in-Ok.ensures.kept honest)

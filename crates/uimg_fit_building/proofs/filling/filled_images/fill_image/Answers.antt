@@ -1,0 +1,55 @@
+use Rattle.std.proofs.Common.{◌≡◌, ◌≢◌, ◌∙◌, sym, subst, ap, List, [], length, OnOk, arith}
+use Rattle.std.specs.List.{filter}
+use Rattle.std.specs.Bool.{⊤}
+use Rattle.uimg_blob.specs.Plain.{NamedOf}
+use Rattle.uimg_blob.specs.LookUps.{listed}
+use Rattle.uimg_blob.specs.Roles.{is_hash}
+use Rattle.uimg_tree.specs.Content.{Content, Unread, IsKept}
+use Rattle.uimg_tree.specs.Properties.{content}
+use Rattle.uimg_tree.specs.Trees.{siblings}
+use Rattle.uimg_tree.specs.declared.tree.Node.{Node}
+use Rattle.uimg_fit_building.specs.Filling.{without_external}
+use Rattle.uimg_fit_building.specs.Behind.{entry}
+use Rattle.uimg_fit_building.specs.ImageFillings.{FillsHashes, FillsImage}
+use Rattle.uimg_fit_building.proofs.EachLaws.{written-back}
+use Rattle.uimg_fit_building.proofs.FillOrderLaws.{next-is}
+use Rattle.uimg_fit_building.proofs.ImageFillLaws.{no-data, image-told, content-none, content-some}
+use Rattle.uimg_fit_building.proofs.filling.filled_images.fill_image.Goals as goal
+
+pub returns-in_default-clause-filled : goal.returns-in_default-clause-filled
+returns-in_default-clause-filled g c = λ honest. no-data (entry c.args.image.now) (sym c.payload_of.ensures ∙ content-none _ c.payload_of.result c.in_default.is)
+
+pub returns-in_default-clause-order : goal.returns-in_default-clause-order
+returns-in_default-clause-order g c = λ honest. no-data (entry c.args.image.now) (sym c.payload_of.ensures ∙ content-none _ c.payload_of.result c.in_default.is)
+
+pub returns-clause-filled : goal.returns-clause-filled
+returns-clause-filled g c = λ honest.
+    let files = (g.F.Files.map c.args.files.now).bytes in
+    let image = c.args.image.now in
+    let now = c.fill_hashes-answer.new.nodes in
+    let payload = content c.in-Some.payload.now in
+    let answer = c.fill_hashes-answer.result in
+    let there = sym c.payload_of.ensures ∙ content-some _ c.payload_of.result c.in-Some.payload c.in-Some.is in
+    let below : siblings c.as_mut_slice.result.now ≡ image.children = ap siblings c.as_mut_slice.ensures.value ∙ c.into_vec-list.ensures ∙ c.replace-nodes.ensures.value in
+    let slots = c.as_mut_slice.ensures in
+    let long : length c.into_vec-list.result.items ≡ c.into_vec-list.result.len = ap (λ (l : List (Node _)). length l) (sym slots.value) ∙ slots.len in
+    let back = written-back c.into_vec-list.result.len now c.into_vec-list.result.items (omega (arith, long, slots.len, c.fill_hashes-answer.auto.nodes)) long (omega (arith, slots.len, c.fill_hashes-answer.auto.nodes)) in
+    let own = c.without_external.ensures ∙ ap (λ (l : List (NamedOf Content)). without_external l) c.replace-props.ensures.value in
+    let children = c.of-2.ensures ∙ ap siblings back in
+    let told = image-told ⊤ answer files (entry image) payload (siblings now) there
+    (subst (λ (t : Unread). FillsHashes (λ u. siblings now) files payload t answer) below (c.fill_hashes-answer.ensures.filled honest)) in
+    subst (λ (l : List (NamedOf Content)). FillsImage files (entry image) (record { name = image.name; own = l; below = c.of-2.result }) answer) (sym own)
+    (subst (λ (t : Unread). FillsImage files (entry image) (record { name = image.name; own = without_external image.props; below = t }) answer) (sym children) told)
+
+pub returns-clause-order : goal.returns-clause-order
+returns-clause-order g c = λ honest.
+    let files = g.F.Files.map c.args.files.now in
+    let now = c.fill_hashes-answer.new.nodes in
+    let payload = content c.in-Some.payload.now in
+    let answer = c.fill_hashes-answer.result in
+    let there = sym c.payload_of.ensures ∙ content-some _ c.payload_of.result c.in-Some.payload c.in-Some.is in
+    let below : siblings c.as_mut_slice.result.now ≡ c.args.image.now.children = ap siblings c.as_mut_slice.ensures.value ∙ c.into_vec-list.ensures ∙ c.replace-nodes.ensures.value in
+    next-is files g.F.Opened.Source.steady (entry c.args.image.now) payload there (λ u. siblings now) answer
+    (subst (λ (t : Unread). FillsHashes (λ u. siblings now) files.bytes payload t answer) below (c.fill_hashes-answer.ensures.filled honest))
+    (subst (λ (t : Unread). OnOk answer (filter (λ h. is_hash h.name) (listed t) ≢ [] → IsKept files.bytes payload)) below (c.fill_hashes-answer.ensures.kept honest))
+    c.fill_hashes-answer.ensures.found (λ steady kept. c.fill_hashes-answer.ensures.steady steady honest kept)

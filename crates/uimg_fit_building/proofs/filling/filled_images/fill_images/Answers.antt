@@ -1,0 +1,128 @@
+use Rattle.std.proofs.Common.{◌≡◌, ◌<◌, ◌∙◌, ℕ, List, Bool, false, Option, Some, None, Err, length, map, set, get_or, arith, ap, refl, subst, sym, IsTrue}
+use Rattle.std.proofs.Math.ListN.{length-set}
+use Rattle.std.specs.Bool.{⊤}
+use Rattle.uimg_tree.specs.declared.tree.Node.{Node}
+use Rattle.uimg_fit_building.specs.Behind.{entry}
+use Rattle.uimg_fit_building.specs.FillAnswers.{opens_no_file, fails_to_read}
+use Rattle.uimg_fit_building.specs.FillOrder.{IsPassed, IsRefused, FillsInOrder}
+use Rattle.uimg_fit_building.specs.ImageFillings.{filled_over, fault_in_memory, FillsImage, FillsImages, IsKeptImage}
+use Rattle.uimg_fit_building.proofs.EachLaws.{same-at, rest-more, changed-more}
+use Rattle.uimg_fit_building.proofs.FillOrderLaws.{by-refusal, all-more, all-of, refused-before, order-refused}
+use Rattle.uimg_fit_building.proofs.ImagesFillLaws.{images-refused, sound-more, entry-at, none-sound}
+use Rattle.uimg_fit_building.proofs.filling.filled_images.fill_images.Goals as goal
+
+pub loop-image-init : goal.loop-image-init
+loop-image-init g c = record {
+  long = refl;
+  same = record { bytes = refl; honest = refl; complete = refl };
+  refusals = refl;
+  rest = refl;
+  filled = λ honest. record { rest = refl; done = refl };
+  sound = λ honest. none-sound;
+  passed = λ honest. tt;
+}
+
+pub returns-in_err-fill_image-clause-found : goal.returns-in_err-fill_image-clause-found
+returns-in_err-fill_image-clause-found g c = λ complete all.
+    let old = c.args.images.now in
+    let now = c.loop-image.images in
+    let i = c.loop-image.image-index in
+    let d = c.image-item.result in
+    let s = c.loop-image.invariant in
+    let files = (g.F.Files.map c.args.files.now).bytes in
+    let in_now : i < length now = omega arith in
+    let in_old : i < length old = omega (arith, s.long) in
+    let here : get_or now i d ≡ get_or old i d = same-at entry (filled_over files) old now i d in_old in_now s.rest in
+    let kept = subst (λ (n : Node _). IsKeptImage files (entry n)) (sym here) (entry-at (IsKeptImage files) old i d in_old all) in
+    by-refusal (λ r. opens_no_file r ≡ false) c.from_residual.result c.in_err-fill_image.field-0.0 c.from_residual.ensures.1
+    (c.in_err-fill_image.ensures.found (subst (λ (b : Bool). IsTrue b) (sym s.same.complete) complete)
+    (subst (λ (b : List ℕ → Option (List ℕ)). IsKeptImage b (entry (get_or now i d))) (sym s.same.bytes) kept))
+
+pub returns-in_err-fill_image-clause-steady : goal.returns-in_err-fill_image-clause-steady
+returns-in_err-fill_image-clause-steady g c = λ steady honest all.
+    let old = c.args.images.now in
+    let now = c.loop-image.images in
+    let i = c.loop-image.image-index in
+    let d = c.image-item.result in
+    let s = c.loop-image.invariant in
+    let files = (g.F.Files.map c.args.files.now).bytes in
+    let in_now : i < length now = omega arith in
+    let in_old : i < length old = omega (arith, s.long) in
+    let here : get_or now i d ≡ get_or old i d = same-at entry (filled_over files) old now i d in_old in_now s.rest in
+    let kept = subst (λ (n : Node _). IsKeptImage files (entry n)) (sym here) (entry-at (IsKeptImage files) old i d in_old all) in
+    by-refusal (λ r. fails_to_read r ≡ false) c.from_residual.result c.in_err-fill_image.field-0.0 c.from_residual.ensures.1
+    (c.in_err-fill_image.ensures.steady steady (subst (λ (b : Bool). IsTrue b) (sym s.same.honest) honest)
+    (subst (λ (b : List ℕ → Option (List ℕ)). IsKeptImage b (entry (get_or now i d))) (sym s.same.bytes) kept))
+
+pub returns-in_err-fill_image-clause-filled : goal.returns-in_err-fill_image-clause-filled
+returns-in_err-fill_image-clause-filled g c = λ honest.
+    let old = c.args.images.now in
+    let now = c.loop-image.images in
+    let i = c.loop-image.image-index in
+    let d = c.image-item.result in
+    let s = c.loop-image.invariant in
+    let files = (g.F.Files.map c.args.files.now).bytes in
+    let new = entry c.fill_image.new.image in
+    let in_now : i < length now = omega arith in
+    let in_old : i < length old = omega (arith, s.long) in
+    let here : get_or now i d ≡ get_or old i d = same-at entry (filled_over files) old now i d in_old in_now s.rest in
+    let fault = c.in_err-fill_image.field-0.0 in
+    let told = c.in_err-fill_image.ensures.filled (subst (λ (b : Bool). IsTrue b) (sym s.same.honest) honest) in
+    let same = subst (λ (b : List ℕ → Option (List ℕ)). FillsImage {X = ⊤} b (entry (get_or now i d)) new (Err fault)) s.same.bytes told in
+    by-refusal (λ r. FillsImages files (map entry old) (map entry (set now i c.fill_image.new.image)) r) c.from_residual.result fault c.from_residual.ensures.1
+    (images-refused files old i d in_old (s.sound honest) ⊤ ⊤ new (map entry (set now i c.fill_image.new.image)) fault
+    (subst (λ (n : Node _). FillsImage {X = ⊤} files (entry n) new (Err fault)) here same))
+
+pub returns-in_err-fill_image-clause-order : goal.returns-in_err-fill_image-clause-order
+returns-in_err-fill_image-clause-order g c = λ honest.
+    let old = c.args.images.now in
+    let now = c.loop-image.images in
+    let i = c.loop-image.image-index in
+    let d = c.image-item.result in
+    let s = c.loop-image.invariant in
+    let files = g.F.Files.map c.args.files.now in
+    let steady = g.F.Opened.Source.steady in
+    let in_now : i < length now = omega arith in
+    let in_old : i < length old = omega (arith, s.long) in
+    let here : get_or now i d ≡ get_or old i d = same-at entry (filled_over files.bytes) old now i d in_old in_now s.rest in
+    let fault = c.in_err-fill_image.field-0.0 in
+    let told = c.in_err-fill_image.ensures.order (subst (λ (b : Bool). IsTrue b) (sym s.same.honest) honest) in
+    let same = refused-before files (g.F.Files.map c.loop-image.files) s.same steady (entry (get_or now i d)) fault told in
+    by-refusal (λ r. FillsInOrder files steady (Some (map entry old)) r) c.from_residual.result fault c.from_residual.ensures.1
+    (order-refused files steady old i d in_old (s.passed honest) ⊤ fault (subst (λ (n : Node _). IsRefused files steady (entry n) fault) here same))
+
+pub loop-image-preserved : goal.loop-image-preserved
+loop-image-preserved g c =
+    let old = c.args.images.now in
+    let now = c.loop-image.images in
+    let i = c.loop-image.image-index in
+    let d = c.image-item.result in
+    let s = c.loop-image.invariant in
+    let used = c.in_ok-fill_image.ensures.files in
+    let files = (g.F.Files.map c.args.files.now).bytes in
+    let new = c.fill_image.new.image in
+    let in_now : i < length now = omega arith in
+    let in_old : i < length old = omega (arith, s.long) in
+    let here : get_or now i d ≡ get_or old i d = same-at entry (filled_over files) old now i d in_old in_now s.rest in
+    record {
+      long = length-set now i new ∙ s.long;
+      same = record { bytes = used.same.bytes ∙ s.same.bytes; honest = used.same.honest ∙ s.same.honest; complete = used.same.complete ∙ s.same.complete };
+      refusals = used.refusals ∙ s.refusals;
+      rest = rest-more old now i d new in_old in_now s.rest;
+      filled = λ honest.
+          let told = c.in_ok-fill_image.ensures.filled (subst (λ (b : Bool). IsTrue b) (sym s.same.honest) honest) in
+          changed-more entry (filled_over files) old now i d new in_old in_now (s.filled honest)
+          (told.1 ∙ ap (λ (b : List ℕ → Option (List ℕ)). filled_over b (entry (get_or now i d))) s.same.bytes ∙ ap (λ (n : Node _). filled_over files (entry n)) here);
+      sound = λ honest.
+          let told = c.in_ok-fill_image.ensures.filled (subst (λ (b : Bool). IsTrue b) (sym s.same.honest) honest) in
+          sound-more old i d in_old (s.sound honest) (subst (λ (n : Node _). fault_in_memory (entry n) ≡ None) here told.0);
+      passed = λ honest.
+          let told = c.in_ok-fill_image.ensures.order (subst (λ (b : Bool). IsTrue b) (sym s.same.honest) honest) in
+          let same = subst (λ (b : List ℕ → Option (List ℕ)). IsPassed b (entry (get_or now i d))) s.same.bytes told in
+          all-more (IsPassed files) old i d in_old (s.passed honest) (subst (λ (n : Node _). IsPassed files (entry n)) here same);
+    }
+
+pub returns-clause-order : goal.returns-clause-order
+returns-clause-order g c = λ honest.
+    let s = c.loop-image.invariant in
+    all-of (IsPassed (g.F.Files.map c.args.files.now).bytes) c.args.images.now c.loop-image.image-index (omega (arith, s.long)) (s.passed honest)

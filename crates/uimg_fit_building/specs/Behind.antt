@@ -1,0 +1,60 @@
+-- What stands behind a blob, where payloads stay in their files.
+use Rattle.std.specs.Prelude.{ℕ, ◌+◌, ◌-◌, List, [], ◌∷◌, replicate, nat_lt, if◌then◌else◌, Option, Some, None, unwrap_or, codes, Result, Ok, Err}
+use Rattle.std.specs.List.{flat_map}
+use Rattle.uimg_blob.specs.Plain.{NodesOf}
+use Rattle.uimg_blob.specs.LookUps.{NodeOf, first, images}
+use Rattle.uimg_tree.specs.declared.tree.Node.{Node}
+use Rattle.uimg_tree.specs.Content.{Content, Unread, bytes, size_of}
+use Rattle.uimg_tree.specs.Pieces.{padding}
+use Rattle.uimg_fit_base.specs.declared.fault.FitFault.{FitFault}
+use Rattle.uimg_fit_base.specs.declared.fault.FitFault.TheVariants.{PositionTooLow, TooLarge}
+use Rattle.uimg_fit_base.specs.declared.placement.Placement.{Placement}
+use Rattle.uimg_fit_base.specs.declared.placement.Placement.TheVariants.{Inside, After, At}
+use Rattle.uimg_fit_building.specs.Refusing.{is_low}
+use Rattle.uimg_fit_building.specs.UnreadTrees.{padded_size_of}
+
+-- a node among those that follow it
+abbrev pub entry : {A : Type 0} → Node A → NodeOf Content
+entry n = record { name = n.name; own = n.props; below = n.children }
+
+-- the images of a tree, none where the root has no child `images`
+abbrev pub images_in : {V : Type 0} → NodesOf V → List (NodeOf V)
+images_in t = unwrap_or (images t) []
+
+-- a payload and the zeros behind it
+abbrev pub padded_pieces : Option Content → List Content
+padded_pieces None = []
+padded_pieces (Some c) = c ∷ bytes (padding (size_of c)) ∷ []
+
+-- those of an image
+abbrev pub payload_pieces : NodeOf Content → List Content
+payload_pieces i = padded_pieces (first i.own (codes "data"))
+
+-- how many bytes the payloads of images take, each padded
+unfoldable pub padded_sizes : List (NodeOf Content) → ℕ
+padded_sizes [] = 0
+padded_sizes (i ∷ is) = padded_size_of i.own + padded_sizes is
+
+-- what stands after a blob of so many bytes
+abbrev pub behind_pieces : ℕ → Unread → Placement → List Content
+behind_pieces size t Inside = []
+behind_pieces size t After = flat_map payload_pieces (images_in t)
+behind_pieces size t (At p) = bytes (replicate (p - size) 0) ∷ flat_map payload_pieces (images_in t)
+
+-- how many bytes the file has
+abbrev pub file_size : ℕ → ℕ → Placement → ℕ
+file_size size padded Inside = size
+file_size size padded After = size + padded
+file_size size padded (At p) = p + padded
+
+-- why payloads of so many bytes can't stand behind a blob of so many
+unfoldable pub end_fault : ℕ → ℕ → Placement → Option FitFault
+end_fault size padded placement =
+    if is_low size placement then Some PositionTooLow
+    else if nat_lt 4294967295 (file_size size padded placement) then Some TooLarge
+    else None
+
+-- the fault of an answer, if it is one
+abbrev pub fault_in : {X : Type 0} → Result X FitFault → Option FitFault
+fault_in (Ok x) = None
+fault_in (Err fault) = Some fault

@@ -1,0 +1,55 @@
+-- What filling answers, over files that have those of the tree.
+use Rattle.std.specs.Prelude.{◌≡◌, ◌≢◌, ℕ, List, [], ◌∷◌, ◌++◌, map, Bool, true, false, Option, Some, None, Result, Ok, Err, codes, ⊤}
+use Rattle.uimg_blob.specs.Plain.{with_value, with_values}
+use Rattle.uimg_blob.specs.LookUps.{NodeOf, first, images, hashes}
+use Rattle.uimg_tree.specs.Content.{Content, Unread, file, bytes_in, in_full, AreKept}
+use Rattle.uimg_fit_base.specs.declared.fault.FitFault.{FitFault}
+use Rattle.uimg_fit_base.specs.declared.fault.FitFault.TheVariants.{OutOfMemory, NoFile, ReadFailed}
+use Rattle.uimg_fit_building.specs.Filling.{IsFilled}
+use Rattle.uimg_fit_building.specs.UnreadTrees.{filled_unread}
+use Rattle.uimg_fit_building.specs.Refusing.{first_fault, fill_of}
+
+-- the answer is that an open was refused
+abbrev pub opens_no_file : {X : Type 0} → Result X FitFault → Bool
+opens_no_file (Err NoFile) = true
+opens_no_file _ = false
+
+-- the answer is that a read of a file failed, or that a file has another size
+abbrev pub fails_to_read : {X : Type 0} → Result X FitFault → Bool
+fails_to_read (Err ReadFailed) = true
+fails_to_read _ = false
+
+-- a node with the bytes of each file in its place
+abbrev pub node_in_full : (List ℕ → Option (List ℕ)) → NodeOf Content → NodeOf (List ℕ)
+node_in_full files image = record {
+  name = image.name;
+  own = map (with_value (bytes_in files)) image.own;
+  below = with_values (bytes_in files) image.below;
+}
+
+-- A tree is filled as another: no file of it is read into it, and none is another.
+pub record Fills (files : List ℕ → Option (List ℕ)) (time : ℕ) (t u : Unread) : Type 0 where
+  pub source : u ≡ filled_unread files time t
+  pub accepted : fill_of time (in_full files t) ≡ Ok (in_full files u)
+  pub is_filled : IsFilled (in_full files u)
+  pub kept : AreKept files u
+
+-- The filling of a tree stopped at the file of an image with hash nodes: neither that image nor one before it is refused.
+pub record StopsAtFile (files : List ℕ → Option (List ℕ)) (t : Unread) : Type 0 where
+  pub before : List (NodeOf Content)
+  pub image : NodeOf Content
+  pub after : List (NodeOf Content)
+  pub are_images : images t ≡ Some (before ++ image ∷ after)
+  pub sound : first_fault (map (node_in_full files) (before ++ image ∷ [])) ≡ None
+  pub name : List ℕ
+  pub size : ℕ
+  pub is_file : first image.own (codes "data") ≡ Some (file name size)
+  pub is_hashed : hashes image ≢ []
+
+-- An answer is the filled tree, or the first fault; or memory was refused, or a file could not be opened or read.
+abbrev pub FillsAnswer : {X : Type 0} → (X → Unread) → (List ℕ → Option (List ℕ)) → ℕ → Unread → Result X FitFault → Type 0
+FillsAnswer view files time t (Ok x) = Fills files time t (view x)
+FillsAnswer view files time t (Err OutOfMemory) = ⊤
+FillsAnswer view files time t (Err NoFile) = StopsAtFile files t
+FillsAnswer view files time t (Err ReadFailed) = StopsAtFile files t
+FillsAnswer view files time t (Err fault) = fill_of time (in_full files t) ≡ Err fault

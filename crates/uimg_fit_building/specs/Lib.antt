@@ -1,0 +1,13 @@
+pub mod Filling
+pub mod Building
+pub mod Refusing
+pub mod FillAnswers
+pub mod BuildAnswers
+pub mod UnreadTrees
+pub mod ReadsBack
+pub mod Behind
+pub mod Placing
+pub mod BuildSteps
+pub mod PayloadSums
+pub mod ImageFillings
+pub mod FillOrder

@@ -1,0 +1,55 @@
+-- The steps of placing a tree's payloads, over lists.
+use Rattle.std.specs.Prelude.{ℕ, ◌+◌, List, [], ◌∷◌, ◌++◌, Bool, true, false, if◌then◌else◌, codes}
+use Rattle.std.specs.Str.{bytes_eq}
+use Rattle.uimg_tree.specs.declared.props.Prop.{Prop}
+use Rattle.uimg_tree.specs.declared.props.Value.TheVariants.{Bytes}
+use Rattle.uimg_tree.specs.declared.tree.Node.{Node}
+use Rattle.uimg_tree.specs.Content.{size_of}
+use Rattle.uimg_tree.specs.Encoding.{word}
+use Rattle.uimg_tree.specs.Properties.{content}
+use Rattle.uimg_fit_building.specs.UnreadTrees.{padded_size_of, unread_own, unread_from}
+
+-- a list, the first element that passes a test by a function
+unfoldable pub at_first : {X : Type 0} → (X → Bool) → (X → List X) → List X → List X
+at_first test f [] = []
+at_first test f (x ∷ xs) = if test x then f x ++ xs else x ∷ at_first test f xs
+
+-- what is left of a list, where the first such element was met or not
+abbrev pub left_of : {X : Type 0} → (X → Bool) → (X → List X) → Bool → List X → List X
+left_of test f true xs = xs
+left_of test f false xs = at_first test f xs
+
+-- a property of four bytes
+abbrev pub cell : {A : Type 0} → List ℕ → ℕ → Prop A
+cell key n = record { name = key; value = Bytes (word n) }
+
+-- the two cells in the place of a payload
+abbrev pub cells : {A : Type 0} → List ℕ → ℕ → Prop A → List (Prop A)
+cells key at p = cell key at ∷ cell (codes "data-size") (size_of (content p.value)) ∷ []
+
+abbrev pub is_data : {A : Type 0} → Prop A → Bool
+is_data p = bytes_eq (codes "data") p.name
+
+-- properties, the payload's by its cells
+abbrev pub placed_properties : {A : Type 0} → List ℕ → ℕ → List (Prop A) → List (Prop A)
+placed_properties key at ps = at_first is_data (cells key at) ps
+
+-- an image, its payload moved to a place
+abbrev pub placed_image : {A : Type 0} → List ℕ → ℕ → Node A → Node A
+placed_image key at n = record n { props = unread_own key at n.props }
+
+-- images, one after the other from a place on
+unfoldable pub placed_images : {A : Type 0} → List ℕ → ℕ → List (Node A) → List (Node A)
+placed_images key at [] = []
+placed_images key at (n ∷ ns) = placed_image key at n ∷ placed_images key (at + padded_size_of n.props) ns
+
+abbrev pub is_images : {A : Type 0} → Node A → Bool
+is_images n = bytes_eq (codes "images") n.name
+
+-- a node, its children being images that are placed
+abbrev pub with_placed : {A : Type 0} → List ℕ → ℕ → Node A → Node A
+with_placed key at n = record n { children = unread_from key at n.children }
+
+-- the root's children
+abbrev pub placed_children : {A : Type 0} → List ℕ → ℕ → List (Node A) → List (Node A)
+placed_children key at ns = at_first is_images (λ n. with_placed key at n ∷ []) ns

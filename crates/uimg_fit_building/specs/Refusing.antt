@@ -1,0 +1,51 @@
+-- What filling answers, and what building answers.
+use Rattle.std.specs.Prelude.{ℕ, List, [], ◌∷◌, Bool, length, is_some, is_none, nat_lt, if◌then◌else◌, Option, Some, None, Result, Ok, Err, codes}
+use Rattle.std.specs.List.{list_all}
+use Rattle.std.specs.Option.{option_or}
+use Rattle.uimg_blob.specs.Plain.{Nodes}
+use Rattle.uimg_tree.specs.Encoding.{encode}
+use Rattle.uimg_fit_base.specs.declared.fault.FitFault.{FitFault}
+use Rattle.uimg_fit_base.specs.declared.fault.FitFault.TheVariants.{NoImages, NoData, UnknownAlgo, PositionTooLow, TooLarge}
+use Rattle.uimg_fit_base.specs.declared.placement.Placement.{Placement}
+use Rattle.uimg_fit_base.specs.declared.placement.Placement.TheVariants.{Inside, After, At}
+use Rattle.uimg_blob.specs.LookUps.{NodeOf, first, images, hashes}
+use Rattle.uimg_fit_building.specs.Filling.{algo_in, filled}
+use Rattle.uimg_fit_building.specs.Building.{moved, built}
+
+-- why an image isn't filled: it has no `data`, or a hash node of an unknown algorithm
+unfoldable pub image_fault : NodeOf (List ℕ) → Option FitFault
+image_fault image =
+    if is_none (first image.own (codes "data")) then Some NoData
+    else if list_all (λ h. is_some (algo_in h.own)) (hashes image) then None
+    else Some UnknownAlgo
+
+-- the fault of the first image that has one
+unfoldable pub first_fault : List (NodeOf (List ℕ)) → Option FitFault
+first_fault [] = None
+first_fault (image ∷ more) = option_or (image_fault image) (first_fault more)
+
+abbrev pub fault_of : Option (List (NodeOf (List ℕ))) → Option FitFault
+fault_of None = Some NoImages
+fault_of (Some found) = first_fault found
+
+abbrev pub fill_from : Option FitFault → Nodes → Result Nodes FitFault
+fill_from (Some f) t = Err f
+fill_from None t = Ok t
+
+-- the filled tree, or the first of: no `images`; image by image, no `data`, a hash node of an unknown algorithm
+abbrev pub fill_of : ℕ → Nodes → Result Nodes FitFault
+fill_of time t = fill_from (fault_of (images t)) (filled time t)
+
+-- the payloads would begin before the blob's end
+abbrev pub is_low : ℕ → Placement → Bool
+is_low size Inside = Bool.false
+is_low size After = Bool.false
+is_low size (At p) = nat_lt p size
+
+-- whether a tree whose names are good can be built, or the first fault
+unfoldable pub build_fault : Nodes → Placement → Option FitFault
+build_fault t placement =
+    if nat_lt 4294967295 (length (encode (moved t placement))) then Some TooLarge
+    else if is_low (length (encode (moved t placement))) placement then Some PositionTooLow
+    else if nat_lt 4294967295 (length (built t placement)) then Some TooLarge
+    else None

@@ -1,0 +1,27 @@
+-- The same filling and placing where payloads stay in their files.
+use Rattle.std.specs.Prelude.{ℕ, List, Option}
+use Rattle.uimg_blob.specs.Plain.{NamedOf}
+use Rattle.uimg_tree.specs.Content.{Content, Unread, bytes, bytes_in, size_of}
+use Rattle.uimg_fit_base.specs.declared.placement.Placement.{Placement}
+use Rattle.uimg_fit_building.specs.Building.{padded_size_by, moved_own_by, moved_from_by, moved_by}
+use Rattle.uimg_fit_building.specs.Filling.{filled_by}
+
+-- a tree with a time and its images' digests, where files have these bytes at their names: each file stays one
+abbrev pub filled_unread : (List ℕ → Option (List ℕ)) → ℕ → Unread → Unread
+filled_unread files time t = filled_by (bytes_in files) bytes time t
+
+-- how many bytes the payload of an image takes, padded
+abbrev pub padded_size_of : List (NamedOf Content) → ℕ
+padded_size_of own = padded_size_by size_of own
+
+-- properties, the first `data` moved to a place
+abbrev pub unread_own : List ℕ → ℕ → List (NamedOf Content) → List (NamedOf Content)
+unread_own = moved_own_by size_of bytes
+
+-- images, the first `data` of each moved
+abbrev pub unread_from : List ℕ → ℕ → Unread → Unread
+unread_from = moved_from_by size_of bytes
+
+-- a tree whose payloads are placed, as it is written
+abbrev pub moved_unread : Unread → Placement → Unread
+moved_unread = moved_by size_of bytes

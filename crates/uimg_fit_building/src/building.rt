@@ -1,0 +1,167 @@
+ghost use Rattle.std.specs.Prelude.{◌≡◌, IsTrue, OnOk, false};
+ghost use Rattle.uimg_base.specs.Device.{RisesIf};
+ghost use Rattle.uimg_tree.specs.Content.{AreKept, in_full};
+ghost use Rattle.uimg_tree.specs.Layouts.{plan_of, totalsize};
+ghost use Rattle.uimg_tree.specs.Trees.{node_of};
+ghost use Rattle.uimg_tree.specs.UsingFiles.{UsesFiles};
+ghost use Rattle.uimg_fit_building.specs.BuildAnswers.{is_no_file, is_before_writing, BuildsAnswer};
+ghost use Rattle.uimg_fit_building.specs.BuildSteps.{of_measure, MeasuresTree, WritesText, Builds};
+ghost use Rattle.uimg_fit_building.specs.Building.{built};
+ghost use Rattle.uimg_fit_base.specs.Faults.{is_put, is_read};
+ghost use Rattle.uimg_fit_building.specs.Filling.{IsFilled};
+ghost use Rattle.uimg_fit_building.specs.ReadsBack.{ReadsBack};
+ghost use Rattle.uimg_fit_building.specs.Refusing.{is_low};
+ghost use Rattle.uimg_fit_building.specs.UnreadTrees.{moved_unread};
+
+mod behind;
+mod payload_sizes;
+mod placing;
+
+use crate::building::behind::{check_payloads, put_behind};
+use crate::building::placing::place;
+use std::alloc::Allocator;
+use std::io::Write;
+use uimg_base::{Files, Out, Source};
+use uimg_blob::BlobFault;
+use uimg_fit_base::{Fault, FitFault, Placement};
+use uimg_tree::{Layout, Tree, TreeFault, measure, write_tree};
+
+// The fault of a tree that can't be measured.
+fn of_measure(fault: BlobFault) -> Fault
+    ensures { result ≡ of_measure fault }
+{
+    match fault {
+        BlobFault::TooLarge => Fault::Fit(FitFault::TooLarge),
+        BlobFault::OutOfMemory => Fault::Fit(FitFault::OutOfMemory),
+        _ => Fault::Blob(fault, 0),
+    }
+}
+
+// Measures the blob of a tree.
+fn measure_placed<'a, A: Allocator>(alloc: A, placed: &'a Tree<A>) -> Result<Layout<'a, A>, Fault>
+    ensures { MeasuresTree result (node_of placed.now.root) }
+{
+    match measure(alloc, placed) {
+        Ok(layout) => Ok(layout),
+        Err(fault) => Err(of_measure(fault)),
+    }
+}
+
+// Writes the file of a tree, of which a copy has the payloads placed.
+fn write_file<F: Files, W: Write, A: Allocator>(
+    placed: &Tree<A>,
+    layout: &Layout<A>,
+    tree: &Tree<A>,
+    placement: Placement,
+    files: &mut F,
+    out: &mut Out<W>,
+) -> Result<(), TreeFault>
+    requires plan { layout.now ≡ plan_of (node_of placed.now.root) }
+    requires placed { node_of placed.now.root ≡ moved_unread (node_of tree.now.root) placement }
+    requires high { is_low (totalsize layout.now) placement ≡ false }
+    ensures kept { IsTrue (F.map files.old).honest →
+        OnOk result (AreKept (F.map files.old).bytes (node_of tree.now.root)) }
+    ensures sent { WritesText F.Opened.steady (node_of tree.now.root) result (F.map files.old)
+        (F.map files.new) out.old out.new
+        (λ files. built (in_full files (node_of tree.now.root)) placement) }
+{
+    write_tree(placed, layout, files, out)?;
+    put_behind(layout.totalsize(), tree, placement, files, out)
+}
+
+// Builds the file of a tree, of which a copy has the payloads placed.
+fn build_placed<F: Files, W: Write, A: Allocator>(
+    alloc: A,
+    placed: &Tree<A>,
+    tree: &Tree<A>,
+    placement: Placement,
+    files: &mut F,
+    out: &mut Out<W>,
+) -> Result<(), Fault>
+    requires { node_of placed.now.root ≡ moved_unread (node_of tree.now.root) placement }
+    ensures { Builds F.Opened.steady (node_of tree.now.root) placement result (F.map files.old)
+        (F.map files.new) out.old out.new }
+{
+    let layout = measure_placed(alloc, placed)?;
+    check_payloads(layout.totalsize(), tree, placement)?;
+    write_file(placed, &layout, tree, placement, files, out)?;
+    Ok(())
+}
+
+// Places the payloads of a tree, and builds its file.
+fn place_and_build<F: Files, W: Write, A: Allocator + Copy>(
+    alloc: A,
+    tree: &Tree<A>,
+    placement: Placement,
+    files: &mut F,
+    out: &mut Out<W>,
+) -> Result<(), Fault>
+    ensures { Builds F.Opened.steady (node_of tree.now.root) placement result (F.map files.old)
+        (F.map files.new) out.old out.new }
+{
+    match placement {
+        Placement::Inside => build_placed(alloc, tree, tree, placement, files, out),
+        Placement::After => {
+            let Ok(placed) = place(alloc, tree, b"data-offset", 0) else {
+                return Err(Fault::Fit(FitFault::OutOfMemory));
+            };
+            build_placed(alloc, &placed, tree, placement, files, out)
+        }
+        Placement::At(position) => {
+            let Ok(placed) = place(alloc, tree, b"data-position", position) else {
+                return Err(Fault::Fit(FitFault::OutOfMemory));
+            };
+            build_placed(alloc, &placed, tree, placement, files, out)
+        }
+    }
+}
+
+/// Builds the FIT image of a tree: its blob (Devicetree Specification, chapter 5), and behind it the
+/// payloads that do not stand in it (Flattened Image Tree format, "External data").
+///
+/// With `Inside` the tree is written as it is. With `After` and `At` two cells stand in the place of
+/// the first `data` of each image, `data-offset` or `data-position`, and `data-size`; the payloads
+/// follow in order, each padded with zeros to a multiple of 4, and zeros fill up to the position of
+/// the first. An image without `data` is left as it is.
+///
+/// All memory is taken, and all is refused, before the first byte: `BadNodeName` or
+/// `BadPropertyName` of the blob, at offset 0, for the first bad name in the order of writing;
+/// `TooLarge` where the blob has more than 4294967295 bytes; `PositionTooLow` where the payloads would
+/// begin before the blob's end; `TooLarge` where the file has more than 4294967295 bytes;
+/// `OutOfMemory` where memory was refused. `Put` comes exactly where a write failed, `NoFile` exactly
+/// where the open of a file was refused, `Read` where a read of one failed or its size is another than
+/// the tree keeps; over honest files of the kept sizes a prefix of the image was written then. No file
+/// of another size is ever part of an image that was built.
+///
+/// A file is opened once for each value that it is, when that is written, and goes through a window of
+/// 8192 bytes. The image of a filled tree verifies, and each payload is found in it. The depth of the
+/// calls is that of the tree.
+pub fn build<F: Files, W: Write, A: Allocator + Copy>(
+    alloc: A,
+    tree: &Tree<A>,
+    files: &mut F,
+    placement: Placement,
+    out: &mut Out<W>,
+) -> Result<(), Fault>
+    ensures files { UsesFiles (is_no_file result) (F.map files.old) (F.map files.new) }
+    ensures found { IsTrue (F.map files.old).complete →
+        AreKept (F.map files.old).bytes (node_of tree.now.root) → is_no_file result ≡ false }
+    ensures steady { IsTrue F.Opened.steady → IsTrue (F.map files.old).honest →
+        AreKept (F.map files.old).bytes (node_of tree.now.root) → is_read result ≡ false }
+    ensures faults { RisesIf (is_put result) out.old.faults out.new.faults }
+    ensures untouched { IsTrue (is_before_writing result) → out.new ≡ out.old }
+    ensures kept { IsTrue (F.map files.old).honest →
+        OnOk result (AreKept (F.map files.old).bytes (node_of tree.now.root)) }
+    ensures built { IsTrue (F.map files.old).honest →
+        AreKept (F.map files.old).bytes (node_of tree.now.root) →
+        BuildsAnswer (in_full (F.map files.old).bytes (node_of tree.now.root)) placement result
+        out.old out.new }
+    ensures reads_back { IsTrue (F.map files.old).honest →
+        AreKept (F.map files.old).bytes (node_of tree.now.root) →
+        IsFilled (in_full (F.map files.old).bytes (node_of tree.now.root)) →
+        OnOk result (ReadsBack
+        (built (in_full (F.map files.old).bytes (node_of tree.now.root)) placement)
+        (in_full (F.map files.old).bytes (node_of tree.now.root))) }
+{
+    place_and_build(alloc, tree, placement, files, out)
+}

@@ -1,0 +1,173 @@
+ghost use Rattle.std.specs.Prelude.{◌≡◌, ◌∷◌, [], ◌++◌, IfOk, OnOk, codes};
+ghost use Rattle.uimg_tree.specs.Trees.{node_of};
+ghost use Rattle.uimg_fit_building.specs.Filling.{in_first, with_images};
+ghost use Rattle.uimg_fit_building.specs.Placing.{cell, cells, placed_image, with_placed};
+ghost use Rattle.uimg_fit_building.specs.UnreadTrees.{unread_own, unread_from};
+
+use crate::building::payload_sizes::{CELL, padded_size_in_cell};
+use crate::payloads::{is_data, is_images};
+use std::alloc::{AllocError, Allocator};
+use uimg_tree::{
+    Node, Nodes, Prop, Props, Tree, Value, copy_bytes, copy_node, copy_nodes, copy_properties,
+    copy_property, value_size,
+};
+
+// A property of four bytes.
+fn cell<A: Allocator + Copy>(alloc: A, name: &[u8], number: u32) -> Result<Prop<A>, AllocError>
+    ensures { IfOk result (λ prop. prop ≡ cell name.now number) }
+{
+    let name = copy_bytes(alloc, name)?;
+    let value = copy_bytes(alloc, &number.to_be_bytes())?;
+    Ok(Prop {
+        name,
+        value: Value::Bytes(value),
+    })
+}
+
+// Adds the two cells that stand in the place of a payload.
+fn add_cells<A: Allocator + Copy>(
+    alloc: A,
+    props: &mut Vec<Prop<A>, A>,
+    key: &[u8],
+    at: u32,
+    payload: &Prop<A>,
+) -> Result<(), AllocError>
+    ensures { OnOk result (props.new.items ≡ props.old.items ++ cells key.now at payload.now) }
+{
+    let place = cell(alloc, key, at)?;
+    let size = cell(
+        alloc,
+        b"data-size",
+        (value_size(&payload.value) % CELL) as u32,
+    )?;
+    props.push(place)?;
+    props.push(size)?;
+    Ok(())
+}
+
+// A copy of properties, the first `data` moved to a place.
+fn place_properties<A: Allocator + Copy>(
+    alloc: A,
+    props: &Props<A>,
+    key: &[u8],
+    at: u32,
+) -> Result<Props<A>, AllocError>
+    ensures { IfOk result (λ placed. placed ≡ unread_own key.now at props.now) }
+{
+    let mut copies = Vec::new(alloc);
+    let mut moved = false;
+    for prop in props.items() {
+        if !moved && is_data(prop) {
+            add_cells(alloc, &mut copies, key, at, prop)?;
+            moved = true;
+        } else {
+            let copy = copy_property(alloc, prop)?;
+            copies.push(copy)?;
+        }
+    }
+    Ok(Props::of(copies))
+}
+
+// A copy of an image, its payload moved to a place.
+fn place_image<A: Allocator + Copy>(
+    alloc: A,
+    image: &Node<A>,
+    key: &[u8],
+    at: u32,
+) -> Result<Node<A>, AllocError>
+    ensures { IfOk result (λ placed. placed ≡ placed_image key.now at image.now) }
+{
+    let name = copy_bytes(alloc, image.name.items())?;
+    let props = place_properties(alloc, &image.props, key, at)?;
+    let children = copy_nodes(alloc, &image.children)?;
+    Ok(Node {
+        name,
+        props,
+        children,
+    })
+}
+
+// A copy of images, their payloads moved to places, one after the other.
+fn place_images<A: Allocator + Copy>(
+    alloc: A,
+    images: &Nodes<A>,
+    key: &[u8],
+    at: u32,
+) -> Result<Nodes<A>, AllocError>
+    ensures { IfOk result (λ placed. placed ≡ unread_from key.now at images.now) }
+{
+    let mut copies = Vec::new(alloc);
+    let mut at = at;
+    for image in images.items() {
+        let copy = place_image(alloc, image, key, at)?;
+        copies.push(copy)?;
+        at = at.wrapping_add(padded_size_in_cell(&image.props));
+    }
+    Ok(Nodes::of(copies))
+}
+
+// A copy of the node `images`, the payloads of its children moved.
+fn place_in<A: Allocator + Copy>(
+    alloc: A,
+    node: &Node<A>,
+    key: &[u8],
+    at: u32,
+) -> Result<Node<A>, AllocError>
+    ensures { IfOk result (λ placed. placed ≡ with_placed key.now at node.now) }
+{
+    let name = copy_bytes(alloc, node.name.items())?;
+    let props = copy_properties(alloc, &node.props)?;
+    let children = place_images(alloc, &node.children, key, at)?;
+    Ok(Node {
+        name,
+        props,
+        children,
+    })
+}
+
+// A copy of the root's children, the payloads of the images moved.
+fn place_children<A: Allocator + Copy>(
+    alloc: A,
+    nodes: &Nodes<A>,
+    key: &[u8],
+    at: u32,
+) -> Result<Nodes<A>, AllocError>
+    ensures { IfOk result (λ placed.
+        placed ≡ in_first (codes "images") (unread_from key.now at) nodes.now) }
+{
+    let mut copies = Vec::new(alloc);
+    let mut moved = false;
+    for node in nodes.items() {
+        let copy = if !moved && is_images(node) {
+            moved = true;
+            place_in(alloc, node, key, at)?
+        } else {
+            copy_node(alloc, node)?
+        };
+        copies.push(copy)?;
+    }
+    Ok(Nodes::of(copies))
+}
+
+// A copy of a tree whose payloads are moved: the first to a place that a cell of this name tells, the
+// others behind it. No payload of an image is copied.
+pub(crate) fn place<A: Allocator + Copy>(
+    alloc: A,
+    tree: &Tree<A>,
+    key: &[u8],
+    at: u32,
+) -> Result<Tree<A>, AllocError>
+    ensures { IfOk result (λ placed.
+        node_of placed.root ≡ with_images (unread_from key.now at) (node_of tree.now.root)) }
+{
+    let name = copy_bytes(alloc, tree.root.name.items())?;
+    let props = copy_properties(alloc, &tree.root.props)?;
+    let children = place_children(alloc, &tree.root.children, key, at)?;
+    Ok(Tree {
+        root: Node {
+            name,
+            props,
+            children,
+        },
+    })
+}

@@ -1,0 +1,154 @@
+ghost use Rattle.std.specs.Prelude.{◌≡◌, codes, not, Some, IsTrue, IfOk, IfErr, false};
+ghost use Rattle.std.specs.List.{prefix_len, AllByRecursion};
+ghost use Rattle.std.specs.Option.{IfSome};
+ghost use Rattle.std.specs.Str.{bytes_eq};
+ghost use Rattle.uimg_blob.specs.LookUps.{images, listed};
+ghost use Rattle.uimg_tree.specs.Content.{bytes, AreKept, FilesAtData};
+ghost use Rattle.uimg_tree.specs.Encoding.{word};
+ghost use Rattle.uimg_fit_building.specs.Filling.{with};
+ghost use Rattle.uimg_fit_base.specs.declared.fault.FitFault.TheVariants.{OutOfMemory};
+ghost use Rattle.uimg_tree.specs.Trees.{node_of, siblings};
+ghost use Rattle.uimg_tree.specs.UsingFiles.{UsesFiles};
+ghost use Rattle.uimg_fit_building.specs.FillAnswers.{opens_no_file, fails_to_read, FillsAnswer};
+ghost use Rattle.uimg_fit_building.specs.FillOrder.{FillsInOrder};
+ghost use Rattle.uimg_fit_building.specs.ImageFillings.{IsKeptImage, FillsParent, FillsBelow, images_among};
+
+mod algo_sets;
+mod filled_hashes;
+mod filled_images;
+mod payload_sums;
+
+use crate::filling::filled_images::fill_images;
+use crate::payloads::is_images;
+use crate::setting::{copied, with_value};
+use std::alloc::Allocator;
+use std::mem;
+use uimg_base::{Files, Source};
+use uimg_fit_base::FitFault;
+use uimg_tree::{Node, Nodes, Props, Tree, Value};
+
+// Properties with the time.
+fn with_time<A: Allocator + Copy>(
+    alloc: A,
+    props: Props<A>,
+    time: u32,
+) -> Result<Props<A>, FitFault>
+    ensures set { IfOk result (λ own. own ≡ with (codes "timestamp") (bytes (word time)) props) }
+    ensures memory { IfErr result (λ fault. fault ≡ OutOfMemory) }
+{
+    let value = Value::Bytes(copied(alloc, &time.to_be_bytes())?);
+    with_value(alloc, props, b"timestamp", value)
+}
+
+// How many nodes stand before the first that is named `images`.
+fn before_images<A: Allocator>(nodes: &[Node<A>]) -> usize
+    ensures { result ≡ prefix_len (λ n. not (bytes_eq (codes "images") n.name)) nodes.now }
+{
+    nodes.iter().take_while(|node| !is_images(node)).count()
+}
+
+// Fills the images that are the children of a node.
+fn fill_parent<F: Files, A: Allocator + Copy>(
+    alloc: A,
+    parent: &mut Node<A>,
+    files: &mut F,
+) -> Result<(), FitFault>
+    ensures files { UsesFiles (opens_no_file result) (F.map files.old) (F.map files.new) }
+    ensures found { IsTrue (F.map files.old).complete →
+        AllByRecursion (IsKeptImage (F.map files.old).bytes) (listed parent.old.children) →
+        opens_no_file result ≡ false }
+    ensures steady { IsTrue F.Opened.steady → IsTrue (F.map files.old).honest →
+        AllByRecursion (IsKeptImage (F.map files.old).bytes) (listed parent.old.children) →
+        fails_to_read result ≡ false }
+    ensures filled { IsTrue (F.map files.old).honest → FillsParent (F.map files.old).bytes
+        parent.old parent.new result }
+    ensures order { IsTrue (F.map files.old).honest →
+        FillsInOrder (F.map files.old) F.Opened.steady (Some (listed parent.old.children)) result }
+{
+    let nodes = mem::replace(&mut parent.children, Nodes::of(Vec::new(alloc)));
+    let mut images = nodes.into_vec();
+    let answer = fill_images(alloc, images.as_mut_slice(), files);
+    parent.children = Nodes::of(images);
+    answer
+}
+
+// Fills the images of a root, whose children these are.
+fn fill_below<F: Files, A: Allocator + Copy>(
+    alloc: A,
+    nodes: &mut [Node<A>],
+    files: &mut F,
+) -> Result<(), FitFault>
+    ensures files { UsesFiles (opens_no_file result) (F.map files.old) (F.map files.new) }
+    ensures found { IsTrue (F.map files.old).complete → IfSome (images_among (siblings nodes.old))
+        (AllByRecursion (IsKeptImage (F.map files.old).bytes)) → opens_no_file result ≡ false }
+    ensures steady { IsTrue F.Opened.steady → IsTrue (F.map files.old).honest →
+        IfSome (images_among (siblings nodes.old))
+        (AllByRecursion (IsKeptImage (F.map files.old).bytes)) → fails_to_read result ≡ false }
+    ensures filled { IsTrue (F.map files.old).honest → FillsBelow (F.map files.old).bytes
+        (siblings nodes.old) (siblings nodes.new) result }
+    ensures order { IsTrue (F.map files.old).honest →
+        FillsInOrder (F.map files.old) F.Opened.steady (images_among (siblings nodes.old)) result }
+{
+    let at = before_images(nodes);
+    if at >= nodes.len() {
+        return Err(FitFault::NoImages);
+    }
+    fill_parent(alloc, &mut nodes[at], files)
+}
+
+/// Fills a tree before it is built: sets the root's `timestamp`, removes `data-offset`, `data-size`
+/// and `data-position` of each image, and sets the `value` of each hash node to the digest of the
+/// image's first `data` (Flattened Image Tree format, "Hash nodes"). A property that is there is
+/// replaced in its place, a new one comes last. `time` is in seconds since 1970.
+///
+/// The caller sees to it that only properties named `data` are files. An image's file is opened once
+/// if the image has hash nodes, and read once through a window of 8192 bytes for all of them; it
+/// stays a file in the tree.
+///
+/// The first refusal ends it, and the tree is dropped: `NoImages`; then image by image `NoData`,
+/// `UnknownAlgo` of the first hash node whose `algo` is missing or unknown, `NoFile` exactly where the
+/// open of its file was refused, and `ReadFailed` where a read of it failed or it has another size
+/// than the tree keeps. `OutOfMemory` comes where memory for a property was refused.
+pub fn fill<F: Files, A: Allocator + Copy>(
+    alloc: A,
+    tree: Tree<A>,
+    time: u32,
+    files: &mut F,
+) -> Result<Tree<A>, FitFault>
+    requires { FilesAtData (node_of tree.root) }
+    // The files are what they were, and `NoFile` comes exactly where they refused an open.
+    ensures files { UsesFiles (opens_no_file result) (F.map files.old) (F.map files.new) }
+    ensures found { IsTrue (F.map files.old).complete →
+        AreKept (F.map files.old).bytes (node_of tree.root) → opens_no_file result ≡ false }
+    ensures steady { IsTrue F.Opened.steady → IsTrue (F.map files.old).honest →
+        AreKept (F.map files.old).bytes (node_of tree.root) → fails_to_read result ≡ false }
+    // The tree is filled, and each file stays as it stands; or the first fault is answered.
+    ensures filled { IsTrue (F.map files.old).honest →
+        AreKept (F.map files.old).bytes (node_of tree.root) →
+        FillsAnswer (λ filled. node_of filled.root) (F.map files.old).bytes time
+        (node_of tree.root) result }
+    // Image by image, over files of any sizes: filling goes past an image with hash nodes only where
+    // its file has the size that the tree keeps, and stops at the first image that it can't pass.
+    // Where the files are complete, `NoFile`, and where what they open is steady, `ReadFailed`, comes
+    // only if the file of that image is missing or has another size, whatever the others are.
+    ensures order { IsTrue (F.map files.old).honest →
+        FillsInOrder (F.map files.old) F.Opened.steady (images (node_of tree.root)) result }
+{
+    let Tree { root } = tree;
+    let Node {
+        name,
+        props,
+        children,
+    } = root;
+    let mut nodes = children.into_vec();
+    fill_below(alloc, nodes.as_mut_slice(), files)?;
+    let props = with_time(alloc, props, time)?;
+    let children = Nodes::of(nodes);
+    Ok(Tree {
+        root: Node {
+            name,
+            props,
+            children,
+        },
+    })
+}

@@ -1,0 +1,130 @@
+ghost use Rattle.std.specs.Prelude.{◌≡◌, ℕ, List, map, true, IfOk, IfErr, OnOk};
+ghost use Rattle.std.specs.List.{filter, AllByRecursion};
+ghost use Rattle.uimg_sums.specs.Algorithms.{digest_by};
+ghost use Rattle.uimg_sums.specs.Bundle.{padded_digests};
+ghost use Rattle.uimg_blob.specs.LookUps.{NodeOf};
+ghost use Rattle.uimg_blob.specs.Roles.{is_hash};
+ghost use Rattle.uimg_tree.specs.Content.{Content, bytes};
+ghost use Rattle.uimg_tree.specs.Properties.{content};
+ghost use Rattle.uimg_fit_building.specs.Filling.{algo_by, with, with_digest_by};
+ghost use Rattle.uimg_fit_building.specs.Behind.{entry};
+ghost use Rattle.uimg_fit_building.specs.ImageFillings.{hashed_in};
+ghost use Rattle.uimg_fit_building.specs.PayloadSums.{has, in_memory, no_algos, all_marked, chosen, IsCovered};
+ghost use Rattle.uimg_fit_base.specs.declared.fault.FitFault.TheVariants.{OutOfMemory};
+
+use crate::filling::algo_sets::{AlgoSet, marked, no_algos};
+use crate::filling::payload_sums::digest_of;
+use crate::setting::{copied, first_value, with_value};
+use std::alloc::Allocator;
+use std::mem;
+use uimg_base::{Algo, before_nul};
+use uimg_fit_base::FitFault;
+use uimg_tree::{ByteList, Node, Props, Value};
+
+// Whether a child of an image is a hash node.
+fn is_hash(name: &[u8]) -> bool
+    ensures { result ≡ is_hash name.now }
+{
+    name.starts_with(b"hash")
+}
+
+// The algorithm of a hash node, if its name is known.
+#[tactic(auto, using(crate::proofs::FilledHashLaws::no_name))]
+fn algo_of<A: Allocator>(props: &Props<A>) -> Option<Algo>
+    ensures { result ≡ algo_by in_memory props.now }
+{
+    match first_value(props, b"algo") {
+        Some(Value::Bytes(name)) => Algo::named(before_nul(name.items())),
+        Some(Value::File { name: _, size: _ }) => None,
+        None => None,
+    }
+}
+
+/// The algorithms of the hash nodes among nodes, if each is known.
+#[tactic(auto, unfolding(crate::specs::PayloadSums::all_marked))]
+pub(crate) fn algos_of<A: Allocator>(nodes: &[Node<A>]) -> Option<AlgoSet>
+    ensures { result ≡ all_marked no_algos (filter (λ h. is_hash h.name) (map entry nodes.now)) }
+{
+    let mut set = no_algos();
+    for node in nodes {
+        if is_hash(node.name.items()) {
+            let Some(algo) = algo_of(&node.props) else {
+                return None;
+            };
+            set = marked(set, algo);
+        }
+    }
+    Some(set)
+}
+
+// A digest as a value.
+fn digest_value<A: Allocator>(
+    alloc: A,
+    set: AlgoSet,
+    digests: &[([u8; 64], usize); 8],
+    algo: Algo,
+) -> Result<Value<A>, FitFault>
+    ensures digest { (message : List ℕ) → digests.now ≡ padded_digests (chosen set) message →
+        has set algo ≡ true → IfOk result (λ v. content v ≡ bytes (digest_by algo message)) }
+    ensures memory { IfErr result (λ fault. fault ≡ OutOfMemory) }
+{
+    let digest = digest_of(set, digests, algo);
+    Ok(Value::Bytes(copied(alloc, &digest[..algo.len()])?))
+}
+
+// Sets the digest of a hash node.
+fn fill_hash<A: Allocator + Copy>(
+    alloc: A,
+    node: &mut Node<A>,
+    set: AlgoSet,
+    digests: &[([u8; 64], usize); 8],
+) -> Result<(), FitFault>
+    ensures filled { (message : List ℕ) → digests.now ≡ padded_digests (chosen set) message →
+        IsCovered set (entry node.old) →
+        OnOk result (entry node.new ≡ with_digest_by in_memory bytes message (entry node.old)) }
+    ensures memory { IfErr result (λ fault. fault ≡ OutOfMemory) }
+{
+    let Some(algo) = algo_of(&node.props) else {
+        return Ok(());
+    };
+    let value = digest_value(alloc, set, digests, algo)?;
+    let props = mem::replace(&mut node.props, Props::of(Vec::new(alloc)));
+    node.props = with_value(alloc, props, b"value", value)?;
+    Ok(())
+}
+
+// Sets the digest of a child of an image, if it is a hash node.
+fn fill_child<A: Allocator + Copy>(
+    alloc: A,
+    node: &mut Node<A>,
+    set: AlgoSet,
+    digests: &[([u8; 64], usize); 8],
+) -> Result<(), FitFault>
+    ensures filled { (message : List ℕ) → digests.now ≡ padded_digests (chosen set) message →
+        (is_hash node.old.name ≡ true → IsCovered set (entry node.old)) →
+        OnOk result (entry node.new ≡ hashed_in message (entry node.old)) }
+    ensures memory { IfErr result (λ fault. fault ≡ OutOfMemory) }
+{
+    if is_hash(node.name.items()) {
+        return fill_hash(alloc, node, set, digests);
+    }
+    Ok(())
+}
+
+/// Sets the digests of the hash nodes among the children of an image.
+pub(crate) fn fill_children<A: Allocator + Copy>(
+    alloc: A,
+    nodes: &mut [Node<A>],
+    set: AlgoSet,
+    digests: &[([u8; 64], usize); 8],
+) -> Result<(), FitFault>
+    ensures filled { (message : List ℕ) → digests.now ≡ padded_digests (chosen set) message →
+        AllByRecursion (IsCovered set) (filter (λ h. is_hash h.name) (map entry nodes.old)) →
+        OnOk result (map entry nodes.new ≡ map (hashed_in message) (map entry nodes.old)) }
+    ensures memory { IfErr result (λ fault. fault ≡ OutOfMemory) }
+{
+    for node in nodes.iter_mut() {
+        fill_child(alloc, node, set, digests)?;
+    }
+    Ok(())
+}

@@ -1,0 +1,106 @@
+ghost use Rattle.std.specs.Prelude.{◌≡◌, ◌≢◌, [], false, map, Some, IsTrue, OnOk};
+ghost use Rattle.std.specs.List.{filter, AllByRecursion};
+ghost use Rattle.uimg_blob.specs.LookUps.{listed};
+ghost use Rattle.uimg_blob.specs.Roles.{is_hash};
+ghost use Rattle.uimg_tree.specs.Content.{IsKept};
+ghost use Rattle.uimg_tree.specs.Properties.{content};
+ghost use Rattle.uimg_tree.specs.Trees.{siblings};
+ghost use Rattle.uimg_tree.specs.UsingFiles.{UsesFiles};
+ghost use Rattle.uimg_fit_building.specs.FillAnswers.{opens_no_file, fails_to_read};
+ghost use Rattle.uimg_fit_building.specs.Behind.{entry};
+ghost use Rattle.uimg_fit_building.specs.FillOrder.{FillsNext, FillsInOrder};
+ghost use Rattle.uimg_fit_building.specs.ImageFillings.{FillsHashes, FillsImage, FillsImages, IsKeptImage};
+
+use crate::filling::algo_sets::is_empty;
+use crate::filling::filled_hashes::{algos_of, fill_children};
+use crate::filling::payload_sums::payload_digests;
+use crate::payloads::payload_of;
+use crate::setting::without_external;
+use std::alloc::Allocator;
+use std::mem;
+use uimg_base::Files;
+use uimg_fit_base::FitFault;
+use uimg_tree::{Node, Nodes, Props, Value};
+
+// Sets the digests of a payload in the hash nodes among the children of an image.
+fn fill_hashes<F: Files, A: Allocator + Copy>(
+    alloc: A,
+    nodes: &mut [Node<A>],
+    payload: &Value<A>,
+    files: &mut F,
+) -> Result<(), FitFault>
+    ensures files { UsesFiles (opens_no_file result) (F.map files.old) (F.map files.new) }
+    ensures found { IsTrue (F.map files.old).complete →
+        IsKept (F.map files.old).bytes (content payload.now) → opens_no_file result ≡ false }
+    ensures steady { IsTrue F.Opened.steady → IsTrue (F.map files.old).honest →
+        IsKept (F.map files.old).bytes (content payload.now) → fails_to_read result ≡ false }
+    ensures filled { IsTrue (F.map files.old).honest →
+        FillsHashes (λ u. siblings nodes.new) (F.map files.old).bytes (content payload.now)
+        (siblings nodes.old) result }
+    ensures kept { IsTrue (F.map files.old).honest → OnOk result (
+        filter (λ h. is_hash h.name) (listed (siblings nodes.old)) ≢ [] →
+        IsKept (F.map files.old).bytes (content payload.now)) }
+{
+    let Some(set) = algos_of(nodes) else {
+        return Err(FitFault::UnknownAlgo);
+    };
+    if is_empty(set) {
+        return Ok(());
+    }
+    match payload_digests(set, payload, files) {
+        Ok(digests) => fill_children(alloc, nodes, set, &digests),
+        Err(fault) => Err(fault),
+    }
+}
+
+// Fills an image.
+fn fill_image<F: Files, A: Allocator + Copy>(
+    alloc: A,
+    image: &mut Node<A>,
+    files: &mut F,
+) -> Result<(), FitFault>
+    ensures files { UsesFiles (opens_no_file result) (F.map files.old) (F.map files.new) }
+    ensures found { IsTrue (F.map files.old).complete →
+        IsKeptImage (F.map files.old).bytes (entry image.old) → opens_no_file result ≡ false }
+    ensures steady { IsTrue F.Opened.steady → IsTrue (F.map files.old).honest →
+        IsKeptImage (F.map files.old).bytes (entry image.old) → fails_to_read result ≡ false }
+    ensures filled { IsTrue (F.map files.old).honest →
+        FillsImage (F.map files.old).bytes (entry image.old) (entry image.new) result }
+    ensures order { IsTrue (F.map files.old).honest →
+        FillsNext (F.map files.old) F.Opened.steady (entry image.old) result }
+{
+    let Some(payload) = payload_of(&image.props) else {
+        return Err(FitFault::NoData);
+    };
+    let nodes = mem::replace(&mut image.children, Nodes::of(Vec::new(alloc)));
+    let mut list = nodes.into_vec();
+    let answer = fill_hashes(alloc, list.as_mut_slice(), payload, files);
+    image.children = Nodes::of(list);
+    let props = mem::replace(&mut image.props, Props::of(Vec::new(alloc)));
+    image.props = without_external(props);
+    answer
+}
+
+/// Fills images in order, up to the first that is refused.
+pub(crate) fn fill_images<F: Files, A: Allocator + Copy>(
+    alloc: A,
+    images: &mut [Node<A>],
+    files: &mut F,
+) -> Result<(), FitFault>
+    ensures files { UsesFiles (opens_no_file result) (F.map files.old) (F.map files.new) }
+    ensures found { IsTrue (F.map files.old).complete →
+        AllByRecursion (IsKeptImage (F.map files.old).bytes) (map entry images.old) →
+        opens_no_file result ≡ false }
+    ensures steady { IsTrue F.Opened.steady → IsTrue (F.map files.old).honest →
+        AllByRecursion (IsKeptImage (F.map files.old).bytes) (map entry images.old) →
+        fails_to_read result ≡ false }
+    ensures filled { IsTrue (F.map files.old).honest → FillsImages (F.map files.old).bytes
+        (map entry images.old) (map entry images.new) result }
+    ensures order { IsTrue (F.map files.old).honest →
+        FillsInOrder (F.map files.old) F.Opened.steady (Some (map entry images.old)) result }
+{
+    for image in images.iter_mut() {
+        fill_image(alloc, image, files)?;
+    }
+    Ok(())
+}

@@ -1,0 +1,10 @@
+//! FIT images are made: trees are filled, and built as files.
+#![tactic(auto)]
+
+mod building;
+mod filling;
+mod payloads;
+mod setting;
+
+pub use building::build;
+pub use filling::fill;

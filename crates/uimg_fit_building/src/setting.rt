@@ -1,0 +1,122 @@
+ghost use Rattle.std.specs.Prelude.{◌≡◌, ℕ, ◌≤◌, ◌++◌, ◌∷◌, [], ◌+◌, not, map, take, drop, length, IfOk, IfErr, OnOk};
+ghost use Rattle.std.specs.List.{list_any};
+ghost use Rattle.std.specs.Option.{option_map};
+ghost use Rattle.std.specs.Str.{bytes_eq};
+ghost use Rattle.uimg_blob.specs.LookUps.{first};
+ghost use Rattle.uimg_tree.specs.Content.{Content};
+ghost use Rattle.uimg_tree.specs.Properties.{content, property};
+ghost use Rattle.uimg_fit_building.specs.Filling.{with, external_names, without_external};
+ghost use Rattle.uimg_fit_base.specs.declared.fault.FitFault.TheVariants.{OutOfMemory};
+
+use std::alloc::Allocator;
+use uimg_fit_base::FitFault;
+use uimg_tree::{ByteList, Prop, Props, Value, copy_bytes};
+
+/// A copy of bytes.
+pub(crate) fn copied<A: Allocator>(alloc: A, bytes: &[u8]) -> Result<ByteList<A>, FitFault>
+    ensures bytes { IfOk result (λ l. l ≡ bytes.now) }
+    ensures memory { IfErr result (λ fault. fault ≡ OutOfMemory) }
+{
+    match copy_bytes(alloc, bytes) {
+        Ok(copy) => Ok(copy),
+        Err(_) => Err(FitFault::OutOfMemory),
+    }
+}
+
+/// The value of the first property of a name.
+pub(crate) fn first_value<'a, A: Allocator>(props: &'a Props<A>, key: &[u8]) -> Option<&'a Value<A>>
+    ensures { option_map (λ v. content v.now) result ≡ first props.now key.now }
+{
+    for prop in props.items() {
+        if key == prop.name.items() {
+            return Some(&prop.value);
+        }
+    }
+    None
+}
+
+// Where the first property of a name stands, or how many there are where none has it.
+#[tactic(auto, unfolding(crate::specs::Filling::with))]
+fn place_of<A: Allocator>(props: &[Prop<A>], key: &[u8]) -> usize
+    ensures within { result ≤ length props.now }
+    ensures set { (value : Content) → with key.now value (map property props.now)
+        ≡ map property (take result props.now) ++ record { name = key.now; value = value }
+        ∷ map property (drop (result + 1) props.now) }
+{
+    for (i, prop) in props.iter().enumerate() {
+        if key == prop.name.items() {
+            return i;
+        }
+    }
+    props.len()
+}
+
+// Adds a property.
+fn push_property<A: Allocator>(list: &mut Vec<Prop<A>, A>, prop: Prop<A>) -> Result<(), FitFault>
+    ensures pushed { OnOk result (list.new.items ≡ list.old.items ++ prop ∷ []) }
+    ensures memory { IfErr result (λ fault. fault ≡ OutOfMemory) }
+{
+    match list.push(prop) {
+        Ok(()) => Ok(()),
+        Err(_) => Err(FitFault::OutOfMemory),
+    }
+}
+
+// Sets the first property of a name, or adds one.
+fn set_first<A: Allocator>(list: &mut Vec<Prop<A>, A>, prop: Prop<A>) -> Result<(), FitFault>
+    ensures set { OnOk result (map property list.new.items
+        ≡ with prop.name (content prop.value) (map property list.old.items)) }
+    ensures memory { IfErr result (λ fault. fault ≡ OutOfMemory) }
+{
+    let at = place_of(list.as_slice(), prop.name.items());
+    if at < list.len() {
+        list[at] = prop;
+        return Ok(());
+    }
+    push_property(list, prop)
+}
+
+/// Properties, the first of a name with another value; where there is none, one more.
+pub(crate) fn with_value<A: Allocator + Copy>(
+    alloc: A,
+    props: Props<A>,
+    key: &[u8],
+    value: Value<A>,
+) -> Result<Props<A>, FitFault>
+    ensures set { IfOk result (λ own. own ≡ with key.now (content value) props) }
+    ensures memory { IfErr result (λ fault. fault ≡ OutOfMemory) }
+{
+    let name = copied(alloc, key)?;
+    let mut list = props.into_vec();
+    set_first(&mut list, Prop { name, value })?;
+    Ok(Props::of(list))
+}
+
+// Whether a property gives a payload a place outside the blob.
+fn is_external(name: &[u8]) -> bool
+    ensures { result ≡ list_any (bytes_eq name.now) external_names }
+{
+    if name == b"data-offset".as_slice() {
+        return true;
+    }
+    if name == b"data-size".as_slice() {
+        return true;
+    }
+    name == b"data-position".as_slice()
+}
+
+// Removes the properties that give a payload a place outside the blob.
+fn remove_external<A: Allocator>(list: &mut Vec<Prop<A>, A>)
+    ensures { map property list.new.items ≡ without_external (map property list.old.items) }
+{
+    list.retain(|prop| !is_external(prop.name.items()));
+}
+
+/// Properties but for those that give a payload a place outside the blob.
+pub(crate) fn without_external<A: Allocator>(props: Props<A>) -> Props<A>
+    ensures { result ≡ without_external props }
+{
+    let mut list = props.into_vec();
+    remove_external(&mut list);
+    Props::of(list)
+}

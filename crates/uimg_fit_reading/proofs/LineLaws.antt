@@ -1,0 +1,48 @@
+-- The line of a hash node.
+use Rattle.std.proofs.Common.{◌≡◌, ◌+◌, ◌≤◌, ℕ, List, [], ◌∷◌, ◌++◌, length, codes, Option, Some, None, true, IfSome, refl, ap, sym, ◌∙◌, append_assoc}
+use Rattle.std.specs.Prelude.{Result, Ok, Err, is_err}
+use Rattle.std.specs.Option.{option_map, option_map_or}
+use Rattle.uimg_texts.specs.Nul.{text}
+use Rattle.uimg_texts.specs.Slices.{slice}
+use Rattle.uimg_base.specs.Outcome.{line}
+use Rattle.uimg_base.specs.Sink.{Sink}
+use Rattle.uimg_base.specs.Writing.{Written}
+use Rattle.uimg_base.proofs.Slices.{length-slice}
+use Rattle.uimg_blob.proofs.PhaseLaws.{true_false}
+use Rattle.uimg_blob.specs.declared.texts.Span.{Span}
+use Rattle.uimg_blob.specs.LookUps.{NodeOf}
+use Rattle.uimg_blob.specs.Spots.{Spot}
+use Rattle.uimg_fit_base.specs.declared.fault.Fault.{Fault}
+use Rattle.uimg_fit_reading.specs.declared.report.hash_lines.HashLine.{HashLine}
+use Rattle.uimg_fit_base.specs.declared.words.Word.{Word}
+use Rattle.uimg_fit_base.specs.Files.{bytes_of, bytes_in}
+use Rattle.uimg_fit_reading.specs.Groups.{PutsHash, line_of}
+use Rattle.uimg_fit_reading.specs.Plans.{algo_length, hash_text, span_length}
+use Rattle.uimg_fit_base.specs.Report.{word_text, hash_line}
+
+-- the parts of a line, joined
+joined : (a b n w : List ℕ) → ((a ++ codes " ") ++ (b ++ codes " ")) ++ (n ++ ((codes " " ++ w) ++ 10 ∷ [])) ≡ line (a ++ codes " " ++ b ++ codes " " ++ n ++ codes " " ++ w)
+joined a b n w = simp append_assoc
+
+pub line_is : (file : List ℕ) (l : HashLine) (found : NodeOf Spot) → slice file l.hash.place l.hash.length ≡ found.name → bytes_of found.own (codes "algo") ≡ bytes_in file l.algo
+    → hash_text file l ≡ line_of (slice file l.image.place l.image.length) l.word found
+line_is file l found named algo =
+    let image = slice file l.image.place l.image.length in
+    let shown : Option (List ℕ) → List ℕ = λ o. option_map_or (λ n. n) (option_map text o) (codes "-") in
+    joined image (slice file l.hash.place l.hash.length) (shown (bytes_in file l.algo)) (word_text l.word)
+    ∙ ap (λ (b : List ℕ). line (image ++ codes " " ++ b ++ codes " " ++ shown (bytes_in file l.algo) ++ codes " " ++ word_text l.word)) named
+    ∙ ap (λ (o : Option (List ℕ)). line (image ++ codes " " ++ found.name ++ codes " " ++ shown o ++ codes " " ++ word_text l.word)) (sym algo)
+
+-- how long the value of an algorithm is
+spans : (file : List ℕ) (value : Option Span) → IfSome value (λ s. s.place + s.length ≤ length file) → span_length value ≡ option_map_or (λ v. length v) (bytes_in file value) 0
+spans file None within = refl
+spans file (Some span) within = sym (length-slice file span.place span.length within)
+
+pub algo_long : (file : List ℕ) (value : Option Span) (found : NodeOf Spot) → IfSome value (λ s. s.place + s.length ≤ length file) → bytes_of found.own (codes "algo") ≡ bytes_in file value
+    → span_length value ≡ algo_length found
+algo_long file value found within algo = spans file value within ∙ ap (λ (o : Option (List ℕ)). option_map_or (λ v. length v) o 0) (sym algo)
+
+-- a failed answer tells no word
+pub puts_err : (name message : List ℕ) (hash : NodeOf Spot) (r : Result Word Fault) (s t : Sink) → is_err r ≡ true → Written true s t (hash_line name message hash) → PutsHash name message hash r s t
+puts_err name message hash (Ok word) s t failed written = absurd (true_false (sym failed))
+puts_err name message hash (Err fault) s t failed written = record { word = tt; written = written }

@@ -1,0 +1,71 @@
+-- What is to be done about a hash node gives its word.
+use Rattle.std.proofs.Common.{◌≡◌, ◌+◌, ◌-◌, ◌≤◌, ℕ, List, ◌++◌, length, take, replicate, Bool, if◌then◌else◌, ◌==◌, Option, Some, None, refl, ap, sym, ◌∙◌, subst, IfSome, arith}
+use Rattle.std.specs.Prelude.{Result, Ok, Err, IfOk}
+use Rattle.std.specs.Str.{bytes_eq}
+use Rattle.std.proofs.lemmas.List.{take-append-le, take_all}
+use Rattle.uimg_sums.specs.declared.algo.Algo.{Algo}
+use Rattle.uimg_sums.specs.Algorithms.{digest_size, digest_by, algo_named}
+use Rattle.uimg_sums.proofs.DigestSizes.{length-digest_by}
+use Rattle.uimg_texts.specs.Slices.{slice}
+use Rattle.uimg_base.proofs.Slices.{length-slice}
+use Rattle.uimg_blob.proofs.PhaseLaws.{by_bool}
+use Rattle.uimg_blob.specs.declared.texts.Span.{Span}
+use Rattle.uimg_fit_reading.specs.declared.report.plans.Plan.{Plan}
+use Rattle.uimg_fit_reading.specs.declared.report.plans.Plan.TheVariants.{Compared}
+use Rattle.uimg_fit_reading.specs.declared.report.plans.Plan.TheVariants as plan
+use Rattle.uimg_fit_base.specs.declared.words.Word.{Word}
+use Rattle.uimg_fit_base.specs.declared.words.Word.TheVariants.{Right, Wrong}
+use Rattle.uimg_fit_base.specs.declared.words.Word.TheVariants as word
+use Rattle.uimg_fit_base.specs.Files.{bytes_in}
+use Rattle.uimg_fit_reading.specs.Plans.{EndsIn, HasDigest, plan_for, plan_by_value, plan_by_algo, plan_by_name, word_by}
+use Rattle.uimg_fit_base.specs.Report.{compared, by_value, by_algo, by_name}
+
+-- a digest, and the zeros behind it
+digest_first : (digest : List ℕ) (n : ℕ) → length digest ≡ n → take n (digest ++ replicate (64 - length digest) 0) ≡ digest
+digest_first digest n long = take-append-le n digest (replicate (64 - length digest) 0) (omega (arith, long)) ∙ take_all n digest (omega (arith, long))
+
+-- what a comparison says is the word
+pub compared_word : (file message digest : List ℕ) (size : ℕ) (plan : Plan) (algo : Algo) (span : Span) (same : Bool) → plan ≡ Compared algo span
+    → EndsIn size plan → HasDigest digest message plan → same ≡ bytes_eq (slice file span.place span.length) (take span.length digest)
+    → word_by file message plan ≡ (if same then Right else Wrong)
+compared_word file message digest size plan algo span same is ends has by =
+    subst (λ (p : Plan). EndsIn size p → HasDigest digest message p → word_by file message p ≡ (if same then Right else Wrong)) (sym is)
+    (λ e h.
+    let front : take span.length digest ≡ digest_by algo message =
+    ap (take span.length) h ∙ digest_first (digest_by algo message) span.length (length-digest_by algo message ∙ sym e.1) in
+    ap (λ (d : List ℕ). if bytes_eq (slice file span.place span.length) d then Right else Wrong) (sym front)
+    ∙ ap (λ (b : Bool). if b then Right else Wrong) (sym by))
+    ends has
+
+-- carrying out what is to be done gives the word
+plan_word : (file message : List ℕ) (algo : Algo) (span : Span) → span.place + span.length ≤ length file
+    → word_by file message (plan_for algo span) ≡ compared algo (slice file span.place span.length) message
+unfolding plan_for compared
+plan_word file message algo span within =
+    let long : length (slice file span.place span.length) ≡ span.length = length-slice file span.place span.length within in
+    let right : Word = if bytes_eq (slice file span.place span.length) (digest_by algo message) then Right else Wrong in
+    by_bool (span.length == digest_size algo)
+    (λ fits. ap (λ (b : Bool). word_by file message (if b then Compared algo span else plan.Malformed)) fits
+    ∙ sym (ap (λ (b : Bool). if b then right else word.Malformed) (ap (λ (n : ℕ). n == digest_size algo) long ∙ fits)))
+    (λ differs. ap (λ (b : Bool). word_by file message (if b then Compared algo span else plan.Malformed)) differs
+    ∙ sym (ap (λ (b : Bool). if b then right else word.Malformed) (ap (λ (n : ℕ). n == digest_size algo) long ∙ differs)))
+
+by_span : (file message : List ℕ) (algo : Algo) (value : Option Span) → IfSome value (λ s. s.place + s.length ≤ length file)
+    → word_by file message (plan_by_value algo value) ≡ by_value algo (bytes_in file value) message
+by_span file message algo None within = refl
+by_span file message algo (Some span) within = plan_word file message algo span within
+
+by_known : (file message : List ℕ) (algo : Option Algo) (value : Option Span) → IfSome value (λ s. s.place + s.length ≤ length file)
+    → word_by file message (plan_by_algo algo value) ≡ by_algo algo (bytes_in file value) message
+by_known file message None value within = refl
+by_known file message (Some algo) value within = by_span file message algo value within
+
+pub planned_word : (file message : List ℕ) (name : Option (List ℕ)) (value : Option Span) → IfSome value (λ s. s.place + s.length ≤ length file)
+    → word_by file message (plan_by_name name value) ≡ by_name name (bytes_in file value) message
+planned_word file message None value within = refl
+planned_word file message (Some name) value within = by_known file message (algo_named name) value within
+
+-- what holds of an answer
+pub of_answer : {X F : Type 0} (r : Result X F) (P Q : X → Type 0) → ((x : X) → P x → Q x) → IfOk r P → IfOk r Q
+of_answer (Ok x) P Q f p = f x p
+of_answer (Err e) P Q f p = tt

@@ -1,0 +1,67 @@
+-- What a listing asks for is within what it may.
+use Rattle.std.proofs.Common.{◌≡◌, ◌≤◌, ◌+◌, ◌*◌, ℕ, List, length, Option, Some, None, Result, Ok, Err, IfSome, refl, ap, sym, ◌∙◌, subst, arith}
+use Rattle.std.specs.Result.{IfOk}
+use Rattle.std.specs.Option.{option_map, option_map_or}
+use Rattle.uimg_base.proofs.Slices.{length-slice}
+use Rattle.uimg_base.specs.declared.ranges.MoveFault.{MoveFault}
+use Rattle.uimg_base.specs.declared.ranges.MoveFault.TheVariants as move
+use Rattle.uimg_base.specs.declared.status.Status.{Status}
+use Rattle.uimg_blob.specs.declared.texts.Span.{Span}
+use Rattle.uimg_blob.specs.Blob.{tree}
+use Rattle.uimg_blob.specs.Counts.{nodes_met, texts_met}
+use Rattle.uimg_blob.specs.Grammar.{Siblings}
+use Rattle.uimg_blob.specs.Reading.{Fault as BlobFaultAt}
+use Rattle.uimg_blob.specs.Indexed.{value_span}
+use Rattle.uimg_blob.specs.Plain.{NamedOf, NodesOf, no_node, a_node}
+use Rattle.uimg_blob.specs.LookUps.{NodeOf, first, images, configurations}
+use Rattle.uimg_blob.specs.Spots.{Spot, spots}
+use Rattle.uimg_fit_base.specs.declared.fault.Fault.{Fault}
+use Rattle.uimg_fit_reading.specs.Allowances.{text_sizes, allowance}
+use Rattle.uimg_fit_base.specs.Faults.{of_move, end_of}
+use Rattle.uimg_fit_base.specs.Files.{bytes_of, bytes_in, root_own}
+use Rattle.uimg_fit_reading.specs.Heads.{span_size}
+use Rattle.uimg_fit_reading.specs.ListingParts.{configurations_allowance, body_allowance}
+use Rattle.uimg_fit_reading.proofs.AllowanceLaws.{tree-paid}
+use Rattle.uimg_fit_reading.specs.FieldTexts.{size_of}
+use Rattle.uimg_fit_reading.proofs.SharesLaws.{images_allowed, both_allowed}
+
+size_by : (o : Option Spot) → span_size (option_map value_span o) ≡ option_map_or length (option_map (λ s. s.bytes) o) 0
+size_by None = refl
+size_by (Some s) = refl
+
+-- the length of a span is that of its value
+pub value_size : (own : List (NamedOf Spot)) (key : List ℕ) (v : Option Span) → v ≡ option_map value_span (first own key) → span_size v ≡ size_of own key
+value_size own key v is = ap span_size is ∙ size_by (first own key)
+
+-- the same of a value that ends in the file
+bytes_size : (file : List ℕ) (v : Option Span) → IfSome v (λ s. s.place + s.length ≤ length file) → option_map_or length (bytes_in file v) 0 ≡ span_size v
+bytes_size file None inside = refl
+bytes_size file (Some s) inside = length-slice file s.place s.length inside
+
+pub read_size : (file : List ℕ) (own : List (NamedOf Spot)) (key : List ℕ) (v : Option Span) → IfSome v (λ s. s.place + s.length ≤ length file) → bytes_of own key ≡ bytes_in file v → span_size v ≡ size_of own key
+read_size file own key v inside is = sym (bytes_size file v inside) ∙ ap (λ (o : Option (List ℕ)). option_map_or length o 0) (sym is)
+
+-- the root's texts, images and configurations
+root_texts : (t : NodesOf Spot) → 4 * text_sizes (root_own t) ≤ allowance t
+unfolding allowance
+root_texts no_node = omega arith
+root_texts (a_node name own below after) = omega arith
+
+by_images : (t : NodesOf Spot) (o : Option (List (NodeOf Spot))) (q : Option (NodeOf Spot)) → images t ≡ o → configurations t ≡ q → text_sizes (root_own t) + body_allowance t o ≤ allowance t
+by_images t None q is other = omega (arith, root_texts t)
+by_images t (Some found) None is other = omega (arith, images_allowed t found is, ap configurations_allowance other)
+by_images t (Some found) (Some c) is other = omega (arith, both_allowed t found c is other, ap configurations_allowance other)
+
+pub body_allowed : (t : NodesOf Spot) → text_sizes (root_own t) + body_allowance t (images t) ≤ allowance t
+body_allowed t = by_images t (images t) (configurations t) refl refl
+
+pub root_allowed : (t : NodesOf Spot) → text_sizes (root_own t) ≤ allowance t
+root_allowed t = omega (arith, root_texts t)
+
+pub paid : (file : List ℕ) (t : Siblings) → tree file ≡ Ok t → allowance (spots t) ≤ 760 * nodes_met file + 4 * texts_met file
+paid file t is = subst (λ (r : Result Siblings BlobFaultAt). IfOk r (λ t. allowance (spots t) ≤ 760 * nodes_met file + 4 * texts_met file)) is (tree-paid file)
+
+-- a failed read or write has no end
+pub no_end : (r : Result Status Fault) (fault : Fault) (f : MoveFault) → r ≡ Err fault → fault ≡ of_move f → end_of r ≡ None
+no_end r fault move.Read is of = ap end_of is ∙ ap (λ (x : Fault). end_of (let y : Result Status Fault = Err x in y)) of
+no_end r fault move.Put is of = ap end_of is ∙ ap (λ (x : Fault). end_of (let y : Result Status Fault = Err x in y)) of

@@ -1,0 +1,5 @@
+use Rattle.uimg_fit_reading.proofs.PutLaws.{line_put}
+use Rattle.uimg_fit_reading.proofs.listing.fields.put_text_line.Goals as goal
+
+pub returns-clause-told : goal.returns-clause-told
+returns-clause-told g c = λ honest. line_put _ _ _ _ _ _ _ c.in_ok-put.ensures.told.all (c.in_ok-put_text.ensures.told honest).all c.put-2.ensures.told

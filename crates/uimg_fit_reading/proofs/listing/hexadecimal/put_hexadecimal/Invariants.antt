@@ -1,0 +1,22 @@
+use Rattle.std.proofs.Common.{◌≡◌, ◌≤◌, ◌+◌, ◌-◌, IsTrue}
+use Rattle.hex.specs.Hex.{encode_lower}
+use Rattle.uimg_base.specs.Device.{SameDevice}
+use Rattle.uimg_texts.specs.Slices.{slice}
+use Rattle.uimg_base.specs.Sink.{AppendsAll}
+use Rattle.uimg_fit_reading.proofs.listing.hexadecimal.put_hexadecimal.Given as goal
+
+-- the first `done` bytes were asked for and written
+abbrev pub invariant-loop-done : goal.invariant-loop-done
+invariant-loop-done g l =
+    let device = g.S.Source.device in
+    record {
+      bound : l.done ≤ l.span.length;
+      same : SameDevice (device l.fn.source) (device l.source);
+      asked : (device l.source).asked ≤ (device l.fn.source).asked + l.done;
+      failures : (device l.source).failures ≡ (device l.fn.source).failures;
+      faults : l.out.faults ≡ l.fn.out.faults;
+      put : IsTrue (device l.fn.source).honest → AppendsAll l.fn.out l.out (encode_lower (slice (device l.fn.source).bytes l.span.place l.done));
+    }
+
+abbrev pub decreases-loop-done : goal.decreases-loop-done
+decreases-loop-done g l = l.span.length - l.done

@@ -1,0 +1,116 @@
+use Rattle.std.proofs.Common.{rules, ◌++◌, ℕ, List, length, Option, Bool, refl, IsTrue, codes, ap, sym, ◌∙◌, subst, arith}
+use Rattle.std.specs.Option.{option_and_then}
+use Rattle.std.proofs.lemmas.Result.{err_from_is_err_and}
+use Rattle.uimg_base.specs.Held.{Held}
+use Rattle.uimg_base.specs.Outcome.{End, Outcome, Tells}
+use Rattle.uimg_base.specs.Sink.{AppendsAll, AppendsPrefix}
+use Rattle.uimg_base.proofs.SinkLaws.{prefix_first}
+use Rattle.uimg_base.proofs.OutcomeLaws.{Tells-after}
+use Rattle.uimg_blob.specs.LookUps.{images}
+use Rattle.uimg_blob.specs.Spots.{spots}
+use Rattle.uimg_fit_base.specs.declared.fault.Fault.{Fault}
+use Rattle.uimg_fit_base.specs.Faults.{end_of}
+use Rattle.uimg_fit_base.specs.Files.{number, bytes_in, number_in, root_own}
+use Rattle.uimg_fit_reading.specs.Heads.{description_line, created_line}
+use Rattle.uimg_fit_reading.specs.Listing.{lists, list_of, head_lines}
+use Rattle.uimg_fit_reading.specs.Nodes.{HasTree}
+use Rattle.uimg_fit_reading.proofs.ListingLaws.{head_is, list_is}
+use Rattle.uimg_fit_reading.proofs.SharesLaws.{one_text}
+use Rattle.uimg_fit_reading.proofs.TellingLaws.{read_same}
+use Rattle.uimg_fit_reading.proofs.WithinLaws.{no_end, paid, read_size, root_allowed, body_allowed}
+use Rattle.uimg_fit_reading.proofs.listing.list.Goals as goal
+
+pub returns-in_err-put_head-clause-uses : goal.returns-in_err-put_head-clause-uses
+returns-in_err-put_head-clause-uses g c = record {
+  same = search rules;
+  failures = search rules;
+  asked = λ honest.
+      let d = g.S.Source.device c.args.source.now in
+      let file = d.bytes in
+      let h : HasTree file c.in_ok-blob.blob c.read_tree.new.room.entries = c.in_ok-blob.ensures.gives honest in
+      let t = h.nodes in
+      let own = root_own (spots t) in
+      let text = c.root_value-description.ensures.bytes file t h.read in
+      let size = read_size file own (codes "description") c.root_value-description.result (c.root_value-description.ensures.inside (length file) c.in_ok-blob.ensures.inside) text in
+      let few = one_text own (codes "description") refl in
+      omega (arith, c.read_tree.ensures.uses.asked honest, c.cell.ensures.uses.asked, c.put_head.ensures.uses.asked, size, few, root_allowed (spots t), paid file t h.read.is);
+}
+
+pub returns-in_err-put_head-clause-told : goal.returns-in_err-put_head-clause-told
+returns-in_err-put_head-clause-told g c = λ honest.
+    let d = g.S.Source.device c.args.source.now in
+    let file = d.bytes in
+    let h : HasTree file c.in_ok-blob.blob c.read_tree.new.room.entries = c.in_ok-blob.ensures.gives honest in
+    let t = h.nodes in
+    let own = root_own (spots t) in
+    let text = c.root_value-description.ensures.bytes file t h.read in
+    let first = c.read_tree.ensures.uses.same in
+    let second = c.cell.ensures.uses.same in
+    let now = subst (λ (b : Bool). IsTrue b) (sym first.honest) honest in
+    let time = c.in_ok-time.ensures.number now ∙ ap (λ (w : List ℕ). number_in w c.root_value.result) first.bytes
+    ∙ ap (λ (o : Option (List ℕ)). option_and_then number o) (sym (c.root_value.ensures.bytes file t h.read)) in
+    let after_cell = second.bytes ∙ first.bytes in
+    let honest_then = subst (λ (b : Bool). IsTrue b) (sym (second.honest ∙ first.honest)) honest in
+    let p = err_from_is_err_and c.from_residual-in_err-put_head.result c.from_residual-in_err-put_head.ensures.1 in
+    let ends = no_end c.from_residual-in_err-put_head.result p.0 _ p.1 p.2 in
+    let same = ap (λ (w : List ℕ). description_line (bytes_in w c.root_value-description.result) ++ created_line c.in_ok-time.time) after_cell ∙ head_is own c.in_ok-time.time (bytes_in file c.root_value-description.result) time text in
+    let prefix = subst (λ (w : List ℕ). AppendsPrefix c.args.out.now c.put_head.new.out w) same (c.in_err-put_head.ensures.told honest_then).prefix in
+    subst (λ (e : Option (End Fault)). Tells e (list_of file) c.args.out.now c.put_head.new.out) (sym ends)
+    (subst (λ (o : Outcome Fault). AppendsPrefix c.args.out.now c.put_head.new.out o.text) (sym (list_is file t h.read.is))
+    (prefix_first c.args.out.now c.put_head.new.out (head_lines own) (lists file (spots t) (images (spots t))).text prefix))
+
+pub returns-clause-uses : goal.returns-clause-uses
+returns-clause-uses g c = record {
+  same = search rules;
+  failures = search rules;
+  asked = λ honest.
+      let d = g.S.Source.device c.args.source.now in
+      let file = d.bytes in
+      let h : HasTree file c.in_ok-blob.blob c.read_tree.new.room.entries = c.in_ok-blob.ensures.gives honest in
+      let t = h.nodes in
+      let own = root_own (spots t) in
+      let text = c.root_value-description.ensures.bytes file t h.read in
+      let size = read_size file own (codes "description") c.root_value-description.result (c.root_value-description.ensures.inside (length file) c.in_ok-blob.ensures.inside) text in
+      let few = one_text own (codes "description") refl in
+      let first = c.read_tree.ensures.uses.same in
+      let second = c.cell.ensures.uses.same in
+      let now = subst (λ (b : Bool). IsTrue b) (sym first.honest) honest in
+      let time = c.in_ok-time.ensures.number now ∙ ap (λ (w : List ℕ). number_in w c.root_value.result) first.bytes
+      ∙ ap (λ (o : Option (List ℕ)). option_and_then number o) (sym (c.root_value.ensures.bytes file t h.read)) in
+      let after_cell = second.bytes ∙ first.bytes in
+      let honest_then = subst (λ (b : Bool). IsTrue b) (sym (second.honest ∙ first.honest)) honest in
+      let third = c.put_head.ensures.uses.same in
+      let after_head = third.bytes ∙ after_cell in
+      let honest_last = subst (λ (b : Bool). IsTrue b) (sym (third.honest ∙ second.honest ∙ first.honest)) honest in
+      let read = read_same file (g.S.Source.device c.put_head.new.source).bytes c.in_ok-blob.blob _ c.put_head.new.room.entries t after_head (ap (λ (r : Held). r.entries) c.put_head.ensures.room) h.read in
+      let e = end_of c.list_body.result in
+      let body = c.list_body.ensures.told honest_last t read time in
+      omega (arith, c.read_tree.ensures.uses.asked honest, c.cell.ensures.uses.asked, c.put_head.ensures.uses.asked, body.asked, size, few, body_allowed (spots t), paid file t h.read.is);
+}
+
+pub returns-clause-told : goal.returns-clause-told
+returns-clause-told g c = λ honest.
+    let d = g.S.Source.device c.args.source.now in
+    let file = d.bytes in
+    let h : HasTree file c.in_ok-blob.blob c.read_tree.new.room.entries = c.in_ok-blob.ensures.gives honest in
+    let t = h.nodes in
+    let own = root_own (spots t) in
+    let text = c.root_value-description.ensures.bytes file t h.read in
+    let first = c.read_tree.ensures.uses.same in
+    let second = c.cell.ensures.uses.same in
+    let now = subst (λ (b : Bool). IsTrue b) (sym first.honest) honest in
+    let time = c.in_ok-time.ensures.number now ∙ ap (λ (w : List ℕ). number_in w c.root_value.result) first.bytes
+    ∙ ap (λ (o : Option (List ℕ)). option_and_then number o) (sym (c.root_value.ensures.bytes file t h.read)) in
+    let after_cell = second.bytes ∙ first.bytes in
+    let honest_then = subst (λ (b : Bool). IsTrue b) (sym (second.honest ∙ first.honest)) honest in
+    let third = c.put_head.ensures.uses.same in
+    let after_head = third.bytes ∙ after_cell in
+    let honest_last = subst (λ (b : Bool). IsTrue b) (sym (third.honest ∙ second.honest ∙ first.honest)) honest in
+    let read = read_same file (g.S.Source.device c.put_head.new.source).bytes c.in_ok-blob.blob _ c.put_head.new.room.entries t after_head (ap (λ (r : Held). r.entries) c.put_head.ensures.room) h.read in
+    let e = end_of c.list_body.result in
+    let body = c.list_body.ensures.told honest_last t read time in
+    let same = ap (λ (w : List ℕ). description_line (bytes_in w c.root_value-description.result) ++ created_line c.in_ok-time.time) after_cell ∙ head_is own c.in_ok-time.time (bytes_in file c.root_value-description.result) time text in
+    let all = subst (λ (w : List ℕ). AppendsAll c.args.out.now c.put_head.new.out w) same (c.in_ok-put_head.ensures.told honest_then).all in
+    let rest = subst (λ (w : List ℕ). Tells e (lists w (spots t) (images (spots t))) c.put_head.new.out c.list_body.new.out) after_head body.told in
+    subst (λ (o : Outcome Fault). Tells e o c.args.out.now c.list_body.new.out) (sym (list_is file t h.read.is))
+    (Tells-after e (lists file (spots t) (images (spots t))) c.args.out.now c.put_head.new.out c.list_body.new.out (head_lines own) all rest)

@@ -1,0 +1,28 @@
+use Rattle.std.proofs.Common.{◌≡◌, ◌-◌, ◌<◌, List, length, IfSome, IsTrue}
+use Rattle.std.specs.Option.{option_map_or}
+use Rattle.uimg_base.specs.Device.{SameDevice}
+use Rattle.uimg_blob.specs.Grammar.{Siblings}
+use Rattle.uimg_blob.specs.LookUps.{NodeOf}
+use Rattle.uimg_blob.specs.Roles.{in_images}
+use Rattle.uimg_blob.specs.Spots.{Spot}
+use Rattle.uimg_fit_reading.specs.Nodes.{IsRead, AreFrom}
+use Rattle.uimg_fit_reading.proofs.ImageReportLaws.{ImagesLeft}
+use Rattle.uimg_fit_reading.proofs.report.image_reports.report_images.Given as goal
+
+-- what is told of the images from the next one on is told of all
+abbrev pub invariant-loop-next : goal.invariant-loop-next
+invariant-loop-next g l =
+    let device = g.S.Source.device in
+    let file = (device l.fn.source).bytes in
+    record {
+      same : SameDevice (device l.fn.source) (device l.source);
+      failures : (device l.source).failures ≡ (device l.fn.source).failures;
+      faults : l.out.faults ≡ l.fn.out.faults;
+      room : l.room ≡ l.fn.room;
+      within : IfSome l.next (λ i. i < length l.fn.room.entries);
+      left : IsTrue (device l.fn.source).honest → (t : Siblings) → IsRead file l.blob l.fn.room.entries t → (found : List (NodeOf Spot)) → AreFrom t in_images l.fn.first found
+          → ImagesLeft t file found (device l.fn.source).asked (device l.source).asked l.fn.out l.out l.are_right l.next;
+    }
+
+abbrev pub decreases-loop-next : goal.decreases-loop-next
+decreases-loop-next g l = option_map_or (λ i. length l.fn.room.entries - i) l.next 0

@@ -1,0 +1,13 @@
+use Rattle.std.proofs.Common.{sym, ◌∙◌, ap, length}
+use Rattle.std.specs.Prelude.{Bool, if◌then◌else◌}
+use Rattle.uimg_fit_base.specs.declared.words.Word.TheVariants.{Right, Wrong}
+use Rattle.uimg_fit_reading.proofs.PlanLaws.{compared_word}
+use Rattle.uimg_fit_reading.proofs.report.plans.judged.Goals as goal
+
+pub returns-then-branch-clause-word : goal.returns-then-branch-clause-word
+returns-then-branch-clause-word g c = λ honest message has.
+    let file = (g.S.Source.device c.args.source.now).bytes in
+    let same = c.in_ok-is_digest-in-Compared.field-0 in
+    sym (compared_word file message c.args.digest.now (length file) c.args.plan c.in-Compared.field-0 c.in-Compared.span same
+    c.in-Compared.is c.requires has (c.in_ok-is_digest-in-Compared.ensures.same honest)
+    ∙ ap (λ (b : Bool). if b then Right else Wrong) c.if-branch.true)

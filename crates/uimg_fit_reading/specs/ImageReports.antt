@@ -1,0 +1,54 @@
+-- Reporting on images, one after the other.
+use Rattle.std.specs.Prelude.{◌≡◌, ◌≤◌, ◌+◌, ◌*◌, ℕ, List, length, Bool, true, false, Result, Ok, Err, IfOk, is_err}
+use Rattle.std.specs.List.{sum_by}
+use Rattle.uimg_base.specs.Outcome.{Outcome, Tells}
+use Rattle.uimg_base.specs.Sink.{Sink, AppendsAll}
+use Rattle.uimg_base.specs.Writing.{Written}
+use Rattle.uimg_base.specs.declared.status.Status.{Status}
+use Rattle.uimg_base.specs.declared.status.Status.TheVariants.{Done, NotRight}
+use Rattle.uimg_blob.specs.LookUps.{NodeOf, hashes}
+use Rattle.uimg_blob.specs.Spots.{Spot}
+use Rattle.uimg_fit_base.specs.declared.fault.Fault.{Fault}
+use Rattle.uimg_fit_reading.specs.Allowances.{node_allowance}
+use Rattle.uimg_fit_base.specs.Faults.{end_of}
+use Rattle.uimg_fit_base.specs.Places.{payload}
+use Rattle.uimg_fit_reading.specs.Plans.{algos_of}
+use Rattle.uimg_fit_base.specs.Report.{hash_lines, are_right, report_step, report}
+use Rattle.uimg_fit_reading.specs.Work.{passes, hashed}
+
+-- the status of a report
+abbrev pub status_of : Bool → Status
+status_of true = Done
+status_of false = NotRight
+
+-- what is said of an image whose payload is known; its place took at most 12 bytes
+pub record ReportsFound (image : NodeOf Spot) (message : List ℕ) (size asked new : ℕ) (result : Result Bool Fault) (old now : Sink) : Type 0 where
+  pub right : IfOk result (λ right. right ≡ are_right message (hashes image))
+  pub written : Written (is_err result) old now (hash_lines image.name message (hashes image))
+  pub paid : new + 12 ≤ asked + (passes (length (algos_of (hashes image))) * size + node_allowance image)
+
+-- the most bytes that are asked for about an image
+abbrev pub image_work : List ℕ → NodeOf Spot → ℕ
+image_work file image = hashed image (payload file image) + node_allowance image
+
+-- An image was reported on.
+pub record ImageDone (file : List ℕ) (image : NodeOf Spot) (asked new : ℕ) (right : Bool) (old now : Sink) : Type 0 where
+  pub message : List ℕ
+  pub is : payload file image ≡ Ok message
+  pub all_right : right ≡ are_right message (hashes image)
+  pub written : AppendsAll old now (hash_lines image.name message (hashes image))
+  pub paid : new ≤ asked + image_work file image
+
+-- The report ends at an image, whatever comes after it.
+pub record ImageCut (file : List ℕ) (image : NodeOf Spot) (asked new : ℕ) (fault : Fault) (old now : Sink) : Type 0 where
+  pub told : (rest : Outcome Fault) → Tells (end_of (Err fault)) (report_step image (payload file image) rest) old now
+  pub paid : new ≤ asked + image_work file image
+
+abbrev pub ReportsImage : List ℕ → NodeOf Spot → ℕ → ℕ → Result Bool Fault → Sink → Sink → Type 0
+ReportsImage file image asked new (Ok right) old now = ImageDone file image asked new right old now
+ReportsImage file image asked new (Err fault) old now = ImageCut file image asked new fault old now
+
+-- Images were reported on.
+pub record ReportsImages (file : List ℕ) (found : List (NodeOf Spot)) (asked new : ℕ) (result : Result Status Fault) (old now : Sink) : Type 0 where
+  pub told : Tells (end_of result) (report file found) old now
+  pub paid : new ≤ asked + sum_by (image_work file) found

@@ -1,0 +1,141 @@
+-- Nodes of an indexed tree by their numbers.
+use Rattle.std.specs.Prelude.{◌≡◌, ◌≤◌, ℕ, List, [], ◌∷◌, true, false, ⊤, map, Option, Some, None, Result, Ok, Err, IsTrue}
+use Rattle.std.specs.List.{slice_get, filter}
+use Rattle.uimg_texts.specs.Numbers.{be32}
+use Rattle.uimg_blob.specs.declared.nodes.Blob.{Blob}
+use Rattle.uimg_blob.specs.declared.keys.Key.TheVariants.{Default}
+use Rattle.uimg_blob.specs.Tokens.{Property}
+use Rattle.uimg_blob.specs.Grammar.{Siblings, node}
+use Rattle.uimg_blob.specs.Blob.{tree}
+use Rattle.uimg_blob.specs.Roles.{Level, in_images, in_image, in_configurations, is_hash, role_at, level_in}
+use Rattle.uimg_blob.specs.Rows.{Row, first_of, table}
+use Rattle.uimg_blob.specs.Standing.{Stand}
+use Rattle.uimg_blob.specs.Indexed.{IsIndexed, keeps}
+use Rattle.uimg_blob.specs.LookUps.{NodeOf, listed, images, configurations}
+use Rattle.uimg_blob.specs.Spots.{Spot, spot_of, spots}
+use Rattle.uimg_blob.specs.Faults.{refuses_memory}
+use Rattle.uimg_fit_base.specs.declared.fault.Fault.{Fault}
+use Rattle.uimg_fit_base.specs.declared.fault.Fault.TheVariants as of
+use Rattle.uimg_fit_base.specs.declared.fault.FitFault.{FitFault}
+use Rattle.uimg_fit_base.specs.declared.fault.FitFault.TheVariants.{NoImages, NoSuchImage}
+
+-- The entries of a room are those of some tree.
+pub record Indexed (blob : Blob) (es : List (List ℕ)) : Type 0 where
+  pub nodes : Siblings
+  pub indexed : IsIndexed nodes blob es
+
+-- The same of a blob that ends in a file of so many bytes.
+pub record InFile (size : ℕ) (blob : Blob) (es : List (List ℕ)) : Type 0 where
+  pub indexed : Indexed blob es
+  pub within : blob.totalsize ≤ size
+
+-- The tree of a file is t, whose entries are those of a room, and the blob has the total size that its header says.
+pub record IsRead (file : List ℕ) (blob : Blob) (es : List (List ℕ)) (t : Siblings) : Type 0 where
+  pub is : tree file ≡ Ok t
+  pub indexed : IsIndexed t blob es
+  pub totalsize : blob.totalsize ≡ be32 file 4
+
+-- A file has a tree, whose entries are those of a room.
+pub record HasTree (file : List ℕ) (blob : Blob) (es : List (List ℕ)) : Type 0 where
+  pub nodes : Siblings
+  pub read : IsRead file blob es nodes
+
+-- what an answer says of the tree of a file
+abbrev pub GivesTree : List ℕ → Result Blob Fault → List (List ℕ) → Type 0
+GivesTree file (Ok blob) es = HasTree file blob es
+GivesTree file (Err (of.Blob fault at)) es = refuses_memory fault ≡ false → tree file ≡ Err (fault, at)
+GivesTree file (Err (of.Fit fault)) es = ⊥
+GivesTree file (Err _) es = ⊤
+
+-- The node of a number, at a level of the tree, is such.
+pub record IsNode (t : Siblings) (level : Level) (number : ℕ) (found : NodeOf Spot) : Type 0 where
+  pub parent : Option ℕ
+  pub at : ℕ
+  pub name : List ℕ
+  pub own : List Property
+  pub below : Siblings
+  pub after : Siblings
+  pub stands : Stand t level parent number (node at name own below after)
+  pub is : found ≡ record { name = name; own = map spot_of own; below = spots below }
+
+-- From the node of a number on, if there is one, these nodes follow one another at a level of the tree.
+pub record AreFrom (t : Siblings) (level : Level) (first : Option ℕ) (found : List (NodeOf Spot)) : Type 0 where
+  pub parent : Option ℕ
+  pub number : ℕ
+  pub siblings : Siblings
+  pub stands : Stand t level parent number siblings
+  pub is_first : first ≡ first_of number siblings
+  pub are : found ≡ listed (spots siblings)
+
+-- The tree has images, and they begin at a number, if there is one.
+pub record HasImages (t : Siblings) (first : Option ℕ) : Type 0 where
+  pub found : List (NodeOf Spot)
+  pub is : images (spots t) ≡ Some found
+  pub from : AreFrom t in_images first found
+
+-- what is said of the images of a tree
+abbrev pub TellsImages : Siblings → Result (Option ℕ) FitFault → Type 0
+TellsImages t (Ok first) = HasImages t first
+TellsImages t (Err NoImages) = images (spots t) ≡ None
+TellsImages t (Err _) = ⊥
+
+-- The image of a tree at a position has a number.
+pub record HasImage (t : Siblings) (position : ℕ) (number : ℕ) : Type 0 where
+  pub found : List (NodeOf Spot)
+  pub image : NodeOf Spot
+  pub is : images (spots t) ≡ Some found
+  pub has : slice_get found position ≡ Some image
+  pub node : IsNode t in_images number image
+
+-- The tree has images, and none at a position.
+pub record LacksImage (t : Siblings) (position : ℕ) : Type 0 where
+  pub found : List (NodeOf Spot)
+  pub is : images (spots t) ≡ Some found
+  pub lacks : slice_get found position ≡ None
+
+-- what is said of the image at a position
+abbrev pub TellsImage : Siblings → ℕ → Result ℕ FitFault → Type 0
+TellsImage t position (Ok number) = HasImage t position number
+TellsImage t position (Err NoImages) = images (spots t) ≡ None
+TellsImage t position (Err NoSuchImage) = LacksImage t position
+TellsImage t position (Err _) = ⊥
+
+-- From a child of an image on, if there is one, these are the hash nodes.
+pub record HashesFrom (t : Siblings) (first : Option ℕ) (hs : List (NodeOf Spot)) : Type 0 where
+  pub children : List (NodeOf Spot)
+  pub from : AreFrom t in_image first children
+  pub are : hs ≡ filter (λ h. is_hash h.name) children
+
+-- The node of a number is the first of some hash nodes.
+pub record HashAt (t : Siblings) (number : ℕ) (hash : NodeOf Spot) (more : List (NodeOf Spot)) : Type 0 where
+  pub node : IsNode t in_image number hash
+  pub named : is_hash hash.name ≡ true
+  pub row : Row
+  pub is : slice_get (table t) number ≡ Some row
+  pub rest : HashesFrom t row.next_sibling more
+
+-- The same of some node and those after it.
+pub record FirstHash (t : Siblings) (number : ℕ) (hs : List (NodeOf Spot)) : Type 0 where
+  pub hash : NodeOf Spot
+  pub more : List (NodeOf Spot)
+  pub are : hs ≡ hash ∷ more
+  pub at : HashAt t number hash more
+
+-- Hash nodes begin at a number, or there are none.
+abbrev pub HashesAt : Siblings → Option ℕ → List (NodeOf Spot) → Type 0
+HashesAt t None hs = hs ≡ []
+HashesAt t (Some number) hs = FirstHash t number hs
+
+-- The node `configurations` of a tree has a number. It keeps a default, and its children are configurations.
+pub record HasConfigurations (t : Siblings) (number : ℕ) : Type 0 where
+  pub found : NodeOf Spot
+  pub is : configurations (spots t) ≡ Some found
+  pub level : Level
+  pub node : IsNode t level number found
+  pub keeps : IsTrue (keeps (role_at level found.name) Default)
+  pub children : level_in (role_at level found.name) ≡ in_configurations
+
+-- what is said of the node `configurations`
+abbrev pub TellsConfigurations : Siblings → Option ℕ → Type 0
+TellsConfigurations t None = configurations (spots t) ≡ None
+TellsConfigurations t (Some number) = HasConfigurations t number

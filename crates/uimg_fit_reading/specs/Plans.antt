@@ -1,0 +1,105 @@
+-- What is to be done about a hash node, before any payload is read.
+use Rattle.std.specs.Prelude.{◌≡◌, ⊤, ℕ, ◌+◌, ◌≤◌, List, [], ◌∷◌, ◌++◌, length, ◌==◌, if◌then◌else◌, Option, Some, None, codes}
+use Rattle.std.specs.List.{flat_map}
+use Rattle.std.specs.Option.{option_map, option_map_or}
+use Rattle.std.specs.Str.{bytes_eq}
+use Rattle.uimg_sums.specs.declared.algo.Algo.{Algo}
+use Rattle.uimg_sums.specs.Algorithms.{algo_named, digest_size, digest_by}
+use Rattle.uimg_sums.specs.AnySum.{padded_digest}
+use Rattle.uimg_texts.specs.Nul.{text}
+use Rattle.uimg_texts.specs.Slices.{slice}
+use Rattle.uimg_base.specs.Outcome.{line}
+use Rattle.uimg_blob.specs.declared.texts.Span.{Span}
+use Rattle.uimg_blob.specs.LookUps.{NodeOf, first}
+use Rattle.uimg_blob.specs.Indexed.{value_span}
+use Rattle.uimg_blob.specs.Spots.{Spot}
+use Rattle.uimg_fit_reading.specs.declared.report.plans.Plan.{Plan}
+use Rattle.uimg_fit_reading.specs.declared.report.plans.Plan.TheVariants.{Malformed, Unsupported, Compared}
+use Rattle.uimg_fit_base.specs.declared.words.Word.{Word}
+use Rattle.uimg_fit_base.specs.declared.words.Word.TheVariants as word
+use Rattle.uimg_fit_base.specs.Files.{bytes_in, bytes_of}
+use Rattle.uimg_fit_reading.specs.declared.report.hash_lines.HashLine.{HashLine}
+use Rattle.uimg_fit_base.specs.Report.{algo_of, word_text}
+
+-- a value is compared by an algorithm if it has the length of its digests
+unfoldable pub plan_for : Algo → Span → Plan
+plan_for algo value = if value.length == digest_size algo then Compared algo value else Malformed
+
+abbrev pub plan_by_value : Algo → Option Span → Plan
+plan_by_value algo None = Malformed
+plan_by_value algo (Some value) = plan_for algo value
+
+abbrev pub plan_by_algo : Option Algo → Option Span → Plan
+plan_by_algo None value = Unsupported
+plan_by_algo (Some algo) value = plan_by_value algo value
+
+-- what is to be done by the name of an algorithm and the place of a value, each of which may be missing
+abbrev pub plan_by_name : Option (List ℕ) → Option Span → Plan
+plan_by_name None value = Malformed
+plan_by_name (Some name) value = plan_by_algo (algo_named name) value
+
+-- what is to be done about a hash node
+abbrev pub plan_of : NodeOf Spot → Plan
+plan_of hash = plan_by_name (algo_of hash) (option_map value_span (first hash.own (codes "value")))
+
+-- the sum that a plan asks for, if it asks for one
+abbrev pub sums_of : Plan → List Algo
+sums_of Malformed = []
+sums_of Unsupported = []
+sums_of (Compared algo span) = algo ∷ []
+
+-- the algorithms of the hash nodes whose values are compared, in their order
+abbrev pub algos_of : List (NodeOf Spot) → List Algo
+algos_of hs = flat_map (λ h. sums_of (plan_of h)) hs
+
+-- the text at a span of a file
+abbrev pub text_in : List ℕ → Option Span → Option (List ℕ)
+text_in file value = option_map text (bytes_in file value)
+
+-- the text that is printed of an algorithm's name, `-` where it is missing
+abbrev pub algo_text : List ℕ → Option Span → List ℕ
+algo_text file value = option_map_or (λ n. n) (text_in file value) (codes "-")
+
+-- the line of a hash node, by the places of its parts
+abbrev pub names_text : List ℕ → HashLine → List ℕ
+names_text file l = (slice file l.image.place l.image.length ++ codes " ") ++ (slice file l.hash.place l.hash.length ++ codes " ")
+
+abbrev pub end_text : List ℕ → HashLine → List ℕ
+end_text file l = algo_text file l.algo ++ line (codes " " ++ word_text l.word)
+
+abbrev pub hash_text : List ℕ → HashLine → List ℕ
+hash_text file l = names_text file l ++ end_text file l
+
+-- how many bytes stand at a span
+abbrev pub span_length : Option Span → ℕ
+span_length None = 0
+span_length (Some span) = span.length
+
+-- The value that is compared is the one that is there, and has the length of its algorithm's digests.
+abbrev pub IsOf : Option Span → Plan → Type 0
+IsOf value Malformed = ⊤
+IsOf value Unsupported = ⊤
+IsOf value (Compared algo span) = (value ≡ Some span) × (span.length ≡ digest_size algo)
+
+-- The value that is compared ends in a file of so many bytes, and has the length of its algorithm's digests.
+abbrev pub EndsIn : ℕ → Plan → Type 0
+EndsIn size Malformed = ⊤
+EndsIn size Unsupported = ⊤
+EndsIn size (Compared algo span) = (span.place + span.length ≤ size) × (span.length ≡ digest_size algo)
+
+-- The digest of a message is at hand where a value is compared.
+abbrev pub HasDigest : List ℕ → List ℕ → Plan → Type 0
+HasDigest digest message Malformed = ⊤
+HasDigest digest message Unsupported = ⊤
+HasDigest digest message (Compared algo span) = digest ≡ (padded_digest (digest_by algo message)).0
+
+-- the word of a hash node, once its value is compared
+abbrev pub word_by : List ℕ → List ℕ → Plan → Word
+word_by file message Malformed = word.Malformed
+word_by file message Unsupported = word.Unsupported
+word_by file message (Compared algo span) =
+    if bytes_eq (slice file span.place span.length) (digest_by algo message) then word.Right else word.Wrong
+
+-- how many bytes the value of a hash node's algorithm has
+abbrev pub algo_length : NodeOf Spot → ℕ
+algo_length hash = option_map_or (λ v. length v) (bytes_of hash.own (codes "algo")) 0

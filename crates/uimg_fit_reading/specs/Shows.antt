@@ -1,0 +1,104 @@
+-- The lines of a property's value, where its label is padded already.
+use Rattle.std.specs.Prelude.{ℕ, ◌+◌, ◌≤◌, min, List, [], ◌∷◌, ◌++◌, length, replicate, codes, Option, IfSome, ⊤}
+use Rattle.std.specs.List.{flat_map}
+use Rattle.std.specs.Option.{option_map_or}
+use Rattle.hex.specs.Hex.{encode_lower}
+use Rattle.uimg_texts.specs.Names.{Row, os_table, arch_table, kind_table, comp_table, code_of, printed}
+use Rattle.uimg_texts.specs.Nul.{text}
+use Rattle.uimg_texts.specs.Sizes.{size_text}
+use Rattle.uimg_texts.specs.Times.{time_text}
+use Rattle.uimg_base.specs.Outcome.{line}
+use Rattle.uimg_fit_reading.specs.declared.listing.shows.Table.{Table}
+use Rattle.uimg_fit_reading.specs.declared.listing.shows.Table.TheVariants.{Kinds, Compressions, Architectures, Systems}
+use Rattle.uimg_fit_reading.specs.declared.listing.shows.Show.{Show}
+use Rattle.uimg_fit_reading.specs.declared.listing.shows.Show.TheVariants as show
+use Rattle.uimg_fit_reading.specs.declared.listing.shows.Content.{Content}
+use Rattle.uimg_fit_reading.specs.declared.listing.shows.Content.TheVariants.{Property, Time, Size}
+use Rattle.uimg_fit_reading.specs.declared.listing.shows.Field.{Field}
+use Rattle.uimg_fit_base.specs.Files.{bytes_in}
+use Rattle.uimg_fit_reading.specs.Values.{address_text, pieces}
+
+-- the rows of a table
+abbrev pub rows_of : Table → List Row
+rows_of Kinds = kind_table
+rows_of Compressions = comp_table
+rows_of Architectures = arch_table
+rows_of Systems = os_table
+
+-- what is printed where a table has no such name
+abbrev pub unknown : Table → List ℕ
+unknown Kinds = codes "Unknown Image"
+unknown Compressions = codes "Unknown Compression"
+unknown Architectures = codes "Unknown Architecture"
+unknown Systems = codes "Unknown OS"
+
+-- the printed name of what a table names so
+unfoldable pub named : Table → List ℕ → List ℕ
+named table name = option_map_or (printed (rows_of table) (unknown table)) (code_of (rows_of table) name) (unknown table)
+
+-- the same of a value's text
+abbrev pub name_in : Table → List ℕ → List ℕ
+name_in table value = named table (text value)
+
+-- a line for each text, the first with the label, the others with as many blanks
+abbrev pub lines_of : List ℕ → List (List ℕ) → List ℕ
+lines_of label [] = []
+lines_of label (t ∷ ts) = line (label ++ t) ++ flat_map (λ more. line (replicate 16 32 ++ more)) ts
+
+-- the lines of a value
+unfoldable pub value_lines : Show → List ℕ → List ℕ → List ℕ
+value_lines show.Text label value = line (label ++ text value)
+value_lines (show.Name table) label value = line (label ++ name_in table value)
+value_lines show.Address label value = line (label ++ address_text value)
+value_lines show.Hexadecimal label value = line (label ++ encode_lower value)
+value_lines show.List label value = lines_of label (pieces value)
+
+-- the same of a value that may be missing
+abbrev pub shown : Show → List ℕ → Option (List ℕ) → List ℕ
+shown how label value = option_map_or (value_lines how label) value []
+
+-- the line of a time, if there is one
+abbrev pub time_line : List ℕ → Option ℕ → List ℕ
+time_line label time = option_map_or (λ t. line (label ++ time_text t)) time []
+
+-- the line of a size, or that it is not known
+abbrev pub size_line : List ℕ → Option ℕ → List ℕ
+size_line label size = line (label ++ option_map_or size_text size (codes "unavailable"))
+
+-- the lines of a field, whose value stands in a file
+abbrev pub content_lines : List ℕ → List ℕ → Content → List ℕ
+content_lines file label (Property how value) = shown how label (bytes_in file value)
+content_lines file label (Time time) = time_line label time
+content_lines file label (Size size) = size_line label size
+
+abbrev pub field_lines : List ℕ → Field → List ℕ
+field_lines file field = content_lines file field.label.now field.content
+
+-- a value that is shown ends in a file of so many bytes
+abbrev pub EndsIn : ℕ → Content → Type 0
+EndsIn size (Property how value) = IfSome value (λ s. s.place + s.length ≤ size)
+EndsIn size (Time time) = ⊤
+EndsIn size (Size n) = ⊤
+
+abbrev pub FieldEndsIn : ℕ → Field → Type 0
+FieldEndsIn size field = EndsIn size field.content
+
+-- the most bytes of a value that are asked for
+abbrev pub value_cost : Show → ℕ → ℕ
+value_cost show.Text n = n
+value_cost (show.Name table) n = min 32 n
+value_cost show.Address n = min 8 n
+value_cost show.Hexadecimal n = n
+value_cost show.List n = n
+
+-- the same of a value that may be missing
+abbrev pub weight : Show → Option (List ℕ) → ℕ
+weight how value = option_map_or (λ v. value_cost how (length v)) value 0
+
+abbrev pub content_cost : Content → ℕ
+content_cost (Property how value) = option_map_or (λ s. value_cost how s.length) value 0
+content_cost (Time time) = 0
+content_cost (Size n) = 0
+
+abbrev pub field_cost : Field → ℕ
+field_cost field = content_cost field.content

@@ -1,0 +1,48 @@
+-- The most bytes that a command asks for.
+use Rattle.std.specs.Prelude.{ℕ, ◌+◌, ◌*◌, ◌/◌, List, length, Result, Ok, Err}
+use Rattle.std.specs.List.{sum_by, count_by}
+use Rattle.uimg_blob.specs.LookUps.{NodeOf, hashes}
+use Rattle.uimg_blob.specs.Spots.{Spot}
+use Rattle.uimg_blob.specs.Counts.{nodes_met, properties_met, texts_met, nops_met}
+use Rattle.uimg_fit_base.specs.declared.fault.Fault.{Fault}
+use Rattle.uimg_fit_base.specs.declared.fault.FitFault.{FitFault}
+use Rattle.uimg_fit_base.specs.Files.{images_of}
+use Rattle.uimg_fit_base.specs.Places.{payload}
+use Rattle.uimg_fit_base.specs.Report.{word_of, is_compared}
+use Rattle.uimg_fit_base.specs.Extraction.{extract_of}
+
+-- the length of a payload that is there
+abbrev pub payload_length : Result (List ℕ) FitFault → ℕ
+payload_length (Ok message) = length message
+payload_length (Err fault) = 0
+
+-- how often a payload is read for so many sums: once for each eight
+abbrev pub passes : ℕ → ℕ
+passes count = (count + 7) / 8
+
+-- the most bytes of a payload that are asked for: once for each group of eight hash nodes whose values are compared
+abbrev pub hashed : NodeOf Spot → Result (List ℕ) FitFault → ℕ
+hashed image (Ok message) = passes (count_by (λ h. is_compared (word_of message h)) (hashes image)) * length message
+hashed image (Err fault) = 0
+
+-- the same of all images of a file
+abbrev pub all_hashed : List ℕ → Result (List (NodeOf Spot)) Fault → ℕ
+all_hashed file (Ok found) = sum_by (λ image. hashed image (payload file image)) found
+all_hashed file (Err fault) = 0
+
+-- the most that is asked for beside payloads: `meta` without the four bytes that tell the format of a file, which whoever
+-- chooses this format may have asked for
+abbrev pub own_meta : List ℕ → ℕ
+own_meta file = 60 + 1024 * (nodes_met file + properties_met file) + 4 * (texts_met file + nops_met file)
+
+-- the most that a listing asks for
+abbrev pub list_work : List ℕ → ℕ
+list_work file = own_meta file
+
+-- the most that a report asks for: each payload once for each group of at most eight of its hash nodes
+abbrev pub verify_work : List ℕ → ℕ
+verify_work file = own_meta file + all_hashed file (images_of file)
+
+-- the most that an extraction asks for: as a listing, and the payload that is written
+abbrev pub extract_work : List ℕ → ℕ → ℕ
+extract_work file position = own_meta file + length (extract_of file position).text

@@ -1,0 +1,67 @@
+ghost use Rattle.std.specs.Prelude.{◌≡◌, ◌+◌, ◌≤◌, false, length, IsTrue, IfOk};
+ghost use Rattle.uimg_texts.specs.Slices.{slice};
+ghost use Rattle.uimg_base.specs.Device.{RisesIf};
+ghost use Rattle.uimg_base.specs.Outcome.{Tells};
+ghost use Rattle.uimg_base.specs.Ranges.{ReadsAhead};
+ghost use Rattle.uimg_base.specs.Using.{UsesAtMost};
+ghost use Rattle.uimg_fit_base.specs.Extraction.{payload_at, extract_of};
+ghost use Rattle.uimg_fit_base.specs.Faults.{is_read, is_put, is_out_of_memory, is_refused, end_of, Gives};
+ghost use Rattle.uimg_fit_reading.specs.Rooms.{TakesNodes};
+ghost use Rattle.uimg_fit_reading.specs.Work.{list_work, extract_work};
+
+use crate::images::image_at;
+use crate::places::payload_place;
+use crate::tree::read_tree;
+use std::alloc::Allocator;
+use std::io::Write;
+use uimg_base::{Out, Room, Source, Status, copy_range};
+use uimg_fit_base::{Fault, Place};
+
+// The place of the payload of the image at a position.
+fn locate_payload<S: Source, A: Allocator>(
+    source: &mut S,
+    room: &mut Room<A>,
+    position: u32,
+) -> Result<Place, Fault>
+    ensures uses { UsesAtMost (list_work (S.device source.old).bytes) (is_read result)
+        (S.device source.old) (S.device source.new) }
+    ensures room { TakesNodes (S.device source.old) (is_out_of_memory result) room.old room.new }
+    ensures no_put { is_put result ≡ false }
+    ensures inside { IfOk result (λ p. p.at + p.size ≤ length (S.device source.old).bytes) }
+    ensures gives { IsTrue (S.device source.old).honest → Gives
+        (λ p. slice (S.device source.old).bytes p.at p.size) result
+        (payload_at (S.device source.old).bytes position) }
+{
+    let blob = read_tree(source, room)?;
+    let image = image_at(&blob, room, position)?;
+    payload_place(source, &blob, room, image)
+}
+
+/// Writes the payload of the image at a position, counted from 0.
+///
+/// Refusals come before the first byte: those of the blob, then `NoImages`, `NoSuchImage`, and
+/// `NoData` and `DataOutside` of that image, in this order. `OutOfMemory` comes exactly where the
+/// room refused to grow. Over an honest source a prefix of the payload was written after `Read` or
+/// `Put`.
+pub fn extract<S: Source, A: Allocator, W: Write>(
+    position: u32,
+    source: &mut S,
+    room: &mut Room<A>,
+    out: &mut Out<W>,
+) -> Result<Status, Fault>
+    ensures uses { UsesAtMost (extract_work (S.device source.old).bytes position)
+        (is_read result) (S.device source.old) (S.device source.new) }
+    ensures room { TakesNodes (S.device source.old) (is_out_of_memory result) room.old room.new }
+    ensures ahead { IsTrue (S.device source.old).honest →
+        ReadsAhead (list_work (S.device source.old).bytes)
+        (S.device source.old) (S.device source.new) out.old out.new
+        (extract_of (S.device source.old).bytes position).text }
+    ensures untouched { IsTrue (is_refused result) → out.new ≡ out.old }
+    ensures faults { RisesIf (is_put result) out.old.faults out.new.faults }
+    ensures told { IsTrue (S.device source.old).honest →
+        Tells (end_of result) (extract_of (S.device source.old).bytes position) out.old out.new }
+{
+    let place = locate_payload(source, room, position)?;
+    copy_range(source, room, place.at, place.size, out)?;
+    Ok(Status::Done)
+}

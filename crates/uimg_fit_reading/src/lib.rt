@@ -1,0 +1,14 @@
+//! FIT images are read: listing, verification and extraction.
+#![tactic(auto)]
+
+mod extraction;
+mod images;
+mod listing;
+mod nodes;
+mod places;
+mod report;
+mod tree;
+
+pub use extraction::extract;
+pub use listing::list;
+pub use report::verify;

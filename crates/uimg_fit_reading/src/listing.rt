@@ -1,0 +1,143 @@
+ghost use Rattle.std.specs.Prelude.{◌≡◌, ◌<◌, ◌++◌, List, Some, codes, false, length, is_err, IsTrue, IfSome};
+ghost use Rattle.uimg_base.specs.Device.{RisesIf};
+ghost use Rattle.uimg_base.specs.Outcome.{Tells};
+ghost use Rattle.uimg_base.specs.Ranges as range;
+ghost use Rattle.uimg_base.specs.Using.{Uses, UsesAtMost};
+ghost use Rattle.uimg_blob.specs.Grammar.{Siblings};
+ghost use Rattle.uimg_blob.specs.LookUps.{NodeOf, images, configurations};
+ghost use Rattle.uimg_blob.specs.Roles.{in_images};
+ghost use Rattle.uimg_blob.specs.Spots.{Spot, spots};
+ghost use Rattle.uimg_fit_base.specs.Faults.{is_read, is_put, is_out_of_memory, end_of};
+ghost use Rattle.uimg_fit_base.specs.Files.{root_own, cell};
+ghost use Rattle.uimg_fit_reading.specs.Listing.{lists, list_of};
+ghost use Rattle.uimg_fit_reading.specs.ListingParts.{configurations_allowance, configurations_text, images_text, body_allowance, TellsWithin};
+ghost use Rattle.uimg_fit_reading.specs.Nodes.{InFile, IsRead, AreFrom};
+ghost use Rattle.uimg_fit_reading.specs.Rooms.{TakesNodes};
+ghost use Rattle.uimg_fit_reading.specs.Telling.{Lists};
+ghost use Rattle.uimg_fit_reading.specs.Work.{list_work};
+
+mod addresses;
+mod fields;
+mod heads;
+mod hexadecimal;
+mod listed_nodes;
+mod lists;
+mod names;
+mod properties;
+mod puts;
+mod shows;
+mod titles;
+
+use crate::images::first_image;
+use crate::listing::heads::{put_default, put_head};
+use crate::listing::listed_nodes::{Kind, put_listed_nodes};
+use crate::nodes::{child_of, configurations_of, root_value, value_of};
+use crate::places::cell;
+use crate::tree::read_tree;
+use std::alloc::Allocator;
+use std::io::Write;
+use uimg_base::{MoveFault, Out, Room, Source, Status};
+use uimg_blob::{Blob, Key};
+use uimg_fit_base::Fault;
+
+// The lines of the configurations, if there are any.
+fn put_configurations<S: Source, A: Allocator, W: Write>(
+    blob: &Blob,
+    source: &mut S,
+    room: &mut Room<A>,
+    out: &mut Out<W>,
+) -> Result<(), MoveFault>
+    requires { InFile (length (S.device source.old).bytes) blob.now room.old.entries }
+    ensures uses { Uses (range.is_read result) (S.device source.old) (S.device source.new) }
+    ensures room { room.new ≡ room.old }
+    ensures faults { RisesIf (range.is_put result) out.old.faults out.new.faults }
+    ensures told { IsTrue (S.device source.old).honest → (t : Siblings) →
+        IsRead (S.device source.old).bytes blob.now room.old.entries t →
+        Lists (is_err result) (configurations_allowance (configurations (spots t)))
+        (S.device source.old) (S.device source.new) out.old out.new
+        (configurations_text (S.device source.old).bytes (configurations (spots t))) }
+{
+    let Some(node) = configurations_of(blob, room) else {
+        return Ok(());
+    };
+    put_default(source, room, value_of(blob, room, node, Key::Default), out)?;
+    let first = child_of(blob, room, node);
+    put_listed_nodes(blob, source, room, Kind::Configuration, first, out)
+}
+
+// The lines of the images from the first one on, and of the configurations.
+fn put_body<S: Source, A: Allocator, W: Write>(
+    blob: &Blob,
+    source: &mut S,
+    room: &mut Room<A>,
+    time: Option<u32>,
+    first: Option<usize>,
+    out: &mut Out<W>,
+) -> Result<(), MoveFault>
+    requires within { IfSome first (λ i. i < length room.old.entries) }
+    requires inside { InFile (length (S.device source.old).bytes) blob.now room.old.entries }
+    ensures uses { Uses (range.is_read result) (S.device source.old) (S.device source.new) }
+    ensures room { room.new ≡ room.old }
+    ensures faults { RisesIf (range.is_put result) out.old.faults out.new.faults }
+    ensures told { IsTrue (S.device source.old).honest → (t : Siblings) →
+        IsRead (S.device source.old).bytes blob.now room.old.entries t →
+        (found : List (NodeOf Spot)) → AreFrom t in_images first found → Lists (is_err result)
+        (body_allowance (spots t) (Some found))
+        (S.device source.old) (S.device source.new) out.old out.new
+        (images_text (S.device source.old).bytes time found
+        ++ configurations_text (S.device source.old).bytes (configurations (spots t))) }
+{
+    put_listed_nodes(blob, source, room, Kind::Image(time), first, out)?;
+    put_configurations(blob, source, room, out)
+}
+
+// What stands after the head lines, or the refusal where there are no images.
+fn list_body<S: Source, A: Allocator, W: Write>(
+    blob: &Blob,
+    source: &mut S,
+    room: &mut Room<A>,
+    time: Option<u32>,
+    out: &mut Out<W>,
+) -> Result<Status, Fault>
+    requires { InFile (length (S.device source.old).bytes) blob.now room.old.entries }
+    ensures uses { Uses (is_read result) (S.device source.old) (S.device source.new) }
+    ensures room { room.new ≡ room.old }
+    ensures memory { is_out_of_memory result ≡ false }
+    ensures faults { RisesIf (is_put result) out.old.faults out.new.faults }
+    ensures told { IsTrue (S.device source.old).honest → (t : Siblings) →
+        IsRead (S.device source.old).bytes blob.now room.old.entries t →
+        time ≡ cell (root_own (spots t)) (codes "timestamp") →
+        TellsWithin (end_of result) (body_allowance (spots t) (images (spots t)))
+        (S.device source.old) (S.device source.new) out.old out.new
+        (lists (S.device source.old).bytes (spots t) (images (spots t))) }
+{
+    let first = first_image(blob, room)?;
+    put_body(blob, source, room, time, first, out)?;
+    Ok(Status::Done)
+}
+
+/// Writes the listing of the image.
+///
+/// Two head lines come first, then the lines of each image with those of its hash nodes, the default
+/// configuration, and the lines of each configuration. Refusals of the blob come before the first line,
+/// `NoImages` after the head lines; `OutOfMemory` comes exactly where the room refused to grow. No hash
+/// is checked and no payload is read: a payload that has no place has the size `unavailable`. Over an
+/// honest source a prefix of the listing was written after `Read` or `Put`.
+pub fn list<S: Source, A: Allocator, W: Write>(
+    source: &mut S,
+    room: &mut Room<A>,
+    out: &mut Out<W>,
+) -> Result<Status, Fault>
+    ensures uses { UsesAtMost (list_work (S.device source.old).bytes) (is_read result)
+        (S.device source.old) (S.device source.new) }
+    ensures room { TakesNodes (S.device source.old) (is_out_of_memory result) room.old room.new }
+    ensures faults { RisesIf (is_put result) out.old.faults out.new.faults }
+    ensures told { IsTrue (S.device source.old).honest →
+        Tells (end_of result) (list_of (S.device source.old).bytes) out.old out.new }
+{
+    let blob = read_tree(source, room)?;
+    let time = cell(source, root_value(&blob, room, Key::Timestamp))?;
+    let description = root_value(&blob, room, Key::Description);
+    put_head(source, room, description, time, out)?;
+    list_body(&blob, source, room, time, out)
+}

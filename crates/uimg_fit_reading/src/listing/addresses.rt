@@ -1,0 +1,112 @@
+ghost use Rattle.std.specs.Prelude.{◌≡◌, ◌+◌, ◌≤◌, ◌-◌, ◌++◌, ◌==◌, not, min, length, codes, is_err, IsTrue, IfErr};
+ghost use Rattle.hex.specs.Hex.{encode_lower};
+ghost use Rattle.uimg_base.specs.declared.ranges.MoveFault.TheVariants.{Put};
+ghost use Rattle.std.specs.List.{position_or_len};
+ghost use Rattle.uimg_base.specs.Device.{RisesIf};
+ghost use Rattle.uimg_base.specs.Outcome.{line};
+ghost use Rattle.uimg_base.specs.Ranges.{is_read, is_put};
+ghost use Rattle.uimg_base.specs.Using.{Asks};
+ghost use Rattle.uimg_base.specs.Writing.{Written};
+ghost use Rattle.uimg_texts.specs.Slices.{slice};
+ghost use Rattle.uimg_fit_reading.specs.Values.{address_text, eight_or_more};
+
+use crate::listing::puts::{put, put_line, read};
+use std::io::Write;
+use uimg_base::{MoveFault, Out, Source};
+use uimg_blob::Span;
+
+// How many zeros stand before the first other digit.
+fn leading_zeros(digits: &[u8]) -> usize
+    ensures { result ≡ position_or_len (λ d. not (d == 48)) digits.now }
+{
+    for (i, digit) in digits.iter().enumerate() {
+        if *digit != b'0' {
+            return i;
+        }
+    }
+    digits.len()
+}
+
+// The digits without the zeros before the last eight.
+fn eight_or_more(digits: &[u8]) -> &[u8]
+    requires { 8 ≤ length digits.now }
+    ensures { result.now ≡ eight_or_more digits.now }
+{
+    let zeros = usize::min(leading_zeros(digits), digits.len() - 8);
+    &digits[zeros..]
+}
+
+// A line of a label and the address of one cell.
+fn put_one_cell<W: Write>(out: &mut Out<W>, bytes: &[u8; 4]) -> Result<(), MoveFault>
+    ensures faults { RisesIf (is_put result) out.old.faults out.new.faults }
+    ensures put { IfErr result (λ e. e ≡ Put) }
+    ensures told { Written (is_err result) out.old out.new (line (codes "0x" ++ encode_lower bytes.now)) }
+{
+    let mut digits = [0; 8];
+    if hex::encode_to_slice(bytes, &mut digits).is_err() {
+        unreachable!();
+    }
+    put_line(out, b"0x", &digits)
+}
+
+// A line of a label and the address of two cells.
+fn put_two_cells<W: Write>(out: &mut Out<W>, bytes: &[u8; 8]) -> Result<(), MoveFault>
+    ensures faults { RisesIf (is_put result) out.old.faults out.new.faults }
+    ensures put { IfErr result (λ e. e ≡ Put) }
+    ensures told { Written (is_err result) out.old out.new
+        (line (codes "0x" ++ eight_or_more (encode_lower bytes.now))) }
+{
+    let mut digits = [0; 16];
+    if hex::encode_to_slice(bytes, &mut digits).is_err() {
+        unreachable!();
+    }
+    put_line(out, b"0x", eight_or_more(&digits))
+}
+
+// What stands behind the label of an address.
+fn put_address<S: Source, W: Write>(
+    source: &mut S,
+    span: Span,
+    out: &mut Out<W>,
+) -> Result<(), MoveFault>
+    requires { span.place + span.length ≤ length (S.device source.old).bytes }
+    ensures uses { Asks (min 8 span.length) (is_read result) (S.device source.old)
+        (S.device source.new) }
+    ensures faults { RisesIf (is_put result) out.old.faults out.new.faults }
+    ensures told { IsTrue (S.device source.old).honest → Written (is_err result) out.old out.new
+        (line (address_text (slice (S.device source.old).bytes span.place span.length))) }
+{
+    match span.length {
+        4 => {
+            let mut cell = [0; 4];
+            read(source, span.place, &mut cell)?;
+            put_one_cell(out, &cell)
+        }
+        8 => {
+            let mut cells = [0; 8];
+            read(source, span.place, &mut cells)?;
+            put_two_cells(out, &cells)
+        }
+        _ => put_line(out, b"", b"unavailable"),
+    }
+}
+
+// A line of a label and an address.
+#[tactic(auto, using(uimg_base::proofs::WritingLaws::writing))]
+pub(crate) fn put_address_line<S: Source, W: Write>(
+    source: &mut S,
+    label: &[u8],
+    span: Span,
+    out: &mut Out<W>,
+) -> Result<(), MoveFault>
+    requires { span.place + span.length ≤ length (S.device source.old).bytes }
+    ensures uses { Asks (min 8 span.length) (is_read result) (S.device source.old)
+        (S.device source.new) }
+    ensures faults { RisesIf (is_put result) out.old.faults out.new.faults }
+    ensures told { IsTrue (S.device source.old).honest → Written (is_err result) out.old out.new
+        (line (label.now
+        ++ address_text (slice (S.device source.old).bytes span.place span.length))) }
+{
+    put(out, label)?;
+    put_address(source, span, out)
+}

@@ -1,0 +1,93 @@
+ghost use Rattle.std.specs.Prelude.{◌≡◌, ◌+◌, ◌≤◌, ◌++◌, length, is_err, IsTrue, IfErr};
+ghost use Rattle.hex.specs.Hex.{encode_lower};
+ghost use Rattle.uimg_base.specs.Device.{RisesIf};
+ghost use Rattle.uimg_base.specs.Outcome.{line};
+ghost use Rattle.uimg_base.specs.Ranges.{is_read, is_put};
+ghost use Rattle.uimg_base.specs.declared.ranges.MoveFault.TheVariants.{Put};
+ghost use Rattle.uimg_base.specs.Using.{Asks};
+ghost use Rattle.uimg_base.specs.Writing.{Written};
+ghost use Rattle.uimg_texts.specs.Slices.{slice};
+
+use crate::listing::puts::{put, read};
+use std::io::Write;
+use uimg_base::{MoveFault, Out, Source};
+use uimg_blob::Span;
+
+// How many bytes are turned into digits at once.
+const PART: usize = 64;
+
+// Writes bytes in hexadecimal.
+fn put_digits<W: Write>(out: &mut Out<W>, bytes: &[u8]) -> Result<(), MoveFault>
+    requires { length bytes.now ≤ 64 }
+    ensures faults { RisesIf (is_put result) out.old.faults out.new.faults }
+    ensures put { IfErr result (λ e. e ≡ Put) }
+    ensures told { Written (is_err result) out.old out.new (encode_lower bytes.now) }
+{
+    let mut digits = [0; 2 * PART];
+    let digits = &mut digits[..2 * bytes.len()];
+    if hex::encode_to_slice(bytes, digits).is_err() {
+        unreachable!();
+    }
+    put(out, digits)
+}
+
+// Writes the bytes at a place in hexadecimal.
+fn put_part<S: Source, W: Write>(
+    source: &mut S,
+    at: u64,
+    count: usize,
+    out: &mut Out<W>,
+) -> Result<(), MoveFault>
+    requires range { at + count ≤ length (S.device source.old).bytes }
+    requires part { count ≤ 64 }
+    ensures uses { Asks count (is_read result) (S.device source.old) (S.device source.new) }
+    ensures faults { RisesIf (is_put result) out.old.faults out.new.faults }
+    ensures told { IsTrue (S.device source.old).honest → Written (is_err result) out.old out.new
+        (encode_lower (slice (S.device source.old).bytes at count)) }
+{
+    let mut bytes = [0; PART];
+    let bytes = &mut bytes[..count];
+    read(source, at, bytes)?;
+    put_digits(out, bytes)
+}
+
+// Writes a value in hexadecimal.
+fn put_hexadecimal<S: Source, W: Write>(
+    source: &mut S,
+    span: Span,
+    out: &mut Out<W>,
+) -> Result<(), MoveFault>
+    requires { span.place + span.length ≤ length (S.device source.old).bytes }
+    ensures uses { Asks span.length (is_read result) (S.device source.old) (S.device source.new) }
+    ensures faults { RisesIf (is_put result) out.old.faults out.new.faults }
+    ensures told { IsTrue (S.device source.old).honest → Written (is_err result) out.old out.new
+        (encode_lower (slice (S.device source.old).bytes span.place span.length)) }
+{
+    let mut done = 0;
+    while done < span.length {
+        let next = u64::min(span.length - done, PART as u64);
+        put_part(source, span.place + done, next as usize, out)?;
+        done += next;
+    }
+    Ok(())
+}
+
+// A line of a label and a value in hexadecimal.
+#[tactic(auto, using(uimg_base::proofs::WritingLaws::writing))]
+pub(crate) fn put_hexadecimal_line<S: Source, W: Write>(
+    source: &mut S,
+    label: &[u8],
+    span: Span,
+    out: &mut Out<W>,
+) -> Result<(), MoveFault>
+    requires { span.place + span.length ≤ length (S.device source.old).bytes }
+    ensures uses { Asks span.length (is_read result) (S.device source.old) (S.device source.new) }
+    ensures faults { RisesIf (is_put result) out.old.faults out.new.faults }
+    ensures told { IsTrue (S.device source.old).honest → Written (is_err result) out.old out.new
+        (line (label.now
+        ++ encode_lower (slice (S.device source.old).bytes span.place span.length))) }
+{
+    put(out, label)?;
+    put_hexadecimal(source, span, out)?;
+    put(out, b"\n")
+}

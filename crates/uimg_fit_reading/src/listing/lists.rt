@@ -1,0 +1,173 @@
+ghost use Rattle.std.specs.Prelude.{◌≡◌, ◌+◌, ◌≤◌, ◌<◌, ◌++◌, length, take, drop, is_err, IsTrue, IfOk, IfErr};
+ghost use Rattle.uimg_base.specs.Device.{RisesIf};
+ghost use Rattle.uimg_base.specs.Ranges.{is_read, is_put};
+ghost use Rattle.uimg_base.specs.declared.ranges.MoveFault.TheVariants.{Put};
+ghost use Rattle.uimg_base.specs.Using.{Asks};
+ghost use Rattle.uimg_base.specs.Writing.{Written};
+ghost use Rattle.uimg_texts.specs.Slices.{slice};
+ghost use Rattle.uimg_fit_reading.specs.Values.{pieces};
+ghost use Rattle.uimg_fit_reading.specs.Shows.{lines_of};
+ghost use Rattle.uimg_fit_reading.specs.Lists.{start_of, emitted, line_after, end_of_line, IsPiece};
+
+use crate::listing::puts::{put, put_line, put_pair, read};
+use std::alloc::Allocator;
+use std::io::Write;
+use uimg_base::{MoveFault, Out, Room, Source, WINDOW, before_nul};
+use uimg_blob::Span;
+
+/// Where the next byte of a list of texts stands.
+#[derive(Clone, Copy, Debug, PartialEq, Eq)]
+pub(crate) enum Line {
+    /// On the first line, behind the label.
+    First,
+    /// On a new line, behind blanks.
+    Next,
+    /// On a line that has begun.
+    Open,
+}
+
+// What is written before the next byte.
+fn start_of(label: &[u8], line: Line) -> &[u8]
+    ensures { result.now ≡ start_of label.now line }
+{
+    match line {
+        Line::First => label,
+        Line::Next => b"                ",
+        Line::Open => b"",
+    }
+}
+
+// The bytes behind the first ones.
+fn left(bytes: &[u8], passed: usize) -> &[u8]
+    requires { passed ≤ length bytes.now }
+    ensures { result.now ≡ drop passed bytes.now }
+{
+    &bytes[passed..]
+}
+
+// The bytes up to the first NUL and that NUL, or all.
+fn first_piece(bytes: &[u8]) -> &[u8]
+    requires { 0 < length bytes.now }
+    ensures piece { IsPiece result.now }
+    ensures within { length result.now ≤ length bytes.now }
+    ensures front { result.now ≡ take (length result.now) bytes.now }
+{
+    let count = usize::min(bytes.len(), before_nul(bytes).len() + 1);
+    &bytes[..count]
+}
+
+// Writes a text up to its NUL, which ends the line; it gives where the next byte stands.
+fn put_piece<W: Write>(
+    label: &[u8],
+    line: Line,
+    piece: &[u8],
+    out: &mut Out<W>,
+) -> Result<Line, MoveFault>
+    requires { IsPiece piece.now }
+    ensures line { IfOk result (λ l. l ≡ line_after line piece.now) }
+    ensures faults { RisesIf (is_put result) out.old.faults out.new.faults }
+    ensures put { IfErr result (λ e. e ≡ Put) }
+    ensures told { Written (is_err result) out.old out.new (emitted label.now line piece.now) }
+{
+    let text = before_nul(piece);
+    if text.len() == piece.len() {
+        put_pair(out, start_of(label, line), text)?;
+        return Ok(Line::Open);
+    }
+    put_line(out, start_of(label, line), text)?;
+    Ok(Line::Next)
+}
+
+// Writes texts, each on its line; it gives where the next byte stands.
+fn put_texts<W: Write>(
+    label: &[u8],
+    line: Line,
+    bytes: &[u8],
+    out: &mut Out<W>,
+) -> Result<Line, MoveFault>
+    ensures line { IfOk result (λ l. l ≡ line_after line bytes.now) }
+    ensures faults { RisesIf (is_put result) out.old.faults out.new.faults }
+    ensures put { IfErr result (λ e. e ≡ Put) }
+    ensures told { Written (is_err result) out.old out.new (emitted label.now line bytes.now) }
+{
+    let mut line = line;
+    let mut passed = 0;
+    while passed < bytes.len() {
+        let piece = first_piece(left(bytes, passed));
+        line = put_piece(label, line, piece, out)?;
+        passed += piece.len();
+    }
+    Ok(line)
+}
+
+// Writes the texts of at most a window's bytes.
+fn put_window<S: Source, W: Write>(
+    source: &mut S,
+    window: &mut [u8; WINDOW],
+    at: u64,
+    count: usize,
+    label: &[u8],
+    line: Line,
+    out: &mut Out<W>,
+) -> Result<Line, MoveFault>
+    requires range { at + count ≤ length (S.device source.old).bytes }
+    requires window { count ≤ 8192 }
+    ensures uses { Asks count (is_read result) (S.device source.old) (S.device source.new) }
+    ensures faults { RisesIf (is_put result) out.old.faults out.new.faults }
+    ensures line { IsTrue (S.device source.old).honest →
+        IfOk result (λ l. l ≡ line_after line (slice (S.device source.old).bytes at count)) }
+    ensures told { IsTrue (S.device source.old).honest → Written (is_err result) out.old out.new
+        (emitted label.now line (slice (S.device source.old).bytes at count)) }
+{
+    let window = &mut window[..count];
+    read(source, at, window)?;
+    put_texts(label, line, window, out)
+}
+
+// Writes the texts of a value; it gives where the byte after them would stand.
+fn put_value<S: Source, W: Write>(
+    source: &mut S,
+    window: &mut [u8; WINDOW],
+    label: &[u8],
+    span: Span,
+    out: &mut Out<W>,
+) -> Result<Line, MoveFault>
+    requires { span.place + span.length ≤ length (S.device source.old).bytes }
+    ensures uses { Asks span.length (is_read result) (S.device source.old) (S.device source.new) }
+    ensures faults { RisesIf (is_put result) out.old.faults out.new.faults }
+    ensures line { IsTrue (S.device source.old).honest → IfOk result (λ l. l ≡ line_after Line.First
+        (slice (S.device source.old).bytes span.place span.length)) }
+    ensures told { IsTrue (S.device source.old).honest → Written (is_err result) out.old out.new
+        (emitted label.now Line.First (slice (S.device source.old).bytes span.place span.length)) }
+{
+    let mut line = Line::First;
+    let mut done = 0;
+    while done < span.length {
+        let next = u64::min(span.length - done, WINDOW as u64);
+        let at = span.place + done;
+        line = put_window(source, window, at, next as usize, label, line, out)?;
+        done += next;
+    }
+    Ok(line)
+}
+
+// A line for each text of a value, the first with a label.
+pub(crate) fn put_list_lines<S: Source, A: Allocator, W: Write>(
+    source: &mut S,
+    room: &mut Room<A>,
+    label: &[u8],
+    span: Span,
+    out: &mut Out<W>,
+) -> Result<(), MoveFault>
+    requires { span.place + span.length ≤ length (S.device source.old).bytes }
+    ensures uses { Asks span.length (is_read result) (S.device source.old) (S.device source.new) }
+    ensures room { room.new ≡ room.old }
+    ensures faults { RisesIf (is_put result) out.old.faults out.new.faults }
+    ensures told { IsTrue (S.device source.old).honest → Written (is_err result) out.old out.new
+        (lines_of label.now (pieces (slice (S.device source.old).bytes span.place span.length))) }
+{
+    match put_value(source, room.window(), label, span, out)? {
+        Line::Open => put(out, b"\n"),
+        Line::First | Line::Next => Ok(()),
+    }
+}

@@ -1,0 +1,144 @@
+//! Names and values of an indexed blob's nodes, and its hash nodes.
+ghost use Rattle.std.specs.Prelude.{◌≡◌, ℕ, ◌+◌, ◌<◌, ◌≤◌, List, [], ◌∷◌, length, Option, Some, IfSome, IsTrue};
+ghost use Rattle.std.specs.List.{slice_get};
+ghost use Rattle.std.specs.Option.{option_map};
+ghost use Rattle.uimg_texts.specs.Slices.{slice};
+ghost use Rattle.uimg_blob.specs.Grammar.{Siblings};
+ghost use Rattle.uimg_blob.specs.Indexed.{IsIndexed, keeps, value_span};
+ghost use Rattle.uimg_blob.specs.Keys.{name_of};
+ghost use Rattle.uimg_blob.specs.LookUps.{NodeOf, first, hashes, listed};
+ghost use Rattle.uimg_blob.specs.Roles.{Level, role_at, level_in, level_after, top, in_images};
+ghost use Rattle.uimg_blob.specs.Spots.{Spot, spots};
+ghost use Rattle.uimg_fit_base.specs.Files.{bytes_of, bytes_in, root_own};
+ghost use Rattle.uimg_fit_reading.specs.Nodes.{Indexed, InFile, IsRead, IsNode, AreFrom, HashesFrom, HashAt, HashesAt, TellsConfigurations};
+
+use std::alloc::Allocator;
+use uimg_base::Room;
+use uimg_blob::{Blob, Key, Span};
+
+// Where the name of a node stands.
+pub(crate) fn name_of<A: Allocator>(blob: &Blob, room: &Room<A>, node: usize) -> Span
+    requires { node < length room.now.entries }
+    ensures inside { (size : ℕ) → InFile size blob.now room.now.entries →
+        result.place + result.length ≤ size }
+    ensures name { (file : List ℕ) (t : Siblings) → IsRead file blob.now room.now.entries t →
+        (level : Level) (found : NodeOf Spot) → IsNode t level node found →
+        slice file result.place result.length ≡ found.name }
+    ensures short { (file : List ℕ) (t : Siblings) → IsRead file blob.now room.now.entries t →
+        (level : Level) (found : NodeOf Spot) → IsNode t level node found → result.length ≤ 255 }
+{
+    blob.name(room, node)
+}
+
+// Where the value of a node's first property of a key stands.
+pub(crate) fn value_of<A: Allocator>(
+    blob: &Blob,
+    room: &Room<A>,
+    node: usize,
+    key: Key,
+) -> Option<Span>
+    requires { node < length room.now.entries }
+    ensures inside { (size : ℕ) → InFile size blob.now room.now.entries →
+        IfSome result (λ s. s.place + s.length ≤ size) }
+    ensures span { (t : Siblings) → IsIndexed t blob.now room.now.entries →
+        (level : Level) (found : NodeOf Spot) → IsNode t level node found →
+        IsTrue (keeps (role_at level found.name) key) →
+        result ≡ option_map value_span (first found.own (name_of key)) }
+    ensures bytes { (file : List ℕ) (t : Siblings) → IsRead file blob.now room.now.entries t →
+        (level : Level) (found : NodeOf Spot) → IsNode t level node found →
+        IsTrue (keeps (role_at level found.name) key) →
+        bytes_of found.own (name_of key) ≡ bytes_in file result }
+{
+    blob.value(room, node, key)
+}
+
+// Where the value of the root's first property of a key stands.
+pub(crate) fn root_value<A: Allocator>(blob: &Blob, room: &Room<A>, key: Key) -> Option<Span>
+    requires { IsTrue (keeps (role_at top []) key) }
+    ensures inside { (size : ℕ) → InFile size blob.now room.now.entries →
+        IfSome result (λ s. s.place + s.length ≤ size) }
+    ensures bytes { (file : List ℕ) (t : Siblings) → IsRead file blob.now room.now.entries t →
+        bytes_of (root_own (spots t)) (name_of key) ≡ bytes_in file result }
+{
+    if room.count() == 0 {
+        return None;
+    }
+    value_of(blob, room, 0, key)
+}
+
+// The number of a node's first child, if it has one.
+pub(crate) fn child_of<A: Allocator>(blob: &Blob, room: &Room<A>, node: usize) -> Option<usize>
+    requires { node < length room.now.entries }
+    ensures within { IfSome result (λ i. i < length room.now.entries) }
+    ensures children { (t : Siblings) → IsIndexed t blob.now room.now.entries →
+        (level : Level) (found : NodeOf Spot) → IsNode t level node found →
+        AreFrom t (level_in (role_at level found.name)) result (listed found.below) }
+{
+    blob.first_child(room, node)
+}
+
+// The number of the node `configurations`, if there is one.
+pub(crate) fn configurations_of<A: Allocator>(blob: &Blob, room: &Room<A>) -> Option<usize>
+    requires { Indexed blob.now room.now.entries }
+    ensures within { IfSome result (λ i. i < length room.now.entries) }
+    ensures told { (t : Siblings) → IsIndexed t blob.now room.now.entries →
+        TellsConfigurations t result }
+{
+    blob.configurations()
+}
+
+// The number of the node after one, if there is such.
+pub(crate) fn next_of<A: Allocator>(blob: &Blob, room: &Room<A>, node: usize) -> Option<usize>
+    requires within { node < length room.now.entries }
+    requires indexed { Indexed blob.now room.now.entries }
+    ensures within { IfSome result (λ i. i < length room.now.entries) }
+    ensures later { IfSome result (λ i. node < i) }
+    ensures next { (t : Siblings) → IsIndexed t blob.now room.now.entries →
+        (level : Level) (found : NodeOf Spot) (more : List (NodeOf Spot)) →
+        AreFrom t level (Some node) (found ∷ more) → AreFrom t (level_after level found.name) result more }
+{
+    blob.next_sibling(room, node)
+}
+
+// The number of the first hash node from a child of an image on, if there is one.
+fn hash_from<A: Allocator>(blob: &Blob, room: &Room<A>, first: Option<usize>) -> Option<usize>
+    requires within { IfSome first (λ i. i < length room.now.entries) }
+    requires indexed { Indexed blob.now room.now.entries }
+    ensures within { IfSome result (λ i. i < length room.now.entries) }
+    ensures hashes { (t : Siblings) → IsIndexed t blob.now room.now.entries →
+        (hs : List (NodeOf Spot)) → HashesFrom t first hs → HashesAt t result hs }
+    ensures later { (n : ℕ) → IfSome first (λ i. n < i) → IfSome result (λ i. n < i) }
+{
+    let mut next = first;
+    while let Some(child) = next {
+        if blob.is_hash(room, child) {
+            return next;
+        }
+        next = blob.next_sibling(room, child);
+    }
+    None
+}
+
+// The number of an image's first hash node, if it has one.
+pub(crate) fn first_hash<A: Allocator>(blob: &Blob, room: &Room<A>, image: usize) -> Option<usize>
+    requires within { image < length room.now.entries }
+    requires indexed { Indexed blob.now room.now.entries }
+    ensures within { IfSome result (λ i. i < length room.now.entries) }
+    ensures hashes { (t : Siblings) → IsIndexed t blob.now room.now.entries →
+        (found : NodeOf Spot) → IsNode t in_images image found → HashesAt t result (hashes found) }
+{
+    hash_from(blob, room, blob.first_child(room, image))
+}
+
+// The number of the hash node after one, if there is such.
+pub(crate) fn next_hash<A: Allocator>(blob: &Blob, room: &Room<A>, hash: usize) -> Option<usize>
+    requires within { hash < length room.now.entries }
+    requires indexed { Indexed blob.now room.now.entries }
+    ensures within { IfSome result (λ i. i < length room.now.entries) }
+    ensures hashes { (t : Siblings) → IsIndexed t blob.now room.now.entries →
+        (found : NodeOf Spot) (more : List (NodeOf Spot)) → HashAt t hash found more →
+        HashesAt t result more }
+    ensures later { IfSome result (λ i. hash < i) }
+{
+    hash_from(blob, room, blob.next_sibling(room, hash))
+}

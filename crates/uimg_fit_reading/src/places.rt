@@ -1,0 +1,126 @@
+ghost use Rattle.std.specs.Prelude.{◌≡◌, false, ◌+◌, ◌<◌, ◌≤◌, ◌^◌, length, is_err, Option, IfOk, IfSome, IsTrue};
+ghost use Rattle.uimg_base.specs.Using.{Asks};
+ghost use Rattle.uimg_blob.specs.LookUps.{NodeOf};
+ghost use Rattle.uimg_blob.specs.Grammar.{Siblings};
+ghost use Rattle.uimg_blob.specs.Roles.{in_images};
+ghost use Rattle.uimg_blob.specs.Spots.{Spot};
+ghost use Rattle.uimg_fit_base.specs.Faults.{is_read, is_put, is_out_of_memory};
+ghost use Rattle.uimg_fit_base.specs.Files.{number_in};
+ghost use Rattle.uimg_fit_base.specs.Lying.{Lie};
+ghost use Rattle.uimg_fit_reading.specs.Nodes.{InFile, IsRead, IsNode};
+ghost use Rattle.uimg_fit_base.specs.Places.{external, or_else, embedded, place, TellsPlace};
+
+use crate::nodes::value_of;
+use std::alloc::Allocator;
+use uimg_base::{Room, Source, SourceFault, number_at, up4};
+use uimg_blob::{Blob, Key, Span};
+use uimg_fit_base::{Fault, FitFault, Place};
+
+// The number of a value that has four bytes.
+pub(crate) fn cell<S: Source>(
+    source: &mut S,
+    value: Option<Span>,
+) -> Result<Option<u32>, SourceFault>
+    requires { IfSome value (λ s. s.place + s.length ≤ length (S.device source.old).bytes) }
+    ensures uses { Asks 4 (is_err result) (S.device source.old) (S.device source.new) }
+    ensures number { IsTrue (S.device source.old).honest →
+        IfOk result (λ found. found ≡ number_in (S.device source.old).bytes value) }
+{
+    let Some(span) = value else {
+        return Ok(None);
+    };
+    if span.length != 4 {
+        return Ok(None);
+    }
+    let mut bytes = [0; 4];
+    source.fill_at(span.place, &mut bytes)?;
+    Ok(Some(number_at(&bytes, 0)))
+}
+
+// The place that the cells of an image and its value `data` tell.
+pub(crate) fn decide(
+    base: u64,
+    size: Option<u32>,
+    position: Option<u32>,
+    offset: Option<u32>,
+    payload: Option<Span>,
+) -> Result<Place, FitFault>
+    requires { base < 2 ^ 40 }
+    ensures place { result ≡ or_else (external 0 position size) (external base offset size)
+        (embedded payload) }
+    ensures small { IfSome payload (λ s. (s.place < 2 ^ 40) × (s.length < 2 ^ 32)) →
+        IfOk result (λ p. (p.at < 2 ^ 41) × (p.size < 2 ^ 32)) }
+{
+    if let (Some(at), Some(size)) = (position, size) {
+        return Ok(Place {
+            at: at as u64,
+            size: size as u64,
+        });
+    }
+    if let (Some(at), Some(size)) = (offset, size) {
+        return Ok(Place {
+            at: base + at as u64,
+            size: size as u64,
+        });
+    }
+    match payload {
+        Some(span) => Ok(Place {
+            at: span.place,
+            size: span.length,
+        }),
+        None => Err(FitFault::NoData),
+    }
+}
+
+// The place of an image's payload, or that it has none.
+pub(crate) fn find_place<S: Source, A: Allocator>(
+    source: &mut S,
+    blob: &Blob,
+    room: &Room<A>,
+    image: usize,
+) -> Result<Result<Place, FitFault>, SourceFault>
+    requires within { image < length room.now.entries }
+    requires inside { InFile (length (S.device source.old).bytes) blob.now room.now.entries }
+    ensures uses { Asks 12 (is_err result) (S.device source.old) (S.device source.new) }
+    ensures small { IfOk result (λ found. IfOk found (λ p. (p.at < 2 ^ 41) × (p.size < 2 ^ 32))) }
+    ensures place { IsTrue (S.device source.old).honest → (t : Siblings) →
+        IsRead (S.device source.old).bytes blob.now room.now.entries t → (found : NodeOf Spot) →
+        IsNode t in_images image found →
+        IfOk result (λ p. p ≡ place (S.device source.old).bytes found) }
+{
+    let size = cell(source, value_of(blob, room, image, Key::DataSize))?;
+    let position = cell(source, value_of(blob, room, image, Key::DataPosition))?;
+    let offset = cell(source, value_of(blob, room, image, Key::DataOffset))?;
+    let payload = value_of(blob, room, image, Key::Data);
+    Ok(decide(
+        up4(blob.totalsize() as u64),
+        size,
+        position,
+        offset,
+        payload,
+    ))
+}
+
+// The place of an image's payload that ends in the source.
+pub(crate) fn payload_place<S: Source, A: Allocator>(
+    source: &mut S,
+    blob: &Blob,
+    room: &Room<A>,
+    image: usize,
+) -> Result<Place, Fault>
+    requires within { image < length room.now.entries }
+    requires inside { InFile (length (S.device source.old).bytes) blob.now room.now.entries }
+    ensures uses { Asks 12 (is_read result) (S.device source.old) (S.device source.new) }
+    ensures no_put { is_put result ≡ false }
+    ensures memory { is_out_of_memory result ≡ false }
+    ensures inside { IfOk result (λ p. p.at + p.size ≤ length (S.device source.old).bytes) }
+    ensures told { IsTrue (S.device source.old).honest → (t : Siblings) →
+        IsRead (S.device source.old).bytes blob.now room.now.entries t → (found : NodeOf Spot) →
+        IsNode t in_images image found → TellsPlace (S.device source.old).bytes found result }
+{
+    let place = find_place(source, blob, room, image)??;
+    if place.at + place.size > source.size()? {
+        return Err(Fault::Fit(FitFault::DataOutside));
+    }
+    Ok(place)
+}

@@ -1,0 +1,57 @@
+ghost use Rattle.std.specs.Prelude.{◌≡◌, IsTrue};
+ghost use Rattle.uimg_base.specs.Device.{RisesIf};
+ghost use Rattle.uimg_base.specs.Outcome.{Tells};
+ghost use Rattle.uimg_base.specs.Using.{UsesAtMost};
+ghost use Rattle.uimg_fit_base.specs.Faults.{is_read, is_put, is_out_of_memory, end_of};
+ghost use Rattle.uimg_fit_base.specs.Report.{verify_of};
+ghost use Rattle.uimg_fit_reading.specs.Rooms.{TakesNodes};
+ghost use Rattle.uimg_fit_reading.specs.Work.{verify_work};
+
+mod digests;
+mod groups;
+mod hash_lines;
+mod hash_reports;
+mod image_reports;
+mod judging;
+mod plans;
+mod walks;
+
+use crate::images::first_image;
+use crate::report::image_reports::report_images;
+use crate::tree::read_tree;
+use std::alloc::Allocator;
+use std::io::Write;
+use uimg_base::{Out, Room, Source, Status};
+use uimg_fit_base::Fault;
+
+/// Writes the report on the hashes of the images: for each hash node of each image a line
+/// `<image> <hash> <algo> <word>`, the word being `malformed`, `unsupported`, `ok` or `bad`, and
+/// `<image> - none unhashed` for an image that has none. The answer is `Done` where each line ends
+/// with `ok` or `unhashed`, else `NotRight`.
+///
+/// The refusals of the blob and `NoImages` come without a line, `NoData` and `DataOutside` of an image
+/// before its lines. `OutOfMemory` comes exactly where the room refused to grow. A payload is read
+/// once for each group of at most eight hash nodes whose words are `ok` or `bad`. Over an honest
+/// source a prefix of the report was written after `Read` or `Put`.
+pub fn verify<S: Source, A: Allocator, W: Write>(
+    source: &mut S,
+    room: &mut Room<A>,
+    out: &mut Out<W>,
+) -> Result<Status, Fault>
+    ensures uses { UsesAtMost (verify_work (S.device source.old).bytes) (is_read result)
+        (S.device source.old) (S.device source.new) }
+    ensures room { TakesNodes (S.device source.old) (is_out_of_memory result) room.old room.new }
+    ensures faults { RisesIf (is_put result) out.old.faults out.new.faults }
+    ensures told { IsTrue (S.device source.old).honest →
+        Tells (end_of result) (verify_of (S.device source.old).bytes) out.old out.new }
+{
+    let blob = match read_tree(source, room) {
+        Ok(blob) => blob,
+        Err(fault) => return Err(fault),
+    };
+    let first = match first_image(&blob, room) {
+        Ok(first) => first,
+        Err(fault) => return Err(Fault::Fit(fault)),
+    };
+    report_images(source, &blob, room, first, out)
+}

@@ -1,0 +1,104 @@
+ghost use Rattle.std.specs.Prelude.{◌≡◌, ◌+◌, ◌≤◌, ℕ, List, length, take, is_err, IfOk, IfSome, IsTrue};
+ghost use Rattle.std.specs.Str.{bytes_eq};
+ghost use Rattle.uimg_sums.specs.Algorithms.{algo_named};
+ghost use Rattle.uimg_texts.specs.Slices.{slice};
+ghost use Rattle.uimg_base.specs.Using.{Asks};
+ghost use Rattle.uimg_fit_reading.specs.Plans.{plan_by_value, plan_by_algo, plan_by_name, text_in, IsOf, EndsIn, HasDigest, word_by};
+
+use uimg_base::{Algo, Source, SourceFault};
+use uimg_blob::{Span, short_text};
+use uimg_fit_base::Word;
+
+/// What is to be done about a hash node, before any payload is read.
+#[derive(Clone, Copy, Debug, PartialEq, Eq)]
+pub(crate) enum Plan {
+    Malformed,
+    Unsupported,
+    Compared(Algo, Span),
+}
+
+// What is to be done about a value by a known algorithm.
+#[tactic(auto, unfolding(crate::specs::Plans::plan_for))]
+fn plan_by(algo: Algo, value: Option<Span>) -> Plan
+    ensures plan { result ≡ plan_by_value algo value }
+    ensures value { IsOf value result }
+{
+    match value {
+        Some(span) if span.length == algo.len() as u64 => Plan::Compared(algo, span),
+        _ => Plan::Malformed,
+    }
+}
+
+// What is to be done about a value by the name of an algorithm.
+fn plan_named(name: &[u8], value: Option<Span>) -> Plan
+    ensures plan { result ≡ plan_by_algo (algo_named name.now) value }
+    ensures value { IsOf value result }
+{
+    match Algo::named(name) {
+        Some(algo) => plan_by(algo, value),
+        None => Plan::Unsupported,
+    }
+}
+
+// What is to be done by the text of an algorithm's name and the place of a value.
+pub(crate) fn planned<S: Source>(
+    source: &mut S,
+    algo: Option<Span>,
+    value: Option<Span>,
+) -> Result<Plan, SourceFault>
+    requires { IfSome algo (λ s. s.place + s.length ≤ length (S.device source.old).bytes) }
+    ensures uses { Asks 32 (is_err result) (S.device source.old) (S.device source.new) }
+    ensures plan { IsTrue (S.device source.old).honest → IfOk result (λ plan.
+        plan ≡ plan_by_name (text_in (S.device source.old).bytes algo) value) }
+    ensures value { IfOk result (IsOf value) }
+{
+    let Some(span) = algo else {
+        return Ok(Plan::Malformed);
+    };
+    let mut bytes = [0; 32];
+    match short_text(source, span, &mut bytes)? {
+        Some(length) => Ok(plan_named(&bytes[..length], value)),
+        None => Ok(Plan::Unsupported),
+    }
+}
+
+// Whether the value at a span is what a digest begins with.
+fn is_digest<S: Source>(source: &mut S, span: Span, digest: &[u8; 64]) -> Result<bool, SourceFault>
+    requires range { span.place + span.length ≤ length (S.device source.old).bytes }
+    requires few { span.length ≤ 64 }
+    ensures uses { Asks span.length (is_err result) (S.device source.old) (S.device source.new) }
+    ensures same { IsTrue (S.device source.old).honest → IfOk result (λ same.
+        same ≡ bytes_eq (slice (S.device source.old).bytes span.place span.length)
+        (take span.length digest.now)) }
+{
+    let length = span.length as usize;
+    let mut bytes = [0; 64];
+    let value = &mut bytes[..length];
+    source.fill_at(span.place, value)?;
+    Ok(bytes[..length] == digest[..length])
+}
+
+// The word of a hash node, by the digest of its payload where one is asked for.
+pub(crate) fn judged<S: Source>(
+    source: &mut S,
+    plan: Plan,
+    digest: &[u8; 64],
+) -> Result<Word, SourceFault>
+    requires { EndsIn (length (S.device source.old).bytes) plan }
+    ensures uses { Asks 64 (is_err result) (S.device source.old) (S.device source.new) }
+    ensures word { IsTrue (S.device source.old).honest → (message : List ℕ) →
+        HasDigest digest.now message plan → IfOk result (λ word.
+        word ≡ word_by (S.device source.old).bytes message plan) }
+{
+    match plan {
+        Plan::Malformed => Ok(Word::Malformed),
+        Plan::Unsupported => Ok(Word::Unsupported),
+        Plan::Compared(_, span) => {
+            if is_digest(source, span, digest)? {
+                Ok(Word::Right)
+            } else {
+                Ok(Word::Wrong)
+            }
+        }
+    }
+}

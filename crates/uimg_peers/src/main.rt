@@ -1,0 +1,33 @@
+// What the comparison with other tools calls of the libraries, each as a command: `uimg_peers compile
+// SOURCE` writes the blob of an image-tree source, and `uimg_peers index BLOB` prints how many nodes a
+// blob has.
+#![tactic(auto)]
+
+mod blobs;
+
+use blobs::{compile_source, count_nodes};
+use std::process::ExitCode;
+use std::rt::{Env, Files};
+use std::{env, io};
+use uimg_base::FileSource;
+
+fn main(rt: HostRuntime) -> ExitCode {
+    match run(&rt) {
+        Ok(()) => ExitCode::SUCCESS,
+        Err(_) => ExitCode::FAILURE,
+    }
+}
+
+fn run<R: Files + Env + Print + AllocGlobal>(rt: &R) -> io::Result<()> {
+    let mut words = env::args(rt)?.skip(1);
+    let (Some(command), Some(path)) = (words.next(), words.next()) else {
+        return Err(io::Error::from(io::ErrorKind::InvalidInput));
+    };
+    if command.as_str() == "compile" {
+        return compile_source(rt, path.as_str());
+    }
+    match (command.as_str(), FileSource::open(rt, path.as_str())) {
+        ("index", Ok(mut source)) => count_nodes(rt, &mut source),
+        _ => Err(io::Error::from(io::ErrorKind::NotFound)),
+    }
+}

@@ -1,0 +1,265 @@
+ghost use Rattle.std.specs.Prelude.{◌≡◌, ◌≢◌, false, length, IfOk};
+ghost use Rattle.uimg_legacy.specs.Parts.{has_parts};
+ghost use Rattle.uimg_words.specs.Commands.{HasFitNames, has_fit_names_prop};
+
+use super::help_notes::MKIMAGE_NOTES;
+use super::{Request, RunRequest, WordsFault, flag, image, value};
+use crate::command::{Action, Command, Form};
+use crate::make_command::MakeCommand;
+use crate::number_words::{decimal, hexadecimal};
+use clap::ArgMatches;
+use std::alloc::{AllocError, Global};
+use uimg_base::{FLAT_DT, arch_code, comp_code, kind_code, os_code};
+use uimg_fit_base::Placement;
+use uimg_legacy::{Options, has_parts, name_field};
+
+/// The making of an image.
+#[derive(Drop)]
+pub struct MakeRequest<'a> {
+    /// What it is made from. The names of its files are such as `make` takes.
+    pub command: MakeCommand,
+
+    /// The time of the making, in seconds since 1970.
+    pub time: u32,
+
+    /// The path of the image source, or an empty text where it is made from data.
+    pub source: &'a str,
+
+    /// The folder of the files, the current one where it is empty.
+    pub folder: &'a str,
+
+    /// The path of the image.
+    pub outfile: &'a str,
+
+    ghost fits: { HasFitNames command } by { has_fit_names_prop command },
+}
+
+pub(super) fn command<'a>(alloc: Global) -> Result<clap::Command<'a>, AllocError> {
+    let command = clap::Command::new(alloc, "mkimage")
+        .about("Make an image from files, or list one")
+        .after_help(MKIMAGE_NOTES);
+    let command = header_options(alloc, command)?;
+    let command = source_options(alloc, command)?;
+    command
+        .arg(flag(alloc, "list", 'l', "List the image, and make none"))?
+        .arg(image(alloc, "The image to make, or with -l to list"))
+}
+
+// The options of an image that is made from data.
+fn header_options<'a>(
+    alloc: Global,
+    command: clap::Command<'a>,
+) -> Result<clap::Command<'a>, AllocError> {
+    command
+        .arg(value(alloc, "arch", 'A', "The architecture [default: ppc]"))?
+        .arg(value(alloc, "os", 'O', "The operating system [default: linux]"))?
+        .arg(value(alloc, "type", 'T', "The image type [default: kernel]"))?
+        .arg(value(
+            alloc,
+            "comp",
+            'C',
+            "The compression of the data [default: gzip]",
+        ))?
+        .arg(value(
+            alloc,
+            "load",
+            'a',
+            "The load address, hexadecimal [default: 0]",
+        ))?
+        .arg(value(
+            alloc,
+            "entry",
+            'e',
+            "The entry point, hexadecimal [default: the load address]",
+        ))?
+        .arg(value(alloc, "name", 'n', "The image's name"))?
+        .arg(value(
+            alloc,
+            "data",
+            'd',
+            "The data's file; for multi and script several, with colons between them",
+        ))
+}
+
+// The options of an image that is made from a source.
+fn source_options<'a>(
+    alloc: Global,
+    command: clap::Command<'a>,
+) -> Result<clap::Command<'a>, AllocError> {
+    command
+        .arg(value(alloc, "source", 'f', "The image source of a FIT image"))?
+        .arg(flag(
+            alloc,
+            "external",
+            'E',
+            "With -f: place the data after the tree",
+        ))?
+        .arg(value(
+            alloc,
+            "position",
+            'p',
+            "With -f and -E: place the data at this position, hexadecimal",
+        ))
+}
+
+pub(super) fn request<'a>(
+    alloc: Global,
+    matches: &ArgMatches<'a>,
+    epoch: Option<&str>,
+    now: u32,
+) -> Result<Request<'a>, WordsFault> {
+    let image = matches.get_str("image").unwrap_or("");
+    if matches.get_flag("list") {
+        return Ok(Request::Run(RunRequest {
+            command: Command {
+                action: Action::List,
+                form: Form::Guess,
+            },
+            image,
+            outfile: None,
+        }));
+    }
+    match (matches.get_str("data"), matches.get_str("source")) {
+        (None, None) => Err(WordsFault::NoDataOrSource),
+        (Some(_), Some(_)) => Err(WordsFault::DataWithSource),
+        (None, Some(source)) => {
+            let placement = placement(matches)?;
+            let time = time(epoch, now)?;
+            Ok(Request::Make(tree_request(alloc, source, placement, time, image)?))
+        }
+        (Some(data), None) => {
+            let options = options(matches)?;
+            let time = time(epoch, now)?;
+            Ok(Request::Make(parts_request(alloc, options, data, time, image)?))
+        }
+    }
+}
+
+// The making of an image from the files of the word of -d.
+fn parts_request<'a>(
+    alloc: Global,
+    options: Options,
+    data: &str,
+    time: u32,
+    outfile: &'a str,
+) -> Result<MakeRequest<'a>, AllocError> {
+    let files = file_names(alloc, options.kind, data)?;
+    Ok(MakeRequest {
+        command: MakeCommand::Parts { options, files },
+        time,
+        source: "",
+        folder: "",
+        outfile,
+    })
+}
+
+// The making of an image from the source of the word of -f, whose folder is that of its files.
+fn tree_request<'a>(
+    alloc: Global,
+    path: &'a str,
+    placement: Placement,
+    time: u32,
+    outfile: &'a str,
+) -> Result<MakeRequest<'a>, AllocError> {
+    let (folder, name) = cut_behind_folder(path);
+    let source = Vec::from_slice(alloc, name.as_bytes())?;
+    Ok(MakeRequest {
+        command: MakeCommand::Tree { source, placement },
+        time,
+        source: path,
+        folder,
+        outfile,
+    })
+}
+
+// A path, cut behind its last slash.
+fn cut_behind_folder(path: &str) -> (&str, &str) {
+    match path.rfind('/') {
+        Some(slash) => path.split_at(slash + 1),
+        None => ("", path),
+    }
+}
+
+// Where the options place the payloads. The number of -p is looked at without -E too.
+fn placement(matches: &ArgMatches<'_>) -> Result<Placement, WordsFault> {
+    let position = address(matches.get_str("position"), 0)?;
+    match (matches.get_flag("external"), position) {
+        (false, _) => Ok(Placement::Inside),
+        (true, 0) => Ok(Placement::After),
+        (true, _) => Ok(Placement::At(position)),
+    }
+}
+
+// The names that the word of -d has for an image type.
+fn file_names(alloc: Global, kind: u8, data: &str) -> Result<Vec<Vec<u8>>, AllocError>
+    ensures some { IfOk result (λ names. length names.items ≢ 0) }
+    ensures single { IfOk result (λ names. has_parts kind ≡ false → length names.items ≡ 1) }
+{
+    if has_parts(kind) {
+        cut_at_colons(alloc, data)
+    } else {
+        let mut names = Vec::new(alloc);
+        names.push(Vec::from_slice(alloc, data.as_bytes())?)?;
+        Ok(names)
+    }
+}
+
+// The names between the colons of a word.
+fn cut_at_colons(alloc: Global, data: &str) -> Result<Vec<Vec<u8>>, AllocError>
+    ensures { IfOk result (λ names. length names.items ≢ 0) }
+{
+    let mut names = Vec::new(alloc);
+    let mut last = data;
+    if let Some((before, after)) = data.rsplit_once(':') {
+        for name in before.split(':') {
+            names.push(Vec::from_slice(alloc, name.as_bytes())?)?;
+        }
+        last = after;
+    }
+    names.push(Vec::from_slice(alloc, last.as_bytes())?)?;
+    Ok(names)
+}
+
+// The fields of the header that the options give. All names are looked at before any number.
+fn options(matches: &ArgMatches<'_>) -> Result<Options, WordsFault> {
+    let arch = arch_code(word(matches, "arch", "ppc")).ok_or(WordsFault::UnknownName)?;
+    let os = os_code(word(matches, "os", "linux")).ok_or(WordsFault::UnknownName)?;
+    let kind = kind_code(word(matches, "type", "kernel")).ok_or(WordsFault::UnknownName)?;
+    let comp = comp_code(word(matches, "comp", "gzip")).ok_or(WordsFault::UnknownName)?;
+    if kind == FLAT_DT {
+        return Err(WordsFault::FlatDtNeedsSource);
+    }
+    let load = address(matches.get_str("load"), 0)?;
+    let ep = address(matches.get_str("entry"), load)?;
+    Ok(Options {
+        time: 0,
+        load,
+        ep,
+        os,
+        arch,
+        kind,
+        comp,
+        name: name_field(word(matches, "name", "")),
+    })
+}
+
+// The word of an option, or the default.
+fn word<'a>(matches: &ArgMatches<'a>, id: &str, default: &'a str) -> &'a [u8] {
+    matches.get_str(id).unwrap_or(default).as_bytes()
+}
+
+// The number of a hexadecimal text, or the default where there is none.
+fn address(text: Option<&str>, default: u32) -> Result<u32, WordsFault> {
+    match text {
+        Some(text) => hexadecimal(text).ok_or(WordsFault::BadNumber),
+        None => Ok(default),
+    }
+}
+
+// The moment that SOURCE_DATE_EPOCH gives where it is set, or else the clock's.
+fn time(epoch: Option<&str>, now: u32) -> Result<u32, WordsFault> {
+    match epoch {
+        Some(text) => decimal(text).ok_or(WordsFault::BadEpoch),
+        None => Ok(now),
+    }
+}
