@@ -205,6 +205,18 @@ def output_behind(shell, mark, before):
         read += piece
 
 
+def end(shell, at_once):
+    """Ends a shell and what it left running, which is a session of its own."""
+    if not at_once:
+        shell.wait()
+    try:
+        os.killpg(shell.pid, signal.SIGKILL)
+    except ProcessLookupError:
+        pass
+    shell.stdout.close()
+    shell.wait()
+
+
 def prepare(room, path, program):
     """Puts the files into the folder that a text or a manual page is played in."""
     examples = os.path.join(os.path.dirname(os.path.abspath(__file__)), "..", "examples")
@@ -247,10 +259,7 @@ def play_all(path, program, cases, room):
             output, status, rest = output_behind(shell, mark.encode(), rest)
         if status is None or not is_right(case, output, status):
             wrong.append(difference(path, case, output, status))
-    if shell.poll() is None and status is None:
-        os.killpg(shell.pid, signal.SIGKILL)
-    shell.stdout.close()
-    shell.wait()
+    end(shell, status is None)
     return wrong
 
 

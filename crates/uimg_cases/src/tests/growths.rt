@@ -7,7 +7,7 @@ use std::process::Abort;
 use std::rt::Files;
 use std::test::Fail;
 use uimg_base::Status;
-use uimg_fit::FitFault;
+use uimg_fit_base::FitFault;
 use uimg_its::Kind;
 use uimg_tool::Fault;
 

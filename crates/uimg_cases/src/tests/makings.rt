@@ -1,14 +1,14 @@
 //! What the making of an image leaves, where opens, reads, the shelf or memory fail.
 ghost use Rattle.std.specs.Prelude.{◌≡◌, ◌≢◌, false, length, IfOk};
 ghost use Rattle.uimg_legacy.specs.Parts.{has_parts};
-ghost use Rattle.uimg_tool.specs.Commands.{HasFitNames};
+ghost use Rattle.uimg_words.specs.Commands.{HasFitNames};
 
 use super::images::image_named;
 use std::alloc::{AllocError, Allocator, Global};
 use std::io::Write;
 use std::{fs, io, rt};
 use uimg_base::{FileShelf, Files, FuseFiles, FuseWriter, MemFiles, Out, Room, Shelf, SourceFault};
-use uimg_fit::Placement;
+use uimg_fit_base::Placement;
 use uimg_legacy::{Options, has_parts, name_field};
 use uimg_tool::{Fault, MakeCommand, make};
 
