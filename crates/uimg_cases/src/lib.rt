@@ -1,6 +1,5 @@
-//! The program as a user sees it: tests of its command lines, and of what stands behind them on files
-//! and devices that fail. They have a crate of their own, so that `uimg_tool` is not proved once more
-//! beside them.
+//! What no command line shows of the program: devices and memory that fail, counts of bytes asked for
+//! and held, clocks, and calls of the library. The command lines are in `cases/`.
 #![tactic(auto)]
 
 #[cfg(test)]

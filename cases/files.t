@@ -1,0 +1,212 @@
+Files that cannot be read or written
+====================================
+
+  $ files="$TESTDIR/files"
+  $ printf abc > abc.bin
+  $ SOURCE_DATE_EPOCH=0
+  $ export SOURCE_DATE_EPOCH
+
+Images that cannot be opened:
+
+  $ uimg verify none.img
+  uimg: cannot read none.img
+  [3]
+  $ uimg verify ''
+  uimg: cannot read 
+  [3]
+  $ uimg dumpimage -l .
+  uimg: cannot read .
+  [3]
+  $ uimg mkimage -l none.img
+  uimg: cannot read none.img
+  [3]
+  $ echo before > untouched
+  $ uimg dumpimage -o untouched none.img
+  uimg: cannot read none.img
+  [3]
+  $ cat untouched
+  before
+  $ uimg dumpimage -o new none.img
+  uimg: cannot read none.img
+  [3]
+  $ test -e new
+  [1]
+
+A pipe does not tell its size:
+
+  $ mkfifo pipe
+  $ exec 4<> pipe
+  $ uimg verify pipe
+  uimg: cannot read pipe
+  [3]
+
+An empty image of mkimage -l is refused as any:
+
+  $ : > empty
+  $ uimg mkimage -l empty
+  uimg: L1 too short
+  [1]
+
+Outfiles of an extraction that cannot be written:
+
+  $ uimg dumpimage -o no/folder "$files/abc-kernel.img"
+  uimg: cannot write no/folder
+  [3]
+  $ uimg dumpimage -o . "$files/abc-kernel.img"
+  uimg: cannot write .
+  [3]
+  $ uimg dumpimage -o /dev/full "$files/abc-kernel.img"
+  uimg: write failed
+  [3]
+
+The outfile is emptied after the image was opened, so an image that is its own outfile is cut:
+
+  $ cp "$files/abc-kernel.img" own.img
+  $ uimg dumpimage -o own.img own.img
+  uimg: read failed
+  [3]
+
+A file that has fewer bytes than its size, as those of sysfs have:
+
+  $ uimg verify /sys/devices/system/cpu/online
+  uimg: read failed
+  [3]
+
+Standard output that cannot be written, and standard error that cannot:
+
+  $ uimg dumpimage -l "$files/abc-kernel.img" > /dev/full
+  uimg: write failed
+  [3]
+  $ uimg verify "$files/abc-kernel.img" > /dev/full
+  uimg: write failed
+  [3]
+  $ uimg --help > /dev/full
+  uimg: write failed
+  [3]
+  $ uimg --version > /dev/full
+  uimg: write failed
+  [3]
+  $ uimg dumpimage -l "$files/part-outside.img" > /dev/full
+  uimg: write failed
+  [3]
+  $ uimg verify none.img 2> /dev/full
+  [3]
+  $ uimg dumpimage none.img 2> /dev/full
+  [2]
+  $ uimg mkimage -d abc.bin made.img > /dev/full
+  uimg: write failed
+  [3]
+  $ uimg verify made.img
+  header crc32 ok
+  data crc32 ok
+
+Files of -d that cannot be read: the path is as the line gives it, and no outfile is created.
+
+  $ uimg mkimage -d none.bin k.img
+  uimg: cannot read none.bin
+  [3]
+  $ uimg mkimage -d '' k.img
+  uimg: cannot read 
+  [3]
+  $ uimg mkimage -d . k.img
+  uimg: cannot read .
+  [3]
+  $ uimg mkimage -d a:b k.img
+  uimg: cannot read a:b
+  [3]
+  $ uimg mkimage -T multi -d abc.bin:none.b:none.c k.img
+  uimg: cannot read none.b
+  [3]
+  $ uimg mkimage -T multi -d abc.bin: k.img
+  uimg: cannot read 
+  [3]
+  $ uimg mkimage -T script -d :abc.bin k.img
+  uimg: cannot read 
+  [3]
+  $ uimg mkimage -T script -d ./none.a:abc.bin k.img
+  uimg: cannot read ./none.a
+  [3]
+  $ test -e k.img
+  [1]
+
+Sources that cannot be read, whatever the options without effect are:
+
+  $ for path in none.its ./none.its no/folder/none.its /none.its '' . no/; do
+  >     uimg mkimage -f "$path" -A x -T flat_dt -e x k.itb || echo $?
+  > done
+  uimg: cannot read none.its
+  3
+  uimg: cannot read ./none.its
+  3
+  uimg: cannot read no/folder/none.its
+  3
+  uimg: cannot read /none.its
+  3
+  uimg: cannot read 
+  3
+  uimg: cannot read .
+  3
+  uimg: cannot read no/
+  3
+  $ test -e k.itb
+  [1]
+
+Files of a source are looked for in its folder, unless their names begin with a slash:
+
+  $ mkdir folder
+  $ printf abc > folder/name
+  $ printf def > beside
+  $ source() { echo "/dts-v1/; / { images { a { data = /incbin/(\"$1\"); }; }; };" > folder/s.its; }
+  $ made() { source "$1"; uimg mkimage -f folder/s.its s.itb > listing && uimg dumpimage -o out s.itb && cat out && echo; }
+  $ made name
+  abc
+  $ made ./name
+  abc
+  $ made ../beside
+  def
+  $ made beside
+  uimg: I5 no file at line 1
+  [3]
+  $ made "$PWD/beside"
+  def
+  $ made /none/beside
+  uimg: I5 no file at line 1
+  [3]
+  $ source name; cd folder && uimg mkimage -f s.its ../s.itb > ../listing; uimg mkimage -f ./s.its ../s.itb > ../listing; cd ..
+  $ uimg dumpimage -o out s.itb && cat out
+  abc (no-eol)
+
+Images that cannot be written:
+
+  $ for image in no/folder.img . '' /dev/full; do uimg mkimage -d abc.bin "$image" || echo $?; done
+  uimg: write failed
+  3
+  uimg: write failed
+  3
+  uimg: write failed
+  3
+  uimg: write failed
+  3
+  $ source name
+  $ for image in no/folder.img . '' /dev/full; do uimg mkimage -f folder/s.its "$image" || echo $?; done
+  uimg: write failed
+  3
+  uimg: write failed
+  3
+  uimg: write failed
+  3
+  uimg: write failed
+  3
+
+An outfile that does not keep the image is told:
+
+  $ uimg mkimage -d abc.bin /dev/null
+  uimg: L1 too short
+  [1]
+  $ mkfifo outpipe
+  $ exec 3<> outpipe
+  $ uimg mkimage -d abc.bin outpipe
+  uimg: cannot read outpipe
+  [3]
+  $ head -c 67 <&3 | od -An -tx1 -N 4
+   27 05 19 56

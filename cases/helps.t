@@ -1,0 +1,147 @@
+Helps
+=====
+
+  $ uimg --help
+  Makes, lists, verifies and unpacks U-Boot images
+  
+  Usage: uimg <COMMAND>
+  
+  Commands:
+    mkimage    Make an image from files, or list one
+    dumpimage  List an image, or extract a part of it
+    verify     Check every checksum of an image, and report each
+  
+  Options:
+        --version  Print the name and the version
+    -h, --help     Print help
+  $ uimg --help > help 2> err; echo $? $(wc -c < err)
+  0 0
+  $ uimg -h | cmp - help
+  $ uimg mkimage --help
+  Make an image from files, or list one
+  
+  Usage: uimg mkimage [OPTIONS] <image>
+  
+  Arguments:
+    <image>  The image to make, or with -l to list
+  
+  Options:
+    -A <arch>      The architecture [default: ppc]
+    -O <os>        The operating system [default: linux]
+    -T <type>      The image type [default: kernel]
+    -C <comp>      The compression of the data [default: gzip]
+    -a <load>      The load address, hexadecimal [default: 0]
+    -e <entry>     The entry point, hexadecimal [default: the load address]
+    -n <name>      The image's name
+    -d <data>      The data's file; for multi and script several, with colons between them
+    -f <source>    The image source of a FIT image
+    -E             With -f: place the data after the tree
+    -p <position>  With -f and -E: place the data at this position, hexadecimal
+    -l             List the image, and make none
+    -h, --help     Print help
+  
+  Short names:
+    <arch>  arm x86 mips mips64 ppc powerpc sandbox arm64 x86_64 riscv
+    <os>    netbsd linux vxworks qnx u-boot rtems plan9 arm-trusted-firmware tee
+            opensbi efi
+    <type>  standalone kernel ramdisk multi firmware script filesystem
+            flat_dt (not for -d) kernel_noload
+    <comp>  none gzip bzip2 lzma lzo lz4 zstd
+  
+  A value that begins with '-' stands right behind its option, as in -n-x.
+  With -f the options before -d have no effect, and with -d -E and -p have none.
+  A position of 0 is as none. Files that the image source names are looked for in
+  its folder, unless their names begin with '/'.
+  
+  Examples:
+    uimg mkimage -A arm64 -C none -a 80000 -n 'kernel 6.1' -d Image uImage
+    uimg mkimage -A arm -T multi -d zImage:initrd.gz multi.img
+    uimg mkimage -f kernel.its -E -p 1000 kernel.itb
+  
+  Exit status:
+    0  The image was made, or listed
+    1  The image, a part or the image source is refused
+    2  The command line is wrong
+    3  A file cannot be opened, or a read, a write or memory failed
+  $ uimg mkimage -h > short && uimg mkimage --help | cmp - short
+  $ uimg dumpimage --help
+  List an image, or extract a part of it
+  
+  Usage: uimg dumpimage [OPTIONS] <image>
+  
+  Arguments:
+    <image>  The image
+  
+  Options:
+    -l             List the image on standard output
+    -T <type>      Ask for a legacy or a FIT image, by a short name below
+    -p <position>  Extract the part or payload of this number, counted from 0
+    -o <outfile>   Write what is extracted to this file
+    -h, --help     Print help
+  
+  Short names:
+    <type>  standalone kernel ramdisk multi firmware script filesystem
+            flat_dt kernel_noload
+  
+  flat_dt asks for a FIT image, each other name for a legacy image, whatever type
+  its header has. Without -T the first four bytes tell the format.
+  
+  Examples:
+    uimg dumpimage -l uImage
+    uimg dumpimage -p 1 -o initrd.gz multi.img
+    uimg dumpimage -T flat_dt -p 0 -o Image kernel.itb
+  
+  Exit status:
+    0  The image was listed, or the part extracted
+    1  The image or the part is refused
+    2  The command line is wrong
+    3  A file cannot be opened, or a read, a write or memory failed
+  $ uimg dumpimage -h > short && uimg dumpimage --help | cmp - short
+  $ uimg verify -h
+  Check every checksum of an image, and report each
+  
+  Usage: uimg verify <image>
+  
+  Arguments:
+    <image>  The image
+  
+  Options:
+    -h, --help  Print help
+  
+  The checksums of a legacy image are those of the header and of the data. The
+  table of sizes of the types multi and script is not checked: dumpimage -l reads
+  it. Of a FIT image each hash node of each image is reported on: ok, bad,
+  malformed or unsupported. An image without hash nodes is unhashed. Signatures
+  are not checked.
+  
+  Examples:
+    uimg verify uImage
+    uimg verify kernel.itb && cp kernel.itb /boot
+  
+  Exit status:
+    0  All checksums are right
+    1  A checksum is not right, or the image is refused
+    2  The command line is wrong
+    3  A file cannot be opened, or a read, a write or memory failed
+  $ uimg verify --help > short && uimg verify -h | cmp - short
+  $ uimg --version
+  uimg 0.1.0
+
+No words are a wrong line: the help goes to standard error.
+
+  $ uimg > out
+  Makes, lists, verifies and unpacks U-Boot images
+  
+  Usage: uimg <COMMAND>
+  
+  Commands:
+    mkimage    Make an image from files, or list one
+    dumpimage  List an image, or extract a part of it
+    verify     Check every checksum of an image, and report each
+  
+  Options:
+        --version  Print the name and the version
+    -h, --help     Print help
+  [2]
+  $ wc -c < out
+  0

@@ -1,0 +1,59 @@
+//! The files of a folder, by their names.
+use std::process::Abort;
+use std::test::Fail;
+use std::{fs, rt};
+use uimg_base::{Files, Source};
+use uimg_tool::DiskFiles;
+
+// The folder, the name, and the three bytes of the file that is opened; no text where none is, and
+// `-` where its bytes are not looked at. A name that begins with a slash is not looked for in the folder.
+const ROWS: [(&str, &str, &str); 21] = [
+    ("", "disk_folder/name", "abc"),
+    (".", "disk_folder/name", "abc"),
+    ("disk_folder", "name", "abc"),
+    ("disk_folder/", "name", "abc"),
+    ("disk_folder", "./name", "abc"),
+    ("disk_folder", "../disk_name", "def"),
+    ("", "disk_name", "def"),
+    ("", "/dev/null", "-"),
+    ("none", "/dev/null", "-"),
+    ("/none", "/dev/null", "-"),
+    ("/dev", "null", "-"),
+    ("/", "dev/null", "-"),
+    ("", "/none/null", ""),
+    ("none", "/none/null", ""),
+    ("/none", "/none/null", ""),
+    ("", "", ""),
+    ("", ".", ""),
+    ("", "no/file", ""),
+    ("", "disk_\0", ""),
+    ("", "/", ""),
+    ("none", "disk_name", ""),
+];
+
+// Whether the file of a name is opened in a folder, and has this text.
+fn opens_as<R: rt::Files + AllocGlobal>(rt: &R, folder: &str, name: &str, text: &str) -> bool {
+    let Ok(mut source) = DiskFiles::new(rt, folder).open(name.as_bytes()) else {
+        return text.is_empty();
+    };
+    let mut bytes = [0; 3];
+    if source.size() != Ok(3) || source.fill_at(0, &mut bytes).is_err() {
+        return text == "-";
+    }
+    bytes.as_slice() == text.as_bytes()
+}
+
+#[test]
+fn names_of_a_folder(rt: HostRuntime) -> Result<(), Fail> {
+    fs::create_dir(&rt, "disk_folder")?;
+    fs::write(&rt, "disk_folder/name", "abc")?;
+    fs::write(&rt, "disk_name", "def")?;
+    for (folder, name, text) in &ROWS {
+        assert!(rt; opens_as(&rt, folder, name, text), "{folder}: {name}");
+    }
+    assert!(rt; DiskFiles::new(&rt, "").open(b"\xff").is_err());
+    fs::remove_file(&rt, "disk_folder/name")?;
+    fs::remove_file(&rt, "disk_name")?;
+    fs::remove_dir(&rt, "disk_folder")?;
+    Ok(())
+}

@@ -1,0 +1,124 @@
+//! Makings whose memory is refused.
+use super::listings::DEMO_LISTING;
+use super::makings::{Fuses, Outcome, making};
+use super::runs::told;
+use linked_list_allocator::LocalHeap;
+use std::process::Abort;
+use std::rt::Files;
+use std::test::Fail;
+use uimg_base::Status;
+use uimg_fit_base::FitFault;
+use uimg_its::Kind;
+use uimg_tool::Fault;
+
+const NO_FUSE: Fuses = Fuses {
+    from: u64::MAX,
+    turn: u64::MAX,
+    calls: u64::MAX,
+    bytes: u64::MAX,
+    keeps: true,
+};
+
+const MANY: &str =
+    "a:a:a:a:a:a:a:a:a:a:a:a:a:a:a:a:a:a:a:a:a:a:a:a:a:a:a:a:a:a:a:a:a:a:a:a:a:a:a:a";
+
+// A making of several parts grows once, for the opened files, before the first open. A heap of 1024
+// bytes has place for three of them, and none for 40: the image, from which open on they are refused,
+// and what the file has.
+const PARTS: [(&str, u64, &str); 3] = [
+    (MANY, 0, "no file"),
+    (MANY, 100, "no file"),
+    ("three-part-multi", 3, "all"),
+];
+
+#[test]
+fn growths_for_parts(rt: HostRuntime) -> Result<(), Fail> {
+    let heap = LocalHeap::new(rt.alloc(), 1024)?;
+    for (name, from, file) in &PARTS {
+        let fuses = Fuses {
+            from: *from,
+            ..NO_FUSE
+        };
+        let made = making(&rt, (&heap, rt.alloc()), name, "parts.img", fuses)?;
+        let refused = made.fault == Some(Fault::OutOfMemory) && made.listed.is_empty();
+        assert_eq!(rt; made.file, *file, "{name}");
+        assert!(rt; refused == (*file == "no file"), "{name}");
+    }
+    Ok(())
+}
+
+// The step that a heap has no place for: the text, the tree, or the filled or built one.
+fn step_of(made: &Outcome) -> u8 {
+    if !made.listed.is_empty() || made.file != "no file" {
+        return 9;
+    }
+    match made.fault {
+        Some(Fault::OutOfMemory) => 0,
+        Some(Fault::Its(fault)) if fault.kind == Kind::OutOfMemory => 1,
+        Some(Fault::Fit(FitFault::OutOfMemory)) => 2,
+        _ => 9,
+    }
+}
+
+// What the making of a FIT image on a heap of so many bytes ends with: 0 to 2 is the step that it has
+// no place for, 3 is that the image is made, and 9 is anything else.
+fn made_on<R: Files + AllocGlobal>(rt: &R, size: usize) -> u8 {
+    let Ok(heap) = LocalHeap::new(rt.alloc(), size) else {
+        return 9;
+    };
+    let memory = (&heap, rt.alloc());
+    match making(rt, memory, "four-hash-fit", "heap.itb", NO_FUSE) {
+        Ok(made) if made.fault.is_none() && made.file == "all" => 3,
+        Ok(made) => step_of(&made),
+        Err(_) => 9,
+    }
+}
+
+// From a heap with hardly any place to one with ample, 16 bytes at a time: want of memory is told, and
+// nothing else, and no file is made. Each step meets it, and once the image is made it always is.
+#[test]
+fn growths_for_trees(rt: HostRuntime) {
+    let mut met = [false; 4];
+    for step in 1..1024usize {
+        let number = made_on(&rt, step * 16);
+        assert!(rt; number < 4 && (number == 3 || !met[3]), "{step}");
+        met[number as usize] = true;
+    }
+    assert_eq!(rt; met, [true; 4]);
+}
+
+// The bytes of the heap that the room grows on, and the fault: the image is made, and nothing is
+// listed where there is one.
+const ROOMS: [(usize, &str); 3] = [
+    (64, "B11 out of memory at 56"),
+    (1024, "B11 out of memory at 284"),
+    (8192, ""),
+];
+
+fn plays<R: Files + AllocGlobal + Abort>(rt: &R, size: usize, fault: &str) -> Result<(), Fail> {
+    let heap = LocalHeap::new(rt.alloc(), size)?;
+    let made = making(
+        rt,
+        (rt.alloc(), &heap),
+        "four-hash-fit",
+        "rooms.itb",
+        NO_FUSE,
+    )?;
+    let listing = if fault.is_empty() { DEMO_LISTING } else { "" };
+    let text = match made.fault {
+        Some(fault) => told(rt.alloc(), Err::<Status, Fault>(fault)),
+        None => String::new(rt.alloc()),
+    };
+    assert_eq!(rt; text.as_str(), fault, "{size}");
+    assert_eq!(rt; made.file, "all", "{size}");
+    assert!(rt; made.listed.as_slice() == listing.as_bytes(), "{size}");
+    Ok(())
+}
+
+#[test]
+fn rooms_without_place(rt: HostRuntime) -> Result<(), Fail> {
+    for (size, fault) in &ROOMS {
+        plays(&rt, *size, fault)?;
+    }
+    Ok(())
+}

@@ -1,0 +1,273 @@
+//! Makings whose opens, reads or shelf fail.
+use super::listings::listing_named;
+use super::makings::{Fuses, Outcome, making};
+use std::alloc::AllocError;
+use std::process::Abort;
+use std::rt::Files;
+use std::test::Fail;
+use uimg_base::Status;
+use uimg_tool::Fault;
+
+const ALL: u64 = u64::MAX;
+
+// The image; from which open on they are refused; which open is one of a source that lets how many
+// calls through; how many bytes the shelf takes, and whether it keeps them; the fault, or no text; and
+// what the file has.
+const ROWS: [(&str, u64, u64, u64, u64, bool, &str, &str); 24] = [
+    (
+        "three-part-multi",
+        0,
+        9,
+        0,
+        ALL,
+        true,
+        "cannot read file 0",
+        "no file",
+    ),
+    (
+        "three-part-multi",
+        1,
+        9,
+        0,
+        ALL,
+        true,
+        "cannot read file 1",
+        "no file",
+    ),
+    (
+        "three-part-multi",
+        2,
+        9,
+        0,
+        ALL,
+        true,
+        "cannot read file 2",
+        "no file",
+    ),
+    ("three-part-multi", 3, 9, 0, ALL, true, "", "all"),
+    (
+        "four-hash-fit",
+        0,
+        9,
+        0,
+        ALL,
+        true,
+        "cannot read file 0",
+        "no file",
+    ),
+    (
+        "four-hash-fit",
+        1,
+        9,
+        0,
+        ALL,
+        true,
+        "I5 no file at line 8",
+        "no file",
+    ),
+    ("four-hash-fit", 2, 9, 0, ALL, true, "F9 no file", "no file"),
+    ("four-hash-fit", 3, 9, 0, ALL, true, "F9 no file", "a part"),
+    (
+        "four-hash-fit",
+        9,
+        0,
+        0,
+        ALL,
+        true,
+        "read failed",
+        "no file",
+    ),
+    (
+        "four-hash-fit",
+        9,
+        1,
+        0,
+        ALL,
+        true,
+        "I6 read failed at line 8",
+        "no file",
+    ),
+    (
+        "four-hash-fit",
+        9,
+        2,
+        0,
+        ALL,
+        true,
+        "F10 read failed",
+        "no file",
+    ),
+    ("four-hash-fit", 9, 3, 0, ALL, true, "read failed", "a part"),
+    ("four-hash-fit", 9, 4, 0, ALL, true, "", "all"),
+    (
+        "three-part-multi",
+        9,
+        9,
+        0,
+        0,
+        true,
+        "write failed",
+        "no file",
+    ),
+    (
+        "three-part-multi",
+        9,
+        9,
+        0,
+        1,
+        true,
+        "write failed",
+        "a part",
+    ),
+    (
+        "three-part-multi",
+        9,
+        9,
+        0,
+        64,
+        true,
+        "write failed",
+        "a part",
+    ),
+    (
+        "three-part-multi",
+        9,
+        9,
+        0,
+        92,
+        true,
+        "write failed",
+        "a part",
+    ),
+    ("three-part-multi", 9, 9, 0, 93, true, "", "all"),
+    (
+        "four-hash-fit",
+        9,
+        9,
+        0,
+        759,
+        true,
+        "write failed",
+        "a part",
+    ),
+    ("four-hash-fit", 9, 9, 0, 760, true, "", "all"),
+    ("abc-kernel", 9, 9, 0, 67, true, "", "all"),
+    (
+        "abc-kernel",
+        9,
+        9,
+        0,
+        67,
+        false,
+        "cannot read what was written",
+        "all",
+    ),
+    (
+        "four-hash-fit",
+        9,
+        9,
+        0,
+        ALL,
+        false,
+        "cannot read what was written",
+        "all",
+    ),
+    (
+        "a:b:c:d",
+        9,
+        9,
+        0,
+        ALL,
+        true,
+        "cannot read file 3",
+        "no file",
+    ),
+];
+
+fn plays<R: Files + AllocGlobal + Abort>(
+    rt: &R,
+    row: (&str, u64, u64, u64, u64, bool, &str, &str),
+) -> Result<(), AllocError> {
+    let (name, from, turn, calls, bytes, keeps, fault, file) = row;
+    let fuses = Fuses {
+        from,
+        turn,
+        calls,
+        bytes,
+        keeps,
+    };
+    let memory = (rt.alloc(), rt.alloc());
+    let made = making(rt, memory, name, "making_rows.img", fuses)?;
+    let listing = if fault.is_empty() {
+        listing_named(name)
+    } else {
+        ""
+    };
+    assert_eq!(rt;
+        text_of(rt, &made).as_str(),
+        fault,
+        "{name} {from} {turn} {bytes}"
+    );
+    assert_eq!(rt; made.file, file, "{name} {from} {turn} {bytes}");
+    assert!(rt;
+        made.listed.as_slice() == listing.as_bytes(),
+        "{name} {from} {turn} {bytes}"
+    );
+    Ok(())
+}
+
+// The text of a fault, none where there is none.
+fn text_of<R: AllocGlobal>(rt: &R, made: &Outcome) -> String {
+    match made.fault {
+        Some(fault) => super::runs::told(rt.alloc(), Err::<Status, Fault>(fault)),
+        None => String::new(rt.alloc()),
+    }
+}
+
+#[test]
+fn makings_that_fail(rt: HostRuntime) -> Result<(), Fail> {
+    for row in &ROWS {
+        plays(&rt, *row)?;
+    }
+    Ok(())
+}
+
+// Whether a making of three parts that fails leaves its fault, no listing and a part of the image.
+fn is_stopped(made: &Outcome, fault: Fault) -> bool {
+    made.fault == Some(fault) && made.listed.is_empty() && made.file != "other bytes"
+}
+
+fn is_whole(made: &Outcome) -> bool {
+    let listing = listing_named("three-part-multi");
+    made.fault.is_none() && made.file == "all" && made.listed.as_slice() == listing.as_bytes()
+}
+
+// How often the making fails as it has to, while more calls of a file, or more bytes of the shelf, are
+// let through. 0 where it does otherwise.
+fn failures<R: Files + AllocGlobal>(rt: &R, turn: u64, fault: Fault) -> u64 {
+    for most in 0..100u64 {
+        let fuses = Fuses {
+            from: 9,
+            turn,
+            calls: most,
+            bytes: if turn == 9 { most } else { ALL },
+            keeps: true,
+        };
+        let memory = (rt.alloc(), rt.alloc());
+        match making(rt, memory, "three-part-multi", "failures.img", fuses) {
+            Ok(made) if is_whole(&made) => return most,
+            Ok(made) if is_stopped(&made, fault) => {}
+            _ => return 0,
+        }
+    }
+    0
+}
+
+// Each call of each part fails in turn, and the shelf is full at each byte.
+#[test]
+fn calls_and_bytes_fail_in_turn(rt: HostRuntime) {
+    for turn in 0..3u64 {
+        assert!(rt; failures(&rt, turn, Fault::Read) > 1, "{turn}");
+    }
+    assert_eq!(rt; failures(&rt, 9, Fault::Put), 93);
+}

@@ -1,0 +1,57 @@
+//! What a command does to an image in memory, whose reads and writes may fail.
+use std::alloc::Global;
+use uimg_base::{FuseSource, FuseWriter, MemSource, Out, Room, Source, Status};
+use uimg_tool::{Action, Command, Fault, Form, run};
+
+/// As many calls, or bytes, as there are.
+pub(super) const ALL: u64 = u64::MAX;
+
+/// What a command left: its answer and its text, how many bytes it asked for, how many its room held,
+/// and how many calls of the source failed.
+#[derive(Drop)]
+pub(super) struct Left {
+    pub(super) end: Result<Status, Fault>,
+    pub(super) text: Vec<u8>,
+    pub(super) asked: u128,
+    pub(super) held: u128,
+    pub(super) failures: u64,
+}
+
+/// The action of a word: `list`, `verify`, or the position of what is extracted.
+pub(super) fn action_named(word: &str) -> Action {
+    match word {
+        "list" => Action::List,
+        "verify" => Action::Verify,
+        _ => Action::Extract(word.parse().unwrap_or(u32::MAX)),
+    }
+}
+
+/// What a command leaves over an image whose source lets so many calls through, on a writer that takes
+/// so many bytes.
+pub(super) fn ran(alloc: Global, action: &str, image: &[u8], calls: u64, bytes: u64) -> Left {
+    let command = Command {
+        action: action_named(action),
+        form: Form::Guess,
+    };
+    let mut source = FuseSource::new(MemSource::new(image), calls);
+    let mut room = Room::new(alloc);
+    let mut out = Out::new(FuseWriter::new(Vec::new(alloc), bytes));
+    let end = run(&command, &mut source, &mut room, &mut out);
+    Left {
+        end,
+        asked: source.asked(),
+        held: room.held(),
+        failures: source.failures(),
+        text: out.into_inner().into_inner(),
+    }
+}
+
+/// The text of an end.
+pub(super) fn told(alloc: Global, end: Result<Status, Fault>) -> String {
+    let text = match end {
+        Ok(Status::Done) => format!(in alloc; "done"),
+        Ok(Status::NotRight) => format!(in alloc; "not right"),
+        Err(fault) => format!(in alloc; "{fault}"),
+    };
+    text.unwrap_or(String::new(alloc))
+}

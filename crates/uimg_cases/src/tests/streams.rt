@@ -1,0 +1,153 @@
+//! The program on streams that fail.
+use super::images::image_named;
+use std::io::{ErrorKind, Write};
+use std::process::Abort;
+use std::rt::Files;
+use std::test::Fail;
+use std::{fs, io};
+use uimg_tool::program;
+
+/// A writer that takes so many bytes in all, and so many a call. It counts its calls, and flushes or
+/// fails to.
+#[derive(Drop)]
+pub(super) struct Meter {
+    pub(super) taken: Vec<u8>,
+    pub(super) calls: usize,
+    pub(super) room: usize,
+    pub(super) most: usize,
+    pub(super) flushes: bool,
+}
+
+impl Write for Meter {
+    fn write(&mut self, buf: &[u8]) -> io::Result<usize> {
+        self.calls = self.calls.saturating_add(1);
+        let count = buf.len().min(self.most).min(self.room);
+        if count == 0 && !buf.is_empty() {
+            return Err(io::Error::from(ErrorKind::Other));
+        }
+        self.room = self.room.saturating_sub(count);
+        self.taken.write(&buf[..count])
+    }
+
+    fn flush(&mut self) -> io::Result<()> {
+        if self.flushes {
+            Ok(())
+        } else {
+            Err(io::Error::from(ErrorKind::Other))
+        }
+    }
+}
+
+/// A writer that takes so many bytes.
+pub(super) fn writer_of<R: AllocGlobal>(rt: &R, room: usize) -> Meter {
+    Meter {
+        taken: Vec::new(rt.alloc()),
+        calls: 0,
+        room,
+        most: usize::MAX,
+        flushes: true,
+    }
+}
+
+/// Runs the program on the words of a line, and answers the exit status.
+pub(super) fn ran<R: Files + AllocGlobal>(
+    rt: &R,
+    line: &str,
+    out: &mut Meter,
+    err: &mut Meter,
+) -> Option<u8> {
+    let mut words = Vec::new(rt.alloc());
+    for word in line.split(' ') {
+        if words.push(word).is_err() {
+            return None;
+        }
+    }
+    Some(program(rt, &words, None, 0, out, err))
+}
+
+// The line, whose last word is the path of an image; the image; the bytes that standard output and
+// standard error take; the exit status; and what they took.
+const ROWS: [(&str, &str, usize, usize, u8, &str, &str); 9] = [
+    (
+        "uimg dumpimage -l s.img",
+        "abc-kernel",
+        20,
+        100,
+        3,
+        "Image Name:   012345",
+        "uimg: write failed\n",
+    ),
+    (
+        "uimg dumpimage -l s.img",
+        "abc-kernel",
+        0,
+        100,
+        3,
+        "",
+        "uimg: write failed\n",
+    ),
+    (
+        "uimg dumpimage -l s.img",
+        "part-outside",
+        20,
+        100,
+        3,
+        "Image Name:   \nCreat",
+        "uimg: write failed\n",
+    ),
+    (
+        "uimg --version",
+        "",
+        4,
+        100,
+        3,
+        "uimg",
+        "uimg: write failed\n",
+    ),
+    ("uimg --version", "", 11, 100, 0, "uimg 0.1.0\n", ""),
+    ("uimg verify none.img", "", 100, 0, 3, "", ""),
+    ("uimg verify none.img", "", 100, 9, 3, "", "uimg: can"),
+    ("uimg dumpimage none.img", "", 100, 0, 2, "", ""),
+    (
+        "uimg verify s.img",
+        "abc-kernel",
+        17,
+        5,
+        3,
+        "header crc32 ok\nd",
+        "uimg:",
+    ),
+];
+
+fn plays<R: Files + AllocGlobal + Abort>(
+    rt: &R,
+    row: (&str, &str, usize, usize, u8, &str, &str),
+) -> Result<(), Fail> {
+    let (line, image, room, told, status, printed, fault) = row;
+    fs::write(rt, "s.img", &image_named(rt.alloc(), image))?;
+    let mut out = writer_of(rt, room);
+    let mut err = writer_of(rt, told);
+    assert_eq!(rt;
+        ran(rt, line, &mut out, &mut err),
+        Some(status),
+        "{line} {room} {told}"
+    );
+    assert!(rt;
+        out.taken.as_slice() == printed.as_bytes(),
+        "{line} {room} {told}"
+    );
+    assert!(rt;
+        err.taken.as_slice() == fault.as_bytes(),
+        "{line} {room} {told}"
+    );
+    Ok(())
+}
+
+#[test]
+fn streams_that_fail(rt: HostRuntime) -> Result<(), Fail> {
+    for row in &ROWS {
+        plays(&rt, *row)?;
+    }
+    fs::remove_file(&rt, "s.img")?;
+    Ok(())
+}

@@ -1,0 +1,49 @@
+//! The time of an image that is made.
+use std::fs;
+use std::process::Abort;
+use std::rt::Files;
+use std::test::Fail;
+use uimg_tool::program;
+
+// SOURCE_DATE_EPOCH, or no text where it is not set; the clock's moment; and the time in the header.
+const ROWS: [(&str, u32, u32); 7] = [
+    ("", 0, 0),
+    ("", 7, 7),
+    ("", 0x1234_5678, 0x1234_5678),
+    ("", u32::MAX, u32::MAX),
+    ("0", 9, 0),
+    ("007", 9, 7),
+    ("4294967295", 9, u32::MAX),
+];
+
+fn plays<R: Files + AllocGlobal + Abort>(
+    rt: &R,
+    epoch: &str,
+    now: u32,
+    time: u32,
+) -> Result<(), Fail> {
+    let epoch = if epoch.is_empty() { None } else { Some(epoch) };
+    let words = ["uimg", "mkimage", "-d", "times.bin", "times.img"];
+    let mut out = Vec::new(rt.alloc());
+    let mut err = Vec::new(rt.alloc());
+    let status = program(rt, &words, epoch, now, &mut out, &mut err);
+    assert_eq!(rt; status, 0, "{now}");
+    let image = fs::read(rt, "times.img")?;
+    assert!(rt;
+        image.get(8..12) == Some(time.to_be_bytes().as_slice()),
+        "{now}"
+    );
+    Ok(())
+}
+
+// SOURCE_DATE_EPOCH counts where it is set, or else the clock.
+#[test]
+fn times(rt: HostRuntime) -> Result<(), Fail> {
+    fs::write(&rt, "times.bin", "abc")?;
+    for (epoch, now, time) in &ROWS {
+        plays(&rt, epoch, *now, *time)?;
+    }
+    fs::remove_file(&rt, "times.bin")?;
+    fs::remove_file(&rt, "times.img")?;
+    Ok(())
+}

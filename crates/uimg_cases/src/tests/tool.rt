@@ -1,2 +1,0 @@
-mod failing_makes;
-mod memory;
