@@ -1,3 +1,18 @@
-mod blob;
-mod its;
-mod tree;
+//! Tables of cases, and what plays them. A row that fails is named in the panic.
+
+mod bytes;
+mod device_rows;
+mod growth;
+mod index_rows;
+mod large_rows;
+mod made;
+mod name_rows;
+mod node_rows;
+mod refused_rows;
+mod size_rows;
+mod source_rows;
+mod sources;
+mod text_rows;
+mod tree_rows;
+mod trees;
+mod write_rows;

@@ -1,0 +1,42 @@
+//! Bytes that stand in rows as text.
+use std::alloc::{AllocError, Global};
+
+// The number of a hexadecimal digit.
+fn digit(byte: u8) -> Option<u8> {
+    match byte {
+        b'0'..=b'9' => Some(byte - b'0'),
+        b'a'..=b'f' => Some(byte - b'a' + 10),
+        _ => None,
+    }
+}
+
+/// The bytes that pairs of hexadecimal digits give; what is no digit is passed over.
+pub(super) fn unhex(alloc: Global, text: &str) -> Result<Vec<u8>, AllocError> {
+    let mut bytes = Vec::new(alloc);
+    let mut high = None;
+    for byte in text.bytes() {
+        if let Some(low) = digit(byte) {
+            match high {
+                None => high = Some(low),
+                Some(first) => {
+                    bytes.push((first << 4) | low)?;
+                    high = None;
+                }
+            }
+        }
+    }
+    Ok(bytes)
+}
+
+/// The bytes of a text in which `;` stands for a NUL, and `~` for 255 letters `n`.
+pub(super) fn plain(alloc: Global, text: &str) -> Result<Vec<u8>, AllocError> {
+    let mut bytes = Vec::new(alloc);
+    for byte in text.bytes() {
+        match byte {
+            b';' => bytes.push(0)?,
+            b'~' => bytes.extend_from_slice(&[b'n'; 255])?,
+            _ => bytes.push(byte)?,
+        }
+    }
+    Ok(bytes)
+}

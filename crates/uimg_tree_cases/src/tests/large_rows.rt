@@ -1,0 +1,64 @@
+//! Blobs of very many nodes.
+use std::alloc::{AllocError, Global};
+use std::test::Fail;
+use uimg_base::{MemSource, Room, Source};
+use uimg_blob::index;
+use uimg_blob::samples::Sample;
+
+// So many nodes of empty names, one inside the other.
+fn nested(alloc: Global, levels: u32) -> Result<Vec<u8>, AllocError> {
+    let mut sample = Sample::new(alloc);
+    for _ in 0..levels {
+        sample.begin(b"")?;
+    }
+    for _ in 0..levels {
+        sample.end_node()?;
+    }
+    sample.finish(alloc, b"")
+}
+
+// A root with so many children.
+fn row(alloc: Global, count: u32) -> Result<Vec<u8>, AllocError> {
+    let mut sample = Sample::new(alloc);
+    sample.begin(b"")?;
+    for _ in 0..count {
+        sample.begin(b"n")?;
+        sample.end_node()?;
+    }
+    sample.end_node()?;
+    sample.finish(alloc, b"")
+}
+
+// No number of levels is too many.
+#[test]
+fn ten_thousand_deep(rt: HostRuntime) -> Result<(), Fail> {
+    let bytes = nested(rt.alloc(), 10000)?;
+    assert_eq!(rt; bytes.len(), 120060);
+    let mut room = Room::new(rt.alloc());
+    let mut source = MemSource::new(&bytes);
+    assert!(rt; index(&mut source, &mut room).is_ok());
+    assert_eq!(rt; room.held(), 1288192);
+    assert!(rt; source.asked() <= 44 + 264 * 10000);
+    Ok(())
+}
+
+// Each child of the root is the next sibling of the one before it.
+#[test]
+fn many_siblings(rt: HostRuntime) -> Result<(), Fail> {
+    let bytes = row(rt.alloc(), 10000)?;
+    let mut room = Room::new(rt.alloc());
+    let found = index(&mut MemSource::new(&bytes), &mut room);
+    assert_eq!(rt; room.count(), 10001);
+    if let Ok(blob) = found
+        && room.count() == 10001
+    {
+        assert_eq!(rt; blob.first_child(&room, 0), Some(1));
+        for node in 1..10000usize {
+            assert_eq!(rt; blob.next_sibling(&room, node), Some(node + 1));
+        }
+        assert_eq!(rt; blob.next_sibling(&room, 10000), None);
+        assert_eq!(rt; blob.next_sibling(&room, 0), None);
+    }
+    assert!(rt; found.is_ok());
+    Ok(())
+}

@@ -1,0 +1,121 @@
+//! Blobs of trees by their sizes.
+use super::bytes::unhex;
+use super::sources::{blob_of, tree_of};
+use super::tree_rows::nodes_in;
+use super::trees::{chain, prop, root_in_file, root_of};
+use std::alloc::{AllocError, Global};
+use std::test::Fail;
+
+// A name, a value, and the end of the blob of a root with that property: a value is padded to a multiple
+// of 4, and the strings too.
+const PADDED_ROWS: [(&str, &str, &str); 5] = [
+    ("abc", "", "00000000 00000000 00000002 00000009 61626300"),
+    (
+        "ab",
+        "1",
+        "00000001 00000000 31000000 00000002 00000009 61620000",
+    ),
+    (
+        "a",
+        "12",
+        "00000002 00000000 31320000 00000002 00000009 61000000",
+    ),
+    (
+        "",
+        "123",
+        "00000003 00000000 31323300 00000002 00000009 00000000",
+    ),
+    (
+        "abcd",
+        "1234",
+        "00000004 00000000 31323334 00000002 00000009 6162636400000000",
+    ),
+];
+
+#[test]
+fn padded_rows(rt: HostRuntime) -> Result<(), Fail> {
+    let alloc = rt.alloc();
+    for (name, value, end) in &PADDED_ROWS {
+        let end = unhex(alloc, end)?;
+        let tree = root_of(alloc, prop(alloc, name.as_bytes(), value.as_bytes())?)?;
+        let blob = blob_of(alloc, &tree, &[]).unwrap_or(Vec::new(alloc));
+        assert!(rt; blob.ends_with(&end), "{name} = {value}");
+        assert_eq!(rt; blob.len() % 4, 0, "{name} = {value}");
+    }
+    Ok(())
+}
+
+// The blob of a root with a property whose name and value have so many bytes, from memory.
+fn blob_in_memory(alloc: Global, name: usize, value: usize) -> Result<Option<Vec<u8>>, AllocError> {
+    let name = Vec::from_elem(alloc, b'n', name)?;
+    let value = Vec::from_elem(alloc, 0x5au8, value)?;
+    let tree = root_of(alloc, prop(alloc, &name, &value)?)?;
+    Ok(blob_of(alloc, &tree, &[]))
+}
+
+// The same from a file.
+fn blob_in_file(alloc: Global, name: usize, value: usize) -> Result<Option<Vec<u8>>, AllocError> {
+    let name = Vec::from_elem(alloc, b'n', name)?;
+    let value = Vec::from_elem(alloc, 0x5au8, value)?;
+    let tree = root_in_file(alloc, &name, value.len() as u64)?;
+    let named: [(&[u8], &[u8]); 1] = [(b"f", &value)];
+    Ok(blob_of(alloc, &tree, &named))
+}
+
+// How many bytes a name and a value have, and the blob of a root with that property. Some are longer
+// than what is gathered for one write, some are below, at and above the window's size.
+const LENGTH_ROWS: [(usize, usize, usize); 10] = [
+    (1, 243, 332),
+    (1, 244, 332),
+    (1, 245, 336),
+    (1, 1000, 1088),
+    (255, 0, 340),
+    (4, 0, 92),
+    (4, 1, 96),
+    (4, 8191, 8284),
+    (4, 8192, 8284),
+    (4, 8193, 8288),
+];
+
+#[test]
+fn length_rows(rt: HostRuntime) -> Result<(), Fail> {
+    let alloc = rt.alloc();
+    for (name, value, length) in &LENGTH_ROWS {
+        let one = blob_in_memory(alloc, *name, *value)?.unwrap_or(Vec::new(alloc));
+        let other = blob_in_file(alloc, *name, *value)?.unwrap_or(Vec::new(alloc));
+        assert_eq!(rt; one.len(), *length, "{name}, {value}");
+        assert!(rt; one.as_slice() == other.as_slice(), "{name}, {value}");
+        assert_eq!(rt; nodes_in(alloc, &one), 1, "{name}, {value}");
+    }
+    Ok(())
+}
+
+#[test]
+fn deep_trees(rt: HostRuntime) -> Result<(), Fail> {
+    let alloc = rt.alloc();
+    for levels in [63, 64, 1000u64] {
+        let tree = chain(alloc, levels)?;
+        let blob = blob_of(alloc, &tree, &[]).unwrap_or(Vec::new(alloc));
+        assert_eq!(rt; nodes_in(alloc, &blob) as u64, levels + 1);
+    }
+    Ok(())
+}
+
+// Many properties of few names.
+#[test]
+fn many_properties(rt: HostRuntime) -> Result<(), Fail> {
+    let alloc = rt.alloc();
+    let mut text = String::from_str(alloc, "/dts-v1/; / {")?;
+    for _turn in 0..1000u32 {
+        text.push_str(" a = [76616c7565]; b = [76616c7565]; c = [76616c7565]; d = [76616c7565];")?;
+        text.push_str(" e = [76616c7565]; f = [76616c7565]; g = [76616c7565]; h = [76616c7565];")?;
+    }
+    text.push_str(" };")?;
+    let Some(tree) = tree_of(alloc, text.as_str()) else {
+        panic!(rt; "the source is refused");
+    };
+    let blob = blob_of(alloc, &tree, &[]).unwrap_or(Vec::new(alloc));
+    assert_eq!(rt; blob.len(), 160_088);
+    assert_eq!(rt; nodes_in(alloc, &blob), 1);
+    Ok(())
+}

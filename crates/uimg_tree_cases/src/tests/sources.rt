@@ -1,0 +1,101 @@
+//! Sources that several rows name, and what they compile to.
+use std::alloc::Global;
+use uimg_base::{MemFiles, Out};
+use uimg_its::compile;
+use uimg_tree::{Tree, measure, write_tree};
+
+/// The files of the tests.
+pub(super) const NAMED: [(&[u8], &[u8]); 2] = [(b"a", b"abc"), (b"abc.bin", b"abc")];
+
+/// The source of the case four-hash-fit, which is `examples/kernel.its`.
+pub(super) const FOUR_HASH: &str = "/dts-v1/;
+/ {
+\tdescription = \"demo\";
+\t#address-cells = <1>;
+\timages {
+\t\tkernel {
+\t\t\tdescription = \"k\";
+\t\t\tdata = /incbin/(\"abc.bin\");
+\t\t\ttype = \"kernel\";
+\t\t\tarch = \"arm64\";
+\t\t\tos = \"linux\";
+\t\t\tcompression = \"none\";
+\t\t\tload = <0x80000>;
+\t\t\tentry = <0x80000>;
+\t\t\thash-1 { algo = \"crc32\"; };
+\t\t\thash-2 { algo = \"md5\"; };
+\t\t\thash-3 { algo = \"sha1\"; };
+\t\t\thash-4 { algo = \"sha256\"; };
+\t\t};
+\t};
+\tconfigurations {
+\t\tdefault = \"conf\";
+\t\tconf {
+\t\t\tdescription = \"c\";
+\t\t\tkernel = \"kernel\";
+\t\t};
+\t};
+};
+";
+
+/// The source of the case mixed-values, which is `examples/mixed-values.its`.
+const MIXED: &str = "/dts-v1/;
+// sample
+/ {
+\t/* mixed */
+\tlab: v = \"a\", <1 0x2>, [00 ff];
+\te;
+};
+";
+
+/// Two nodes below the root, with properties of equal names in each, one value in the file `abc.bin`.
+pub(super) const FAMILY: &str = "/dts-v1/;
+/ {
+\tkernel-1 { type = \"kernel\"; data = /incbin/(\"abc.bin\"); };
+\tfdt { data = [0102030405]; type = \"flat_dt\"; };
+};";
+
+/// The source of the case file-values: what stays a file, and what is read.
+const FILE_VALUES: &str = "/dts-v1/; / {
+\tdata = /incbin/(\"abc.bin\");
+\tdata = /incbin/(\"abc.bin\"), [00];
+\tdata = [00], /incbin/(\"abc.bin\");
+\tl: data = /* c */ /incbin/ ( \"abc.bin\" ) ;
+\tdatax = /incbin/(\"abc.bin\");
+\tdata = \"abc.bin\";
+\tdata;
+};";
+
+/// The source of a name; any other text is one itself.
+pub(super) fn source(text: &str) -> &str {
+    match text {
+        "four-hash-fit" => FOUR_HASH,
+        "mixed-values" => MIXED,
+        "family" => FAMILY,
+        "file-values" => FILE_VALUES,
+        _ => text,
+    }
+}
+
+/// The tree of a source over the files of the tests, if it is compiled.
+pub(super) fn tree_of(alloc: Global, text: &str) -> Option<Tree<Global>> {
+    compile(alloc, source(text).as_bytes(), &mut MemFiles::new(&NAMED)).ok()
+}
+
+/// The blob of a tree over these files, if it is written, and measured as it is.
+pub(super) fn blob_of(
+    alloc: Global,
+    tree: &Tree<Global>,
+    named: &[(&[u8], &[u8])],
+) -> Option<Vec<u8>> {
+    let layout = measure(alloc, tree).ok()?;
+    let mut files = MemFiles::new(named);
+    let mut out = Out::new(Vec::new(alloc));
+    let answer = write_tree(tree, &layout, &mut files, &mut out);
+    let blob = out.into_inner();
+    if answer.is_ok() && blob.len() == layout.totalsize() as usize {
+        Some(blob)
+    } else {
+        None
+    }
+}

@@ -1,0 +1,69 @@
+//! The blobs of trees that sources spell, by bytes from outside.
+use super::made::made;
+use super::sources::{NAMED, blob_of, tree_of};
+use std::alloc::Global;
+use std::test::Fail;
+use uimg_base::{MemSource, Room};
+use uimg_blob::index;
+use uimg_tree::{Tree, copy_node};
+
+// A source, how many bytes its blob has, how many nodes, and how it ends: by the name of a blob, or by
+// hexadecimal digits. Names stand among the strings once, in the order of first use.
+const ROWS: [(&str, usize, usize, &str); 4] = [
+    ("mixed-values", 112, 1, "mixed"),
+    (
+        "/dts-v1/; / { };",
+        72,
+        1,
+        "hex:00000001000000000000000200000009",
+    ),
+    (
+        "family",
+        192,
+        3,
+        "hex:000000016b65726e656c2d31000000000000000300000007000000006b65726e656c0000000000030000000300000005616263000000000200000001666474000000000300000005000000050102030405000000000000030000000800000000666c61745f647400000000020000000200000009747970650064617461000000",
+    ),
+    ("four-hash-fit", 608, 9, "plain"),
+];
+
+/// How many nodes are found in a blob.
+pub(super) fn nodes_in(alloc: Global, blob: &[u8]) -> usize {
+    let mut room = Room::new(alloc);
+    match index(&mut MemSource::new(blob), &mut room) {
+        Ok(_) => room.count(),
+        Err(_) => 0,
+    }
+}
+
+// Whether the blob of a tree has so many bytes and nodes, and ends so.
+fn is_blob(alloc: Global, blob: Option<Vec<u8>>, length: usize, nodes: usize, end: &[u8]) -> bool {
+    match blob {
+        Some(blob) => {
+            blob.len() == length && blob.ends_with(end) && nodes_in(alloc, &blob) == nodes
+        }
+        None => false,
+    }
+}
+
+// A copy of a tree is written as the tree is.
+#[test]
+fn blob_rows(rt: HostRuntime) -> Result<(), Fail> {
+    let alloc = rt.alloc();
+    for (text, length, nodes, end) in &ROWS {
+        let end = made(alloc, end)?;
+        let Some(tree) = tree_of(alloc, text) else {
+            panic!(rt; "{text} is refused");
+        };
+        let blob = blob_of(alloc, &tree, &NAMED);
+        assert!(rt; is_blob(alloc, blob, *length, *nodes, &end), "{text}");
+        let copy = Tree {
+            root: copy_node(alloc, &tree.root)?,
+        };
+        let blob = blob_of(alloc, &copy, &NAMED);
+        assert!(rt;
+            is_blob(alloc, blob, *length, *nodes, &end),
+            "a copy of {text}"
+        );
+    }
+    Ok(())
+}
