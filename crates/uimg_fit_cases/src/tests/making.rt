@@ -1,0 +1,84 @@
+//! Images that are made of sources.
+use std::alloc::{AllocError, Global};
+use uimg_base::{Files, MemFiles, Out};
+use uimg_fit::{Fault, Placement, build, fill};
+use uimg_its::compile;
+use uimg_tree::Tree;
+
+/// The source of the case four-hash-fit, which is `examples/kernel.its`.
+pub(super) const FOUR_HASH: &str = "/dts-v1/;
+/ {
+\tdescription = \"demo\";
+\t#address-cells = <1>;
+\timages {
+\t\tkernel {
+\t\t\tdescription = \"k\";
+\t\t\tdata = /incbin/(\"abc.bin\");
+\t\t\ttype = \"kernel\";
+\t\t\tarch = \"arm64\";
+\t\t\tos = \"linux\";
+\t\t\tcompression = \"none\";
+\t\t\tload = <0x80000>;
+\t\t\tentry = <0x80000>;
+\t\t\thash-1 { algo = \"crc32\"; };
+\t\t\thash-2 { algo = \"md5\"; };
+\t\t\thash-3 { algo = \"sha1\"; };
+\t\t\thash-4 { algo = \"sha256\"; };
+\t\t};
+\t};
+\tconfigurations {
+\t\tdefault = \"conf\";
+\t\tconf {
+\t\t\tdescription = \"c\";
+\t\t\tkernel = \"kernel\";
+\t\t};
+\t};
+};
+";
+
+/// The placement of a word: `inside`, `after`, or a position.
+pub(super) fn placement(word: &str) -> Placement {
+    match word {
+        "inside" => Placement::Inside,
+        "after" => Placement::After,
+        _ => Placement::At(word.parse().unwrap_or(0)),
+    }
+}
+
+/// An answer in words, with the number of bytes that were written.
+pub(super) fn told(
+    alloc: Global,
+    answer: Result<(), Fault>,
+    written: usize,
+) -> Result<String, AllocError> {
+    match answer {
+        Ok(()) => format!(in alloc; "done, {written}"),
+        Err(fault) => format!(in alloc; "{fault}, {written}"),
+    }
+}
+
+/// The filled tree of a source, compiled over some files and filled over others.
+pub(super) fn filled<F: Files>(
+    alloc: Global,
+    text: &str,
+    time: u32,
+    named: &[(&[u8], &[u8])],
+    files: &mut F,
+) -> Result<Tree<Global>, Fault> {
+    match compile(alloc, text.as_bytes(), &mut MemFiles::new(named)) {
+        Ok(tree) => fill(alloc, tree, time, files).map_err(Fault::Fit),
+        Err(_) => Err(Fault::Put),
+    }
+}
+
+/// What is answered, and written, where a tree is built.
+pub(super) fn built<F: Files>(
+    alloc: Global,
+    tree: &Tree<Global>,
+    word: &str,
+    files: &mut F,
+) -> (Result<(), Fault>, Vec<u8>) {
+    let mut out = Out::new(Vec::new(alloc));
+    let answer = build(alloc, tree, files, placement(word), &mut out);
+    (answer, out.into_inner())
+}
