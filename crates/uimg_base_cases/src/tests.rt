@@ -1,3 +1,4 @@
 mod base;
+mod counted;
 mod sums;
 mod texts;

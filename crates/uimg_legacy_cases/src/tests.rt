@@ -1,1 +1,13 @@
-mod legacy;
+//! What no clause says: the cases in bytes and text, that calls succeed, and what a failing device
+//! leaves.
+
+mod building;
+mod case_rows;
+mod cases;
+mod commands;
+mod headers;
+mod images;
+mod large_parts;
+mod long_parts;
+mod long_table;
+mod zeros;

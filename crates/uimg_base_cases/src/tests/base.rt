@@ -1,25 +1,16 @@
-//! What no clause says: that calls succeed, what a failing device leaves, and what a real file
-//! gives.
+//! What no clause says: that calls succeed, what a failing device leaves, and what a real file gives.
+//!
+//! Many rows have a script: steps with a `|` between them, each a word and what it is about. A step that does
+//! not end as it says is named with its row.
 
+mod disk;
+mod faults;
 mod files;
-mod fuses;
 mod moves;
-mod named_files;
-mod outputs;
+mod named;
+mod reading;
 mod rooms;
 mod shelves;
-mod windows;
-
-use crate::Source;
-
-// Whether these bytes, at most 1024, lie at an offset of a source.
-fn reads_as<S: Source>(source: &mut S, at: u64, bytes: &[u8]) -> bool {
-    let mut found = [0; 1024];
-    match source.size() {
-        Ok(size) if bytes.len() <= 1024 && at <= size && bytes.len() as u64 <= size - at => {
-            let found = &mut found[..bytes.len()];
-            source.fill_at(at, found).is_ok() && *found == *bytes
-        }
-        _ => false,
-    }
-}
+mod sources;
+mod steps;
+mod writers;

@@ -1,16 +1,27 @@
-//! What no clause says: outside digests, by any cutting and by eight sums at once.
+//! Checksums and hashes, against digests from elsewhere: by any cutting, and by eight sums at once.
 
+mod algorithms;
 mod bundles;
 mod digests;
 
-// The text of the tests of sums: the numbers from 0 to 250, again and again, 5000 bytes.
-fn counted() -> [u8; 5000] {
-    let mut text = [0; 5000];
-    for (number, byte) in text.iter_mut().enumerate() {
-        *byte = (number % 251) as u8;
-    }
-    text
-}
+/// CRC-32, MD5 and the SHAs of the counted text, from zlib and the tools of coreutils.
+const COUNTED_DIGESTS: [(&str, &str); 6] = [
+    ("crc32", "c1607408"),
+    ("md5", "046b3239eaade30920069f171518d956"),
+    ("sha1", "e6937aa016bc06eda81d3b227fffde825d881ce5"),
+    (
+        "sha256",
+        "69dbee893909fa17d1be397e0c07691336fe42049c29d403467d3d4a1fc3b5a1",
+    ),
+    (
+        "sha384",
+        "3592cbbc05f7c49ff1edb2c122f878fb78792cdb3d6883d3a705f902f43cfde95f1bc803445f48b3eac92224d54f846d",
+    ),
+    (
+        "sha512",
+        "f7b8464be8c23f633cd761a6502801a7d77f59a9eb0523e50bec6b366687258a7c8e5f8b1578e56076b133a5ea1f0dd3cf439d97ebca4f335818be014a085c86",
+    ),
+];
 
 // Whether 64 bytes have, of that length, the digest that `hex` spells, and zeros behind it.
 fn is_entry(entry: &([u8; 64], usize), hex: &str) -> bool {

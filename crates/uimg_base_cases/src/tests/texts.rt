@@ -1,3 +1,4 @@
-//! What no clause says: the rows of the tables, as U-Boot has them.
+//! Numbers, names and times as texts, as U-Boot and GNU `date` have them.
 
-mod tables;
+mod names;
+mod numbers;

@@ -1,119 +1,109 @@
-use super::reads_as;
-use crate::{FileSource, Room, SeekSource, Source, crc_range};
-use std::fs;
-use std::io::{Cursor, Seek, SeekFrom, Write};
-use std::test::Fail;
+//! A file that gives few bytes at a read, or fails.
+ghost use Rattle.std.specs.Prelude.{None};
 
-#[test]
-fn a_real_file_is_read_at_any_place(rt: HostRuntime) -> Result<(), Fail> {
-    let path = "real_file.bin";
-    fs::write(&rt, path, "123456789")?;
-    let mut source = FileSource::open(&rt, path)?;
-    assert_eq!(rt; source.size()?, 9);
-    let mut middle = [0; 3];
-    assert!(rt; read_at(&mut source, 3, &mut middle));
-    assert_eq!(rt; middle, *b"456");
-    assert!(rt; read_at(&mut source, 9, &mut []));
-    assert_eq!(rt; source.asked(), 3);
-    assert_eq!(rt; source.failures(), 0);
-    fs::remove_file(&rt, path)?;
-    Ok(())
+use super::steps::{cut, number};
+use std::cell::Cell;
+use std::io;
+use std::io::{Error, ErrorKind};
+use uimg_base::SeekRead;
+
+/// A file of digits, each that of its offset.
+#[derive(Drop)]
+pub(super) struct DigitFile<'a> {
+    at: u64,
+
+    /// How many bytes a read gives at most.
+    most: usize,
+
+    /// From where on a read gives none, or an error.
+    end: u64,
+    fails: bool,
+
+    /// What no read may go past.
+    bad: u64,
+
+    /// How many reads are interrupted first.
+    interrupts: u64,
+
+    /// The length that the file tells.
+    length: u64,
+
+    /// How many reads there were.
+    turns: &'a Cell<u64>,
 }
 
-// No bit of a far offset is lost. The file has a hole before its last three bytes.
-#[test]
-fn a_far_offset_of_a_real_file_is_read_there(rt: HostRuntime) -> Result<(), Fail> {
-    let path = "far_file.bin";
-    let mut file = fs::create(&rt, path)?;
-    file.seek(SeekFrom::Start(4294967299))?;
-    file.write_all(b"xyz")?;
-    let mut source = FileSource::open(&rt, path)?;
-    assert_eq!(rt; source.size()?, 4294967302);
-    let mut last = [0; 3];
-    assert!(rt; read_at(&mut source, 4294967299, &mut last));
-    assert_eq!(rt; last, *b"xyz");
-    fs::remove_file(&rt, path)?;
-    Ok(())
-}
-
-// A slice as a file is read as any file is.
-#[test]
-fn a_cursor_is_read_at_any_place(rt: HostRuntime) -> Result<(), Fail> {
-    let mut source = SeekSource::new(Cursor::new(b"123456789".as_slice()))?;
-    assert_eq!(rt; source.size()?, 9);
-    for (at, part) in [(3, b"456".as_slice()), (6, b"789"), (0, b"12"), (9, b"")] {
-        assert!(rt; reads_as(&mut source, at, part));
+impl<'a> DigitFile<'a> {
+    /// The file of a description. What it does not say is without an end.
+    pub(super) fn new(description: &str, turns: &'a Cell<u64>) -> DigitFile<'a> {
+        let mut file = DigitFile {
+            at: 0,
+            most: usize::MAX,
+            end: u64::MAX,
+            fails: false,
+            bad: u64::MAX,
+            interrupts: 0,
+            length: u64::MAX,
+            turns,
+        };
+        for part in description.split('|') {
+            file.takes(part);
+        }
+        file
     }
-    assert_eq!(rt; source.asked(), 8);
-    assert_eq!(rt; source.failures(), 0);
-    Ok(())
-}
 
-#[test]
-fn a_real_file_is_summed(rt: HostRuntime) -> Result<(), Fail> {
-    let path = "summed_file.bin";
-    let mut bytes = [0; 20000];
-    bytes[0] = b'x';
-    fs::write(&rt, path, bytes.as_slice())?;
-    let mut source = FileSource::open(&rt, path)?;
-    let mut room = Room::new(rt.alloc());
-    let sum = sum_all(&mut source, &mut room);
-    assert_eq!(rt; sum, Some(crate::crc_of(&bytes)));
-    fs::remove_file(&rt, path)?;
-    Ok(())
-}
+    fn takes(&mut self, part: &str) {
+        let (word, rest) = cut(part);
+        match word {
+            "most" => self.most = number(rest) as usize,
+            "end" => self.end = number(rest),
+            "error" => self.fails = true,
+            "bad" => self.bad = number(rest),
+            "interrupts" => self.interrupts = number(rest),
+            "length" => self.length = number(rest),
+            _ => {}
+        }
+    }
 
-// The length found at the open stays, and a file that was cut since then is a failed read.
-#[test]
-fn a_file_that_shrank_fails(rt: HostRuntime) -> Result<(), Fail> {
-    let path = "shrinking_file.bin";
-    fs::write(&rt, path, "123456789")?;
-    let mut source = FileSource::open(&rt, path)?;
-    fs::create(&rt, path)?.write_all(b"123")?;
-    assert_eq!(rt; source.size()?, 9);
-    let mut all = [0; 9];
-    assert!(rt; !read_at(&mut source, 0, &mut all));
-    assert_eq!(rt; source.failures(), 1);
-    assert_eq!(rt; source.asked(), 9);
-    fs::remove_file(&rt, path)?;
-    Ok(())
-}
-
-// A file that grew keeps the length found at the open, and an empty one has length 0.
-#[test]
-fn the_length_found_stays(rt: HostRuntime) -> Result<(), Fail> {
-    let path = "growing_file.bin";
-    fs::write(&rt, path, "")?;
-    let mut empty = FileSource::open(&rt, path)?;
-    fs::write(&rt, path, "123")?;
-    assert_eq!(rt; empty.size()?, 0);
-    let mut three = FileSource::open(&rt, path)?;
-    fs::write(&rt, path, "12345")?;
-    assert_eq!(rt; three.size()?, 3);
-    let mut all = [0; 3];
-    assert!(rt; read_at(&mut three, 0, &mut all));
-    assert_eq!(rt; all, *b"123");
-    fs::remove_file(&rt, path)?;
-    Ok(())
-}
-
-#[test]
-fn what_is_no_file_is_refused(rt: HostRuntime) -> Result<(), Fail> {
-    assert!(rt; FileSource::open(&rt, "no_such_file").is_err());
-    assert!(rt; FileSource::open(&rt, "").is_err());
-    assert!(rt; FileSource::open(&rt, ".").is_err());
-    Ok(())
-}
-
-// Reads where the range lies in the source, and says whether that succeeded.
-fn read_at<S: Source>(source: &mut S, at: u64, to: &mut [u8]) -> bool {
-    match source.size() {
-        Ok(size) if at <= size && to.len() as u64 <= size - at => source.fill_at(at, to).is_ok(),
-        _ => false,
+    // Whether a read of so many bytes is an error, and of which kind.
+    fn error(&mut self, count: usize) -> Option<ErrorKind> {
+        if self.interrupts > 0 {
+            self.interrupts -= 1;
+            return Some(ErrorKind::Interrupted);
+        }
+        let is_past = self.at.saturating_add(count as u64) > self.bad;
+        if is_past || (self.fails && self.at >= self.end) {
+            return Some(ErrorKind::Other);
+        }
+        None
     }
 }
 
-fn sum_all<S: Source, A: std::alloc::Allocator>(source: &mut S, room: &mut Room<A>) -> Option<u32> {
-    let size = source.size().ok()?;
-    crc_range(source, room, 0, size).ok()
+impl<'a> SeekRead for DigitFile<'a> {
+    ghost stream = { λ _. None };
+
+    fn read_on(&mut self, to: &mut [u8]) -> io::Result<usize> {
+        self.turns.set(self.turns.get().saturating_add(1));
+        if let Some(kind) = self.error(to.len()) {
+            return Err(Error::from(kind));
+        }
+        if self.at >= self.end {
+            return Ok(0);
+        }
+        let count = usize::min(to.len(), self.most);
+        for byte in to[..count].iter_mut() {
+            *byte = b'0' + (self.at % 10) as u8;
+            self.at = self.at.saturating_add(1);
+        }
+        Ok(count)
+    }
+
+    fn move_to(&mut self, at: u64) -> io::Result<()> {
+        self.at = at;
+        Ok(())
+    }
+
+    fn move_to_end(&mut self) -> io::Result<u64> {
+        self.at = self.length;
+        Ok(self.length)
+    }
 }

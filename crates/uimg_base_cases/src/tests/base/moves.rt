@@ -1,95 +1,132 @@
-use crate::{
+use super::super::counted::counted;
+use std::alloc::Global;
+use uimg_base::{
     Crc, FuseSource, FuseWriter, MemSource, MoveFault, Out, Room, Source, SourceFault, copy_range,
-    crc_of, crc_range, sum_range,
+    crc_range, sum_range,
 };
-use std::test::Fail;
 
 // Three windows: two of 8192 bytes and one of 3616.
 const LONG: usize = 20000;
 
-#[test]
-fn a_range_is_copied(rt: HostRuntime) -> Result<(), Fail> {
-    let bytes = numbered();
-    let mut source = MemSource::new(&bytes);
-    let mut room = Room::new(rt.alloc());
-    let mut out = Out::new(Vec::new(rt.alloc()));
-    copy_range(&mut source, &mut room, 1, LONG as u64 - 2, &mut out)?;
-    let text = out.into_inner();
-    assert_eq!(rt; text.as_slice(), &bytes[1..LONG - 1]);
-    assert_eq!(rt; source.asked(), LONG as u128 - 2);
-    Ok(())
+// Copies: the name, the offset, the length, how many calls get through, how many bytes the writer takes,
+// how the copy ends (0 well, 1 by a read, 2 by a write), and how many bytes are written then.
+const COPIES: [(&str, u64, u64, u64, u64, u8, usize); 16] = [
+    ("a range", 1, 19998, 99, 99999, 0, 19998),
+    ("no byte", 20000, 0, 99, 99999, 0, 0),
+    ("a byte", 19999, 1, 99, 99999, 0, 1),
+    ("a window", 7, 8192, 1, 99999, 0, 8192),
+    ("a window and a byte", 7, 8193, 1, 99999, 1, 8192),
+    ("the first read fails", 0, 20000, 0, 99999, 1, 0),
+    ("the second read fails", 0, 20000, 1, 99999, 1, 8192),
+    ("the third read fails", 0, 20000, 2, 99999, 1, 16384),
+    ("three reads are all", 0, 20000, 3, 99999, 0, 20000),
+    ("no byte is taken", 0, 20000, 99, 0, 2, 0),
+    ("a byte is taken", 0, 20000, 99, 1, 2, 1),
+    ("8191 bytes are taken", 0, 20000, 99, 8191, 2, 8191),
+    ("8192 bytes are taken", 0, 20000, 99, 8192, 2, 8192),
+    ("8193 bytes are taken", 0, 20000, 99, 8193, 2, 8193),
+    ("19999 bytes are taken", 0, 20000, 99, 19999, 2, 19999),
+    ("20000 bytes are taken", 0, 20000, 99, 20000, 0, 20000),
+];
+
+// Sums: the name, the offset, the length, how many calls get through, whether that is enough, and the CRC-32 of
+// the range, by zlib.
+const SUMS: [(&str, u64, u64, u64, bool, u32); 9] = [
+    ("all", 0, 20000, 3, true, 0x361f_c6e7),
+    ("all but the ends", 1, 19998, 3, true, 0x6c96_887e),
+    ("a byte", 0, 1, 1, true, 0xd202_ef8d),
+    (
+        "two bytes about a window's end",
+        8191,
+        2,
+        1,
+        true,
+        0x61d6_27c2,
+    ),
+    ("a window", 0, 8192, 1, true, 0xfe7c_712f),
+    ("a window and a byte", 0, 8193, 2, true, 0xaffb_0d4d),
+    ("no byte", 20000, 0, 0, true, 0),
+    ("the first read fails", 0, 1, 0, false, 0),
+    ("the third read fails", 0, 20000, 2, false, 0),
+];
+
+fn code_of(end: Result<(), MoveFault>) -> u8 {
+    match end {
+        Ok(()) => 0,
+        Err(MoveFault::Read) => 1,
+        Err(MoveFault::Put) => 2,
+    }
 }
 
-#[test]
-fn a_range_is_summed(rt: HostRuntime) -> Result<(), Fail> {
-    let bytes = numbered();
-    let mut source = MemSource::new(&bytes);
-    let mut room = Room::new(rt.alloc());
-    let sum = crc_range(&mut source, &mut room, 0, LONG as u64)?;
-    assert_eq!(rt; sum, crc_of(&bytes));
+// Whether a copy ends so, with so many bytes written, and asks for at most a window more.
+fn copies(alloc: Global, range: (u64, u64), fuses: (u64, u64), end: u8, written: usize) -> bool {
+    let (at, length) = range;
+    let bytes = counted();
+    if at > LONG as u64 || length > LONG as u64 - at {
+        return false;
+    }
+    let mut source = FuseSource::new(MemSource::new(&bytes), fuses.0);
+    let mut room = Room::new(alloc);
+    let mut out = Out::new(FuseWriter::new(Vec::new(alloc), fuses.1));
+    let answer = code_of(copy_range(&mut source, &mut room, at, length, &mut out));
+    let text = out.into_inner().into_inner();
+    let asked = source.asked();
+    answer == end
+        && Some(text.as_slice()) == bytes[at as usize..].get(..written)
+        && asked <= written as u128 + 8192
+        && (end != 0 || asked == length as u128)
+}
+
+// Whether the CRC-32 of a range is this, or a read fails.
+fn has_crc(alloc: Global, range: (u64, u64), calls: u64, enough: bool, sum: u32) -> bool {
+    let (at, length) = range;
+    let bytes = counted();
+    if at > LONG as u64 || length > LONG as u64 - at {
+        return false;
+    }
+    let mut room = Room::new(alloc);
+    let mut source = FuseSource::new(MemSource::new(&bytes), calls);
+    let found = crc_range(&mut source, &mut room, at, length);
+    found == (if enough { Ok(sum) } else { Err(SourceFault) })
+        && (!enough || source.asked() == length as u128)
+}
+
+// Whether a digest of sevens has the CRC-32 of a range at its beginning, or stays where a read fails.
+fn puts_crc(alloc: Global, range: (u64, u64), calls: u64, enough: bool, sum: u32) -> bool {
+    let (at, length) = range;
+    let bytes = counted();
+    if at > LONG as u64 || length > LONG as u64 - at {
+        return false;
+    }
+    let mut room = Room::new(alloc);
+    let mut source = FuseSource::new(MemSource::new(&bytes), calls);
     let mut digest = [7; 64];
-    let length = sum_range::<Crc, _, _>(&mut source, &mut room, 0, LONG as u64, &mut digest)?;
-    assert_eq!(rt; length, 4);
-    assert_eq!(rt; &digest[..4], sum.to_be_bytes().as_slice());
-    assert_eq!(rt; &digest[4..], [7; 60].as_slice());
-    assert_eq!(rt; source.asked(), 2 * LONG as u128);
-    Ok(())
+    let end = sum_range::<Crc, _, _>(&mut source, &mut room, at, length, &mut digest);
+    let mut wanted = [7; 64];
+    if enough {
+        wanted[..4].copy_from_slice(&sum.to_be_bytes());
+    }
+    end == (if enough { Ok(4) } else { Err(SourceFault) })
+        && digest == wanted
+        && (!enough || source.asked() == length as u128)
 }
 
-// The windows before the failed read were written, and no more.
 #[test]
-fn a_copy_stops_at_a_failed_read(rt: HostRuntime) -> Result<(), Fail> {
-    let bytes = numbered();
-    for calls in 0..4u64 {
-        let mut source = FuseSource::new(MemSource::new(&bytes), calls);
-        let mut room = Room::new(rt.alloc());
-        let mut out = Out::new(Vec::new(rt.alloc()));
-        let end = copy_range(&mut source, &mut room, 0, LONG as u64, &mut out);
-        assert_eq!(rt;
-            end,
-            if calls < 3 {
-                Err(MoveFault::Read)
-            } else {
-                Ok(())
-            }
-        );
-        let written = usize::min(8192 * calls as usize, LONG);
-        let text = out.into_inner();
-        assert_eq!(rt; text.as_slice(), &bytes[..written]);
-        let sum = crc_range(&mut source, &mut room, 0, 1);
-        assert_eq!(rt; sum, Err(SourceFault));
+fn ranges_are_copied(rt: HostRuntime) {
+    for (name, at, length, calls, taken, end, written) in &COPIES {
+        let ends = copies(rt.alloc(), (*at, *length), (*calls, *taken), *end, *written);
+        assert!(rt; ends, "{name}");
     }
-    Ok(())
 }
 
-// The bytes that the writer took were written, and at most a window more was asked for.
 #[test]
-fn a_copy_stops_at_a_failed_write(rt: HostRuntime) -> Result<(), Fail> {
-    let bytes = numbered();
-    for taken in [0, 1, 8191, 8192, 8193, 19999, 20000] {
-        let mut source = MemSource::new(&bytes);
-        let mut room = Room::new(rt.alloc());
-        let mut out = Out::new(FuseWriter::new(Vec::new(rt.alloc()), taken));
-        let end = copy_range(&mut source, &mut room, 0, LONG as u64, &mut out);
-        assert_eq!(rt;
-            end,
-            if taken < 20000 {
-                Err(MoveFault::Put)
-            } else {
-                Ok(())
-            }
+fn ranges_are_summed(rt: HostRuntime) {
+    for (name, at, length, calls, enough, sum) in &SUMS {
+        let range = (*at, *length);
+        assert!(rt; has_crc(rt.alloc(), range, *calls, *enough, *sum), "{name}");
+        assert!(rt;
+            puts_crc(rt.alloc(), range, *calls, *enough, *sum),
+            "{name}"
         );
-        let text = out.into_inner().into_inner();
-        assert_eq!(rt; text.as_slice(), &bytes[..taken as usize]);
-        assert!(rt; source.asked() <= taken as u128 + 8192);
     }
-    Ok(())
-}
-
-fn numbered() -> [u8; LONG] {
-    let mut bytes = [0; LONG];
-    for (number, byte) in bytes.iter_mut().enumerate() {
-        *byte = (number % 251) as u8;
-    }
-    bytes
 }

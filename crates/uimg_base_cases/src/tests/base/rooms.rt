@@ -1,39 +1,79 @@
-use crate::Room;
+use super::steps::{cut, number};
 use linked_list_allocator::LocalHeap;
+use std::alloc::Allocator;
+use std::process::Abort;
 use std::test::Fail;
+use uimg_base::Room;
 
-#[test]
-fn entries_are_kept(rt: HostRuntime) -> Result<(), Fail> {
-    let mut room = Room::new(rt.alloc());
-    assert_eq!(rt; room.held(), 8192);
-    room.add([1; 16])?;
-    room.add([2; 16])?;
-    assert_eq!(rt; room.count(), 2);
-    assert_eq!(rt; room.held(), 8448);
-    if room.count() == 2 {
-        room.set(0, [3; 16]);
-        assert_eq!(rt; room.entry(0), [3; 16]);
-        assert_eq!(rt; room.entry(1), [2; 16]);
-    }
-    room.clear();
-    assert_eq!(rt; room.count(), 0);
-    assert_eq!(rt; room.held(), 8192);
-    Ok(())
+// The name, the bytes of the heap, and the steps. An entry is named by the number that each of its words has. A heap of
+// 1024 bytes has place for three entries, since each takes memory for itself alone.
+const ROOMS: [(&str, usize, &str); 4] = [
+    (
+        "no entry",
+        1024,
+        "count 0|held 8192|clear|count 0|held 8192",
+    ),
+    (
+        "entries are kept",
+        4096,
+        "add 1|add 2|count 2|held 8448|set 0 3|entry 0 3|entry 1 2|clear|count 0|held 8192",
+    ),
+    (
+        "a refused entry leaves the others",
+        1024,
+        "add 0|add 1|add 2|refuse 3|count 3|entry 0 0|entry 1 1|entry 2 2|held 8576",
+    ),
+    (
+        "cleared entries leave their memory",
+        1024,
+        "add 0|add 1|add 2|clear|add 4|add 5|add 6|refuse 7|entry 0 4|entry 1 5|entry 2 6|count 3",
+    ),
+];
+
+fn is_entry<A: Allocator>(room: &Room<A>, place: u64, value: u64) -> bool {
+    let place = place as usize;
+    place < room.count() && room.entry(place) == [value; 16]
 }
 
-// A heap of 1024 bytes has place for three entries, since each takes memory for itself alone. The
-// refusal leaves them.
-#[test]
-fn a_refused_entry_leaves_the_others(rt: HostRuntime) -> Result<(), Fail> {
-    let heap = LocalHeap::new(rt.alloc(), 1024)?;
-    let mut room = Room::new(&heap);
-    for number in 0..3u64 {
-        assert!(rt; room.add([number; 16]).is_ok());
+fn sets<A: Allocator>(room: &mut Room<A>, place: u64, value: u64) -> bool {
+    let place = place as usize;
+    if place >= room.count() {
+        return false;
     }
-    assert!(rt; room.add([3; 16]).is_err());
-    assert_eq!(rt; room.count(), 3);
-    for number in 0..room.count() {
-        assert_eq!(rt; room.entry(number), [number as u64; 16]);
+    room.set(place, [value; 16]);
+    true
+}
+
+fn clears<A: Allocator>(room: &mut Room<A>) -> bool {
+    room.clear();
+    true
+}
+
+fn room_step<A: Allocator>(room: &mut Room<A>, step: &str) -> bool {
+    let (word, rest) = cut(step);
+    let (place, value) = cut(rest);
+    match word {
+        "add" => room.add([number(rest); 16]).is_ok(),
+        "refuse" => room.add([number(rest); 16]).is_err(),
+        "count" => room.count() as u64 == number(rest),
+        "held" => room.held() == number(rest) as u128,
+        "entry" => is_entry(room, number(place), number(value)),
+        "set" => sets(room, number(place), number(value)),
+        _ => word == "clear" && clears(room),
+    }
+}
+
+fn plays<R: Abort, A: Allocator>(rt: &R, name: &str, mut room: Room<A>, script: &str) {
+    for step in script.split('|') {
+        assert!(rt; room_step(&mut room, step), "{name}: {step}");
+    }
+}
+
+#[test]
+fn rooms(rt: HostRuntime) -> Result<(), Fail> {
+    for (name, bytes, script) in &ROOMS {
+        let heap = LocalHeap::new(rt.alloc(), *bytes)?;
+        plays(&rt, name, Room::new(&heap), script);
     }
     Ok(())
 }

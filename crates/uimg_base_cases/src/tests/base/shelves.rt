@@ -1,173 +1,212 @@
-use super::reads_as;
-use crate::{FileShelf, MemShelf, Out, Shelf, Source};
+use super::steps::{cut, file_step, plays_file, plays_source, spell};
 use linked_list_allocator::LocalHeap;
-use std::fs;
 use std::io::{ErrorKind, Write};
+use std::process::Abort;
+use std::rt::Files;
 use std::test::Fail;
+use uimg_base::{FileShelf, MemShelf, Shelf};
 
-#[test]
-fn what_was_written_in_pieces_is_kept(rt: HostRuntime) -> Result<(), Fail> {
-    let mut shelf = MemShelf::new(rt.alloc());
-    assert_eq!(rt; shelf.write(b"ab")?, 2);
-    assert_eq!(rt; shelf.write(b"")?, 0);
-    shelf.flush()?;
-    shelf.write_all(b"cde")?;
-    let mut kept = shelf.keep()?;
-    assert_eq!(rt; kept.asked(), 0);
-    assert!(rt; reads_as(&mut kept, 0, b"abcde"));
-    assert_eq!(rt; kept.asked(), 5);
-    assert_eq!(rt; kept.failures(), 0);
-    Ok(())
-}
+// Shelves that are files: the name, the path, the steps before the end of the writing, whether it was kept,
+// and the steps after that.
+const FILE_SHELVES: [(&str, &str, &str, bool, &str); 12] = [
+    (
+        "a file is made by the first write",
+        "shelf_first.bin",
+        "flush|missing|put ab|there|put cde|flush|holds abcde",
+        true,
+        "size 5|asked 0|read 0 abcde|read 1 bc|asked 7|remove",
+    ),
+    (
+        "an old file is emptied by the first write",
+        "shelf_old.bin",
+        "write a longer file than the new one|holds a longer file than the new one|put new|put  one",
+        true,
+        "size 7|read 0 new one|remove",
+    ),
+    (
+        "a write of no bytes makes an empty file",
+        "shelf_empty.bin",
+        "take ",
+        true,
+        "size 0|read 0 |holds |remove",
+    ),
+    (
+        "a file in no folder cannot be made",
+        "shelf_no/folder",
+        "refuse a|refuse ",
+        false,
+        "missing",
+    ),
+    (
+        "a folder cannot be made",
+        ".",
+        "refuse a|refuse ",
+        false,
+        "",
+    ),
+    ("no path cannot be made", "", "refuse a|refuse ", false, ""),
+    (
+        "no folder was made",
+        "shelf_no",
+        "missing",
+        false,
+        "missing",
+    ),
+    (
+        "large writes go straight to the file",
+        "shelf_large.bin",
+        "put head|holds |put a*8192|holds heada*8192|put tail",
+        true,
+        "size 8200|read 2 adaa|read 8194 aatail|remove",
+    ),
+    (
+        "a full device is told by the flush",
+        "/dev/full",
+        "put abc|stick",
+        false,
+        "",
+    ),
+    (
+        "a shelf without a write makes no file",
+        "shelf_unwritten.bin",
+        "missing",
+        false,
+        "missing",
+    ),
+    (
+        "a shelf without a write keeps an old file",
+        "shelf_untouched.bin",
+        "write old",
+        false,
+        "holds old|remove",
+    ),
+    (
+        "a file that was removed is not kept",
+        "shelf_removed.bin",
+        "put abc|remove",
+        false,
+        "missing",
+    ),
+];
 
-#[test]
-fn what_is_kept_is_read_at_any_place(rt: HostRuntime) -> Result<(), Fail> {
-    let mut kept = shelved(MemShelf::new(rt.alloc()), &[b"abc", b"", b"de"])?;
-    assert_eq!(rt; kept.size()?, 5);
-    for (at, part) in [(0, b"ab".as_slice()), (2, b"cd"), (3, b"de"), (5, b"")] {
-        assert!(rt; reads_as(&mut kept, at, part));
+// Shelves in memory: the name, the bytes of the heap, the steps before the end of the writing, and those
+// after it.
+const MEMORY_SHELVES: [(&str, usize, &str, &str); 4] = [
+    (
+        "what was written in pieces is kept",
+        4096,
+        "take ab|take |flush|put cde",
+        "asked 0|read 0 abcde|asked 5|failures 0",
+    ),
+    (
+        "what is kept is read at any place",
+        4096,
+        "put abc|put |put de",
+        "size 5|read 0 ab|read 2 cd|read 3 de|read 5 ",
+    ),
+    ("no write keeps no byte", 4096, "", "size 0|read 0 "),
+    (
+        "a refused growth leaves what was written",
+        1024,
+        "put a*600|starve b*600|starve b*600",
+        "size 600|read 0 a*600",
+    ),
+];
+
+// How a write ends: 0 where all is taken, 1 where less is, 2 for want of memory, and 3 by another error.
+fn written<W: Write>(writer: &mut W, bytes: &[u8]) -> u8 {
+    match writer.write(bytes) {
+        Ok(count) => (count != bytes.len()) as u8,
+        Err(error) if error.kind() == ErrorKind::OutOfMemory => 2,
+        Err(_) => 3,
     }
-    Ok(())
 }
 
-#[test]
-fn a_shelf_in_memory_without_a_write_keeps_no_byte(rt: HostRuntime) -> Result<(), Fail> {
-    let mut kept = MemShelf::new(rt.alloc()).keep()?;
-    assert_eq!(rt; kept.size()?, 0);
-    assert!(rt; reads_as(&mut kept, 0, b""));
-    Ok(())
+fn shelf_step<R: Files + AllocGlobal, H: Shelf>(
+    rt: &R,
+    path: &str,
+    shelf: &mut H,
+    step: &str,
+) -> bool {
+    let (word, rest) = cut(step);
+    let mut buffer = [0; 20000];
+    let bytes = buffer_of(rest, &mut buffer);
+    match word {
+        "take" => written(shelf, bytes) == 0,
+        "put" => shelf.write_all(bytes).is_ok(),
+        "refuse" => written(shelf, bytes) >= 2,
+        "starve" => written(shelf, bytes) == 2,
+        "flush" => shelf.flush().is_ok(),
+        "stick" => shelf.flush().is_err(),
+        _ => file_step(rt, path, step),
+    }
 }
 
-// A heap of 1024 bytes has no place for 1200.
-#[test]
-fn a_refused_growth_leaves_what_was_written(rt: HostRuntime) -> Result<(), Fail> {
-    let heap = LocalHeap::new(rt.alloc(), 1024)?;
-    let mut shelf = MemShelf::new(&heap);
-    shelf.write_all(&[b'a'; 600])?;
-    for _turn in 0..2u64 {
-        match shelf.write(&[b'b'; 600]) {
-            Err(error) => assert!(rt; error.kind() == ErrorKind::OutOfMemory),
-            Ok(_) => assert!(rt; false),
+// The bytes that a text spells.
+fn buffer_of<'a>(text: &str, buffer: &'a mut [u8; 20000]) -> &'a [u8] {
+    let count = spell(text, buffer);
+    buffer.get(..count).unwrap_or(b"")
+}
+
+fn plays_writing<R: Files + AllocGlobal + Abort, H: Shelf>(
+    rt: &R,
+    name: &str,
+    path: &str,
+    shelf: &mut H,
+    script: &str,
+) {
+    for step in script.split('|') {
+        assert!(rt; shelf_step(rt, path, shelf, step), "{name}: {step}");
+    }
+}
+
+// Plays the steps after the end of the writing, and says whether it was kept.
+fn plays_kept<R: Files + AllocGlobal + Abort, H: Shelf>(
+    rt: &R,
+    name: &str,
+    path: &str,
+    shelf: H,
+    script: &str,
+) -> bool {
+    match shelf.keep() {
+        Ok(mut kept) => {
+            plays_source(rt, name, path, &mut kept, script);
+            true
+        }
+        Err(_) => {
+            plays_file(rt, name, path, script);
+            false
         }
     }
-    let mut kept = shelf.keep()?;
-    assert_eq!(rt; kept.size()?, 600);
-    assert!(rt; reads_as(&mut kept, 0, &[b'a'; 600]));
-    Ok(())
+}
+
+// Plays a row, and says whether what was written was kept.
+fn plays_shelf<R: Files + AllocGlobal + Abort, H: Shelf>(
+    rt: &R,
+    name: &str,
+    path: &str,
+    mut shelf: H,
+    scripts: (&str, &str),
+) -> bool {
+    plays_writing(rt, name, path, &mut shelf, scripts.0);
+    plays_kept(rt, name, path, shelf, scripts.1)
 }
 
 #[test]
-fn a_file_is_made_by_the_first_write(rt: HostRuntime) -> Result<(), Fail> {
-    let path = "shelf_first.bin";
-    let mut shelf = FileShelf::new(&rt, path);
-    shelf.flush()?;
-    assert!(rt; !fs::exists(&rt, path)?);
-    shelf.write_all(b"ab")?;
-    assert!(rt; fs::exists(&rt, path)?);
-    shelf.write_all(b"cde")?;
-    shelf.flush()?;
-    assert_eq!(rt; fs::read(&rt, path)?.as_slice(), b"abcde".as_slice());
-    let mut kept = shelf.keep()?;
-    assert_eq!(rt; kept.size()?, 5);
-    assert_eq!(rt; kept.asked(), 0);
-    assert!(rt; reads_as(&mut kept, 0, b"abcde"));
-    assert!(rt; reads_as(&mut kept, 1, b"bc"));
-    fs::remove_file(&rt, path)?;
-    Ok(())
-}
-
-#[test]
-fn an_old_file_is_emptied_by_the_first_write(rt: HostRuntime) -> Result<(), Fail> {
-    let path = "shelf_old.bin";
-    fs::write(&rt, path, "a longer file than the new one")?;
-    let shelf = FileShelf::new(&rt, path);
-    assert_eq!(rt; fs::read(&rt, path)?.len(), 30);
-    let mut kept = shelved(shelf, &[b"new", b" one"])?;
-    assert_eq!(rt; kept.size()?, 7);
-    assert!(rt; reads_as(&mut kept, 0, b"new one"));
-    fs::remove_file(&rt, path)?;
-    Ok(())
-}
-
-#[test]
-fn a_write_of_no_bytes_makes_an_empty_file(rt: HostRuntime) -> Result<(), Fail> {
-    let path = "shelf_empty.bin";
-    let mut shelf = FileShelf::new(&rt, path);
-    assert_eq!(rt; shelf.write(b"")?, 0);
-    assert_eq!(rt; shelf.keep()?.size()?, 0);
-    fs::remove_file(&rt, path)?;
-    Ok(())
-}
-
-#[test]
-fn a_file_that_cannot_be_made_is_a_failed_write(rt: HostRuntime) -> Result<(), Fail> {
-    for path in ["shelf_no/folder", ".", ""] {
-        let mut shelf = FileShelf::new(&rt, path);
-        assert!(rt; shelf.write(b"a").is_err());
-        assert!(rt; shelf.write(b"").is_err());
-        assert!(rt; shelf.keep().is_err());
+fn shelves_that_are_files(rt: HostRuntime) {
+    for (name, path, before, kept, after) in &FILE_SHELVES {
+        let shelf = FileShelf::new(&rt, path);
+        let is_kept = plays_shelf(&rt, name, path, shelf, (before, after));
+        assert!(rt; is_kept == *kept, "{name}");
     }
-    assert!(rt; !fs::exists(&rt, "shelf_no")?);
-    Ok(())
-}
-
-// Small writes are gathered, one of 8192 bytes goes straight to the file, behind what was gathered.
-#[test]
-fn large_writes_go_straight_to_the_file(rt: HostRuntime) -> Result<(), Fail> {
-    let path = "shelf_large.bin";
-    let mut shelf = FileShelf::new(&rt, path);
-    shelf.write_all(b"head")?;
-    assert_eq!(rt; fs::read(&rt, path)?.len(), 0);
-    shelf.write_all(&[b'a'; 8192])?;
-    assert_eq!(rt; fs::read(&rt, path)?.len(), 8196);
-    shelf.write_all(b"tail")?;
-    let mut kept = shelf.keep()?;
-    assert_eq!(rt; kept.size()?, 8200);
-    assert!(rt; reads_as(&mut kept, 2, b"adaa"));
-    assert!(rt; reads_as(&mut kept, 8194, b"aatail"));
-    fs::remove_file(&rt, path)?;
-    Ok(())
-}
-
-// A full device takes no byte: what was gathered for it is told when it is written.
-#[test]
-fn a_full_device_is_told_by_the_flush(rt: HostRuntime) -> Result<(), Fail> {
-    let mut shelf = FileShelf::new(&rt, "/dev/full");
-    shelf.write_all(b"abc")?;
-    assert!(rt; shelf.flush().is_err());
-    assert!(rt; shelf.keep().is_err());
-    Ok(())
-}
-
-// Neither a file that is not there nor one that is there is touched.
-#[test]
-fn a_file_shelf_without_a_write_keeps_nothing(rt: HostRuntime) -> Result<(), Fail> {
-    let path = "shelf_unwritten.bin";
-    assert!(rt; FileShelf::new(&rt, path).keep().is_err());
-    assert!(rt; !fs::exists(&rt, path)?);
-    fs::write(&rt, path, "old")?;
-    assert!(rt; FileShelf::new(&rt, path).keep().is_err());
-    assert_eq!(rt; fs::read(&rt, path)?.as_slice(), b"old".as_slice());
-    fs::remove_file(&rt, path)?;
-    Ok(())
 }
 
 #[test]
-fn a_file_that_was_removed_is_not_kept(rt: HostRuntime) -> Result<(), Fail> {
-    let path = "shelf_removed.bin";
-    let mut shelf = FileShelf::new(&rt, path);
-    shelf.write_all(b"abc")?;
-    fs::remove_file(&rt, path)?;
-    assert!(rt; shelf.keep().is_err());
-    assert!(rt; !fs::exists(&rt, path)?);
-    Ok(())
-}
-
-// What a shelf keeps after these writes, where none fails.
-fn shelved<H: Shelf>(shelf: H, pieces: &[&[u8]]) -> Result<H::Kept, Fail> {
-    let mut out = Out::new(shelf);
-    for piece in pieces {
-        out.put_all(piece)?;
+fn shelves_in_memory(rt: HostRuntime) -> Result<(), Fail> {
+    for (name, bytes, before, after) in &MEMORY_SHELVES {
+        let heap = LocalHeap::new(rt.alloc(), *bytes)?;
+        let is_kept = plays_shelf(&rt, name, "", MemShelf::new(&heap), (before, after));
+        assert!(rt; is_kept, "{name}");
     }
-    Ok(out.into_inner().keep()?)
+    Ok(())
 }

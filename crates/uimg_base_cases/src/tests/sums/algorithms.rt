@@ -1,0 +1,49 @@
+use uimg_base::{Algo, crc_entry};
+
+// Names, with the length of their digests: no two are of one length. Length 0 is that of a name that no
+// algorithm has.
+const NAMES: [(&str, usize); 14] = [
+    ("crc32", 4),
+    ("md5", 16),
+    ("sha1", 20),
+    ("sha256", 32),
+    ("sha384", 48),
+    ("sha512", 64),
+    ("", 0),
+    ("crc", 0),
+    ("CRC32", 0),
+    ("sha3", 0),
+    ("sha256 ", 0),
+    ("sha256\0", 0),
+    ("sha", 0),
+    ("md", 0),
+];
+
+// Entries of the table of CRC-32, by RFC 1952, section 8.
+const ENTRIES: [(u8, u32); 4] = [
+    (0, 0),
+    (1, 0x7707_3096),
+    (128, 0xEDB8_8320),
+    (255, 0x2D02_EF8D),
+];
+
+fn digest_length(name: &str) -> usize {
+    match Algo::named(name.as_bytes()) {
+        Some(algo) => algo.len(),
+        None => 0,
+    }
+}
+
+#[test]
+fn names_of_algorithms(rt: HostRuntime) {
+    for (name, length) in &NAMES {
+        assert_eq!(rt; digest_length(name), *length, "{name}");
+    }
+}
+
+#[test]
+fn entries_of_the_table(rt: HostRuntime) {
+    for (index, entry) in &ENTRIES {
+        assert_eq!(rt; crc_entry(*index), *entry, "{index}");
+    }
+}
