@@ -1,7 +1,7 @@
 //! Makings whose memory is refused.
 use super::listings::DEMO_LISTING;
 use super::makings::{Fuses, Outcome, making};
-use super::runs::told;
+use super::runs::{shown, told};
 use linked_list_allocator::LocalHeap;
 use std::process::Abort;
 use std::rt::Files;
@@ -40,7 +40,7 @@ fn growths_for_parts(rt: HostRuntime) -> Result<(), Fail> {
             ..NO_FUSE
         };
         let made = making(&rt, (&heap, rt.alloc()), name, "parts.img", fuses)?;
-        let refused = made.fault == Some(Fault::OutOfMemory) && made.listed.is_empty();
+        let refused = made.end == Err(Fault::OutOfMemory) && made.listed.is_empty();
         assert_eq!(rt; made.file, *file, "{name}");
         assert!(rt; refused == (*file == "no file"), "{name}");
     }
@@ -52,10 +52,10 @@ fn step_of(made: &Outcome) -> u8 {
     if !made.listed.is_empty() || made.file != "no file" {
         return 9;
     }
-    match made.fault {
-        Some(Fault::OutOfMemory) => 0,
-        Some(Fault::Its(fault)) if fault.kind == Kind::OutOfMemory => 1,
-        Some(Fault::Fit(FitFault::OutOfMemory)) => 2,
+    match made.end {
+        Err(Fault::OutOfMemory) => 0,
+        Err(Fault::Its(fault)) if fault.kind == Kind::OutOfMemory => 1,
+        Err(Fault::Fit(FitFault::OutOfMemory)) => 2,
         _ => 9,
     }
 }
@@ -68,7 +68,7 @@ fn made_on<R: Files + AllocGlobal>(rt: &R, size: usize) -> u8 {
     };
     let memory = (&heap, rt.alloc());
     match making(rt, memory, "four-hash-fit", "heap.itb", NO_FUSE) {
-        Ok(made) if made.fault.is_none() && made.file == "all" => 3,
+        Ok(made) if made.end == Ok(Status::Done) && made.file == "all" => 3,
         Ok(made) => step_of(&made),
         Err(_) => 9,
     }
@@ -87,15 +87,15 @@ fn growths_for_trees(rt: HostRuntime) {
     assert_eq!(rt; met, [true; 4]);
 }
 
-// The bytes of the heap that the room grows on, and the fault: the image is made, and nothing is
-// listed where there is one.
+// The bytes of the heap that the room grows on, and the end: the image is made, and where
+// there is a fault nothing is listed.
 const ROOMS: [(usize, &str); 3] = [
     (64, "B11 out of memory at 56"),
     (1024, "B11 out of memory at 284"),
-    (8192, ""),
+    (8192, "done"),
 ];
 
-fn plays<R: Files + AllocGlobal + Abort>(rt: &R, size: usize, fault: &str) -> Result<(), Fail> {
+fn plays<R: Files + AllocGlobal + Abort>(rt: &R, size: usize, end: &str) -> Result<(), Fail> {
     let heap = LocalHeap::new(rt.alloc(), size)?;
     let made = making(
         rt,
@@ -104,12 +104,9 @@ fn plays<R: Files + AllocGlobal + Abort>(rt: &R, size: usize, fault: &str) -> Re
         "rooms.itb",
         NO_FUSE,
     )?;
-    let listing = if fault.is_empty() { DEMO_LISTING } else { "" };
-    let text = match made.fault {
-        Some(fault) => told(rt.alloc(), Err::<Status, Fault>(fault)),
-        None => String::new(rt.alloc()),
-    };
-    assert_eq!(rt; text.as_str(), fault, "{size}");
+    let told = told(rt.alloc(), &made.end);
+    let listing = if end == "done" { DEMO_LISTING } else { "" };
+    assert_eq!(rt; shown(&told), end, "{size}");
     assert_eq!(rt; made.file, "all", "{size}");
     assert!(rt; made.listed.as_slice() == listing.as_bytes(), "{size}");
     Ok(())
@@ -117,8 +114,8 @@ fn plays<R: Files + AllocGlobal + Abort>(rt: &R, size: usize, fault: &str) -> Re
 
 #[test]
 fn rooms_without_place(rt: HostRuntime) -> Result<(), Fail> {
-    for (size, fault) in &ROOMS {
-        plays(&rt, *size, fault)?;
+    for (size, end) in &ROOMS {
+        plays(&rt, *size, end)?;
     }
     Ok(())
 }

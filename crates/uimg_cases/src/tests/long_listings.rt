@@ -1,33 +1,29 @@
 //! A listing of 220 KB on streams that take it in pieces, or fail.
-use super::streams::{Meter, ran, writer_of};
-use std::alloc::{AllocError, Global};
+use super::runs::shown;
+use super::streams::{ran, writer_of};
 use std::fs;
 use std::process::Abort;
 use std::rt::Files;
 use std::test::Fail;
-use uimg_base::crc_of;
-use uimg_samples::legacy::THREE_PART_MULTI;
 
-// A multi image of 5000 parts of one byte; its checksums are right.
-fn long_image(alloc: Global) -> Result<Vec<u8>, AllocError> {
-    let mut data = Vec::new(alloc);
-    for _ in 0..5000u32 {
-        data.extend_from_slice(&[0, 0, 0, 1])?;
+// How the header of the long image begins; all else of it is zeros. Its checksums are zlib's.
+const HEAD: [u8; 32] = [
+    0x27, 0x05, 0x19, 0x56, 0x62, 0x4e, 0xe2, 0xb4, 0x00, 0x00, 0x00, 0x00, 0x00, 0x00, 0x9c, 0x44,
+    0x00, 0x00, 0x00, 0x00, 0x00, 0x00, 0x00, 0x00, 0xb8, 0x55, 0xb5, 0xb9, 0x05, 0x07, 0x04, 0x01,
+];
+
+// A multi image of 5000 parts of one byte: the sizes stand from 64 to 20064, and the parts from 20068 on.
+fn long_image() -> [u8; 40068] {
+    let mut image = [0; 40068];
+    for (at, byte) in image.iter_mut().enumerate() {
+        *byte = match at {
+            0..=31 => HEAD[at],
+            64..=20063 if at % 4 == 3 => 1,
+            20068..=40067 if at % 4 == 0 => b'a',
+            _ => 0,
+        };
     }
-    data.extend_from_slice(&[0; 4])?;
-    for _ in 0..5000u32 {
-        data.extend_from_slice(b"a\0\0\0")?;
-    }
-    let mut header = [0; 64];
-    header.copy_from_slice(&THREE_PART_MULTI[..64]);
-    header[12..16].copy_from_slice(&40004u32.to_be_bytes());
-    header[24..28].copy_from_slice(&crc_of(&data).to_be_bytes());
-    header[4..8].copy_from_slice(&[0; 4]);
-    let sum = crc_of(&header).to_be_bytes();
-    header[4..8].copy_from_slice(&sum);
-    let mut image = Vec::from_slice(alloc, &header)?;
-    image.extend_from_slice(&data)?;
-    Ok(image)
+    image
 }
 
 const ALL: usize = usize::MAX;
@@ -48,8 +44,11 @@ const ROWS: [(usize, usize, bool, u8, &str); 14] = [
     (8192, ALL, true, 3, "uimg: write failed\n"),
     (8193, ALL, true, 3, "uimg: write failed\n"),
     (100_000, ALL, true, 3, "uimg: write failed\n"),
-    (218_000, ALL, true, 3, "uimg: write failed\n"),
+    (224_111, ALL, true, 3, "uimg: write failed\n"),
 ];
+
+// The listing has seven lines of 222 bytes in all, and 5000 of 41 bytes and the digits of a number.
+const LENGTH: usize = 224_112;
 
 const LINE: &str = "uimg dumpimage -l long.img";
 
@@ -59,18 +58,10 @@ fn plays<R: Files + AllocGlobal + Abort>(
     row: (usize, usize, bool, u8, &str),
 ) {
     let (room, most, flushes, status, fault) = row;
-    let mut out = Meter {
-        most,
-        flushes,
-        ..writer_of(rt, room)
-    };
-    let mut err = writer_of(rt, ALL);
-    assert_eq!(rt;
-        ran(rt, LINE, &mut out, &mut err),
-        Some(status),
-        "{room} {most}"
-    );
-    assert!(rt; err.taken.as_slice() == fault.as_bytes(), "{room} {most}");
+    let mut out = writer_of(rt, room, most, flushes);
+    let mut err = writer_of(rt, ALL, ALL, true);
+    assert_eq!(rt; ran(rt, LINE, &mut out, &mut err), status, "{room} {most}");
+    assert_eq!(rt; shown(&err.taken), fault, "{room} {most}");
     let wanted = listing.get(..room).unwrap_or(listing);
     assert!(rt; out.taken.as_slice() == wanted, "{room} {most}");
 }
@@ -79,12 +70,12 @@ fn plays<R: Files + AllocGlobal + Abort>(
 // leaves is written by the next ones, and a failed one leaves a prefix.
 #[test]
 fn a_long_listing(rt: HostRuntime) -> Result<(), Fail> {
-    fs::write(&rt, "long.img", &long_image(rt.alloc())?)?;
-    let mut whole = writer_of(&rt, ALL);
-    let mut err = writer_of(&rt, ALL);
-    assert_eq!(rt; ran(&rt, LINE, &mut whole, &mut err), Some(0));
-    assert!(rt; whole.taken.len() > 200_000);
-    assert!(rt; whole.calls <= whole.taken.len() / 4096 + 2);
+    fs::write(&rt, "long.img", long_image().as_slice())?;
+    let mut whole = writer_of(&rt, ALL, ALL, true);
+    let mut err = writer_of(&rt, ALL, ALL, true);
+    assert_eq!(rt; ran(&rt, LINE, &mut whole, &mut err), 0);
+    assert_eq!(rt; whole.taken.len(), LENGTH);
+    assert!(rt; whole.calls <= LENGTH / 4096 + 2);
     for row in &ROWS {
         plays(&rt, &whole.taken, *row);
     }

@@ -1,6 +1,7 @@
 //! Makings whose opens, reads or shelf fail.
 use super::listings::listing_named;
 use super::makings::{Fuses, Outcome, making};
+use super::runs::{shown, told};
 use std::alloc::AllocError;
 use std::process::Abort;
 use std::rt::Files;
@@ -11,7 +12,7 @@ use uimg_tool::Fault;
 const ALL: u64 = u64::MAX;
 
 // The image; from which open on they are refused; which open is one of a source that lets how many
-// calls through; how many bytes the shelf takes, and whether it keeps them; the fault, or no text; and
+// calls through; how many bytes the shelf takes, and whether it keeps them; the end; and
 // what the file has.
 const ROWS: [(&str, u64, u64, u64, u64, bool, &str, &str); 24] = [
     (
@@ -44,7 +45,7 @@ const ROWS: [(&str, u64, u64, u64, u64, bool, &str, &str); 24] = [
         "cannot read file 2",
         "no file",
     ),
-    ("three-part-multi", 3, 9, 0, ALL, true, "", "all"),
+    ("three-part-multi", 3, 9, 0, ALL, true, "done", "all"),
     (
         "four-hash-fit",
         0,
@@ -98,7 +99,7 @@ const ROWS: [(&str, u64, u64, u64, u64, bool, &str, &str); 24] = [
         "no file",
     ),
     ("four-hash-fit", 9, 3, 0, ALL, true, "read failed", "a part"),
-    ("four-hash-fit", 9, 4, 0, ALL, true, "", "all"),
+    ("four-hash-fit", 9, 4, 0, ALL, true, "done", "all"),
     (
         "three-part-multi",
         9,
@@ -139,7 +140,7 @@ const ROWS: [(&str, u64, u64, u64, u64, bool, &str, &str); 24] = [
         "write failed",
         "a part",
     ),
-    ("three-part-multi", 9, 9, 0, 93, true, "", "all"),
+    ("three-part-multi", 9, 9, 0, 93, true, "done", "all"),
     (
         "four-hash-fit",
         9,
@@ -150,8 +151,8 @@ const ROWS: [(&str, u64, u64, u64, u64, bool, &str, &str); 24] = [
         "write failed",
         "a part",
     ),
-    ("four-hash-fit", 9, 9, 0, 760, true, "", "all"),
-    ("abc-kernel", 9, 9, 0, 67, true, "", "all"),
+    ("four-hash-fit", 9, 9, 0, 760, true, "done", "all"),
+    ("abc-kernel", 9, 9, 0, 67, true, "done", "all"),
     (
         "abc-kernel",
         9,
@@ -188,7 +189,7 @@ fn plays<R: Files + AllocGlobal + Abort>(
     rt: &R,
     row: (&str, u64, u64, u64, u64, bool, &str, &str),
 ) -> Result<(), AllocError> {
-    let (name, from, turn, calls, bytes, keeps, fault, file) = row;
+    let (name, from, turn, calls, bytes, keeps, end, file) = row;
     let fuses = Fuses {
         from,
         turn,
@@ -198,30 +199,19 @@ fn plays<R: Files + AllocGlobal + Abort>(
     };
     let memory = (rt.alloc(), rt.alloc());
     let made = making(rt, memory, name, "making_rows.img", fuses)?;
-    let listing = if fault.is_empty() {
+    let told = told(rt.alloc(), &made.end);
+    let listing = if end == "done" {
         listing_named(name)
     } else {
         ""
     };
-    assert_eq!(rt;
-        text_of(rt, &made).as_str(),
-        fault,
-        "{name} {from} {turn} {bytes}"
-    );
+    assert_eq!(rt; shown(&told), end, "{name} {from} {turn} {bytes}");
     assert_eq!(rt; made.file, file, "{name} {from} {turn} {bytes}");
     assert!(rt;
         made.listed.as_slice() == listing.as_bytes(),
         "{name} {from} {turn} {bytes}"
     );
     Ok(())
-}
-
-// The text of a fault, none where there is none.
-fn text_of<R: AllocGlobal>(rt: &R, made: &Outcome) -> String {
-    match made.fault {
-        Some(fault) => super::runs::told(rt.alloc(), Err::<Status, Fault>(fault)),
-        None => String::new(rt.alloc()),
-    }
 }
 
 #[test]
@@ -234,12 +224,14 @@ fn makings_that_fail(rt: HostRuntime) -> Result<(), Fail> {
 
 // Whether a making of three parts that fails leaves its fault, no listing and a part of the image.
 fn is_stopped(made: &Outcome, fault: Fault) -> bool {
-    made.fault == Some(fault) && made.listed.is_empty() && made.file != "other bytes"
+    made.end == Err(fault) && made.listed.is_empty() && made.file != "other bytes"
 }
 
 fn is_whole(made: &Outcome) -> bool {
     let listing = listing_named("three-part-multi");
-    made.fault.is_none() && made.file == "all" && made.listed.as_slice() == listing.as_bytes()
+    made.end == Ok(Status::Done)
+        && made.file == "all"
+        && made.listed.as_slice() == listing.as_bytes()
 }
 
 // How often the making fails as it has to, while more calls of a file, or more bytes of the shelf, are

@@ -7,7 +7,9 @@ use super::images::image_named;
 use std::alloc::{AllocError, Allocator, Global};
 use std::io::Write;
 use std::{fs, io, rt};
-use uimg_base::{FileShelf, Files, FuseFiles, FuseWriter, MemFiles, Out, Room, Shelf, SourceFault};
+use uimg_base::{
+    FileShelf, Files, FuseFiles, FuseWriter, MemFiles, Out, Room, Shelf, SourceFault, Status,
+};
 use uimg_fit_base::Placement;
 use uimg_legacy::{Options, has_parts, name_field};
 use uimg_tool::{Fault, MakeCommand, make};
@@ -97,10 +99,10 @@ pub(super) struct Fuses {
     pub(super) keeps: bool,
 }
 
-/// What a making left: its fault, what it listed, and which part of the image its file has.
+/// What a making left: its end, what it listed, and which part of the image its file has.
 #[derive(Drop)]
 pub(super) struct Outcome {
-    pub(super) fault: Option<Fault>,
+    pub(super) end: Result<Status, Fault>,
     pub(super) listed: Vec<u8>,
     pub(super) file: &'static str,
 }
@@ -196,7 +198,7 @@ fn built<R: AllocGlobal, A: Allocator + Copy, B: Allocator, F: Files + Drop, H: 
     files: F,
     fuses: Fuses,
     shelf: H,
-) -> (Option<Fault>, Vec<u8>)
+) -> (Result<Status, Fault>, Vec<u8>)
     requires { HasFitNames command.0.now }
 {
     let (alloc, heap) = memory;
@@ -208,8 +210,11 @@ fn built<R: AllocGlobal, A: Allocator + Copy, B: Allocator, F: Files + Drop, H: 
     };
     let mut room = Room::new(heap);
     let mut out = Out::new(Vec::new(rt.alloc()));
-    let answer = make(alloc, command, time, &mut files, shelf, &mut room, &mut out);
-    (answer.err(), out.into_inner())
+    let end = match make(alloc, command, time, &mut files, shelf, &mut room, &mut out) {
+        Ok(_) => Ok(Status::Done),
+        Err(fault) => Err(fault),
+    };
+    (end, out.into_inner())
 }
 
 /// Makes the image of a name as the file at a path, which is removed again: the memory of the making
@@ -222,7 +227,7 @@ pub(super) fn making<R: rt::Files + AllocGlobal, A: Allocator + Copy, B: Allocat
     fuses: Fuses,
 ) -> Result<Outcome, AllocError> {
     let command = command_named(rt.alloc(), name)?;
-    let (fault, listed) = built(
+    let (end, listed) = built(
         rt,
         memory,
         (&command, time_of(name)),
@@ -231,9 +236,5 @@ pub(super) fn making<R: rt::Files + AllocGlobal, A: Allocator + Copy, B: Allocat
         FileShelf::new(rt, path),
     );
     let file = part_left(rt, path, name);
-    Ok(Outcome {
-        fault,
-        listed,
-        file,
-    })
+    Ok(Outcome { end, listed, file })
 }

@@ -2,7 +2,7 @@
 use super::images::image_named;
 use super::listings::listing_named;
 use super::makings::{FILES, command_named, time_of};
-use super::runs::{action_named, told};
+use super::runs::{action_named, shown, told};
 use std::process::Abort;
 use std::test::Fail;
 use uimg_base::{Out, Room, Source};
@@ -23,18 +23,23 @@ const ROWS: [(&str, &str, &str, &str); 6] = [
     ("part-outside", "1", "L7 part outside", ""),
 ];
 
+fn plays<R: AllocGlobal + Abort>(rt: &R, row: (&str, &str, &str, &str)) {
+    let (name, action, end, text) = row;
+    let image = image_named(rt.alloc(), name);
+    let mut room = Room::new(rt.alloc());
+    let command = Command {
+        action: action_named(action),
+        form: Form::Guess,
+    };
+    let (answer, written) = run_in_memory(rt.alloc(), &command, &image, &mut room);
+    assert_eq!(rt; shown(&told(rt.alloc(), &answer)), end, "{name}: {action}");
+    assert_eq!(rt; shown(&written), text, "{name}: {action}");
+}
+
 #[test]
 fn images_in_memory(rt: HostRuntime) {
-    for (name, action, end, text) in &ROWS {
-        let image = image_named(rt.alloc(), name);
-        let mut room = Room::new(rt.alloc());
-        let command = Command {
-            action: action_named(action),
-            form: Form::Guess,
-        };
-        let (answer, written) = run_in_memory(rt.alloc(), &command, &image, &mut room);
-        assert_eq!(rt; told(rt.alloc(), answer).as_str(), *end, "{name}: {action}");
-        assert!(rt; written.as_slice() == text.as_bytes(), "{name}: {action}");
+    for row in &ROWS {
+        plays(&rt, *row);
     }
 }
 

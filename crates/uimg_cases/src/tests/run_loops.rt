@@ -1,6 +1,6 @@
 //! Commands on images at each place where a read or a write can fail, and on each beginning of an image.
 use super::images::image_named;
-use super::runs::{ALL, Left, ran, told};
+use super::runs::{ALL, Left, action_named, ran, shown, told};
 use linked_list_allocator::LocalHeap;
 use std::alloc::Global;
 use std::process::Abort;
@@ -79,8 +79,8 @@ fn cut_end(length: usize) -> &'static str {
 fn right_cuts(alloc: Global, action: &str, image: &[u8]) -> usize {
     for length in 0..image.len() {
         let left = ran(alloc, action, &image[..length], ALL, ALL);
-        let end = told(alloc, left.end);
-        if end.as_str() != cut_end(length) || left.asked > 64 || left.text.len() != 0 {
+        let end = told(alloc, &left.end);
+        if end.as_slice() != cut_end(length).as_bytes() || left.asked > 64 || left.text.len() != 0 {
             return length;
         }
     }
@@ -119,13 +119,13 @@ fn every_structure_size_is_truncated(rt: HostRuntime) {
     let mut image = image_named(rt.alloc(), "four-hash-fit");
     for size in 0..600u32 {
         let left = listed_with_size(rt.alloc(), &mut image, size);
-        let end = told(rt.alloc(), left.end);
-        assert!(rt; end.as_str().starts_with("B6 truncated at "), "{size}");
+        let end = told(rt.alloc(), &left.end);
+        assert!(rt; end.starts_with(b"B6 truncated at "), "{size}");
         assert!(rt; left.text.len() == 0 && left.asked <= 32364, "{size}");
     }
     for (size, known) in &KNOWN_SIZES {
         let left = listed_with_size(rt.alloc(), &mut image, *size);
-        assert_eq!(rt; told(rt.alloc(), left.end).as_str(), *known, "{size}");
+        assert_eq!(rt; shown(&told(rt.alloc(), &left.end)), *known, "{size}");
     }
 }
 
@@ -137,7 +137,7 @@ fn a_writer_takes_none_of_20000(rt: HostRuntime) {
     assert!(rt; none.end == Err(Fault::Put) && none.text.len() == 0);
     assert!(rt; none.asked <= 12352);
     let whole = ran(rt.alloc(), "0", &image, ALL, 20000);
-    assert_eq!(rt; told(rt.alloc(), whole.end).as_str(), "done");
+    assert_eq!(rt; shown(&told(rt.alloc(), &whole.end)), "done");
     assert!(rt; whole.text.as_slice() == [0; 20000].as_slice());
 }
 
@@ -155,11 +155,11 @@ fn the_fourth_growth_is_refused(rt: HostRuntime) -> Result<(), Fail> {
         let mut room = Room::new(&heap);
         let mut out = Out::new(Vec::new(rt.alloc()));
         let command = Command {
-            action: super::runs::action_named(action),
+            action: action_named(action),
             form: Form::Guess,
         };
         let end = run(&command, &mut MemSource::new(&image), &mut room, &mut out);
-        assert_eq!(rt; told(rt.alloc(), end).as_str(), "B11 out of memory at 284");
+        assert_eq!(rt; shown(&told(rt.alloc(), &end)), "B11 out of memory at 284");
         assert_eq!(rt; room.count(), 3);
         assert_eq!(rt; out.into_inner().len(), 0);
     }

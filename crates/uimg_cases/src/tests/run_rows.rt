@@ -1,6 +1,6 @@
 //! Commands on images: how they end, how many bytes they ask for at most, and how many they hold.
 use super::images::image_named;
-use super::runs::{ALL, ran, told};
+use super::runs::{ALL, ran, shown, told};
 use std::process::Abort;
 
 // The image, the action, the bytes asked for at most, the bytes held, and the end.
@@ -143,7 +143,7 @@ fn plays<R: AllocGlobal + Abort>(rt: &R, row: (&str, &str, u128, u128, &str)) {
     let image = image_named(rt.alloc(), name);
     let left = ran(rt.alloc(), action, &image, ALL, ALL);
     assert_eq!(rt;
-        told(rt.alloc(), left.end).as_str(),
+        shown(&told(rt.alloc(), &left.end)),
         end,
         "{name}: {action}"
     );

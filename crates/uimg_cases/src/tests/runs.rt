@@ -1,5 +1,6 @@
 //! What a command does to an image in memory, whose reads and writes may fail.
 use std::alloc::Global;
+use std::io::Write;
 use uimg_base::{FuseSource, FuseWriter, MemSource, Out, Room, Source, Status};
 use uimg_tool::{Action, Command, Fault, Form, run};
 
@@ -17,12 +18,13 @@ pub(super) struct Left {
     pub(super) failures: u64,
 }
 
-/// The action of a word: `list`, `verify`, or the position of what is extracted.
+/// The action of a word: `list`, `verify`, or the position of what is extracted, `0` or `1`.
 pub(super) fn action_named(word: &str) -> Action {
     match word {
         "list" => Action::List,
         "verify" => Action::Verify,
-        _ => Action::Extract(word.parse().unwrap_or(u32::MAX)),
+        "1" => Action::Extract(1),
+        _ => Action::Extract(0),
     }
 }
 
@@ -47,11 +49,17 @@ pub(super) fn ran(alloc: Global, action: &str, image: &[u8], calls: u64, bytes: 
 }
 
 /// The text of an end.
-pub(super) fn told(alloc: Global, end: Result<Status, Fault>) -> String {
-    let text = match end {
-        Ok(Status::Done) => format!(in alloc; "done"),
-        Ok(Status::NotRight) => format!(in alloc; "not right"),
-        Err(fault) => format!(in alloc; "{fault}"),
+pub(super) fn told(alloc: Global, end: &Result<Status, Fault>) -> Vec<u8> {
+    let mut text = Vec::new(alloc);
+    let _ = match end {
+        Ok(Status::Done) => write!(text, "done"),
+        Ok(Status::NotRight) => write!(text, "not right"),
+        Err(fault) => write!(text, "{fault}"),
     };
-    text.unwrap_or(String::new(alloc))
+    text
+}
+
+/// Bytes as a text, for an assertion.
+pub(super) fn shown(text: &[u8]) -> &str {
+    str::from_utf8(text).unwrap_or("no text")
 }

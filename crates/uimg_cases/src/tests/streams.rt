@@ -1,5 +1,6 @@
 //! The program on streams that fail.
 use super::images::image_named;
+use super::runs::shown;
 use std::io::{ErrorKind, Write};
 use std::process::Abort;
 use std::rt::Files;
@@ -38,14 +39,14 @@ impl Write for Meter {
     }
 }
 
-/// A writer that takes so many bytes.
-pub(super) fn writer_of<R: AllocGlobal>(rt: &R, room: usize) -> Meter {
+/// A writer that takes so many bytes in all, and so many a call, and flushes or fails to.
+pub(super) fn writer_of<R: AllocGlobal>(rt: &R, room: usize, most: usize, flushes: bool) -> Meter {
     Meter {
         taken: Vec::new(rt.alloc()),
         calls: 0,
         room,
-        most: usize::MAX,
-        flushes: true,
+        most,
+        flushes,
     }
 }
 
@@ -55,14 +56,14 @@ pub(super) fn ran<R: Files + AllocGlobal>(
     line: &str,
     out: &mut Meter,
     err: &mut Meter,
-) -> Option<u8> {
+) -> u8 {
     let mut words = Vec::new(rt.alloc());
     for word in line.split(' ') {
         if words.push(word).is_err() {
-            return None;
+            return u8::MAX;
         }
     }
-    Some(program(rt, &words, None, 0, out, err))
+    program(rt, &words, None, 0, out, err)
 }
 
 // The line, whose last word is the path of an image; the image; the bytes that standard output and
@@ -125,21 +126,15 @@ fn plays<R: Files + AllocGlobal + Abort>(
 ) -> Result<(), Fail> {
     let (line, image, room, told, status, printed, fault) = row;
     fs::write(rt, "s.img", &image_named(rt.alloc(), image))?;
-    let mut out = writer_of(rt, room);
-    let mut err = writer_of(rt, told);
+    let mut out = writer_of(rt, room, usize::MAX, true);
+    let mut err = writer_of(rt, told, usize::MAX, true);
     assert_eq!(rt;
         ran(rt, line, &mut out, &mut err),
-        Some(status),
+        status,
         "{line} {room} {told}"
     );
-    assert!(rt;
-        out.taken.as_slice() == printed.as_bytes(),
-        "{line} {room} {told}"
-    );
-    assert!(rt;
-        err.taken.as_slice() == fault.as_bytes(),
-        "{line} {room} {told}"
-    );
+    assert_eq!(rt; shown(&out.taken), printed, "{line} {room} {told}");
+    assert_eq!(rt; shown(&err.taken), fault, "{line} {room} {told}");
     Ok(())
 }
 
