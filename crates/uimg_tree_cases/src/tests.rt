@@ -9,6 +9,7 @@ mod made;
 mod name_rows;
 mod node_rows;
 mod refused_rows;
+mod sample_rows;
 mod size_rows;
 mod source_rows;
 mod sources;
