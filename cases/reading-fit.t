@@ -382,7 +382,7 @@ Bytes behind the image are accepted:
   kernel hash-3 sha1 ok
   kernel hash-4 sha256 ok
 
-Eight, nine and seventeen hash nodes, which are read in groups of eight:
+nine-crc-nodes, and as well eight and seventeen hash nodes, which are read in groups of eight:
 
   $ head -c 20000 /dev/zero > zeros
   $ hashes() { for number in $(seq $1); do echo 'hash { algo = "crc32"; };'; done; }
