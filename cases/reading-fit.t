@@ -381,35 +381,3 @@ Bytes behind the image are accepted:
   kernel hash-2 md5 ok
   kernel hash-3 sha1 ok
   kernel hash-4 sha256 ok
-
-Eight, nine and seventeen hash nodes, which are read in groups of eight:
-
-  $ head -c 20000 /dev/zero > zeros
-  $ hashes() { for number in $(seq $1); do echo 'hash { algo = "crc32"; };'; done; }
-  $ for count in 8 9 17; do
-  >     echo "/dts-v1/; / { images { a { data = /incbin/(\"zeros\"); $(hashes $count) }; }; };" > many.its
-  >     uimg mkimage -f many.its many.itb | sort | uniq -c | grep 'Hash value'
-  >     uimg verify many.itb | sort | uniq -c
-  > done
-        8   Hash value:   972f5302
-        8 a hash crc32 ok
-        9   Hash value:   972f5302
-        9 a hash crc32 ok
-       17   Hash value:   972f5302
-       17 a hash crc32 ok
-
-last-short-window: the last window of the payload has one byte, and the value is that of the bytes before it.
-
-  $ head -c 8192 /dev/zero > zeros
-  $ echo '/dts-v1/; / { images { a { data = /incbin/("zeros"); hash { algo = "crc32"; }; }; }; };' > window.its
-  $ uimg mkimage -f window.its -E window.itb | grep value
-    Hash value:   d8f49994
-  $ uimg verify window.itb
-  a hash crc32 ok
-  $ head -c 4 /dev/zero >> window.itb
-  $ cell window.itb 128 0 0 0x20 1
-  $ uimg dumpimage -l window.itb | grep 'Data Size'
-    Data Size:    8193 Bytes = 8.00 KiB = 0.01 MiB
-  $ uimg verify window.itb
-  a hash crc32 bad
-  [1]

@@ -16,7 +16,7 @@ Image sources that are refused
   >     return $1
   > }
 
-The empty text, and an open comment:
+refused-sources, one by one. The empty text, and an open comment:
 
   $ refused ''
   uimg: I2 bad syntax at line 1

@@ -37,8 +37,10 @@ fn adds(blob: &mut Sample<Global>, word: &str) -> bool {
     }
     let (name, value) = word.split_once('=').unwrap_or(("", ""));
     let (bytes, length) = bytes_of(value);
-    blob.prop(name.parse().unwrap_or(0), &bytes[..length])
-        .is_ok()
+    match bytes.get(..length) {
+        Some(value) => blob.prop(name.parse().unwrap_or(0), value).is_ok(),
+        None => false,
+    }
 }
 
 // Adds what the words stand for, and answers whether it could.
