@@ -3,6 +3,7 @@
 mod bytes;
 mod device_rows;
 mod growth;
+mod header_rows;
 mod index_rows;
 mod large_rows;
 mod made;

@@ -27,7 +27,7 @@ fn made(alloc: Global, text: &str, time: u32, placement: &str) -> (Result<(), Fa
 
 // Where the payload is, the time, the placement, how many bytes are written, the image of whose bytes
 // they are, and a place in it at which another number stands.
-const ROWS: [(&str, u32, &str, usize, &str, usize, u32); 11] = [
+const ROWS: [(&str, u32, &str, usize, &str, usize, u32); 12] = [
     ("file", 0, "inside", 760, "four-hash-fit", 0, 0),
     ("memory", 0, "inside", 760, "four-hash-fit", 0, 0),
     ("file", 1, "inside", 760, "four-hash-fit", 112, 1),
@@ -71,6 +71,7 @@ const ROWS: [(&str, u32, &str, usize, &str, usize, u32); 11] = [
     ("file", 0, "after", 800, "external-fit", 0, 0),
     ("memory", 0, "after", 800, "external-fit", 0, 0),
     ("file", 0, "1024", 1028, "position-fit", 0, 0),
+    ("memory", 0, "1024", 1028, "position-fit", 0, 0),
 ];
 
 #[test]

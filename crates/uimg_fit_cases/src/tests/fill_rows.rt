@@ -3,7 +3,7 @@ use super::making::{FOUR_HASH, built, filled};
 use std::alloc::{AllocError, Global};
 use std::test::Fail;
 use uimg_base::{Files, FuseFiles, MemFiles};
-use uimg_fit::Fault;
+use uimg_fit::{Fault, FitFault};
 
 // The files that are there when a source is compiled.
 const KEPT: [(&[u8], &[u8]); 5] = [
@@ -113,7 +113,8 @@ fn image_rows(rt: HostRuntime) -> Result<(), Fail> {
 const CLOSED_ROWS: [(&str, &str); 5] = [
     (FOUR_HASH, "F9 no file"),
     (
-        "/dts-v1/; / { images { a { data = [616263]; hash { algo = \"crc32\"; }; }; }; };",
+        "/dts-v1/; / { images { a { data = [616263]; hash-1 { algo = \"crc32\"; }; hash-2 { algo = \"md5\"; };
+hash-3 { algo = \"sha1\"; }; hash-4 { algo = \"sha256\"; }; }; }; };",
         "filled",
     ),
     (
@@ -191,7 +192,11 @@ fn one_pass_for_all_hashes(rt: HostRuntime) -> Result<(), Fail> {
     let mut whole = MemFiles::new(&named);
     for calls in 0..4u64 {
         let (answer, _) = fused(alloc, &named, MemFiles::new(&named), calls, &mut whole);
-        assert!(rt; answer.is_err(), "{calls} calls");
+        assert_eq!(rt;
+            answer,
+            Err(Fault::Fit(FitFault::ReadFailed)),
+            "{calls} calls"
+        );
     }
     let (answer, fit) = fused(alloc, &named, MemFiles::new(&named), 4, &mut whole);
     assert_eq!(rt; answer, Ok(()));
