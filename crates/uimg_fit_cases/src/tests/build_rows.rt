@@ -2,6 +2,7 @@
 use super::images::image;
 use super::making::{FOUR_HASH, built, filled, told};
 use std::alloc::{AllocError, Global};
+use std::process::Abort;
 use std::test::Fail;
 use uimg_base::MemFiles;
 use uimg_fit::Fault;
@@ -142,19 +143,25 @@ fn has_both(fit: &[u8], padded: u32, payload: &[u8]) -> bool {
         && cell.starts_with(&padded.to_be_bytes())
 }
 
+// Two payloads of so many bytes, the first in a file, are built with their padding.
+fn plays_size<R: AllocGlobal + Abort>(rt: &R, size: usize, padded: u32) -> Result<(), Fail> {
+    let alloc = rt.alloc();
+    let mut payload = Vec::from_elem(alloc, 0x5au8, size)?;
+    let named: [(&[u8], &[u8]); 1] = [(b"f", &payload)];
+    let Ok(tree) = compile(alloc, TWO.as_bytes(), &mut MemFiles::new(&named)) else {
+        panic!(rt; "the source is refused");
+    };
+    let (answer, fit) = built(alloc, &tree, "after", &mut MemFiles::new(&named));
+    assert_eq!(rt; answer, Ok(()), "{size}");
+    payload.resize(padded as usize, 0)?;
+    assert!(rt; has_both(&fit, padded, &payload), "{size}");
+    Ok(())
+}
+
 #[test]
 fn size_rows(rt: HostRuntime) -> Result<(), Fail> {
-    let alloc = rt.alloc();
     for (size, padded) in &SIZE_ROWS {
-        let mut payload = Vec::from_elem(alloc, 0x5au8, *size)?;
-        let named: [(&[u8], &[u8]); 1] = [(b"f", &payload)];
-        let Ok(tree) = compile(alloc, TWO.as_bytes(), &mut MemFiles::new(&named)) else {
-            panic!(rt; "the source is refused");
-        };
-        let (answer, fit) = built(alloc, &tree, "after", &mut MemFiles::new(&named));
-        assert_eq!(rt; answer, Ok(()), "{size}");
-        payload.resize(*padded as usize, 0)?;
-        assert!(rt; has_both(&fit, *padded, &payload), "{size}");
+        plays_size(&rt, *size, *padded)?;
     }
     Ok(())
 }

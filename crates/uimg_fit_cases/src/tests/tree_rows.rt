@@ -99,19 +99,29 @@ const SIZE_ROWS: [(u64, u64, &str, &str); 14] = [
     (4294967093, 0, "after", "F7 too large, 0"),
 ];
 
+// What is answered, and how many bytes are written, where a tree is built.
+fn answer(alloc: Global, tree: &Tree<Global>, placement: &str) -> Result<String, AllocError> {
+    let (answer, fit) = built(alloc, tree, placement, &mut MemFiles::new(&ABC));
+    told(alloc, answer, fit.len())
+}
+
+// The same of a tree of two files of these sizes.
+fn answer_of_sizes(
+    alloc: Global,
+    first: u64,
+    second: u64,
+    placement: &str,
+) -> Result<String, AllocError> {
+    let one = image(alloc, b"a", first)?;
+    let tree = tree(alloc, b"", one, image(alloc, b"b", second)?)?;
+    answer(alloc, &tree, placement)
+}
+
 #[test]
 fn size_rows(rt: HostRuntime) -> Result<(), Fail> {
-    let alloc = rt.alloc();
     for (first, second, placement, wanted) in &SIZE_ROWS {
-        let tree = tree(
-            alloc,
-            b"",
-            image(alloc, b"a", *first)?,
-            image(alloc, b"b", *second)?,
-        )?;
-        let (answer, fit) = built(alloc, &tree, placement, &mut MemFiles::new(&ABC));
-        let answer = told(alloc, answer, fit.len())?;
-        assert_eq!(rt; answer.as_str(), *wanted, "{first}, {second}, {placement}");
+        let found = answer_of_sizes(rt.alloc(), *first, *second, placement)?;
+        assert_eq!(rt; found.as_str(), *wanted, "{first}, {second}, {placement}");
     }
     Ok(())
 }
@@ -127,16 +137,24 @@ const NAME_ROWS: [(usize, &str, &str, &str); 7] = [
     (255, "p", "1024", "done, 1032"),
 ];
 
+// The same of a tree whose first image has a name of so many bytes, with a property of a name.
+fn answer_of_names(
+    alloc: Global,
+    length: usize,
+    name: &str,
+    placement: &str,
+) -> Result<String, AllocError> {
+    let long = Vec::from_elem(alloc, b'n', length)?;
+    let one = image(alloc, &long, 3)?;
+    let tree = tree(alloc, name.as_bytes(), one, image(alloc, b"b", 3)?)?;
+    answer(alloc, &tree, placement)
+}
+
 #[test]
 fn name_rows(rt: HostRuntime) -> Result<(), Fail> {
-    let alloc = rt.alloc();
     for (length, name, placement, wanted) in &NAME_ROWS {
-        let long = Vec::from_elem(alloc, b'n', *length)?;
-        let one = image(alloc, &long, 3)?;
-        let tree = tree(alloc, name.as_bytes(), one, image(alloc, b"b", 3)?)?;
-        let (answer, fit) = built(alloc, &tree, placement, &mut MemFiles::new(&ABC));
-        let answer = told(alloc, answer, fit.len())?;
-        assert_eq!(rt; answer.as_str(), *wanted, "{length}, {name}, {placement}");
+        let found = answer_of_names(rt.alloc(), *length, name, placement)?;
+        assert_eq!(rt; found.as_str(), *wanted, "{length}, {name}, {placement}");
     }
     Ok(())
 }

@@ -59,14 +59,26 @@ const NAME_ROWS: [(&str, &str, &str, &str, &str, &str); 11] = [
     ("", "p", "first", "p", "second;", "B7 bad node name"),
 ];
 
+// What is measured of the tree of these names.
+fn measured_names(
+    alloc: Global,
+    root: &str,
+    own: &str,
+    first: &str,
+    property: &str,
+    second: &str,
+) -> Result<String, AllocError> {
+    let one = leaf(alloc, first, property)?;
+    let other = leaf(alloc, second, "q")?;
+    let tree = parent(alloc, root, own, one, other)?;
+    measured(alloc, &tree)
+}
+
 #[test]
 fn name_rows(rt: HostRuntime) -> Result<(), Fail> {
     let alloc = rt.alloc();
     for (root, own, first, property, second, wanted) in &NAME_ROWS {
-        let one = leaf(alloc, first, property)?;
-        let other = leaf(alloc, second, "q")?;
-        let tree = parent(alloc, root, own, one, other)?;
-        let answer = measured(alloc, &tree)?;
+        let answer = measured_names(alloc, root, own, first, property, second)?;
         assert_eq!(rt;
             answer.as_str(),
             *wanted,
@@ -89,13 +101,18 @@ const SIZE_ROWS: [(&str, u64, &str); 8] = [
     ("d;", 0xffff_ffff_ffff_ffff, "B9 bad property name"),
 ];
 
+// What is measured of a root with a property of a name, in a file of so many bytes.
+fn measured_file(alloc: Global, name: &str, size: u64) -> Result<String, AllocError> {
+    let name = plain(alloc, name)?;
+    let tree = root_in_file(alloc, &name, size)?;
+    measured(alloc, &tree)
+}
+
 #[test]
 fn size_rows(rt: HostRuntime) -> Result<(), Fail> {
     let alloc = rt.alloc();
     for (name, size, wanted) in &SIZE_ROWS {
-        let name = plain(alloc, name)?;
-        let tree = root_in_file(alloc, &name, *size)?;
-        let answer = measured(alloc, &tree)?;
+        let answer = measured_file(alloc, name, *size)?;
         assert_eq!(rt; answer.as_str(), *wanted, "{size} bytes");
     }
     Ok(())
@@ -105,19 +122,22 @@ fn size_rows(rt: HostRuntime) -> Result<(), Fail> {
 // with theirs, properties of 36 and 40.
 #[test]
 fn source_sizes(rt: HostRuntime) -> Result<(), Fail> {
-    let alloc = rt.alloc();
     for (text, wanted) in [
         ("mixed-values", "112"),
         ("family", "192"),
         ("four-hash-fit", "608"),
     ] {
-        let Some(tree) = tree_of(alloc, text) else {
-            panic!(rt; "{text} is refused");
-        };
-        let answer = measured(alloc, &tree)?;
+        let answer = measured_source(rt.alloc(), text)?;
         assert_eq!(rt; answer.as_str(), wanted, "{text}");
     }
     Ok(())
+}
+
+fn measured_source(alloc: Global, text: &str) -> Result<String, AllocError> {
+    match tree_of(alloc, text) {
+        Some(tree) => measured(alloc, &tree),
+        None => format!(in alloc; "refused"),
+    }
 }
 
 // A root with a property of each letter.

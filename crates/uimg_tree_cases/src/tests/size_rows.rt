@@ -32,13 +32,24 @@ const PADDED_ROWS: [(&str, &str, &str); 5] = [
     ),
 ];
 
+// The blob of a root with a property.
+fn blob_of_property(
+    alloc: Global,
+    name: &[u8],
+    value: &[u8],
+) -> Result<Option<Vec<u8>>, AllocError> {
+    let tree = root_of(alloc, prop(alloc, name, value)?)?;
+    Ok(blob_of(alloc, &tree, &[]))
+}
+
 #[test]
 fn padded_rows(rt: HostRuntime) -> Result<(), Fail> {
     let alloc = rt.alloc();
     for (name, value, end) in &PADDED_ROWS {
         let end = unhex(alloc, end)?;
-        let tree = root_of(alloc, prop(alloc, name.as_bytes(), value.as_bytes())?)?;
-        let blob = blob_of(alloc, &tree, &[]).unwrap_or(Vec::new(alloc));
+        let blob = blob_of_property(alloc, name.as_bytes(), value.as_bytes())?.unwrap_or(Vec::new(
+            alloc,
+        ));
         assert!(rt; blob.ends_with(&end), "{name} = {value}");
         assert_eq!(rt; blob.len() % 4, 0, "{name} = {value}");
     }
@@ -49,8 +60,7 @@ fn padded_rows(rt: HostRuntime) -> Result<(), Fail> {
 fn blob_in_memory(alloc: Global, name: usize, value: usize) -> Result<Option<Vec<u8>>, AllocError> {
     let name = Vec::from_elem(alloc, b'n', name)?;
     let value = Vec::from_elem(alloc, 0x5au8, value)?;
-    let tree = root_of(alloc, prop(alloc, &name, &value)?)?;
-    Ok(blob_of(alloc, &tree, &[]))
+    blob_of_property(alloc, &name, &value)
 }
 
 // The same from a file.
@@ -90,13 +100,17 @@ fn length_rows(rt: HostRuntime) -> Result<(), Fail> {
     Ok(())
 }
 
+// How many nodes the blob of so many levels has.
+fn nodes_of_levels(alloc: Global, levels: u64) -> Result<u64, AllocError> {
+    let tree = chain(alloc, levels)?;
+    let blob = blob_of(alloc, &tree, &[]).unwrap_or(Vec::new(alloc));
+    Ok(nodes_in(alloc, &blob) as u64)
+}
+
 #[test]
 fn deep_trees(rt: HostRuntime) -> Result<(), Fail> {
-    let alloc = rt.alloc();
     for levels in [63, 64, 1000u64] {
-        let tree = chain(alloc, levels)?;
-        let blob = blob_of(alloc, &tree, &[]).unwrap_or(Vec::new(alloc));
-        assert_eq!(rt; nodes_in(alloc, &blob) as u64, levels + 1);
+        assert_eq!(rt; nodes_of_levels(rt.alloc(), levels)?, levels + 1);
     }
     Ok(())
 }

@@ -140,14 +140,24 @@ const PART_ROWS: [(&str, &str, usize, &str); 20] = [
     ("file-values", "", 6, "data=\"\""),
 ];
 
+// The same of a source.
+fn part_of_source(
+    alloc: Global,
+    text: &str,
+    path: &str,
+    number: usize,
+) -> Result<String, AllocError> {
+    match tree_of(alloc, text) {
+        Some(tree) => part_at(alloc, &tree, path, number),
+        None => format!(in alloc; "refused"),
+    }
+}
+
 #[test]
 fn part_rows(rt: HostRuntime) -> Result<(), Fail> {
     let alloc = rt.alloc();
     for (text, path, number, wanted) in &PART_ROWS {
-        let Some(tree) = tree_of(alloc, text) else {
-            panic!(rt; "{text} is refused");
-        };
-        let found = part_at(alloc, &tree, path, *number)?;
+        let found = part_of_source(alloc, text, path, *number)?;
         assert_eq!(rt; found.as_str(), *wanted, "{text}: {number} at {path}");
     }
     Ok(())

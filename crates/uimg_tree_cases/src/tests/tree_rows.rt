@@ -45,21 +45,28 @@ fn is_blob(alloc: Global, blob: Option<Vec<u8>>, length: usize, nodes: usize, en
     }
 }
 
+// The blob of a source's tree, if it has one.
+fn blob_of_source(alloc: Global, text: &str) -> Option<Vec<u8>> {
+    let tree = tree_of(alloc, text)?;
+    blob_of(alloc, &tree, &NAMED)
+}
+
+// The blob of a copy of it.
+fn blob_of_copy(alloc: Global, text: &str) -> Option<Vec<u8>> {
+    let tree = tree_of(alloc, text)?;
+    let root = copy_node(alloc, &tree.root).ok()?;
+    blob_of(alloc, &Tree { root }, &NAMED)
+}
+
 // A copy of a tree is written as the tree is.
 #[test]
 fn blob_rows(rt: HostRuntime) -> Result<(), Fail> {
     let alloc = rt.alloc();
     for (text, length, nodes, end) in &ROWS {
         let end = made(alloc, end)?;
-        let Some(tree) = tree_of(alloc, text) else {
-            panic!(rt; "{text} is refused");
-        };
-        let blob = blob_of(alloc, &tree, &NAMED);
+        let blob = blob_of_source(alloc, text);
         assert!(rt; is_blob(alloc, blob, *length, *nodes, &end), "{text}");
-        let copy = Tree {
-            root: copy_node(alloc, &tree.root)?,
-        };
-        let blob = blob_of(alloc, &copy, &NAMED);
+        let blob = blob_of_copy(alloc, text);
         assert!(rt;
             is_blob(alloc, blob, *length, *nodes, &end),
             "a copy of {text}"
