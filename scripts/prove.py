@@ -81,9 +81,10 @@ class Proof:
         kept = f"crates/{name}/out/incremental"
         if os.path.isdir(kept):
             link(kept, f"{self.lane}/{kept}")
-        # A program's last step, the compilation, is `rt run`'s; here it is checked.
+        # A program's last step, the compilation, is `rt run`'s; here it is checked, by one job: it has few functions,
+        # and each job is a copy of all that it stands on.
         is_program = os.path.isfile(f"crates/{name}/src/main.rt")
-        words = [RT, "check" if is_program else "lib", "--jobs", str(jobs)]
+        words = [RT, "check" if is_program else "lib", "--jobs", "1" if is_program else str(jobs)]
         self.process = subprocess.Popen(
             words,
             cwd=f"{self.lane}/crates/{name}",

@@ -141,7 +141,8 @@ fn a_writer_takes_none_of_20000(rt: HostRuntime) {
     assert!(rt; whole.text.as_slice() == [0; 20000].as_slice());
 }
 
-// A heap with two holes, each with place for three entries, so that the fourth growth is refused.
+// fourth-growth-refused: a heap with two holes, each with place for three entries, so that the fourth
+// growth is refused.
 #[test]
 fn the_fourth_growth_is_refused(rt: HostRuntime) -> Result<(), Fail> {
     let image = image_named(rt.alloc(), "four-hash-fit");
