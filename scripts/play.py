@@ -206,7 +206,7 @@ def output_behind(shell, mark, before):
 
 
 def end(shell, at_once):
-    """Ends a shell and what it left running, which is a session of its own."""
+    """Ends a shell and what it left running, which is a group of processes of its own."""
     if not at_once:
         shell.wait()
     try:
