@@ -1,3 +1,4 @@
 pub mod ReadLaws
 pub mod FileLaws
 pub mod SlotLaws
+pub mod AlgoSetLaws

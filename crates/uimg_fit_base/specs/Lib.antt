@@ -4,3 +4,4 @@ pub mod Places
 pub mod Report
 pub mod Extraction
 pub mod Lying
+pub mod AlgoSets

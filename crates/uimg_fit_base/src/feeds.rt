@@ -54,8 +54,8 @@ pub fn feed_through<S: Source>(
     Ok(())
 }
 
-/// The digest at a place among eight; zeros at a place that is none.
-pub fn digest_at(digests: &[([u8; 64], usize); 8], i: usize) -> [u8; 64]
+// The digest at a place among eight; zeros at a place that is none.
+pub(crate) fn digest_at(digests: &[([u8; 64], usize); 8], i: usize) -> [u8; 64]
     ensures { (algos : List Algo) (message : List ℕ) → digests.now ≡ padded_digests algos message →
         (algo : Algo) → slice_get algos i ≡ Some algo → length algos ≤ 8 →
         result ≡ (padded_digest (digest_by algo message)).0 }

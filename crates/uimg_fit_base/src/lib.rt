@@ -2,14 +2,16 @@
 //! the place of a payload, and payloads that are summed. `specs/` has what FIT images mean.
 #![tactic(auto)]
 
+mod algo_sets;
 mod fault;
 mod feeds;
 mod place;
 mod placement;
 mod words;
 
+pub use algo_sets::{AlgoSet, Digests};
 pub use fault::{Fault, FitFault};
-pub use feeds::{digest_at, feed_through};
+pub use feeds::feed_through;
 pub use place::Place;
 pub use placement::Placement;
-pub use words::{Word, digests_used, is_right, word_text};
+pub use words::{Word, is_right, word_text};

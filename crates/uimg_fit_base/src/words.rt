@@ -1,5 +1,5 @@
-ghost use Rattle.std.specs.Prelude.{◌≡◌, cond};
-ghost use Rattle.uimg_fit_base.specs.Report.{word_text, is_right, is_compared};
+ghost use Rattle.std.specs.Prelude.{◌≡◌};
+ghost use Rattle.uimg_fit_base.specs.Report.{word_text, is_right};
 
 /// What is said of a hash node.
 #[derive(Clone, Copy, Debug, PartialEq, Eq)]
@@ -33,16 +33,5 @@ pub fn is_right(word: Word) -> bool
     match word {
         Word::Right => true,
         _ => false,
-    }
-}
-
-/// How many digests a word took to tell: one where a value was compared.
-pub fn digests_used(word: Word) -> usize
-    ensures { result ≡ cond (is_compared word) 1 0 }
-{
-    match word {
-        Word::Right => 1,
-        Word::Wrong => 1,
-        _ => 0,
     }
 }

@@ -11,7 +11,7 @@ use Rattle.uimg_blob.specs.Roles.{is_hash}
 use Rattle.uimg_blob.specs.LookUps.{NodeOf}
 use Rattle.uimg_tree.specs.declared.tree.Node.{Node}
 use Rattle.uimg_tree.specs.Content.{Content}
-use Rattle.uimg_fit_building.specs.declared.filling.algo_sets.AlgoSet.{AlgoSet}
+use Rattle.uimg_fit_base.specs.declared.algo_sets.AlgoSet.{AlgoSet}
 use Rattle.uimg_fit_building.specs.Behind.{entry}
 use Rattle.uimg_fit_building.specs.PayloadSums.{IsCovered}
 

@@ -12,7 +12,7 @@ use Rattle.uimg_blob.specs.LookUps.{NodeOf, listed, first, hashes}
 use Rattle.uimg_tree.specs.declared.tree.Node.{Node}
 use Rattle.uimg_tree.specs.Content.{Content, Unread, bytes, file, bytes_in}
 use Rattle.uimg_tree.specs.Trees.{siblings}
-use Rattle.uimg_fit_building.specs.declared.filling.algo_sets.AlgoSet.{AlgoSet}
+use Rattle.uimg_fit_base.specs.declared.algo_sets.AlgoSet.{AlgoSet}
 use Rattle.uimg_fit_base.specs.declared.fault.FitFault.{FitFault}
 use Rattle.uimg_fit_base.specs.declared.fault.FitFault.TheVariants.{NoImages, NoData, DataOutside, NoSuchImage, UnknownAlgo, PositionTooLow, TooLarge, OutOfMemory, NoFile, ReadFailed}
 use Rattle.uimg_fit_building.specs.Filling.{algo_by, algo_in, each, without_external}
@@ -20,7 +20,8 @@ use Rattle.uimg_fit_building.specs.Refusing.{image_fault}
 use Rattle.uimg_fit_building.specs.FillAnswers.{node_in_full}
 use Rattle.uimg_fit_building.specs.Behind.{entry}
 use Rattle.uimg_fit_building.specs.ImageFillings.{hashed_in, filled_over, fault_in_memory, are_known, IsFileFault, StopsAtPayload, FillsHashes, StopsAtImage, FillsImage}
-use Rattle.uimg_fit_building.specs.PayloadSums.{has, is_empty, no_algos, no_files, in_memory, all_marked, IsCovered}
+use Rattle.uimg_fit_base.specs.AlgoSets.{has, no_algos}
+use Rattle.uimg_fit_building.specs.PayloadSums.{no_files, in_memory, all_marked, IsCovered}
 use Rattle.uimg_fit_building.proofs.AlgoSetLaws.{marks-all, marks-none}
 use Rattle.uimg_fit_building.proofs.LookUpLaws.{node_with, first-with, hashes-with}
 
@@ -76,24 +77,6 @@ head-known (Some a) b covered known = sym (has-none a) ∙ covered
 none-marked : (hs : List (NodeOf Content)) → AllByRecursion (IsCovered no_algos) hs → list_all (λ h. is_some (algo_by in_memory h.own)) hs ≡ true → hs ≡ []
 none-marked [] covered known = refl
 none-marked (h ∷ hs) covered known = absurd (let clash = head-known (algo_by in_memory h.own) (list_all (λ g. is_some (algo_by in_memory g.own)) hs) covered.0 known in cc)
-
--- no algorithm is in use
-empty-step : (a b c d e f : Bool) (s : AlgoSet) → s ≡ record { crc32 = a; md5 = b; sha1 = c; sha256 = d; sha384 = e; sha512 = f } → is_empty (record { crc32 = a; md5 = b; sha1 = c; sha256 = d; sha384 = e; sha512 = f }) ≡ true → s ≡ no_algos
-unfolding is_empty
-empty-step true b c d e f s is h = absurd (cc)
-empty-step false true c d e f s is h = absurd (cc)
-empty-step false false true d e f s is h = absurd (cc)
-empty-step false false false true e f s is h = absurd (cc)
-empty-step false false false false true f s is h = absurd (cc)
-empty-step false false false false false true s is h = absurd (cc)
-empty-step false false false false false false s is h = is
-
-pub empty-is : (s : AlgoSet) → is_empty s ≡ true → s ≡ no_algos
-empty-is s h = empty-step s.crc32 s.md5 s.sha1 s.sha256 s.sha384 s.sha512 s refl h
-
-pub some-are : (s : AlgoSet) → is_empty s ≡ false → s ≢ no_algos
-unfolding is_empty
-some-are s h is = let clash : true ≡ false = sym (ap is_empty is) ∙ h in absurd (cc)
 
 -- the exits of the hash nodes of an image
 module _ {A : Type 0} (ns : List (Node A)) (t : Unread) (is : siblings ns ≡ t) where

@@ -13,7 +13,6 @@ ghost use Rattle.uimg_fit_building.specs.FillAnswers.{opens_no_file, fails_to_re
 ghost use Rattle.uimg_fit_building.specs.FillOrder.{FillsInOrder};
 ghost use Rattle.uimg_fit_building.specs.ImageFillings.{IsKeptImage, FillsParent, FillsBelow, images_among};
 
-mod algo_sets;
 mod filled_hashes;
 mod filled_images;
 mod payload_sums;

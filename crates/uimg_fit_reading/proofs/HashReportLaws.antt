@@ -1,165 +1,126 @@
--- Reporting on hash nodes, one group more at a time.
-use Rattle.std.proofs.Common.{◌≡◌, ◌<◌, ◌≤◌, ◌+◌, ◌*◌, ◌&&◌, ℕ, List, [], ◌∷◌, ◌++◌, length, Option, None, Bool, true, nat_lt, refl, ap, sym, ◌∙◌, subst, append_assoc, append-nil, length-append, arith}
-use Rattle.std.specs.Prelude.{Result, Ok, Err, is_err}
+-- Reporting on hash nodes, one more at a time.
+use Rattle.std.proofs.Common.{◌≡◌, ◌≤◌, ◌+◌, ◌*◌, ◌&&◌, ℕ, List, [], ◌∷◌, ◌++◌, length, Option, None, Bool, true, false, refl, ap, sym, ◌∙◌, subst, arith}
+use Rattle.std.specs.Prelude.{Result, Ok, Err, is_err, IfOk, if◌then◌else◌}
 use Rattle.std.specs.List.{flat_map, sum_by}
-use Rattle.std.proofs.lemmas.Bool.{ltb-true, ltb-false}
-use Rattle.std.proofs.lemmas.Grind.{flat_map-append}
-use Rattle.std.proofs.lemmas.List.Sums.{sum_by-append, sum_by-cons}
-use Rattle.std.proofs.lemmas.List.Folds.{list_all-append}
-use Rattle.uimg_sums.specs.declared.algo.Algo.{Algo}
-use Rattle.uimg_base.specs.Sink.{Sink, AppendsAll, AppendsPrefix}
-use Rattle.uimg_base.proofs.SinkLaws.{prefix_none, prefix_first, prefix_then, prefix_all, all_then, Appends-none}
+use Rattle.std.proofs.lemmas.List.Sums.{sum_by-cons}
+use Rattle.uimg_base.specs.Sink.{Sink, AppendsAll}
+use Rattle.uimg_base.specs.Writing.{Written}
+use Rattle.uimg_base.specs.declared.ranges.MoveFault.{MoveFault}
+use Rattle.uimg_base.specs.declared.source.SourceFault.{SourceFault}
 use Rattle.uimg_blob.specs.Grammar.{Siblings}
 use Rattle.uimg_blob.specs.LookUps.{NodeOf}
 use Rattle.uimg_blob.specs.Spots.{Spot}
-use Rattle.uimg_blob.proofs.PhaseLaws.{true_false, by_bool}
-use Rattle.uimg_fit_base.specs.declared.fault.Fault.{Fault}
-use Rattle.uimg_fit_reading.specs.declared.report.walks.Walk.{Walk}
-use Rattle.uimg_fit_reading.specs.Nodes.{HashesAt}
-use Rattle.uimg_fit_reading.specs.Plans.{plan_of, sums_of, algos_of}
+use Rattle.uimg_fit_base.specs.declared.algo_sets.AlgoSet.{AlgoSet}
+use Rattle.uimg_fit_base.specs.declared.words.Word.{Word}
+use Rattle.uimg_fit_base.specs.AlgoSets.{no_algos}
 use Rattle.uimg_fit_base.specs.Report.{word_of, is_right, hash_line, are_right}
-use Rattle.uimg_fit_reading.specs.Walks.{PutsGroup, line_cost}
-use Rattle.uimg_fit_reading.specs.HashReports.{hash_cost, hashes_work, GroupDone, GroupCut, ReportsGroup, ReportsHashes}
-use Rattle.uimg_fit_reading.specs.Work.{passes}
+use Rattle.uimg_fit_reading.specs.HashReports.{line_cost, hash_cost, AllCovered, FindsAlgos, PutsHashes}
+use Rattle.uimg_fit_reading.specs.Nodes.{HashesAt, FirstHash}
+use Rattle.uimg_fit_reading.specs.Plans.{plan_of, with_plan, with_all}
+use Rattle.uimg_fit_reading.proofs.PlanLaws.{if_err}
+use Rattle.uimg_fit_reading.proofs.PutLaws.{◌▶◌, cut, nothing}
 
--- a pass more
-pass_more : (a b size : ℕ) → a ≡ b + 1 → a * size ≡ b * size + size
-pass_more a b size is = let more : (b + 1) * size ≡ b * size + size = omega arith in ap (λ (k : ℕ). k * size) is ∙ more
+-- The algorithms of the hash nodes that are left, with those in a set, are the algorithms of all.
+pub record AlgosLeft (t : Siblings) (hs : List (NodeOf Spot)) (asked new : ℕ) (set : AlgoSet) (next : Option ℕ) : Type 0 where
+  pub left : List (NodeOf Spot)
+  pub at : HashesAt t next left
+  pub gives : with_all set left ≡ with_all no_algos hs
+  pub paid : new + 32 * length left ≤ asked + 32 * length hs
 
--- what is asked for about each, beside the payload
-costs : (n : ℕ) (hs : List (NodeOf Spot)) → sum_by (hash_cost n) hs ≡ sum_by (line_cost n) hs + 32 * length hs
+pub algos_first : (t : Siblings) (hs : List (NodeOf Spot)) (asked : ℕ) (set : AlgoSet) (next : Option ℕ) → set ≡ no_algos → HashesAt t next hs → AlgosLeft t hs asked asked set next
+algos_first t hs asked set next none at = record { left = hs; at = at; gives = ap (λ (s : AlgoSet). with_all s hs) none; paid = omega arith }
+
+one_more : (set : AlgoSet) (h : NodeOf Spot) (hs : List (NodeOf Spot)) → with_all set (h ∷ hs) ≡ with_all (with_plan set (plan_of h)) hs
+unfolding with_all
+one_more set h hs = refl
+
+none_more : (set : AlgoSet) → with_all set [] ≡ set
+unfolding with_all
+none_more set = refl
+
+pub algos_more : (t : Siblings) (hs : List (NodeOf Spot)) (asked new number : ℕ) (set : AlgoSet) (next : Option ℕ) (k : AlgosLeft t hs asked new set next) (f : FirstHash t number k.left)
+    (more : AlgoSet) (following : Option ℕ) (later : ℕ) → more ≡ with_plan set (plan_of f.hash) → later ≤ new + 32 → HashesAt t following f.more → AlgosLeft t hs asked later more following
+algos_more t hs asked new number set next k f more following later is paid at = record {
+  left = f.more;
+  at = at;
+  gives = ap (λ (s : AlgoSet). with_all s f.more) is ∙ sym (one_more set f.hash f.more) ∙ ap (with_all set) (sym f.are) ∙ k.gives;
+  paid = omega (arith, paid, k.paid, ap (λ (l : List (NodeOf Spot)). length l) f.are);
+}
+
+pub algos_cut : (t : Siblings) (hs : List (NodeOf Spot)) (asked new number : ℕ) (set : AlgoSet) (next : Option ℕ) (k : AlgosLeft t hs asked new set next) → FirstHash t number k.left
+    → (later : ℕ) (r : Result AlgoSet SourceFault) → later ≤ new + 32 → is_err r ≡ true → FindsAlgos hs asked later r
+algos_cut t hs asked new number set next k f later r paid failed = record {
+  algos = if_err r _ failed;
+  paid = omega (arith, paid, k.paid, ap (λ (l : List (NodeOf Spot)). length l) f.are);
+}
+
+pub algos_all : (t : Siblings) (hs : List (NodeOf Spot)) (asked new : ℕ) (set : AlgoSet) (next : Option ℕ) → next ≡ None → AlgosLeft t hs asked new set next → FindsAlgos hs asked new (Ok set)
+algos_all t hs asked new set next none k =
+    let nothing_left : k.left ≡ [] = subst (λ (o : Option ℕ). HashesAt t o k.left) none k.at in
+    record {
+      algos = sym (none_more set) ∙ ap (with_all set) (sym nothing_left) ∙ k.gives;
+      paid = omega (arith, k.paid);
+    }
+
+-- what is asked for about each hash node, beside the payload
+pub costs : (n : ℕ) (hs : List (NodeOf Spot)) → sum_by (hash_cost n) hs ≡ sum_by (line_cost n) hs + 32 * length hs
 costs n [] = refl
 costs n (h ∷ hs) = omega (arith, sum_by-cons (hash_cost n) h hs, sum_by-cons (line_cost n) h hs, costs n hs)
 
-both_lengths : (hs taken rest : List (NodeOf Spot)) → hs ≡ taken ++ rest → length (algos_of hs) ≡ length (algos_of taken) + length (algos_of rest)
-both_lengths hs taken rest are =
-    ap (λ (l : List Algo). length l) (ap algos_of are ∙ flat_map-append (λ h. sums_of (plan_of h)) taken rest) ∙ length-append (algos_of taken) (algos_of rest)
-
--- a group is read for once, and the rest is left
-passes_apart : (size : ℕ) (hs taken rest : List (NodeOf Spot)) → hs ≡ taken ++ rest → length (algos_of taken) ≤ 8 → (length (algos_of taken) < 8 → rest ≡ [])
-    → passes (length (algos_of taken)) * size + passes (length (algos_of rest)) * size ≡ passes (length (algos_of hs)) * size
-passes_apart size hs taken rest are few all = by_bool (nat_lt (length (algos_of taken)) 8)
-    (λ less.
-    let none : rest ≡ [] = all (ltb-true (length (algos_of taken)) 8 less) in
-    let zero_times : 0 * size ≡ 0 = omega arith in
-    let nothing : passes (length (algos_of rest)) * size ≡ 0 = ap (λ (l : List (NodeOf Spot)). passes (length (algos_of l)) * size) none ∙ zero_times in
-    let same : length (algos_of hs) ≡ length (algos_of taken) = omega (arith, both_lengths hs taken rest are, ap (λ (l : List (NodeOf Spot)). length (algos_of l)) none) in
-    omega (arith, nothing, ap (λ (k : ℕ). passes k * size) same))
-    (λ full.
-    let eight : length (algos_of taken) ≡ 8 = omega (arith, few, ltb-false (length (algos_of taken)) 8 full) in
-    let once : passes (length (algos_of taken)) * size ≡ 1 * size = ap (λ (k : ℕ). passes k * size) eight in
-    let more : passes (length (algos_of hs)) ≡ passes (length (algos_of rest)) + 1 = omega (arith, eight, both_lengths hs taken rest are) in
-    omega (arith, once, pass_more (passes (length (algos_of hs))) (passes (length (algos_of rest))) size more))
-
--- what is asked for about a group, and about the rest
-pub work_apart : (size n : ℕ) (hs taken rest : List (NodeOf Spot)) → hs ≡ taken ++ rest → length (algos_of taken) ≤ 8 → (length (algos_of taken) < 8 → rest ≡ [])
-    → passes (length (algos_of taken)) * size + 32 * length taken + sum_by (line_cost n) taken + hashes_work size n rest ≡ hashes_work size n hs
-work_apart size n hs taken rest are few all =
-    omega (
-      arith,
-      passes_apart size hs taken rest are few all,
-      costs n taken,
-      ap (sum_by (hash_cost n)) are,
-      sum_by-append (hash_cost n) taken rest,
-    )
-
--- no more than was gathered
-pub gathered_only : (size n : ℕ) (hs : List (NodeOf Spot)) → 32 * length hs ≤ hashes_work size n hs
-gathered_only size n hs = omega (arith, costs n hs)
-
--- a failure before the first line
-pub group_cut : (t : Siblings) (name message : List ℕ) (size n : ℕ) (hs : List (NodeOf Spot)) (asked new : ℕ) (r : Result Walk Fault) (s : Sink) → is_err r ≡ true
-    → new ≤ asked + hashes_work size n hs → ReportsGroup t name message size n hs asked new r s s
-group_cut t name message size n hs asked new (Ok walk) s failed paid = absurd (true_false (sym failed))
-group_cut t name message size n hs asked new (Err fault) s failed paid = record { written = prefix_none s _; paid = paid }
-
--- what is told of a group
-pub group_told : (t : Siblings) (name message : List ℕ) (size n : ℕ) (hs taken rest : List (NodeOf Spot)) (asked new : ℕ) (r : Result Walk Fault) (old now : Sink) → hs ≡ taken ++ rest
-    → length (algos_of taken) ≤ 8 → (length (algos_of taken) < 8 → rest ≡ [])
-    → new ≤ asked + (passes (length (algos_of taken)) * size + 32 * length taken + sum_by (line_cost n) taken)
-    → PutsGroup t name message taken rest r old now → ReportsGroup t name message size n hs asked new r old now
-group_told t name message size n hs taken rest asked new (Ok walk) old now are few all paid put = record {
-  taken = taken;
-  rest = rest;
-  are = are;
-  at = put.next;
-  right = put.right;
-  written = put.written.all;
-  paid = omega (arith, paid, work_apart size n hs taken rest are few all);
-}
-group_told t name message size n hs taken rest asked new (Err fault) old now are few all paid put =
-    let f : NodeOf Spot → List ℕ = hash_line name message in
-    let lines : flat_map f hs ≡ flat_map f taken ++ flat_map f rest = ap (flat_map f) are ∙ flat_map-append f taken rest in
-    record {
-      written = subst (λ (w : List ℕ). AppendsPrefix old now w) (sym lines) (prefix_first old now (flat_map f taken) (flat_map f rest) put.written.prefix);
-      paid = omega (arith, paid, work_apart size n hs taken rest are few all);
-    }
-
--- Some hash nodes of an image were reported on, and the others are next.
-pub record Reported (t : Siblings) (name message : List ℕ) (size n : ℕ) (hs : List (NodeOf Spot)) (asked new : ℕ) (old now : Sink) (right : Bool) (next : Option ℕ) : Type 0 where
-  pub done : List (NodeOf Spot)
+-- What is written of the hash nodes that are left, behind what was written, is written of all.
+pub record LinesLeft (t : Siblings) (set : AlgoSet) (name message : List ℕ) (n : ℕ) (hs : List (NodeOf Spot)) (asked new : ℕ) (old now : Sink) (right : Bool) (next : Option ℕ) : Type 0 where
   pub left : List (NodeOf Spot)
-  pub are : hs ≡ done ++ left
   pub at : HashesAt t next left
-  pub all_right : right ≡ are_right message done
-  pub written : AppendsAll old now (flat_map (hash_line name message) done)
-  pub paid : new + hashes_work size n left ≤ asked + hashes_work size n hs
+  pub covered : AllCovered set left
+  pub all_right : (right && are_right message left) ≡ are_right message hs
+  pub written : (failed : Bool) (s : Sink) → Written failed now s (flat_map (hash_line name message) left) → Written failed old s (flat_map (hash_line name message) hs)
+  pub paid : new + sum_by (line_cost n) left ≤ asked + sum_by (line_cost n) hs
 
-pub not_reported : (t : Siblings) (name message : List ℕ) (size n : ℕ) (hs : List (NodeOf Spot)) (asked : ℕ) (s : Sink) (next : Option ℕ) → HashesAt t next hs
-    → Reported t name message size n hs asked asked s s true next
-not_reported t name message size n hs asked s next at = record {
-  done = [];
-  left = hs;
-  are = refl;
+pub lines_first : (t : Siblings) (set : AlgoSet) (name message : List ℕ) (n : ℕ) (hs : List (NodeOf Spot)) (asked : ℕ) (s : Sink) (next : Option ℕ) → HashesAt t next hs → AllCovered set hs
+    → LinesLeft t set name message n hs asked asked s s true next
+lines_first t set name message n hs asked s next at covered = record { left = hs; at = at; covered = covered; all_right = refl; written = λ failed u w. w; paid = omega arith }
+
+three : (a b c : Bool) → ((a && b) && c) ≡ (a && (b && c))
+three true b c = refl
+three false b c = refl
+
+and_true : (b : Bool) → (b && true) ≡ b
+and_true true = refl
+and_true false = refl
+
+pub covered_first : (set : AlgoSet) (hs : List (NodeOf Spot)) (t : Siblings) (number : ℕ) (f : FirstHash t number hs) → AllCovered set hs → AllCovered set (f.hash ∷ f.more)
+covered_first set hs t number f covered = subst (λ (l : List (NodeOf Spot)). AllCovered set l) f.are covered
+
+pub lines_more : (t : Siblings) (set : AlgoSet) (name message : List ℕ) (n : ℕ) (hs : List (NodeOf Spot)) (asked new : ℕ) (old now : Sink) (right : Bool) (next : Option ℕ) (number : ℕ)
+    (k : LinesLeft t set name message n hs asked new old now right next) (f : FirstHash t number k.left) (word : Word) (further : Sink) (following : Option ℕ) (later : ℕ)
+    → word ≡ word_of message f.hash → Written false now further (hash_line name message f.hash) → later ≤ new + line_cost n f.hash → HashesAt t following f.more
+    → LinesLeft t set name message n hs asked later old further (right && is_right word) following
+lines_more t set name message n hs asked new old now right next number k f word further following later is put paid at = record {
+  left = f.more;
   at = at;
-  all_right = refl;
-  written = record { appended = Appends-none s.contents };
-  paid = omega arith;
+  covered = (covered_first set k.left t number f k.covered).1;
+  all_right = three right (is_right word) (are_right message f.more) ∙ ap (λ (w : Word). right && (is_right w && are_right message f.more)) is
+      ∙ ap (λ (l : List (NodeOf Spot)). right && are_right message l) (sym f.are) ∙ k.all_right;
+  written = λ failed s w. k.written failed s (subst (λ (l : List (NodeOf Spot)). Written failed now s (flat_map (hash_line name message) l)) (sym f.are) (put.all ▶ w));
+  paid = omega (arith, paid, k.paid, ap (sum_by (line_cost n)) f.are, sum_by-cons (line_cost n) f.hash f.more);
 }
 
--- one group more
-pub reported_more : (t : Siblings) (name message : List ℕ) (size n : ℕ) (hs : List (NodeOf Spot)) (asked new : ℕ) (old now : Sink) (right : Bool) (next : Option ℕ)
-    → (k : Reported t name message size n hs asked new old now right next) → (more : ℕ) (later : Sink) (walk : Walk)
-    → GroupDone t name message size n k.left new more walk now later → Reported t name message size n hs asked more old later (right && walk.are_right) walk.next
-reported_more t name message size n hs asked new old now right next k more later walk d =
-    let f : NodeOf Spot → List ℕ = hash_line name message in
-    record {
-      done = k.done ++ d.taken;
-      left = d.rest;
-      are = k.are ∙ ap (λ (l : List (NodeOf Spot)). k.done ++ l) d.are ∙ sym (append_assoc k.done d.taken d.rest);
-      at = d.at;
-      all_right = ap (λ (b : Bool). b && walk.are_right) k.all_right ∙ ap (λ (b : Bool). are_right message k.done && b) d.right
-          ∙ sym (list_all-append (λ h. is_right (word_of message h)) k.done d.taken);
-      written = subst (λ (w : List ℕ). AppendsAll old later w) (sym (flat_map-append f k.done d.taken)) (all_then old now later _ _ k.written d.written);
-      paid = omega (arith, k.paid, d.paid);
-    }
+pub lines_cut : (t : Siblings) (set : AlgoSet) (name message : List ℕ) (n : ℕ) (hs : List (NodeOf Spot)) (asked new : ℕ) (old now : Sink) (right : Bool) (next : Option ℕ) (number : ℕ)
+    (k : LinesLeft t set name message n hs asked new old now right next) (f : FirstHash t number k.left) (further : Sink) (later : ℕ) (r : Result Bool MoveFault) → is_err r ≡ true
+    → Written true now further (hash_line name message f.hash) → later ≤ new + line_cost n f.hash → PutsHashes name message n hs asked later r old further
+lines_cut t set name message n hs asked new old now right next number k f further later r failed put paid = record {
+  right = if_err r _ failed;
+  written = subst (λ (b : Bool). Written b old further (flat_map (hash_line name message) hs)) (sym failed)
+      (k.written true further (subst (λ (l : List (NodeOf Spot)). Written true now further (flat_map (hash_line name message) l)) (sym f.are) (cut now further _ _ put)));
+  paid = omega (arith, paid, k.paid, ap (sum_by (line_cost n)) f.are, sum_by-cons (line_cost n) f.hash f.more);
+}
 
--- a failure in a group
-pub reported_part : (t : Siblings) (name message : List ℕ) (size n : ℕ) (hs : List (NodeOf Spot)) (asked new : ℕ) (old now : Sink) (right : Bool) (next : Option ℕ)
-    → (k : Reported t name message size n hs asked new old now right next) → (more : ℕ) (later : Sink) (r : Result Bool Fault) → is_err r ≡ true
-    → GroupCut name message size n k.left new more now later → ReportsHashes name message size n hs asked more r old later
-reported_part t name message size n hs asked new old now right next k more later (Ok b) failed d = absurd (true_false (sym failed))
-reported_part t name message size n hs asked new old now right next k more later (Err fault) failed d =
-    let f : NodeOf Spot → List ℕ = hash_line name message in
-    let lines : flat_map f hs ≡ flat_map f k.done ++ flat_map f k.left = ap (flat_map f) k.are ∙ flat_map-append f k.done k.left in
+pub lines_all : (t : Siblings) (set : AlgoSet) (name message : List ℕ) (n : ℕ) (hs : List (NodeOf Spot)) (asked new : ℕ) (old now : Sink) (right : Bool) (next : Option ℕ) → next ≡ None
+    → LinesLeft t set name message n hs asked new old now right next → PutsHashes name message n hs asked new (Ok right) old now
+lines_all t set name message n hs asked new old now right next none k =
+    let nothing_left : k.left ≡ [] = subst (λ (o : Option ℕ). HashesAt t o k.left) none k.at in
     record {
-      right = tt;
-      written = record {
-        all = tt;
-        prefix = subst (λ (w : List ℕ). AppendsPrefix old later w) (sym lines) (prefix_then old now later _ _ k.written d.written);
-      };
-      paid = omega (arith, k.paid, d.paid);
-    }
-
--- no hash node is left
-pub reported_all : (t : Siblings) (name message : List ℕ) (size n : ℕ) (hs : List (NodeOf Spot)) (asked new : ℕ) (old now : Sink) (right : Bool) (next : Option ℕ) → next ≡ None
-    → Reported t name message size n hs asked new old now right next → ReportsHashes name message size n hs asked new (Ok right) old now
-reported_all t name message size n hs asked new old now right next none k =
-    let nothing : k.left ≡ [] = subst (λ (o : Option ℕ). HashesAt t o k.left) none k.at in
-    let all : k.done ≡ hs = sym (append-nil k.done) ∙ ap (λ (l : List (NodeOf Spot)). k.done ++ l) (sym nothing) ∙ sym k.are in
-    let written : AppendsAll old now (flat_map (hash_line name message) hs) = subst (λ (l : List (NodeOf Spot)). AppendsAll old now (flat_map (hash_line name message) l)) all k.written in
-    record {
-      right = k.all_right ∙ ap (are_right message) all;
-      written = record { all = written; prefix = prefix_all old now _ written };
+      right = sym (and_true right) ∙ ap (λ (l : List (NodeOf Spot)). right && are_right message l) (sym nothing_left) ∙ k.all_right;
+      written = k.written false now (subst (λ (l : List (NodeOf Spot)). Written false now now (flat_map (hash_line name message) l)) (sym nothing_left) (nothing now));
       paid = omega (arith, k.paid);
     }

@@ -1,5 +1,5 @@
 -- Reporting on images, one more at a time.
-use Rattle.std.proofs.Common.{◌≡◌, ◌≤◌, ◌+◌, ◌*◌, ◌&&◌, ℕ, List, [], ◌∷◌, ◌++◌, length, Option, Some, None, Bool, true, false, codes, refl, ap, sym, ◌∙◌, subst, append_assoc, arith}
+use Rattle.std.proofs.Common.{◌≡◌, ◌≤◌, ◌+◌, ◌*◌, ◌&&◌, ℕ, List, [], ◌∷◌, ◌++◌, length, Option, Some, None, Bool, true, false, if◌then◌else◌, codes, refl, ap, sym, ◌∙◌, subst, append_assoc, arith}
 use Rattle.std.specs.Prelude.{Result, Ok, Err, IfOk, is_err}
 use Rattle.std.specs.Option.{is_some}
 use Rattle.std.specs.List.{flat_map, sum_by}
@@ -7,6 +7,7 @@ use Rattle.std.proofs.lemmas.List.Sums.{sum_by-cons}
 use Rattle.uimg_base.specs.Outcome.{End, done, not_right, refused, Outcome, told, after, line, Tells}
 use Rattle.uimg_base.specs.Sink.{Sink, AppendsPrefix}
 use Rattle.uimg_base.specs.Writing.{Written}
+use Rattle.uimg_base.specs.declared.ranges.MoveFault.{MoveFault}
 use Rattle.uimg_base.specs.declared.status.Status.{Status}
 use Rattle.uimg_base.proofs.OutcomeLaws.{Tells-after}
 use Rattle.uimg_base.proofs.SinkLaws.{Appends-none, prefix_first, prefix_none}
@@ -20,25 +21,26 @@ use Rattle.uimg_fit_base.specs.declared.fault.Fault.{Fault}
 use Rattle.uimg_fit_base.specs.declared.fault.Fault.TheVariants.{Blob as OfBlob, Fit, Read, Put}
 use Rattle.uimg_fit_base.specs.declared.fault.FitFault.{FitFault}
 use Rattle.uimg_fit_reading.specs.Allowances.{node_allowance}
-use Rattle.uimg_fit_base.specs.Faults.{end_of, unless_memory, is_refused, is_out_of_memory}
+use Rattle.uimg_base.specs.declared.ranges.MoveFault.TheVariants as move
+use Rattle.uimg_fit_base.specs.Faults.{end_of, of_move, unless_memory}
 use Rattle.uimg_fit_reading.specs.HashReports.{hash_cost, ReportsHashes}
 use Rattle.uimg_fit_reading.specs.ImageReports.{status_of, ReportsFound, image_work, ImageDone, ImageCut, ReportsImage, ReportsImages}
 use Rattle.uimg_fit_reading.specs.Nodes.{AreFrom, HashesAt}
 use Rattle.uimg_fit_base.specs.Places.{payload, TellsPlace}
-use Rattle.uimg_fit_reading.specs.Plans.{algos_of}
+use Rattle.uimg_fit_reading.specs.Plans.{are_compared}
 use Rattle.uimg_fit_base.specs.Report.{hash_line, hash_lines, are_right, end_after, report_step, report}
-use Rattle.uimg_fit_reading.specs.Work.{passes, hashed}
+use Rattle.uimg_fit_reading.specs.Work.{hashed}
 use Rattle.uimg_fit_reading.proofs.ImageLaws.{none_left}
 use Rattle.uimg_fit_reading.proofs.PlanLaws.{of_answer}
 use Rattle.uimg_fit_reading.proofs.SharesLaws.{hashes_allowed, one_text}
-use Rattle.uimg_fit_reading.proofs.WalkLaws.{compared_count}
+use Rattle.uimg_fit_reading.proofs.CompareLaws.{compared_any}
 
 -- an image without hash nodes
 unhashed_line : (name message : List ℕ) (hs : List (NodeOf Spot)) → hs ≡ [] → name ++ line (codes " - none unhashed") ≡ hash_lines name message hs
 unhashed_line name message hs none =
     sym (append_assoc name (codes " - none unhashed") (10 ∷ [])) ∙ sym (ap (hash_lines name message) none)
 
-pub none_found : (image : NodeOf Spot) (name message : List ℕ) (size asked new : ℕ) (failed : Bool) (result : Result Bool Fault) (old now : Sink) → name ≡ image.name → hashes image ≡ []
+pub none_found : (image : NodeOf Spot) (name message : List ℕ) (size asked new : ℕ) (failed : Bool) (result : Result Bool MoveFault) (old now : Sink) → name ≡ image.name → hashes image ≡ []
     → IfOk result (λ right. right ≡ true) → is_err result ≡ failed → Written failed old now (name ++ line (codes " - none unhashed")) → new ≤ asked + 255
     → ReportsFound image message size asked new result old now
 none_found image name message size asked new failed result old now named none right ends written paid = record {
@@ -59,7 +61,7 @@ all_costs : (n : ℕ) (hs : List (NodeOf Spot)) → n ≤ 255 → sum_by (hash_c
 all_costs n [] few = omega arith
 all_costs n (h ∷ hs) few = omega (arith, sum_by-cons (hash_cost n) h hs, sum_by-cons node_allowance h hs, one_cost n h few, all_costs n hs few)
 
-pub some_found : (t : Siblings) (image : NodeOf Spot) (name message : List ℕ) (size n asked new : ℕ) (first : Option ℕ) (result : Result Bool Fault) (old now : Sink) → name ≡ image.name → n ≤ 255
+pub some_found : (t : Siblings) (image : NodeOf Spot) (name message : List ℕ) (size n asked new : ℕ) (first : Option ℕ) (result : Result Bool MoveFault) (old now : Sink) → name ≡ image.name → n ≤ 255
     → is_some first ≡ true → HashesAt t first (hashes image) → ReportsHashes name message size n (hashes image) asked new result old now
     → ReportsFound image message size asked new result old now
 some_found t image name message size n asked new None result old now named few some at r = absurd (true_false (sym some))
@@ -72,9 +74,9 @@ some_found t image name message size n asked new (Some first) result old now nam
 
 -- the digests that are compared, and the payload's length
 hashed_is : (file message : List ℕ) (image : NodeOf Spot) (size : ℕ) → payload file image ≡ Ok message → length message ≡ size
-    → hashed image (payload file image) ≡ passes (length (algos_of (hashes image))) * size
+    → hashed image (payload file image) ≡ (if are_compared (hashes image) then size else 0)
 hashed_is file message image size is long =
-    ap (hashed image) is ∙ ap (λ (k : ℕ). passes k * length message) (compared_count message (hashes image)) ∙ ap (λ (k : ℕ). passes (length (algos_of (hashes image))) * k) long
+    ap (hashed image) is ∙ ap (λ (b : Bool). if b then length message else 0) (compared_any message (hashes image)) ∙ ap (λ (k : ℕ). if are_compared (hashes image) then k else 0) long
 
 -- what a failed device tells of an image, whatever comes after it
 cut_tells : (fault : Fault) (image : NodeOf Spot) (message : List ℕ) (rest : Outcome Fault) (old now : Sink) → end_of (Err fault) ≡ None → AppendsPrefix old now (hash_lines image.name message (hashes image))
@@ -87,37 +89,26 @@ pub no_hashes : (t : Siblings) (first : Option ℕ) (hs : List (NodeOf Spot)) �
 no_hashes t None hs none at = at
 no_hashes t (Some first) hs none at = absurd (true_false none)
 
-pub if_err : {X F : Type 0} (r : Result X F) (P : X → Type 0) → is_err r ≡ true → IfOk r P
-if_err (Ok x) P failed = absurd (true_false (sym failed))
-if_err (Err e) P failed = tt
-
--- an answer that refuses nothing refuses no memory
-pub keeps_memory : {X : Type 0} (r : Result X Fault) → is_refused r ≡ false → is_out_of_memory r ≡ false
-keeps_memory (Ok x) kept = refl
-keeps_memory (Err (OfBlob fault at)) kept = absurd (true_false kept)
-keeps_memory (Err (Fit fault)) kept = refl
-keeps_memory (Err Read) kept = refl
-keeps_memory (Err Put) kept = refl
-
-failed_device : (fault : Fault) → is_refused {X = Bool} (Err fault) ≡ false → end_of (Err fault) ≡ None
-failed_device (OfBlob fault at) kept = absurd (true_false kept)
-failed_device (Fit fault) kept = absurd (true_false kept)
-failed_device Read kept = refl
-failed_device Put kept = refl
+failed_device : (fault : MoveFault) → end_of (Err (of_move fault)) ≡ None
+failed_device move.Read = refl
+failed_device move.Put = refl
 
 -- what is told of an image whose payload is there
-pub image_told : (file : List ℕ) (image : NodeOf Spot) (message : List ℕ) (size asked middle new : ℕ) (result : Result Bool Fault) (old now : Sink) → payload file image ≡ Ok message → length message ≡ size
-    → middle ≤ asked + 12 → is_refused result ≡ false → ReportsFound image message size middle new result old now → ReportsImage file image asked new result old now
-image_told file image message size asked middle new (Ok right) old now is long paid kept r = record {
+pub image_done : (file : List ℕ) (image : NodeOf Spot) (message : List ℕ) (size asked middle new : ℕ) (right : Bool) (old now : Sink) → payload file image ≡ Ok message → length message ≡ size
+    → middle ≤ asked + 12 → ReportsFound image message size middle new (Ok right) old now → ImageDone file image asked new right old now
+image_done file image message size asked middle new right old now is long paid r = record {
   message = message;
   is = is;
   all_right = r.right;
   written = r.written.all;
   paid = omega (arith, paid, r.paid, hashed_is file message image size is long);
 }
-image_told file image message size asked middle new (Err fault) old now is long paid kept r = record {
-  told = λ rest. subst (λ (p : Result (List ℕ) FitFault). Tells (end_of (Err fault)) (report_step image p rest) old now) (sym is)
-      (cut_tells fault image message rest old now (failed_device fault kept) r.written.prefix);
+
+pub image_failed : (file : List ℕ) (image : NodeOf Spot) (message : List ℕ) (size asked middle new : ℕ) (failed : MoveFault) (old now : Sink) → payload file image ≡ Ok message → length message ≡ size
+    → middle ≤ asked + 12 → ReportsFound image message size middle new (Err failed) old now → ImageCut file image asked new (of_move failed) old now
+image_failed file image message size asked middle new failed old now is long paid r = record {
+  told = λ rest. subst (λ (p : Result (List ℕ) FitFault). Tells (end_of (Err (of_move failed))) (report_step image p rest) old now) (sym is)
+      (cut_tells (of_move failed) image message rest old now (failed_device failed) r.written.prefix);
   paid = omega (arith, paid, r.paid, hashed_is file message image size is long);
 }
 

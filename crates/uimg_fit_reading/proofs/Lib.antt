@@ -7,12 +7,11 @@ pub mod ShowLaws
 pub mod ListLaws
 pub mod NodeLaws
 pub mod HashLaws
-pub mod SumLaws
-pub mod GroupLaws
+pub mod OpenedLaws
+pub mod CompareLaws
 pub mod PlaceLaws
 pub mod ExtractionLaws
 pub mod LineLaws
-pub mod WalkLaws
 pub mod AllowanceLaws
 pub mod SharesLaws
 pub mod HashReportLaws

@@ -1,6 +1,6 @@
 -- The line of a hash node.
-use Rattle.std.proofs.Common.{◌≡◌, ◌+◌, ◌≤◌, ℕ, List, [], ◌∷◌, ◌++◌, length, codes, Option, Some, None, true, IfSome, refl, ap, sym, ◌∙◌, append_assoc}
-use Rattle.std.specs.Prelude.{Result, Ok, Err, is_err}
+use Rattle.std.proofs.Common.{◌≡◌, ◌+◌, ◌≤◌, ℕ, List, [], ◌∷◌, ◌++◌, length, codes, Option, Some, None, Bool, IfSome, refl, ap, sym, subst, ◌∙◌, append_assoc, arith}
+use Rattle.std.specs.Prelude.{Result, IfOk, is_err}
 use Rattle.std.specs.Option.{option_map, option_map_or}
 use Rattle.uimg_texts.specs.Nul.{text}
 use Rattle.uimg_texts.specs.Slices.{slice}
@@ -8,17 +8,17 @@ use Rattle.uimg_base.specs.Outcome.{line}
 use Rattle.uimg_base.specs.Sink.{Sink}
 use Rattle.uimg_base.specs.Writing.{Written}
 use Rattle.uimg_base.proofs.Slices.{length-slice}
-use Rattle.uimg_blob.proofs.PhaseLaws.{true_false}
 use Rattle.uimg_blob.specs.declared.texts.Span.{Span}
 use Rattle.uimg_blob.specs.LookUps.{NodeOf}
 use Rattle.uimg_blob.specs.Spots.{Spot}
-use Rattle.uimg_fit_base.specs.declared.fault.Fault.{Fault}
+use Rattle.uimg_base.specs.declared.ranges.MoveFault.{MoveFault}
 use Rattle.uimg_fit_reading.specs.declared.report.hash_lines.HashLine.{HashLine}
 use Rattle.uimg_fit_base.specs.declared.words.Word.{Word}
 use Rattle.uimg_fit_base.specs.Files.{bytes_of, bytes_in}
-use Rattle.uimg_fit_reading.specs.Groups.{PutsHash, line_of}
+use Rattle.uimg_fit_reading.specs.HashReports.{PutsHash, line_of}
 use Rattle.uimg_fit_reading.specs.Plans.{algo_length, hash_text, span_length}
-use Rattle.uimg_fit_base.specs.Report.{word_text, hash_line}
+use Rattle.uimg_fit_base.specs.Report.{word_text, word_of, hash_line}
+use Rattle.uimg_fit_reading.proofs.PlanLaws.{of_answer}
 
 -- the parts of a line, joined
 joined : (a b n w : List ℕ) → ((a ++ codes " ") ++ (b ++ codes " ")) ++ (n ++ ((codes " " ++ w) ++ 10 ∷ [])) ≡ line (a ++ codes " " ++ b ++ codes " " ++ n ++ codes " " ++ w)
@@ -42,7 +42,12 @@ pub algo_long : (file : List ℕ) (value : Option Span) (found : NodeOf Spot) �
     → span_length value ≡ algo_length found
 algo_long file value found within algo = spans file value within ∙ ap (λ (o : Option (List ℕ)). option_map_or (λ v. length v) o 0) (sym algo)
 
--- a failed answer tells no word
-pub puts_err : (name message : List ℕ) (hash : NodeOf Spot) (r : Result Word Fault) (s t : Sink) → is_err r ≡ true → Written true s t (hash_line name message hash) → PutsHash name message hash r s t
-puts_err name message hash (Ok word) s t failed written = absurd (true_false (sym failed))
-puts_err name message hash (Err fault) s t failed written = record { word = tt; written = written }
+-- the line of a hash node whose word is known
+pub puts_line : (name message : List ℕ) (n : ℕ) (hash : NodeOf Spot) (asked middle new : ℕ) (word : Word) (r : Result Word MoveFault) (failed : Bool) (s t : Sink) → word ≡ word_of message hash
+    → IfOk r (λ w. w ≡ word) → is_err r ≡ failed → Written failed s t (line_of name word hash) → new ≤ middle + (n + 255 + algo_length hash) → middle ≤ asked + 96
+    → PutsHash name message n hash asked new r s t
+puts_line name message n hash asked middle new word r failed s t is right ends written paid judged = record {
+  word = of_answer r _ _ (λ w same. same ∙ is) right;
+  written = subst (λ (b : Bool). Written b s t (hash_line name message hash)) (sym ends) (subst (λ (w : Word). Written failed s t (line_of name w hash)) is written);
+  paid = omega (arith, paid, judged);
+}

@@ -1,10 +1,12 @@
 -- What is to be done about a hash node gives its word.
-use Rattle.std.proofs.Common.{◌≡◌, ◌+◌, ◌-◌, ◌≤◌, ℕ, List, ◌++◌, length, take, replicate, Bool, if◌then◌else◌, ◌==◌, Option, Some, None, refl, ap, sym, ◌∙◌, subst, IfSome, arith}
-use Rattle.std.specs.Prelude.{Result, Ok, Err, IfOk}
+use Rattle.std.proofs.Common.{◌≡◌, ◌+◌, ◌-◌, ◌≤◌, ℕ, List, ◌++◌, length, take, replicate, Bool, true, if◌then◌else◌, ◌==◌, Option, Some, None, refl, ap, sym, ◌∙◌, subst, IfSome, arith}
+use Rattle.std.specs.Prelude.{Result, Ok, Err, IfOk, is_err}
+use Rattle.uimg_blob.proofs.PhaseLaws.{true_false}
 use Rattle.std.specs.Str.{bytes_eq}
 use Rattle.std.proofs.lemmas.List.{take-append-le, take_all}
 use Rattle.uimg_sums.specs.declared.algo.Algo.{Algo}
 use Rattle.uimg_sums.specs.Algorithms.{digest_size, digest_by, algo_named}
+use Rattle.uimg_sums.specs.AnySum.{padded_digest}
 use Rattle.uimg_sums.proofs.DigestSizes.{length-digest_by}
 use Rattle.uimg_texts.specs.Slices.{slice}
 use Rattle.uimg_base.proofs.Slices.{length-slice}
@@ -13,29 +15,35 @@ use Rattle.uimg_blob.specs.declared.texts.Span.{Span}
 use Rattle.uimg_fit_reading.specs.declared.report.plans.Plan.{Plan}
 use Rattle.uimg_fit_reading.specs.declared.report.plans.Plan.TheVariants.{Compared}
 use Rattle.uimg_fit_reading.specs.declared.report.plans.Plan.TheVariants as plan
+use Rattle.uimg_fit_base.specs.declared.algo_sets.AlgoSet.{AlgoSet}
+use Rattle.uimg_fit_base.specs.AlgoSets.{has}
 use Rattle.uimg_fit_base.specs.declared.words.Word.{Word}
 use Rattle.uimg_fit_base.specs.declared.words.Word.TheVariants.{Right, Wrong}
 use Rattle.uimg_fit_base.specs.declared.words.Word.TheVariants as word
 use Rattle.uimg_fit_base.specs.Files.{bytes_in}
-use Rattle.uimg_fit_reading.specs.Plans.{EndsIn, HasDigest, plan_for, plan_by_value, plan_by_algo, plan_by_name, word_by}
+use Rattle.uimg_fit_reading.specs.Plans.{EndsIn, IsCovered, plan_for, plan_by_value, plan_by_algo, plan_by_name, word_by}
 use Rattle.uimg_fit_base.specs.Report.{compared, by_value, by_algo, by_name}
 
 -- a digest, and the zeros behind it
 digest_first : (digest : List ℕ) (n : ℕ) → length digest ≡ n → take n (digest ++ replicate (64 - length digest) 0) ≡ digest
 digest_first digest n long = take-append-le n digest (replicate (64 - length digest) 0) (omega (arith, long)) ∙ take_all n digest (omega (arith, long))
 
+-- the algorithm of a comparison is in use
+pub covered_algo : (set : AlgoSet) (plan : Plan) (algo : Algo) (span : Span) → plan ≡ Compared algo span → IsCovered set plan → has set algo ≡ true
+covered_algo set plan algo span is covered = subst (λ (p : Plan). IsCovered set p) is covered
+
 -- what a comparison says is the word
 pub compared_word : (file message digest : List ℕ) (size : ℕ) (plan : Plan) (algo : Algo) (span : Span) (same : Bool) → plan ≡ Compared algo span
-    → EndsIn size plan → HasDigest digest message plan → same ≡ bytes_eq (slice file span.place span.length) (take span.length digest)
+    → EndsIn size plan → digest ≡ (padded_digest (digest_by algo message)).0 → same ≡ bytes_eq (slice file span.place span.length) (take span.length digest)
     → word_by file message plan ≡ (if same then Right else Wrong)
 compared_word file message digest size plan algo span same is ends has by =
-    subst (λ (p : Plan). EndsIn size p → HasDigest digest message p → word_by file message p ≡ (if same then Right else Wrong)) (sym is)
-    (λ e h.
+    subst (λ (p : Plan). EndsIn size p → word_by file message p ≡ (if same then Right else Wrong)) (sym is)
+    (λ e.
     let front : take span.length digest ≡ digest_by algo message =
-    ap (take span.length) h ∙ digest_first (digest_by algo message) span.length (length-digest_by algo message ∙ sym e.1) in
+    ap (take span.length) has ∙ digest_first (digest_by algo message) span.length (length-digest_by algo message ∙ sym e.1) in
     ap (λ (d : List ℕ). if bytes_eq (slice file span.place span.length) d then Right else Wrong) (sym front)
     ∙ ap (λ (b : Bool). if b then Right else Wrong) (sym by))
-    ends has
+    ends
 
 -- carrying out what is to be done gives the word
 plan_word : (file message : List ℕ) (algo : Algo) (span : Span) → span.place + span.length ≤ length file
@@ -69,3 +77,8 @@ planned_word file message (Some name) value within = by_known file message (algo
 pub of_answer : {X F : Type 0} (r : Result X F) (P Q : X → Type 0) → ((x : X) → P x → Q x) → IfOk r P → IfOk r Q
 of_answer (Ok x) P Q f p = f x p
 of_answer (Err e) P Q f p = tt
+
+-- and what is said of values alone
+pub if_err : {X F : Type 0} (r : Result X F) (P : X → Type 0) → is_err r ≡ true → IfOk r P
+if_err (Ok x) P failed = absurd (true_false (sym failed))
+if_err (Err e) P failed = tt

@@ -1,47 +1,63 @@
--- Reporting on hash nodes, group by group.
-use Rattle.std.specs.Prelude.{◌≡◌, ◌≤◌, ◌+◌, ◌*◌, ℕ, List, ◌++◌, length, Bool, Result, Ok, Err, IfOk, is_err}
-use Rattle.std.specs.List.{flat_map, sum_by}
-use Rattle.uimg_base.specs.Sink.{Sink, AppendsAll, AppendsPrefix}
+-- Reporting on the hash nodes of an image: the digests that they are compared with, and then their lines.
+use Rattle.std.specs.Prelude.{◌≡◌, ◌≤◌, ◌+◌, ◌*◌, ℕ, List, ◌++◌, length, codes, if◌then◌else◌, Bool, Result, IfOk, is_err}
+use Rattle.std.specs.List.{AllByRecursion, flat_map, sum_by}
+use Rattle.std.specs.Option.{option_map_or}
+use Rattle.uimg_base.specs.Outcome.{line}
+use Rattle.uimg_base.specs.Sink.{Sink}
 use Rattle.uimg_base.specs.Writing.{Written}
-use Rattle.uimg_blob.specs.Grammar.{Siblings}
+use Rattle.uimg_base.specs.declared.ranges.MoveFault.{MoveFault}
+use Rattle.uimg_base.specs.declared.source.SourceFault.{SourceFault}
 use Rattle.uimg_blob.specs.LookUps.{NodeOf}
 use Rattle.uimg_blob.specs.Spots.{Spot}
-use Rattle.uimg_fit_base.specs.declared.fault.Fault.{Fault}
-use Rattle.uimg_fit_reading.specs.declared.report.walks.Walk.{Walk}
-use Rattle.uimg_fit_reading.specs.Nodes.{HashesAt}
-use Rattle.uimg_fit_reading.specs.Plans.{algos_of, algo_length}
-use Rattle.uimg_fit_base.specs.Report.{hash_line, are_right}
-use Rattle.uimg_fit_reading.specs.Work.{passes}
+use Rattle.uimg_fit_base.specs.declared.algo_sets.AlgoSet.{AlgoSet}
+use Rattle.uimg_fit_base.specs.declared.algo_sets.Digests.{Digests}
+use Rattle.uimg_fit_base.specs.declared.words.Word.{Word}
+use Rattle.uimg_fit_base.specs.AlgoSets.{no_algos, set_of, AreDigests}
+use Rattle.uimg_fit_base.specs.Report.{algo_of, word_text, word_of, hash_line, are_right}
+use Rattle.uimg_fit_reading.specs.Plans.{IsCovered, are_compared, with_all, plan_of, algo_length}
 
--- the most bytes that are asked for about a hash node of an image whose name has n bytes, beside the payload
+-- the most bytes that are asked for to write the line of a hash node of an image whose name has n bytes
+abbrev pub line_cost : ℕ → NodeOf Spot → ℕ
+line_cost n hash = n + 351 + algo_length hash
+
+-- the same with those that tell its algorithm before the payload is read
 abbrev pub hash_cost : ℕ → NodeOf Spot → ℕ
 hash_cost n hash = n + 383 + algo_length hash
 
--- the most bytes that are asked for about some hash nodes, with a payload of so many bytes
-abbrev pub hashes_work : ℕ → ℕ → List (NodeOf Spot) → ℕ
-hashes_work size n hs = passes (length (algos_of hs)) * size + sum_by (hash_cost n) hs
+-- The algorithm of each hash node that is compared is in a set.
+abbrev pub AllCovered : AlgoSet → List (NodeOf Spot) → Type 0
+AllCovered set hs = AllByRecursion (λ h. IsCovered set (plan_of h)) hs
 
--- A group of hash nodes was reported on, and the others are next.
-pub record GroupDone (t : Siblings) (name message : List ℕ) (size n : ℕ) (hs : List (NodeOf Spot)) (asked new : ℕ) (walk : Walk) (old now : Sink) : Type 0 where
-  pub taken : List (NodeOf Spot)
-  pub rest : List (NodeOf Spot)
-  pub are : hs ≡ taken ++ rest
-  pub at : HashesAt t walk.next rest
-  pub right : walk.are_right ≡ are_right message taken
-  pub written : AppendsAll old now (flat_map (hash_line name message) taken)
-  pub paid : new + hashes_work size n rest ≤ asked + hashes_work size n hs
+-- The algorithms that hash nodes are compared by were found; 32 bytes were asked for about each node.
+pub record FindsAlgos (hs : List (NodeOf Spot)) (asked new : ℕ) (result : Result AlgoSet SourceFault) : Type 0 where
+  pub algos : IfOk result (λ set. set ≡ with_all no_algos hs)
+  pub paid : new ≤ asked + 32 * length hs
 
--- A device failed.
-pub record GroupCut (name message : List ℕ) (size n : ℕ) (hs : List (NodeOf Spot)) (asked new : ℕ) (old now : Sink) : Type 0 where
-  pub written : AppendsPrefix old now (flat_map (hash_line name message) hs)
-  pub paid : new ≤ asked + hashes_work size n hs
+-- The digests of a payload by these algorithms were found. It was asked for at most once, and not at all where none is compared.
+pub record FindsDigests (message : List ℕ) (size : ℕ) (hs : List (NodeOf Spot)) (asked new : ℕ) (result : Result Digests SourceFault) : Type 0 where
+  pub digests : IfOk result (λ found. AreDigests found message)
+  pub covered : IfOk result (λ found. AllCovered (set_of found) hs)
+  pub paid : new ≤ asked + ((if are_compared hs then size else 0) + 32 * length hs)
 
-abbrev pub ReportsGroup : Siblings → List ℕ → List ℕ → ℕ → ℕ → List (NodeOf Spot) → ℕ → ℕ → Result Walk Fault → Sink → Sink → Type 0
-ReportsGroup t name message size n hs asked new (Ok walk) old now = GroupDone t name message size n hs asked new walk old now
-ReportsGroup t name message size n hs asked new (Err fault) old now = GroupCut name message size n hs asked new old now
+-- the line of a hash node with a word
+abbrev pub line_of : List ℕ → Word → NodeOf Spot → List ℕ
+line_of name word hash =
+    line (name ++ codes " " ++ hash.name ++ codes " " ++ option_map_or (λ n. n) (algo_of hash) (codes "-") ++ codes " " ++ word_text word)
 
--- All hash nodes were reported on, unless a device failed.
-pub record ReportsHashes (name message : List ℕ) (size n : ℕ) (hs : List (NodeOf Spot)) (asked new : ℕ) (result : Result Bool Fault) (old now : Sink) : Type 0 where
+-- The line of a hash node was written, and its word is told.
+pub record PutsHash (name message : List ℕ) (n : ℕ) (hash : NodeOf Spot) (asked new : ℕ) (result : Result Word MoveFault) (old now : Sink) : Type 0 where
+  pub word : IfOk result (λ word. word ≡ word_of message hash)
+  pub written : Written (is_err result) old now (hash_line name message hash)
+  pub paid : new ≤ asked + line_cost n hash
+
+-- The lines of hash nodes were written, and whether all are right is told.
+pub record PutsHashes (name message : List ℕ) (n : ℕ) (hs : List (NodeOf Spot)) (asked new : ℕ) (result : Result Bool MoveFault) (old now : Sink) : Type 0 where
   pub right : IfOk result (λ right. right ≡ are_right message hs)
   pub written : Written (is_err result) old now (flat_map (hash_line name message) hs)
-  pub paid : new ≤ asked + hashes_work size n hs
+  pub paid : new ≤ asked + sum_by (line_cost n) hs
+
+-- All hash nodes were reported on, unless a device failed.
+pub record ReportsHashes (name message : List ℕ) (size n : ℕ) (hs : List (NodeOf Spot)) (asked new : ℕ) (result : Result Bool MoveFault) (old now : Sink) : Type 0 where
+  pub right : IfOk result (λ right. right ≡ are_right message hs)
+  pub written : Written (is_err result) old now (flat_map (hash_line name message) hs)
+  pub paid : new ≤ asked + ((if are_compared hs then size else 0) + sum_by (hash_cost n) hs)

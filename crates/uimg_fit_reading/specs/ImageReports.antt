@@ -1,9 +1,10 @@
 -- Reporting on images, one after the other.
-use Rattle.std.specs.Prelude.{◌≡◌, ◌≤◌, ◌+◌, ◌*◌, ℕ, List, length, Bool, true, false, Result, Ok, Err, IfOk, is_err}
+use Rattle.std.specs.Prelude.{◌≡◌, ◌≤◌, ◌+◌, ℕ, List, if◌then◌else◌, Bool, true, false, Result, Ok, Err, IfOk, is_err}
 use Rattle.std.specs.List.{sum_by}
 use Rattle.uimg_base.specs.Outcome.{Outcome, Tells}
 use Rattle.uimg_base.specs.Sink.{Sink, AppendsAll}
 use Rattle.uimg_base.specs.Writing.{Written}
+use Rattle.uimg_base.specs.declared.ranges.MoveFault.{MoveFault}
 use Rattle.uimg_base.specs.declared.status.Status.{Status}
 use Rattle.uimg_base.specs.declared.status.Status.TheVariants.{Done, NotRight}
 use Rattle.uimg_blob.specs.LookUps.{NodeOf, hashes}
@@ -12,9 +13,9 @@ use Rattle.uimg_fit_base.specs.declared.fault.Fault.{Fault}
 use Rattle.uimg_fit_reading.specs.Allowances.{node_allowance}
 use Rattle.uimg_fit_base.specs.Faults.{end_of}
 use Rattle.uimg_fit_base.specs.Places.{payload}
-use Rattle.uimg_fit_reading.specs.Plans.{algos_of}
+use Rattle.uimg_fit_reading.specs.Plans.{are_compared}
 use Rattle.uimg_fit_base.specs.Report.{hash_lines, are_right, report_step, report}
-use Rattle.uimg_fit_reading.specs.Work.{passes, hashed}
+use Rattle.uimg_fit_reading.specs.Work.{hashed}
 
 -- the status of a report
 abbrev pub status_of : Bool → Status
@@ -22,10 +23,10 @@ status_of true = Done
 status_of false = NotRight
 
 -- what is said of an image whose payload is known; its place took at most 12 bytes
-pub record ReportsFound (image : NodeOf Spot) (message : List ℕ) (size asked new : ℕ) (result : Result Bool Fault) (old now : Sink) : Type 0 where
+pub record ReportsFound (image : NodeOf Spot) (message : List ℕ) (size asked new : ℕ) (result : Result Bool MoveFault) (old now : Sink) : Type 0 where
   pub right : IfOk result (λ right. right ≡ are_right message (hashes image))
   pub written : Written (is_err result) old now (hash_lines image.name message (hashes image))
-  pub paid : new + 12 ≤ asked + (passes (length (algos_of (hashes image))) * size + node_allowance image)
+  pub paid : new + 12 ≤ asked + ((if are_compared (hashes image) then size else 0) + node_allowance image)
 
 -- the most bytes that are asked for about an image
 abbrev pub image_work : List ℕ → NodeOf Spot → ℕ

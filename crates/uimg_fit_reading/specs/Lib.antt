@@ -1,6 +1,5 @@
 pub mod Plans
-pub mod Groups
-pub mod Walks
+pub mod Puts
 pub mod HashReports
 pub mod ImageReports
 pub mod Values

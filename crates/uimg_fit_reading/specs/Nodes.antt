@@ -2,6 +2,8 @@
 use Rattle.std.specs.Prelude.{◌≡◌, ◌≤◌, ℕ, List, [], ◌∷◌, true, false, ⊤, map, Option, Some, None, Result, Ok, Err, IsTrue}
 use Rattle.std.specs.List.{slice_get, filter}
 use Rattle.uimg_texts.specs.Numbers.{be32}
+use Rattle.uimg_base.specs.Device.{Device}
+use Rattle.uimg_base.specs.Held.{Held}
 use Rattle.uimg_blob.specs.declared.nodes.Blob.{Blob}
 use Rattle.uimg_blob.specs.declared.keys.Key.TheVariants.{Default}
 use Rattle.uimg_blob.specs.Tokens.{Property}
@@ -34,6 +36,11 @@ pub record IsRead (file : List ℕ) (blob : Blob) (es : List (List ℕ)) (t : Si
   pub is : tree file ≡ Ok t
   pub indexed : IsIndexed t blob es
   pub totalsize : blob.totalsize ≡ be32 file 4
+
+-- A device answers its bytes, and the tree of these is t, whose entries are those of a room.
+pub record Opened (d : Device) (blob : Blob) (room : Held) (t : Siblings) : Type 0 where
+  pub honest : IsTrue d.honest
+  pub read : IsRead d.bytes blob room.entries t
 
 -- A file has a tree, whose entries are those of a room.
 pub record HasTree (file : List ℕ) (blob : Blob) (es : List (List ℕ)) : Type 0 where
@@ -139,3 +146,19 @@ pub record HasConfigurations (t : Siblings) (number : ℕ) : Type 0 where
 abbrev pub TellsConfigurations : Siblings → Option ℕ → Type 0
 TellsConfigurations t None = configurations (spots t) ≡ None
 TellsConfigurations t (Some number) = HasConfigurations t number
+
+-- What follows speaks of the tree of a device that answers its bytes: of the node at a number of a level ..
+abbrev pub OfNode : Device → Blob → Held → Level → ℕ → (NodeOf Spot → Type 0) → Type 0
+OfNode d blob room level number P = (t : Siblings) → Opened d blob room t → (found : NodeOf Spot) → IsNode t level number found → P found
+
+-- .. of the nodes from a number of a level on ..
+abbrev pub OfNodes : Device → Blob → Held → Level → Option ℕ → (List (NodeOf Spot) → Type 0) → Type 0
+OfNodes d blob room level first P = (t : Siblings) → Opened d blob room t → (found : List (NodeOf Spot)) → AreFrom t level first found → P found
+
+-- .. of the hash node at a number ..
+abbrev pub OfHash : Device → Blob → Held → ℕ → (NodeOf Spot → Type 0) → Type 0
+OfHash d blob room number P = (t : Siblings) → Opened d blob room t → (found : NodeOf Spot) (more : List (NodeOf Spot)) → HashAt t number found more → P found
+
+-- .. and of the hash nodes from a number on.
+abbrev pub OfHashes : Device → Blob → Held → Option ℕ → (List (NodeOf Spot) → Type 0) → Type 0
+OfHashes d blob room first P = (t : Siblings) → Opened d blob room t → (hs : List (NodeOf Spot)) → HashesAt t first hs → P hs

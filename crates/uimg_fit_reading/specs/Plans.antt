@@ -1,11 +1,10 @@
 -- What is to be done about a hash node, before any payload is read.
-use Rattle.std.specs.Prelude.{◌≡◌, ⊤, ℕ, ◌+◌, ◌≤◌, List, [], ◌∷◌, ◌++◌, length, ◌==◌, if◌then◌else◌, Option, Some, None, codes}
-use Rattle.std.specs.List.{flat_map}
+use Rattle.std.specs.Prelude.{◌≡◌, ⊤, ℕ, ◌+◌, ◌≤◌, List, [], ◌∷◌, ◌++◌, length, ◌==◌, Bool, true, false, if◌then◌else◌, Option, Some, None, codes}
+use Rattle.std.specs.List.{list_any}
 use Rattle.std.specs.Option.{option_map, option_map_or}
 use Rattle.std.specs.Str.{bytes_eq}
 use Rattle.uimg_sums.specs.declared.algo.Algo.{Algo}
 use Rattle.uimg_sums.specs.Algorithms.{algo_named, digest_size, digest_by}
-use Rattle.uimg_sums.specs.AnySum.{padded_digest}
 use Rattle.uimg_texts.specs.Nul.{text}
 use Rattle.uimg_texts.specs.Slices.{slice}
 use Rattle.uimg_base.specs.Outcome.{line}
@@ -15,6 +14,8 @@ use Rattle.uimg_blob.specs.Indexed.{value_span}
 use Rattle.uimg_blob.specs.Spots.{Spot}
 use Rattle.uimg_fit_reading.specs.declared.report.plans.Plan.{Plan}
 use Rattle.uimg_fit_reading.specs.declared.report.plans.Plan.TheVariants.{Malformed, Unsupported, Compared}
+use Rattle.uimg_fit_base.specs.declared.algo_sets.AlgoSet.{AlgoSet}
+use Rattle.uimg_fit_base.specs.AlgoSets.{has, marked}
 use Rattle.uimg_fit_base.specs.declared.words.Word.{Word}
 use Rattle.uimg_fit_base.specs.declared.words.Word.TheVariants as word
 use Rattle.uimg_fit_base.specs.Files.{bytes_in, bytes_of}
@@ -42,15 +43,32 @@ plan_by_name (Some name) value = plan_by_algo (algo_named name) value
 abbrev pub plan_of : NodeOf Spot → Plan
 plan_of hash = plan_by_name (algo_of hash) (option_map value_span (first hash.own (codes "value")))
 
--- the sum that a plan asks for, if it asks for one
-abbrev pub sums_of : Plan → List Algo
-sums_of Malformed = []
-sums_of Unsupported = []
-sums_of (Compared algo span) = algo ∷ []
+-- whether a plan compares a value with a digest
+abbrev pub compares : Plan → Bool
+compares Malformed = false
+compares Unsupported = false
+compares (Compared algo span) = true
 
--- the algorithms of the hash nodes whose values are compared, in their order
-abbrev pub algos_of : List (NodeOf Spot) → List Algo
-algos_of hs = flat_map (λ h. sums_of (plan_of h)) hs
+-- whether the value of any of some hash nodes is compared
+abbrev pub are_compared : List (NodeOf Spot) → Bool
+are_compared hs = list_any (λ h. compares (plan_of h)) hs
+
+-- The algorithm that a plan compares by, if it compares, is in a set.
+abbrev pub IsCovered : AlgoSet → Plan → Type 0
+IsCovered set Malformed = ⊤
+IsCovered set Unsupported = ⊤
+IsCovered set (Compared algo span) = has set algo ≡ true
+
+-- a set with that algorithm
+abbrev pub with_plan : AlgoSet → Plan → AlgoSet
+with_plan set Malformed = set
+with_plan set Unsupported = set
+with_plan set (Compared algo span) = marked set algo
+
+-- a set with the algorithms that hash nodes are compared by
+unfoldable pub with_all : AlgoSet → List (NodeOf Spot) → AlgoSet
+with_all set [] = set
+with_all set (h ∷ hs) = with_all (with_plan set (plan_of h)) hs
 
 -- the text at a span of a file
 abbrev pub text_in : List ℕ → Option Span → Option (List ℕ)
@@ -86,12 +104,6 @@ abbrev pub EndsIn : ℕ → Plan → Type 0
 EndsIn size Malformed = ⊤
 EndsIn size Unsupported = ⊤
 EndsIn size (Compared algo span) = (span.place + span.length ≤ size) × (span.length ≡ digest_size algo)
-
--- The digest of a message is at hand where a value is compared.
-abbrev pub HasDigest : List ℕ → List ℕ → Plan → Type 0
-HasDigest digest message Malformed = ⊤
-HasDigest digest message Unsupported = ⊤
-HasDigest digest message (Compared algo span) = digest ≡ (padded_digest (digest_by algo message)).0
 
 -- the word of a hash node, once its value is compared
 abbrev pub word_by : List ℕ → List ℕ → Plan → Word

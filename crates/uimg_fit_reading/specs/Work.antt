@@ -1,6 +1,6 @@
 -- The most bytes that a command asks for.
-use Rattle.std.specs.Prelude.{ℕ, ◌+◌, ◌*◌, ◌/◌, List, length, Result, Ok, Err}
-use Rattle.std.specs.List.{sum_by, count_by}
+use Rattle.std.specs.Prelude.{ℕ, ◌+◌, ◌*◌, List, length, if◌then◌else◌, Result, Ok, Err}
+use Rattle.std.specs.List.{sum_by, list_any}
 use Rattle.uimg_blob.specs.LookUps.{NodeOf, hashes}
 use Rattle.uimg_blob.specs.Spots.{Spot}
 use Rattle.uimg_blob.specs.Counts.{nodes_met, properties_met, texts_met, nops_met}
@@ -11,18 +11,10 @@ use Rattle.uimg_fit_base.specs.Places.{payload}
 use Rattle.uimg_fit_base.specs.Report.{word_of, is_compared}
 use Rattle.uimg_fit_base.specs.Extraction.{extract_of}
 
--- the length of a payload that is there
-abbrev pub payload_length : Result (List ℕ) FitFault → ℕ
-payload_length (Ok message) = length message
-payload_length (Err fault) = 0
-
--- how often a payload is read for so many sums: once for each eight
-abbrev pub passes : ℕ → ℕ
-passes count = (count + 7) / 8
-
--- the most bytes of a payload that are asked for: once for each group of eight hash nodes whose values are compared
+-- the most bytes of a payload that are asked for: each once, however many hash nodes it has, and none where no value of theirs
+-- is compared
 abbrev pub hashed : NodeOf Spot → Result (List ℕ) FitFault → ℕ
-hashed image (Ok message) = passes (count_by (λ h. is_compared (word_of message h)) (hashes image)) * length message
+hashed image (Ok message) = if list_any (λ h. is_compared (word_of message h)) (hashes image) then length message else 0
 hashed image (Err fault) = 0
 
 -- the same of all images of a file
@@ -39,7 +31,7 @@ own_meta file = 60 + 1024 * (nodes_met file + properties_met file) + 4 * (texts_
 abbrev pub list_work : List ℕ → ℕ
 list_work file = own_meta file
 
--- the most that a report asks for: each payload once for each group of at most eight of its hash nodes
+-- the most that a report asks for: each payload at most once
 abbrev pub verify_work : List ℕ → ℕ
 verify_work file = own_meta file + all_hashed file (images_of file)
 

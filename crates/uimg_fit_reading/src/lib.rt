@@ -6,6 +6,7 @@ mod images;
 mod listing;
 mod nodes;
 mod places;
+mod puts;
 mod report;
 mod tree;
 

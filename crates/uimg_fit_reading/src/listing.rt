@@ -24,7 +24,6 @@ mod listed_nodes;
 mod lists;
 mod names;
 mod properties;
-mod puts;
 mod shows;
 mod titles;
 

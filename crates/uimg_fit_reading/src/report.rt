@@ -8,13 +8,11 @@ ghost use Rattle.uimg_fit_reading.specs.Rooms.{TakesNodes};
 ghost use Rattle.uimg_fit_reading.specs.Work.{verify_work};
 
 mod digests;
-mod groups;
 mod hash_lines;
 mod hash_reports;
 mod image_reports;
 mod judging;
 mod plans;
-mod walks;
 
 use crate::images::first_image;
 use crate::report::image_reports::report_images;
@@ -31,8 +29,8 @@ use uimg_fit_base::Fault;
 ///
 /// The refusals of the blob and `NoImages` come without a line, `NoData` and `DataOutside` of an image
 /// before its lines. `OutOfMemory` comes exactly where the room refused to grow. A payload is read
-/// once for each group of at most eight hash nodes whose words are `ok` or `bad`. Over an honest
-/// source a prefix of the report was written after `Read` or `Put`.
+/// once, however many hash nodes it has, and not at all where no word of theirs is `ok` or `bad`. Over
+/// an honest source a prefix of the report was written after `Read` or `Put`.
 pub fn verify<S: Source, A: Allocator, W: Write>(
     source: &mut S,
     room: &mut Room<A>,
@@ -45,13 +43,7 @@ pub fn verify<S: Source, A: Allocator, W: Write>(
     ensures told { IsTrue (S.device source.old).honest →
         Tells (end_of result) (verify_of (S.device source.old).bytes) out.old out.new }
 {
-    let blob = match read_tree(source, room) {
-        Ok(blob) => blob,
-        Err(fault) => return Err(fault),
-    };
-    let first = match first_image(&blob, room) {
-        Ok(first) => first,
-        Err(fault) => return Err(Fault::Fit(fault)),
-    };
+    let blob = read_tree(source, room)?;
+    let first = first_image(&blob, room)?;
     report_images(source, &blob, room, first, out)
 }

@@ -1,7 +1,6 @@
 ghost use Rattle.std.specs.Prelude.{◌≡◌, ℕ, List, map, true, IfOk, IfErr, OnOk};
 ghost use Rattle.std.specs.List.{filter, AllByRecursion};
 ghost use Rattle.uimg_sums.specs.Algorithms.{digest_by};
-ghost use Rattle.uimg_sums.specs.Bundle.{padded_digests};
 ghost use Rattle.uimg_blob.specs.LookUps.{NodeOf};
 ghost use Rattle.uimg_blob.specs.Roles.{is_hash};
 ghost use Rattle.uimg_tree.specs.Content.{Content, bytes};
@@ -9,16 +8,15 @@ ghost use Rattle.uimg_tree.specs.Properties.{content};
 ghost use Rattle.uimg_fit_building.specs.Filling.{algo_by, with, with_digest_by};
 ghost use Rattle.uimg_fit_building.specs.Behind.{entry};
 ghost use Rattle.uimg_fit_building.specs.ImageFillings.{hashed_in};
-ghost use Rattle.uimg_fit_building.specs.PayloadSums.{has, in_memory, no_algos, all_marked, chosen, IsCovered};
+ghost use Rattle.uimg_fit_base.specs.AlgoSets.{has, no_algos, set_of, AreDigests};
+ghost use Rattle.uimg_fit_building.specs.PayloadSums.{in_memory, all_marked, IsCovered};
 ghost use Rattle.uimg_fit_base.specs.declared.fault.FitFault.TheVariants.{OutOfMemory};
 
-use crate::filling::algo_sets::{AlgoSet, marked, no_algos};
-use crate::filling::payload_sums::digest_of;
 use crate::setting::{copied, first_value, with_value};
 use std::alloc::Allocator;
 use std::mem;
 use uimg_base::{Algo, before_nul};
-use uimg_fit_base::FitFault;
+use uimg_fit_base::{AlgoSet, Digests, FitFault};
 use uimg_tree::{ByteList, Node, Props, Value};
 
 // Whether a child of an image is a hash node.
@@ -45,30 +43,25 @@ fn algo_of<A: Allocator>(props: &Props<A>) -> Option<Algo>
 pub(crate) fn algos_of<A: Allocator>(nodes: &[Node<A>]) -> Option<AlgoSet>
     ensures { result ≡ all_marked no_algos (filter (λ h. is_hash h.name) (map entry nodes.now)) }
 {
-    let mut set = no_algos();
+    let mut set = AlgoSet::none();
     for node in nodes {
         if is_hash(node.name.items()) {
             let Some(algo) = algo_of(&node.props) else {
                 return None;
             };
-            set = marked(set, algo);
+            set = set.marked(algo);
         }
     }
     Some(set)
 }
 
 // A digest as a value.
-fn digest_value<A: Allocator>(
-    alloc: A,
-    set: AlgoSet,
-    digests: &[([u8; 64], usize); 8],
-    algo: Algo,
-) -> Result<Value<A>, FitFault>
-    ensures digest { (message : List ℕ) → digests.now ≡ padded_digests (chosen set) message →
-        has set algo ≡ true → IfOk result (λ v. content v ≡ bytes (digest_by algo message)) }
+fn digest_value<A: Allocator>(alloc: A, digests: &Digests, algo: Algo) -> Result<Value<A>, FitFault>
+    ensures digest { (message : List ℕ) → AreDigests digests.now message →
+        has (set_of digests.now) algo ≡ true → IfOk result (λ v. content v ≡ bytes (digest_by algo message)) }
     ensures memory { IfErr result (λ fault. fault ≡ OutOfMemory) }
 {
-    let digest = digest_of(set, digests, algo);
+    let digest = digests.by(algo);
     Ok(Value::Bytes(copied(alloc, &digest[..algo.len()])?))
 }
 
@@ -76,18 +69,17 @@ fn digest_value<A: Allocator>(
 fn fill_hash<A: Allocator + Copy>(
     alloc: A,
     node: &mut Node<A>,
-    set: AlgoSet,
-    digests: &[([u8; 64], usize); 8],
+    digests: &Digests,
 ) -> Result<(), FitFault>
-    ensures filled { (message : List ℕ) → digests.now ≡ padded_digests (chosen set) message →
-        IsCovered set (entry node.old) →
+    ensures filled { (message : List ℕ) → AreDigests digests.now message →
+        IsCovered (set_of digests.now) (entry node.old) →
         OnOk result (entry node.new ≡ with_digest_by in_memory bytes message (entry node.old)) }
     ensures memory { IfErr result (λ fault. fault ≡ OutOfMemory) }
 {
     let Some(algo) = algo_of(&node.props) else {
         return Ok(());
     };
-    let value = digest_value(alloc, set, digests, algo)?;
+    let value = digest_value(alloc, digests, algo)?;
     let props = mem::replace(&mut node.props, Props::of(Vec::new(alloc)));
     node.props = with_value(alloc, props, b"value", value)?;
     Ok(())
@@ -97,16 +89,15 @@ fn fill_hash<A: Allocator + Copy>(
 fn fill_child<A: Allocator + Copy>(
     alloc: A,
     node: &mut Node<A>,
-    set: AlgoSet,
-    digests: &[([u8; 64], usize); 8],
+    digests: &Digests,
 ) -> Result<(), FitFault>
-    ensures filled { (message : List ℕ) → digests.now ≡ padded_digests (chosen set) message →
-        (is_hash node.old.name ≡ true → IsCovered set (entry node.old)) →
+    ensures filled { (message : List ℕ) → AreDigests digests.now message →
+        (is_hash node.old.name ≡ true → IsCovered (set_of digests.now) (entry node.old)) →
         OnOk result (entry node.new ≡ hashed_in message (entry node.old)) }
     ensures memory { IfErr result (λ fault. fault ≡ OutOfMemory) }
 {
     if is_hash(node.name.items()) {
-        return fill_hash(alloc, node, set, digests);
+        return fill_hash(alloc, node, digests);
     }
     Ok(())
 }
@@ -115,16 +106,15 @@ fn fill_child<A: Allocator + Copy>(
 pub(crate) fn fill_children<A: Allocator + Copy>(
     alloc: A,
     nodes: &mut [Node<A>],
-    set: AlgoSet,
-    digests: &[([u8; 64], usize); 8],
+    digests: &Digests,
 ) -> Result<(), FitFault>
-    ensures filled { (message : List ℕ) → digests.now ≡ padded_digests (chosen set) message →
-        AllByRecursion (IsCovered set) (filter (λ h. is_hash h.name) (map entry nodes.old)) →
+    ensures filled { (message : List ℕ) → AreDigests digests.now message →
+        AllByRecursion (IsCovered (set_of digests.now)) (filter (λ h. is_hash h.name) (map entry nodes.old)) →
         OnOk result (map entry nodes.new ≡ map (hashed_in message) (map entry nodes.old)) }
     ensures memory { IfErr result (λ fault. fault ≡ OutOfMemory) }
 {
     for node in nodes.iter_mut() {
-        fill_child(alloc, node, set, digests)?;
+        fill_child(alloc, node, digests)?;
     }
     Ok(())
 }

@@ -11,7 +11,6 @@ ghost use Rattle.uimg_fit_building.specs.Behind.{entry};
 ghost use Rattle.uimg_fit_building.specs.FillOrder.{FillsNext, FillsInOrder};
 ghost use Rattle.uimg_fit_building.specs.ImageFillings.{FillsHashes, FillsImage, FillsImages, IsKeptImage};
 
-use crate::filling::algo_sets::is_empty;
 use crate::filling::filled_hashes::{algos_of, fill_children};
 use crate::filling::payload_sums::payload_digests;
 use crate::payloads::payload_of;
@@ -44,11 +43,11 @@ fn fill_hashes<F: Files, A: Allocator + Copy>(
     let Some(set) = algos_of(nodes) else {
         return Err(FitFault::UnknownAlgo);
     };
-    if is_empty(set) {
+    if set.is_empty() {
         return Ok(());
     }
     match payload_digests(set, payload, files) {
-        Ok(digests) => fill_children(alloc, nodes, set, &digests),
+        Ok(digests) => fill_children(alloc, nodes, &digests),
         Err(fault) => Err(fault),
     }
 }

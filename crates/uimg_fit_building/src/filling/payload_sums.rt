@@ -1,21 +1,18 @@
-ghost use Rattle.std.specs.Prelude.{◌≡◌, ℕ, ◌++◌, List, [], length, true, false, IsTrue, IfOk, IfErr, OnOk};
+ghost use Rattle.std.specs.Prelude.{◌≡◌, ◌++◌, [], ℕ, List, length, true, false, IsTrue, IfOk, IfErr, OnOk};
 ghost use Rattle.uimg_sums.specs.declared.algo.Algo.{Algo};
-ghost use Rattle.uimg_sums.specs.Algorithms.{digest_by};
-ghost use Rattle.uimg_sums.specs.AnySum.{padded_digest};
-ghost use Rattle.uimg_sums.specs.Bundle.{Holds, padded_digests};
+ghost use Rattle.uimg_sums.specs.Bundle.{Holds};
 ghost use Rattle.uimg_base.specs.Device.{RisesIf};
 ghost use Rattle.uimg_tree.specs.Content.{bytes_in, file, IsKept};
 ghost use Rattle.uimg_tree.specs.Properties.{content};
 ghost use Rattle.uimg_tree.specs.UsingFiles.{UsesFiles};
 ghost use Rattle.uimg_fit_building.specs.FillAnswers.{opens_no_file, fails_to_read};
 ghost use Rattle.uimg_fit_building.specs.ImageFillings.{IsFileFault};
-ghost use Rattle.uimg_fit_building.specs.PayloadSums.{has, chosen};
+ghost use Rattle.uimg_fit_base.specs.AlgoSets.{set_of, AreDigests};
 ghost use Rattle.uimg_fit_base.specs.declared.fault.FitFault.TheVariants.{ReadFailed};
 
-use crate::filling::algo_sets::{AlgoSet, bundle_of, place};
 use std::alloc::Allocator;
-use uimg_base::{Algo, Bundle, Files, Source, WINDOW};
-use uimg_fit_base::{FitFault, digest_at, feed_through};
+use uimg_base::{Bundle, Files, Source, WINDOW};
+use uimg_fit_base::{AlgoSet, Digests, FitFault, feed_through};
 use uimg_tree::Value;
 
 // Feeds a source that has so many bytes; one of another size is a failed read.
@@ -96,7 +93,7 @@ pub(crate) fn payload_digests<F: Files, A: Allocator>(
     set: AlgoSet,
     payload: &Value<A>,
     files: &mut F,
-) -> Result<[([u8; 64], usize); 8], FitFault>
+) -> Result<Digests, FitFault>
     ensures files { UsesFiles (opens_no_file result) (F.map files.old) (F.map files.new) }
     ensures faults { IfErr result (IsFileFault (content payload.now)) }
     ensures found { IsTrue (F.map files.old).complete →
@@ -105,18 +102,11 @@ pub(crate) fn payload_digests<F: Files, A: Allocator>(
         IsKept (F.map files.old).bytes (content payload.now) → fails_to_read result ≡ false }
     ensures kept { IsTrue (F.map files.old).honest →
         OnOk result (IsKept (F.map files.old).bytes (content payload.now)) }
-    ensures digests { IsTrue (F.map files.old).honest → IfOk result (λ digests. digests
-        ≡ padded_digests (chosen set) (bytes_in (F.map files.old).bytes (content payload.now))) }
+    ensures set { IfOk result (λ digests. set_of digests ≡ set) }
+    ensures digests { IsTrue (F.map files.old).honest → IfOk result (λ digests.
+        AreDigests digests (bytes_in (F.map files.old).bytes (content payload.now))) }
 {
-    let mut bundle = bundle_of(set);
-    feed_payload(&mut bundle, payload, files)?;
-    Ok(bundle.finish())
-}
-
-/// The digest by an algorithm that is in use, with zeros behind it.
-pub(crate) fn digest_of(set: AlgoSet, digests: &[([u8; 64], usize); 8], algo: Algo) -> [u8; 64]
-    ensures { (message : List ℕ) → digests.now ≡ padded_digests (chosen set) message →
-        has set algo ≡ true → result ≡ (padded_digest (digest_by algo message)).0 }
-{
-    digest_at(digests, place(set, algo))
+    let mut sums = set.sums();
+    feed_payload(&mut sums, payload, files)?;
+    Ok(Digests::of(set, sums))
 }

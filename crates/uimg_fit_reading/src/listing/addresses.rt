@@ -10,7 +10,7 @@ ghost use Rattle.uimg_base.specs.Writing.{Written};
 ghost use Rattle.uimg_texts.specs.Slices.{slice};
 ghost use Rattle.uimg_fit_reading.specs.Values.{address_text, eight_or_more};
 
-use crate::listing::puts::{put, put_line, read};
+use crate::puts::{put, put_line, read};
 use std::io::Write;
 use uimg_base::{MoveFault, Out, Source};
 use uimg_blob::Span;

@@ -13,7 +13,7 @@ ghost use Rattle.uimg_fit_base.specs.Files.{bytes_in};
 ghost use Rattle.uimg_fit_reading.specs.Heads.{span_size, description_line, created_line, default_line};
 
 use crate::listing::fields::put_text_line;
-use crate::listing::puts::{put, put_line};
+use crate::puts::{put, put_line};
 use std::alloc::Allocator;
 use std::io::Write;
 use uimg_base::{MoveFault, Out, Room, Source, time_text};

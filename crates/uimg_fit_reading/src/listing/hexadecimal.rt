@@ -8,7 +8,7 @@ ghost use Rattle.uimg_base.specs.Using.{Asks};
 ghost use Rattle.uimg_base.specs.Writing.{Written};
 ghost use Rattle.uimg_texts.specs.Slices.{slice};
 
-use crate::listing::puts::{put, read};
+use crate::puts::{put, read};
 use std::io::Write;
 use uimg_base::{MoveFault, Out, Source};
 use uimg_blob::Span;

@@ -9,7 +9,7 @@ ghost use Rattle.uimg_fit_reading.specs.Values.{pieces};
 ghost use Rattle.uimg_fit_reading.specs.Shows.{lines_of};
 ghost use Rattle.uimg_fit_reading.specs.Lists.{start_of, emitted, line_after, end_of_line, IsPiece};
 
-use crate::listing::puts::{put, put_line, put_pair, read};
+use crate::puts::{put, put_line, put_pair, read};
 use std::alloc::Allocator;
 use std::io::Write;
 use uimg_base::{MoveFault, Out, Room, Source, WINDOW, before_nul};

@@ -9,8 +9,8 @@ ghost use Rattle.uimg_texts.specs.Names.{code_of, printed, kind_table, comp_tabl
 ghost use Rattle.uimg_texts.specs.Slices.{slice};
 ghost use Rattle.uimg_fit_reading.specs.Shows.{named, unknown, name_in};
 
-use crate::listing::puts::put_line;
 use crate::listing::shows::Table;
+use crate::puts::put_line;
 use std::io::Write;
 use uimg_base::{
     MoveFault, Out, Source, SourceFault, arch_code, arch_text, comp_code, comp_text, kind_code,

@@ -10,12 +10,12 @@ ghost use Rattle.uimg_fit_reading.specs.Shows.{field_lines, field_cost, FieldEnd
 ghost use Rattle.uimg_fit_reading.specs.NodeLines.{title_text};
 
 use crate::listing::fields::put_fields;
-use crate::listing::puts::put;
 use crate::listing::shows::Field;
+use crate::puts::{put, put_span};
 use itoa::Buffer;
 use std::alloc::Allocator;
 use std::io::Write;
-use uimg_base::{MoveFault, Out, Room, Source, copy_range};
+use uimg_base::{MoveFault, Out, Room, Source};
 use uimg_blob::Span;
 
 // What stands before a node's name.
@@ -30,23 +30,6 @@ fn put_number<W: Write>(out: &mut Out<W>, before: &[u8], number: usize) -> Resul
         Ok(()) => Ok(()),
         Err(_) => Err(MoveFault::Put),
     }
-}
-
-// The bytes at a span.
-fn put_span<S: Source, A: Allocator, W: Write>(
-    source: &mut S,
-    room: &mut Room<A>,
-    span: Span,
-    out: &mut Out<W>,
-) -> Result<(), MoveFault>
-    requires { span.place + span.length ≤ length (S.device source.old).bytes }
-    ensures uses { Asks span.length (is_read result) (S.device source.old) (S.device source.new) }
-    ensures room { room.new ≡ room.old }
-    ensures faults { RisesIf (is_put result) out.old.faults out.new.faults }
-    ensures told { IsTrue (S.device source.old).honest → Written (is_err result) out.old out.new
-        (slice (S.device source.old).bytes span.place span.length) }
-{
-    copy_range(source, room, span.place, span.length, out)
 }
 
 // The title of a node.

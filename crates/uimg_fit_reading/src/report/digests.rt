@@ -1,36 +1,92 @@
-ghost use Rattle.std.specs.Prelude.{◌≡◌, ℕ, ◌+◌, ◌*◌, ◌≤◌, List, [], length, IsTrue, IfOk, is_err};
-ghost use Rattle.uimg_sums.specs.declared.algo.Algo.{Algo};
-ghost use Rattle.uimg_sums.specs.Bundle.{Holds, padded_digests};
+//! The digests that the hash nodes of an image are compared with, of one pass over its payload.
+ghost use Rattle.std.specs.Prelude.{◌≡◌, ℕ, ◌+◌, ◌<◌, ◌≤◌, length, if◌then◌else◌, is_err, IfOk, IfSome, IsTrue};
 ghost use Rattle.uimg_texts.specs.Slices.{slice};
-ghost use Rattle.uimg_base.specs.Using.{Uses};
-ghost use Rattle.uimg_fit_reading.specs.Work.{passes};
+ghost use Rattle.uimg_base.specs.Using.{Asks, Uses};
+ghost use Rattle.uimg_fit_base.specs.AlgoSets.{is_empty, set_of, AreDigests};
+ghost use Rattle.uimg_fit_reading.specs.HashReports.{FindsAlgos, FindsDigests};
+ghost use Rattle.uimg_fit_reading.specs.Nodes.{InFile, OfHashes};
+ghost use Rattle.uimg_fit_reading.specs.Plans.{with_plan};
 
+use crate::nodes::next_hash;
+use crate::report::plans::{Plan, plan_at};
 use std::alloc::Allocator;
-use uimg_base::{Bundle, Room, Source, SourceFault};
-use uimg_fit_base::{Place, feed_through};
+use uimg_base::{Room, Source, SourceFault};
+use uimg_blob::Blob;
+use uimg_fit_base::{AlgoSet, Digests, Place, feed_through};
 
-// The digests of a payload by the algorithms of a bundle's sums; it is read once, and not at all where there
-// is no sum.
-pub(crate) fn digests<S: Source, A: Allocator>(
+// A set with the algorithm that a plan compares by, if it compares.
+fn with_plan(set: AlgoSet, plan: Plan) -> AlgoSet
+    ensures { result ≡ with_plan set plan }
+{
+    match plan {
+        Plan::Compared(algo, _) => set.marked(algo),
+        _ => set,
+    }
+}
+
+// The algorithms that the hash nodes from one on are compared by.
+fn compared_algos<S: Source, A: Allocator>(
+    source: &mut S,
+    blob: &Blob,
+    room: &Room<A>,
+    first: Option<usize>,
+) -> Result<AlgoSet, SourceFault>
+    requires within { IfSome first (λ i. i < length room.now.entries) }
+    requires file { InFile (length (S.device source.old).bytes) blob.now room.now.entries }
+    ensures uses { Uses (is_err result) (S.device source.old) (S.device source.new) }
+    ensures found { OfHashes (S.device source.old) blob.now room.now first (λ hs.
+        FindsAlgos hs (S.device source.old).asked (S.device source.new).asked result) }
+{
+    let mut set = AlgoSet::none();
+    let mut next = first;
+    while let Some(hash) = next {
+        let plan = plan_at(source, blob, room, hash)?;
+        set = with_plan(set, plan);
+        next = next_hash(blob, room, hash);
+    }
+    Ok(set)
+}
+
+// The digests of a payload by the algorithms of a set; it is read once, and not at all where there is none.
+fn payload_digests<S: Source, A: Allocator>(
     source: &mut S,
     room: &mut Room<A>,
-    bundle: Bundle,
+    set: AlgoSet,
     place: Place,
-) -> Result<[([u8; 64], usize); 8], SourceFault>
+) -> Result<Digests, SourceFault>
     requires { place.at + place.size ≤ length (S.device source.old).bytes }
-    ensures uses { Uses (is_err result) (S.device source.old) (S.device source.new) }
+    ensures uses { Asks (if is_empty set then 0 else place.size) (is_err result)
+        (S.device source.old) (S.device source.new) }
     ensures room { room.new ≡ room.old }
-    ensures asked { (algos : List Algo) → Holds bundle algos [] →
-        (S.device source.new).asked
-        ≤ (S.device source.old).asked + passes (length algos) * place.size }
+    ensures set { IfOk result (λ found. set_of found ≡ set) }
     ensures digests { IsTrue (S.device source.old).honest → IfOk result (λ found.
-        (algos : List Algo) → Holds bundle algos [] →
-        found ≡ padded_digests algos (slice (S.device source.old).bytes place.at place.size)) }
+        AreDigests found (slice (S.device source.old).bytes place.at place.size)) }
 {
-    let mut sums = bundle;
-    if sums.is_empty() {
-        return Ok(sums.finish());
+    let mut sums = set.sums();
+    if set.is_empty() {
+        return Ok(Digests::of(set, sums));
     }
     feed_through(&mut sums, source, room.window(), place.at, place.size)?;
-    Ok(sums.finish())
+    Ok(Digests::of(set, sums))
+}
+
+// The digests of a payload that the hash nodes from one on are compared with.
+pub(crate) fn compared_digests<S: Source, A: Allocator>(
+    source: &mut S,
+    blob: &Blob,
+    room: &mut Room<A>,
+    first: Option<usize>,
+    place: Place,
+) -> Result<Digests, SourceFault>
+    requires within { IfSome first (λ i. i < length room.old.entries) }
+    requires file { InFile (length (S.device source.old).bytes) blob.now room.old.entries }
+    requires payload { place.at + place.size ≤ length (S.device source.old).bytes }
+    ensures uses { Uses (is_err result) (S.device source.old) (S.device source.new) }
+    ensures room { room.new ≡ room.old }
+    ensures found { OfHashes (S.device source.old) blob.now room.old first (λ hs.
+        FindsDigests (slice (S.device source.old).bytes place.at place.size) place.size hs
+        (S.device source.old).asked (S.device source.new).asked result) }
+{
+    let set = compared_algos(source, blob, room, first)?;
+    payload_digests(source, room, set, place)
 }

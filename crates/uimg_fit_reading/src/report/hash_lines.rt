@@ -1,19 +1,21 @@
-ghost use Rattle.std.specs.Prelude.{◌≡◌, ◌+◌, ◌≤◌, ◌++◌, length, false, codes, is_err, IfSome, IsTrue};
-ghost use Rattle.std.specs.Option.{option_map_or};
+//! The line of a hash node, and the line of an image that has none.
+ghost use Rattle.std.specs.Prelude.{◌≡◌, ◌+◌, ◌≤◌, ◌++◌, length, codes, is_err, IfSome, IfErr};
 ghost use Rattle.uimg_texts.specs.Slices.{slice};
 ghost use Rattle.uimg_base.specs.Device.{RisesIf};
 ghost use Rattle.uimg_base.specs.Outcome.{line};
-ghost use Rattle.uimg_base.specs.Using.{Asks};
-ghost use Rattle.uimg_base.specs.Writing.{Writes, Written};
-ghost use Rattle.uimg_fit_base.specs.Faults.{is_read, is_put, is_refused};
-ghost use Rattle.uimg_fit_reading.specs.Plans.{span_length, algo_text, names_text, end_text, hash_text};
+ghost use Rattle.uimg_base.specs.Ranges.{is_put};
+ghost use Rattle.uimg_base.specs.Writing.{Written};
+ghost use Rattle.uimg_base.specs.declared.ranges.MoveFault.TheVariants.{Put};
 ghost use Rattle.uimg_fit_base.specs.Report.{word_text};
+ghost use Rattle.uimg_fit_reading.specs.Plans.{span_length, algo_text, names_text, end_text, hash_text};
+ghost use Rattle.uimg_fit_reading.specs.Puts.{Puts};
 
+use crate::puts::{put, put_line, put_span};
 use std::alloc::Allocator;
 use std::io::Write;
-use uimg_base::{Out, PutFault, Room, Source, copy_range};
+use uimg_base::{MoveFault, Out, Room, Source};
 use uimg_blob::{Span, put_text};
-use uimg_fit_base::{Fault, Word, word_text};
+use uimg_fit_base::{Word, word_text};
 
 /// What the line of a hash node is made of: where the image's name, its own and its algorithm's stand, and
 /// its word.
@@ -25,25 +27,6 @@ pub(crate) struct HashLine {
     pub(crate) word: Word,
 }
 
-// Writes the bytes at a span.
-pub(crate) fn put_span<S: Source, A: Allocator, W: Write>(
-    source: &mut S,
-    room: &mut Room<A>,
-    span: Span,
-    out: &mut Out<W>,
-) -> Result<(), Fault>
-    requires { span.place + span.length ≤ length (S.device source.old).bytes }
-    ensures uses { Asks span.length (is_read result) (S.device source.old) (S.device source.new) }
-    ensures room { room.new ≡ room.old }
-    ensures not_refused { is_refused result ≡ false }
-    ensures faults { RisesIf (is_put result) out.old.faults out.new.faults }
-    ensures told { IsTrue (S.device source.old).honest → Written (is_err result) out.old out.new
-        (slice (S.device source.old).bytes span.place span.length) }
-{
-    copy_range(source, room, span.place, span.length, out)?;
-    Ok(())
-}
-
 // Writes the bytes at a span and a blank.
 #[tactic(auto, using(uimg_base::proofs::WritingLaws::writing))]
 fn put_name<S: Source, A: Allocator, W: Write>(
@@ -51,18 +34,13 @@ fn put_name<S: Source, A: Allocator, W: Write>(
     room: &mut Room<A>,
     span: Span,
     out: &mut Out<W>,
-) -> Result<(), Fault>
+) -> Result<(), MoveFault>
     requires { span.place + span.length ≤ length (S.device source.old).bytes }
-    ensures uses { Asks span.length (is_read result) (S.device source.old) (S.device source.new) }
-    ensures room { room.new ≡ room.old }
-    ensures not_refused { is_refused result ≡ false }
-    ensures faults { RisesIf (is_put result) out.old.faults out.new.faults }
-    ensures told { IsTrue (S.device source.old).honest → Written (is_err result) out.old out.new
-        (slice (S.device source.old).bytes span.place span.length ++ codes " ") }
+    ensures { Puts span.length result (S.device source.old) (S.device source.new) room.old room.new
+        out.old out.new (slice (S.device source.old).bytes span.place span.length ++ codes " ") }
 {
     put_span(source, room, span, out)?;
-    out.put_all(b" ")?;
-    Ok(())
+    put(out, b" ")
 }
 
 // Writes the text of an algorithm's name, or `-`.
@@ -71,28 +49,24 @@ fn put_algo<S: Source, A: Allocator, W: Write>(
     room: &mut Room<A>,
     algo: Option<Span>,
     out: &mut Out<W>,
-) -> Result<(), Fault>
+) -> Result<(), MoveFault>
     requires { IfSome algo (λ s. s.place + s.length ≤ length (S.device source.old).bytes) }
-    ensures uses { Asks (span_length algo) (is_read result)
-        (S.device source.old) (S.device source.new) }
-    ensures room { room.new ≡ room.old }
-    ensures not_refused { is_refused result ≡ false }
-    ensures faults { RisesIf (is_put result) out.old.faults out.new.faults }
-    ensures told { IsTrue (S.device source.old).honest → Written (is_err result) out.old out.new
-        (algo_text (S.device source.old).bytes algo) }
+    ensures { Puts (span_length algo) result (S.device source.old) (S.device source.new)
+        room.old room.new out.old out.new (algo_text (S.device source.old).bytes algo) }
 {
     match algo {
-        Some(span) => put_text(source, room, span, out)?,
-        None => out.put_all(b"-")?,
+        Some(span) => put_text(source, room, span, out),
+        None => put(out, b"-"),
     }
-    Ok(())
 }
 
 // Writes a word behind a blank, and ends the line.
-fn put_word<W: Write>(word: Word, out: &mut Out<W>) -> Result<(), PutFault>
-    ensures { Writes (is_err result) out.old out.new (line (codes " " ++ word_text word)) }
+fn put_word<W: Write>(word: Word, out: &mut Out<W>) -> Result<(), MoveFault>
+    ensures faults { RisesIf (is_put result) out.old.faults out.new.faults }
+    ensures put { IfErr result (λ e. e ≡ Put) }
+    ensures told { Written (is_err result) out.old out.new (line (codes " " ++ word_text word)) }
 {
-    out.put_pieces(&[b" ", word_text(word).as_bytes(), b"\n"])
+    put_line(out, b" ", word_text(word).as_bytes())
 }
 
 // Writes the names that a hash node's line begins with.
@@ -102,20 +76,15 @@ fn put_names<S: Source, A: Allocator, W: Write>(
     room: &mut Room<A>,
     line: HashLine,
     out: &mut Out<W>,
-) -> Result<(), Fault>
+) -> Result<(), MoveFault>
     requires image { line.image.place + line.image.length ≤ length (S.device source.old).bytes }
     requires hash { line.hash.place + line.hash.length ≤ length (S.device source.old).bytes }
-    ensures uses { Asks (line.image.length + line.hash.length)
-        (is_read result) (S.device source.old) (S.device source.new) }
-    ensures room { room.new ≡ room.old }
-    ensures not_refused { is_refused result ≡ false }
-    ensures faults { RisesIf (is_put result) out.old.faults out.new.faults }
-    ensures told { IsTrue (S.device source.old).honest → Written (is_err result) out.old out.new
+    ensures { Puts (line.image.length + line.hash.length) result (S.device source.old)
+        (S.device source.new) room.old room.new out.old out.new
         (names_text (S.device source.old).bytes line) }
 {
     put_name(source, room, line.image, out)?;
-    put_name(source, room, line.hash, out)?;
-    Ok(())
+    put_name(source, room, line.hash, out)
 }
 
 // Writes what a hash node's line ends with.
@@ -125,19 +94,13 @@ fn put_end<S: Source, A: Allocator, W: Write>(
     room: &mut Room<A>,
     line: HashLine,
     out: &mut Out<W>,
-) -> Result<(), Fault>
+) -> Result<(), MoveFault>
     requires { IfSome line.algo (λ s. s.place + s.length ≤ length (S.device source.old).bytes) }
-    ensures uses { Asks (span_length line.algo) (is_read result)
-        (S.device source.old) (S.device source.new) }
-    ensures room { room.new ≡ room.old }
-    ensures not_refused { is_refused result ≡ false }
-    ensures faults { RisesIf (is_put result) out.old.faults out.new.faults }
-    ensures told { IsTrue (S.device source.old).honest → Written (is_err result) out.old out.new
-        (end_text (S.device source.old).bytes line) }
+    ensures { Puts (span_length line.algo) result (S.device source.old) (S.device source.new)
+        room.old room.new out.old out.new (end_text (S.device source.old).bytes line) }
 {
     put_algo(source, room, line.algo, out)?;
-    put_word(line.word, out)?;
-    Ok(())
+    put_word(line.word, out)
 }
 
 // Writes the line of a hash node.
@@ -147,22 +110,17 @@ pub(crate) fn put_hash_line<S: Source, A: Allocator, W: Write>(
     room: &mut Room<A>,
     line: HashLine,
     out: &mut Out<W>,
-) -> Result<(), Fault>
+) -> Result<(), MoveFault>
     requires image { line.image.place + line.image.length ≤ length (S.device source.old).bytes }
     requires hash { line.hash.place + line.hash.length ≤ length (S.device source.old).bytes }
     requires algo { IfSome line.algo (λ s.
         s.place + s.length ≤ length (S.device source.old).bytes) }
-    ensures uses { Asks (line.image.length + line.hash.length + span_length line.algo)
-        (is_read result) (S.device source.old) (S.device source.new) }
-    ensures room { room.new ≡ room.old }
-    ensures not_refused { is_refused result ≡ false }
-    ensures faults { RisesIf (is_put result) out.old.faults out.new.faults }
-    ensures told { IsTrue (S.device source.old).honest → Written (is_err result) out.old out.new
+    ensures { Puts (line.image.length + line.hash.length + span_length line.algo) result
+        (S.device source.old) (S.device source.new) room.old room.new out.old out.new
         (hash_text (S.device source.old).bytes line) }
 {
     put_names(source, room, line, out)?;
-    put_end(source, room, line, out)?;
-    Ok(())
+    put_end(source, room, line, out)
 }
 
 // Writes the line of an image without hash nodes.
@@ -172,17 +130,13 @@ pub(crate) fn put_unhashed<S: Source, A: Allocator, W: Write>(
     room: &mut Room<A>,
     image: Span,
     out: &mut Out<W>,
-) -> Result<(), Fault>
+) -> Result<(), MoveFault>
     requires { image.place + image.length ≤ length (S.device source.old).bytes }
-    ensures uses { Asks image.length (is_read result) (S.device source.old) (S.device source.new) }
-    ensures room { room.new ≡ room.old }
-    ensures not_refused { is_refused result ≡ false }
-    ensures faults { RisesIf (is_put result) out.old.faults out.new.faults }
-    ensures told { IsTrue (S.device source.old).honest → Written (is_err result) out.old out.new
+    ensures { Puts image.length result (S.device source.old) (S.device source.new)
+        room.old room.new out.old out.new
         (slice (S.device source.old).bytes image.place image.length
         ++ line (codes " - none unhashed")) }
 {
     put_span(source, room, image, out)?;
-    out.put_all(b" - none unhashed\n")?;
-    Ok(())
+    put(out, b" - none unhashed\n")
 }

@@ -1,56 +1,53 @@
-ghost use Rattle.std.specs.Prelude.{◌≡◌, ℕ, ◌+◌, ◌<◌, ◌≤◌, List, length, false, Some, IfOk, IfSome, IsTrue};
+//! Reporting on the hash nodes of an image.
+ghost use Rattle.std.specs.Prelude.{◌≡◌, ℕ, ◌+◌, ◌<◌, ◌≤◌, List, length, IfSome};
+ghost use Rattle.std.specs.List.{AllByRecursion};
 ghost use Rattle.uimg_texts.specs.Slices.{slice};
-ghost use Rattle.uimg_base.specs.Device.{RisesIf};
-ghost use Rattle.uimg_base.specs.Using.{Uses};
-ghost use Rattle.uimg_blob.specs.Grammar.{Siblings};
-ghost use Rattle.uimg_blob.specs.LookUps.{NodeOf};
-ghost use Rattle.uimg_blob.specs.Spots.{Spot};
-ghost use Rattle.uimg_fit_base.specs.Faults.{is_read, is_put, is_refused};
-ghost use Rattle.uimg_fit_reading.specs.HashReports.{ReportsGroup, ReportsHashes};
-ghost use Rattle.uimg_fit_reading.specs.Nodes.{InFile, IsRead, HashesAt};
+ghost use Rattle.uimg_base.specs.Ranges.{is_read, is_put};
+ghost use Rattle.uimg_fit_base.specs.AlgoSets.{set_of, AreDigests};
+ghost use Rattle.uimg_fit_reading.specs.HashReports.{AllCovered, PutsHashes, ReportsHashes};
+ghost use Rattle.uimg_fit_reading.specs.Nodes.{InFile, OfHashes};
+ghost use Rattle.uimg_fit_reading.specs.Puts.{Leaves};
 
-use crate::report::digests::digests;
-use crate::report::groups::{Group, gather};
-use crate::report::walks::{Walk, put_group};
+use crate::nodes::next_hash;
+use crate::report::digests::compared_digests;
+use crate::report::judging::put_hash;
 use std::alloc::Allocator;
 use std::io::Write;
-use uimg_base::{Out, Room, Source};
+use uimg_base::{MoveFault, Out, Room, Source};
 use uimg_blob::{Blob, Span};
-use uimg_fit_base::{Fault, Place};
+use uimg_fit_base::{Digests, Place, is_right};
 
-// Reports on the group that begins at a hash node, after one pass over the payload.
-fn report_group<S: Source, A: Allocator, W: Write>(
+// Writes a line for each hash node from one on, by the digests of their payload; tells whether all are right.
+fn put_hashes<S: Source, A: Allocator, W: Write>(
     source: &mut S,
     blob: &Blob,
     room: &mut Room<A>,
     image: Span,
-    place: Place,
-    first: usize,
+    first: Option<usize>,
+    digests: &Digests,
     out: &mut Out<W>,
-) -> Result<Walk, Fault>
-    requires within { first < length room.old.entries }
+) -> Result<bool, MoveFault>
+    requires within { IfSome first (λ i. i < length room.old.entries) }
     requires file { InFile (length (S.device source.old).bytes) blob.now room.old.entries }
     requires name { image.place + image.length ≤ length (S.device source.old).bytes }
-    requires payload { place.at + place.size ≤ length (S.device source.old).bytes }
-    ensures uses { Uses (is_read result) (S.device source.old) (S.device source.new) }
-    ensures room { room.new ≡ room.old }
-    ensures not_refused { is_refused result ≡ false }
-    ensures faults { RisesIf (is_put result) out.old.faults out.new.faults }
-    ensures within { IfOk result (λ w. IfSome w.next (λ i. i < length room.old.entries)) }
-    ensures later { IfOk result (λ w. IfSome w.next (λ i. first < i)) }
-    ensures told { IsTrue (S.device source.old).honest → (t : Siblings) →
-        IsRead (S.device source.old).bytes blob.now room.old.entries t →
-        (hs : List (NodeOf Spot)) → HashesAt t (Some first) hs →
-        ReportsGroup t (slice (S.device source.old).bytes image.place image.length)
-        (slice (S.device source.old).bytes place.at place.size) place.size image.length hs
-        (S.device source.old).asked (S.device source.new).asked result out.old out.new }
+    ensures leaves { Leaves (is_read result) (is_put result) (S.device source.old)
+        (S.device source.new) room.old room.new out.old out.new }
+    ensures told { OfHashes (S.device source.old) blob.now room.old first (λ hs.
+        (message : List ℕ) → AreDigests digests.now message → AllCovered (set_of digests.now) hs →
+        PutsHashes (slice (S.device source.old).bytes image.place image.length) message image.length
+        hs (S.device source.old).asked (S.device source.new).asked result out.old out.new) }
 {
-    let Group { bundle, count } = gather(source, blob, room, first)?;
-    let found = digests(source, room, bundle, place)?;
-    put_group(source, blob, room, image, first, count, &found, out)
+    let mut are_right = true;
+    let mut next = first;
+    while let Some(hash) = next {
+        let word = put_hash(source, blob, room, image, hash, digests, out)?;
+        are_right = are_right & is_right(word);
+        next = next_hash(blob, room, hash);
+    }
+    Ok(are_right)
 }
 
-// Reports on the hash nodes from one on, group by group; it tells whether all are right.
+// Reports on the hash nodes from one on, after one pass over their payload; tells whether all are right.
 pub(crate) fn report_hashes<S: Source, A: Allocator, W: Write>(
     source: &mut S,
     blob: &Blob,
@@ -59,28 +56,20 @@ pub(crate) fn report_hashes<S: Source, A: Allocator, W: Write>(
     place: Place,
     first: Option<usize>,
     out: &mut Out<W>,
-) -> Result<bool, Fault>
+) -> Result<bool, MoveFault>
     requires within { IfSome first (λ i. i < length room.old.entries) }
     requires file { InFile (length (S.device source.old).bytes) blob.now room.old.entries }
     requires name { image.place + image.length ≤ length (S.device source.old).bytes }
     requires payload { place.at + place.size ≤ length (S.device source.old).bytes }
-    ensures uses { Uses (is_read result) (S.device source.old) (S.device source.new) }
-    ensures room { room.new ≡ room.old }
-    ensures not_refused { is_refused result ≡ false }
-    ensures faults { RisesIf (is_put result) out.old.faults out.new.faults }
-    ensures told { IsTrue (S.device source.old).honest → (t : Siblings) →
-        IsRead (S.device source.old).bytes blob.now room.old.entries t →
-        (hs : List (NodeOf Spot)) → HashesAt t first hs →
+    ensures leaves { Leaves (is_read result) (is_put result) (S.device source.old)
+        (S.device source.new) room.old room.new out.old out.new }
+    ensures told { OfHashes (S.device source.old) blob.now room.old first (λ hs.
         ReportsHashes (slice (S.device source.old).bytes image.place image.length)
         (slice (S.device source.old).bytes place.at place.size) place.size image.length hs
-        (S.device source.old).asked (S.device source.new).asked result out.old out.new }
+        (S.device source.old).asked (S.device source.new).asked result out.old out.new) }
 {
-    let mut are_right = true;
-    let mut next = first;
-    while let Some(hash) = next {
-        let walk = report_group(source, blob, room, image, place, hash, out)?;
-        are_right = are_right & walk.are_right;
-        next = walk.next;
-    }
-    Ok(are_right)
+    let Ok(digests) = compared_digests(source, blob, room, first, place) else {
+        return Err(MoveFault::Read);
+    };
+    put_hashes(source, blob, room, image, first, &digests, out)
 }

@@ -1,14 +1,12 @@
-ghost use Rattle.std.specs.Prelude.{◌≡◌, ℕ, ◌+◌, ◌<◌, ◌≤◌, List, length, false, IfSome, IsTrue};
+//! Reporting on images, one after the other.
+ghost use Rattle.std.specs.Prelude.{◌≡◌, ◌+◌, ◌<◌, ◌≤◌, length, false, IfSome};
 ghost use Rattle.uimg_texts.specs.Slices.{slice};
-ghost use Rattle.uimg_base.specs.Device.{RisesIf};
-ghost use Rattle.uimg_base.specs.Using.{Uses};
-ghost use Rattle.uimg_blob.specs.Grammar.{Siblings};
-ghost use Rattle.uimg_blob.specs.LookUps.{NodeOf};
+ghost use Rattle.uimg_base.specs.Ranges as moves;
 ghost use Rattle.uimg_blob.specs.Roles.{in_images};
-ghost use Rattle.uimg_blob.specs.Spots.{Spot};
-ghost use Rattle.uimg_fit_base.specs.Faults.{is_read, is_put, is_out_of_memory, is_refused};
+ghost use Rattle.uimg_fit_base.specs.Faults.{is_read, is_put, is_out_of_memory};
 ghost use Rattle.uimg_fit_reading.specs.ImageReports.{ReportsFound, ReportsImage, ReportsImages, status_of};
-ghost use Rattle.uimg_fit_reading.specs.Nodes.{InFile, IsRead, IsNode, AreFrom};
+ghost use Rattle.uimg_fit_reading.specs.Nodes.{InFile, OfNode, OfNodes};
+ghost use Rattle.uimg_fit_reading.specs.Puts.{Leaves};
 
 use crate::nodes::{first_hash, name_of, next_of};
 use crate::places::payload_place;
@@ -16,7 +14,7 @@ use crate::report::hash_lines::put_unhashed;
 use crate::report::hash_reports::report_hashes;
 use std::alloc::Allocator;
 use std::io::Write;
-use uimg_base::{Out, Room, Source, Status};
+use uimg_base::{MoveFault, Out, Room, Source, Status};
 use uimg_blob::Blob;
 use uimg_fit_base::{Fault, Place};
 
@@ -28,19 +26,15 @@ fn report_found<S: Source, A: Allocator, W: Write>(
     image: usize,
     place: Place,
     out: &mut Out<W>,
-) -> Result<bool, Fault>
+) -> Result<bool, MoveFault>
     requires within { image < length room.old.entries }
     requires file { InFile (length (S.device source.old).bytes) blob.now room.old.entries }
     requires payload { place.at + place.size ≤ length (S.device source.old).bytes }
-    ensures uses { Uses (is_read result) (S.device source.old) (S.device source.new) }
-    ensures room { room.new ≡ room.old }
-    ensures not_refused { is_refused result ≡ false }
-    ensures faults { RisesIf (is_put result) out.old.faults out.new.faults }
-    ensures told { IsTrue (S.device source.old).honest → (t : Siblings) →
-        IsRead (S.device source.old).bytes blob.now room.old.entries t →
-        (found : NodeOf Spot) → IsNode t in_images image found →
+    ensures leaves { Leaves (moves.is_read result) (moves.is_put result) (S.device source.old)
+        (S.device source.new) room.old room.new out.old out.new }
+    ensures told { OfNode (S.device source.old) blob.now room.old in_images image (λ found.
         ReportsFound found (slice (S.device source.old).bytes place.at place.size) place.size
-        (S.device source.old).asked (S.device source.new).asked result out.old out.new }
+        (S.device source.old).asked (S.device source.new).asked result out.old out.new) }
 {
     let name = name_of(blob, room, image);
     let first = first_hash(blob, room, image);
@@ -61,20 +55,15 @@ fn report_image<S: Source, A: Allocator, W: Write>(
 ) -> Result<bool, Fault>
     requires within { image < length room.old.entries }
     requires file { InFile (length (S.device source.old).bytes) blob.now room.old.entries }
-    ensures uses { Uses (is_read result) (S.device source.old) (S.device source.new) }
-    ensures room { room.new ≡ room.old }
+    ensures leaves { Leaves (is_read result) (is_put result) (S.device source.old)
+        (S.device source.new) room.old room.new out.old out.new }
     ensures memory { is_out_of_memory result ≡ false }
-    ensures faults { RisesIf (is_put result) out.old.faults out.new.faults }
-    ensures told { IsTrue (S.device source.old).honest → (t : Siblings) →
-        IsRead (S.device source.old).bytes blob.now room.old.entries t →
-        (found : NodeOf Spot) → IsNode t in_images image found →
+    ensures told { OfNode (S.device source.old) blob.now room.old in_images image (λ found.
         ReportsImage (S.device source.old).bytes found
-        (S.device source.old).asked (S.device source.new).asked result out.old out.new }
+        (S.device source.old).asked (S.device source.new).asked result out.old out.new) }
 {
-    match payload_place(source, blob, room, image) {
-        Ok(place) => report_found(source, blob, room, image, place, out),
-        Err(fault) => Err(fault),
-    }
+    let place = payload_place(source, blob, room, image)?;
+    Ok(report_found(source, blob, room, image, place, out)?)
 }
 
 // The status of a report.
@@ -98,23 +87,18 @@ pub(crate) fn report_images<S: Source, A: Allocator, W: Write>(
 ) -> Result<Status, Fault>
     requires within { IfSome first (λ i. i < length room.old.entries) }
     requires file { InFile (length (S.device source.old).bytes) blob.now room.old.entries }
-    ensures uses { Uses (is_read result) (S.device source.old) (S.device source.new) }
-    ensures room { room.new ≡ room.old }
+    ensures leaves { Leaves (is_read result) (is_put result) (S.device source.old)
+        (S.device source.new) room.old room.new out.old out.new }
     ensures memory { is_out_of_memory result ≡ false }
-    ensures faults { RisesIf (is_put result) out.old.faults out.new.faults }
-    ensures told { IsTrue (S.device source.old).honest → (t : Siblings) →
-        IsRead (S.device source.old).bytes blob.now room.old.entries t →
-        (found : List (NodeOf Spot)) → AreFrom t in_images first found →
+    ensures told { OfNodes (S.device source.old) blob.now room.old in_images first (λ found.
         ReportsImages (S.device source.old).bytes found
-        (S.device source.old).asked (S.device source.new).asked result out.old out.new }
+        (S.device source.old).asked (S.device source.new).asked result out.old out.new) }
 {
     let mut are_right = true;
     let mut next = first;
     while let Some(image) = next {
-        match report_image(source, blob, room, image, out) {
-            Ok(right) => are_right = are_right & right,
-            Err(fault) => return Err(fault),
-        }
+        let right = report_image(source, blob, room, image, out)?;
+        are_right = are_right & right;
         next = next_of(blob, room, image);
     }
     Ok(status(are_right))

@@ -1,13 +1,19 @@
-ghost use Rattle.std.specs.Prelude.{◌≡◌, ◌+◌, ◌≤◌, ℕ, List, length, take, is_err, IfOk, IfSome, IsTrue};
+//! What is to be done about a hash node before its payload is read, and its word once it is.
+ghost use Rattle.std.specs.Prelude.{◌≡◌, ◌+◌, ◌<◌, ◌≤◌, ℕ, List, length, take, is_err, IfOk, IfSome, IsTrue};
 ghost use Rattle.std.specs.Str.{bytes_eq};
 ghost use Rattle.uimg_sums.specs.Algorithms.{algo_named};
 ghost use Rattle.uimg_texts.specs.Slices.{slice};
 ghost use Rattle.uimg_base.specs.Using.{Asks};
-ghost use Rattle.uimg_fit_reading.specs.Plans.{plan_by_value, plan_by_algo, plan_by_name, text_in, IsOf, EndsIn, HasDigest, word_by};
+ghost use Rattle.uimg_fit_base.specs.AlgoSets.{set_of, AreDigests};
+ghost use Rattle.uimg_fit_base.specs.Report.{word_of};
+ghost use Rattle.uimg_fit_reading.specs.Nodes.{InFile, OfHash};
+ghost use Rattle.uimg_fit_reading.specs.Plans.{plan_by_value, plan_by_algo, plan_by_name, plan_of, text_in, IsOf, EndsIn, IsCovered, word_by};
 
-use uimg_base::{Algo, Source, SourceFault};
-use uimg_blob::{Span, short_text};
-use uimg_fit_base::Word;
+use crate::nodes::value_of;
+use std::alloc::Allocator;
+use uimg_base::{Algo, Room, Source, SourceFault};
+use uimg_blob::{Blob, Key, Span, short_text};
+use uimg_fit_base::{Digests, Word};
 
 /// What is to be done about a hash node, before any payload is read.
 #[derive(Clone, Copy, Debug, PartialEq, Eq)]
@@ -41,7 +47,7 @@ fn plan_named(name: &[u8], value: Option<Span>) -> Plan
 }
 
 // What is to be done by the text of an algorithm's name and the place of a value.
-pub(crate) fn planned<S: Source>(
+fn planned<S: Source>(
     source: &mut S,
     algo: Option<Span>,
     value: Option<Span>,
@@ -62,6 +68,28 @@ pub(crate) fn planned<S: Source>(
     }
 }
 
+// What is to be done about a hash node.
+pub(crate) fn plan_at<S: Source, A: Allocator>(
+    source: &mut S,
+    blob: &Blob,
+    room: &Room<A>,
+    hash: usize,
+) -> Result<Plan, SourceFault>
+    requires within { hash < length room.now.entries }
+    requires file { InFile (length (S.device source.old).bytes) blob.now room.now.entries }
+    ensures uses { Asks 32 (is_err result) (S.device source.old) (S.device source.new) }
+    ensures ends { IfOk result (EndsIn (length (S.device source.old).bytes)) }
+    ensures plan { OfHash (S.device source.old) blob.now room.now hash (λ found.
+        IfOk result (λ plan. plan ≡ plan_of found)) }
+    ensures word { OfHash (S.device source.old) blob.now room.now hash (λ found.
+        (message : List ℕ) → IfOk result (λ plan.
+        word_by (S.device source.old).bytes message plan ≡ word_of message found)) }
+{
+    let algo = value_of(blob, room, hash, Key::Algo);
+    let value = value_of(blob, room, hash, Key::Value);
+    planned(source, algo, value)
+}
+
 // Whether the value at a span is what a digest begins with.
 fn is_digest<S: Source>(source: &mut S, span: Span, digest: &[u8; 64]) -> Result<bool, SourceFault>
     requires range { span.place + span.length ≤ length (S.device source.old).bytes }
@@ -78,23 +106,23 @@ fn is_digest<S: Source>(source: &mut S, span: Span, digest: &[u8; 64]) -> Result
     Ok(bytes[..length] == digest[..length])
 }
 
-// The word of a hash node, by the digest of its payload where one is asked for.
+// The word of a hash node, by the digests of its payload.
 pub(crate) fn judged<S: Source>(
     source: &mut S,
     plan: Plan,
-    digest: &[u8; 64],
+    digests: &Digests,
 ) -> Result<Word, SourceFault>
     requires { EndsIn (length (S.device source.old).bytes) plan }
     ensures uses { Asks 64 (is_err result) (S.device source.old) (S.device source.new) }
     ensures word { IsTrue (S.device source.old).honest → (message : List ℕ) →
-        HasDigest digest.now message plan → IfOk result (λ word.
-        word ≡ word_by (S.device source.old).bytes message plan) }
+        AreDigests digests.now message → IsCovered (set_of digests.now) plan →
+        IfOk result (λ word. word ≡ word_by (S.device source.old).bytes message plan) }
 {
     match plan {
         Plan::Malformed => Ok(Word::Malformed),
         Plan::Unsupported => Ok(Word::Unsupported),
-        Plan::Compared(_, span) => {
-            if is_digest(source, span, digest)? {
+        Plan::Compared(algo, span) => {
+            if is_digest(source, span, &digests.by(algo))? {
                 Ok(Word::Right)
             } else {
                 Ok(Word::Wrong)

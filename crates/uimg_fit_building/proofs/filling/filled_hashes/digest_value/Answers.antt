@@ -7,5 +7,5 @@ use Rattle.uimg_fit_building.proofs.filling.filled_hashes.digest_value.Goals as 
 pub returns-clause-digest : goal.returns-clause-digest
 returns-clause-digest g c = λ message all in_use.
     ap (λ (w : List ℕ). let v : Content = bytes w in v)
-    (c.in_ok-copied.ensures.bytes ∙ ap (λ (n : ℕ). take n c.digest_of-digest.result) c.len.ensures
-    ∙ ap (λ (w : List ℕ). take (digest_size c.args.algo) w) (c.digest_of-digest.ensures message all in_use) ∙ front-digest c.args.algo message)
+    (c.in_ok-copied.ensures.bytes ∙ ap (λ (n : ℕ). take n c.by-digest.result) c.len.ensures
+    ∙ ap (λ (w : List ℕ). take (digest_size c.args.algo) w) (c.by-digest.ensures message all in_use) ∙ front-digest c.args.algo message)

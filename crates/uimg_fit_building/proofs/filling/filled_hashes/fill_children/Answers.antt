@@ -4,6 +4,7 @@ use Rattle.uimg_blob.specs.Roles.{is_hash}
 use Rattle.uimg_tree.specs.declared.tree.Node.{Node}
 use Rattle.uimg_fit_building.specs.Behind.{entry}
 use Rattle.uimg_fit_building.specs.ImageFillings.{hashed_in}
+use Rattle.uimg_fit_base.specs.AlgoSets.{set_of}
 use Rattle.uimg_fit_building.specs.PayloadSums.{IsCovered}
 use Rattle.uimg_fit_building.proofs.EachLaws.{same-at, changed-more, changed-all}
 use Rattle.uimg_fit_building.proofs.FilledHashLaws.{covered-at}
@@ -12,6 +13,7 @@ use Rattle.uimg_fit_building.proofs.filling.filled_hashes.fill_children.Goals as
 pub loop-node-preserved : goal.loop-node-preserved
 loop-node-preserved g c =
     let old = c.args.nodes.now in
+    let set = set_of c.args.digests.now in
     let now = c.loop-node.nodes in
     let i = c.loop-node.node-index in
     let d = c.node-item.result in
@@ -23,8 +25,8 @@ loop-node-preserved g c =
       changed = λ message all covered.
           let was = c.loop-node.invariant.changed message all covered in
           let here : child ≡ get_or old i d = same-at entry (hashed_in message) old now i d in_old in_now was.rest in
-          let covers : is_hash child.name ≡ true → IsCovered c.args.set (entry child) =
-          λ is. subst (λ (n : Node _). IsCovered c.args.set (entry n)) (sym here) (covered-at c.args.set old i d in_old covered (subst (λ (n : Node _). is_hash n.name ≡ true) here is)) in
+          let covers : is_hash child.name ≡ true → IsCovered set (entry child) =
+          λ is. subst (λ (n : Node _). IsCovered set (entry n)) (sym here) (covered-at set old i d in_old covered (subst (λ (n : Node _). is_hash n.name ≡ true) here is)) in
           changed-more entry (hashed_in message) old now i d c.fill_child.new.node in_old in_now was
           (c.in_ok-fill_child.ensures.filled message all covers ∙ ap (λ (n : Node _). hashed_in message (entry n)) here);
     }

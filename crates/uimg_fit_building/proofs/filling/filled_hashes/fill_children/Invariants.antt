@@ -1,10 +1,10 @@
 use Rattle.std.proofs.Common.{◌≡◌, ℕ, List, length, map}
 use Rattle.std.specs.List.{filter, AllByRecursion}
-use Rattle.uimg_sums.specs.Bundle.{padded_digests}
 use Rattle.uimg_blob.specs.Roles.{is_hash}
 use Rattle.uimg_fit_building.specs.Behind.{entry}
 use Rattle.uimg_fit_building.specs.ImageFillings.{hashed_in}
-use Rattle.uimg_fit_building.specs.PayloadSums.{chosen, IsCovered}
+use Rattle.uimg_fit_base.specs.AlgoSets.{set_of, AreDigests}
+use Rattle.uimg_fit_building.specs.PayloadSums.{IsCovered}
 use Rattle.uimg_fit_building.proofs.EachLaws.{ChangedTo}
 use Rattle.uimg_fit_building.proofs.filling.filled_hashes.fill_children.Given as goal
 
@@ -12,7 +12,7 @@ use Rattle.uimg_fit_building.proofs.filling.filled_hashes.fill_children.Given as
 abbrev pub invariant-loop-node : goal.invariant-loop-node
 invariant-loop-node g l = record {
   long : length l.nodes ≡ length l.fn.nodes;
-  changed : (message : List ℕ) → l.digests ≡ padded_digests (chosen l.fn.set) message
-      → AllByRecursion (IsCovered l.fn.set) (filter (λ h. is_hash h.name) (map entry l.fn.nodes))
+  changed : (message : List ℕ) → AreDigests l.digests message
+      → AllByRecursion (IsCovered (set_of l.digests)) (filter (λ h. is_hash h.name) (map entry l.fn.nodes))
       → ChangedTo entry (hashed_in message) l.fn.nodes l.nodes l.node-index;
 }

@@ -1,11 +1,16 @@
-use Rattle.std.proofs.Common.{◌∙◌, refl, sym, ap, Option, Some}
+use Rattle.std.proofs.Common.{◌∙◌, refl, sym, ap, subst, map, Option, Some}
+use Rattle.std.specs.List.{filter, AllByRecursion}
+use Rattle.uimg_blob.specs.Roles.{is_hash}
+use Rattle.uimg_fit_building.specs.Behind.{entry}
+use Rattle.uimg_fit_building.specs.PayloadSums.{IsCovered}
 use Rattle.std.specs.Bool.{⊤}
-use Rattle.uimg_fit_building.specs.declared.filling.algo_sets.AlgoSet.{AlgoSet}
+use Rattle.uimg_fit_base.specs.declared.algo_sets.AlgoSet.{AlgoSet}
 use Rattle.uimg_tree.specs.Content.{bytes_in}
 use Rattle.uimg_tree.specs.Properties.{content}
 use Rattle.uimg_tree.specs.Trees.{siblings}
 use Rattle.uimg_fit_building.proofs.FillOrderLaws.{always}
-use Rattle.uimg_fit_building.proofs.ImageFillLaws.{not-known, all-known, all-covered, none-found, none-hashed, some-hashed, stops-at, empty-is, some-are, children-filled}
+use Rattle.uimg_fit_building.proofs.ImageFillLaws.{not-known, all-known, all-covered, none-found, none-hashed, some-hashed, stops-at, children-filled}
+use Rattle.uimg_fit_base.proofs.AlgoSetLaws.{empty-is, some-are}
 use Rattle.uimg_fit_building.proofs.filling.filled_images.fill_hashes.Goals as goal
 
 pub returns-in_default-clause-filled : goal.returns-in_default-clause-filled
@@ -35,7 +40,8 @@ returns-in-Ok-clause-filled g c = λ honest.
     children-filled c.fill_children.result files payload c.args.nodes.now c.fill_children.new.nodes
     (all-known c.args.nodes.now _ refl c.in-Some.set is)
     c.fill_children.ensures.memory
-    (c.fill_children.ensures.filled (bytes_in files payload) (c.in-Ok.ensures.digests honest) (all-covered c.args.nodes.now _ refl c.in-Some.set is))
+    (c.fill_children.ensures.filled (bytes_in files payload) (c.in-Ok.ensures.digests honest)
+    (subst (λ (s : AlgoSet). AllByRecursion (IsCovered s) (filter (λ h. is_hash h.name) (map entry c.args.nodes.now))) (sym c.in-Ok.ensures.set) (all-covered c.args.nodes.now _ refl c.in-Some.set is)))
 
 pub returns-then-is_empty-clause-kept : goal.returns-then-is_empty-clause-kept
 returns-then-is_empty-clause-kept g c = λ honest hashed.

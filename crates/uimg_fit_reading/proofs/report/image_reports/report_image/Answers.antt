@@ -1,28 +1,43 @@
-use Rattle.std.proofs.Common.{ℕ, List, Bool, IsTrue, subst, sym}
+use Rattle.std.proofs.Common.{rules, ◌≡◌, ℕ, List, Bool, refl, subst, sym}
+use Rattle.std.specs.Prelude.{Result, Ok, Err}
 use Rattle.uimg_texts.specs.Slices.{slice}
 use Rattle.uimg_base.proofs.Slices.{length-slice}
-use Rattle.uimg_fit_reading.specs.ImageReports.{ReportsFound}
-use Rattle.uimg_fit_reading.specs.Nodes.{IsRead}
-use Rattle.uimg_fit_reading.proofs.ImageReportLaws.{image_told, image_cut, keeps_memory}
+use Rattle.uimg_fit_base.specs.declared.fault.Fault.{Fault}
+use Rattle.uimg_fit_base.specs.Faults.{of_move}
+use Rattle.uimg_fit_reading.specs.ImageReports.{ReportsFound, ReportsImage}
+use Rattle.uimg_fit_reading.proofs.OpenedLaws.{still}
+use Rattle.uimg_fit_reading.proofs.ImageReportLaws.{image_done, image_failed, image_cut}
 use Rattle.uimg_fit_reading.proofs.report.image_reports.report_image.Goals as goal
 
-pub returns-in-Ok-clause-memory : goal.returns-in-Ok-clause-memory
-returns-in-Ok-clause-memory g c = keeps_memory c.report_found.result c.report_found.ensures.not_refused
-
-pub returns-in-Ok-clause-told : goal.returns-in-Ok-clause-told
-returns-in-Ok-clause-told g c = λ honest t read found n.
+pub returns-in_err-place-clause-told : goal.returns-in_err-place-clause-told
+returns-in_err-place-clause-told g c = λ t o found n.
     let d = g.S.Source.device in
     let file = (d c.args.source.now).bytes in
-    let place = c.in-Ok.place in
-    let message = slice file place.at place.size in
-    let same = c.payload_place.ensures.uses.same in
-    let now = subst (λ (b : Bool). IsTrue b) (sym same.honest) honest in
-    let here = subst (λ (xs : List ℕ). IsRead xs c.args.blob.now c.args.room.now.entries t) (sym same.bytes) read in
-    let told = subst (λ (xs : List ℕ). ReportsFound found (slice xs place.at place.size) place.size (d c.payload_place.new.source).asked (d c.report_found.new.source).asked c.report_found.result c.args.out.now c.report_found.new.out)
-    same.bytes (c.report_found.ensures.told now t here found n) in
-    image_told file found message place.size (d c.args.source.now).asked (d c.payload_place.new.source).asked (d c.report_found.new.source).asked c.report_found.result c.args.out.now c.report_found.new.out
-    (c.in-Ok.ensures.told honest t read found n) (length-slice file place.at place.size c.in-Ok.ensures.inside) c.payload_place.ensures.uses.asked c.report_found.ensures.not_refused told
+    let is : c.from_residual.result ≡ Err c.in_err-place.field-0.0 = search rules in
+    subst (λ (r : Result Bool Fault). ReportsImage file found (d c.args.source.now).asked (d c.payload_place.new.source).asked r c.args.out.now c.args.out.now) (sym is)
+    (image_cut file found _ _ c.in_err-place.field-0.0 c.args.out.now (c.in_err-place.ensures.told o.honest t o.read found n) c.payload_place.ensures.uses.asked)
 
-pub returns-in-Err-clause-told : goal.returns-in-Err-clause-told
-returns-in-Err-clause-told g c = λ honest t read found n.
-    image_cut (g.S.Source.device c.args.source.now).bytes found _ _ c.in-Err.fault c.args.out.now (c.in-Err.ensures.told honest t read found n) c.payload_place.ensures.uses.asked
+pub returns-in_err-report_found-clause-told : goal.returns-in_err-report_found-clause-told
+returns-in_err-report_found-clause-told g c = λ t o found n.
+    let d = g.S.Source.device in
+    let file = (d c.args.source.now).bytes in
+    let place = c.in_ok-place.place in
+    let same = c.payload_place.ensures.uses.same in
+    let failed = c.in_err-report_found.field-0.0 in
+    let is : c.from_residual-in_err-report_found.result ≡ Err (of_move failed) = search rules in
+    let told = subst (λ (xs : List ℕ). ReportsFound found (slice xs place.at place.size) place.size (d c.payload_place.new.source).asked (d c.report_found.new.source).asked (Err failed) c.args.out.now c.report_found.new.out)
+    same.bytes (c.in_err-report_found.ensures.told t (still same refl o) found n) in
+    subst (λ (r : Result Bool Fault). ReportsImage file found (d c.args.source.now).asked (d c.report_found.new.source).asked r c.args.out.now c.report_found.new.out) (sym is)
+    (image_failed file found (slice file place.at place.size) place.size _ _ _ failed c.args.out.now c.report_found.new.out
+    (c.in_ok-place.ensures.told o.honest t o.read found n) (length-slice file place.at place.size c.in_ok-place.ensures.inside) c.payload_place.ensures.uses.asked told)
+
+pub returns-clause-told : goal.returns-clause-told
+returns-clause-told g c = λ t o found n.
+    let d = g.S.Source.device in
+    let file = (d c.args.source.now).bytes in
+    let place = c.in_ok-place.place in
+    let same = c.payload_place.ensures.uses.same in
+    let told = subst (λ (xs : List ℕ). ReportsFound found (slice xs place.at place.size) place.size (d c.payload_place.new.source).asked (d c.report_found.new.source).asked (Ok c.in_ok-report_found.field-0) c.args.out.now c.report_found.new.out)
+    same.bytes (c.in_ok-report_found.ensures.told t (still same refl o) found n) in
+    image_done file found (slice file place.at place.size) place.size _ _ _ _ c.args.out.now c.report_found.new.out
+    (c.in_ok-place.ensures.told o.honest t o.read found n) (length-slice file place.at place.size c.in_ok-place.ensures.inside) c.payload_place.ensures.uses.asked told

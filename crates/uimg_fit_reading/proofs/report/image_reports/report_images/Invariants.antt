@@ -1,11 +1,11 @@
-use Rattle.std.proofs.Common.{◌≡◌, ◌-◌, ◌<◌, List, length, IfSome, IsTrue}
+use Rattle.std.proofs.Common.{◌≡◌, ◌-◌, ◌<◌, List, length, IfSome}
 use Rattle.std.specs.Option.{option_map_or}
 use Rattle.uimg_base.specs.Device.{SameDevice}
 use Rattle.uimg_blob.specs.Grammar.{Siblings}
 use Rattle.uimg_blob.specs.LookUps.{NodeOf}
 use Rattle.uimg_blob.specs.Roles.{in_images}
 use Rattle.uimg_blob.specs.Spots.{Spot}
-use Rattle.uimg_fit_reading.specs.Nodes.{IsRead, AreFrom}
+use Rattle.uimg_fit_reading.specs.Nodes.{Opened, AreFrom}
 use Rattle.uimg_fit_reading.proofs.ImageReportLaws.{ImagesLeft}
 use Rattle.uimg_fit_reading.proofs.report.image_reports.report_images.Given as goal
 
@@ -20,7 +20,7 @@ invariant-loop-next g l =
       faults : l.out.faults ≡ l.fn.out.faults;
       room : l.room ≡ l.fn.room;
       within : IfSome l.next (λ i. i < length l.fn.room.entries);
-      left : IsTrue (device l.fn.source).honest → (t : Siblings) → IsRead file l.blob l.fn.room.entries t → (found : List (NodeOf Spot)) → AreFrom t in_images l.fn.first found
+      left : (t : Siblings) → Opened (device l.fn.source) l.blob l.fn.room t → (found : List (NodeOf Spot)) → AreFrom t in_images l.fn.first found
           → ImagesLeft t file found (device l.fn.source).asked (device l.source).asked l.fn.out l.out l.are_right l.next;
     }
 

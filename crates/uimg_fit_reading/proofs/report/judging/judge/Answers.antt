@@ -1,16 +1,18 @@
-use Rattle.std.proofs.Common.{ℕ, List, IsTrue, Bool, subst, sym, ap, ◌∙◌, ◌≡◌}
-use Rattle.uimg_fit_reading.specs.declared.report.plans.Plan.{Plan}
-use Rattle.uimg_fit_reading.specs.Plans.{HasDigest, word_by}
+use Rattle.std.proofs.Common.{ℕ, List, refl, subst, sym, ap, ◌∙◌, ◌≡◌}
+use Rattle.uimg_fit_base.specs.AlgoSets.{set_of}
 use Rattle.uimg_fit_base.specs.Report.{word_of}
+use Rattle.uimg_fit_reading.specs.declared.report.plans.Plan.{Plan}
+use Rattle.uimg_fit_reading.specs.Plans.{IsCovered, word_by}
+use Rattle.uimg_fit_reading.proofs.OpenedLaws.{still}
 use Rattle.uimg_fit_reading.proofs.PlanLaws.{of_answer}
 use Rattle.uimg_fit_reading.proofs.report.judging.judge.Goals as goal
 
 pub returns-clause-word : goal.returns-clause-word
-returns-clause-word g c = λ honest t read found more at message has.
+returns-clause-word g c = λ t o found more at message are covered.
     let same = c.plan_at.ensures.uses.same in
-    let now = subst (λ (b : Bool). IsTrue b) (sym same.honest) honest in
+    let here = still same refl o in
     let plan = c.in_ok-plan.plan in
-    let known = subst (λ (p : Plan). HasDigest c.args.digest.now message p) (sym (c.in_ok-plan.ensures.plan honest t read found more at)) has in
-    let word = c.in_ok-plan.ensures.word honest t read found more at message in
+    let known = subst (λ (p : Plan). IsCovered (set_of c.args.digests.now) p) (sym (c.in_ok-plan.ensures.plan t o found more at)) covered in
+    let word = c.in_ok-plan.ensures.word t o found more at message in
     of_answer c.judged.result (λ word. word ≡ word_by (g.S.Source.device c.plan_at.new.source).bytes message plan) (λ word. word ≡ word_of message found)
-    (λ w is. is ∙ ap (λ (xs : List ℕ). word_by xs message plan) same.bytes ∙ word) (c.judged.ensures.word now message known)
+    (λ w is. is ∙ ap (λ (xs : List ℕ). word_by xs message plan) same.bytes ∙ word) (c.judged.ensures.word here.honest message are known)

@@ -1,52 +1,35 @@
-use Rattle.std.proofs.Common.{rules, ℕ, List, Bool, IsTrue, true, false, ◌≡◌, subst, sym, arith}
-use Rattle.std.specs.Prelude.{is_err}
+use Rattle.std.proofs.Common.{rules, ℕ, List, true, false, ◌≡◌, refl, subst, arith}
+use Rattle.std.specs.Prelude.{is_err, Ok}
 use Rattle.uimg_texts.specs.Slices.{slice}
 use Rattle.uimg_base.specs.Writing.{Written}
-use Rattle.uimg_fit_base.specs.declared.words.Word.{Word}
-use Rattle.uimg_fit_reading.specs.Groups.{line_of}
-use Rattle.uimg_fit_reading.specs.Nodes.{IsRead}
-use Rattle.uimg_fit_reading.proofs.LineLaws.{puts_err}
+use Rattle.uimg_base.proofs.SinkLaws.{prefix_none}
+use Rattle.uimg_fit_reading.specs.HashReports.{line_of}
+use Rattle.uimg_fit_reading.proofs.OpenedLaws.{still}
+use Rattle.uimg_fit_reading.proofs.PlanLaws.{if_err}
+use Rattle.uimg_fit_reading.proofs.LineLaws.{puts_line}
 use Rattle.uimg_fit_reading.proofs.report.judging.put_hash.Goals as goal
 
-pub returns-in_err-put_judged-clause-told : goal.returns-in_err-put_judged-clause-told
-returns-in_err-put_judged-clause-told g c = λ honest t read found more at message has.
-    let same = c.judge.ensures.uses.same in
-    let file = (g.S.Source.device c.args.source.now).bytes in
-    let name = slice file c.args.image.place c.args.image.length in
-    let now = subst (λ (b : Bool). IsTrue b) (sym same.honest) honest in
-    let here = subst (λ (xs : List ℕ). IsRead xs c.args.blob.now c.args.room.now.entries t) (sym same.bytes) read in
-    let failed : is_err c.from_residual-in_err-put_judged.result ≡ true = search rules in
-    let word = c.in_ok-word.ensures.word honest t read found more at message has in
-    let put = subst (λ (xs : List ℕ). Written true c.args.out.now c.put_judged.new.out (line_of (slice xs c.args.image.place c.args.image.length) c.in_ok-word.word found)) same.bytes
-    (c.in_err-put_judged.ensures.told now t here found more at) in
-    puts_err name message found _ _ _ failed
-    (subst (λ (w : Word). Written true c.args.out.now c.put_judged.new.out (line_of name w found)) word put)
+pub returns-in_default-clause-told : goal.returns-in_default-clause-told
+returns-in_default-clause-told g c = λ t o found more at message are covered.
+    record { word = tt; written = record { all = tt; prefix = prefix_none c.args.out.now _ }; paid = omega (arith, c.judge.ensures.uses.asked) }
 
-pub returns-in_err-put_judged-clause-asked : goal.returns-in_err-put_judged-clause-asked
-returns-in_err-put_judged-clause-asked g c = λ honest t read found more at.
+pub returns-in_err-put_judged-clause-told : goal.returns-in_err-put_judged-clause-told
+returns-in_err-put_judged-clause-told g c = λ t o found more at message are covered.
     let same = c.judge.ensures.uses.same in
-    let now = subst (λ (b : Bool). IsTrue b) (sym same.honest) honest in
-    let here = subst (λ (xs : List ℕ). IsRead xs c.args.blob.now c.args.room.now.entries t) (sym same.bytes) read in
-    omega (arith, c.judge.ensures.uses.asked, c.put_judged.ensures.asked now t here found more at)
+    let here = still same refl o in
+    let image = c.args.image in
+    let failed : is_err c.from_residual.result ≡ true = search rules in
+    let put = c.in_err-put_judged.ensures.told t here found more at in
+    let written = subst (λ (xs : List ℕ). Written true c.args.out.now c.put_judged.new.out (line_of (slice xs image.place image.length) c.in-Ok.word found)) same.bytes put.written in
+    puts_line _ message image.length found _ _ _ c.in-Ok.word c.from_residual.result true c.args.out.now c.put_judged.new.out
+    (c.in-Ok.ensures.word t o found more at message are covered) (if_err c.from_residual.result _ failed) failed written put.asked c.judge.ensures.uses.asked
 
 pub returns-clause-told : goal.returns-clause-told
-returns-clause-told g c = λ honest t read found more at message has.
+returns-clause-told g c = λ t o found more at message are covered.
     let same = c.judge.ensures.uses.same in
-    let file = (g.S.Source.device c.args.source.now).bytes in
-    let name = slice file c.args.image.place c.args.image.length in
-    let now = subst (λ (b : Bool). IsTrue b) (sym same.honest) honest in
-    let here = subst (λ (xs : List ℕ). IsRead xs c.args.blob.now c.args.room.now.entries t) (sym same.bytes) read in
-    let word = c.in_ok-word.ensures.word honest t read found more at message has in
-    let put = subst (λ (xs : List ℕ). Written false c.args.out.now c.put_judged.new.out (line_of (slice xs c.args.image.place c.args.image.length) c.in_ok-word.word found)) same.bytes
-    (c.in_ok-put_judged.ensures.told now t here found more at) in
-    record {
-      word = word;
-      written = subst (λ (w : Word). Written false c.args.out.now c.put_judged.new.out (line_of name w found)) word put;
-    }
-
-pub returns-clause-asked : goal.returns-clause-asked
-returns-clause-asked g c = λ honest t read found more at.
-    let same = c.judge.ensures.uses.same in
-    let now = subst (λ (b : Bool). IsTrue b) (sym same.honest) honest in
-    let here = subst (λ (xs : List ℕ). IsRead xs c.args.blob.now c.args.room.now.entries t) (sym same.bytes) read in
-    omega (arith, c.judge.ensures.uses.asked, c.put_judged.ensures.asked now t here found more at)
+    let here = still same refl o in
+    let image = c.args.image in
+    let put = c.in_ok-put_judged.ensures.told t here found more at in
+    let written = subst (λ (xs : List ℕ). Written false c.args.out.now c.put_judged.new.out (line_of (slice xs image.place image.length) c.in-Ok.word found)) same.bytes put.written in
+    puts_line _ message image.length found _ _ _ c.in-Ok.word (Ok c.in-Ok.word) false c.args.out.now c.put_judged.new.out
+    (c.in-Ok.ensures.word t o found more at message are covered) refl refl written put.asked c.judge.ensures.uses.asked

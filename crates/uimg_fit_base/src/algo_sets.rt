@@ -1,0 +1,190 @@
+//! The algorithms that are asked for, and the digests by them, of one pass over some bytes.
+ghost use Rattle.std.specs.Prelude.{◌≡◌, ◌<◌, ◌++◌, ◌∷◌, ℕ, [], List, length, take, true, if◌then◌else◌};
+ghost use Rattle.std.specs.List.{count_by};
+ghost use Rattle.uimg_sums.specs.Algorithms.{digest_by};
+ghost use Rattle.uimg_sums.specs.AnySum.{padded_digest};
+ghost use Rattle.uimg_sums.specs.declared.algo.Algo.{Algo};
+ghost use Rattle.uimg_sums.specs.Bundle.{Holds};
+ghost use Rattle.uimg_fit_base.specs.AlgoSets.{all_algos, rank, is_empty, has, marked, no_algos, chosen, set_of, AreDigests};
+
+use crate::feeds::digest_at;
+use uimg_base::{Algo, Bundle};
+
+// The six algorithms, in the order of their sums.
+const ALGOS: [Algo; 6] = [
+    Algo::Crc32,
+    Algo::Md5,
+    Algo::Sha1,
+    Algo::Sha256,
+    Algo::Sha384,
+    Algo::Sha512,
+];
+
+/// Which of the six algorithms are in use.
+#[derive(Clone, Copy, Debug, PartialEq, Eq)]
+pub struct AlgoSet {
+    crc32: bool,
+    md5: bool,
+    sha1: bool,
+    sha256: bool,
+    sha384: bool,
+    sha512: bool,
+}
+
+impl AlgoSet {
+    /// No algorithm is in use.
+    pub fn none() -> AlgoSet
+        ensures { result ≡ no_algos }
+    {
+        AlgoSet {
+            crc32: false,
+            md5: false,
+            sha1: false,
+            sha256: false,
+            sha384: false,
+            sha512: false,
+        }
+    }
+
+    /// Whether no algorithm is in use.
+    #[tactic(auto, unfolding(crate::specs::AlgoSets::is_empty))]
+    pub fn is_empty(self) -> bool
+        ensures { result ≡ is_empty self }
+    {
+        if self.crc32 {
+            return false;
+        }
+        if self.md5 {
+            return false;
+        }
+        if self.sha1 {
+            return false;
+        }
+        if self.sha256 {
+            return false;
+        }
+        if self.sha384 {
+            return false;
+        }
+        !self.sha512
+    }
+
+    /// Whether an algorithm is in use.
+    #[tactic(auto, unfolding(crate::specs::AlgoSets::has))]
+    pub fn has(self, algo: Algo) -> bool
+        ensures { result ≡ has self algo }
+    {
+        match algo {
+            Algo::Crc32 => self.crc32,
+            Algo::Md5 => self.md5,
+            Algo::Sha1 => self.sha1,
+            Algo::Sha256 => self.sha256,
+            Algo::Sha384 => self.sha384,
+            Algo::Sha512 => self.sha512,
+        }
+    }
+
+    /// The set with one more algorithm.
+    #[tactic(auto, unfolding(crate::specs::AlgoSets::marked))]
+    pub fn marked(self, algo: Algo) -> AlgoSet
+        ensures { result ≡ marked self algo }
+    {
+        match algo {
+            Algo::Crc32 => AlgoSet {
+                crc32: true,
+                ..self
+            },
+            Algo::Md5 => AlgoSet { md5: true, ..self },
+            Algo::Sha1 => AlgoSet { sha1: true, ..self },
+            Algo::Sha256 => AlgoSet {
+                sha256: true,
+                ..self
+            },
+            Algo::Sha384 => AlgoSet {
+                sha384: true,
+                ..self
+            },
+            Algo::Sha512 => AlgoSet {
+                sha512: true,
+                ..self
+            },
+        }
+    }
+
+    /// A sum by each algorithm in use, to which nothing was fed yet.
+    pub fn sums(self) -> Bundle
+        ensures { Holds result (chosen self) [] }
+    {
+        let mut bundle = Bundle::new();
+        for algo in ALGOS {
+            add_chosen(&mut bundle, self, algo);
+        }
+        bundle
+    }
+}
+
+// Adds a sum by an algorithm that is in use.
+fn add_chosen(bundle: &mut Bundle, set: AlgoSet, algo: Algo)
+    ensures { (algos : List Algo) → Holds bundle.old algos [] → length algos < 8 →
+        Holds bundle.new (if has set algo then algos ++ algo ∷ [] else algos) [] }
+{
+    if set.has(algo) {
+        bundle.add(algo);
+    }
+}
+
+// The place of an algorithm among the six.
+fn rank(algo: Algo) -> usize
+    ensures { result ≡ rank algo }
+{
+    match algo {
+        Algo::Crc32 => 0,
+        Algo::Md5 => 1,
+        Algo::Sha1 => 2,
+        Algo::Sha256 => 3,
+        Algo::Sha384 => 4,
+        Algo::Sha512 => 5,
+    }
+}
+
+// The place of an algorithm's sum.
+fn place(set: AlgoSet, algo: Algo) -> usize
+    ensures { result ≡ count_by (has set) (take (rank algo) all_algos) }
+{
+    let mut place = 0;
+    for known in &ALGOS[..rank(algo)] {
+        if set.has(*known) {
+            place += 1;
+        }
+    }
+    place
+}
+
+/// The digests of the same bytes by the algorithms of a set.
+#[derive(Drop)]
+pub struct Digests {
+    set: AlgoSet,
+    digests: [([u8; 64], usize); 8],
+}
+
+impl Digests {
+    /// The digests of what was fed to the sums of a set.
+    pub fn of(set: AlgoSet, sums: Bundle) -> Digests
+        ensures set { set_of result ≡ set }
+        ensures digests { (message : List ℕ) → Holds sums (chosen set) message →
+            AreDigests result message }
+    {
+        Digests {
+            set,
+            digests: sums.finish(),
+        }
+    }
+
+    /// The digest by an algorithm of the set, with zeros behind it.
+    pub fn by(&self, algo: Algo) -> [u8; 64]
+        ensures { (message : List ℕ) → AreDigests self.now message → has (set_of self.now) algo ≡ true →
+            result ≡ (padded_digest (digest_by algo message)).0 }
+    {
+        digest_at(&self.digests, place(self.set, algo))
+    }
+}

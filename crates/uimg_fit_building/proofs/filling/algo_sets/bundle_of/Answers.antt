@@ -1,8 +1,0 @@
-use Rattle.std.proofs.Common.{arith}
-use Rattle.uimg_fit_building.specs.PayloadSums.{all_algos}
-use Rattle.uimg_fit_building.proofs.AlgoSetLaws.{sums-more}
-use Rattle.uimg_fit_building.proofs.filling.algo_sets.bundle_of.Goals as goal
-
-pub loop-algo-preserved : goal.loop-algo-preserved
-loop-algo-preserved c =
-    sums-more _ c.add_chosen.new.bundle c.args.set all_algos c.loop-algo.algo-index _ c.loop-algo.invariant (omega arith) (omega arith) (λ algos held few. c.add_chosen.ensures algos held few)

@@ -1,0 +1,121 @@
+-- Which hash nodes are compared, and by which algorithms.
+use Rattle.std.proofs.Common.{◌≡◌, ◌≤◌, ◌==◌, ◌||◌, ℕ, List, [], ◌∷◌, length, Option, Some, None, Bool, true, false, if◌then◌else◌, codes, IsTrue, refl, ap, sym, ◌∙◌, subst, arith}
+use Rattle.std.specs.List.{AllByRecursion, list_any}
+use Rattle.std.specs.Option.{option_map}
+use Rattle.std.specs.Str.{bytes_eq}
+use Rattle.uimg_sums.specs.declared.algo.Algo.{Algo}
+use Rattle.uimg_sums.specs.Algorithms.{algo_named, digest_size, digest_by}
+use Rattle.uimg_blob.specs.declared.keys.Key.TheVariants as key
+use Rattle.uimg_blob.specs.Grammar.{Siblings}
+use Rattle.uimg_blob.specs.Indexed.{keeps, value_span}
+use Rattle.uimg_blob.specs.LookUps.{NodeOf, first}
+use Rattle.uimg_blob.specs.Roles.{in_image, is_hash, role_at}
+use Rattle.uimg_blob.specs.Spots.{Spot}
+use Rattle.uimg_blob.proofs.PhaseLaws.{by_bool, true_false}
+use Rattle.uimg_fit_base.specs.declared.algo_sets.AlgoSet.{AlgoSet}
+use Rattle.uimg_sums.specs.Bundle.{padded_digests}
+use Rattle.uimg_fit_base.specs.declared.algo_sets.Digests.{Digests}
+use Rattle.uimg_fit_base.specs.AlgoSets.{has, is_empty, no_algos, chosen, set_of, AreDigests}
+use Rattle.uimg_fit_base.specs.Report.{compared, by_algo, by_name, algo_of, word_of, is_compared}
+use Rattle.uimg_fit_base.proofs.AlgoSetLaws.{marked-has, marked-keeps, empty-is}
+use Rattle.uimg_fit_reading.specs.declared.report.plans.Plan.{Plan}
+use Rattle.uimg_fit_reading.specs.declared.report.plans.Plan.TheVariants.{Malformed, Unsupported, Compared}
+use Rattle.uimg_fit_reading.specs.HashReports.{AllCovered}
+use Rattle.uimg_fit_reading.specs.Nodes.{FirstHash, HashAt}
+use Rattle.uimg_fit_reading.specs.Plans.{plan_of, plan_for, plan_by_algo, plan_by_name, compares, are_compared, IsCovered, with_plan, with_all}
+use Rattle.uimg_fit_reading.proofs.HashLaws.{head_or, rest_of}
+
+-- a hash node keeps the values of its algorithm and its digest
+pub keeps_algo : (name : List ℕ) → is_hash name ≡ true → IsTrue (keeps (role_at in_image name) key.Algo)
+keeps_algo name is = rw is refl
+
+pub keeps_value : (name : List ℕ) → is_hash name ≡ true → IsTrue (keeps (role_at in_image name) key.Value)
+keeps_value name is = rw is refl
+
+-- a word tells a comparison exactly where a plan asks for one
+told_by : (algo : Algo) (s : Spot) (message : List ℕ) → is_compared (compared algo s.bytes message) ≡ compares (plan_for algo (value_span s))
+unfolding compared plan_for
+told_by algo s message = by_bool (length s.bytes == digest_size algo)
+    (λ fits. by_bool (bytes_eq s.bytes (digest_by algo message)) (λ same. simp (fits, same)) (λ differs. simp (fits, differs)))
+    (λ other. simp other)
+
+told_value : (algo : Option Algo) (value : Option Spot) (message : List ℕ)
+    → is_compared (by_algo algo (option_map (λ s. s.bytes) value) message) ≡ compares (plan_by_algo algo (option_map value_span value))
+told_value None value message = refl
+told_value (Some algo) None message = refl
+told_value (Some algo) (Some s) message = told_by algo s message
+
+told_name : (name : Option (List ℕ)) (value : Option Spot) (message : List ℕ)
+    → is_compared (by_name name (option_map (λ s. s.bytes) value) message) ≡ compares (plan_by_name name (option_map value_span value))
+told_name None value message = refl
+told_name (Some name) value message = told_value (algo_named name) value message
+
+compared_one : (message : List ℕ) (hash : NodeOf Spot) → is_compared (word_of message hash) ≡ compares (plan_of hash)
+compared_one message hash = told_name (algo_of hash) (first hash.own (codes "value")) message
+
+pub compared_any : (message : List ℕ) (hs : List (NodeOf Spot)) → list_any (λ h. is_compared (word_of message h)) hs ≡ are_compared hs
+compared_any message [] = refl
+compared_any message (h ∷ hs) =
+    ap (λ (b : Bool). b || list_any (λ n. is_compared (word_of message n)) hs) (compared_one message h)
+    ∙ ap (λ (b : Bool). compares (plan_of h) || b) (compared_any message hs)
+
+-- what is in use stays so
+plan_keeps : (set : AlgoSet) (plan : Plan) (a : Algo) → has set a ≡ true → has (with_plan set plan) a ≡ true
+plan_keeps set Malformed a h = h
+plan_keeps set Unsupported a h = h
+plan_keeps set (Compared algo span) a h = marked-keeps set algo a h
+
+all_keep : (set : AlgoSet) (hs : List (NodeOf Spot)) (a : Algo) → has set a ≡ true → has (with_all set hs) a ≡ true
+unfolding with_all
+all_keep set [] a h = h
+all_keep set (n ∷ ns) a h = all_keep (with_plan set (plan_of n)) ns a (plan_keeps set (plan_of n) a h)
+
+plan_covers : (set more : AlgoSet) (plan : Plan) → ((a : Algo) → has (with_plan set plan) a ≡ true → has more a ≡ true) → IsCovered more plan
+plan_covers set more Malformed keep = tt
+plan_covers set more Unsupported keep = tt
+plan_covers set more (Compared algo span) keep = keep algo (marked-has set algo)
+
+-- the algorithms that hash nodes are compared by
+pub all_covered : (set : AlgoSet) (hs : List (NodeOf Spot)) → AllCovered (with_all set hs) hs
+unfolding with_all
+all_covered set [] = tt
+all_covered set (h ∷ hs) =
+    let more = with_plan set (plan_of h) in
+    (plan_covers set (with_all more hs) (plan_of h) (all_keep more hs), all_covered more hs)
+
+-- where none is compared none is added
+none_added : (set : AlgoSet) (plan : Plan) (hs : List (NodeOf Spot)) → (compares plan || are_compared hs) ≡ false → (are_compared hs ≡ false → with_all set hs ≡ set) → with_all (with_plan set plan) hs ≡ set
+none_added set Malformed hs none rest = rest none
+none_added set Unsupported hs none rest = rest none
+none_added set (Compared algo span) hs none rest = absurd (true_false none)
+
+none_compared : (set : AlgoSet) (hs : List (NodeOf Spot)) → are_compared hs ≡ false → with_all set hs ≡ set
+unfolding with_all
+none_compared set [] none = refl
+none_compared set (h ∷ hs) none = none_added set (plan_of h) hs none (none_compared set hs)
+
+no_algo : is_empty no_algos ≡ true
+unfolding is_empty
+no_algo = refl
+
+at_most : (b : Bool) (size : ℕ) → (if b then 0 else size) ≤ size
+at_most true size = omega arith
+at_most false size = omega arith
+
+-- a payload is read where a value is compared
+pub read_where_compared : (hs : List (NodeOf Spot)) (size : ℕ) → (if is_empty (with_all no_algos hs) then 0 else size) ≤ (if are_compared hs then size else 0)
+read_where_compared hs size = by_bool (are_compared hs)
+    (λ some. rw some (at_most (is_empty (with_all no_algos hs)) size))
+    (λ none. let empty : is_empty (with_all no_algos hs) ≡ true = ap is_empty (none_compared no_algos hs none) ∙ no_algo in rw none (rw empty (omega arith)))
+
+-- no sum has the same digests of every message
+no_sums : (message : List ℕ) → padded_digests (chosen no_algos) message ≡ padded_digests (chosen no_algos) []
+unfolding has
+no_sums message = refl
+
+pub empty_digests : (d : Digests) (message : List ℕ) → is_empty (set_of d) ≡ true → AreDigests d [] → AreDigests d message
+empty_digests d message empty are =
+    let none : set_of d ≡ no_algos = empty-is (set_of d) empty in
+    record {
+      are = are.are ∙ ap (λ (s : AlgoSet). padded_digests (chosen s) []) none ∙ sym (no_sums message) ∙ sym (ap (λ (s : AlgoSet). padded_digests (chosen s) message) none);
+    }
