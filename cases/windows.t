@@ -8,7 +8,7 @@ Hash nodes and windows of FIT images
   >     printf "$(printf '\\%03o' "$@")" | dd of=$to bs=1 seek=$at conv=notrunc status=none
   > }
 
-nine-crc-nodes, and as well eight and seventeen hash nodes, which are read in groups of eight:
+nine-crc-nodes, and as well eight and seventeen hash nodes, whose payload is read once:
 
   $ head -c 20000 /dev/zero > zeros
   $ hashes() { for number in $(seq $1); do echo 'hash { algo = "crc32"; };'; done; }

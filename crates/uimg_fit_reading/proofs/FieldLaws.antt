@@ -1,5 +1,5 @@
 -- Fields, by the values of their properties.
-use Rattle.std.proofs.Common.{◌≡◌, ℕ, ◌≤◌, ◌<◌, take, get_or, List, [], ◌++◌, length, Option, Some, None, true, IsTrue, refl, ap, ◌∙◌, subst, append-nil, arith}
+use Rattle.std.proofs.Common.{◌≡◌, ℕ, ◌≤◌, ◌<◌, ◌+◌, take, get_or, List, [], ◌++◌, length, Option, Some, None, true, IsTrue, refl, ap, ◌∙◌, subst, append-nil, arith}
 use Rattle.std.specs.Option.{option_map, option_map_or}
 use Rattle.uimg_blob.specs.declared.keys.Key.TheVariants.{Algo, Value}
 use Rattle.uimg_blob.specs.Indexed.{value_span, keeps}
@@ -11,9 +11,10 @@ use Rattle.uimg_fit_reading.specs.declared.listing.shows.Table.{Table}
 use Rattle.uimg_base.specs.Sink.{Sink, AppendsAll}
 use Rattle.uimg_base.specs.Writing.{Written}
 use Rattle.uimg_base.proofs.SinkLaws.{prefix_at}
-use Rattle.std.specs.List.{flat_map}
+use Rattle.std.specs.List.{flat_map, sum_by}
+use Rattle.std.proofs.lemmas.List.Sums.{sum_by_more_le}
 use Rattle.uimg_fit_reading.specs.declared.listing.shows.Field.{Field}
-use Rattle.uimg_fit_reading.specs.Shows.{value_cost, weight, field_lines}
+use Rattle.uimg_fit_reading.specs.Shows.{value_cost, weight, field_lines, field_cost}
 
 infixr 5 ◌⊕◌
 pub ◌⊕◌ : {a b x y : List ℕ} → a ≡ b → x ≡ y → a ++ x ≡ b ++ y
@@ -49,3 +50,8 @@ field_failed s m t file now fs i d same within put told =
 
 pub keep : (a x y : List ℕ) → x ≡ y → a ++ x ≡ a ++ y
 keep a x y p = ap (λ (w : List ℕ). a ++ w) p
+
+-- what is asked for about a field, after those before it
+pub field_paid : (fs : List Field) (i : ℕ) (d : Field) (asked new later : ℕ) → i < length fs → new ≤ asked + sum_by field_cost (take i fs) → later ≤ new + field_cost (get_or fs i d)
+    → later ≤ asked + sum_by field_cost fs
+field_paid fs i d asked new later within before paid = omega (arith, before, paid, sum_by_more_le field_cost fs i d within)

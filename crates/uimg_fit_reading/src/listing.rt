@@ -2,7 +2,7 @@ ghost use Rattle.std.specs.Prelude.{◌≡◌, ◌<◌, ◌++◌, List, Some, co
 ghost use Rattle.uimg_base.specs.Device.{RisesIf};
 ghost use Rattle.uimg_base.specs.Outcome.{Tells};
 ghost use Rattle.uimg_base.specs.Ranges as range;
-ghost use Rattle.uimg_base.specs.Using.{Uses, UsesAtMost};
+ghost use Rattle.uimg_base.specs.Using.{UsesAtMost};
 ghost use Rattle.uimg_blob.specs.Grammar.{Siblings};
 ghost use Rattle.uimg_blob.specs.LookUps.{NodeOf, images, configurations};
 ghost use Rattle.uimg_blob.specs.Roles.{in_images};
@@ -11,10 +11,11 @@ ghost use Rattle.uimg_fit_base.specs.Faults.{is_read, is_put, is_out_of_memory, 
 ghost use Rattle.uimg_fit_base.specs.Files.{root_own, cell};
 ghost use Rattle.uimg_fit_reading.specs.Listing.{lists, list_of};
 ghost use Rattle.uimg_fit_reading.specs.ListingParts.{configurations_allowance, configurations_text, images_text, body_allowance, TellsWithin};
-ghost use Rattle.uimg_fit_reading.specs.Nodes.{InFile, IsRead, AreFrom};
+ghost use Rattle.uimg_fit_reading.specs.Nodes.{InFile, AreFrom, Opened};
 ghost use Rattle.uimg_fit_reading.specs.Rooms.{TakesNodes};
 ghost use Rattle.uimg_fit_reading.specs.Telling.{Lists};
 ghost use Rattle.uimg_fit_reading.specs.Work.{list_work};
+ghost use Rattle.uimg_fit_reading.specs.Puts.{Leaves};
 
 mod addresses;
 mod fields;
@@ -41,33 +42,31 @@ use uimg_fit_base::Fault;
 
 // The lines of the configurations, if there are any.
 fn put_configurations<S: Source, A: Allocator, W: Write>(
-    blob: &Blob,
     source: &mut S,
+    blob: &Blob,
     room: &mut Room<A>,
     out: &mut Out<W>,
 ) -> Result<(), MoveFault>
     requires { InFile (length (S.device source.old).bytes) blob.now room.old.entries }
-    ensures uses { Uses (range.is_read result) (S.device source.old) (S.device source.new) }
-    ensures room { room.new ≡ room.old }
-    ensures faults { RisesIf (range.is_put result) out.old.faults out.new.faults }
-    ensures told { IsTrue (S.device source.old).honest → (t : Siblings) →
-        IsRead (S.device source.old).bytes blob.now room.old.entries t →
-        Lists (is_err result) (configurations_allowance (configurations (spots t)))
-        (S.device source.old) (S.device source.new) out.old out.new
-        (configurations_text (S.device source.old).bytes (configurations (spots t))) }
+    ensures leaves { Leaves (range.is_read result) (range.is_put result) (S.device source.old)
+        (S.device source.new) room.old room.new out.old out.new }
+    ensures told { (t : Siblings) → Opened (S.device source.old) blob.now room.old t → Lists
+        (is_err result) (configurations_allowance (configurations (spots t)))
+        (S.device source.old) (S.device source.new) out.old out.new (configurations_text
+        (S.device source.old).bytes (configurations (spots t))) }
 {
     let Some(node) = configurations_of(blob, room) else {
         return Ok(());
     };
     put_default(source, room, value_of(blob, room, node, Key::Default), out)?;
     let first = child_of(blob, room, node);
-    put_listed_nodes(blob, source, room, Kind::Configuration, first, out)
+    put_listed_nodes(source, blob, room, Kind::Configuration, first, out)
 }
 
 // The lines of the images from the first one on, and of the configurations.
 fn put_body<S: Source, A: Allocator, W: Write>(
-    blob: &Blob,
     source: &mut S,
+    blob: &Blob,
     room: &mut Room<A>,
     time: Option<u32>,
     first: Option<usize>,
@@ -75,43 +74,37 @@ fn put_body<S: Source, A: Allocator, W: Write>(
 ) -> Result<(), MoveFault>
     requires within { IfSome first (λ i. i < length room.old.entries) }
     requires inside { InFile (length (S.device source.old).bytes) blob.now room.old.entries }
-    ensures uses { Uses (range.is_read result) (S.device source.old) (S.device source.new) }
-    ensures room { room.new ≡ room.old }
-    ensures faults { RisesIf (range.is_put result) out.old.faults out.new.faults }
-    ensures told { IsTrue (S.device source.old).honest → (t : Siblings) →
-        IsRead (S.device source.old).bytes blob.now room.old.entries t →
+    ensures leaves { Leaves (range.is_read result) (range.is_put result) (S.device source.old)
+        (S.device source.new) room.old room.new out.old out.new }
+    ensures told { (t : Siblings) → Opened (S.device source.old) blob.now room.old t →
         (found : List (NodeOf Spot)) → AreFrom t in_images first found → Lists (is_err result)
-        (body_allowance (spots t) (Some found))
-        (S.device source.old) (S.device source.new) out.old out.new
-        (images_text (S.device source.old).bytes time found
-        ++ configurations_text (S.device source.old).bytes (configurations (spots t))) }
+        (body_allowance (spots t) (Some found)) (S.device source.old) (S.device source.new)
+        out.old out.new (images_text (S.device source.old).bytes time found ++ configurations_text
+        (S.device source.old).bytes (configurations (spots t))) }
 {
-    put_listed_nodes(blob, source, room, Kind::Image(time), first, out)?;
-    put_configurations(blob, source, room, out)
+    put_listed_nodes(source, blob, room, Kind::Image(time), first, out)?;
+    put_configurations(source, blob, room, out)
 }
 
 // What stands after the head lines, or the refusal where there are no images.
 fn list_body<S: Source, A: Allocator, W: Write>(
-    blob: &Blob,
     source: &mut S,
+    blob: &Blob,
     room: &mut Room<A>,
     time: Option<u32>,
     out: &mut Out<W>,
 ) -> Result<Status, Fault>
     requires { InFile (length (S.device source.old).bytes) blob.now room.old.entries }
-    ensures uses { Uses (is_read result) (S.device source.old) (S.device source.new) }
-    ensures room { room.new ≡ room.old }
+    ensures leaves { Leaves (is_read result) (is_put result) (S.device source.old)
+        (S.device source.new) room.old room.new out.old out.new }
     ensures memory { is_out_of_memory result ≡ false }
-    ensures faults { RisesIf (is_put result) out.old.faults out.new.faults }
-    ensures told { IsTrue (S.device source.old).honest → (t : Siblings) →
-        IsRead (S.device source.old).bytes blob.now room.old.entries t →
-        time ≡ cell (root_own (spots t)) (codes "timestamp") →
-        TellsWithin (end_of result) (body_allowance (spots t) (images (spots t)))
-        (S.device source.old) (S.device source.new) out.old out.new
-        (lists (S.device source.old).bytes (spots t) (images (spots t))) }
+    ensures told { (t : Siblings) → Opened (S.device source.old) blob.now room.old t → time ≡ cell
+        (root_own (spots t)) (codes "timestamp") → TellsWithin (end_of result)
+        (body_allowance (spots t) (images (spots t))) (S.device source.old) (S.device source.new)
+        out.old out.new (lists (S.device source.old).bytes (spots t) (images (spots t))) }
 {
     let first = first_image(blob, room)?;
-    put_body(blob, source, room, time, first, out)?;
+    put_body(source, blob, room, time, first, out)?;
     Ok(Status::Done)
 }
 
@@ -138,5 +131,5 @@ pub fn list<S: Source, A: Allocator, W: Write>(
     let time = cell(source, root_value(&blob, room, Key::Timestamp))?;
     let description = root_value(&blob, room, Key::Description);
     put_head(source, room, description, time, out)?;
-    list_body(&blob, source, room, time, out)
+    list_body(source, &blob, room, time, out)
 }

@@ -1,4 +1,4 @@
-ghost use Rattle.std.specs.Prelude.{◌≡◌, false, ◌+◌, ◌<◌, ◌≤◌, ◌^◌, length, is_err, Option, IfOk, IfSome, IsTrue};
+ghost use Rattle.std.specs.Prelude.{◌≡◌, false, ◌+◌, ◌<◌, ◌≤◌, ◌^◌, length, is_err, IfOk, IfSome, IsTrue};
 ghost use Rattle.uimg_base.specs.Using.{Asks};
 ghost use Rattle.uimg_blob.specs.LookUps.{NodeOf};
 ghost use Rattle.uimg_blob.specs.Grammar.{Siblings};
@@ -6,7 +6,6 @@ ghost use Rattle.uimg_blob.specs.Roles.{in_images};
 ghost use Rattle.uimg_blob.specs.Spots.{Spot};
 ghost use Rattle.uimg_fit_base.specs.Faults.{is_read, is_put, is_out_of_memory};
 ghost use Rattle.uimg_fit_base.specs.Files.{number_in};
-ghost use Rattle.uimg_fit_base.specs.Lying.{Lie};
 ghost use Rattle.uimg_fit_reading.specs.Nodes.{InFile, IsRead, IsNode};
 ghost use Rattle.uimg_fit_base.specs.Places.{external, or_else, embedded, place, TellsPlace};
 

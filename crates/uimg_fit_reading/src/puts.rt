@@ -1,13 +1,10 @@
 //! Texts are written, and bytes read, with failures told as those of a copy.
 ghost use Rattle.std.specs.Prelude.{◌≡◌, ◌+◌, ◌≤◌, ◌++◌, length, is_err, IsTrue, OnOk, IfErr};
-ghost use Rattle.uimg_base.specs.Device.{RisesIf};
 ghost use Rattle.uimg_base.specs.Outcome.{line};
-ghost use Rattle.uimg_base.specs.Ranges.{is_put};
-ghost use Rattle.uimg_base.specs.declared.ranges.MoveFault.TheVariants.{Read, Put};
+ghost use Rattle.uimg_base.specs.declared.ranges.MoveFault.TheVariants.{Read};
 ghost use Rattle.uimg_base.specs.Using.{Asks};
-ghost use Rattle.uimg_base.specs.Writing.{Written};
 ghost use Rattle.uimg_texts.specs.Slices.{slice};
-ghost use Rattle.uimg_fit_reading.specs.Puts.{Puts};
+ghost use Rattle.uimg_fit_reading.specs.Puts.{Puts, PutsOwn};
 
 use std::alloc::Allocator;
 use std::io::Write;
@@ -16,9 +13,7 @@ use uimg_blob::Span;
 
 // Writes a text.
 pub(crate) fn put<W: Write>(out: &mut Out<W>, text: &[u8]) -> Result<(), MoveFault>
-    ensures faults { RisesIf (is_put result) out.old.faults out.new.faults }
-    ensures put { IfErr result (λ e. e ≡ Put) }
-    ensures told { Written (is_err result) out.old out.new text.now }
+    ensures { PutsOwn result out.old out.new text.now }
 {
     match out.put_all(text) {
         Ok(()) => Ok(()),
@@ -32,9 +27,7 @@ pub(crate) fn put_pair<W: Write>(
     first: &[u8],
     second: &[u8],
 ) -> Result<(), MoveFault>
-    ensures faults { RisesIf (is_put result) out.old.faults out.new.faults }
-    ensures put { IfErr result (λ e. e ≡ Put) }
-    ensures told { Written (is_err result) out.old out.new (first.now ++ second.now) }
+    ensures { PutsOwn result out.old out.new (first.now ++ second.now) }
 {
     match out.put_pieces(&[first, second]) {
         Ok(()) => Ok(()),
@@ -48,9 +41,7 @@ pub(crate) fn put_line<W: Write>(
     label: &[u8],
     text: &[u8],
 ) -> Result<(), MoveFault>
-    ensures faults { RisesIf (is_put result) out.old.faults out.new.faults }
-    ensures put { IfErr result (λ e. e ≡ Put) }
-    ensures told { Written (is_err result) out.old out.new (line (label.now ++ text.now)) }
+    ensures { PutsOwn result out.old out.new (line (label.now ++ text.now)) }
 {
     match out.put_pieces(&[label, text, b"\n"]) {
         Ok(()) => Ok(()),
@@ -80,8 +71,9 @@ pub(crate) fn put_span<S: Source, A: Allocator, W: Write>(
     out: &mut Out<W>,
 ) -> Result<(), MoveFault>
     requires { span.place + span.length ≤ length (S.device source.old).bytes }
-    ensures { Puts span.length result (S.device source.old) (S.device source.new) room.old room.new
-        out.old out.new (slice (S.device source.old).bytes span.place span.length) }
+    ensures { Puts span.length result (S.device source.old) (S.device source.new)
+        room.old room.new out.old out.new (slice (S.device source.old).bytes span.place
+        span.length) }
 {
     copy_range(source, room, span.place, span.length, out)
 }

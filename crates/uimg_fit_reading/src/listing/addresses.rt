@@ -1,14 +1,10 @@
-ghost use Rattle.std.specs.Prelude.{◌≡◌, ◌+◌, ◌≤◌, ◌-◌, ◌++◌, ◌==◌, not, min, length, codes, is_err, IsTrue, IfErr};
+ghost use Rattle.std.specs.Prelude.{◌≡◌, ◌+◌, ◌≤◌, ◌++◌, ◌==◌, not, min, length, codes};
 ghost use Rattle.hex.specs.Hex.{encode_lower};
-ghost use Rattle.uimg_base.specs.declared.ranges.MoveFault.TheVariants.{Put};
 ghost use Rattle.std.specs.List.{position_or_len};
-ghost use Rattle.uimg_base.specs.Device.{RisesIf};
 ghost use Rattle.uimg_base.specs.Outcome.{line};
-ghost use Rattle.uimg_base.specs.Ranges.{is_read, is_put};
-ghost use Rattle.uimg_base.specs.Using.{Asks};
-ghost use Rattle.uimg_base.specs.Writing.{Written};
 ghost use Rattle.uimg_texts.specs.Slices.{slice};
 ghost use Rattle.uimg_fit_reading.specs.Values.{address_text, eight_or_more};
+ghost use Rattle.uimg_fit_reading.specs.Puts.{PutsFrom, PutsOwn};
 
 use crate::puts::{put, put_line, read};
 use std::io::Write;
@@ -38,9 +34,7 @@ fn eight_or_more(digits: &[u8]) -> &[u8]
 
 // A line of a label and the address of one cell.
 fn put_one_cell<W: Write>(out: &mut Out<W>, bytes: &[u8; 4]) -> Result<(), MoveFault>
-    ensures faults { RisesIf (is_put result) out.old.faults out.new.faults }
-    ensures put { IfErr result (λ e. e ≡ Put) }
-    ensures told { Written (is_err result) out.old out.new (line (codes "0x" ++ encode_lower bytes.now)) }
+    ensures { PutsOwn result out.old out.new (line (codes "0x" ++ encode_lower bytes.now)) }
 {
     let mut digits = [0; 8];
     if hex::encode_to_slice(bytes, &mut digits).is_err() {
@@ -51,10 +45,8 @@ fn put_one_cell<W: Write>(out: &mut Out<W>, bytes: &[u8; 4]) -> Result<(), MoveF
 
 // A line of a label and the address of two cells.
 fn put_two_cells<W: Write>(out: &mut Out<W>, bytes: &[u8; 8]) -> Result<(), MoveFault>
-    ensures faults { RisesIf (is_put result) out.old.faults out.new.faults }
-    ensures put { IfErr result (λ e. e ≡ Put) }
-    ensures told { Written (is_err result) out.old out.new
-        (line (codes "0x" ++ eight_or_more (encode_lower bytes.now))) }
+    ensures { PutsOwn result out.old out.new (line (codes "0x" ++ eight_or_more
+        (encode_lower bytes.now))) }
 {
     let mut digits = [0; 16];
     if hex::encode_to_slice(bytes, &mut digits).is_err() {
@@ -70,11 +62,9 @@ fn put_address<S: Source, W: Write>(
     out: &mut Out<W>,
 ) -> Result<(), MoveFault>
     requires { span.place + span.length ≤ length (S.device source.old).bytes }
-    ensures uses { Asks (min 8 span.length) (is_read result) (S.device source.old)
-        (S.device source.new) }
-    ensures faults { RisesIf (is_put result) out.old.faults out.new.faults }
-    ensures told { IsTrue (S.device source.old).honest → Written (is_err result) out.old out.new
-        (line (address_text (slice (S.device source.old).bytes span.place span.length))) }
+    ensures { PutsFrom (min 8 span.length) result (S.device source.old) (S.device source.new)
+        out.old out.new (line (address_text (slice (S.device source.old).bytes span.place
+        span.length))) }
 {
     match span.length {
         4 => {
@@ -100,12 +90,9 @@ pub(crate) fn put_address_line<S: Source, W: Write>(
     out: &mut Out<W>,
 ) -> Result<(), MoveFault>
     requires { span.place + span.length ≤ length (S.device source.old).bytes }
-    ensures uses { Asks (min 8 span.length) (is_read result) (S.device source.old)
-        (S.device source.new) }
-    ensures faults { RisesIf (is_put result) out.old.faults out.new.faults }
-    ensures told { IsTrue (S.device source.old).honest → Written (is_err result) out.old out.new
-        (line (label.now
-        ++ address_text (slice (S.device source.old).bytes span.place span.length))) }
+    ensures { PutsFrom (min 8 span.length) result (S.device source.old) (S.device source.new)
+        out.old out.new (line (label.now ++ address_text (slice (S.device source.old).bytes
+        span.place span.length))) }
 {
     put(out, label)?;
     put_address(source, span, out)

@@ -1,17 +1,13 @@
-ghost use Rattle.std.specs.Prelude.{◌≡◌, ◌+◌, ◌≤◌, ◌++◌, length, is_err, IsTrue, IfSome, IfErr};
-ghost use Rattle.uimg_base.specs.declared.ranges.MoveFault.TheVariants.{Put};
+ghost use Rattle.std.specs.Prelude.{◌+◌, ◌≤◌, ◌++◌, length, IfSome};
 ghost use Rattle.std.specs.List.{AllByRecursion, flat_map, sum_by};
 ghost use Rattle.std.specs.Option.{option_map_or};
-ghost use Rattle.uimg_base.specs.Device.{RisesIf};
 ghost use Rattle.uimg_base.specs.Outcome.{line};
-ghost use Rattle.uimg_base.specs.Ranges.{is_read, is_put};
-ghost use Rattle.uimg_base.specs.Using.{Asks};
-ghost use Rattle.uimg_base.specs.Writing.{Written};
 ghost use Rattle.uimg_texts.specs.Nul.{text};
 ghost use Rattle.uimg_texts.specs.Sizes.{size_text};
 ghost use Rattle.uimg_texts.specs.Slices.{slice};
 ghost use Rattle.uimg_fit_base.specs.Files.{bytes_in};
-ghost use Rattle.uimg_fit_reading.specs.Shows.{value_lines, value_cost, shown, time_line, size_line, content_lines, content_cost, field_lines, field_cost, EndsIn, FieldEndsIn};
+ghost use Rattle.uimg_fit_reading.specs.Shows.{value_lines, value_cost, shown, time_line, size_line, field_lines, field_cost, FieldEndsIn};
+ghost use Rattle.uimg_fit_reading.specs.Puts.{Puts, PutsOwn};
 
 use crate::listing::addresses::put_address_line;
 use crate::listing::hexadecimal::put_hexadecimal_line;
@@ -34,11 +30,9 @@ pub(crate) fn put_text_line<S: Source, A: Allocator, W: Write>(
     out: &mut Out<W>,
 ) -> Result<(), MoveFault>
     requires { span.place + span.length ≤ length (S.device source.old).bytes }
-    ensures uses { Asks span.length (is_read result) (S.device source.old) (S.device source.new) }
-    ensures room { room.new ≡ room.old }
-    ensures faults { RisesIf (is_put result) out.old.faults out.new.faults }
-    ensures told { IsTrue (S.device source.old).honest → Written (is_err result) out.old out.new
-        (line (label.now ++ text (slice (S.device source.old).bytes span.place span.length))) }
+    ensures { Puts span.length result (S.device source.old) (S.device source.new)
+        room.old room.new out.old out.new (line (label.now ++ text (slice
+        (S.device source.old).bytes span.place span.length))) }
 {
     put(out, label)?;
     put_text(source, room, span, out)?;
@@ -56,13 +50,9 @@ fn put_value<S: Source, A: Allocator, W: Write>(
     out: &mut Out<W>,
 ) -> Result<(), MoveFault>
     requires { span.place + span.length ≤ length (S.device source.old).bytes }
-    ensures uses { Asks (value_cost show span.length) (is_read result) (S.device source.old)
-        (S.device source.new) }
-    ensures room { room.new ≡ room.old }
-    ensures faults { RisesIf (is_put result) out.old.faults out.new.faults }
-    ensures told { IsTrue (S.device source.old).honest → Written (is_err result) out.old out.new
-        (value_lines show label.now
-        (slice (S.device source.old).bytes span.place span.length)) }
+    ensures { Puts (value_cost show span.length) result (S.device source.old)
+        (S.device source.new) room.old room.new out.old out.new (value_lines show label.now (slice
+        (S.device source.old).bytes span.place span.length)) }
 {
     match show {
         Show::Text => put_text_line(source, room, label, span, out),
@@ -83,12 +73,9 @@ fn put_property<S: Source, A: Allocator, W: Write>(
     out: &mut Out<W>,
 ) -> Result<(), MoveFault>
     requires { IfSome value (λ s. s.place + s.length ≤ length (S.device source.old).bytes) }
-    ensures uses { Asks (option_map_or (λ s. value_cost show s.length) value 0) (is_read result)
-        (S.device source.old) (S.device source.new) }
-    ensures room { room.new ≡ room.old }
-    ensures faults { RisesIf (is_put result) out.old.faults out.new.faults }
-    ensures told { IsTrue (S.device source.old).honest → Written (is_err result) out.old out.new
-        (shown show label.now (bytes_in (S.device source.old).bytes value)) }
+    ensures { Puts (option_map_or (λ s. value_cost show s.length) value 0) result
+        (S.device source.old) (S.device source.new) room.old room.new out.old out.new (shown show
+        label.now (bytes_in (S.device source.old).bytes value)) }
 {
     match value {
         Some(span) => put_value(source, room, label, show, span, out),
@@ -102,9 +89,7 @@ fn put_time_line<W: Write>(
     label: &[u8],
     time: Option<u32>,
 ) -> Result<(), MoveFault>
-    ensures faults { RisesIf (is_put result) out.old.faults out.new.faults }
-    ensures put { IfErr result (λ e. e ≡ Put) }
-    ensures told { Written (is_err result) out.old out.new (time_line label.now time) }
+    ensures { PutsOwn result out.old out.new (time_line label.now time) }
 {
     match time {
         Some(seconds) => put_line(out, label, &time_text(seconds)),
@@ -114,9 +99,7 @@ fn put_time_line<W: Write>(
 
 // The text of a size, and the end of its line.
 fn put_size<W: Write>(out: &mut Out<W>, size: u32) -> Result<(), MoveFault>
-    ensures faults { RisesIf (is_put result) out.old.faults out.new.faults }
-    ensures put { IfErr result (λ e. e ≡ Put) }
-    ensures told { Written (is_err result) out.old out.new (line (size_text size)) }
+    ensures { PutsOwn result out.old out.new (line (size_text size)) }
 {
     match size_text(size, out) {
         Ok(()) => put(out, b"\n"),
@@ -130,9 +113,7 @@ fn put_size_line<W: Write>(
     label: &[u8],
     size: Option<u32>,
 ) -> Result<(), MoveFault>
-    ensures faults { RisesIf (is_put result) out.old.faults out.new.faults }
-    ensures put { IfErr result (λ e. e ≡ Put) }
-    ensures told { Written (is_err result) out.old out.new (size_line label.now size) }
+    ensures { PutsOwn result out.old out.new (size_line label.now size) }
 {
     let Some(size) = size else {
         return put_line(out, label, b"unavailable");
@@ -149,12 +130,8 @@ fn put_field<S: Source, A: Allocator, W: Write>(
     out: &mut Out<W>,
 ) -> Result<(), MoveFault>
     requires { FieldEndsIn (length (S.device source.old).bytes) field }
-    ensures uses { Asks (field_cost field) (is_read result) (S.device source.old)
-        (S.device source.new) }
-    ensures room { room.new ≡ room.old }
-    ensures faults { RisesIf (is_put result) out.old.faults out.new.faults }
-    ensures told { IsTrue (S.device source.old).honest → Written (is_err result) out.old out.new
-        (field_lines (S.device source.old).bytes field) }
+    ensures { Puts (field_cost field) result (S.device source.old) (S.device source.new)
+        room.old room.new out.old out.new (field_lines (S.device source.old).bytes field) }
 {
     match field.content {
         Content::Property(show, value) => put_property(source, room, field.label, show, value, out),
@@ -171,12 +148,9 @@ pub(crate) fn put_fields<S: Source, A: Allocator, W: Write>(
     out: &mut Out<W>,
 ) -> Result<(), MoveFault>
     requires { AllByRecursion (FieldEndsIn (length (S.device source.old).bytes)) fields.now }
-    ensures uses { Asks (sum_by field_cost fields.now) (is_read result) (S.device source.old)
-        (S.device source.new) }
-    ensures room { room.new ≡ room.old }
-    ensures faults { RisesIf (is_put result) out.old.faults out.new.faults }
-    ensures told { IsTrue (S.device source.old).honest → Written (is_err result) out.old out.new
-        (flat_map (field_lines (S.device source.old).bytes) fields.now) }
+    ensures { Puts (sum_by field_cost fields.now) result (S.device source.old)
+        (S.device source.new) room.old room.new out.old out.new (flat_map
+        (field_lines (S.device source.old).bytes) fields.now) }
 {
     for field in fields {
         put_field(source, room, *field, out)?;

@@ -1,16 +1,11 @@
 //! The lines of a listing that name no image and no configuration.
-ghost use Rattle.std.specs.Prelude.{◌≡◌, ◌+◌, ◌≤◌, ◌++◌, length, codes, is_err, IsTrue, IfErr, IfSome};
-ghost use Rattle.std.specs.Option.{option_map_or};
-ghost use Rattle.uimg_base.specs.Device.{RisesIf};
+ghost use Rattle.std.specs.Prelude.{◌+◌, ◌≤◌, ◌++◌, length, codes, IfSome};
 ghost use Rattle.uimg_base.specs.Outcome.{line};
-ghost use Rattle.uimg_base.specs.Ranges.{is_read, is_put};
-ghost use Rattle.uimg_base.specs.declared.ranges.MoveFault.TheVariants.{Put};
-ghost use Rattle.uimg_base.specs.Using.{Asks};
-ghost use Rattle.uimg_base.specs.Writing.{Written};
 ghost use Rattle.uimg_texts.specs.Nul.{text};
 ghost use Rattle.uimg_texts.specs.Slices.{slice};
 ghost use Rattle.uimg_fit_base.specs.Files.{bytes_in};
 ghost use Rattle.uimg_fit_reading.specs.Heads.{span_size, description_line, created_line, default_line};
+ghost use Rattle.uimg_fit_reading.specs.Puts.{Puts, PutsOwn};
 
 use crate::listing::fields::put_text_line;
 use crate::puts::{put, put_line};
@@ -27,12 +22,9 @@ fn put_description<S: Source, A: Allocator, W: Write>(
     out: &mut Out<W>,
 ) -> Result<(), MoveFault>
     requires { IfSome description (λ s. s.place + s.length ≤ length (S.device source.old).bytes) }
-    ensures uses { Asks (span_size description) (is_read result) (S.device source.old)
-        (S.device source.new) }
-    ensures room { room.new ≡ room.old }
-    ensures faults { RisesIf (is_put result) out.old.faults out.new.faults }
-    ensures told { IsTrue (S.device source.old).honest → Written (is_err result) out.old out.new
-        (description_line (bytes_in (S.device source.old).bytes description)) }
+    ensures { Puts (span_size description) result (S.device source.old) (S.device source.new)
+        room.old room.new out.old out.new (description_line (bytes_in (S.device source.old).bytes
+        description)) }
 {
     match description {
         Some(span) => put_text_line(source, room, b"FIT description: ", span, out),
@@ -42,9 +34,7 @@ fn put_description<S: Source, A: Allocator, W: Write>(
 
 // The line of the image's time.
 fn put_created<W: Write>(out: &mut Out<W>, time: Option<u32>) -> Result<(), MoveFault>
-    ensures faults { RisesIf (is_put result) out.old.faults out.new.faults }
-    ensures put { IfErr result (λ e. e ≡ Put) }
-    ensures told { Written (is_err result) out.old out.new (created_line time) }
+    ensures { PutsOwn result out.old out.new (created_line time) }
 {
     match time {
         Some(seconds) => put_line(out, b"Created:         ", &time_text(seconds)),
@@ -61,13 +51,9 @@ pub(crate) fn put_head<S: Source, A: Allocator, W: Write>(
     out: &mut Out<W>,
 ) -> Result<(), MoveFault>
     requires { IfSome description (λ s. s.place + s.length ≤ length (S.device source.old).bytes) }
-    ensures uses { Asks (span_size description) (is_read result) (S.device source.old)
-        (S.device source.new) }
-    ensures room { room.new ≡ room.old }
-    ensures faults { RisesIf (is_put result) out.old.faults out.new.faults }
-    ensures told { IsTrue (S.device source.old).honest → Written (is_err result) out.old out.new
-        (description_line (bytes_in (S.device source.old).bytes description)
-        ++ created_line time) }
+    ensures { Puts (span_size description) result (S.device source.old) (S.device source.new)
+        room.old room.new out.old out.new (description_line (bytes_in (S.device source.old).bytes
+        description) ++ created_line time) }
 {
     put_description(source, room, description, out)?;
     put_created(out, time)
@@ -81,12 +67,9 @@ fn put_default_line<S: Source, A: Allocator, W: Write>(
     out: &mut Out<W>,
 ) -> Result<(), MoveFault>
     requires { span.place + span.length ≤ length (S.device source.old).bytes }
-    ensures uses { Asks span.length (is_read result) (S.device source.old) (S.device source.new) }
-    ensures room { room.new ≡ room.old }
-    ensures faults { RisesIf (is_put result) out.old.faults out.new.faults }
-    ensures told { IsTrue (S.device source.old).honest → Written (is_err result) out.old out.new
-        (line (codes " Default Configuration: '"
-        ++ (text (slice (S.device source.old).bytes span.place span.length) ++ codes "'"))) }
+    ensures { Puts span.length result (S.device source.old) (S.device source.new)
+        room.old room.new out.old out.new (line (codes " Default Configuration: '" ++ (text (slice
+        (S.device source.old).bytes span.place span.length) ++ codes "'"))) }
 {
     put(out, b" Default Configuration: '")?;
     put_text(source, room, span, out)?;
@@ -101,12 +84,9 @@ pub(crate) fn put_default<S: Source, A: Allocator, W: Write>(
     out: &mut Out<W>,
 ) -> Result<(), MoveFault>
     requires { IfSome default (λ s. s.place + s.length ≤ length (S.device source.old).bytes) }
-    ensures uses { Asks (span_size default) (is_read result) (S.device source.old)
-        (S.device source.new) }
-    ensures room { room.new ≡ room.old }
-    ensures faults { RisesIf (is_put result) out.old.faults out.new.faults }
-    ensures told { IsTrue (S.device source.old).honest → Written (is_err result) out.old out.new
-        (default_line (bytes_in (S.device source.old).bytes default)) }
+    ensures { Puts (span_size default) result (S.device source.old) (S.device source.new)
+        room.old room.new out.old out.new (default_line
+        (bytes_in (S.device source.old).bytes default)) }
 {
     match default {
         Some(span) => put_default_line(source, room, span, out),

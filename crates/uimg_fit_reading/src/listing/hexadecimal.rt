@@ -1,12 +1,8 @@
-ghost use Rattle.std.specs.Prelude.{◌≡◌, ◌+◌, ◌≤◌, ◌++◌, length, is_err, IsTrue, IfErr};
+ghost use Rattle.std.specs.Prelude.{◌+◌, ◌≤◌, ◌++◌, length};
 ghost use Rattle.hex.specs.Hex.{encode_lower};
-ghost use Rattle.uimg_base.specs.Device.{RisesIf};
 ghost use Rattle.uimg_base.specs.Outcome.{line};
-ghost use Rattle.uimg_base.specs.Ranges.{is_read, is_put};
-ghost use Rattle.uimg_base.specs.declared.ranges.MoveFault.TheVariants.{Put};
-ghost use Rattle.uimg_base.specs.Using.{Asks};
-ghost use Rattle.uimg_base.specs.Writing.{Written};
 ghost use Rattle.uimg_texts.specs.Slices.{slice};
+ghost use Rattle.uimg_fit_reading.specs.Puts.{PutsFrom, PutsOwn};
 
 use crate::puts::{put, read};
 use std::io::Write;
@@ -19,9 +15,7 @@ const PART: usize = 64;
 // Writes bytes in hexadecimal.
 fn put_digits<W: Write>(out: &mut Out<W>, bytes: &[u8]) -> Result<(), MoveFault>
     requires { length bytes.now ≤ 64 }
-    ensures faults { RisesIf (is_put result) out.old.faults out.new.faults }
-    ensures put { IfErr result (λ e. e ≡ Put) }
-    ensures told { Written (is_err result) out.old out.new (encode_lower bytes.now) }
+    ensures { PutsOwn result out.old out.new (encode_lower bytes.now) }
 {
     let mut digits = [0; 2 * PART];
     let digits = &mut digits[..2 * bytes.len()];
@@ -40,9 +34,7 @@ fn put_part<S: Source, W: Write>(
 ) -> Result<(), MoveFault>
     requires range { at + count ≤ length (S.device source.old).bytes }
     requires part { count ≤ 64 }
-    ensures uses { Asks count (is_read result) (S.device source.old) (S.device source.new) }
-    ensures faults { RisesIf (is_put result) out.old.faults out.new.faults }
-    ensures told { IsTrue (S.device source.old).honest → Written (is_err result) out.old out.new
+    ensures { PutsFrom count result (S.device source.old) (S.device source.new) out.old out.new
         (encode_lower (slice (S.device source.old).bytes at count)) }
 {
     let mut bytes = [0; PART];
@@ -58,10 +50,8 @@ fn put_hexadecimal<S: Source, W: Write>(
     out: &mut Out<W>,
 ) -> Result<(), MoveFault>
     requires { span.place + span.length ≤ length (S.device source.old).bytes }
-    ensures uses { Asks span.length (is_read result) (S.device source.old) (S.device source.new) }
-    ensures faults { RisesIf (is_put result) out.old.faults out.new.faults }
-    ensures told { IsTrue (S.device source.old).honest → Written (is_err result) out.old out.new
-        (encode_lower (slice (S.device source.old).bytes span.place span.length)) }
+    ensures { PutsFrom span.length result (S.device source.old) (S.device source.new)
+        out.old out.new (encode_lower (slice (S.device source.old).bytes span.place span.length)) }
 {
     let mut done = 0;
     while done < span.length {
@@ -81,11 +71,9 @@ pub(crate) fn put_hexadecimal_line<S: Source, W: Write>(
     out: &mut Out<W>,
 ) -> Result<(), MoveFault>
     requires { span.place + span.length ≤ length (S.device source.old).bytes }
-    ensures uses { Asks span.length (is_read result) (S.device source.old) (S.device source.new) }
-    ensures faults { RisesIf (is_put result) out.old.faults out.new.faults }
-    ensures told { IsTrue (S.device source.old).honest → Written (is_err result) out.old out.new
-        (line (label.now
-        ++ encode_lower (slice (S.device source.old).bytes span.place span.length))) }
+    ensures { PutsFrom span.length result (S.device source.old) (S.device source.new)
+        out.old out.new (line (label.now ++ encode_lower (slice (S.device source.old).bytes
+        span.place span.length))) }
 {
     put(out, label)?;
     put_hexadecimal(source, span, out)?;

@@ -1,19 +1,16 @@
 //! Images and configurations, as they are listed.
-ghost use Rattle.std.specs.Prelude.{◌≡◌, ◌<◌, ◌+◌, ◌*◌, ◌^◌, ◌++◌, List, length, codes, is_err, true, IsTrue, IfOk, IfSome};
+ghost use Rattle.std.specs.Prelude.{◌≡◌, ◌<◌, ◌+◌, ◌*◌, ◌^◌, ◌++◌, length, codes, is_err, true, IfOk, IfSome};
 ghost use Rattle.std.specs.List.{flat_map, sum_by};
-ghost use Rattle.uimg_base.specs.Device.{RisesIf};
 ghost use Rattle.uimg_base.specs.Ranges.{is_read, is_put};
-ghost use Rattle.uimg_base.specs.Using.{Uses};
-ghost use Rattle.uimg_blob.specs.Grammar.{Siblings};
-ghost use Rattle.uimg_blob.specs.LookUps.{NodeOf, hashes};
+ghost use Rattle.uimg_blob.specs.LookUps.{hashes};
 ghost use Rattle.uimg_blob.specs.Roles.{in_images, in_image, in_configurations, is_hash};
-ghost use Rattle.uimg_blob.specs.Spots.{Spot};
 ghost use Rattle.uimg_fit_reading.specs.Allowances.{text_sizes, node_allowance};
 ghost use Rattle.uimg_fit_reading.specs.FieldTexts.{image_text, hash_text};
 ghost use Rattle.uimg_fit_reading.specs.Listing.{numbered};
 ghost use Rattle.uimg_fit_reading.specs.NodeLines.{title_text, size_in, level_of, node_lines};
-ghost use Rattle.uimg_fit_reading.specs.Nodes.{InFile, IsRead, IsNode, AreFrom, HashesAt};
+ghost use Rattle.uimg_fit_reading.specs.Nodes.{InFile, OfNode, OfNodes, OfHashes};
 ghost use Rattle.uimg_fit_reading.specs.Telling.{Lists};
+ghost use Rattle.uimg_fit_reading.specs.Puts.{Leaves};
 
 use crate::listing::fields::put_fields;
 use crate::listing::properties::{configuration_fields, hash_fields, image_fields};
@@ -37,22 +34,19 @@ pub(crate) enum Kind {
 
 // The lines of a hash node.
 fn put_hash<S: Source, A: Allocator, W: Write>(
-    blob: &Blob,
     source: &mut S,
+    blob: &Blob,
     room: &mut Room<A>,
     hash: usize,
     out: &mut Out<W>,
 ) -> Result<(), MoveFault>
     requires within { hash < length room.old.entries }
     requires inside { InFile (length (S.device source.old).bytes) blob.now room.old.entries }
-    ensures uses { Uses (is_read result) (S.device source.old) (S.device source.new) }
-    ensures room { room.new ≡ room.old }
-    ensures faults { RisesIf (is_put result) out.old.faults out.new.faults }
-    ensures told { IsTrue (S.device source.old).honest → (t : Siblings) →
-        IsRead (S.device source.old).bytes blob.now room.old.entries t → (found : NodeOf Spot) →
-        IsNode t in_image hash found → is_hash found.name ≡ true →
-        Lists (is_err result) (node_allowance found) (S.device source.old) (S.device source.new)
-        out.old out.new (hash_text found.own) }
+    ensures leaves { Leaves (is_read result) (is_put result) (S.device source.old)
+        (S.device source.new) room.old room.new out.old out.new }
+    ensures told { OfNode (S.device source.old) blob.now room.old in_image hash (λ found. is_hash
+        found.name ≡ true → Lists (is_err result) (node_allowance found) (S.device source.old)
+        (S.device source.new) out.old out.new (hash_text found.own)) }
 {
     let fields = hash_fields(blob, room, hash);
     put_fields(source, room, &fields, out)
@@ -60,27 +54,23 @@ fn put_hash<S: Source, A: Allocator, W: Write>(
 
 // The lines of hash nodes.
 fn put_hashes<S: Source, A: Allocator, W: Write>(
-    blob: &Blob,
     source: &mut S,
+    blob: &Blob,
     room: &mut Room<A>,
     first: Option<usize>,
     out: &mut Out<W>,
 ) -> Result<(), MoveFault>
     requires within { IfSome first (λ i. i < length room.old.entries) }
     requires inside { InFile (length (S.device source.old).bytes) blob.now room.old.entries }
-    ensures uses { Uses (is_read result) (S.device source.old) (S.device source.new) }
-    ensures room { room.new ≡ room.old }
-    ensures faults { RisesIf (is_put result) out.old.faults out.new.faults }
-    ensures told { IsTrue (S.device source.old).honest → (t : Siblings) →
-        IsRead (S.device source.old).bytes blob.now room.old.entries t →
-        (hs : List (NodeOf Spot)) → HashesAt t first hs →
-        Lists (is_err result) (sum_by node_allowance hs)
-        (S.device source.old) (S.device source.new) out.old out.new
-        (flat_map (λ h. hash_text h.own) hs) }
+    ensures leaves { Leaves (is_read result) (is_put result) (S.device source.old)
+        (S.device source.new) room.old room.new out.old out.new }
+    ensures told { OfHashes (S.device source.old) blob.now room.old first (λ hs. Lists
+        (is_err result) (sum_by node_allowance hs) (S.device source.old) (S.device source.new)
+        out.old out.new (flat_map (λ h. hash_text h.own) hs)) }
 {
     let mut next = first;
     while let Some(hash) = next {
-        put_hash(blob, source, room, hash, out)?;
+        put_hash(source, blob, room, hash, out)?;
         next = next_hash(blob, room, hash);
     }
     Ok(())
@@ -99,8 +89,8 @@ fn size_in(place: Result<Place, FitFault>) -> Option<u32>
 
 // The lines of an image whose payload's size is known, or is not.
 fn put_sized_image<S: Source, A: Allocator, W: Write>(
-    blob: &Blob,
     source: &mut S,
+    blob: &Blob,
     room: &mut Room<A>,
     time: Option<u32>,
     size: Option<u32>,
@@ -110,27 +100,24 @@ fn put_sized_image<S: Source, A: Allocator, W: Write>(
 ) -> Result<(), MoveFault>
     requires within { image < length room.old.entries }
     requires inside { InFile (length (S.device source.old).bytes) blob.now room.old.entries }
-    ensures uses { Uses (is_read result) (S.device source.old) (S.device source.new) }
-    ensures room { room.new ≡ room.old }
-    ensures faults { RisesIf (is_put result) out.old.faults out.new.faults }
-    ensures told { IsTrue (S.device source.old).honest → (t : Siblings) →
-        IsRead (S.device source.old).bytes blob.now room.old.entries t → (found : NodeOf Spot) →
-        IsNode t in_images image found →
-        Lists (is_err result) (748 + 4 * text_sizes found.own + sum_by node_allowance (hashes found))
-        (S.device source.old) (S.device source.new) out.old out.new
-        (title_text (codes " Image ") number found.name
-        ++ (image_text time size found.own ++ flat_map (λ h. hash_text h.own) (hashes found))) }
+    ensures leaves { Leaves (is_read result) (is_put result) (S.device source.old)
+        (S.device source.new) room.old room.new out.old out.new }
+    ensures told { OfNode (S.device source.old) blob.now room.old in_images image (λ found. Lists
+        (is_err result) (748 + 4 * text_sizes found.own + sum_by node_allowance (hashes found))
+        (S.device source.old) (S.device source.new) out.old out.new (title_text (codes " Image ")
+        number found.name ++ (image_text time size found.own ++ flat_map (λ h. hash_text h.own)
+        (hashes found)))) }
 {
     let name = name_of(blob, room, image);
     let fields = image_fields(blob, room, image, time, size);
     put_node(source, room, b" Image ", number, name, &fields, out)?;
-    put_hashes(blob, source, room, first_hash(blob, room, image), out)
+    put_hashes(source, blob, room, first_hash(blob, room, image), out)
 }
 
 // The lines of an image.
 fn put_image<S: Source, A: Allocator, W: Write>(
-    blob: &Blob,
     source: &mut S,
+    blob: &Blob,
     room: &mut Room<A>,
     time: Option<u32>,
     number: usize,
@@ -139,18 +126,15 @@ fn put_image<S: Source, A: Allocator, W: Write>(
 ) -> Result<(), MoveFault>
     requires within { image < length room.old.entries }
     requires inside { InFile (length (S.device source.old).bytes) blob.now room.old.entries }
-    ensures uses { Uses (is_read result) (S.device source.old) (S.device source.new) }
-    ensures room { room.new ≡ room.old }
-    ensures faults { RisesIf (is_put result) out.old.faults out.new.faults }
-    ensures told { IsTrue (S.device source.old).honest → (t : Siblings) →
-        IsRead (S.device source.old).bytes blob.now room.old.entries t → (found : NodeOf Spot) →
-        IsNode t in_images image found → Lists (is_err result) (node_allowance found)
-        (S.device source.old) (S.device source.new) out.old out.new
-        (node_lines (S.device source.old).bytes (Kind.Image time) number found) }
+    ensures leaves { Leaves (is_read result) (is_put result) (S.device source.old)
+        (S.device source.new) room.old room.new out.old out.new }
+    ensures told { OfNode (S.device source.old) blob.now room.old in_images image (λ found. Lists
+        (is_err result) (node_allowance found) (S.device source.old) (S.device source.new)
+        out.old out.new (node_lines (S.device source.old).bytes (Kind.Image time) number found)) }
 {
     match find_place(source, blob, room, image) {
         Ok(place) => {
-            put_sized_image(blob, source, room, time, size_in(place), number, image, out)
+            put_sized_image(source, blob, room, time, size_in(place), number, image, out)
         }
         Err(_) => Err(MoveFault::Read),
     }
@@ -158,8 +142,8 @@ fn put_image<S: Source, A: Allocator, W: Write>(
 
 // The lines of a configuration.
 fn put_configuration<S: Source, A: Allocator, W: Write>(
-    blob: &Blob,
     source: &mut S,
+    blob: &Blob,
     room: &mut Room<A>,
     number: usize,
     configuration: usize,
@@ -167,15 +151,12 @@ fn put_configuration<S: Source, A: Allocator, W: Write>(
 ) -> Result<(), MoveFault>
     requires within { configuration < length room.old.entries }
     requires inside { InFile (length (S.device source.old).bytes) blob.now room.old.entries }
-    ensures uses { Uses (is_read result) (S.device source.old) (S.device source.new) }
-    ensures room { room.new ≡ room.old }
-    ensures faults { RisesIf (is_put result) out.old.faults out.new.faults }
-    ensures told { IsTrue (S.device source.old).honest → (t : Siblings) →
-        IsRead (S.device source.old).bytes blob.now room.old.entries t → (found : NodeOf Spot) →
-        IsNode t in_configurations configuration found →
-        Lists (is_err result) (node_allowance found)
-        (S.device source.old) (S.device source.new) out.old out.new
-        (node_lines (S.device source.old).bytes Kind.Configuration number found) }
+    ensures leaves { Leaves (is_read result) (is_put result) (S.device source.old)
+        (S.device source.new) room.old room.new out.old out.new }
+    ensures told { OfNode (S.device source.old) blob.now room.old in_configurations configuration
+        (λ found. Lists (is_err result) (node_allowance found) (S.device source.old)
+        (S.device source.new) out.old out.new (node_lines (S.device source.old).bytes
+        Kind.Configuration number found)) }
 {
     let name = name_of(blob, room, configuration);
     let fields = configuration_fields(blob, room, configuration);
@@ -184,8 +165,8 @@ fn put_configuration<S: Source, A: Allocator, W: Write>(
 
 // The lines of a node.
 fn put_listed<S: Source, A: Allocator, W: Write>(
-    blob: &Blob,
     source: &mut S,
+    blob: &Blob,
     room: &mut Room<A>,
     kind: Kind,
     number: usize,
@@ -194,25 +175,22 @@ fn put_listed<S: Source, A: Allocator, W: Write>(
 ) -> Result<(), MoveFault>
     requires within { node < length room.old.entries }
     requires inside { InFile (length (S.device source.old).bytes) blob.now room.old.entries }
-    ensures uses { Uses (is_read result) (S.device source.old) (S.device source.new) }
-    ensures room { room.new ≡ room.old }
-    ensures faults { RisesIf (is_put result) out.old.faults out.new.faults }
-    ensures told { IsTrue (S.device source.old).honest → (t : Siblings) →
-        IsRead (S.device source.old).bytes blob.now room.old.entries t → (found : NodeOf Spot) →
-        IsNode t (level_of kind) node found → Lists (is_err result) (node_allowance found)
-        (S.device source.old) (S.device source.new) out.old out.new
-        (node_lines (S.device source.old).bytes kind number found) }
+    ensures leaves { Leaves (is_read result) (is_put result) (S.device source.old)
+        (S.device source.new) room.old room.new out.old out.new }
+    ensures told { OfNode (S.device source.old) blob.now room.old (level_of kind) node (λ found.
+        Lists (is_err result) (node_allowance found) (S.device source.old) (S.device source.new)
+        out.old out.new (node_lines (S.device source.old).bytes kind number found)) }
 {
     match kind {
-        Kind::Image(time) => put_image(blob, source, room, time, number, node, out),
-        Kind::Configuration => put_configuration(blob, source, room, number, node, out),
+        Kind::Image(time) => put_image(source, blob, room, time, number, node, out),
+        Kind::Configuration => put_configuration(source, blob, room, number, node, out),
     }
 }
 
 // The lines of the nodes from one on.
 pub(crate) fn put_listed_nodes<S: Source, A: Allocator, W: Write>(
-    blob: &Blob,
     source: &mut S,
+    blob: &Blob,
     room: &mut Room<A>,
     kind: Kind,
     first: Option<usize>,
@@ -220,22 +198,19 @@ pub(crate) fn put_listed_nodes<S: Source, A: Allocator, W: Write>(
 ) -> Result<(), MoveFault>
     requires within { IfSome first (λ i. i < length room.old.entries) }
     requires inside { InFile (length (S.device source.old).bytes) blob.now room.old.entries }
-    ensures uses { Uses (is_read result) (S.device source.old) (S.device source.new) }
-    ensures room { room.new ≡ room.old }
-    ensures faults { RisesIf (is_put result) out.old.faults out.new.faults }
-    ensures told { IsTrue (S.device source.old).honest → (t : Siblings) →
-        IsRead (S.device source.old).bytes blob.now room.old.entries t →
-        (found : List (NodeOf Spot)) → AreFrom t (level_of kind) first found →
-        Lists (is_err result) (sum_by node_allowance found)
-        (S.device source.old) (S.device source.new) out.old out.new
-        (numbered (node_lines (S.device source.old).bytes kind) 0 found) }
+    ensures leaves { Leaves (is_read result) (is_put result) (S.device source.old)
+        (S.device source.new) room.old room.new out.old out.new }
+    ensures told { OfNodes (S.device source.old) blob.now room.old (level_of kind) first (λ found.
+        Lists (is_err result) (sum_by node_allowance found) (S.device source.old)
+        (S.device source.new) out.old out.new (numbered
+        (node_lines (S.device source.old).bytes kind) 0 found)) }
 {
     let mut next = first;
     for number in 0..room.count() {
         let Some(node) = next else {
             return Ok(());
         };
-        put_listed(blob, source, room, kind, number, node, out)?;
+        put_listed(source, blob, room, kind, number, node, out)?;
         next = next_of(blob, room, node);
     }
     Ok(())

@@ -1,4 +1,4 @@
-ghost use Rattle.std.specs.Prelude.{◌≡◌, ◌+◌, ◌≤◌, ◌<◌, ◌++◌, length, take, drop, is_err, IsTrue, IfOk, IfErr};
+ghost use Rattle.std.specs.Prelude.{◌≡◌, ◌+◌, ◌≤◌, ◌<◌, length, take, drop, is_err, IsTrue, IfOk, IfErr};
 ghost use Rattle.uimg_base.specs.Device.{RisesIf};
 ghost use Rattle.uimg_base.specs.Ranges.{is_read, is_put};
 ghost use Rattle.uimg_base.specs.declared.ranges.MoveFault.TheVariants.{Put};
@@ -7,7 +7,8 @@ ghost use Rattle.uimg_base.specs.Writing.{Written};
 ghost use Rattle.uimg_texts.specs.Slices.{slice};
 ghost use Rattle.uimg_fit_reading.specs.Values.{pieces};
 ghost use Rattle.uimg_fit_reading.specs.Shows.{lines_of};
-ghost use Rattle.uimg_fit_reading.specs.Lists.{start_of, emitted, line_after, end_of_line, IsPiece};
+ghost use Rattle.uimg_fit_reading.specs.Lists.{start_of, emitted, line_after, IsPiece};
+ghost use Rattle.uimg_fit_reading.specs.Puts.{Puts};
 
 use crate::puts::{put, put_line, put_pair, read};
 use std::alloc::Allocator;
@@ -160,11 +161,9 @@ pub(crate) fn put_list_lines<S: Source, A: Allocator, W: Write>(
     out: &mut Out<W>,
 ) -> Result<(), MoveFault>
     requires { span.place + span.length ≤ length (S.device source.old).bytes }
-    ensures uses { Asks span.length (is_read result) (S.device source.old) (S.device source.new) }
-    ensures room { room.new ≡ room.old }
-    ensures faults { RisesIf (is_put result) out.old.faults out.new.faults }
-    ensures told { IsTrue (S.device source.old).honest → Written (is_err result) out.old out.new
-        (lines_of label.now (pieces (slice (S.device source.old).bytes span.place span.length))) }
+    ensures { Puts span.length result (S.device source.old) (S.device source.new)
+        room.old room.new out.old out.new (lines_of label.now (pieces (slice
+        (S.device source.old).bytes span.place span.length))) }
 {
     match put_value(source, room.window(), label, span, out)? {
         Line::Open => put(out, b"\n"),

@@ -1,13 +1,11 @@
-ghost use Rattle.std.specs.Prelude.{◌≡◌, ◌+◌, ◌≤◌, ◌++◌, min, length, codes, is_err, IsTrue, IfOk, IfSome};
+ghost use Rattle.std.specs.Prelude.{◌≡◌, ◌+◌, ◌≤◌, ◌++◌, min, length, codes, is_err, IsTrue, IfOk};
 ghost use Rattle.std.specs.Option.{option_map_or};
-ghost use Rattle.uimg_base.specs.Device.{RisesIf};
 ghost use Rattle.uimg_base.specs.Outcome.{line};
-ghost use Rattle.uimg_base.specs.Ranges.{is_read, is_put};
 ghost use Rattle.uimg_base.specs.Using.{Asks};
-ghost use Rattle.uimg_base.specs.Writing.{Written};
 ghost use Rattle.uimg_texts.specs.Names.{code_of, printed, kind_table, comp_table, arch_table, os_table};
 ghost use Rattle.uimg_texts.specs.Slices.{slice};
 ghost use Rattle.uimg_fit_reading.specs.Shows.{named, unknown, name_in};
+ghost use Rattle.uimg_fit_reading.specs.Puts.{PutsFrom};
 
 use crate::listing::shows::Table;
 use crate::puts::put_line;
@@ -124,12 +122,9 @@ pub(crate) fn put_name_line<S: Source, W: Write>(
     out: &mut Out<W>,
 ) -> Result<(), MoveFault>
     requires { span.place + span.length ≤ length (S.device source.old).bytes }
-    ensures uses { Asks (min 32 span.length) (is_read result) (S.device source.old)
-        (S.device source.new) }
-    ensures faults { RisesIf (is_put result) out.old.faults out.new.faults }
-    ensures told { IsTrue (S.device source.old).honest → Written (is_err result) out.old out.new
-        (line (label.now
-        ++ name_in table (slice (S.device source.old).bytes span.place span.length))) }
+    ensures { PutsFrom (min 32 span.length) result (S.device source.old) (S.device source.new)
+        out.old out.new (line (label.now ++ name_in table (slice (S.device source.old).bytes
+        span.place span.length))) }
 {
     match long_name(source, table, span) {
         Ok(name) => put_line(out, label, name.as_bytes()),

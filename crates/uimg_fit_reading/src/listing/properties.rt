@@ -1,5 +1,5 @@
 //! The fields of images, hash nodes and configurations.
-ghost use Rattle.std.specs.Prelude.{◌≡◌, ℕ, ◌+◌, ◌<◌, ◌≤◌, List, length, codes, Option, IsTrue, true};
+ghost use Rattle.std.specs.Prelude.{◌≡◌, ℕ, ◌+◌, ◌<◌, ◌≤◌, List, length, codes, IsTrue, true};
 ghost use Rattle.std.specs.List.{AllByRecursion, flat_map, sum_by};
 ghost use Rattle.uimg_blob.specs.Grammar.{Siblings};
 ghost use Rattle.uimg_blob.specs.Indexed.{keeps};

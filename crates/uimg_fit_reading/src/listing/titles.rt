@@ -1,13 +1,9 @@
-ghost use Rattle.std.specs.Prelude.{◌≡◌, ◌+◌, ◌≤◌, ◌++◌, length, decimal, codes, is_err, IsTrue, IfErr};
+ghost use Rattle.std.specs.Prelude.{◌+◌, ◌≤◌, ◌++◌, length, decimal, codes};
 ghost use Rattle.std.specs.List.{AllByRecursion, flat_map, sum_by};
-ghost use Rattle.uimg_base.specs.Device.{RisesIf};
-ghost use Rattle.uimg_base.specs.Ranges.{is_read, is_put};
-ghost use Rattle.uimg_base.specs.declared.ranges.MoveFault.TheVariants.{Put};
-ghost use Rattle.uimg_base.specs.Using.{Asks};
-ghost use Rattle.uimg_base.specs.Writing.{Written};
 ghost use Rattle.uimg_texts.specs.Slices.{slice};
 ghost use Rattle.uimg_fit_reading.specs.Shows.{field_lines, field_cost, FieldEndsIn};
 ghost use Rattle.uimg_fit_reading.specs.NodeLines.{title_text};
+ghost use Rattle.uimg_fit_reading.specs.Puts.{Puts, PutsOwn};
 
 use crate::listing::fields::put_fields;
 use crate::listing::shows::Field;
@@ -20,10 +16,7 @@ use uimg_blob::Span;
 
 // What stands before a node's name.
 fn put_number<W: Write>(out: &mut Out<W>, before: &[u8], number: usize) -> Result<(), MoveFault>
-    ensures faults { RisesIf (is_put result) out.old.faults out.new.faults }
-    ensures put { IfErr result (λ e. e ≡ Put) }
-    ensures told { Written (is_err result) out.old out.new
-        (before.now ++ (decimal number ++ codes " (")) }
+    ensures { PutsOwn result out.old out.new (before.now ++ (decimal number ++ codes " (")) }
 {
     let mut buffer = Buffer::new();
     match out.put_pieces(&[before, buffer.format(number).as_bytes(), b" ("]) {
@@ -42,12 +35,9 @@ fn put_title<S: Source, A: Allocator, W: Write>(
     out: &mut Out<W>,
 ) -> Result<(), MoveFault>
     requires { name.place + name.length ≤ length (S.device source.old).bytes }
-    ensures uses { Asks name.length (is_read result) (S.device source.old) (S.device source.new) }
-    ensures room { room.new ≡ room.old }
-    ensures faults { RisesIf (is_put result) out.old.faults out.new.faults }
-    ensures told { IsTrue (S.device source.old).honest → Written (is_err result) out.old out.new
-        (title_text before.now number
-        (slice (S.device source.old).bytes name.place name.length)) }
+    ensures { Puts name.length result (S.device source.old) (S.device source.new)
+        room.old room.new out.old out.new (title_text before.now number (slice
+        (S.device source.old).bytes name.place name.length)) }
 {
     put_number(out, before, number)?;
     put_span(source, room, name, out)?;
@@ -66,14 +56,10 @@ pub(crate) fn put_node<S: Source, A: Allocator, W: Write>(
 ) -> Result<(), MoveFault>
     requires name { name.place + name.length ≤ length (S.device source.old).bytes }
     requires fields { AllByRecursion (FieldEndsIn (length (S.device source.old).bytes)) fields.now }
-    ensures uses { Asks (name.length + sum_by field_cost fields.now) (is_read result)
-        (S.device source.old) (S.device source.new) }
-    ensures room { room.new ≡ room.old }
-    ensures faults { RisesIf (is_put result) out.old.faults out.new.faults }
-    ensures told { IsTrue (S.device source.old).honest → Written (is_err result) out.old out.new
-        (title_text before.now number
-        (slice (S.device source.old).bytes name.place name.length)
-        ++ flat_map (field_lines (S.device source.old).bytes) fields.now) }
+    ensures { Puts (name.length + sum_by field_cost fields.now) result (S.device source.old)
+        (S.device source.new) room.old room.new out.old out.new (title_text before.now number
+        (slice (S.device source.old).bytes name.place name.length) ++ flat_map
+        (field_lines (S.device source.old).bytes) fields.now) }
 {
     put_title(source, room, before, number, name, out)?;
     put_fields(source, room, fields, out)

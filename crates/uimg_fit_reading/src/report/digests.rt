@@ -1,5 +1,5 @@
 //! The digests that the hash nodes of an image are compared with, of one pass over its payload.
-ghost use Rattle.std.specs.Prelude.{◌≡◌, ℕ, ◌+◌, ◌<◌, ◌≤◌, length, if◌then◌else◌, is_err, IfOk, IfSome, IsTrue};
+ghost use Rattle.std.specs.Prelude.{◌≡◌, ◌+◌, ◌<◌, ◌≤◌, length, if◌then◌else◌, is_err, IfOk, IfSome, IsTrue};
 ghost use Rattle.uimg_texts.specs.Slices.{slice};
 ghost use Rattle.uimg_base.specs.Using.{Asks, Uses};
 ghost use Rattle.uimg_fit_base.specs.AlgoSets.{is_empty, set_of, AreDigests};
@@ -34,8 +34,8 @@ fn compared_algos<S: Source, A: Allocator>(
     requires within { IfSome first (λ i. i < length room.now.entries) }
     requires file { InFile (length (S.device source.old).bytes) blob.now room.now.entries }
     ensures uses { Uses (is_err result) (S.device source.old) (S.device source.new) }
-    ensures found { OfHashes (S.device source.old) blob.now room.now first (λ hs.
-        FindsAlgos hs (S.device source.old).asked (S.device source.new).asked result) }
+    ensures found { OfHashes (S.device source.old) blob.now room.now first (λ hs. FindsAlgos hs
+        (S.device source.old).asked (S.device source.new).asked result) }
 {
     let mut set = AlgoSet::none();
     let mut next = first;
@@ -83,8 +83,8 @@ pub(crate) fn compared_digests<S: Source, A: Allocator>(
     requires payload { place.at + place.size ≤ length (S.device source.old).bytes }
     ensures uses { Uses (is_err result) (S.device source.old) (S.device source.new) }
     ensures room { room.new ≡ room.old }
-    ensures found { OfHashes (S.device source.old) blob.now room.old first (λ hs.
-        FindsDigests (slice (S.device source.old).bytes place.at place.size) place.size hs
+    ensures found { OfHashes (S.device source.old) blob.now room.old first (λ hs. FindsDigests
+        (slice (S.device source.old).bytes place.at place.size) place.size hs
         (S.device source.old).asked (S.device source.new).asked result) }
 {
     let set = compared_algos(source, blob, room, first)?;

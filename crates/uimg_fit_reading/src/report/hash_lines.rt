@@ -1,14 +1,10 @@
 //! The line of a hash node, and the line of an image that has none.
-ghost use Rattle.std.specs.Prelude.{◌≡◌, ◌+◌, ◌≤◌, ◌++◌, length, codes, is_err, IfSome, IfErr};
+ghost use Rattle.std.specs.Prelude.{◌+◌, ◌≤◌, ◌++◌, length, codes, IfSome};
 ghost use Rattle.uimg_texts.specs.Slices.{slice};
-ghost use Rattle.uimg_base.specs.Device.{RisesIf};
 ghost use Rattle.uimg_base.specs.Outcome.{line};
-ghost use Rattle.uimg_base.specs.Ranges.{is_put};
-ghost use Rattle.uimg_base.specs.Writing.{Written};
-ghost use Rattle.uimg_base.specs.declared.ranges.MoveFault.TheVariants.{Put};
 ghost use Rattle.uimg_fit_base.specs.Report.{word_text};
 ghost use Rattle.uimg_fit_reading.specs.Plans.{span_length, algo_text, names_text, end_text, hash_text};
-ghost use Rattle.uimg_fit_reading.specs.Puts.{Puts};
+ghost use Rattle.uimg_fit_reading.specs.Puts.{Puts, PutsOwn};
 
 use crate::puts::{put, put_line, put_span};
 use std::alloc::Allocator;
@@ -36,8 +32,9 @@ fn put_name<S: Source, A: Allocator, W: Write>(
     out: &mut Out<W>,
 ) -> Result<(), MoveFault>
     requires { span.place + span.length ≤ length (S.device source.old).bytes }
-    ensures { Puts span.length result (S.device source.old) (S.device source.new) room.old room.new
-        out.old out.new (slice (S.device source.old).bytes span.place span.length ++ codes " ") }
+    ensures { Puts span.length result (S.device source.old) (S.device source.new)
+        room.old room.new out.old out.new (slice (S.device source.old).bytes span.place
+        span.length ++ codes " ") }
 {
     put_span(source, room, span, out)?;
     put(out, b" ")
@@ -62,9 +59,7 @@ fn put_algo<S: Source, A: Allocator, W: Write>(
 
 // Writes a word behind a blank, and ends the line.
 fn put_word<W: Write>(word: Word, out: &mut Out<W>) -> Result<(), MoveFault>
-    ensures faults { RisesIf (is_put result) out.old.faults out.new.faults }
-    ensures put { IfErr result (λ e. e ≡ Put) }
-    ensures told { Written (is_err result) out.old out.new (line (codes " " ++ word_text word)) }
+    ensures { PutsOwn result out.old out.new (line (codes " " ++ word_text word)) }
 {
     put_line(out, b" ", word_text(word).as_bytes())
 }
@@ -133,9 +128,8 @@ pub(crate) fn put_unhashed<S: Source, A: Allocator, W: Write>(
 ) -> Result<(), MoveFault>
     requires { image.place + image.length ≤ length (S.device source.old).bytes }
     ensures { Puts image.length result (S.device source.old) (S.device source.new)
-        room.old room.new out.old out.new
-        (slice (S.device source.old).bytes image.place image.length
-        ++ line (codes " - none unhashed")) }
+        room.old room.new out.old out.new (slice (S.device source.old).bytes image.place
+        image.length ++ line (codes " - none unhashed")) }
 {
     put_span(source, room, image, out)?;
     put(out, b" - none unhashed\n")

@@ -1,6 +1,5 @@
 //! Reporting on the hash nodes of an image.
-ghost use Rattle.std.specs.Prelude.{◌≡◌, ℕ, ◌+◌, ◌<◌, ◌≤◌, List, length, IfSome};
-ghost use Rattle.std.specs.List.{AllByRecursion};
+ghost use Rattle.std.specs.Prelude.{ℕ, ◌+◌, ◌<◌, ◌≤◌, List, length, IfSome};
 ghost use Rattle.uimg_texts.specs.Slices.{slice};
 ghost use Rattle.uimg_base.specs.Ranges.{is_read, is_put};
 ghost use Rattle.uimg_fit_base.specs.AlgoSets.{set_of, AreDigests};
@@ -34,8 +33,9 @@ fn put_hashes<S: Source, A: Allocator, W: Write>(
         (S.device source.new) room.old room.new out.old out.new }
     ensures told { OfHashes (S.device source.old) blob.now room.old first (λ hs.
         (message : List ℕ) → AreDigests digests.now message → AllCovered (set_of digests.now) hs →
-        PutsHashes (slice (S.device source.old).bytes image.place image.length) message image.length
-        hs (S.device source.old).asked (S.device source.new).asked result out.old out.new) }
+        PutsHashes (slice (S.device source.old).bytes image.place image.length) message
+        image.length hs (S.device source.old).asked (S.device source.new).asked result
+        out.old out.new) }
 {
     let mut are_right = true;
     let mut next = first;
@@ -63,9 +63,9 @@ pub(crate) fn report_hashes<S: Source, A: Allocator, W: Write>(
     requires payload { place.at + place.size ≤ length (S.device source.old).bytes }
     ensures leaves { Leaves (is_read result) (is_put result) (S.device source.old)
         (S.device source.new) room.old room.new out.old out.new }
-    ensures told { OfHashes (S.device source.old) blob.now room.old first (λ hs.
-        ReportsHashes (slice (S.device source.old).bytes image.place image.length)
-        (slice (S.device source.old).bytes place.at place.size) place.size image.length hs
+    ensures told { OfHashes (S.device source.old) blob.now room.old first (λ hs. ReportsHashes
+        (slice (S.device source.old).bytes image.place image.length) (slice
+        (S.device source.old).bytes place.at place.size) place.size image.length hs
         (S.device source.old).asked (S.device source.new).asked result out.old out.new) }
 {
     let Ok(digests) = compared_digests(source, blob, room, first, place) else {

@@ -59,8 +59,8 @@ fn report_image<S: Source, A: Allocator, W: Write>(
         (S.device source.new) room.old room.new out.old out.new }
     ensures memory { is_out_of_memory result ≡ false }
     ensures told { OfNode (S.device source.old) blob.now room.old in_images image (λ found.
-        ReportsImage (S.device source.old).bytes found
-        (S.device source.old).asked (S.device source.new).asked result out.old out.new) }
+        ReportsImage (S.device source.old).bytes found (S.device source.old).asked
+        (S.device source.new).asked result out.old out.new) }
 {
     let place = payload_place(source, blob, room, image)?;
     Ok(report_found(source, blob, room, image, place, out)?)
@@ -91,8 +91,8 @@ pub(crate) fn report_images<S: Source, A: Allocator, W: Write>(
         (S.device source.new) room.old room.new out.old out.new }
     ensures memory { is_out_of_memory result ≡ false }
     ensures told { OfNodes (S.device source.old) blob.now room.old in_images first (λ found.
-        ReportsImages (S.device source.old).bytes found
-        (S.device source.old).asked (S.device source.new).asked result out.old out.new) }
+        ReportsImages (S.device source.old).bytes found (S.device source.old).asked
+        (S.device source.new).asked result out.old out.new) }
 {
     let mut are_right = true;
     let mut next = first;

@@ -32,9 +32,8 @@ fn judge<S: Source, A: Allocator>(
     requires file { InFile (length (S.device source.old).bytes) blob.now room.now.entries }
     ensures uses { Asks 96 (is_err result) (S.device source.old) (S.device source.new) }
     ensures word { OfHash (S.device source.old) blob.now room.now hash (λ found.
-        (message : List ℕ) → AreDigests digests.now message →
-        IsCovered (set_of digests.now) (plan_of found) →
-        IfOk result (λ word. word ≡ word_of message found)) }
+        (message : List ℕ) → AreDigests digests.now message → IsCovered (set_of digests.now)
+        (plan_of found) → IfOk result (λ word. word ≡ word_of message found)) }
 {
     let plan = plan_at(source, blob, room, hash)?;
     judged(source, plan, digests)
@@ -55,10 +54,10 @@ fn put_judged<S: Source, A: Allocator, W: Write>(
     requires name { image.place + image.length ≤ length (S.device source.old).bytes }
     ensures leaves { Leaves (is_read result) (is_put result) (S.device source.old)
         (S.device source.new) room.old room.new out.old out.new }
-    ensures told { OfHash (S.device source.old) blob.now room.old hash (λ found.
-        Lists (is_err result) (image.length + 255 + algo_length found)
-        (S.device source.old) (S.device source.new) out.old out.new
-        (line_of (slice (S.device source.old).bytes image.place image.length) word found)) }
+    ensures told { OfHash (S.device source.old) blob.now room.old hash (λ found. Lists
+        (is_err result) (image.length + 255 + algo_length found) (S.device source.old)
+        (S.device source.new) out.old out.new (line_of (slice (S.device source.old).bytes
+        image.place image.length) word found)) }
 {
     let line = HashLine {
         image,
@@ -85,10 +84,10 @@ pub(crate) fn put_hash<S: Source, A: Allocator, W: Write>(
     ensures leaves { Leaves (is_read result) (is_put result) (S.device source.old)
         (S.device source.new) room.old room.new out.old out.new }
     ensures told { OfHash (S.device source.old) blob.now room.old hash (λ found.
-        (message : List ℕ) → AreDigests digests.now message →
-        IsCovered (set_of digests.now) (plan_of found) →
-        PutsHash (slice (S.device source.old).bytes image.place image.length) message image.length
-        found (S.device source.old).asked (S.device source.new).asked result out.old out.new) }
+        (message : List ℕ) → AreDigests digests.now message → IsCovered (set_of digests.now)
+        (plan_of found) → PutsHash (slice (S.device source.old).bytes image.place image.length)
+        message image.length found (S.device source.old).asked (S.device source.new).asked result
+        out.old out.new) }
 {
     let Ok(word) = judge(source, blob, room, hash, digests) else {
         return Err(MoveFault::Read);

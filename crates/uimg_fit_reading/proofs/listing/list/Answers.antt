@@ -84,7 +84,7 @@ returns-clause-uses g c = record {
       let honest_last = subst (λ (b : Bool). IsTrue b) (sym (third.honest ∙ second.honest ∙ first.honest)) honest in
       let read = read_same file (g.S.Source.device c.put_head.new.source).bytes c.in_ok-blob.blob _ c.put_head.new.room.entries t after_head (ap (λ (r : Held). r.entries) c.put_head.ensures.room) h.read in
       let e = end_of c.list_body.result in
-      let body = c.list_body.ensures.told honest_last t read time in
+      let body = c.list_body.ensures.told t (record { honest = honest_last; read = read }) time in
       omega (arith, c.read_tree.ensures.uses.asked honest, c.cell.ensures.uses.asked, c.put_head.ensures.uses.asked, body.asked, size, few, body_allowed (spots t), paid file t h.read.is);
 }
 
@@ -108,7 +108,7 @@ returns-clause-told g c = λ honest.
     let honest_last = subst (λ (b : Bool). IsTrue b) (sym (third.honest ∙ second.honest ∙ first.honest)) honest in
     let read = read_same file (g.S.Source.device c.put_head.new.source).bytes c.in_ok-blob.blob _ c.put_head.new.room.entries t after_head (ap (λ (r : Held). r.entries) c.put_head.ensures.room) h.read in
     let e = end_of c.list_body.result in
-    let body = c.list_body.ensures.told honest_last t read time in
+    let body = c.list_body.ensures.told t (record { honest = honest_last; read = read }) time in
     let same = ap (λ (w : List ℕ). description_line (bytes_in w c.root_value-description.result) ++ created_line c.in_ok-time.time) after_cell ∙ head_is own c.in_ok-time.time (bytes_in file c.root_value-description.result) time text in
     let all = subst (λ (w : List ℕ). AppendsAll c.args.out.now c.put_head.new.out w) same (c.in_ok-put_head.ensures.told honest_then).all in
     let rest = subst (λ (w : List ℕ). Tells e (lists w (spots t) (images (spots t))) c.put_head.new.out c.list_body.new.out) after_head body.told in

@@ -14,6 +14,7 @@ use Rattle.uimg_fit_reading.specs.ListingParts.{configurations_text, configurati
 use Rattle.uimg_fit_reading.specs.NodeLines.{node_lines}
 use Rattle.uimg_fit_reading.specs.Nodes.{AreFrom}
 use Rattle.uimg_fit_reading.specs.Telling.{Lists}
+use Rattle.uimg_fit_reading.proofs.OpenedLaws.{still}
 use Rattle.uimg_fit_reading.proofs.PutLaws.{cut}
 use Rattle.uimg_fit_reading.proofs.SharesLaws.{one_text, children_allowed}
 use Rattle.uimg_fit_reading.proofs.TellingLaws.{then_lists, more_lists, read_same}
@@ -21,15 +22,15 @@ use Rattle.uimg_fit_reading.proofs.WithinLaws.{value_size}
 use Rattle.uimg_fit_reading.proofs.listing.put_configurations.Goals as goal
 
 pub returns-in_err-put_default-clause-told : goal.returns-in_err-put_default-clause-told
-returns-in_err-put_default-clause-told g c = λ honest t read.
+returns-in_err-put_default-clause-told g c = λ t o.
     let failed : is_err c.from_residual.result ≡ true = search rules in
     let d = g.S.Source.device c.args.source.now in
     let m = g.S.Source.device c.put_default.new.source in
-    let h = c.in-Some.ensures.told t read.indexed in
-    let value = c.value_of.ensures.bytes d.bytes t read h.level h.found h.node h.keeps in
-    let size = value_size h.found.own (codes "default") _ (c.value_of.ensures.span t read.indexed h.level h.found h.node h.keeps) in
+    let h = c.in-Some.ensures.told t o.read.indexed in
+    let value = c.value_of.ensures.bytes d.bytes t o.read h.level h.found h.node h.keeps in
+    let size = value_size h.found.own (codes "default") _ (c.value_of.ensures.span t o.read.indexed h.level h.found h.node h.keeps) in
     let few = one_text h.found.own (codes "default") refl in
-    let told = subst (λ (v : Option (List ℕ)). Written true c.args.out.now c.put_default.new.out (default_line v)) (sym value) (c.in_err-put_default.ensures.told honest) in
+    let told = subst (λ (v : Option (List ℕ)). Written true c.args.out.now c.put_default.new.out (default_line v)) (sym value) (c.in_err-put_default.ensures.told o.honest) in
     rw failed (subst (λ (o : Option (NodeOf Spot)). Lists true (configurations_allowance o) d m c.args.out.now c.put_default.new.out (configurations_text d.bytes o)) (sym h.is)
     (record {
       asked = omega (arith, c.put_default.ensures.uses.asked, size, few);
@@ -37,24 +38,23 @@ returns-in_err-put_default-clause-told g c = λ honest t read.
     }))
 
 pub returns-clause-told : goal.returns-clause-told
-returns-clause-told g c = λ honest t read.
+returns-clause-told g c = λ t o.
     let d = g.S.Source.device c.args.source.now in
     let m = g.S.Source.device c.put_default.new.source in
     let f = g.S.Source.device c.put_listed_nodes.new.source in
     let e = is_err c.put_listed_nodes.result in
     let same = c.put_default.ensures.uses.same in
-    let now = subst (λ (b : Bool). IsTrue b) (sym same.honest) honest in
-    let here = read_same _ m.bytes c.args.blob.now _ c.put_default.new.room.entries t same.bytes (ap (λ (r : Held). r.entries) c.put_default.ensures.room) read in
-    let h = c.in-Some.ensures.told t read.indexed in
-    let value = c.value_of.ensures.bytes d.bytes t read h.level h.found h.node h.keeps in
-    let size = value_size h.found.own (codes "default") _ (c.value_of.ensures.span t read.indexed h.level h.found h.node h.keeps) in
+    let here = still same c.put_default.ensures.room o in
+    let h = c.in-Some.ensures.told t o.read.indexed in
+    let value = c.value_of.ensures.bytes d.bytes t o.read h.level h.found h.node h.keeps in
+    let size = value_size h.found.own (codes "default") _ (c.value_of.ensures.span t o.read.indexed h.level h.found h.node h.keeps) in
     let few = one_text h.found.own (codes "default") refl in
-    let told = subst (λ (v : Option (List ℕ)). Written false c.args.out.now c.put_default.new.out (default_line v)) (sym value) (c.in_ok-put_default.ensures.told honest) in
+    let told = subst (λ (v : Option (List ℕ)). Written false c.args.out.now c.put_default.new.out (default_line v)) (sym value) (c.in_ok-put_default.ensures.told o.honest) in
     let head : Lists false (760 + 4 * text_sizes h.found.own) d m c.args.out.now c.put_default.new.out (default_line (bytes_of h.found.own (codes "default"))) =
     record { asked = omega (arith, c.put_default.ensures.uses.asked, size, few); written = told } in
-    let from = subst (λ (l : Level). AreFrom t l c.child_of-first.result (listed h.found.below)) h.children (c.child_of-first.ensures.children t here.indexed h.level h.found h.node) in
+    let from = subst (λ (l : Level). AreFrom t l c.child_of-first.result (listed h.found.below)) h.children (c.child_of-first.ensures.children t here.read.indexed h.level h.found h.node) in
     let tail = subst (λ (w : List ℕ). Lists e (sum_by node_allowance (listed h.found.below)) m f c.put_default.new.out c.put_listed_nodes.new.out (numbered (node_lines w Configuration) 0 (listed h.found.below))) same.bytes
-    (c.put_listed_nodes.ensures.told now t here (listed h.found.below) from) in
+    (c.put_listed_nodes.ensures.told t here (listed h.found.below) from) in
     subst (λ (o : Option (NodeOf Spot)). Lists e (configurations_allowance o) d f c.args.out.now c.put_listed_nodes.new.out (configurations_text d.bytes o)) (sym h.is)
     (more_lists e _ (node_allowance h.found) d f c.args.out.now c.put_listed_nodes.new.out _ (omega (arith, children_allowed h.found))
     (then_lists e (760 + 4 * text_sizes h.found.own) (sum_by node_allowance (listed h.found.below)) d m f c.args.out.now c.put_default.new.out c.put_listed_nodes.new.out

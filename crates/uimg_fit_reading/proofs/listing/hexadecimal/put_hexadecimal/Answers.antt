@@ -21,21 +21,25 @@ loop-done-init g c = record {
   put = λ honest. record { appended = Appends-none c.args.out.now.contents };
 }
 
-pub returns-in_err-put_part-clause-told : goal.returns-in_err-put_part-clause-told
-returns-in_err-put_part-clause-told g c = λ honest.
-    let failed : is_err c.from_residual.result ≡ true = search rules in
-    let same = c.loop-done.invariant.same in
-    let file = (g.S.Source.device c.args.source.now).bytes in
-    let at = c.args.span.place in
-    let done = c.loop-done.done in
-    let next = c.min-next.result in
-    let all = c.args.span.length in
-    let now = subst (λ (b : Bool). IsTrue b) (sym same.honest) honest in
-    let told = subst (λ (xs : List ℕ). Written true c.loop-done.out c.put_part.new.out (encode_lower (slice xs (at + done) next)))
-    same.bytes (c.in_err-put_part.ensures.told now) in
-    let whole = ap encode_lower (three_parts file at done next all (omega arith)) ∙ encode_append (slice file at done) _
-    ∙ ap (λ (w : List ℕ). encode_lower (slice file at done) ++ w) (encode_append (slice file (at + done) next) _) in
-    rw failed (stopped c.args.out.now c.loop-done.out c.put_part.new.out _ _ _ _ whole (c.loop-done.invariant.put honest) told)
+pub returns-in_err-put_part : goal.returns-in_err-put_part
+returns-in_err-put_part g c = record {
+  uses = search rules;
+  faults = search rules;
+  told = λ honest.
+      let failed : is_err c.from_residual.result ≡ true = search rules in
+      let same = c.loop-done.invariant.same in
+      let file = (g.S.Source.device c.args.source.now).bytes in
+      let at = c.args.span.place in
+      let done = c.loop-done.done in
+      let next = c.min-next.result in
+      let all = c.args.span.length in
+      let now = subst (λ (b : Bool). IsTrue b) (sym same.honest) honest in
+      let told = subst (λ (xs : List ℕ). Written true c.loop-done.out c.put_part.new.out (encode_lower (slice xs (at + done) next)))
+      same.bytes (c.in_err-put_part.ensures.told now) in
+      let whole = ap encode_lower (three_parts file at done next all (omega arith)) ∙ encode_append (slice file at done) _
+      ∙ ap (λ (w : List ℕ). encode_lower (slice file at done) ++ w) (encode_append (slice file (at + done) next) _) in
+      rw failed (stopped c.args.out.now c.loop-done.out c.put_part.new.out _ _ _ _ whole (c.loop-done.invariant.put honest) told);
+}
 
 pub loop-done-preserved : goal.loop-done-preserved
 loop-done-preserved g c =
@@ -57,8 +61,12 @@ loop-done-preserved g c =
           (all_then c.args.out.now c.loop-done.out c.put_part.new.out _ _ (c.loop-done.invariant.put honest) told.all);
     }
 
-pub returns-clause-told : goal.returns-clause-told
-returns-clause-told g c = λ honest.
-    let file = (g.S.Source.device c.args.source.now).bytes in
-    let all : c.loop-done.done ≡ c.args.span.length = omega arith in
-    written_all c.args.out.now c.loop-done.out _ (subst (λ (n : ℕ). AppendsAll c.args.out.now c.loop-done.out (encode_lower (slice file c.args.span.place n))) all (c.loop-done.invariant.put honest))
+pub returns : goal.returns
+returns g c = record {
+  uses = search rules;
+  faults = search rules;
+  told = λ honest.
+      let file = (g.S.Source.device c.args.source.now).bytes in
+      let all : c.loop-done.done ≡ c.args.span.length = omega arith in
+      written_all c.args.out.now c.loop-done.out _ (subst (λ (n : ℕ). AppendsAll c.args.out.now c.loop-done.out (encode_lower (slice file c.args.span.place n))) all (c.loop-done.invariant.put honest));
+}

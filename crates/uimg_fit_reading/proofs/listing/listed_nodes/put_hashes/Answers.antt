@@ -5,6 +5,7 @@ use Rattle.uimg_blob.specs.LookUps.{NodeOf}
 use Rattle.uimg_blob.specs.Spots.{Spot}
 use Rattle.uimg_fit_reading.specs.FieldTexts.{hash_text}
 use Rattle.uimg_fit_reading.specs.Nodes.{HashesAt, FirstHash}
+use Rattle.uimg_fit_reading.proofs.OpenedLaws.{still}
 use Rattle.uimg_fit_reading.proofs.TellingLaws.{left_more, left_fails, read_same}
 use Rattle.uimg_fit_reading.proofs.listing.listed_nodes.put_hashes.Goals as goal
 
@@ -12,14 +13,13 @@ abbrev texts : ℕ → List (NodeOf Spot) → List ℕ
 texts i ns = flat_map (λ h. hash_text h.own) ns
 
 pub returns-in_err-put_hash-clause-told : goal.returns-in_err-put_hash-clause-told
-returns-in_err-put_hash-clause-told g c = λ honest t read hs at.
+returns-in_err-put_hash-clause-told g c = λ t o hs at.
     let failed : is_err c.from_residual.result ≡ true = search rules in
     let same = c.loop-next.invariant.same in
-    let now = subst (λ (b : Bool). IsTrue b) (sym same.honest) honest in
-    let left = c.loop-next.invariant.left honest t read hs at in
+    let left = c.loop-next.invariant.left t o hs at in
     let first : FirstHash t c.in-Some.hash left.rest = subst (λ (o : Option ℕ). HashesAt t o left.rest) c.in-Some.is left.at in
-    let here = read_same _ (g.S.Source.device c.loop-next.source).bytes c.args.blob.now _ c.loop-next.room.entries t same.bytes (ap (λ (r : Held). r.entries) c.loop-next.invariant.room) read in
-    let told = c.in_err-put_hash.ensures.told now t here first.hash first.at.node first.at.named in
+    let here = still same c.loop-next.invariant.room o in
+    let told = c.in_err-put_hash.ensures.told t here first.hash first.at.node first.at.named in
     rw failed (left_fails (HashesAt t) texts 0 0 c.loop-next.next _ _ _ _ _ _ hs left first.hash first.more (hash_text first.hash.own) first.are refl told)
 
 pub loop-next-preserved : goal.loop-next-preserved
@@ -27,17 +27,16 @@ loop-next-preserved g c =
     let same = c.loop-next.invariant.same in
     record {
       within = search rules;
-      room = c.put_hash.ensures.room ∙ c.loop-next.invariant.room;
-      same = record { bytes = c.put_hash.ensures.uses.same.bytes ∙ same.bytes; honest = c.put_hash.ensures.uses.same.honest ∙ same.honest };
-      failures = c.in_ok-put_hash.ensures.uses.failures ∙ c.loop-next.invariant.failures;
-      faults = c.in_ok-put_hash.ensures.faults ∙ c.loop-next.invariant.faults;
-      left = λ honest t read hs at.
-          let now = subst (λ (b : Bool). IsTrue b) (sym same.honest) honest in
-          let left = c.loop-next.invariant.left honest t read hs at in
+      room = c.put_hash.ensures.leaves.room ∙ c.loop-next.invariant.room;
+      same = record { bytes = c.put_hash.ensures.leaves.uses.same.bytes ∙ same.bytes; honest = c.put_hash.ensures.leaves.uses.same.honest ∙ same.honest };
+      failures = c.in_ok-put_hash.ensures.leaves.uses.failures ∙ c.loop-next.invariant.failures;
+      faults = c.in_ok-put_hash.ensures.leaves.faults ∙ c.loop-next.invariant.faults;
+      left = λ t o hs at.
+          let left = c.loop-next.invariant.left t o hs at in
           let first : FirstHash t c.in-Some.hash left.rest = subst (λ (o : Option ℕ). HashesAt t o left.rest) c.in-Some.is left.at in
-          let here = read_same _ (g.S.Source.device c.loop-next.source).bytes c.args.blob.now _ c.loop-next.room.entries t same.bytes (ap (λ (r : Held). r.entries) c.loop-next.invariant.room) read in
-          let then = read_same _ (g.S.Source.device c.args.source.now).bytes c.args.blob.now _ c.put_hash.new.room.entries t refl (ap (λ (r : Held). r.entries) (c.put_hash.ensures.room ∙ c.loop-next.invariant.room)) read in
-          let told = c.in_ok-put_hash.ensures.told now t here first.hash first.at.node first.at.named in
+          let here = still same c.loop-next.invariant.room o in
+          let then = still c.put_hash.ensures.leaves.uses.same c.put_hash.ensures.leaves.room here in
+          let told = c.in_ok-put_hash.ensures.told t here first.hash first.at.node first.at.named in
           left_more (HashesAt t) texts 0 0 c.loop-next.next c.next_hash-next.result _ _ _ _ _ _ hs left first.hash first.more (hash_text first.hash.own) first.are refl told
-          (c.next_hash-next.ensures.hashes t then.indexed first.hash first.more first.at);
+          (c.next_hash-next.ensures.hashes t then.read.indexed first.hash first.more first.at);
     }

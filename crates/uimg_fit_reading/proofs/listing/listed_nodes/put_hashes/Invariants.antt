@@ -6,7 +6,7 @@ use Rattle.uimg_blob.specs.Grammar.{Siblings}
 use Rattle.uimg_blob.specs.LookUps.{NodeOf}
 use Rattle.uimg_blob.specs.Spots.{Spot}
 use Rattle.uimg_fit_reading.specs.FieldTexts.{hash_text}
-use Rattle.uimg_fit_reading.specs.Nodes.{IsRead, HashesAt}
+use Rattle.uimg_fit_reading.specs.Nodes.{Opened, HashesAt}
 use Rattle.uimg_fit_reading.proofs.TellingLaws.{Left}
 use Rattle.uimg_fit_reading.proofs.listing.listed_nodes.put_hashes.Given as goal
 
@@ -20,7 +20,7 @@ invariant-loop-next g l =
       same : SameDevice (device l.fn.source) (device l.source);
       failures : (device l.source).failures ≡ (device l.fn.source).failures;
       faults : l.out.faults ≡ l.fn.out.faults;
-      left : IsTrue (device l.fn.source).honest → (t : Siblings) → IsRead (device l.fn.source).bytes l.blob l.fn.room.entries t → (hs : List (NodeOf Spot)) → HashesAt t l.fn.first hs
+      left : (t : Siblings) → Opened (device l.fn.source) l.blob l.fn.room t → (hs : List (NodeOf Spot)) → HashesAt t l.fn.first hs
           → Left (HashesAt t) (λ i ns. flat_map (λ h. hash_text h.own) ns) 0 l.next (device l.fn.source) (device l.source) l.fn.out l.out hs;
     }
 

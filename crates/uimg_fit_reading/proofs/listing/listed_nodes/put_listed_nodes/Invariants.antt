@@ -5,7 +5,7 @@ use Rattle.uimg_blob.specs.LookUps.{NodeOf}
 use Rattle.uimg_blob.specs.Spots.{Spot}
 use Rattle.uimg_fit_reading.specs.Listing.{numbered}
 use Rattle.uimg_fit_reading.specs.NodeLines.{level_of, node_lines}
-use Rattle.uimg_fit_reading.specs.Nodes.{IsRead, AreFrom}
+use Rattle.uimg_fit_reading.specs.Nodes.{Opened, AreFrom}
 use Rattle.uimg_fit_reading.proofs.TellingLaws.{Left}
 use Rattle.uimg_fit_reading.proofs.listing.listed_nodes.put_listed_nodes.Given as goal
 
@@ -19,6 +19,6 @@ invariant-loop-number g l =
       same : SameDevice (device l.fn.source) (device l.source);
       failures : (device l.source).failures ≡ (device l.fn.source).failures;
       faults : l.out.faults ≡ l.fn.out.faults;
-      left : IsTrue (device l.fn.source).honest → (t : Siblings) → IsRead (device l.fn.source).bytes l.blob l.fn.room.entries t → (all : List (NodeOf Spot)) → AreFrom t (level_of l.kind) l.fn.first all
+      left : (t : Siblings) → Opened (device l.fn.source) l.blob l.fn.room t → (all : List (NodeOf Spot)) → AreFrom t (level_of l.kind) l.fn.first all
           → Left (AreFrom t (level_of l.kind)) (numbered (node_lines (device l.fn.source).bytes l.kind)) l.number l.next (device l.fn.source) (device l.source) l.fn.out l.out all;
     }
