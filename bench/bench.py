@@ -21,6 +21,7 @@ import time
 import zlib
 
 import fits
+import shapes
 
 SIZE = 512 * 1024 * 1024
 RUNS = 5
@@ -176,6 +177,17 @@ def build_rows(uimg, folder):
         yield f"build {kind}", "mkimage -f", make, text, size
 
 
+def shape_rows(uimg, folder):
+    """What is timed of files that are made to cost much, each beside an ordinary one of the same length."""
+    text, copy = os.path.join(folder, "text"), os.path.join(folder, "copy.bin")
+    words = {"list": ["dumpimage", "-l"], "verify": ["verify"], "extract": ["dumpimage", "-o", copy]}
+    for number, (command, kind, *files) in enumerate(shapes.shapes()):
+        for name, parts in zip(("costly", "ordinary"), files):
+            path = os.path.join(folder, f"{name}-{number}")
+            shapes.write(path, parts)
+            yield f"{command} {kind}", f"uimg, {name} file", [uimg, *words[command], path], text, 0
+
+
 def bench_folder():
     """A folder for the files, which goes away at the end."""
     memory = "/dev/shm" if os.path.isdir("/dev/shm") else None
@@ -200,7 +212,8 @@ def main():
     print("|" + "|".join("-" * (width + 2) for width in widths) + "|")
     with bench_folder() as folder:
         legacy = ((*row, SIZE) for row in legacy_rows(uimg, folder))
-        rows = itertools.chain(legacy, fit_rows(uimg, folder), build_rows(uimg, folder))
+        fit = itertools.chain(fit_rows(uimg, folder), build_rows(uimg, folder))
+        rows = itertools.chain(legacy, fit, shape_rows(uimg, folder))
         installed = (row for row in rows if shutil.which(row[2][0]))
         for _, kind in itertools.groupby(installed, key=lambda row: row[0]):
             print_kind(list(kind), widths)

@@ -7,7 +7,7 @@ import zlib
 
 NAMES = [
     "description", "timestamp", "data", "type", "arch", "os", "compression", "load", "entry",
-    "algo", "value", "default", "kernel", "data-offset", "data-size",
+    "algo", "value", "default", "kernel", "data-offset", "data-size", "fdt", "loadables",
 ]  # fmt: skip
 STRINGS = b"".join(name.encode() + b"\0" for name in NAMES)
 

@@ -162,3 +162,15 @@ OfHash d blob room number P = (t : Siblings) → Opened d blob room t → (found
 -- .. and of the hash nodes from a number on.
 abbrev pub OfHashes : Device → Blob → Held → Option ℕ → (List (NodeOf Spot) → Type 0) → Type 0
 OfHashes d blob room first P = (t : Siblings) → Opened d blob room t → (hs : List (NodeOf Spot)) → HashesAt t first hs → P hs
+
+-- What is said of the node at a number in any file whose tree was read, at whatever level it stands ..
+abbrev pub AtNode : Blob → List (List ℕ) → ℕ → (List ℕ → Level → NodeOf Spot → Type 0) → Type 0
+AtNode blob es number P = (file : List ℕ) (t : Siblings) → IsRead file blob es t → (level : Level) (found : NodeOf Spot) → IsNode t level number found → P file level found
+
+-- .. or at one ..
+abbrev pub AtLevel : Blob → List (List ℕ) → Level → ℕ → (List ℕ → NodeOf Spot → Type 0) → Type 0
+AtLevel blob es level number P = (file : List ℕ) (t : Siblings) → IsRead file blob es t → (found : NodeOf Spot) → IsNode t level number found → P file found
+
+-- .. and in any tree whose entries they are.
+abbrev pub InTree : Blob → List (List ℕ) → ℕ → (Siblings → Level → NodeOf Spot → Type 0) → Type 0
+InTree blob es number P = (t : Siblings) → IsIndexed t blob es → (level : Level) (found : NodeOf Spot) → IsNode t level number found → P t level found

@@ -9,7 +9,7 @@ ghost use Rattle.uimg_blob.specs.LookUps.{NodeOf, first, hashes, listed};
 ghost use Rattle.uimg_blob.specs.Roles.{Level, role_at, level_in, level_after, top, in_images};
 ghost use Rattle.uimg_blob.specs.Spots.{Spot, spots};
 ghost use Rattle.uimg_fit_base.specs.Files.{bytes_of, bytes_in, root_own};
-ghost use Rattle.uimg_fit_reading.specs.Nodes.{Indexed, InFile, IsRead, IsNode, AreFrom, HashesFrom, HashAt, HashesAt, TellsConfigurations};
+ghost use Rattle.uimg_fit_reading.specs.Nodes.{Indexed, InFile, IsRead, IsNode, AtNode, InTree, AreFrom, HashesFrom, HashAt, HashesAt, TellsConfigurations};
 
 use std::alloc::Allocator;
 use uimg_base::Room;
@@ -20,11 +20,9 @@ pub(crate) fn name_of<A: Allocator>(blob: &Blob, room: &Room<A>, node: usize) ->
     requires { node < length room.now.entries }
     ensures inside { (size : ℕ) → InFile size blob.now room.now.entries →
         result.place + result.length ≤ size }
-    ensures name { (file : List ℕ) (t : Siblings) → IsRead file blob.now room.now.entries t →
-        (level : Level) (found : NodeOf Spot) → IsNode t level node found →
-        slice file result.place result.length ≡ found.name }
-    ensures short { (file : List ℕ) (t : Siblings) → IsRead file blob.now room.now.entries t →
-        (level : Level) (found : NodeOf Spot) → IsNode t level node found → result.length ≤ 255 }
+    ensures name { AtNode blob.now room.now.entries node (λ file level found.
+        slice file result.place result.length ≡ found.name) }
+    ensures short { AtNode blob.now room.now.entries node (λ file level found. result.length ≤ 255) }
 {
     blob.name(room, node)
 }
@@ -39,14 +37,12 @@ pub(crate) fn value_of<A: Allocator>(
     requires { node < length room.now.entries }
     ensures inside { (size : ℕ) → InFile size blob.now room.now.entries →
         IfSome result (λ s. s.place + s.length ≤ size) }
-    ensures span { (t : Siblings) → IsIndexed t blob.now room.now.entries →
-        (level : Level) (found : NodeOf Spot) → IsNode t level node found →
+    ensures span { InTree blob.now room.now.entries node (λ t level found.
         IsTrue (keeps (role_at level found.name) key) →
-        result ≡ option_map value_span (first found.own (name_of key)) }
-    ensures bytes { (file : List ℕ) (t : Siblings) → IsRead file blob.now room.now.entries t →
-        (level : Level) (found : NodeOf Spot) → IsNode t level node found →
+        result ≡ option_map value_span (first found.own (name_of key))) }
+    ensures bytes { AtNode blob.now room.now.entries node (λ file level found.
         IsTrue (keeps (role_at level found.name) key) →
-        bytes_of found.own (name_of key) ≡ bytes_in file result }
+        bytes_of found.own (name_of key) ≡ bytes_in file result) }
 {
     blob.value(room, node, key)
 }
@@ -69,9 +65,8 @@ pub(crate) fn root_value<A: Allocator>(blob: &Blob, room: &Room<A>, key: Key) ->
 pub(crate) fn child_of<A: Allocator>(blob: &Blob, room: &Room<A>, node: usize) -> Option<usize>
     requires { node < length room.now.entries }
     ensures within { IfSome result (λ i. i < length room.now.entries) }
-    ensures children { (t : Siblings) → IsIndexed t blob.now room.now.entries →
-        (level : Level) (found : NodeOf Spot) → IsNode t level node found →
-        AreFrom t (level_in (role_at level found.name)) result (listed found.below) }
+    ensures children { InTree blob.now room.now.entries node (λ t level found.
+        AreFrom t (level_in (role_at level found.name)) result (listed found.below)) }
 {
     blob.first_child(room, node)
 }

@@ -1,14 +1,11 @@
 //! The fields of images, hash nodes and configurations.
-ghost use Rattle.std.specs.Prelude.{◌≡◌, ℕ, ◌+◌, ◌<◌, ◌≤◌, List, length, codes, IsTrue, true};
+ghost use Rattle.std.specs.Prelude.{◌≡◌, ℕ, ◌+◌, ◌<◌, ◌≤◌, length, codes, IsTrue, true};
 ghost use Rattle.std.specs.List.{AllByRecursion, flat_map, sum_by};
-ghost use Rattle.uimg_blob.specs.Grammar.{Siblings};
 ghost use Rattle.uimg_blob.specs.Indexed.{keeps};
 ghost use Rattle.uimg_blob.specs.Keys.{name_of};
-ghost use Rattle.uimg_blob.specs.LookUps.{NodeOf};
-ghost use Rattle.uimg_blob.specs.Roles.{Level, role_at, in_images, in_image, in_configurations, is_hash};
-ghost use Rattle.uimg_blob.specs.Spots.{Spot};
+ghost use Rattle.uimg_blob.specs.Roles.{role_at, in_images, in_image, in_configurations, is_hash};
 ghost use Rattle.uimg_fit_base.specs.Files.{bytes_of};
-ghost use Rattle.uimg_fit_reading.specs.Nodes.{InFile, IsRead, IsNode};
+ghost use Rattle.uimg_fit_reading.specs.Nodes.{InFile, AtNode, AtLevel};
 ghost use Rattle.uimg_fit_reading.specs.Shows.{shown, weight, field_lines, field_cost, FieldEndsIn};
 ghost use Rattle.uimg_fit_reading.specs.FieldTexts.{image_text, hash_text, configuration_text, size_of};
 
@@ -29,14 +26,12 @@ fn property<A: Allocator>(
 ) -> Field
     requires { node < length room.now.entries }
     ensures inside { (size : ℕ) → InFile size blob.now room.now.entries → FieldEndsIn size result }
-    ensures lines { (file : List ℕ) (t : Siblings) → IsRead file blob.now room.now.entries t →
-        (level : Level) (found : NodeOf Spot) → IsNode t level node found →
+    ensures lines { AtNode blob.now room.now.entries node (λ file level found.
         IsTrue (keeps (role_at level found.name) key) →
-        field_lines file result ≡ shown show label.now (bytes_of found.own (name_of key)) }
-    ensures cost { (file : List ℕ) (t : Siblings) → IsRead file blob.now room.now.entries t →
-        (level : Level) (found : NodeOf Spot) → IsNode t level node found →
+        field_lines file result ≡ shown show label.now (bytes_of found.own (name_of key))) }
+    ensures cost { AtNode blob.now room.now.entries node (λ file level found.
         IsTrue (keeps (role_at level found.name) key) →
-        field_cost result ≡ weight show (bytes_of found.own (name_of key)) }
+        field_cost result ≡ weight show (bytes_of found.own (name_of key))) }
 {
     Field {
         label,
@@ -55,12 +50,10 @@ pub(crate) fn image_fields<A: Allocator>(
     requires { image < length room.now.entries }
     ensures inside { (size : ℕ) → InFile size blob.now room.now.entries →
         AllByRecursion (FieldEndsIn size) result }
-    ensures lines { (file : List ℕ) (t : Siblings) → IsRead file blob.now room.now.entries t →
-        (found : NodeOf Spot) → IsNode t in_images image found →
-        flat_map (field_lines file) result ≡ image_text time size found.own }
-    ensures cost { (file : List ℕ) (t : Siblings) → IsRead file blob.now room.now.entries t →
-        (found : NodeOf Spot) → IsNode t in_images image found →
-        sum_by field_cost result ≤ 144 + size_of found.own (codes "description") }
+    ensures lines { AtLevel blob.now room.now.entries in_images image (λ file found.
+        flat_map (field_lines file) result ≡ image_text time size found.own) }
+    ensures cost { AtLevel blob.now room.now.entries in_images image (λ file found.
+        sum_by field_cost result ≤ 144 + size_of found.own (codes "description")) }
 {
     [
         property(
@@ -135,13 +128,11 @@ pub(crate) fn hash_fields<A: Allocator>(blob: &Blob, room: &Room<A>, hash: usize
     requires { hash < length room.now.entries }
     ensures inside { (size : ℕ) → InFile size blob.now room.now.entries →
         AllByRecursion (FieldEndsIn size) result }
-    ensures lines { (file : List ℕ) (t : Siblings) → IsRead file blob.now room.now.entries t →
-        (found : NodeOf Spot) → IsNode t in_image hash found → is_hash found.name ≡ true →
-        flat_map (field_lines file) result ≡ hash_text found.own }
-    ensures cost { (file : List ℕ) (t : Siblings) → IsRead file blob.now room.now.entries t →
-        (found : NodeOf Spot) → IsNode t in_image hash found → is_hash found.name ≡ true →
-        sum_by field_cost result ≡ size_of found.own (codes "algo")
-        + size_of found.own (codes "value") }
+    ensures lines { AtLevel blob.now room.now.entries in_image hash (λ file found.
+        is_hash found.name ≡ true → flat_map (field_lines file) result ≡ hash_text found.own) }
+    ensures cost { AtLevel blob.now room.now.entries in_image hash (λ file found.
+        is_hash found.name ≡ true → sum_by field_cost result
+        ≡ size_of found.own (codes "algo") + size_of found.own (codes "value")) }
 {
     [
         property(blob, room, hash, Key::Algo, b"  Hash algo:    ", Show::Text),
@@ -165,14 +156,12 @@ pub(crate) fn configuration_fields<A: Allocator>(
     requires { configuration < length room.now.entries }
     ensures inside { (size : ℕ) → InFile size blob.now room.now.entries →
         AllByRecursion (FieldEndsIn size) result }
-    ensures lines { (file : List ℕ) (t : Siblings) → IsRead file blob.now room.now.entries t →
-        (found : NodeOf Spot) → IsNode t in_configurations configuration found →
-        flat_map (field_lines file) result ≡ configuration_text found.own }
-    ensures cost { (file : List ℕ) (t : Siblings) → IsRead file blob.now room.now.entries t →
-        (found : NodeOf Spot) → IsNode t in_configurations configuration found →
+    ensures lines { AtLevel blob.now room.now.entries in_configurations configuration (λ file found.
+        flat_map (field_lines file) result ≡ configuration_text found.own) }
+    ensures cost { AtLevel blob.now room.now.entries in_configurations configuration (λ file found.
         sum_by field_cost result ≡ size_of found.own (codes "description")
         + (size_of found.own (codes "kernel") + (size_of found.own (codes "ramdisk")
-        + (size_of found.own (codes "fdt") + size_of found.own (codes "loadables")))) }
+        + (size_of found.own (codes "fdt") + size_of found.own (codes "loadables"))))) }
 {
     [
         property(
