@@ -1,5 +1,5 @@
 -- Nodes of an indexed tree by their numbers.
-use Rattle.std.specs.Prelude.{◌≡◌, ◌≤◌, ℕ, List, [], ◌∷◌, true, false, ⊤, map, Option, Some, None, Result, Ok, Err, IsTrue}
+use Rattle.std.specs.Prelude.{◌≡◌, ◌≤◌, ◌<◌, ℕ, List, [], ◌∷◌, length, IfSome, true, false, ⊤, map, Option, Some, None, Result, Ok, Err, IsTrue}
 use Rattle.std.specs.List.{slice_get, filter}
 use Rattle.uimg_texts.specs.Numbers.{be32}
 use Rattle.uimg_base.specs.Device.{Device}
@@ -30,6 +30,16 @@ pub record Indexed (blob : Blob) (es : List (List ℕ)) : Type 0 where
 pub record InFile (size : ℕ) (blob : Blob) (es : List (List ℕ)) : Type 0 where
   pub indexed : Indexed blob es
   pub within : blob.totalsize ≤ size
+
+-- A number is that of an entry of a room whose entries are those of some tree; its blob ends in the device.
+pub record HasNode (d : Device) (blob : Blob) (room : Held) (number : ℕ) : Type 0 where
+  pub within : number < length room.entries
+  pub file : InFile (length d.bytes) blob room.entries
+
+-- The same, where there may be no such number.
+pub record HasNodes (d : Device) (blob : Blob) (room : Held) (first : Option ℕ) : Type 0 where
+  pub within : IfSome first (λ i. i < length room.entries)
+  pub file : InFile (length d.bytes) blob room.entries
 
 -- The tree of a file is t, whose entries are those of a room, and the blob has the total size that its header says.
 pub record IsRead (file : List ℕ) (blob : Blob) (es : List (List ℕ)) (t : Siblings) : Type 0 where

@@ -1,4 +1,4 @@
-ghost use Rattle.std.specs.Prelude.{◌≡◌, ◌<◌, ◌++◌, List, Some, codes, false, length, is_err, IsTrue, IfSome};
+ghost use Rattle.std.specs.Prelude.{◌≡◌, ◌++◌, List, Some, codes, false, length, is_err, IsTrue};
 ghost use Rattle.uimg_base.specs.Device.{RisesIf};
 ghost use Rattle.uimg_base.specs.Outcome.{Tells};
 ghost use Rattle.uimg_base.specs.Ranges as range;
@@ -11,7 +11,7 @@ ghost use Rattle.uimg_fit_base.specs.Faults.{is_read, is_put, is_out_of_memory, 
 ghost use Rattle.uimg_fit_base.specs.Files.{root_own, cell};
 ghost use Rattle.uimg_fit_reading.specs.Listing.{lists, list_of};
 ghost use Rattle.uimg_fit_reading.specs.ListingParts.{configurations_allowance, configurations_text, images_text, body_allowance, TellsWithin};
-ghost use Rattle.uimg_fit_reading.specs.Nodes.{InFile, AreFrom, Opened};
+ghost use Rattle.uimg_fit_reading.specs.Nodes.{InFile, AreFrom, Opened, HasNodes};
 ghost use Rattle.uimg_fit_reading.specs.Rooms.{TakesNodes};
 ghost use Rattle.uimg_fit_reading.specs.Telling.{Lists};
 ghost use Rattle.uimg_fit_reading.specs.Work.{list_work};
@@ -72,8 +72,7 @@ fn put_body<S: Source, A: Allocator, W: Write>(
     first: Option<usize>,
     out: &mut Out<W>,
 ) -> Result<(), MoveFault>
-    requires within { IfSome first (λ i. i < length room.old.entries) }
-    requires inside { InFile (length (S.device source.old).bytes) blob.now room.old.entries }
+    requires { HasNodes (S.device source.old) blob.now room.old first }
     ensures leaves { Leaves (range.is_read result) (range.is_put result) (S.device source.old)
         (S.device source.new) room.old room.new out.old out.new }
     ensures told { (t : Siblings) → Opened (S.device source.old) blob.now room.old t →

@@ -6,7 +6,7 @@ ghost use Rattle.uimg_blob.specs.Roles.{in_images};
 ghost use Rattle.uimg_blob.specs.Spots.{Spot};
 ghost use Rattle.uimg_fit_base.specs.Faults.{is_read, is_put, is_out_of_memory};
 ghost use Rattle.uimg_fit_base.specs.Files.{number_in};
-ghost use Rattle.uimg_fit_reading.specs.Nodes.{InFile, IsRead, IsNode};
+ghost use Rattle.uimg_fit_reading.specs.Nodes.{IsRead, IsNode, HasNode};
 ghost use Rattle.uimg_fit_base.specs.Places.{external, or_else, embedded, place, TellsPlace};
 
 use crate::nodes::value_of;
@@ -78,8 +78,7 @@ pub(crate) fn find_place<S: Source, A: Allocator>(
     room: &Room<A>,
     image: usize,
 ) -> Result<Result<Place, FitFault>, SourceFault>
-    requires within { image < length room.now.entries }
-    requires inside { InFile (length (S.device source.old).bytes) blob.now room.now.entries }
+    requires { HasNode (S.device source.old) blob.now room.now image }
     ensures uses { Asks 12 (is_err result) (S.device source.old) (S.device source.new) }
     ensures small { IfOk result (λ found. IfOk found (λ p. (p.at < 2 ^ 41) × (p.size < 2 ^ 32))) }
     ensures place { IsTrue (S.device source.old).honest → (t : Siblings) →
@@ -107,8 +106,7 @@ pub(crate) fn payload_place<S: Source, A: Allocator>(
     room: &Room<A>,
     image: usize,
 ) -> Result<Place, Fault>
-    requires within { image < length room.now.entries }
-    requires inside { InFile (length (S.device source.old).bytes) blob.now room.now.entries }
+    requires { HasNode (S.device source.old) blob.now room.now image }
     ensures uses { Asks 12 (is_read result) (S.device source.old) (S.device source.new) }
     ensures no_put { is_put result ≡ false }
     ensures memory { is_out_of_memory result ≡ false }

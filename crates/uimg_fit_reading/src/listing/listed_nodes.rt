@@ -1,5 +1,5 @@
 //! Images and configurations, as they are listed.
-ghost use Rattle.std.specs.Prelude.{◌≡◌, ◌<◌, ◌+◌, ◌*◌, ◌^◌, ◌++◌, length, codes, is_err, true, IfOk, IfSome};
+ghost use Rattle.std.specs.Prelude.{◌≡◌, ◌<◌, ◌+◌, ◌*◌, ◌^◌, ◌++◌, codes, is_err, true, IfOk};
 ghost use Rattle.std.specs.List.{flat_map, sum_by};
 ghost use Rattle.uimg_base.specs.Ranges.{is_read, is_put};
 ghost use Rattle.uimg_blob.specs.LookUps.{hashes};
@@ -8,7 +8,7 @@ ghost use Rattle.uimg_fit_reading.specs.Allowances.{text_sizes, node_allowance};
 ghost use Rattle.uimg_fit_reading.specs.FieldTexts.{image_text, hash_text};
 ghost use Rattle.uimg_fit_reading.specs.Listing.{numbered};
 ghost use Rattle.uimg_fit_reading.specs.NodeLines.{title_text, size_in, level_of, node_lines};
-ghost use Rattle.uimg_fit_reading.specs.Nodes.{InFile, OfNode, OfNodes, OfHashes};
+ghost use Rattle.uimg_fit_reading.specs.Nodes.{OfNode, OfNodes, OfHashes, HasNode, HasNodes};
 ghost use Rattle.uimg_fit_reading.specs.Telling.{Lists};
 ghost use Rattle.uimg_fit_reading.specs.Puts.{Leaves};
 
@@ -40,8 +40,7 @@ fn put_hash<S: Source, A: Allocator, W: Write>(
     hash: usize,
     out: &mut Out<W>,
 ) -> Result<(), MoveFault>
-    requires within { hash < length room.old.entries }
-    requires inside { InFile (length (S.device source.old).bytes) blob.now room.old.entries }
+    requires { HasNode (S.device source.old) blob.now room.old hash }
     ensures leaves { Leaves (is_read result) (is_put result) (S.device source.old)
         (S.device source.new) room.old room.new out.old out.new }
     ensures told { OfNode (S.device source.old) blob.now room.old in_image hash (λ found. is_hash
@@ -60,8 +59,7 @@ fn put_hashes<S: Source, A: Allocator, W: Write>(
     first: Option<usize>,
     out: &mut Out<W>,
 ) -> Result<(), MoveFault>
-    requires within { IfSome first (λ i. i < length room.old.entries) }
-    requires inside { InFile (length (S.device source.old).bytes) blob.now room.old.entries }
+    requires { HasNodes (S.device source.old) blob.now room.old first }
     ensures leaves { Leaves (is_read result) (is_put result) (S.device source.old)
         (S.device source.new) room.old room.new out.old out.new }
     ensures told { OfHashes (S.device source.old) blob.now room.old first (λ hs. Lists
@@ -98,8 +96,7 @@ fn put_sized_image<S: Source, A: Allocator, W: Write>(
     image: usize,
     out: &mut Out<W>,
 ) -> Result<(), MoveFault>
-    requires within { image < length room.old.entries }
-    requires inside { InFile (length (S.device source.old).bytes) blob.now room.old.entries }
+    requires { HasNode (S.device source.old) blob.now room.old image }
     ensures leaves { Leaves (is_read result) (is_put result) (S.device source.old)
         (S.device source.new) room.old room.new out.old out.new }
     ensures told { OfNode (S.device source.old) blob.now room.old in_images image (λ found. Lists
@@ -124,8 +121,7 @@ fn put_image<S: Source, A: Allocator, W: Write>(
     image: usize,
     out: &mut Out<W>,
 ) -> Result<(), MoveFault>
-    requires within { image < length room.old.entries }
-    requires inside { InFile (length (S.device source.old).bytes) blob.now room.old.entries }
+    requires { HasNode (S.device source.old) blob.now room.old image }
     ensures leaves { Leaves (is_read result) (is_put result) (S.device source.old)
         (S.device source.new) room.old room.new out.old out.new }
     ensures told { OfNode (S.device source.old) blob.now room.old in_images image (λ found. Lists
@@ -149,8 +145,7 @@ fn put_configuration<S: Source, A: Allocator, W: Write>(
     configuration: usize,
     out: &mut Out<W>,
 ) -> Result<(), MoveFault>
-    requires within { configuration < length room.old.entries }
-    requires inside { InFile (length (S.device source.old).bytes) blob.now room.old.entries }
+    requires { HasNode (S.device source.old) blob.now room.old configuration }
     ensures leaves { Leaves (is_read result) (is_put result) (S.device source.old)
         (S.device source.new) room.old room.new out.old out.new }
     ensures told { OfNode (S.device source.old) blob.now room.old in_configurations configuration
@@ -173,8 +168,7 @@ fn put_listed<S: Source, A: Allocator, W: Write>(
     node: usize,
     out: &mut Out<W>,
 ) -> Result<(), MoveFault>
-    requires within { node < length room.old.entries }
-    requires inside { InFile (length (S.device source.old).bytes) blob.now room.old.entries }
+    requires { HasNode (S.device source.old) blob.now room.old node }
     ensures leaves { Leaves (is_read result) (is_put result) (S.device source.old)
         (S.device source.new) room.old room.new out.old out.new }
     ensures told { OfNode (S.device source.old) blob.now room.old (level_of kind) node (λ found.
@@ -196,8 +190,7 @@ pub(crate) fn put_listed_nodes<S: Source, A: Allocator, W: Write>(
     first: Option<usize>,
     out: &mut Out<W>,
 ) -> Result<(), MoveFault>
-    requires within { IfSome first (λ i. i < length room.old.entries) }
-    requires inside { InFile (length (S.device source.old).bytes) blob.now room.old.entries }
+    requires { HasNodes (S.device source.old) blob.now room.old first }
     ensures leaves { Leaves (is_read result) (is_put result) (S.device source.old)
         (S.device source.new) room.old room.new out.old out.new }
     ensures told { OfNodes (S.device source.old) blob.now room.old (level_of kind) first (λ found.

@@ -1,10 +1,10 @@
 //! The digests that the hash nodes of an image are compared with, of one pass over its payload.
-ghost use Rattle.std.specs.Prelude.{◌≡◌, ◌+◌, ◌<◌, ◌≤◌, length, if◌then◌else◌, is_err, IfOk, IfSome, IsTrue};
+ghost use Rattle.std.specs.Prelude.{◌≡◌, ◌+◌, ◌≤◌, length, if◌then◌else◌, is_err, IfOk, IsTrue};
 ghost use Rattle.uimg_texts.specs.Slices.{slice};
 ghost use Rattle.uimg_base.specs.Using.{Asks, Uses};
 ghost use Rattle.uimg_fit_base.specs.AlgoSets.{is_empty, set_of, AreDigests};
 ghost use Rattle.uimg_fit_reading.specs.HashReports.{FindsAlgos, FindsDigests};
-ghost use Rattle.uimg_fit_reading.specs.Nodes.{InFile, OfHashes};
+ghost use Rattle.uimg_fit_reading.specs.Nodes.{OfHashes, HasNodes};
 ghost use Rattle.uimg_fit_reading.specs.Plans.{with_plan};
 
 use crate::nodes::next_hash;
@@ -31,8 +31,7 @@ fn compared_algos<S: Source, A: Allocator>(
     room: &Room<A>,
     first: Option<usize>,
 ) -> Result<AlgoSet, SourceFault>
-    requires within { IfSome first (λ i. i < length room.now.entries) }
-    requires file { InFile (length (S.device source.old).bytes) blob.now room.now.entries }
+    requires { HasNodes (S.device source.old) blob.now room.now first }
     ensures uses { Uses (is_err result) (S.device source.old) (S.device source.new) }
     ensures found { OfHashes (S.device source.old) blob.now room.now first (λ hs. FindsAlgos hs
         (S.device source.old).asked (S.device source.new).asked result) }
@@ -78,8 +77,7 @@ pub(crate) fn compared_digests<S: Source, A: Allocator>(
     first: Option<usize>,
     place: Place,
 ) -> Result<Digests, SourceFault>
-    requires within { IfSome first (λ i. i < length room.old.entries) }
-    requires file { InFile (length (S.device source.old).bytes) blob.now room.old.entries }
+    requires node { HasNodes (S.device source.old) blob.now room.old first }
     requires payload { place.at + place.size ≤ length (S.device source.old).bytes }
     ensures uses { Uses (is_err result) (S.device source.old) (S.device source.new) }
     ensures room { room.new ≡ room.old }

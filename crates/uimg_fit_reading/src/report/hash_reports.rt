@@ -1,10 +1,10 @@
 //! Reporting on the hash nodes of an image.
-ghost use Rattle.std.specs.Prelude.{ℕ, ◌+◌, ◌<◌, ◌≤◌, List, length, IfSome};
+ghost use Rattle.std.specs.Prelude.{ℕ, ◌+◌, ◌≤◌, List, length};
 ghost use Rattle.uimg_texts.specs.Slices.{slice};
 ghost use Rattle.uimg_base.specs.Ranges.{is_read, is_put};
 ghost use Rattle.uimg_fit_base.specs.AlgoSets.{set_of, AreDigests};
 ghost use Rattle.uimg_fit_reading.specs.HashReports.{AllCovered, PutsHashes, ReportsHashes};
-ghost use Rattle.uimg_fit_reading.specs.Nodes.{InFile, OfHashes};
+ghost use Rattle.uimg_fit_reading.specs.Nodes.{OfHashes, HasNodes};
 ghost use Rattle.uimg_fit_reading.specs.Puts.{Leaves};
 
 use crate::nodes::next_hash;
@@ -26,8 +26,7 @@ fn put_hashes<S: Source, A: Allocator, W: Write>(
     digests: &Digests,
     out: &mut Out<W>,
 ) -> Result<bool, MoveFault>
-    requires within { IfSome first (λ i. i < length room.old.entries) }
-    requires file { InFile (length (S.device source.old).bytes) blob.now room.old.entries }
+    requires node { HasNodes (S.device source.old) blob.now room.old first }
     requires name { image.place + image.length ≤ length (S.device source.old).bytes }
     ensures leaves { Leaves (is_read result) (is_put result) (S.device source.old)
         (S.device source.new) room.old room.new out.old out.new }
@@ -57,8 +56,7 @@ pub(crate) fn report_hashes<S: Source, A: Allocator, W: Write>(
     first: Option<usize>,
     out: &mut Out<W>,
 ) -> Result<bool, MoveFault>
-    requires within { IfSome first (λ i. i < length room.old.entries) }
-    requires file { InFile (length (S.device source.old).bytes) blob.now room.old.entries }
+    requires node { HasNodes (S.device source.old) blob.now room.old first }
     requires name { image.place + image.length ≤ length (S.device source.old).bytes }
     requires payload { place.at + place.size ≤ length (S.device source.old).bytes }
     ensures leaves { Leaves (is_read result) (is_put result) (S.device source.old)

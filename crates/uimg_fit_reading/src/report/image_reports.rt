@@ -1,11 +1,11 @@
 //! Reporting on images, one after the other.
-ghost use Rattle.std.specs.Prelude.{◌≡◌, ◌+◌, ◌<◌, ◌≤◌, length, false, IfSome};
+ghost use Rattle.std.specs.Prelude.{◌≡◌, ◌+◌, ◌≤◌, length, false};
 ghost use Rattle.uimg_texts.specs.Slices.{slice};
 ghost use Rattle.uimg_base.specs.Ranges as moves;
 ghost use Rattle.uimg_blob.specs.Roles.{in_images};
 ghost use Rattle.uimg_fit_base.specs.Faults.{is_read, is_put, is_out_of_memory};
 ghost use Rattle.uimg_fit_reading.specs.ImageReports.{ReportsFound, ReportsImage, ReportsImages, status_of};
-ghost use Rattle.uimg_fit_reading.specs.Nodes.{InFile, OfNode, OfNodes};
+ghost use Rattle.uimg_fit_reading.specs.Nodes.{OfNode, OfNodes, HasNode, HasNodes};
 ghost use Rattle.uimg_fit_reading.specs.Puts.{Leaves};
 
 use crate::nodes::{first_hash, name_of, next_of};
@@ -27,8 +27,7 @@ fn report_found<S: Source, A: Allocator, W: Write>(
     place: Place,
     out: &mut Out<W>,
 ) -> Result<bool, MoveFault>
-    requires within { image < length room.old.entries }
-    requires file { InFile (length (S.device source.old).bytes) blob.now room.old.entries }
+    requires node { HasNode (S.device source.old) blob.now room.old image }
     requires payload { place.at + place.size ≤ length (S.device source.old).bytes }
     ensures leaves { Leaves (moves.is_read result) (moves.is_put result) (S.device source.old)
         (S.device source.new) room.old room.new out.old out.new }
@@ -53,8 +52,7 @@ fn report_image<S: Source, A: Allocator, W: Write>(
     image: usize,
     out: &mut Out<W>,
 ) -> Result<bool, Fault>
-    requires within { image < length room.old.entries }
-    requires file { InFile (length (S.device source.old).bytes) blob.now room.old.entries }
+    requires { HasNode (S.device source.old) blob.now room.old image }
     ensures leaves { Leaves (is_read result) (is_put result) (S.device source.old)
         (S.device source.new) room.old room.new out.old out.new }
     ensures memory { is_out_of_memory result ≡ false }
@@ -85,8 +83,7 @@ pub(crate) fn report_images<S: Source, A: Allocator, W: Write>(
     first: Option<usize>,
     out: &mut Out<W>,
 ) -> Result<Status, Fault>
-    requires within { IfSome first (λ i. i < length room.old.entries) }
-    requires file { InFile (length (S.device source.old).bytes) blob.now room.old.entries }
+    requires { HasNodes (S.device source.old) blob.now room.old first }
     ensures leaves { Leaves (is_read result) (is_put result) (S.device source.old)
         (S.device source.new) room.old room.new out.old out.new }
     ensures memory { is_out_of_memory result ≡ false }

@@ -1,12 +1,12 @@
 //! The word of a hash node, and its line.
-ghost use Rattle.std.specs.Prelude.{◌≡◌, ℕ, ◌+◌, ◌<◌, ◌≤◌, List, length, is_err, IfOk};
+ghost use Rattle.std.specs.Prelude.{◌≡◌, ℕ, ◌+◌, ◌≤◌, List, length, is_err, IfOk};
 ghost use Rattle.uimg_texts.specs.Slices.{slice};
 ghost use Rattle.uimg_base.specs.Ranges.{is_read, is_put};
 ghost use Rattle.uimg_base.specs.Using.{Asks};
 ghost use Rattle.uimg_fit_base.specs.AlgoSets.{set_of, AreDigests};
 ghost use Rattle.uimg_fit_base.specs.Report.{word_of};
 ghost use Rattle.uimg_fit_reading.specs.HashReports.{PutsHash, line_of};
-ghost use Rattle.uimg_fit_reading.specs.Nodes.{InFile, OfHash};
+ghost use Rattle.uimg_fit_reading.specs.Nodes.{OfHash, HasNode};
 ghost use Rattle.uimg_fit_reading.specs.Plans.{IsCovered, algo_length, plan_of};
 ghost use Rattle.uimg_fit_reading.specs.Puts.{Leaves};
 ghost use Rattle.uimg_fit_reading.specs.Telling.{Lists};
@@ -28,8 +28,7 @@ fn judge<S: Source, A: Allocator>(
     hash: usize,
     digests: &Digests,
 ) -> Result<Word, SourceFault>
-    requires within { hash < length room.now.entries }
-    requires file { InFile (length (S.device source.old).bytes) blob.now room.now.entries }
+    requires { HasNode (S.device source.old) blob.now room.now hash }
     ensures uses { Asks 96 (is_err result) (S.device source.old) (S.device source.new) }
     ensures word { OfHash (S.device source.old) blob.now room.now hash (λ found.
         (message : List ℕ) → AreDigests digests.now message → IsCovered (set_of digests.now)
@@ -49,8 +48,7 @@ fn put_judged<S: Source, A: Allocator, W: Write>(
     word: Word,
     out: &mut Out<W>,
 ) -> Result<(), MoveFault>
-    requires within { hash < length room.old.entries }
-    requires file { InFile (length (S.device source.old).bytes) blob.now room.old.entries }
+    requires node { HasNode (S.device source.old) blob.now room.old hash }
     requires name { image.place + image.length ≤ length (S.device source.old).bytes }
     ensures leaves { Leaves (is_read result) (is_put result) (S.device source.old)
         (S.device source.new) room.old room.new out.old out.new }
@@ -78,8 +76,7 @@ pub(crate) fn put_hash<S: Source, A: Allocator, W: Write>(
     digests: &Digests,
     out: &mut Out<W>,
 ) -> Result<Word, MoveFault>
-    requires within { hash < length room.old.entries }
-    requires file { InFile (length (S.device source.old).bytes) blob.now room.old.entries }
+    requires node { HasNode (S.device source.old) blob.now room.old hash }
     requires name { image.place + image.length ≤ length (S.device source.old).bytes }
     ensures leaves { Leaves (is_read result) (is_put result) (S.device source.old)
         (S.device source.new) room.old room.new out.old out.new }

@@ -1,12 +1,12 @@
 //! What is to be done about a hash node before its payload is read, and its word once it is.
-ghost use Rattle.std.specs.Prelude.{◌≡◌, ◌+◌, ◌<◌, ◌≤◌, ℕ, List, length, take, is_err, IfOk, IfSome, IsTrue};
+ghost use Rattle.std.specs.Prelude.{◌≡◌, ◌+◌, ◌≤◌, ℕ, List, length, take, is_err, IfOk, IfSome, IsTrue};
 ghost use Rattle.std.specs.Str.{bytes_eq};
 ghost use Rattle.uimg_sums.specs.Algorithms.{algo_named};
 ghost use Rattle.uimg_texts.specs.Slices.{slice};
 ghost use Rattle.uimg_base.specs.Using.{Asks};
 ghost use Rattle.uimg_fit_base.specs.AlgoSets.{set_of, AreDigests};
 ghost use Rattle.uimg_fit_base.specs.Report.{word_of};
-ghost use Rattle.uimg_fit_reading.specs.Nodes.{InFile, OfHash};
+ghost use Rattle.uimg_fit_reading.specs.Nodes.{OfHash, HasNode};
 ghost use Rattle.uimg_fit_reading.specs.Plans.{plan_by_value, plan_by_algo, plan_by_name, plan_of, text_in, IsOf, EndsIn, IsCovered, word_by};
 
 use crate::nodes::value_of;
@@ -75,8 +75,7 @@ pub(crate) fn plan_at<S: Source, A: Allocator>(
     room: &Room<A>,
     hash: usize,
 ) -> Result<Plan, SourceFault>
-    requires within { hash < length room.now.entries }
-    requires file { InFile (length (S.device source.old).bytes) blob.now room.now.entries }
+    requires { HasNode (S.device source.old) blob.now room.now hash }
     ensures uses { Asks 32 (is_err result) (S.device source.old) (S.device source.new) }
     ensures ends { IfOk result (EndsIn (length (S.device source.old).bytes)) }
     ensures plan { OfHash (S.device source.old) blob.now room.now hash (λ found. IfOk result
