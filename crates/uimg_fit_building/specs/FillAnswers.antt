@@ -1,5 +1,7 @@
 -- What filling answers, over files that have those of the tree.
-use Rattle.std.specs.Prelude.{◌≡◌, ◌≢◌, ℕ, List, [], ◌∷◌, ◌++◌, map, Bool, true, false, Option, Some, None, Result, Ok, Err, codes, ⊤}
+use Rattle.std.specs.Prelude.{◌≡◌, ◌≢◌, ℕ, List, [], ◌∷◌, ◌++◌, map, Bool, true, false, IsTrue, Option, Some, None, Result, Ok, Err, codes, ⊤}
+use Rattle.uimg_base.specs.Named.{FileMap}
+use Rattle.uimg_tree.specs.UsingFiles.{UsesFiles}
 use Rattle.uimg_blob.specs.Plain.{with_value, with_values}
 use Rattle.uimg_blob.specs.LookUps.{NodeOf, first, images, hashes}
 use Rattle.uimg_tree.specs.Content.{Content, Unread, file, bytes_in, in_full, AreKept}
@@ -18,6 +20,13 @@ opens_no_file _ = false
 abbrev pub fails_to_read : {X : Type 0} → Result X FitFault → Bool
 fails_to_read (Err ReadFailed) = true
 fails_to_read _ = false
+
+-- A call that opens files leaves them as they were, and counts each refused open. Where the files that are kept are there, those of
+-- a complete map refuse none, and what never fails is read.
+pub record OpensKept {X : Type 0} (never_fails : Bool) (AreThere : Type 0) (result : Result X FitFault) (old new : FileMap) : Type 0 where
+  pub files : UsesFiles (opens_no_file result) old new
+  pub found : IsTrue old.complete → AreThere → opens_no_file result ≡ false
+  pub steady : IsTrue never_fails → IsTrue old.honest → AreThere → fails_to_read result ≡ false
 
 -- a node with the bytes of each file in its place
 abbrev pub node_in_full : (List ℕ → Option (List ℕ)) → NodeOf Content → NodeOf (List ℕ)

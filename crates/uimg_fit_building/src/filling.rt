@@ -9,7 +9,7 @@ ghost use Rattle.uimg_fit_building.specs.Filling.{with};
 ghost use Rattle.uimg_fit_base.specs.declared.fault.FitFault.TheVariants.{OutOfMemory};
 ghost use Rattle.uimg_tree.specs.Trees.{node_of, siblings};
 ghost use Rattle.uimg_tree.specs.UsingFiles.{UsesFiles};
-ghost use Rattle.uimg_fit_building.specs.FillAnswers.{opens_no_file, fails_to_read, FillsAnswer};
+ghost use Rattle.uimg_fit_building.specs.FillAnswers.{opens_no_file, fails_to_read, FillsAnswer, OpensKept};
 ghost use Rattle.uimg_fit_building.specs.FillOrder.{FillsInOrder};
 ghost use Rattle.uimg_fit_building.specs.ImageFillings.{IsKeptImage, FillsParent, FillsBelow, images_among};
 
@@ -52,13 +52,9 @@ fn fill_parent<F: Files, A: Allocator + Copy>(
     parent: &mut Node<A>,
     files: &mut F,
 ) -> Result<(), FitFault>
-    ensures files { UsesFiles (opens_no_file result) (F.map files.old) (F.map files.new) }
-    ensures found { IsTrue (F.map files.old).complete →
-        AllByRecursion (IsKeptImage (F.map files.old).bytes) (listed parent.old.children) →
-        opens_no_file result ≡ false }
-    ensures steady { IsTrue F.Opened.steady → IsTrue (F.map files.old).honest →
-        AllByRecursion (IsKeptImage (F.map files.old).bytes) (listed parent.old.children) →
-        fails_to_read result ≡ false }
+    ensures opens { OpensKept F.Opened.steady (AllByRecursion
+        (IsKeptImage (F.map files.old).bytes) (listed parent.old.children)) result
+        (F.map files.old) (F.map files.new) }
     ensures filled { IsTrue (F.map files.old).honest → FillsParent (F.map files.old).bytes
         parent.old parent.new result }
     ensures order { IsTrue (F.map files.old).honest →
@@ -77,12 +73,9 @@ fn fill_below<F: Files, A: Allocator + Copy>(
     nodes: &mut [Node<A>],
     files: &mut F,
 ) -> Result<(), FitFault>
-    ensures files { UsesFiles (opens_no_file result) (F.map files.old) (F.map files.new) }
-    ensures found { IsTrue (F.map files.old).complete → IfSome (images_among (siblings nodes.old))
-        (AllByRecursion (IsKeptImage (F.map files.old).bytes)) → opens_no_file result ≡ false }
-    ensures steady { IsTrue F.Opened.steady → IsTrue (F.map files.old).honest →
-        IfSome (images_among (siblings nodes.old))
-        (AllByRecursion (IsKeptImage (F.map files.old).bytes)) → fails_to_read result ≡ false }
+    ensures opens { OpensKept F.Opened.steady (IfSome (images_among (siblings nodes.old))
+        (AllByRecursion (IsKeptImage (F.map files.old).bytes))) result (F.map files.old)
+        (F.map files.new) }
     ensures filled { IsTrue (F.map files.old).honest → FillsBelow (F.map files.old).bytes
         (siblings nodes.old) (siblings nodes.new) result }
     ensures order { IsTrue (F.map files.old).honest →

@@ -1,11 +1,10 @@
 ghost use Rattle.std.specs.Prelude.{◌≡◌, ℕ, List, map, true, IfOk, IfErr, OnOk};
 ghost use Rattle.std.specs.List.{filter, AllByRecursion};
 ghost use Rattle.uimg_sums.specs.Algorithms.{digest_by};
-ghost use Rattle.uimg_blob.specs.LookUps.{NodeOf};
 ghost use Rattle.uimg_blob.specs.Roles.{is_hash};
-ghost use Rattle.uimg_tree.specs.Content.{Content, bytes};
+ghost use Rattle.uimg_tree.specs.Content.{bytes};
 ghost use Rattle.uimg_tree.specs.Properties.{content};
-ghost use Rattle.uimg_fit_building.specs.Filling.{algo_by, with, with_digest_by};
+ghost use Rattle.uimg_fit_building.specs.Filling.{algo_by, with_digest_by};
 ghost use Rattle.uimg_fit_building.specs.Behind.{entry};
 ghost use Rattle.uimg_fit_building.specs.ImageFillings.{hashed_in};
 ghost use Rattle.uimg_fit_base.specs.AlgoSets.{has, no_algos, set_of, AreDigests};

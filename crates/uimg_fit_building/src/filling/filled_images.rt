@@ -1,12 +1,11 @@
-ghost use Rattle.std.specs.Prelude.{◌≡◌, ◌≢◌, [], false, map, Some, IsTrue, OnOk};
+ghost use Rattle.std.specs.Prelude.{◌≢◌, [], map, Some, IsTrue, OnOk};
 ghost use Rattle.std.specs.List.{filter, AllByRecursion};
 ghost use Rattle.uimg_blob.specs.LookUps.{listed};
 ghost use Rattle.uimg_blob.specs.Roles.{is_hash};
 ghost use Rattle.uimg_tree.specs.Content.{IsKept};
 ghost use Rattle.uimg_tree.specs.Properties.{content};
 ghost use Rattle.uimg_tree.specs.Trees.{siblings};
-ghost use Rattle.uimg_tree.specs.UsingFiles.{UsesFiles};
-ghost use Rattle.uimg_fit_building.specs.FillAnswers.{opens_no_file, fails_to_read};
+ghost use Rattle.uimg_fit_building.specs.FillAnswers.{OpensKept};
 ghost use Rattle.uimg_fit_building.specs.Behind.{entry};
 ghost use Rattle.uimg_fit_building.specs.FillOrder.{FillsNext, FillsInOrder};
 ghost use Rattle.uimg_fit_building.specs.ImageFillings.{FillsHashes, FillsImage, FillsImages, IsKeptImage};
@@ -28,11 +27,9 @@ fn fill_hashes<F: Files, A: Allocator + Copy>(
     payload: &Value<A>,
     files: &mut F,
 ) -> Result<(), FitFault>
-    ensures files { UsesFiles (opens_no_file result) (F.map files.old) (F.map files.new) }
-    ensures found { IsTrue (F.map files.old).complete →
-        IsKept (F.map files.old).bytes (content payload.now) → opens_no_file result ≡ false }
-    ensures steady { IsTrue F.Opened.steady → IsTrue (F.map files.old).honest →
-        IsKept (F.map files.old).bytes (content payload.now) → fails_to_read result ≡ false }
+    ensures opens { OpensKept F.Opened.steady
+        (IsKept (F.map files.old).bytes (content payload.now)) result (F.map files.old)
+        (F.map files.new) }
     ensures filled { IsTrue (F.map files.old).honest →
         FillsHashes (λ u. siblings nodes.new) (F.map files.old).bytes (content payload.now)
         (siblings nodes.old) result }
@@ -58,11 +55,9 @@ fn fill_image<F: Files, A: Allocator + Copy>(
     image: &mut Node<A>,
     files: &mut F,
 ) -> Result<(), FitFault>
-    ensures files { UsesFiles (opens_no_file result) (F.map files.old) (F.map files.new) }
-    ensures found { IsTrue (F.map files.old).complete →
-        IsKeptImage (F.map files.old).bytes (entry image.old) → opens_no_file result ≡ false }
-    ensures steady { IsTrue F.Opened.steady → IsTrue (F.map files.old).honest →
-        IsKeptImage (F.map files.old).bytes (entry image.old) → fails_to_read result ≡ false }
+    ensures opens { OpensKept F.Opened.steady
+        (IsKeptImage (F.map files.old).bytes (entry image.old)) result (F.map files.old)
+        (F.map files.new) }
     ensures filled { IsTrue (F.map files.old).honest →
         FillsImage (F.map files.old).bytes (entry image.old) (entry image.new) result }
     ensures order { IsTrue (F.map files.old).honest →
@@ -86,13 +81,9 @@ pub(crate) fn fill_images<F: Files, A: Allocator + Copy>(
     images: &mut [Node<A>],
     files: &mut F,
 ) -> Result<(), FitFault>
-    ensures files { UsesFiles (opens_no_file result) (F.map files.old) (F.map files.new) }
-    ensures found { IsTrue (F.map files.old).complete →
-        AllByRecursion (IsKeptImage (F.map files.old).bytes) (map entry images.old) →
-        opens_no_file result ≡ false }
-    ensures steady { IsTrue F.Opened.steady → IsTrue (F.map files.old).honest →
-        AllByRecursion (IsKeptImage (F.map files.old).bytes) (map entry images.old) →
-        fails_to_read result ≡ false }
+    ensures opens { OpensKept F.Opened.steady (AllByRecursion
+        (IsKeptImage (F.map files.old).bytes) (map entry images.old)) result (F.map files.old)
+        (F.map files.new) }
     ensures filled { IsTrue (F.map files.old).honest → FillsImages (F.map files.old).bytes
         (map entry images.old) (map entry images.new) result }
     ensures order { IsTrue (F.map files.old).honest →

@@ -1,11 +1,10 @@
-ghost use Rattle.std.specs.Prelude.{◌≡◌, ◌++◌, [], ℕ, List, length, true, false, IsTrue, IfOk, IfErr, OnOk};
+ghost use Rattle.std.specs.Prelude.{◌≡◌, [], List, length, IsTrue, IfOk, IfErr, OnOk};
 ghost use Rattle.uimg_sums.specs.declared.algo.Algo.{Algo};
 ghost use Rattle.uimg_sums.specs.Bundle.{Holds};
 ghost use Rattle.uimg_base.specs.Device.{RisesIf};
 ghost use Rattle.uimg_tree.specs.Content.{bytes_in, file, IsKept};
 ghost use Rattle.uimg_tree.specs.Properties.{content};
-ghost use Rattle.uimg_tree.specs.UsingFiles.{UsesFiles};
-ghost use Rattle.uimg_fit_building.specs.FillAnswers.{opens_no_file, fails_to_read};
+ghost use Rattle.uimg_fit_building.specs.FillAnswers.{fails_to_read, OpensKept};
 ghost use Rattle.uimg_fit_building.specs.ImageFillings.{IsFileFault};
 ghost use Rattle.uimg_fit_base.specs.AlgoSets.{set_of, AreDigests};
 ghost use Rattle.uimg_fit_base.specs.declared.fault.FitFault.TheVariants.{ReadFailed};
@@ -43,12 +42,10 @@ fn feed_file<F: Files>(
     size: u64,
     files: &mut F,
 ) -> Result<(), FitFault>
-    ensures files { UsesFiles (opens_no_file result) (F.map files.old) (F.map files.new) }
+    ensures opens { OpensKept F.Opened.steady
+        (IsKept (F.map files.old).bytes (file name.now size)) result (F.map files.old)
+        (F.map files.new) }
     ensures faults { IfErr result (IsFileFault (file name.now size)) }
-    ensures found { IsTrue (F.map files.old).complete →
-        IsKept (F.map files.old).bytes (file name.now size) → opens_no_file result ≡ false }
-    ensures steady { IsTrue F.Opened.steady → IsTrue (F.map files.old).honest →
-        IsKept (F.map files.old).bytes (file name.now size) → fails_to_read result ≡ false }
     ensures kept { IsTrue (F.map files.old).honest →
         OnOk result (IsKept (F.map files.old).bytes (file name.now size)) }
     ensures fed { IsTrue (F.map files.old).honest → OnOk result (
@@ -67,12 +64,10 @@ fn feed_payload<F: Files, A: Allocator>(
     payload: &Value<A>,
     files: &mut F,
 ) -> Result<(), FitFault>
-    ensures files { UsesFiles (opens_no_file result) (F.map files.old) (F.map files.new) }
+    ensures opens { OpensKept F.Opened.steady
+        (IsKept (F.map files.old).bytes (content payload.now)) result (F.map files.old)
+        (F.map files.new) }
     ensures faults { IfErr result (IsFileFault (content payload.now)) }
-    ensures found { IsTrue (F.map files.old).complete →
-        IsKept (F.map files.old).bytes (content payload.now) → opens_no_file result ≡ false }
-    ensures steady { IsTrue F.Opened.steady → IsTrue (F.map files.old).honest →
-        IsKept (F.map files.old).bytes (content payload.now) → fails_to_read result ≡ false }
     ensures kept { IsTrue (F.map files.old).honest →
         OnOk result (IsKept (F.map files.old).bytes (content payload.now)) }
     ensures fed { IsTrue (F.map files.old).honest → OnOk result (
@@ -94,12 +89,10 @@ pub(crate) fn payload_digests<F: Files, A: Allocator>(
     payload: &Value<A>,
     files: &mut F,
 ) -> Result<Digests, FitFault>
-    ensures files { UsesFiles (opens_no_file result) (F.map files.old) (F.map files.new) }
+    ensures opens { OpensKept F.Opened.steady
+        (IsKept (F.map files.old).bytes (content payload.now)) result (F.map files.old)
+        (F.map files.new) }
     ensures faults { IfErr result (IsFileFault (content payload.now)) }
-    ensures found { IsTrue (F.map files.old).complete →
-        IsKept (F.map files.old).bytes (content payload.now) → opens_no_file result ≡ false }
-    ensures steady { IsTrue F.Opened.steady → IsTrue (F.map files.old).honest →
-        IsKept (F.map files.old).bytes (content payload.now) → fails_to_read result ≡ false }
     ensures kept { IsTrue (F.map files.old).honest →
         OnOk result (IsKept (F.map files.old).bytes (content payload.now)) }
     ensures set { IfOk result (λ digests. set_of digests ≡ set) }

@@ -22,7 +22,7 @@ returns-in_err-fill_below-clause-found g c = λ complete kept.
     let files = (g.F.Files.map c.args.files.now).bytes in
     let below : siblings c.as_mut_slice.result.now ≡ root.children = ap siblings c.as_mut_slice.ensures.value ∙ c.into_vec-nodes.ensures in
     by-refusal (λ r. opens_no_file r ≡ false) c.from_residual.result c.in_err-fill_below.field-0.0 c.from_residual.ensures.1
-    (c.in_err-fill_below.ensures.found complete
+    (c.in_err-fill_below.ensures.opens.found complete
     (subst (λ (t : Unread). IfSome (images_among t) (AllByRecursion (IsKeptImage files))) (sym below) (kept-below files root.name root.props root.children kept)))
 
 pub returns-in_err-fill_below-clause-steady : goal.returns-in_err-fill_below-clause-steady
@@ -31,7 +31,7 @@ returns-in_err-fill_below-clause-steady g c = λ steady honest kept.
     let files = (g.F.Files.map c.args.files.now).bytes in
     let below : siblings c.as_mut_slice.result.now ≡ root.children = ap siblings c.as_mut_slice.ensures.value ∙ c.into_vec-nodes.ensures in
     by-refusal (λ r. fails_to_read r ≡ false) c.from_residual.result c.in_err-fill_below.field-0.0 c.from_residual.ensures.1
-    (c.in_err-fill_below.ensures.steady steady honest
+    (c.in_err-fill_below.ensures.opens.steady steady honest
     (subst (λ (t : Unread). IfSome (images_among t) (AllByRecursion (IsKeptImage files))) (sym below) (kept-below files root.name root.props root.children kept)))
 
 pub returns-in_err-fill_below-clause-filled : goal.returns-in_err-fill_below-clause-filled

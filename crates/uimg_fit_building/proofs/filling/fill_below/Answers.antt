@@ -1,4 +1,4 @@
-use Rattle.std.proofs.Common.{◌≡◌, ◌<◌, ◌≤◌, ℕ, List, Option, Some, length, get_or, set, ap, sym, subst, arith}
+use Rattle.std.proofs.Common.{rules, ◌≡◌, ◌<◌, ◌≤◌, ℕ, List, Option, Some, length, get_or, set, ap, sym, subst, arith}
 use Rattle.std.specs.List.{AllByRecursion}
 use Rattle.std.specs.Bool.{⊤}
 use Rattle.uimg_blob.specs.LookUps.{NodeOf, listed}
@@ -18,23 +18,24 @@ pub returns-then-at-nodes-clause-order : goal.returns-then-at-nodes-clause-order
 returns-then-at-nodes-clause-order g c = λ honest.
     none-among c.args.nodes.now (let past : length c.args.nodes.now ≤ before c.args.nodes.now = omega (arith, c.if-at-nodes.true, c.before_images-at.ensures) in past)
 
-pub returns-clause-found : goal.returns-clause-found
-returns-clause-found g c = λ complete all.
-    let ns = c.args.nodes.now in
-    let d = c.index-nodes-at.result in
-    let within : before ns < length ns = omega (arith, c.if-at-nodes.false, c.before_images-at.ensures) in
-    let is : get_or ns c.before_images-at.result d ≡ get_or ns (before ns) d = ap (λ (k : ℕ). get_or ns k d) c.before_images-at.ensures in
-    c.fill_parent.ensures.found complete
-    (subst (λ (n : Node _). AllByRecursion (IsKeptImage (g.F.Files.map c.args.files.now).bytes) (listed n.children)) (sym is) (images-kept (g.F.Files.map c.args.files.now).bytes ns d c.fill_parent.new.parent within all))
-
-pub returns-clause-steady : goal.returns-clause-steady
-returns-clause-steady g c = λ steady honest all.
-    let ns = c.args.nodes.now in
-    let d = c.index-nodes-at.result in
-    let within : before ns < length ns = omega (arith, c.if-at-nodes.false, c.before_images-at.ensures) in
-    let is : get_or ns c.before_images-at.result d ≡ get_or ns (before ns) d = ap (λ (k : ℕ). get_or ns k d) c.before_images-at.ensures in
-    c.fill_parent.ensures.steady steady honest
-    (subst (λ (n : Node _). AllByRecursion (IsKeptImage (g.F.Files.map c.args.files.now).bytes) (listed n.children)) (sym is) (images-kept (g.F.Files.map c.args.files.now).bytes ns d c.fill_parent.new.parent within all))
+pub returns-clause-opens : goal.returns-clause-opens
+returns-clause-opens g c = record {
+  files = search rules;
+  found = λ complete all.
+      let ns = c.args.nodes.now in
+      let d = c.index-nodes-at.result in
+      let within : before ns < length ns = omega (arith, c.if-at-nodes.false, c.before_images-at.ensures) in
+      let is : get_or ns c.before_images-at.result d ≡ get_or ns (before ns) d = ap (λ (k : ℕ). get_or ns k d) c.before_images-at.ensures in
+      c.fill_parent.ensures.opens.found complete
+      (subst (λ (n : Node _). AllByRecursion (IsKeptImage (g.F.Files.map c.args.files.now).bytes) (listed n.children)) (sym is) (images-kept (g.F.Files.map c.args.files.now).bytes ns d c.fill_parent.new.parent within all));
+  steady = λ steady honest all.
+      let ns = c.args.nodes.now in
+      let d = c.index-nodes-at.result in
+      let within : before ns < length ns = omega (arith, c.if-at-nodes.false, c.before_images-at.ensures) in
+      let is : get_or ns c.before_images-at.result d ≡ get_or ns (before ns) d = ap (λ (k : ℕ). get_or ns k d) c.before_images-at.ensures in
+      c.fill_parent.ensures.opens.steady steady honest
+      (subst (λ (n : Node _). AllByRecursion (IsKeptImage (g.F.Files.map c.args.files.now).bytes) (listed n.children)) (sym is) (images-kept (g.F.Files.map c.args.files.now).bytes ns d c.fill_parent.new.parent within all));
+}
 
 pub returns-clause-filled : goal.returns-clause-filled
 returns-clause-filled g c = λ honest.

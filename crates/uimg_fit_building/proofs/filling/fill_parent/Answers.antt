@@ -1,4 +1,4 @@
-use Rattle.std.proofs.Common.{◌≡◌, ◌∙◌, List, Some, length, map, ap, sym, subst, arith}
+use Rattle.std.proofs.Common.{rules, ◌≡◌, ◌∙◌, List, Some, length, map, ap, sym, subst, arith}
 use Rattle.std.specs.List.{AllByRecursion}
 use Rattle.std.specs.Bool.{⊤}
 use Rattle.uimg_blob.specs.LookUps.{NodeOf, listed}
@@ -14,17 +14,18 @@ use Rattle.uimg_fit_building.proofs.ImageFillLaws.{listed-siblings, siblings-eac
 use Rattle.uimg_fit_building.proofs.FillTreeLaws.{parent-told}
 use Rattle.uimg_fit_building.proofs.filling.fill_parent.Goals as goal
 
-pub returns-clause-found : goal.returns-clause-found
-returns-clause-found g c = λ complete all.
-    let below : siblings c.as_mut_slice.result.now ≡ c.args.parent.now.children = ap siblings c.as_mut_slice.ensures.value ∙ c.into_vec-images.ensures ∙ c.replace-nodes.ensures.value in
-    let are : map entry c.as_mut_slice.result.now ≡ listed c.args.parent.now.children = sym (listed-siblings c.as_mut_slice.result.now) ∙ ap (λ (t : Unread). listed t) below in
-    c.fill_images-answer.ensures.found complete (subst (AllByRecursion (IsKeptImage (g.F.Files.map c.args.files.now).bytes)) (sym are) all)
-
-pub returns-clause-steady : goal.returns-clause-steady
-returns-clause-steady g c = λ steady honest all.
-    let below : siblings c.as_mut_slice.result.now ≡ c.args.parent.now.children = ap siblings c.as_mut_slice.ensures.value ∙ c.into_vec-images.ensures ∙ c.replace-nodes.ensures.value in
-    let are : map entry c.as_mut_slice.result.now ≡ listed c.args.parent.now.children = sym (listed-siblings c.as_mut_slice.result.now) ∙ ap (λ (t : Unread). listed t) below in
-    c.fill_images-answer.ensures.steady steady honest (subst (AllByRecursion (IsKeptImage (g.F.Files.map c.args.files.now).bytes)) (sym are) all)
+pub returns-clause-opens : goal.returns-clause-opens
+returns-clause-opens g c = record {
+  files = search rules;
+  found = λ complete all.
+      let below : siblings c.as_mut_slice.result.now ≡ c.args.parent.now.children = ap siblings c.as_mut_slice.ensures.value ∙ c.into_vec-images.ensures ∙ c.replace-nodes.ensures.value in
+      let are : map entry c.as_mut_slice.result.now ≡ listed c.args.parent.now.children = sym (listed-siblings c.as_mut_slice.result.now) ∙ ap (λ (t : Unread). listed t) below in
+      c.fill_images-answer.ensures.opens.found complete (subst (AllByRecursion (IsKeptImage (g.F.Files.map c.args.files.now).bytes)) (sym are) all);
+  steady = λ steady honest all.
+      let below : siblings c.as_mut_slice.result.now ≡ c.args.parent.now.children = ap siblings c.as_mut_slice.ensures.value ∙ c.into_vec-images.ensures ∙ c.replace-nodes.ensures.value in
+      let are : map entry c.as_mut_slice.result.now ≡ listed c.args.parent.now.children = sym (listed-siblings c.as_mut_slice.result.now) ∙ ap (λ (t : Unread). listed t) below in
+      c.fill_images-answer.ensures.opens.steady steady honest (subst (AllByRecursion (IsKeptImage (g.F.Files.map c.args.files.now).bytes)) (sym are) all);
+}
 
 pub returns-clause-filled : goal.returns-clause-filled
 returns-clause-filled g c = λ honest.

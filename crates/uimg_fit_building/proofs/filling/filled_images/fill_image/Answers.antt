@@ -52,4 +52,4 @@ returns-clause-order g c = λ honest.
     next-is files g.F.Opened.Source.steady (entry c.args.image.now) payload there (λ u. siblings now) answer
     (subst (λ (t : Unread). FillsHashes (λ u. siblings now) files.bytes payload t answer) below (c.fill_hashes-answer.ensures.filled honest))
     (subst (λ (t : Unread). OnOk answer (filter (λ h. is_hash h.name) (listed t) ≢ [] → IsKept files.bytes payload)) below (c.fill_hashes-answer.ensures.kept honest))
-    c.fill_hashes-answer.ensures.found (λ steady kept. c.fill_hashes-answer.ensures.steady steady honest kept)
+    c.fill_hashes-answer.ensures.opens.found (λ steady kept. c.fill_hashes-answer.ensures.opens.steady steady honest kept)

@@ -1,4 +1,4 @@
-use Rattle.std.proofs.Common.{◌≡◌, ◌<◌, ◌∙◌, ℕ, List, Bool, false, Option, Some, None, Err, length, map, set, get_or, arith, ap, refl, subst, sym, IsTrue}
+use Rattle.std.proofs.Common.{rules, ◌≡◌, ◌<◌, ◌∙◌, ℕ, List, Bool, false, Option, Some, None, Err, length, map, set, get_or, arith, ap, refl, subst, sym, IsTrue}
 use Rattle.std.proofs.Math.ListN.{length-set}
 use Rattle.std.specs.Bool.{⊤}
 use Rattle.uimg_tree.specs.declared.tree.Node.{Node}
@@ -22,37 +22,38 @@ loop-image-init g c = record {
   passed = λ honest. tt;
 }
 
-pub returns-in_err-fill_image-clause-found : goal.returns-in_err-fill_image-clause-found
-returns-in_err-fill_image-clause-found g c = λ complete all.
-    let old = c.args.images.now in
-    let now = c.loop-image.images in
-    let i = c.loop-image.image-index in
-    let d = c.image-item.result in
-    let s = c.loop-image.invariant in
-    let files = (g.F.Files.map c.args.files.now).bytes in
-    let in_now : i < length now = omega arith in
-    let in_old : i < length old = omega (arith, s.long) in
-    let here : get_or now i d ≡ get_or old i d = same-at entry (filled_over files) old now i d in_old in_now s.rest in
-    let kept = subst (λ (n : Node _). IsKeptImage files (entry n)) (sym here) (entry-at (IsKeptImage files) old i d in_old all) in
-    by-refusal (λ r. opens_no_file r ≡ false) c.from_residual.result c.in_err-fill_image.field-0.0 c.from_residual.ensures.1
-    (c.in_err-fill_image.ensures.found (subst (λ (b : Bool). IsTrue b) (sym s.same.complete) complete)
-    (subst (λ (b : List ℕ → Option (List ℕ)). IsKeptImage b (entry (get_or now i d))) (sym s.same.bytes) kept))
-
-pub returns-in_err-fill_image-clause-steady : goal.returns-in_err-fill_image-clause-steady
-returns-in_err-fill_image-clause-steady g c = λ steady honest all.
-    let old = c.args.images.now in
-    let now = c.loop-image.images in
-    let i = c.loop-image.image-index in
-    let d = c.image-item.result in
-    let s = c.loop-image.invariant in
-    let files = (g.F.Files.map c.args.files.now).bytes in
-    let in_now : i < length now = omega arith in
-    let in_old : i < length old = omega (arith, s.long) in
-    let here : get_or now i d ≡ get_or old i d = same-at entry (filled_over files) old now i d in_old in_now s.rest in
-    let kept = subst (λ (n : Node _). IsKeptImage files (entry n)) (sym here) (entry-at (IsKeptImage files) old i d in_old all) in
-    by-refusal (λ r. fails_to_read r ≡ false) c.from_residual.result c.in_err-fill_image.field-0.0 c.from_residual.ensures.1
-    (c.in_err-fill_image.ensures.steady steady (subst (λ (b : Bool). IsTrue b) (sym s.same.honest) honest)
-    (subst (λ (b : List ℕ → Option (List ℕ)). IsKeptImage b (entry (get_or now i d))) (sym s.same.bytes) kept))
+pub returns-in_err-fill_image-clause-opens : goal.returns-in_err-fill_image-clause-opens
+returns-in_err-fill_image-clause-opens g c = record {
+  files = search rules;
+  found = λ complete all.
+      let old = c.args.images.now in
+      let now = c.loop-image.images in
+      let i = c.loop-image.image-index in
+      let d = c.image-item.result in
+      let s = c.loop-image.invariant in
+      let files = (g.F.Files.map c.args.files.now).bytes in
+      let in_now : i < length now = omega arith in
+      let in_old : i < length old = omega (arith, s.long) in
+      let here : get_or now i d ≡ get_or old i d = same-at entry (filled_over files) old now i d in_old in_now s.rest in
+      let kept = subst (λ (n : Node _). IsKeptImage files (entry n)) (sym here) (entry-at (IsKeptImage files) old i d in_old all) in
+      by-refusal (λ r. opens_no_file r ≡ false) c.from_residual.result c.in_err-fill_image.field-0.0 c.from_residual.ensures.1
+      (c.in_err-fill_image.ensures.opens.found (subst (λ (b : Bool). IsTrue b) (sym s.same.complete) complete)
+      (subst (λ (b : List ℕ → Option (List ℕ)). IsKeptImage b (entry (get_or now i d))) (sym s.same.bytes) kept));
+  steady = λ steady honest all.
+      let old = c.args.images.now in
+      let now = c.loop-image.images in
+      let i = c.loop-image.image-index in
+      let d = c.image-item.result in
+      let s = c.loop-image.invariant in
+      let files = (g.F.Files.map c.args.files.now).bytes in
+      let in_now : i < length now = omega arith in
+      let in_old : i < length old = omega (arith, s.long) in
+      let here : get_or now i d ≡ get_or old i d = same-at entry (filled_over files) old now i d in_old in_now s.rest in
+      let kept = subst (λ (n : Node _). IsKeptImage files (entry n)) (sym here) (entry-at (IsKeptImage files) old i d in_old all) in
+      by-refusal (λ r. fails_to_read r ≡ false) c.from_residual.result c.in_err-fill_image.field-0.0 c.from_residual.ensures.1
+      (c.in_err-fill_image.ensures.opens.steady steady (subst (λ (b : Bool). IsTrue b) (sym s.same.honest) honest)
+      (subst (λ (b : List ℕ → Option (List ℕ)). IsKeptImage b (entry (get_or now i d))) (sym s.same.bytes) kept));
+}
 
 pub returns-in_err-fill_image-clause-filled : goal.returns-in_err-fill_image-clause-filled
 returns-in_err-fill_image-clause-filled g c = λ honest.
@@ -98,7 +99,7 @@ loop-image-preserved g c =
     let i = c.loop-image.image-index in
     let d = c.image-item.result in
     let s = c.loop-image.invariant in
-    let used = c.in_ok-fill_image.ensures.files in
+    let used = c.in_ok-fill_image.ensures.opens.files in
     let files = (g.F.Files.map c.args.files.now).bytes in
     let new = c.fill_image.new.image in
     let in_now : i < length now = omega arith in
