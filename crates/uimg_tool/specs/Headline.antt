@@ -1,10 +1,11 @@
 -- What a command on an image has to write, how it has to end, how much it may ask for, and what memory it may take.
 use Rattle.std.specs.Prelude.{◌≡◌, ℕ, ◌+◌, ◌-◌, ◌^◌, ◌<◌, List, [], length, nat_lt, ◌==◌, if◌then◌else◌, Result, Some, ⊤, Bool, true, false, IsTrue}
-use Rattle.uimg_base.specs.Device.{Device}
+use Rattle.uimg_base.specs.Device.{Device, RisesIf}
 use Rattle.uimg_base.specs.Held.{Held}
 use Rattle.uimg_base.specs.Ranges.{ReadsAhead}
 use Rattle.uimg_base.specs.Sink.{Sink, AppendsAll}
-use Rattle.uimg_base.specs.Outcome.{End, Outcome, done, not_right, refused}
+use Rattle.uimg_base.specs.Outcome.{End, Outcome, done, not_right, refused, Tells}
+use Rattle.uimg_base.specs.Using.{UsesAtMost}
 use Rattle.uimg_base.specs.declared.status.Status.{Status}
 use Rattle.uimg_texts.specs.Numbers.{be32}
 use Rattle.uimg_blob.specs.Counts.{nodes_met}
@@ -26,7 +27,7 @@ use Rattle.uimg_words.specs.declared.command.Action.TheVariants as action
 use Rattle.uimg_words.specs.declared.command.Command.{Command}
 use Rattle.uimg_words.specs.declared.command.Form.{Form}
 use Rattle.uimg_words.specs.declared.command.Form.TheVariants as form
-use Rattle.uimg_tool.specs.Faults.{end_of, of_fit}
+use Rattle.uimg_tool.specs.Faults.{end_of, of_fit, is_read, is_put, is_no_memory, is_refused, is_of_making}
 
 -- the file begins with the magic number of a devicetree blob (Devicetree Specification, section 5.2)
 unfoldable pub begins_as_blob : List ℕ → Bool
@@ -124,6 +125,27 @@ IsLegacy form.Fit source = ⊥
 abbrev pub Takes : Bool → Device → Bool → (old new : Held) → Type 0
 Takes true source no_memory old new = TakesNodes source no_memory old new
 Takes false source no_memory old new = (new ≡ record old { entries = [] }) × (no_memory ≡ false)
+
+-- What the engine of a format did at any exit: what it asked for and took, what it wrote of the outcome, and which failures it counted.
+pub record CarriesOut (fit : Bool) (what : Action) (result : Result Status Fault) (d e : Device) (old new : Held) (s t : Sink) : Type 0 where
+  pub uses : UsesAtMost (work_in fit what d.bytes) (is_read result) d e
+  pub room : Takes fit d (is_no_memory result) old new
+  pub ahead : IsTrue d.honest → ExtractsAhead (work_in fit action.List d.bytes) what (outcome_in fit what d.bytes) d e s t
+  pub untouched : KeepsOutput what (is_refused result) s t
+  pub faults : RisesIf (is_put result) s.faults t.faults
+  pub not_making : is_of_making result ≡ false
+  pub told : IsTrue d.honest → Tells (end_of result) (outcome_in fit what d.bytes) s t
+
+-- The same of a command, whose format its form or the file's first bytes tell.
+pub record Runs (command : Command) (result : Result Status Fault) (d e : Device) (old new : Held) (s t : Sink) : Type 0 where
+  pub uses : UsesAtMost (work command d.bytes) (is_read result) d e
+  pub room : TakesNodes d (is_no_memory result) old new
+  pub legacy : IsLegacy command.form d → Takes false d (is_no_memory result) old new
+  pub ahead : IsTrue d.honest → ExtractsAhead (work (record command { action = action.List }) d.bytes) command.action (outcome_of command d.bytes) d e s t
+  pub untouched : KeepsOutput command.action (is_refused result) s t
+  pub faults : RisesIf (is_put result) s.faults t.faults
+  pub not_making : is_of_making result ≡ false
+  pub told : IsTrue d.honest → Tells (end_of result) (outcome_of command d.bytes) s t
 
 -- the answer is the outcome's end, and exactly its text was appended
 abbrev pub Meets : Result Status Fault → Outcome Fault → Sink → Sink → Type 0

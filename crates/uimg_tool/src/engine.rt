@@ -1,12 +1,9 @@
 ghost use Rattle.std.specs.Prelude.{◌≡◌, ◌↔◌, ◌+◌, ◌*◌, ◌-◌, ◌^◌, ◌<◌, ◌≤◌, max, [], true, false, length, IsTrue, Err};
-ghost use Rattle.uimg_base.specs.Device.{SameDevice, RisesIf};
+ghost use Rattle.uimg_base.specs.Device.{SameDevice};
 ghost use Rattle.uimg_base.specs.Held.{held_bytes};
-ghost use Rattle.uimg_base.specs.Using.{UsesAtMost};
 ghost use Rattle.uimg_base.specs.Sink.{AppendsPrefix};
-ghost use Rattle.uimg_base.specs.Outcome.{Tells};
-ghost use Rattle.uimg_fit_reading.specs.Rooms.{TakesNodes};
-ghost use Rattle.uimg_tool.specs.Faults.{is_read, is_put, is_no_memory, is_refused, is_of_making, end_of};
-ghost use Rattle.uimg_tool.specs.Headline.{outcome_in, outcome_of, work_in, work, nodes_of, is_fit, ExtractsAhead, KeepsOutput, Stays, GrowthsSucceed, IsLegacy, Takes, Meets};
+ghost use Rattle.uimg_tool.specs.Faults.{is_no_memory, is_refused, is_of_making};
+ghost use Rattle.uimg_tool.specs.Headline.{outcome_of, work, nodes_of, is_fit, CarriesOut, Runs, ExtractsAhead, KeepsOutput, Stays, GrowthsSucceed, IsLegacy, Meets};
 
 use crate::fault::Fault;
 use crate::formats::is_fit;
@@ -22,20 +19,8 @@ pub(crate) fn run_legacy<S: Source, A: Allocator, W: Write>(
     room: &mut Room<A>,
     out: &mut Out<W>,
 ) -> Result<Status, Fault>
-    ensures uses { UsesAtMost (work_in false action (S.device source.old).bytes)
-        (is_read result) (S.device source.old) (S.device source.new) }
-    ensures room { room.new ≡ record room.old { entries = [] } }
-    ensures memory { is_no_memory result ≡ false }
-    ensures ahead { IsTrue (S.device source.old).honest →
-        ExtractsAhead (work_in false Action.List (S.device source.old).bytes) action
-        (outcome_in false action (S.device source.old).bytes)
-        (S.device source.old) (S.device source.new) out.old out.new }
-    ensures untouched { KeepsOutput action (is_refused result) out.old out.new }
-    ensures faults { RisesIf (is_put result) out.old.faults out.new.faults }
-    ensures not_making { is_of_making result ≡ false }
-    ensures told { IsTrue (S.device source.old).honest →
-        Tells (end_of result) (outcome_in false action (S.device source.old).bytes)
-        out.old out.new }
+    ensures { CarriesOut false action result (S.device source.old) (S.device source.new)
+        room.old room.new out.old out.new }
 {
     let status = match action {
         Action::List => uimg_legacy::list(source, room, out)?,
@@ -52,19 +37,8 @@ fn run_fit<S: Source, A: Allocator, W: Write>(
     room: &mut Room<A>,
     out: &mut Out<W>,
 ) -> Result<Status, Fault>
-    ensures uses { UsesAtMost (work_in true action (S.device source.old).bytes)
-        (is_read result) (S.device source.old) (S.device source.new) }
-    ensures room { TakesNodes (S.device source.old) (is_no_memory result) room.old room.new }
-    ensures ahead { IsTrue (S.device source.old).honest →
-        ExtractsAhead (work_in true Action.List (S.device source.old).bytes) action
-        (outcome_in true action (S.device source.old).bytes)
-        (S.device source.old) (S.device source.new) out.old out.new }
-    ensures untouched { KeepsOutput action (is_refused result) out.old out.new }
-    ensures faults { RisesIf (is_put result) out.old.faults out.new.faults }
-    ensures not_making { is_of_making result ≡ false }
-    ensures told { IsTrue (S.device source.old).honest →
-        Tells (end_of result) (outcome_in true action (S.device source.old).bytes)
-        out.old out.new }
+    ensures { CarriesOut true action result (S.device source.old) (S.device source.new)
+        room.old room.new out.old out.new }
 {
     let status = match action {
         Action::List => uimg_fit_reading::list(source, room, out)?,
@@ -74,35 +48,6 @@ fn run_fit<S: Source, A: Allocator, W: Write>(
     Ok(status)
 }
 
-// The action on a file that is read as a FIT image, or as a legacy image.
-fn run_in<S: Source, A: Allocator, W: Write>(
-    fit: bool,
-    action: Action,
-    source: &mut S,
-    room: &mut Room<A>,
-    out: &mut Out<W>,
-) -> Result<Status, Fault>
-    ensures uses { UsesAtMost (work_in fit action (S.device source.old).bytes)
-        (is_read result) (S.device source.old) (S.device source.new) }
-    ensures room { Takes fit (S.device source.old) (is_no_memory result) room.old room.new }
-    ensures ahead { IsTrue (S.device source.old).honest →
-        ExtractsAhead (work_in fit Action.List (S.device source.old).bytes) action
-        (outcome_in fit action (S.device source.old).bytes)
-        (S.device source.old) (S.device source.new) out.old out.new }
-    ensures untouched { KeepsOutput action (is_refused result) out.old out.new }
-    ensures faults { RisesIf (is_put result) out.old.faults out.new.faults }
-    ensures not_making { is_of_making result ≡ false }
-    ensures told { IsTrue (S.device source.old).honest →
-        Tells (end_of result) (outcome_in fit action (S.device source.old).bytes)
-        out.old out.new }
-{
-    if fit {
-        run_fit(action, source, room, out)
-    } else {
-        run_legacy(action, source, room, out)
-    }
-}
-
 // The command by the engine of the format that the file is read as.
 pub(crate) fn run_by_form<S: Source, A: Allocator, W: Write>(
     command: &Command,
@@ -110,26 +55,15 @@ pub(crate) fn run_by_form<S: Source, A: Allocator, W: Write>(
     room: &mut Room<A>,
     out: &mut Out<W>,
 ) -> Result<Status, Fault>
-    ensures uses { UsesAtMost (work command.now (S.device source.old).bytes)
-        (is_read result) (S.device source.old) (S.device source.new) }
-    ensures room { TakesNodes (S.device source.old) (is_no_memory result) room.old room.new }
-    ensures legacy { IsLegacy command.now.form (S.device source.old) →
-        Takes false (S.device source.old) (is_no_memory result) room.old room.new }
-    ensures ahead { IsTrue (S.device source.old).honest →
-        ExtractsAhead (work (record command.now { action = Action.List })
-        (S.device source.old).bytes) command.now.action
-        (outcome_of command.now (S.device source.old).bytes)
-        (S.device source.old) (S.device source.new) out.old out.new }
-    ensures untouched { KeepsOutput command.now.action (is_refused result) out.old out.new }
-    ensures faults { RisesIf (is_put result) out.old.faults out.new.faults }
-    ensures not_making { is_of_making result ≡ false }
-    ensures told { IsTrue (S.device source.old).honest →
-        Tells (end_of result) (outcome_of command.now (S.device source.old).bytes)
-        out.old out.new }
+    ensures { Runs command.now result (S.device source.old) (S.device source.new)
+        room.old room.new out.old out.new }
 {
     room.clear();
-    let fit = is_fit(command.form, source)?;
-    run_in(fit, command.action, source, room, out)
+    if is_fit(command.form, source)? {
+        run_fit(command.action, source, room, out)
+    } else {
+        run_legacy(command.action, source, room, out)
+    }
 }
 
 /// Carries out a command on an image: writes its listing, its verification report, one part of a
