@@ -240,14 +240,16 @@ indexed_err {X = X} file bytes x e k r es header same was is given =
     subst (λ (w : Result Siblings Fault). Indexes w r es) (tree_is file bytes x header same) (err_same (begun (tokens (blocks_of bytes x))) e k r es was is given)
 
 -- what a pass asked for and kept, by what the file's tokens are counted for
-pub within_cost : (file bytes : List ℕ) (x : Extent) (base asked : ℕ) (es : List (List ℕ)) → blocks file ≡ Ok (blocks_of file x) → bytes ≡ file
-    → Within (blocks_of bytes x) (begun (tokens (blocks_of bytes x))) base asked es → (asked + 40 ≤ base + index_cost file) × (length es ≤ nodes_met file)
-within_cost file bytes x base asked es header same given =
-    let b : Blocks = blocks_of file x in
-    let w : Within b (begun (tokens b)) base asked es = subst (λ (f : List ℕ). Within (blocks_of f x) (begun (tokens (blocks_of f x))) base asked es) same given in
-    let all : met_in (begun (tokens b)) (tokens b) ≡ met file =
-    ap (λ (r : Result Siblings Fault). met_in r (tokens b)) (begun_is (tokens b)) ∙ sym (ap met_from header) in
-    (omega (arith, w.costs, ap (sum_by weight) all, weight_counts (met file)), omega (arith, w.nodes, ap (sum_by begun_by) all))
+pub within_cost : (d e : Device) (x : Extent) (asked : ℕ) (es : List (List ℕ)) → SameDevice d e → (IsTrue d.honest → GivesBlocks d.bytes (Ok x))
+    → (IsTrue e.honest → Within (blocks_of e.bytes x) (begun (tokens (blocks_of e.bytes x))) e.asked asked es)
+    → IsTrue d.honest → (asked + 40 ≤ e.asked + index_cost d.bytes) × (length es ≤ nodes_met d.bytes)
+within_cost d e x asked es same header within sure =
+    let b : Blocks = blocks_of d.bytes x in
+    let given = within (subst (λ (b : Bool). IsTrue b) (sym same.honest) sure) in
+    let w : Within b (begun (tokens b)) e.asked asked es = subst (λ (f : List ℕ). Within (blocks_of f x) (begun (tokens (blocks_of f x))) e.asked asked es) same.bytes given in
+    let all : met_in (begun (tokens b)) (tokens b) ≡ met d.bytes =
+    ap (λ (r : Result Siblings Fault). met_in r (tokens b)) (begun_is (tokens b)) ∙ sym (ap met_from (header sure).0) in
+    (omega (arith, w.costs, ap (sum_by weight) all, weight_counts (met d.bytes)), omega (arith, w.nodes, ap (sum_by begun_by) all))
 
 -- what a file's index asks for, and what the rest of its metadata leaves
 pub meta_rest : (file : List ℕ) → index_cost file + (20 + 760 * nodes_met file + 756 * properties_met file + 4 * texts_met file) ≡ meta file

@@ -8,11 +8,10 @@ ghost use Rattle.uimg_blob.specs.Rows.{Row};
 ghost use Rattle.uimg_blob.specs.Kept.{span_word, value_word, entry_under};
 ghost use Rattle.uimg_blob.specs.Indexed.{IsIndexed, IsRow, name_span, property_span, value_span, value_of};
 
-use crate::entries::{END, NAME, PARENT, ROLE, VALUES};
+use crate::entries::{END, NAME, PARENT, ROLE, VALUES, role_in};
 use crate::keys::Key;
 use crate::roles::Role;
 use crate::slots::slot_of;
-use crate::states::role_in;
 use crate::texts::Span;
 use std::alloc::Allocator;
 use uimg_base::Room;

@@ -32,57 +32,39 @@ returns-clause-indexes g c = λ honest.
 
 pub returns-in_err-state-clause-asked : goal.returns-in_err-state-clause-asked
 returns-in_err-state-clause-asked g c = λ honest.
-    let d = g.S.Source.device c.args.source.now in
-    let e = g.S.Source.device c.read_extent.new.source in
-    let now = subst (λ (b : Bool). IsTrue b) (sym c.read_extent.ensures.uses.same.honest) honest in
-    let w = within_cost d.bytes e.bytes c.in_ok-extent.extent e.asked (g.S.Source.device c.pass.new.source).asked c.pass.new.room.entries
-    (c.in_ok-extent.ensures.gives honest).0 c.read_extent.ensures.uses.same.bytes (c.pass.ensures.within now) in
+    let w = within_cost (g.S.Source.device c.args.source.now) (g.S.Source.device c.read_extent.new.source) c.in_ok-extent.extent (g.S.Source.device c.pass.new.source).asked
+    c.pass.new.room.entries c.read_extent.ensures.uses.same c.in_ok-extent.ensures.gives c.pass.ensures.within honest in
     omega (arith, w.0, c.read_extent.ensures.uses.asked)
 
 pub returns-in_err-state-clause-nodes : goal.returns-in_err-state-clause-nodes
 returns-in_err-state-clause-nodes g c = λ honest.
-    let d = g.S.Source.device c.args.source.now in
-    let e = g.S.Source.device c.read_extent.new.source in
-    let now = subst (λ (b : Bool). IsTrue b) (sym c.read_extent.ensures.uses.same.honest) honest in
-    let w = within_cost d.bytes e.bytes c.in_ok-extent.extent e.asked (g.S.Source.device c.pass.new.source).asked c.pass.new.room.entries
-    (c.in_ok-extent.ensures.gives honest).0 c.read_extent.ensures.uses.same.bytes (c.pass.ensures.within now) in
+    let w = within_cost (g.S.Source.device c.args.source.now) (g.S.Source.device c.read_extent.new.source) c.in_ok-extent.extent (g.S.Source.device c.pass.new.source).asked
+    c.pass.new.room.entries c.read_extent.ensures.uses.same c.in_ok-extent.ensures.gives c.pass.ensures.within honest in
     w.1
 
 pub returns-in_err-state-clause-peak : goal.returns-in_err-state-clause-peak
 returns-in_err-state-clause-peak g c = λ honest.
-    let d = g.S.Source.device c.args.source.now in
-    let e = g.S.Source.device c.read_extent.new.source in
-    let now = subst (λ (b : Bool). IsTrue b) (sym c.read_extent.ensures.uses.same.honest) honest in
-    let w = within_cost d.bytes e.bytes c.in_ok-extent.extent e.asked (g.S.Source.device c.pass.new.source).asked c.pass.new.room.entries
-    (c.in_ok-extent.ensures.gives honest).0 c.read_extent.ensures.uses.same.bytes (c.pass.ensures.within now) in
-    omega (arith, w.1, c.pass.ensures.size.peak, ap (λ (h : Held). h.peak) c.clear.ensures)
+    let w = within_cost (g.S.Source.device c.args.source.now) (g.S.Source.device c.read_extent.new.source) c.in_ok-extent.extent (g.S.Source.device c.pass.new.source).asked
+    c.pass.new.room.entries c.read_extent.ensures.uses.same c.in_ok-extent.ensures.gives c.pass.ensures.within honest in
+    omega (arith, w.1, c.pass.ensures.room.peak, ap (λ (h : Held). h.peak) c.clear.ensures)
 
 pub returns-clause-asked : goal.returns-clause-asked
 returns-clause-asked g c = λ honest.
-    let d = g.S.Source.device c.args.source.now in
-    let e = g.S.Source.device c.read_extent.new.source in
-    let now = subst (λ (b : Bool). IsTrue b) (sym c.read_extent.ensures.uses.same.honest) honest in
-    let w = within_cost d.bytes e.bytes c.in_ok-extent.extent e.asked (g.S.Source.device c.pass.new.source).asked c.pass.new.room.entries
-    (c.in_ok-extent.ensures.gives honest).0 c.read_extent.ensures.uses.same.bytes (c.pass.ensures.within now) in
+    let w = within_cost (g.S.Source.device c.args.source.now) (g.S.Source.device c.read_extent.new.source) c.in_ok-extent.extent (g.S.Source.device c.pass.new.source).asked
+    c.pass.new.room.entries c.read_extent.ensures.uses.same c.in_ok-extent.ensures.gives c.pass.ensures.within honest in
     omega (arith, w.0, c.read_extent.ensures.uses.asked)
 
 pub returns-clause-nodes : goal.returns-clause-nodes
 returns-clause-nodes g c = λ honest.
-    let d = g.S.Source.device c.args.source.now in
-    let e = g.S.Source.device c.read_extent.new.source in
-    let now = subst (λ (b : Bool). IsTrue b) (sym c.read_extent.ensures.uses.same.honest) honest in
-    let w = within_cost d.bytes e.bytes c.in_ok-extent.extent e.asked (g.S.Source.device c.pass.new.source).asked c.pass.new.room.entries
-    (c.in_ok-extent.ensures.gives honest).0 c.read_extent.ensures.uses.same.bytes (c.pass.ensures.within now) in
+    let w = within_cost (g.S.Source.device c.args.source.now) (g.S.Source.device c.read_extent.new.source) c.in_ok-extent.extent (g.S.Source.device c.pass.new.source).asked
+    c.pass.new.room.entries c.read_extent.ensures.uses.same c.in_ok-extent.ensures.gives c.pass.ensures.within honest in
     w.1
 
 pub returns-clause-peak : goal.returns-clause-peak
 returns-clause-peak g c = λ honest.
-    let d = g.S.Source.device c.args.source.now in
-    let e = g.S.Source.device c.read_extent.new.source in
-    let now = subst (λ (b : Bool). IsTrue b) (sym c.read_extent.ensures.uses.same.honest) honest in
-    let w = within_cost d.bytes e.bytes c.in_ok-extent.extent e.asked (g.S.Source.device c.pass.new.source).asked c.pass.new.room.entries
-    (c.in_ok-extent.ensures.gives honest).0 c.read_extent.ensures.uses.same.bytes (c.pass.ensures.within now) in
-    omega (arith, w.1, c.pass.ensures.size.peak, ap (λ (h : Held). h.peak) c.clear.ensures)
+    let w = within_cost (g.S.Source.device c.args.source.now) (g.S.Source.device c.read_extent.new.source) c.in_ok-extent.extent (g.S.Source.device c.pass.new.source).asked
+    c.pass.new.room.entries c.read_extent.ensures.uses.same c.in_ok-extent.ensures.gives c.pass.ensures.within honest in
+    omega (arith, w.1, c.pass.ensures.room.peak, ap (λ (h : Held). h.peak) c.clear.ensures)
 
 pub returns-clause-found : goal.returns-clause-found
 returns-clause-found g c =

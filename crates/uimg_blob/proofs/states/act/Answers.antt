@@ -1,23 +1,24 @@
-use Rattle.std.proofs.Common.{sym, subst}
+use Rattle.std.proofs.Common.{sym, ◌∙◌, subst}
 use Rattle.uimg_blob.specs.declared.tokens.ReadToken.{ReadToken}
-use Rattle.uimg_blob.specs.Tokens.{Token, next}
-use Rattle.uimg_blob.specs.ReadTokens.{IsReadAs, ReadsBeginNode, ReadsProp}
-use Rattle.uimg_blob.specs.Passes.{step, Goes, Refuses}
+use Rattle.uimg_blob.specs.ReadTokens.{Stands, IsSound}
+use Rattle.uimg_blob.specs.Acting.{Does}
+use Rattle.uimg_blob.proofs.ActLaws.{bad_begin_out, bad_begin, bad_property_out, bad_property, nop_does, end_refused, stray_refused}
 use Rattle.uimg_blob.proofs.states.act.Goals as goal
 
-pub returns-in-BeginNode-clause-goes : goal.returns-in-BeginNode-clause-goes
-returns-in-BeginNode-clause-goes g c p t h is open_yet =
-    let s : ReadsBeginNode c.args.state.at t c.in-BeginNode.length c.in-BeginNode.label = subst (λ (x : ReadToken). IsReadAs c.args.state.at t x) c.in-BeginNode.is is in
-    subst (λ (k : Token). Goes (step p k) (next k) c.begin.result c.args.room.now.entries c.begin.new.room.entries) (sym s.is)
-    (c.begin.ensures.goes p s.name h s.sized s.labelled)
+pub returns-in-BeginNode : goal.returns-in-BeginNode
+returns-in-BeginNode g c = rw c.in-BeginNode.is c.begin.ensures
 
-pub returns-in-Prop-clause-goes : goal.returns-in-Prop-clause-goes
-returns-in-Prop-clause-goes g c p t h is open_yet =
-    let s : ReadsProp c.args.state.at t c.in-Prop.length c.in-Prop.key = subst (λ (x : ReadToken). IsReadAs c.args.state.at t x) c.in-Prop.is is in
-    subst (λ (k : Token). Goes (step p k) (next k) c.property.result c.args.room.now.entries c.property.new.room.entries) (sym s.is)
-    (c.property.ensures.goes p s.property h s.place s.sized (record { is = s.keyed }))
+pub returns-in-EndNode : goal.returns-in-EndNode
+returns-in-EndNode g c = rw c.in-EndNode.is c.end_node.ensures
 
-pub returns-in-BeginNode-clause-refuses : goal.returns-in-BeginNode-clause-refuses
-returns-in-BeginNode-clause-refuses g c t is =
-    let s : ReadsBeginNode c.args.state.at t c.in-BeginNode.length c.in-BeginNode.label = subst (λ (x : ReadToken). IsReadAs c.args.state.at t x) c.in-BeginNode.is is in
-    subst (λ (k : Token). Refuses k c.begin.result) (sym s.is) (c.begin.ensures.refuses s.name)
+pub returns-in-Prop : goal.returns-in-Prop
+returns-in-Prop g c = rw c.in-Prop.is c.property.ensures
+
+pub returns-in-Nop : goal.returns-in-Nop
+returns-in-Nop g c = rw c.in-Nop.is (nop_does c.args.state c.args.room.now)
+
+pub returns-in-End : goal.returns-in-End
+returns-in-End g c = rw c.in-End.is (end_refused c.args.state c.args.room.now)
+
+pub returns-in-Stray : goal.returns-in-Stray
+returns-in-Stray g c = rw c.in-Stray.is (stray_refused c.args.state c.in-Stray.fault c.args.room.now (rw c.in-Stray.is at c.requires.sound))
