@@ -251,10 +251,6 @@ within_cost d e x asked es same header within sure =
     ap (λ (r : Result Siblings Fault). met_in r (tokens b)) (begun_is (tokens b)) ∙ sym (ap met_from (header sure).0) in
     (omega (arith, w.costs, ap (sum_by weight) all, weight_counts (met d.bytes)), omega (arith, w.nodes, ap (sum_by begun_by) all))
 
--- what a file's index asks for, and what the rest of its metadata leaves
-pub meta_rest : (file : List ℕ) → index_cost file + (20 + 760 * nodes_met file + 756 * properties_met file + 4 * texts_met file) ≡ meta file
-meta_rest file = omega arith
-
 -- what a pass found is what the file has
 pub finds : (d e : Device) (x : Extent) (s : State) (es : List (List ℕ)) (size : ℕ) → SameDevice d e → (IsTrue d.honest → GivesBlocks d.bytes (Ok x)) → IsInside x (length d.bytes)
     → size ≡ x.totalsize → Passed e.honest (blocks_of e.bytes x) s es

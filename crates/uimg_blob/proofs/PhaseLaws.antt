@@ -79,12 +79,6 @@ bare_none (inside (opened at name own none ∷ ls)) s es n h is more =
 bare_none (inside (opened at name own (node a b c d e) ∷ ls)) s es n h is more = refl
 bare_none (after o) s es n h is more = refl
 
-pub bare_out : (p : Phase) (s : State) (es : List (List ℕ)) → Holds p s es → s.current ≡ None → None ≡ bare p
-bare_out (inside []) s es h is = refl
-bare_out (inside (opened at name own none ∷ ls)) s es h is = absurd (some_none (sym h.current ∙ is))
-bare_out (inside (opened at name own (node a b c d e) ∷ ls)) s es h is = refl
-bare_out (after o) s es h is = refl
-
 -- where a property may not stand
 pub prop_out : (p : Phase) (at : ℕ) (x : Result Property BlobFault) → None ≡ bare p → prop_in p at x ≡ stop (Err (BadNesting, at))
 prop_out (inside []) at x h = refl
@@ -148,11 +142,6 @@ done_goes (after o) s es (end_node at) h is = absurd (true_false (sym is))
 done_goes (after o) s es (prop at p) h is = absurd (true_false (sym is))
 done_goes (after o) s es (nop at) h is = absurd (true_false (sym is))
 done_goes (after o) s es (stray at f) h is = absurd (true_false (sym is))
-
--- the last token stands after the root
-pub last_out : (p : Phase) (at : ℕ) → false ≡ is_after p → last_in p at ≡ stop (Err (BadNesting, at))
-last_out (inside ls) at h = refl
-last_out (after o) at h = absurd (true_false (sym h))
 
 pub last_goes : (p : Phase) (s : State) (es : List (List ℕ)) (at : ℕ) → Holds p s es → true ≡ is_after p → (o : Open) × (last_in p at ≡ stop (Ok (as_node o))) × (es ≡ entries (as_node o))
 last_goes (inside ls) s es at h is = absurd (true_false is)

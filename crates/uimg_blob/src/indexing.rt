@@ -1,14 +1,11 @@
 ghost use Rattle.std.specs.Prelude.{◌≡◌, [], ◌+◌, ◌*◌, ◌^◌, ◌<◌, ◌≤◌, max, length, IfOk, IsTrue};
 ghost use Rattle.uimg_base.specs.Device.{RisesIf};
-ghost use Rattle.uimg_base.specs.Held.{held_bytes};
 ghost use Rattle.uimg_base.specs.Using.{Uses};
 ghost use Rattle.uimg_texts.specs.Numbers.{be32};
-ghost use Rattle.uimg_blob.specs.Blob.{tree, blocks};
 ghost use Rattle.uimg_blob.specs.Counts.{index_cost, nodes_met};
 ghost use Rattle.uimg_blob.specs.Extents.{IsInside};
 ghost use Rattle.uimg_blob.specs.Faults.{is_read, is_out_of_memory};
-ghost use Rattle.uimg_blob.specs.Indexed.{Finds};
-ghost use Rattle.uimg_blob.specs.Passes.{IsPrefix, Indexes, tokens_in};
+ghost use Rattle.uimg_blob.specs.Indexed.{Finds, AsksWithin, KeepsWithin, TakesWithin, IndexesTree, LeavesPrefix};
 ghost use Rattle.uimg_blob.specs.Acting.{Suits, TakesStep, GoesOver};
 
 use crate::extent::{Extent, read_extent};
@@ -78,20 +75,14 @@ pub fn index<S: Source, A: Allocator>(
 ) -> Result<Blob, IndexFault>
     ensures uses { Uses (is_read result) (S.device source.old) (S.device source.new) }
     ensures refused { RisesIf (is_out_of_memory result) room.old.refused room.new.refused }
-    ensures asked { IsTrue (S.device source.old).honest →
-        (S.device source.new).asked
-        ≤ (S.device source.old).asked + index_cost (S.device source.old).bytes }
-    ensures nodes { IsTrue (S.device source.old).honest →
-        length room.new.entries ≤ nodes_met (S.device source.old).bytes }
-    ensures peak { IsTrue (S.device source.old).honest →
-        room.new.peak ≤ max room.old.peak (held_bytes (nodes_met (S.device source.old).bytes)) }
+    ensures asked { AsksWithin index_cost (S.device source.old) (S.device source.new) }
+    ensures nodes { KeepsWithin nodes_met (S.device source.old) room.new }
+    ensures peak { TakesWithin nodes_met (S.device source.old) room.old room.new }
     ensures most { room.new.peak ≤ max room.old.peak
         (8320 + 16 * length (S.device source.old).bytes) }
-    ensures prefix { IsTrue (S.device source.old).honest →
-        IsPrefix (tokens_in (blocks (S.device source.old).bytes)) result room.new.entries }
+    ensures prefix { LeavesPrefix (S.device source.old) result room.new.entries }
     ensures found { IfOk result (λ blob. Finds (S.device source.old) blob room.new.entries) }
-    ensures indexes { IsTrue (S.device source.old).honest →
-        Indexes (tree (S.device source.old).bytes) result room.new.entries }
+    ensures indexes { IndexesTree (S.device source.old) result room.new.entries }
     ensures totalsize { IsTrue (S.device source.old).honest →
         IfOk result (λ blob. blob.totalsize ≡ be32 (S.device source.old).bytes 4) }
 {
