@@ -1,5 +1,5 @@
 -- What a token does to a room, by what it does to a phase.
-use Rattle.std.proofs.Common.{◌≡◌, ◌<◌, ◌≤◌, ◌+◌, ℕ, List, length, Option, Some, None, Result, Ok, Err, Bool, true, false, is_ok, is_err, refl, ap, sym, ◌∙◌, ◌++◌, ◌∷◌, [], subst, arith}
+use Rattle.std.proofs.Common.{◌≡◌, ◌<◌, ◌≤◌, ◌+◌, ℕ, List, length, Option, Some, None, Result, Ok, Err, Bool, true, false, IsTrue, OnOk, is_ok, is_err, refl, ap, sym, ◌∙◌, ◌++◌, ◌∷◌, [], subst, arith}
 use Rattle.uimg_texts.specs.Numbers.{up4}
 use Rattle.uimg_base.specs.Device.{RisesIf}
 use Rattle.uimg_base.specs.Held.{Held, SameSize, AddsOne, Grows}
@@ -16,12 +16,14 @@ use Rattle.uimg_blob.specs.Faults.{refuses_memory, is_out_of_memory}
 use Rattle.uimg_blob.specs.Roles.{in_root}
 use Rattle.std.specs.Option.{is_some}
 use Rattle.uimg_blob.specs.Labels.{label_of}
-use Rattle.uimg_blob.specs.Tokens.{Property, Token, next}
-use Rattle.uimg_blob.specs.ReadTokens.{IsReadAs}
+use Rattle.uimg_blob.specs.Tokens.{Property, Token, Blocks, token_at, next}
+use Rattle.uimg_blob.specs.ReadTokens.{IsReadAs, IsSound, Stands}
 use Rattle.uimg_blob.specs.Entering.{Enters, IsKeyOf}
-use Rattle.uimg_blob.specs.Passes.{Phase, inside, after, Holds, IsMarked, on, stop, step, begins_in, ends_in, prop_in, is_after, is_done, bare, begin_place, Goes}
+use Rattle.uimg_blob.specs.Passes.{Phase, inside, after, Holds, IsMarked, Step, Steps, Acts, Refuses, TokenLies, on, stop, step, begins_in, ends_in, prop_in, is_after, is_done, bare, begin_place, Goes}
 use Rattle.uimg_blob.specs.Acting.{Does}
-use Rattle.uimg_blob.proofs.PhaseLaws.{true_false, begin_out, begin_bad, prop_out, prop_bad, done_not}
+use Rattle.uimg_blob.proofs.PhaseLaws.{true_false, begin_out, begin_bad, prop_out, prop_bad, done_not, done_goes}
+use Rattle.uimg_blob.proofs.KeyLaws.{a_token}
+use Rattle.uimg_blob.proofs.LieLaws.{token_lies}
 
 -- a token is refused, and the room stays
 pub refused : (token : ReadToken) (s : State) (fault : BlobFault) (h : Held) → refuses_memory fault ≡ false
@@ -188,3 +190,55 @@ adds_grows added no_memory old mid new same adds = grown added no_memory old new
     grown : (added no_memory : Bool) (old new : Held) → AddsOne added no_memory old new → Grows no_memory old new
     grown true no_memory old new a = record { count = omega (arith, a.count); peak = omega (arith, a.peak, a.count); refused = a.refused }
     grown false no_memory old new a = record { count = omega (arith, a.count); peak = omega (arith, a.peak); refused = a.refused }
+
+-- the same answer of a step that does not end the tree
+abbrev pub going : Result State IndexFault → Result (Option State) IndexFault
+going (Ok s) = Ok (Some s)
+going (Err e) = Err e
+
+acts : (x : Step) (following : Option ℕ) (r : Result State IndexFault) (old new : List (List ℕ)) → Goes x following r old new → Acts x following (going r) old new
+acts x following (Ok s) old new h = h
+acts x following (Err e) old new h = h
+
+going_refuses : (t : Token) (r : Result State IndexFault) → Refuses t r → Refuses t (going r)
+going_refuses t (Ok s) h = tt
+going_refuses t (Err (Blob fault at)) h = h
+going_refuses t (Err Read) h = tt
+
+going_lies : (r : Result State IndexFault) (P : Type 0) → P → OnOk (going r) P
+going_lies (Ok s) P h = h
+going_lies (Err e) P h = tt
+
+-- A token that was read, and whichever it is: over an honest source, that of the blocks.
+pub record Found (honest : Bool) (b : Blocks) (at : ℕ) (token : ReadToken) : Type 0 where
+  pub token_is : Token
+  pub is : IsTrue honest → token_is ≡ token_at b at
+  pub read : IsReadAs at token_is token
+  pub lies : TokenLies b.structure_end token_is
+
+pub found : (honest : Bool) (b : Blocks) (at : ℕ) (token : ReadToken) → (IsTrue honest → IsReadAs at (token_at b at) token) → IsSound token → Stands b.structure_end at token → Found honest b at token
+found honest b at token read sound stands =
+    let t = a_token honest b at token read sound in
+    record { token_is = t.0; is = t.1; read = t.2; lies = token_lies at b.structure_end t.0 token t.2 stands }
+
+-- a step of a token that does not end the tree
+pub step_goes : (honest : Bool) (b : Blocks) (p : Phase) (s : State) (token : ReadToken) (r : Result State IndexFault) (old mid new : Held) (f : Found honest b s.at token) → mid ≡ old
+    → (Holds p s mid.entries → is_done p f.token_is ≡ false) → Does token s r mid new → Holds p s old.entries → Steps honest b p s.at (going r) old.entries new.entries
+step_goes honest b p s token r old mid new f same open_yet does h =
+    let now : Holds p s mid.entries = subst (λ (k : Held). Holds p s k.entries) (sym same) h in
+    record {
+      token = f.token_is;
+      is = f.is;
+      acts = subst (λ (k : Held). Acts (step p f.token_is) (next f.token_is) (going r) k.entries new.entries) same
+          (acts _ _ r mid.entries new.entries (does.goes p f.token_is now f.read (open_yet now)));
+      refuses = going_refuses f.token_is r (does.refuses f.token_is f.read);
+      lies = going_lies r _ f.lies;
+    }
+
+-- the last step, whose token ends the tree
+pub step_ends : (honest : Bool) (b : Blocks) (p : Phase) (s : State) (token : ReadToken) (old mid : Held) (f : Found honest b s.at token) → mid ≡ old
+    → (Holds p s mid.entries → is_done p f.token_is ≡ true) → Holds p s old.entries → Steps honest b p s.at (Ok None) old.entries mid.entries
+step_ends honest b p s token old mid f same ended h =
+    let now : Holds p s mid.entries = subst (λ (k : Held). Holds p s k.entries) (sym same) h in
+    let r = done_goes p s mid.entries f.token_is now (ended now) in
+    record { token = f.token_is; is = f.is; acts = (r.0, r.1, r.2, ap (λ (k : Held). k.entries) same); refuses = tt; lies = f.lies }

@@ -19,7 +19,7 @@ use Rattle.uimg_blob.specs.Passes.{Phase, inside, after, stack, child_level, Ste
 use Rattle.uimg_blob.proofs.SoFarLaws.{length_so_far, property_row, end_row, root_row}
 use Rattle.uimg_blob.proofs.PhaseLaws.{some_none, some_some, true_false, count_is}
 use Rattle.uimg_blob.proofs.NoteLaws.{seam_number, images_begun, configurations_begun, marks_begin}
-use Rattle.uimg_blob.proofs.RoleLaws.{row_at, root_is, child_is}
+use Rattle.uimg_blob.proofs.RoleLaws.{row_at, level_is}
 use Rattle.uimg_blob.proofs.EntryLaws.{entered, left_inner, left_root}
 
 -- the entries stay as many
@@ -52,13 +52,19 @@ number_end is_it (opened at name own below) (opened at' name' own' below') ls =
 
 -- the role of a node that begins where none is open
 pub root_in : (p : Phase) (s : State) (es : List (List ℕ)) (name : List ℕ) → Holds p s es → s.current ≡ None → Root ≡ role_at (next_level (stack p)) name
-root_in p s es name h is = root_is (stack p) name (sym is ∙ h.current)
+unfolding next_level
+root_in (inside []) s es name h is = refl
+root_in (inside (o ∷ ls)) s es name h is = absurd (some_none (sym h.current ∙ is))
+root_in (after o) s es name h is = refl
 
 -- the role of a child of the innermost node
 pub child_in : (p : Phase) (s : State) (n : ℕ) (name : List ℕ) (role parent : Role) (es : List (List ℕ)) (e : List ℕ) → Holds p s es → s.current ≡ Some n → slice_get es n ≡ Some e
     → ((r : Role) → get_or e 3 0 ≡ role_word r → parent ≡ r) → role ≡ role_at (child_level parent (is_some s.images) (is_some s.configurations)) name → role ≡ role_at (next_level (stack p)) name
-child_in (inside ls) s n name role parent es e h is read word child =
-    child_is ls n name role parent (is_some s.images) (is_some s.configurations) es e h.entries (sym is ∙ h.current) read h.marks word child
+child_in (inside []) s n name role parent es e h is read word child = absurd (some_none (sym is ∙ h.current))
+child_in (inside (opened at own_name own below ∷ ls)) s n name role parent es e h is read word child =
+    let entry : e ≡ entry_of (open_row ls at own_name own) = row_at ls at n own_name own below es e h.entries read (some_some n (count ls) (sym is ∙ h.current)) in
+    child ∙ ap (λ (r : Role). role_at (child_level r (is_some s.images) (is_some s.configurations)) name) (word (role_at (next_level ls) own_name) (ap (λ (x : List ℕ). get_or x 3 0) entry))
+    ∙ ap (λ (l : Level). role_at l name) (sym (level_is ls at own_name own below (is_some s.images) (is_some s.configurations) h.marks))
 child_in (after o) s n name role parent es e h is read word child = absurd (some_none (sym is ∙ h.current))
 
 -- a node begins
@@ -159,13 +165,5 @@ prop_goes (after o) s es new n x at h is place put same ahead = absurd (some_non
 pub acts_read : (x : Step) (following : Option ℕ) (r : Result (Option State) IndexFault) (old new : List (List ℕ)) → r ≡ Err Read → new ≡ old → Acts x following r old new
 acts_read x following r old new is same = subst (λ (k : Result (Option State) IndexFault). Acts x following k old new) (sym is) same
 
-pub acts_err : (x : Step) (following : Option ℕ) (e : IndexFault) (r : Result (Option State) IndexFault) (old new : List (List ℕ)) → r ≡ Err e → Goes x following (Err e) old new → Acts x following r old new
-acts_err x following e r old new is goes = subst (λ (k : Result (Option State) IndexFault). Acts x following k old new) (sym is) goes
-
 pub refuses_read : {X : Type 0} (t : Token) (r : Result X IndexFault) → r ≡ Err Read → Refuses t r
 refuses_read {X = X} t r is = subst (λ (k : Result X IndexFault). Refuses t k) (sym is) tt
-
-pub refuses_err : {X Y : Type 0} (t : Token) (e : IndexFault) (k : Result Y IndexFault) (r : Result X IndexFault) → k ≡ Err e → r ≡ Err e → Refuses t k → Refuses t r
-refuses_err {X = X} {Y = Y} t (Blob fault at) k r was is h =
-    subst (λ (q : Result X IndexFault). Refuses t q) (sym is) (subst (λ (q : Result Y IndexFault). Refuses t q) was h)
-refuses_err {X = X} {Y = Y} t Read k r was is h = subst (λ (q : Result X IndexFault). Refuses t q) (sym is) tt

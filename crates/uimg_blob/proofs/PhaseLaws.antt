@@ -142,7 +142,3 @@ done_goes (after o) s es (end_node at) h is = absurd (true_false (sym is))
 done_goes (after o) s es (prop at p) h is = absurd (true_false (sym is))
 done_goes (after o) s es (nop at) h is = absurd (true_false (sym is))
 done_goes (after o) s es (stray at f) h is = absurd (true_false (sym is))
-
-pub last_goes : (p : Phase) (s : State) (es : List (List ℕ)) (at : ℕ) → Holds p s es → true ≡ is_after p → (o : Open) × (last_in p at ≡ stop (Ok (as_node o))) × (es ≡ entries (as_node o))
-last_goes (inside ls) s es at h is = absurd (true_false is)
-last_goes (after o) s es at h is = (o, refl, h.entries)

@@ -1,6 +1,5 @@
 use Rattle.std.proofs.Common.{◌∙◌, ap, subst, refl, Option, Ok, Err, Some, None, IfSome, length, ◌≤◌, ◌<◌, ◌+◌, rules, arith}
-use Rattle.std.proofs.lemmas.Result.{err_from_is_err_and}
-use Rattle.uimg_blob.specs.declared.fault.IndexFault.{IndexFault}
+use Rattle.uimg_blob.proofs.KeyLaws.{passed_on}
 use Rattle.uimg_blob.specs.declared.states.State.{State}
 use Rattle.uimg_blob.specs.Extents.{blocks_of}
 use Rattle.uimg_blob.specs.Tokens.{tokens}
@@ -59,8 +58,7 @@ returns-in_err-next g c =
     let new = c.step.new.room.entries in
     let pass = now.invariant.pass in
     let fault = c.in_err-next.field-0.0 in
-    let r = err_from_is_err_and c.from_residual.result c.from_residual.ensures.1 in
-    let is = r.1 ∙ ap (λ (e : IndexFault). Err e) r.2 in
+    let is = passed_on c.from_residual.result fault c.from_residual.ensures.1 in
     let steps = steps_same d e c.args.extent pass.phase now.state.at (Err fault) now.room.entries new now.invariant.same (c.in_err-next.ensures.steps pass.phase pass.holds) in
     let stay = stay_err d.honest b pass.phase now.state.at fault now.room.entries new steps in
     record {
