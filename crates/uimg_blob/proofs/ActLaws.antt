@@ -1,69 +1,23 @@
 -- What a token does to a room, by what it does to a phase.
-use Rattle.std.proofs.Common.{◌≡◌, ◌<◌, ◌≤◌, ◌+◌, ℕ, List, length, Option, Some, None, Result, Ok, Err, Bool, true, false, IsTrue, OnOk, is_ok, is_err, refl, ap, sym, ◌∙◌, ◌++◌, ◌∷◌, [], subst, arith}
+use Rattle.std.proofs.Common.{◌≡◌, ◌+◌, ℕ, List, length, Option, Some, None, Result, Ok, Err, Bool, true, false, IsTrue, OnOk, is_ok, is_err, refl, ap, sym, ◌∙◌, ◌++◌, ◌∷◌, [], subst, arith}
 use Rattle.uimg_texts.specs.Numbers.{up4}
-use Rattle.uimg_base.specs.Device.{RisesIf}
 use Rattle.uimg_base.specs.Held.{Held, SameSize, AddsOne, Grows}
-use Rattle.uimg_blob.specs.declared.fault.BlobFault.{BlobFault}
-use Rattle.uimg_blob.specs.declared.fault.BlobFault.TheVariants.{BadNesting, OutOfMemory}
 use Rattle.uimg_blob.specs.declared.fault.IndexFault.{IndexFault}
 use Rattle.uimg_blob.specs.declared.fault.IndexFault.TheVariants.{Blob, Read}
 use Rattle.uimg_blob.specs.declared.keys.Key.{Key}
 use Rattle.uimg_blob.specs.declared.labels.Label.{Label}
 use Rattle.uimg_blob.specs.declared.states.State.{State}
 use Rattle.uimg_blob.specs.declared.tokens.ReadToken.{ReadToken}
-use Rattle.uimg_blob.specs.declared.tokens.ReadToken.TheVariants.{BeginNode, BadBeginNode, EndNode, Prop, BadProp, Nop, End, Stray}
-use Rattle.uimg_blob.specs.Faults.{refuses_memory, is_out_of_memory}
-use Rattle.uimg_blob.specs.Roles.{in_root}
-use Rattle.std.specs.Option.{is_some}
+use Rattle.uimg_blob.specs.declared.tokens.ReadToken.TheVariants.{BeginNode, EndNode, Prop}
 use Rattle.uimg_blob.specs.Labels.{label_of}
 use Rattle.uimg_blob.specs.Tokens.{Property, Token, Blocks, token_at, next}
 use Rattle.uimg_blob.specs.ReadTokens.{IsReadAs, IsSound, Stands}
 use Rattle.uimg_blob.specs.Entering.{Enters, IsKeyOf}
-use Rattle.uimg_blob.specs.Passes.{Phase, inside, after, Holds, IsMarked, Step, Steps, Acts, Refuses, TokenLies, on, stop, step, begins_in, ends_in, prop_in, is_after, is_done, bare, begin_place, Goes}
+use Rattle.uimg_blob.specs.Passes.{Phase, Holds, Step, Steps, Acts, Refuses, TokenLies, on, step, begins_in, ends_in, prop_in, is_done, Goes}
 use Rattle.uimg_blob.specs.Acting.{Does}
-use Rattle.uimg_blob.proofs.PhaseLaws.{true_false, begin_out, begin_bad, prop_out, prop_bad, done_not, done_goes}
+use Rattle.uimg_blob.proofs.PhaseLaws.{true_false, done_goes}
 use Rattle.uimg_blob.proofs.KeyLaws.{a_token}
 use Rattle.uimg_blob.proofs.LieLaws.{token_lies}
-
--- a token is refused, and the room stays
-pub refused : (token : ReadToken) (s : State) (fault : BlobFault) (h : Held) → refuses_memory fault ≡ false
-    → ((p : Phase) (t : Token) → Holds p s h.entries → IsReadAs s.at t token → is_done p t ≡ false → step p t ≡ stop (Err (fault, s.at)))
-    → Does token s (Err (Blob fault s.at)) h h
-refused token s fault h known stops = record {
-  goes = λ p t holds is open_yet. (refl, λ other. stops p t holds is open_yet);
-  refuses = λ t is memory. absurd (true_false (sym memory ∙ known));
-  ahead = λ end stands. tt;
-  room = record { count = refl; peak = refl; refused = subst (λ (b : Bool). RisesIf b h.refused h.refused) (sym known) refl };
-  no_read = refl;
-}
-
--- a node may not begin after the root
-pub begin_refused : (s : State) (size : ℕ) (label : Label) (h : Held) → ((p : Phase) → Holds p s h.entries → true ≡ is_after p)
-    → Does (BeginNode size label) s (Err (Blob BadNesting s.at)) h h
-begin_refused s size label h ended =
-    refused (BeginNode size label) s BadNesting h refl (λ p t holds is open_yet. ap (step p) is.is ∙ begin_out p s.at (Ok is.name) (ended p holds))
-
--- a faulty node may not begin after the root
-pub bad_begin_out : (s : State) (fault : BlobFault) (h : Held) → ((p : Phase) → Holds p s h.entries → true ≡ is_after p)
-    → Does (BadBeginNode fault) s (Err (Blob BadNesting s.at)) h h
-bad_begin_out s fault h ended =
-    refused (BadBeginNode fault) s BadNesting h refl (λ p t holds is open_yet. ap (step p) is ∙ begin_out p s.at (Err fault) (ended p holds))
-
-pub bad_begin : (s : State) (fault : BlobFault) (h : Held) → refuses_memory fault ≡ false → ((p : Phase) → Holds p s h.entries → false ≡ is_after p)
-    → Does (BadBeginNode fault) s (Err (Blob fault s.at)) h h
-bad_begin s fault h sound open_yet =
-    refused (BadBeginNode fault) s fault h sound (λ p t holds is not_done. ap (step p) is ∙ begin_bad p s.at fault (open_yet p holds))
-
--- memory is refused to a node
-pub begin_starved : (s : State) (size : ℕ) (label : Label) (old new : Held) → (new.entries ≡ old.entries) × AddsOne false true old new
-    → Does (BeginNode size label) s (Err (Blob OutOfMemory s.at)) old new
-begin_starved s size label old new stays = record {
-  goes = λ p t holds is open_yet. (stays.0, λ other. absurd (true_false other));
-  refuses = λ t is memory. ap begin_place is.is;
-  ahead = λ end stands. tt;
-  room = stays.1;
-  no_read = refl;
-}
 
 -- a node begins
 pub begin_does : (s more : State) (size : ℕ) (label : Label) (old new : Held) → more.at ≡ s.at + 4 + up4 (size + 1) → AddsOne true false old new
@@ -81,11 +35,6 @@ begin_does s more size label old new at added goes = record {
   no_read = refl;
 }
 
--- no node is open that may end
-pub end_node_refused : (s : State) (h : Held) → ((p : Phase) → Holds p s h.entries → ends_in p s.at ≡ stop (Err (BadNesting, s.at)))
-    → Does EndNode s (Err (Blob BadNesting s.at)) h h
-end_node_refused s h none_open = refused EndNode s BadNesting h refl (λ p t holds is open_yet. ap (step p) is ∙ none_open p holds)
-
 -- a node ends
 pub end_does : (s more : State) (old new : Held) → more.at ≡ s.at + 4 → AddsOne false false old new
     → ((p : Phase) → Holds p s old.entries → (q : Phase) × (ends_in p s.at ≡ on q) × Holds q more new.entries)
@@ -99,22 +48,6 @@ end_does s more old new at same goes = record {
   room = same;
   no_read = refl;
 }
-
--- a property may not stand there
-pub property_refused : (s : State) (size : ℕ) (key : Option Key) (h : Held) → ((p : Phase) → Holds p s h.entries → None ≡ bare p)
-    → Does (Prop size key) s (Err (Blob BadNesting s.at)) h h
-property_refused s size key h none_bare =
-    refused (Prop size key) s BadNesting h refl (λ p t holds is open_yet. ap (step p) is.is ∙ prop_out p s.at (Ok is.property) (none_bare p holds))
-
-pub bad_property_out : (s : State) (fault : BlobFault) (h : Held) → ((p : Phase) → Holds p s h.entries → None ≡ bare p)
-    → Does (BadProp fault) s (Err (Blob BadNesting s.at)) h h
-bad_property_out s fault h none_bare =
-    refused (BadProp fault) s BadNesting h refl (λ p t holds is open_yet. ap (step p) is ∙ prop_out p s.at (Err fault) (none_bare p holds))
-
-pub bad_property : (s : State) (fault : BlobFault) (h : Held) (n : ℕ) → refuses_memory fault ≡ false → ((p : Phase) → Holds p s h.entries → Some n ≡ bare p)
-    → Does (BadProp fault) s (Err (Blob fault s.at)) h h
-bad_property s fault h n sound its_number =
-    refused (BadProp fault) s fault h sound (λ p t holds is open_yet. ap (step p) is ∙ prop_bad p s.at n fault (its_number p holds))
 
 -- the innermost node has a property
 pub property_does : (s more : State) (size : ℕ) (key : Option Key) (old new : Held) → more.at ≡ s.at + 12 + up4 size → AddsOne false false old new
@@ -131,48 +64,6 @@ property_does s more size key old new at same goes = record {
   room = same;
   no_read = refl;
 }
-
-marked : (p : Phase) (s more : State) → more.images ≡ s.images → more.configurations ≡ s.configurations → IsMarked p s → IsMarked p more
-marked (inside ls) s more its_images its_configurations h =
-    h ∙ ap (λ (o : Option ℕ). in_root (is_some o) (is_some s.configurations)) (sym its_images)
-    ∙ ap (λ (o : Option ℕ). in_root (is_some more.images) (is_some o)) (sym its_configurations)
-marked (after o) s more its_images its_configurations h = tt
-
--- a token without a meaning
-pub nop_does : (s : State) (h : Held) → Does Nop s (Ok (record { at = s.at + 4; current = s.current; images = s.images; configurations = s.configurations })) h h
-nop_does s h = record {
-  goes = λ p t holds is open_yet.
-      let more : State = record { at = s.at + 4; current = s.current; images = s.images; configurations = s.configurations } in
-      let there : Holds p more h.entries = record {
-        entries = holds.entries;
-        current = holds.current;
-        marks = marked p s more refl refl holds.marks;
-        placed = holds.placed;
-        few = omega (arith, holds.few);
-        images = holds.images;
-        configurations = holds.configurations;
-      } in
-      subst (λ (k : Token). Goes (step p k) (next k) (Ok more) h.entries h.entries) (sym is) (p, refl, refl, there);
-  refuses = λ t is. tt;
-  ahead = λ end stands. (omega arith, omega (arith, stands));
-  room = record { count = refl; peak = refl; refused = refl };
-  no_read = refl;
-}
-
--- the last token may not stand there
-pub end_refused : (s : State) (h : Held) → Does End s (Err (Blob BadNesting s.at)) h h
-end_refused s h = refused End s BadNesting h refl (λ p t holds is open_yet.
-    ap (step p) is ∙ done_not p s.at (sym (ap (is_done p) is) ∙ open_yet))
-
--- no token
-pub stray_refused : (s : State) (fault : BlobFault) (h : Held) → refuses_memory fault ≡ false → Does (Stray fault) s (Err (Blob fault s.at)) h h
-stray_refused s fault h sound = refused (Stray fault) s fault h sound (λ p t holds is open_yet. ap (step p) is)
-
--- what an entry that was not added leaves, and one that was
-pub not_entered : {X E : Type 0} (r : Result X E) (entry : List ℕ) (old new : Held) → is_err r ≡ true → Enters (is_ok r) (is_err r) entry old new
-    → (new.entries ≡ old.entries) × AddsOne false true old new
-not_entered (Ok x) entry old new is h = absurd (true_false (sym is))
-not_entered (Err e) entry old new is h = (h.entries, h.size)
 
 pub was_entered : {X E : Type 0} (r : Result X E) (entry : List ℕ) (old new : Held) → is_ok r ≡ true → Enters (is_ok r) (is_err r) entry old new
     → (new.entries ≡ old.entries ++ entry ∷ []) × AddsOne true false old new

@@ -1,5 +1,5 @@
 -- One step of a pass, and its end.
-use Rattle.std.proofs.Common.{append_assoc, append-nil, map, ◌++◌, ◌∷◌, ◌≡◌, ◌<◌, ◌≤◌, ◌+◌, ◌-◌, ◌*◌, ℕ, zero, suc, List, [], Option, Some, None, Result, Ok, Err, Bool, false, IsTrue, refl, ap, sym, ◌∙◌, subst, length, arith}
+use Rattle.std.proofs.Common.{append_assoc, append-nil, map, ◌++◌, ◌∷◌, ◌≡◌, ◌<◌, ◌≤◌, ◌+◌, ◌-◌, ℕ, zero, suc, List, [], Option, Some, None, Result, Ok, Err, Bool, false, IsTrue, refl, ap, sym, ◌∙◌, subst, length, arith}
 use Rattle.uimg_blob.specs.declared.fault.IndexFault.{IndexFault}
 use Rattle.uimg_blob.specs.declared.fault.IndexFault.TheVariants.{Blob, Read}
 use Rattle.uimg_blob.specs.declared.states.State.{State}
@@ -17,7 +17,7 @@ use Rattle.uimg_blob.specs.SoFar.{so_far}
 use Rattle.uimg_blob.specs.Passes.{Phase, inside, left, Step, stop, step, then_left, Steps, Indexes, Pass}
 use Rattle.std.specs.List.{sum_by}
 use Rattle.uimg_blob.specs.Blob.{met_in, met_from, met}
-use Rattle.uimg_blob.specs.Counts.{weight, begun_by, meta, index_cost, nodes_met, properties_met, texts_met}
+use Rattle.uimg_blob.specs.Counts.{weight, begun_by, index_cost, nodes_met}
 use Rattle.uimg_blob.specs.ReadTokens.{cost}
 use Rattle.uimg_blob.specs.Passes.{sum_from, Within, entries_at}
 use Rattle.uimg_blob.specs.Tokens.{offset}
@@ -33,7 +33,6 @@ use Rattle.std.specs.List.{AllByRecursion}
 use Rattle.uimg_blob.proofs.LieLaws.{lies_more, last_nodes, lies_within}
 use Rattle.uimg_blob.proofs.NumberedLaws.{images_number, configurations_number}
 use Rattle.uimg_blob.specs.Passes.{after, tokens_in, nodes_at, begin_place, begin_places, IsPrefix}
-use Rattle.uimg_blob.specs.Tokens.{begin_node, end_node, prop, nop, last, stray}
 use Rattle.uimg_blob.proofs.PlaceLaws.{places_more}
 use Rattle.uimg_blob.proofs.CostLaws.{Moves, moves, sum_more, fault_past, offset_at, cost_weight, weight_counts}
 

@@ -4,18 +4,18 @@ use Rattle.std.proofs.lemmas.List.{length-set}
 use Rattle.std.specs.List.{slice_get, AllByRecursion}
 use Rattle.std.specs.Option.{is_some}
 use Rattle.uimg_blob.specs.declared.fault.IndexFault.{IndexFault}
-use Rattle.uimg_blob.specs.declared.fault.IndexFault.TheVariants.{Blob, Read}
+use Rattle.uimg_blob.specs.declared.fault.IndexFault.TheVariants.{Read}
 use Rattle.uimg_blob.specs.declared.states.State.{State}
 use Rattle.uimg_blob.specs.declared.roles.Role.{Role}
 use Rattle.uimg_blob.specs.declared.roles.Role.TheVariants.{Root}
 use Rattle.uimg_blob.specs.Tokens.{Property, Token}
 use Rattle.uimg_blob.specs.Grammar.{Siblings, none, node}
 use Rattle.uimg_blob.specs.Roles.{Level, top, in_root, role_at, level_in, level_after, is_images_role, is_configurations_role}
-use Rattle.uimg_blob.specs.Walk.{Open, opened, close, join, as_node}
-use Rattle.uimg_blob.specs.Kept.{entry_of, entries, number_word, role_word, number_of_role}
+use Rattle.uimg_blob.specs.Walk.{Open, opened, close, join}
+use Rattle.uimg_blob.specs.Kept.{entry_of, number_word, role_word, number_of_role}
 use Rattle.uimg_blob.specs.Entering.{begun_entry, ended_entries, GainsProperty}
-use Rattle.uimg_blob.specs.SoFar.{count, innermost, level_past, next_level, open_row, so_far, entries_so_far}
-use Rattle.uimg_blob.specs.Passes.{Phase, inside, after, stack, child_level, Step, on, begins_in, ends_in, prop_in, is_after, bare, root_level, noted_images, noted_configurations, Holds, Goes, Acts, Refuses, IsPlaced}
+use Rattle.uimg_blob.specs.SoFar.{count, level_past, next_level, open_row, so_far}
+use Rattle.uimg_blob.specs.Passes.{Phase, inside, after, stack, child_level, Step, on, begins_in, ends_in, prop_in, is_after, bare, root_level, noted_images, noted_configurations, Holds, Acts, Refuses, IsPlaced}
 use Rattle.uimg_blob.proofs.SoFarLaws.{length_so_far, property_row, end_row, root_row}
 use Rattle.uimg_blob.proofs.PhaseLaws.{some_none, some_some, true_false, count_is}
 use Rattle.uimg_blob.proofs.NoteLaws.{seam_number, images_begun, configurations_begun, marks_begin}

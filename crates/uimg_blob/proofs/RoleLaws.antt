@@ -1,5 +1,5 @@
 -- The roles of the nodes that a pass enters.
-use Rattle.std.proofs.Common.{◌≡◌, ◌+◌, ℕ, List, [], ◌∷◌, ◌++◌, length, map, Some, None, Bool, true, false, refl, ap, sym, ◌∙◌, if◌then◌else◌, get_or}
+use Rattle.std.proofs.Common.{◌≡◌, ◌+◌, ℕ, List, [], ◌∷◌, ◌++◌, length, map, Some, Bool, true, false, refl, ap, sym, ◌∙◌, if◌then◌else◌, get_or}
 use Rattle.std.specs.List.{slice_get}
 use Rattle.std.proofs.lemmas.List.{map-append}
 use Rattle.std.proofs.lemmas.Option.{get_or_from_slice_get}
@@ -10,12 +10,12 @@ use Rattle.uimg_blob.specs.Tokens.{Property}
 use Rattle.uimg_blob.specs.Grammar.{Siblings, none, node}
 use Rattle.uimg_blob.specs.Roles.{Level, top, in_root, in_images, in_image, in_configurations, elsewhere, role_at, root_child, level_in, level_after, is_images, is_configurations, is_hash}
 use Rattle.uimg_blob.specs.Walk.{Open, opened}
-use Rattle.uimg_blob.specs.Kept.{Kept, kept, entry_of, role_word}
-use Rattle.uimg_blob.specs.SoFar.{count, innermost, level_past, next_level, open_row, so_far, entries_so_far}
+use Rattle.uimg_blob.specs.Kept.{Kept, kept, entry_of}
+use Rattle.uimg_blob.specs.SoFar.{count, level_past, next_level, open_row, so_far, entries_so_far}
 use Rattle.uimg_blob.specs.Passes.{root_level, child_level}
 use Rattle.uimg_blob.proofs.SoFarLaws.{length_so_far}
 use Rattle.uimg_blob.proofs.EntryLaws.{length_entries}
-use Rattle.uimg_blob.proofs.PhaseLaws.{some_none, some_some, true_false}
+use Rattle.uimg_blob.proofs.PhaseLaws.{true_false}
 
 -- the entry of the innermost node
 pub row_at : (ls : List Open) (at n : ℕ) (name : List ℕ) (own : List Property) (below : Siblings) (es : List (List ℕ)) (e : List ℕ)

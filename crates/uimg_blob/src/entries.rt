@@ -1,3 +1,5 @@
+//! The entry of a node: its words, and how a pass adds, ends and fills it.
+
 ghost use Rattle.std.specs.Prelude.{◌≡◌, ◌+◌, ◌^◌, ◌<◌, length, IfSome, is_ok, is_err};
 ghost use Rattle.uimg_blob.specs.Kept.{span_word, number_word, role_word};
 ghost use Rattle.uimg_blob.specs.Entering.{Enters, Keeps, begun_entry, ended_entries};

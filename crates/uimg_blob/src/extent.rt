@@ -1,3 +1,5 @@
+//! The header of a blob: where its blocks lie.
+
 ghost use Rattle.std.specs.Prelude.{◌≡◌, ℕ, ◌+◌, ◌≤◌, List, length, false, IsTrue, IfOk};
 ghost use Rattle.uimg_blob.specs.Extents.{IsInside, HeadsFile, GivesBlocks};
 ghost use Rattle.uimg_blob.specs.Faults.{is_read, is_out_of_memory};

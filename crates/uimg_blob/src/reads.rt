@@ -1,3 +1,5 @@
+//! The words and names of the structure block, read from a source.
+
 ghost use Rattle.std.specs.Prelude.{◌≡◌, ◌+◌, ◌≤◌, length, take, IfOk};
 ghost use Rattle.uimg_texts.specs.Numbers.{be32};
 ghost use Rattle.uimg_blob.specs.Tokens.{reach};

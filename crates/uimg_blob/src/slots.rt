@@ -1,3 +1,5 @@
+//! Which values are kept of a node, and where in its entry.
+
 ghost use Rattle.uimg_blob.specs.Kept.{IsSlot};
 
 use crate::keys::Key;

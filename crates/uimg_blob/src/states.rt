@@ -1,3 +1,5 @@
+//! How far a pass is, and what each token does to it.
+
 ghost use Rattle.std.specs.Prelude.{◌≡◌, ◌+◌, ◌-◌, ◌^◌, ◌<◌, ℕ, List, length, IfSome};
 ghost use Rattle.uimg_blob.specs.Tokens.{Token};
 ghost use Rattle.uimg_blob.specs.Labels.{label_of};

@@ -1,3 +1,5 @@
+//! The texts of values, written or read from where they stand.
+
 ghost use Rattle.std.specs.Prelude.{◌≡◌, ◌+◌, ◌<◌, ◌≤◌, length, is_err, nat_lt, Some, None, IsTrue, IfOk, IfSome, if◌then◌else◌};
 ghost use Rattle.std.specs.Option.{is_some};
 ghost use Rattle.uimg_texts.specs.Nul.{before_nul, text};

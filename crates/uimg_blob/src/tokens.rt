@@ -1,3 +1,5 @@
+//! The tokens of the structure block, as they are read.
+
 ghost use Rattle.std.specs.Prelude.{◌≡◌, ℕ, ◌+◌, ◌^◌, ◌<◌, ◌≤◌, length};
 ghost use Rattle.std.specs.Option.{option_map};
 ghost use Rattle.uimg_texts.specs.Nul.{before_nul};

@@ -1,4 +1,4 @@
-use Rattle.std.proofs.Common.{◌∙◌, sym, ap, subst, refl, ℕ, Result, Option, rules}
+use Rattle.std.proofs.Common.{◌∙◌, sym, ap, subst, refl, Result, Option, rules}
 use Rattle.uimg_base.specs.Held.{Held}
 use Rattle.uimg_blob.specs.declared.fault.IndexFault.{IndexFault}
 use Rattle.uimg_blob.specs.declared.fault.IndexFault.TheVariants.{Read}

@@ -1,14 +1,8 @@
-use Rattle.std.proofs.Common.{◌∙◌, ◌+◌, ◌++◌, ◌∷◌, [], sym, ap, ℕ, arith, rules}
+use Rattle.std.proofs.Common.{◌∙◌, ◌+◌, ◌++◌, ◌∷◌, [], sym, ap, ℕ, arith}
 use Rattle.uimg_blob.specs.Entering.{begun_entry}
 use Rattle.uimg_blob.proofs.PassLaws.{begin_goes}
-use Rattle.uimg_blob.proofs.ActLaws.{begin_refused, begin_starved, begin_does, not_entered, was_entered}
+use Rattle.uimg_blob.proofs.ActLaws.{begin_does, was_entered}
 use Rattle.uimg_blob.proofs.states.begin.Goals as goal
-
-pub returns-then-is_after : goal.returns-then-is_after
-returns-then-is_after g c = begin_refused c.args.state c.args.size c.args.label c.args.room.now (λ p h. sym c.if-is_after.true ∙ c.is_after.ensures p h)
-
-pub returns-then-is_err : goal.returns-then-is_err
-returns-then-is_err g c = begin_starved c.args.state c.args.size c.args.label c.args.room.now c.enter.new.room (not_entered c.enter.result _ c.args.room.now c.enter.new.room (search rules) c.enter.ensures)
 
 pub returns : goal.returns
 returns g c =

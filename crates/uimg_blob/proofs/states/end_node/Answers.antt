@@ -1,12 +1,7 @@
-use Rattle.std.proofs.Common.{refl, subst, Option, ℕ, IfSome, ◌<◌, length}
-use Rattle.uimg_base.specs.Held.{Held, AddsOne}
-use Rattle.uimg_blob.proofs.PhaseLaws.{end_out}
+use Rattle.std.proofs.Common.{refl}
 use Rattle.uimg_blob.proofs.PassLaws.{end_goes, length_ended}
-use Rattle.uimg_blob.proofs.ActLaws.{end_node_refused, end_does}
+use Rattle.uimg_blob.proofs.ActLaws.{end_does}
 use Rattle.uimg_blob.proofs.states.end_node.Goals as goal
-
-pub returns-in_default : goal.returns-in_default
-returns-in_default g c = end_node_refused c.args.state c.args.room.now (λ p h. end_out p c.args.state c.args.room.now.entries c.args.state.at h c.in_default.is)
 
 pub returns : goal.returns
 returns g c = rw c.leave.ensures

@@ -1,10 +1,7 @@
 use Rattle.std.proofs.Common.{◌∙◌, ◌+◌, sym, ap, ℕ, arith}
 use Rattle.uimg_blob.proofs.PassLaws.{prop_goes}
-use Rattle.uimg_blob.proofs.ActLaws.{property_refused, property_does, same_adds}
+use Rattle.uimg_blob.proofs.ActLaws.{property_does, same_adds}
 use Rattle.uimg_blob.proofs.states.property.Goals as goal
-
-pub returns-in_default : goal.returns-in_default
-returns-in_default g c = property_refused c.args.state c.args.size c.args.key c.args.room.now (λ p h. sym c.in_default.is ∙ c.bare.ensures.bare p h)
 
 pub returns : goal.returns
 returns g c =

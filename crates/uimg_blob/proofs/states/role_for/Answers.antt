@@ -1,4 +1,4 @@
-use Rattle.std.proofs.Common.{sym, ap, Bool, ◌∙◌}
+use Rattle.std.proofs.Common.{ap, Bool, ◌∙◌}
 use Rattle.std.specs.Option.{is_some}
 use Rattle.uimg_blob.specs.Roles.{role_at}
 use Rattle.uimg_blob.specs.Passes.{child_level}
