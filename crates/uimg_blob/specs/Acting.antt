@@ -37,7 +37,7 @@ adds_entry token (Ok s) = is_begin_node token
 adds_entry token (Err e) = false
 
 -- The answer is what the token does that was read so, in each phase; it goes on behind the token, which ends below an end.
--- Memory is refused where a node begins alone.
+-- Memory is refused only where a node begins.
 pub record Does (token : ReadToken) (s : State) (result : Result State IndexFault) (old new : Held) : Type 0 where
   pub goes : (p : Phase) (t : Token) → Holds p s old.entries → IsReadAs s.at t token → is_done p t ≡ false → Goes (step p t) (next t) result old.entries new.entries
   pub refuses : (t : Token) → IsReadAs s.at t token → Refuses t result
