@@ -78,8 +78,8 @@ fn key_in(near: &[u8]) -> Option<Option<Key>>
 fn read_begin_node<S: Source, A: Allocator>(
     source: &mut S,
     room: &mut Room<A>,
-    end: u64,
     at: u64,
+    end: u64,
 ) -> Result<ReadToken, SourceFault>
     requires ordered { at + 4 ≤ end }
     requires within { end ≤ length (S.device source.old).bytes }
@@ -161,7 +161,7 @@ pub(crate) fn read_token<S: Source, A: Allocator>(
         return Ok(ReadToken::Stray(BlobFault::Truncated));
     }
     match read_word(source, at)? {
-        FDT_BEGIN_NODE => read_begin_node(source, room, extent.structure_end, at),
+        FDT_BEGIN_NODE => read_begin_node(source, room, at, extent.structure_end),
         FDT_END_NODE => Ok(ReadToken::EndNode),
         FDT_PROP => read_property(source, room, extent, at),
         FDT_NOP => Ok(ReadToken::Nop),
