@@ -1,5 +1,5 @@
 -- A change of a row is a store of its entry.
-use Rattle.std.proofs.Common.{◌≡◌, ◌+◌, ℕ, suc, List, [], ◌∷◌, ◌++◌, length, map, Some, Result, Ok, Err, OnOk, is_ok, true, refl, ap, sym, ◌∙◌, set, get_or}
+use Rattle.std.proofs.Common.{◌≡◌, ◌+◌, ℕ, suc, List, [], ◌∷◌, ◌++◌, length, map, Option, Some, refl, ap, sym, ◌∙◌, set, get_or}
 use Rattle.std.specs.List.{slice_get}
 use Rattle.std.proofs.lemmas.List.{map-append}
 use Rattle.std.proofs.lemmas.Option.{get_or_from_slice_get}
@@ -10,13 +10,9 @@ use Rattle.uimg_blob.specs.Grammar.{none}
 use Rattle.uimg_blob.specs.Roles.{role_at, keys_of}
 use Rattle.uimg_blob.specs.Walk.{Open, opened, close, as_node}
 use Rattle.uimg_blob.specs.Kept.{Kept, entry_of, entries, value_words, span_word, number_word, role_word}
+use Rattle.uimg_blob.specs.Entering.{begun_entry, ended_entries}
 use Rattle.uimg_blob.specs.SoFar.{count, innermost, next_level, open_row, so_far, entries_so_far}
 use Rattle.uimg_blob.proofs.SoFarLaws.{Seam, begin_row, end_row, root_row, length_so_far}
-
--- what holds of an answer that is Ok
-pub when_ok : {X E : Type 0} (r : Result X E) (P : Type 0) → (is_ok r ≡ true → P) → OnOk r P
-when_ok (Ok x) P holds = holds refl
-when_ok (Err e) P holds = tt
 
 -- a node without properties has no values
 no_values : (role : Role) → value_words (keys_of role) [] ≡ 0 ∷ 0 ∷ 0 ∷ 0 ∷ 0 ∷ 0 ∷ 0 ∷ 0 ∷ 0 ∷ 0 ∷ 0 ∷ []
@@ -53,48 +49,41 @@ pub seam_set : (i : ℕ) (change : Kept → Kept) (old new : List Kept) (es : Li
     → slice_get es i ≡ Some e → ((k : Kept) → e ≡ entry_of k → changed ≡ entry_of (change k)) → set es i changed ≡ map entry_of new
 seam_set i change old new es e changed s all read edit = seam_put i change old new es e changed s all read (edit s.row)
 
--- the words of a node without an end and without values
-abbrev pub words : ℕ → ℕ → ℕ → List ℕ
-words name parent role = name ∷ parent ∷ 0 ∷ role ∷ 0 ∷ 0 ∷ 0 ∷ 0 ∷ 0 ∷ 0 ∷ 0 ∷ 0 ∷ 0 ∷ 0 ∷ 0 ∷ 0 ∷ []
-
-pub words_are : {n m p q r s : ℕ} → n ≡ m → p ≡ q → r ≡ s → words n p r ≡ words m q s
-words_are {n = n} {m = m} {p = p} {q = q} {r = r} {s = s} name parent role =
-    ap (λ (x : ℕ). words x p r) name ∙ ap (λ (x : ℕ). words m x r) parent ∙ ap (λ (x : ℕ). words m q x) role
-
 -- the entry of a node that begins
-pub entered : (ls : List Open) (at name_length : ℕ) (name : List ℕ) (role : Role) (es more : List (List ℕ)) (e : List ℕ)
-    → es ≡ entries_so_far ls → role ≡ role_at (next_level ls) name → name_length ≡ length name
-    → e ≡ words (span_word (at + 4) name_length) (number_word (innermost ls)) (role_word role)
-    → more ≡ es ++ e ∷ [] → more ≡ entries_so_far (opened at name [] none ∷ ls)
-entered ls at name_length name role es more e old is long entry added =
-    let row : entry_of (open_row ls at name []) ≡ words (span_word (at + 4) (length name)) (number_word (innermost ls)) (role_word (role_at (next_level ls) name)) =
+pub entered : (ls : List Open) (at : ℕ) (name : List ℕ) (parent : Option ℕ) (role : Role) (es more : List (List ℕ))
+    → es ≡ entries_so_far ls → parent ≡ innermost ls → role ≡ role_at (next_level ls) name
+    → more ≡ es ++ begun_entry at (length name) parent role ∷ [] → more ≡ entries_so_far (opened at name [] none ∷ ls)
+entered ls at name parent role es more old outer is added =
+    let row : entry_of (open_row ls at name []) ≡ begun_entry at (length name) (innermost ls) (role_at (next_level ls) name) =
     ap (λ (l : List ℕ). span_word (at + 4) (length name) ∷ number_word (innermost ls) ∷ 0 ∷ role_word (role_at (next_level ls) name) ∷ 0 ∷ l) (no_values (role_at (next_level ls) name)) in
-    added ∙ ap (λ (l : List (List ℕ)). l ++ e ∷ []) old
-    ∙ ap (λ (x : List ℕ). entries_so_far ls ++ x ∷ []) (entry
-    ∙ ap (λ (n : ℕ). words (span_word (at + 4) n) (number_word (innermost ls)) (role_word role)) long
-    ∙ ap (λ (r : Role). words (span_word (at + 4) (length name)) (number_word (innermost ls)) (role_word r)) is
+    added ∙ ap (λ (l : List (List ℕ)). l ++ begun_entry at (length name) parent role ∷ []) old
+    ∙ ap (λ (x : List ℕ). entries_so_far ls ++ x ∷ []) (ap (λ (o : Option ℕ). begun_entry at (length name) o role) outer
+    ∙ ap (λ (r : Role). begun_entry at (length name) (innermost ls) r) is
     ∙ sym row)
     ∙ sym (mapped (so_far ls) (open_row ls at name []) []) ∙ ap (map entry_of) (sym (begin_row ls at name))
 
 -- the entry of a node that ends inside its parent
-pub left_inner : (o parent : Open) (ls : List Open) (number n : ℕ) (es : List (List ℕ)) (e : List ℕ)
-    → es ≡ entries_so_far (o ∷ parent ∷ ls) → number ≡ count (parent ∷ ls) → n ≡ length es → slice_get es number ≡ Some e
-    → set es number (set e 2 n) ≡ entries_so_far (close o parent ∷ ls)
-left_inner (opened at name own below) (opened parent_at parent_name parent_own parent_below) ls number n es e old is many read =
+pub left_inner : (o parent : Open) (ls : List Open) (number : ℕ) (es : List (List ℕ)) (e : List ℕ)
+    → es ≡ entries_so_far (o ∷ parent ∷ ls) → number ≡ count (parent ∷ ls) → slice_get es number ≡ Some e
+    → ended_entries number es ≡ entries_so_far (close o parent ∷ ls)
+left_inner (opened at name own below) (opened parent_at parent_name parent_own parent_below) ls number es e old is read =
+    let n : ℕ = length es in
     let stack : List Open = opened at name own below ∷ opened parent_at parent_name parent_own parent_below ∷ ls in
-    let all : n ≡ count stack = many ∙ ap length old ∙ length_entries (so_far stack) ∙ length_so_far stack in
-    ap (λ (i : ℕ). set es i (set e 2 n)) is
+    let all : n ≡ count stack = ap length old ∙ length_entries (so_far stack) ∙ length_so_far stack in
+    ap (λ (x : List ℕ). set es number (set x 2 n)) (get_or_from_slice_get es number e [] read)
+    ∙ ap (λ (i : ℕ). set es i (set e 2 n)) is
     ∙ seam_set (count (opened parent_at parent_name parent_own parent_below ∷ ls)) _ _ _ es e (set e 2 n)
     (end_row at name own below parent_at parent_name parent_own parent_below ls) old (ap (λ (i : ℕ). slice_get es i) (sym is) ∙ read)
     (λ k entry. ap (λ (x : List ℕ). set x 2 n) entry ∙ ap (λ (i : ℕ). set (entry_of k) 2 i) all)
 
 -- the entry of the root when it ends
-pub left_root : (o : Open) (number n : ℕ) (es : List (List ℕ)) (e : List ℕ)
-    → es ≡ entries_so_far (o ∷ []) → number ≡ 0 → n ≡ length es → slice_get es number ≡ Some e
-    → set es number (set e 2 n) ≡ entries (as_node o)
-left_root (opened at name own below) number n es e old is many read =
+pub left_root : (o : Open) (number : ℕ) (es : List (List ℕ)) (e : List ℕ)
+    → es ≡ entries_so_far (o ∷ []) → number ≡ 0 → slice_get es number ≡ Some e → ended_entries number es ≡ entries (as_node o)
+left_root (opened at name own below) number es e old is read =
+    let n : ℕ = length es in
     let stack : List Open = opened at name own below ∷ [] in
-    let all : n ≡ count stack = many ∙ ap length old ∙ length_entries (so_far stack) ∙ length_so_far stack in
-    ap (λ (i : ℕ). set es i (set e 2 n)) is
+    let all : n ≡ count stack = ap length old ∙ length_entries (so_far stack) ∙ length_so_far stack in
+    ap (λ (x : List ℕ). set es number (set x 2 n)) (get_or_from_slice_get es number e [] read)
+    ∙ ap (λ (i : ℕ). set es i (set e 2 n)) is
     ∙ seam_set 0 _ _ _ es e (set e 2 n) (root_row at name own below) old (ap (λ (i : ℕ). slice_get es i) (sym is) ∙ read)
     (λ k entry. ap (λ (x : List ℕ). set x 2 n) entry ∙ ap (λ (i : ℕ). set (entry_of k) 2 i) all)

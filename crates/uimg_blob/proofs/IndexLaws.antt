@@ -1,5 +1,5 @@
 -- One step of a pass, and its end.
-use Rattle.std.proofs.Common.{append_assoc, map, ◌++◌, ◌∷◌, ◌≡◌, ◌<◌, ◌≤◌, ◌+◌, ◌-◌, ◌*◌, ℕ, zero, suc, List, [], Option, Some, None, Result, Ok, Err, Bool, false, IsTrue, refl, ap, sym, ◌∙◌, subst, length, arith}
+use Rattle.std.proofs.Common.{append_assoc, append-nil, map, ◌++◌, ◌∷◌, ◌≡◌, ◌<◌, ◌≤◌, ◌+◌, ◌-◌, ℕ, zero, suc, List, [], Option, Some, None, Result, Ok, Err, Bool, false, IsTrue, refl, ap, sym, ◌∙◌, subst, length, arith}
 use Rattle.uimg_blob.specs.declared.fault.IndexFault.{IndexFault}
 use Rattle.uimg_blob.specs.declared.fault.IndexFault.TheVariants.{Blob, Read}
 use Rattle.uimg_blob.specs.declared.states.State.{State}
@@ -17,7 +17,7 @@ use Rattle.uimg_blob.specs.SoFar.{so_far}
 use Rattle.uimg_blob.specs.Passes.{Phase, inside, left, Step, stop, step, then_left, Steps, Indexes, Pass}
 use Rattle.std.specs.List.{sum_by}
 use Rattle.uimg_blob.specs.Blob.{met_in, met_from, met}
-use Rattle.uimg_blob.specs.Counts.{weight, begun_by, meta, index_cost, nodes_met, properties_met, texts_met}
+use Rattle.uimg_blob.specs.Counts.{weight, begun_by, index_cost, nodes_met}
 use Rattle.uimg_blob.specs.ReadTokens.{cost}
 use Rattle.uimg_blob.specs.Passes.{sum_from, Within, entries_at}
 use Rattle.uimg_blob.specs.Tokens.{offset}
@@ -32,8 +32,7 @@ use Rattle.uimg_blob.specs.Extents.{IsInside}
 use Rattle.std.specs.List.{AllByRecursion}
 use Rattle.uimg_blob.proofs.LieLaws.{lies_more, last_nodes, lies_within}
 use Rattle.uimg_blob.proofs.NumberedLaws.{images_number, configurations_number}
-use Rattle.uimg_blob.specs.Passes.{after, tokens_in, nodes_at, begin_places, IsPrefix}
-use Rattle.uimg_blob.specs.Tokens.{begin_node, end_node, prop, nop, last, stray}
+use Rattle.uimg_blob.specs.Passes.{after, tokens_in, nodes_at, begin_place, begin_places, IsPrefix}
 use Rattle.uimg_blob.proofs.PlaceLaws.{places_more}
 use Rattle.uimg_blob.proofs.CostLaws.{Moves, moves, sum_more, fault_past, offset_at, cost_weight, weight_counts}
 
@@ -56,12 +55,7 @@ sum_at f b whole p at fuel n t is enough all split =
 
 -- the places of a token's node and of those after it
 before_more : (xs : List ℕ) (t : Token) (ts : List Token) → xs ++ begin_places (t ∷ ts) ≡ (xs ++ begin_places (t ∷ [])) ++ begin_places ts
-before_more xs (begin_node at name) ts = sym (append_assoc xs (at ∷ []) (begin_places ts))
-before_more xs (end_node at) ts = sym (append_assoc xs [] (begin_places ts))
-before_more xs (prop at p) ts = sym (append_assoc xs [] (begin_places ts))
-before_more xs (nop at) ts = sym (append_assoc xs [] (begin_places ts))
-before_more xs (last at) ts = sym (append_assoc xs [] (begin_places ts))
-before_more xs (stray at f) ts = sym (append_assoc xs [] (begin_places ts))
+before_more xs t ts = ap (λ (ys : List ℕ). xs ++ (ys ++ begin_places ts)) (sym (append-nil (begin_place t))) ∙ sym (append_assoc xs (begin_places (t ∷ [])) (begin_places ts))
 
 entries_nodes : (p : Phase) → entries_at p ≡ map entry_of (nodes_at p)
 entries_nodes (inside ls) = refl
@@ -234,24 +228,23 @@ err_same {X = X} {Y = Y} whole (Blob fault at) k r es was is h =
     subst (λ (q : Result X IndexFault). Indexes whole q es) (sym is) (subst (λ (q : Result Y IndexFault). Indexes whole q es) was h)
 err_same {X = X} {Y = Y} whole Read k r es was is h = subst (λ (q : Result X IndexFault). Indexes whole q es) (sym is) tt
 
-pub indexed_err : {X Y : Type 0} (file bytes : List ℕ) (x : Extent) (e : IndexFault) (k : Result Y IndexFault) (r : Result X IndexFault) (es : List (List ℕ)) → blocks file ≡ Ok (blocks_of file x) → bytes ≡ file
-    → k ≡ Err e → r ≡ Err e → Indexes (begun (tokens (blocks_of bytes x))) k es → Indexes (tree file) r es
-indexed_err {X = X} file bytes x e k r es header same was is given =
-    subst (λ (w : Result Siblings Fault). Indexes w r es) (tree_is file bytes x header same) (err_same (begun (tokens (blocks_of bytes x))) e k r es was is given)
+pub indexed_err : {X Y : Type 0} (d e : Device) (x : Extent) (f : IndexFault) (k : Result Y IndexFault) (r : Result X IndexFault) (es : List (List ℕ)) → SameDevice d e
+    → (IsTrue d.honest → GivesBlocks d.bytes (Ok x)) → k ≡ Err f → r ≡ Err f → (IsTrue e.honest → Indexes (begun (tokens (blocks_of e.bytes x))) k es) → IsTrue d.honest → Indexes (tree d.bytes) r es
+indexed_err {X = X} d e x f k r es same header was is given sure =
+    subst (λ (w : Result Siblings Fault). Indexes w r es) (tree_is d.bytes e.bytes x (header sure).0 same.bytes)
+    (err_same (begun (tokens (blocks_of e.bytes x))) f k r es was is (given (subst (λ (b : Bool). IsTrue b) (sym same.honest) sure)))
 
 -- what a pass asked for and kept, by what the file's tokens are counted for
-pub within_cost : (file bytes : List ℕ) (x : Extent) (base asked : ℕ) (es : List (List ℕ)) → blocks file ≡ Ok (blocks_of file x) → bytes ≡ file
-    → Within (blocks_of bytes x) (begun (tokens (blocks_of bytes x))) base asked es → (asked + 40 ≤ base + index_cost file) × (length es ≤ nodes_met file)
-within_cost file bytes x base asked es header same given =
-    let b : Blocks = blocks_of file x in
-    let w : Within b (begun (tokens b)) base asked es = subst (λ (f : List ℕ). Within (blocks_of f x) (begun (tokens (blocks_of f x))) base asked es) same given in
-    let all : met_in (begun (tokens b)) (tokens b) ≡ met file =
-    ap (λ (r : Result Siblings Fault). met_in r (tokens b)) (begun_is (tokens b)) ∙ sym (ap met_from header) in
-    (omega (arith, w.costs, ap (sum_by weight) all, weight_counts (met file)), omega (arith, w.nodes, ap (sum_by begun_by) all))
-
--- what a file's index asks for, and what the rest of its metadata leaves
-pub meta_rest : (file : List ℕ) → index_cost file + (20 + 760 * nodes_met file + 756 * properties_met file + 4 * texts_met file) ≡ meta file
-meta_rest file = omega arith
+pub within_cost : (d e : Device) (x : Extent) (asked : ℕ) (es : List (List ℕ)) → SameDevice d e → (IsTrue d.honest → GivesBlocks d.bytes (Ok x))
+    → (IsTrue e.honest → Within (blocks_of e.bytes x) (begun (tokens (blocks_of e.bytes x))) e.asked asked es)
+    → IsTrue d.honest → (asked + 40 ≤ e.asked + index_cost d.bytes) × (length es ≤ nodes_met d.bytes)
+within_cost d e x asked es same header within sure =
+    let b : Blocks = blocks_of d.bytes x in
+    let given = within (subst (λ (b : Bool). IsTrue b) (sym same.honest) sure) in
+    let w : Within b (begun (tokens b)) e.asked asked es = subst (λ (f : List ℕ). Within (blocks_of f x) (begun (tokens (blocks_of f x))) e.asked asked es) same.bytes given in
+    let all : met_in (begun (tokens b)) (tokens b) ≡ met d.bytes =
+    ap (λ (r : Result Siblings Fault). met_in r (tokens b)) (begun_is (tokens b)) ∙ sym (ap met_from (header sure).0) in
+    (omega (arith, w.costs, ap (sum_by weight) all, weight_counts (met d.bytes)), omega (arith, w.nodes, ap (sum_by begun_by) all))
 
 -- what a pass found is what the file has
 pub finds : (d e : Device) (x : Extent) (s : State) (es : List (List ℕ)) (size : ℕ) → SameDevice d e → (IsTrue d.honest → GivesBlocks d.bytes (Ok x)) → IsInside x (length d.bytes)
@@ -275,11 +268,11 @@ prefix_same {X = X} {Y = Y} ts (Blob fault at) k r es was is h =
     subst (λ (q : Result X IndexFault). IsPrefix ts q es) (sym is) (subst (λ (q : Result Y IndexFault). IsPrefix ts q es) was h)
 prefix_same {X = X} {Y = Y} ts Read k r es was is h = subst (λ (q : Result X IndexFault). IsPrefix ts q es) (sym is) tt
 
-pub prefix_file : {X Y : Type 0} (file bytes : List ℕ) (x : Extent) (e : IndexFault) (k : Result Y IndexFault) (r : Result X IndexFault) (es : List (List ℕ)) → blocks file ≡ Ok (blocks_of file x) → bytes ≡ file
-    → k ≡ Err e → r ≡ Err e → IsPrefix (tokens (blocks_of bytes x)) k es → IsPrefix (tokens_in (blocks file)) r es
-prefix_file {X = X} file bytes x e k r es header same was is given =
-    let all : tokens (blocks_of bytes x) ≡ tokens_in (blocks file) = ap (λ (f : List ℕ). tokens (blocks_of f x)) same ∙ sym (ap tokens_in header) in
-    subst (λ (ts : List Token). IsPrefix ts r es) all (prefix_same (tokens (blocks_of bytes x)) e k r es was is given)
+pub prefix_file : {X Y : Type 0} (d e : Device) (x : Extent) (f : IndexFault) (k : Result Y IndexFault) (r : Result X IndexFault) (es : List (List ℕ)) → SameDevice d e
+    → (IsTrue d.honest → GivesBlocks d.bytes (Ok x)) → k ≡ Err f → r ≡ Err f → (IsTrue e.honest → IsPrefix (tokens (blocks_of e.bytes x)) k es) → IsTrue d.honest → IsPrefix (tokens_in (blocks d.bytes)) r es
+prefix_file {X = X} d e x f k r es same header was is given sure =
+    let all : tokens (blocks_of e.bytes x) ≡ tokens_in (blocks d.bytes) = ap (λ (f : List ℕ). tokens (blocks_of f x)) same.bytes ∙ sym (ap tokens_in (header sure).0) in
+    subst (λ (ts : List Token). IsPrefix ts r es) all (prefix_same (tokens (blocks_of e.bytes x)) f k r es was is (given (subst (λ (b : Bool). IsTrue b) (sym same.honest) sure)))
 
 -- a refused header refuses no memory
 pub prefix_header : {X Y : Type 0} (ts : List Token) (e : IndexFault) (r : Result X IndexFault) (k : Result Y IndexFault) (es : List (List ℕ)) → r ≡ Err e → k ≡ Err e → is_out_of_memory k ≡ false → IsPrefix ts r es

@@ -1,6 +1,8 @@
 -- The keys of names, and the tokens that were read.
 use Rattle.std.proofs.Common.{◌≡◌, ◌+◌, ℕ, suc, List, [], ◌∷◌, ◌++◌, find, Option, Some, None, Result, Ok, Err, Bool, true, false, IsTrue, refl, ap, sym, ◌∙◌, subst, cond, if◌then◌else◌, OnOk, is_ok, replicate}
-use Rattle.std.specs.List.{AllByRecursion}
+use Rattle.std.specs.Prelude.{IsErrAnd}
+use Rattle.std.proofs.lemmas.Result.{err_from_is_err_and}
+use Rattle.uimg_blob.specs.declared.fault.IndexFault.{IndexFault}
 use Rattle.std.specs.Option.{option_map, is_some}
 use Rattle.std.specs.Str.{bytes_eq}
 use Rattle.std.proofs.lemmas.List.{length-replicate}
@@ -22,13 +24,6 @@ use Rattle.uimg_blob.proofs.KeepLaws.{unchanged}
 use Rattle.uimg_blob.proofs.ValueLaws.{absent}
 use Rattle.uimg_blob.proofs.PhaseLaws.{some_none, by_bool, some_some, true_false}
 
--- a name that no key has
-find_none : {X : Type 0} (f : X → Bool) (xs : List X) → find f xs ≡ None → AllByRecursion (λ x. f x ≡ false) xs
-find_none f [] h = tt
-find_none f (x ∷ xs) h = by_bool (f x)
-    (λ is. absurd (some_none (sym (ap (λ (b : Bool). cond b (Some x) (find f xs)) is) ∙ h)))
-    (λ is. (is, find_none f xs (sym (ap (λ (b : Bool). cond b (Some x) (find f xs)) is) ∙ h)))
-
 find_some : {X : Type 0} (f : X → Bool) (xs : List X) (y : X) → find f xs ≡ Some y → f y ≡ true
 find_some f [] y h = absurd (some_none (sym h))
 find_some f (x ∷ xs) y h = by_bool (f x)
@@ -37,55 +32,6 @@ find_some f (x ∷ xs) y h = by_bool (f x)
 
 pub named_some : (k : Key) (name : List ℕ) → Some k ≡ key_named name → name_of k ≡ name
 named_some k name h = sym ((bytes_eq-Decides name (name_of k)).0 (find_some (λ (i : Key). bytes_eq name (name_of i)) all_keys k (sym h)))
-
-no_key : (name : List ℕ) → AllByRecursion (λ i. bytes_eq name (name_of i) ≡ false) all_keys → (k : Key) → bytes_eq name (name_of k) ≡ false
-no_key name h key.Description = h.0
-no_key name h key.Timestamp = h.1.0
-no_key name h key.Data = h.1.1.0
-no_key name h key.Kind = h.1.1.1.0
-no_key name h key.Arch = h.1.1.1.1.0
-no_key name h key.Os = h.1.1.1.1.1.0
-no_key name h key.Compression = h.1.1.1.1.1.1.0
-no_key name h key.Load = h.1.1.1.1.1.1.1.0
-no_key name h key.Entry = h.1.1.1.1.1.1.1.1.0
-no_key name h key.DataSize = h.1.1.1.1.1.1.1.1.1.0
-no_key name h key.DataOffset = h.1.1.1.1.1.1.1.1.1.1.0
-no_key name h key.DataPosition = h.1.1.1.1.1.1.1.1.1.1.1.0
-no_key name h key.Algo = h.1.1.1.1.1.1.1.1.1.1.1.1.0
-no_key name h key.Value = h.1.1.1.1.1.1.1.1.1.1.1.1.1.0
-no_key name h key.Default = h.1.1.1.1.1.1.1.1.1.1.1.1.1.1.0
-no_key name h key.Kernel = h.1.1.1.1.1.1.1.1.1.1.1.1.1.1.1.0
-no_key name h key.Ramdisk = h.1.1.1.1.1.1.1.1.1.1.1.1.1.1.1.1.0
-no_key name h key.Fdt = h.1.1.1.1.1.1.1.1.1.1.1.1.1.1.1.1.1.0
-no_key name h key.Loadables = h.1.1.1.1.1.1.1.1.1.1.1.1.1.1.1.1.1.1.0
-
-slot_none : (name : List ℕ) (keys : List Key) → ((k : Key) → bytes_eq name (name_of k) ≡ false) → slot name keys ≡ None
-slot_none name [] h = refl
-slot_none name (k ∷ keys) h = by_bool (bytes_eq (name_of k) name)
-    (λ is. absurd (true_false (sym ((bytes_eq-Decides name (name_of k)).1 (sym ((bytes_eq-Decides (name_of k) name).0 is))) ∙ h k)))
-    (λ is. ap (λ (b : Bool). if b then Some 0 else option_map suc (slot name keys)) is ∙ ap (option_map suc) (slot_none name keys h))
-
--- nothing is kept of a property that no key names
-pub named_none : (ls : List Open) (at : ℕ) (name : List ℕ) (own : List Property) (x : Property) → None ≡ key_named x.name
-    → entries_so_far (opened at name own none ∷ ls) ≡ entries_so_far (opened at name (own ++ x ∷ []) none ∷ ls)
-named_none ls at name own x h = unchanged ls at name own x
-    (absent (keys_of (role_at (next_level ls) name)) own x
-    (slot_none x.name (keys_of (role_at (next_level ls) name)) (no_key x.name (find_none (λ (i : Key). bytes_eq x.name (name_of i)) all_keys (sym h)))))
-
-pub none_from : (o : Option ℕ) → is_some o ≡ false → o ≡ None
-none_from None h = refl
-none_from (Some n) h = absurd (true_false h)
-
-pub from_ok : {X E : Type 0} {P : Type 0} (r : Result X E) → OnOk r P → is_ok r ≡ true → P
-from_ok (Ok x) h is = h
-from_ok (Err e) h is = absurd (true_false (sym is))
-
-pub on_err : {X E : Type 0} (P : Type 0) (r : Result X E) (e : E) → r ≡ Err e → OnOk r P
-on_err {X = X} {E = E} P r e is = subst (λ (k : Result X E). OnOk k P) (sym is) tt
-
-abbrev name_for : Option Key → List ℕ
-name_for None = []
-name_for (Some k) = name_of k
 
 keyed : (k : Key) → Some k ≡ key_named (name_of k)
 keyed key.Description = refl
@@ -107,6 +53,43 @@ keyed key.Kernel = refl
 keyed key.Ramdisk = refl
 keyed key.Fdt = refl
 keyed key.Loadables = refl
+
+no_key : (name : List ℕ) → None ≡ key_named name → (k : Key) → bytes_eq name (name_of k) ≡ false
+no_key name h k = by_bool (bytes_eq name (name_of k))
+    (λ is. absurd (some_none (keyed k ∙ ap key_named (sym ((bytes_eq-Decides name (name_of k)).0 is)) ∙ sym h)))
+    (λ is. is)
+
+slot_none : (name : List ℕ) (keys : List Key) → ((k : Key) → bytes_eq name (name_of k) ≡ false) → slot name keys ≡ None
+slot_none name [] h = refl
+slot_none name (k ∷ keys) h = by_bool (bytes_eq (name_of k) name)
+    (λ is. absurd (true_false (sym ((bytes_eq-Decides name (name_of k)).1 (sym ((bytes_eq-Decides (name_of k) name).0 is))) ∙ h k)))
+    (λ is. ap (λ (b : Bool). if b then Some 0 else option_map suc (slot name keys)) is ∙ ap (option_map suc) (slot_none name keys h))
+
+-- nothing is kept of a property that no key names
+pub named_none : (ls : List Open) (at : ℕ) (name : List ℕ) (own : List Property) (x : Property) → None ≡ key_named x.name
+    → entries_so_far (opened at name own none ∷ ls) ≡ entries_so_far (opened at name (own ++ x ∷ []) none ∷ ls)
+named_none ls at name own x h = unchanged ls at name own x
+    (absent (keys_of (role_at (next_level ls) name)) own x
+    (slot_none x.name (keys_of (role_at (next_level ls) name)) (no_key x.name h)))
+
+pub none_from : (o : Option ℕ) → is_some o ≡ false → o ≡ None
+none_from None h = refl
+none_from (Some n) h = absurd (true_false h)
+
+pub from_ok : {X E : Type 0} {P : Type 0} (r : Result X E) → OnOk r P → is_ok r ≡ true → P
+from_ok (Ok x) h is = h
+from_ok (Err e) h is = absurd (true_false (sym is))
+
+-- what a `?` returns
+pub passed_on : {X : Type 0} (r : Result X IndexFault) (e : IndexFault) → IsErrAnd r (λ f. f ≡ e) → r ≡ Err e
+passed_on r e h = let x = err_from_is_err_and r h in x.1 ∙ ap (λ (f : IndexFault). Err f) x.2
+
+pub on_err : {X E : Type 0} (P : Type 0) (r : Result X E) (e : E) → r ≡ Err e → OnOk r P
+on_err {X = X} {E = E} P r e is = subst (λ (k : Result X E). OnOk k P) (sym is) tt
+
+abbrev name_for : Option Key → List ℕ
+name_for None = []
+name_for (Some k) = name_of k
 
 keyed_by : (k : Option Key) → k ≡ key_named (name_for k)
 keyed_by None = refl

@@ -10,6 +10,7 @@ pub mod RoleLaws
 pub mod KeyLaws
 pub mod NoteLaws
 pub mod PassLaws
+pub mod ActLaws
 pub mod LieLaws
 pub mod NumberedLaws
 pub mod LookLaws

@@ -6,6 +6,7 @@ use Rattle.std.proofs.lemmas.Bool.{cases_lt}
 use Rattle.uimg_texts.specs.Slices.{slice}
 use Rattle.uimg_texts.specs.Numbers.{be32}
 use Rattle.uimg_blob.specs.Tokens.{reach}
+use Rattle.uimg_blob.specs.Extents.{HeadsFile}
 
 -- a slice of a slice is a slice of the whole
 pub slice-slice : (xs : List ℕ) (at n k m : ℕ) → k + m ≤ n → slice (slice xs at n) k m ≡ slice xs (at + k) m
@@ -33,7 +34,20 @@ reach-slice xs at end = elim (cases_lt (end - at) 256) [
 ]
 
 -- a number at the beginning of a list
-pub be32-prefix : (xs prefix : List ℕ) (n k number : ℕ) → prefix ≡ slice xs 0 n → number ≡ be32 prefix k → k + 4 ≤ n → be32 xs k ≡ number
-be32-prefix xs prefix n k number e m h =
+pub be32-prefix : (xs prefix : List ℕ) (n k : ℕ) → prefix ≡ slice xs 0 n → k + 4 ≤ n → be32 xs k ≡ be32 prefix k
+be32-prefix xs prefix n k e h =
     let start : 0 + k ≡ k = omega arith in
-    ap (λ (i : ℕ). be32 xs i) (sym start) ∙ sym (be32-slice xs 0 n k h) ∙ ap (λ (w : List ℕ). be32 w k) (sym e) ∙ sym m
+    ap (λ (i : ℕ). be32 xs i) (sym start) ∙ sym (be32-slice xs 0 n k h) ∙ ap (λ (w : List ℕ). be32 w k) (sym e)
+
+-- the numbers of a file's first 40 bytes
+pub heads : (file header : List ℕ) → header ≡ slice file 0 40 → HeadsFile header file
+heads file header e = record {
+  magic = be32-prefix file header 40 0 e (omega arith);
+  totalsize = be32-prefix file header 40 4 e (omega arith);
+  structure = be32-prefix file header 40 8 e (omega arith);
+  strings = be32-prefix file header 40 12 e (omega arith);
+  version = be32-prefix file header 40 20 e (omega arith);
+  compatible = be32-prefix file header 40 24 e (omega arith);
+  strings_size = be32-prefix file header 40 32 e (omega arith);
+  structure_size = be32-prefix file header 40 36 e (omega arith);
+}

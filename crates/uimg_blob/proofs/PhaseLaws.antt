@@ -1,15 +1,13 @@
 -- What a phase of a pass is, and what a token may do in it.
-use Rattle.std.proofs.Common.{◌≡◌, ◌<◌, ◌+◌, ℕ, List, [], ◌∷◌, length, Option, Some, None, Result, Ok, Err, Bool, true, false, refl, ap, sym, ◌∙◌, subst, nat_lt, IfSome, arith}
+use Rattle.std.proofs.Common.{◌≡◌, ◌<◌, ◌+◌, ℕ, List, [], ◌∷◌, length, Option, Some, None, Ok, Err, Bool, true, false, refl, ap, sym, ◌∙◌, subst, nat_lt, IfSome, arith}
 use Rattle.std.proofs.lemmas.Bool.{lt-ltb}
-use Rattle.uimg_blob.specs.declared.fault.BlobFault.{BlobFault}
-use Rattle.uimg_blob.specs.declared.fault.BlobFault.TheVariants.{BadNesting}
 use Rattle.uimg_blob.specs.declared.states.State.{State}
-use Rattle.uimg_blob.specs.Tokens.{Property, Token, begin_node, end_node, prop, nop, last, stray}
+use Rattle.uimg_blob.specs.Tokens.{Token, begin_node, end_node, prop, nop, last, stray}
 use Rattle.uimg_blob.specs.Grammar.{none, node}
 use Rattle.uimg_blob.specs.Walk.{Open, opened, as_node, walk, begun, finished}
 use Rattle.uimg_blob.specs.Kept.{kept, kept_of, entries}
 use Rattle.uimg_blob.specs.SoFar.{count, so_far, entries_so_far}
-use Rattle.uimg_blob.specs.Passes.{Phase, inside, after, left, step, then_left, stop, begins_in, ends_in, prop_in, last_in, is_after, is_done, bare, Holds}
+use Rattle.uimg_blob.specs.Passes.{Phase, inside, after, left, step, then_left, stop, is_after, is_done, bare, Holds}
 use Rattle.uimg_blob.proofs.SoFarLaws.{length_so_far}
 use Rattle.uimg_blob.proofs.EntryLaws.{length_entries}
 
@@ -79,32 +77,6 @@ bare_none (inside (opened at name own none ∷ ls)) s es n h is more =
 bare_none (inside (opened at name own (node a b c d e) ∷ ls)) s es n h is more = refl
 bare_none (after o) s es n h is more = refl
 
-pub bare_out : (p : Phase) (s : State) (es : List (List ℕ)) → Holds p s es → s.current ≡ None → None ≡ bare p
-bare_out (inside []) s es h is = refl
-bare_out (inside (opened at name own none ∷ ls)) s es h is = absurd (some_none (sym h.current ∙ is))
-bare_out (inside (opened at name own (node a b c d e) ∷ ls)) s es h is = refl
-bare_out (after o) s es h is = refl
-
--- where a property may not stand
-pub prop_out : (p : Phase) (at : ℕ) (x : Result Property BlobFault) → None ≡ bare p → prop_in p at x ≡ stop (Err (BadNesting, at))
-prop_out (inside []) at x h = refl
-prop_out (inside (opened place name own none ∷ ls)) at x h = absurd (some_none (sym h))
-prop_out (inside (opened place name own (node a b c d e) ∷ ls)) at x h = refl
-prop_out (after o) at x h = refl
-
--- a faulty property where one may stand
-pub prop_bad : (p : Phase) (at n : ℕ) (f : BlobFault) → Some n ≡ bare p → prop_in p at (Err f) ≡ stop (Err (f, at))
-prop_bad (inside []) at n f h = absurd (some_none h)
-prop_bad (inside (opened place name own none ∷ ls)) at n f h = refl
-prop_bad (inside (opened place name own (node a b c d e) ∷ ls)) at n f h = absurd (some_none h)
-prop_bad (after o) at n f h = absurd (some_none h)
-
--- a node may not end where none is open
-pub end_out : (p : Phase) (s : State) (es : List (List ℕ)) (at : ℕ) → Holds p s es → s.current ≡ None → ends_in p at ≡ stop (Err (BadNesting, at))
-end_out (inside []) s es at h is = refl
-end_out (inside (o ∷ ls)) s es at h is = absurd (some_none (sym h.current ∙ is))
-end_out (after o) s es at h is = refl
-
 lt_zero : (n : ℕ) → 0 < n → nat_lt 0 n ≡ true
 lt_zero n h = lt-ltb 0 n h
 
@@ -124,21 +96,6 @@ holds_within (inside (opened at name own below ∷ ls)) s es h =
     subst (λ (o : Option ℕ). IfSome o (λ i. i < length es)) (sym h.current) inside_it
 holds_within (after o) s es h = subst (λ (o : Option ℕ). IfSome o (λ i. i < length es)) (sym h.current) tt
 
--- no node may begin after the root
-pub begin_out : (p : Phase) (at : ℕ) (name : Result (List ℕ) BlobFault) → true ≡ is_after p → begins_in p at name ≡ stop (Err (BadNesting, at))
-begin_out (inside ls) at name h = absurd (true_false h)
-begin_out (after o) at name h = refl
-
--- a faulty name, not after the root
-pub begin_bad : (p : Phase) (at : ℕ) (f : BlobFault) → false ≡ is_after p → begins_in p at (Err f) ≡ stop (Err (f, at))
-begin_bad (inside ls) at f h = refl
-begin_bad (after o) at f h = absurd (true_false (sym h))
-
--- a token that is not the last after the root
-pub done_not : (p : Phase) (at : ℕ) → is_done p (last at) ≡ false → last_in p at ≡ stop (Err (BadNesting, at))
-done_not (inside ls) at h = refl
-done_not (after o) at h = absurd (true_false h)
-
 -- the last token after the root
 pub done_goes : (p : Phase) (s : State) (es : List (List ℕ)) (t : Token) → Holds p s es → is_done p t ≡ true → (o : Open) × (step p t ≡ stop (Ok (as_node o))) × (es ≡ entries (as_node o))
 done_goes (inside ls) s es t h is = absurd (true_false (sym is))
@@ -148,12 +105,3 @@ done_goes (after o) s es (end_node at) h is = absurd (true_false (sym is))
 done_goes (after o) s es (prop at p) h is = absurd (true_false (sym is))
 done_goes (after o) s es (nop at) h is = absurd (true_false (sym is))
 done_goes (after o) s es (stray at f) h is = absurd (true_false (sym is))
-
--- the last token stands after the root
-pub last_out : (p : Phase) (at : ℕ) → false ≡ is_after p → last_in p at ≡ stop (Err (BadNesting, at))
-last_out (inside ls) at h = refl
-last_out (after o) at h = absurd (true_false (sym h))
-
-pub last_goes : (p : Phase) (s : State) (es : List (List ℕ)) (at : ℕ) → Holds p s es → true ≡ is_after p → (o : Open) × (last_in p at ≡ stop (Ok (as_node o))) × (es ≡ entries (as_node o))
-last_goes (inside ls) s es at h is = absurd (true_false is)
-last_goes (after o) s es at h is = (o, refl, h.entries)

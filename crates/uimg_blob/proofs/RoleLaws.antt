@@ -1,5 +1,5 @@
 -- The roles of the nodes that a pass enters.
-use Rattle.std.proofs.Common.{◌≡◌, ◌+◌, ℕ, List, [], ◌∷◌, ◌++◌, length, map, Some, None, Bool, true, false, refl, ap, sym, ◌∙◌, if◌then◌else◌, get_or}
+use Rattle.std.proofs.Common.{◌≡◌, ◌+◌, ℕ, List, [], ◌∷◌, ◌++◌, length, map, Some, Bool, true, false, refl, ap, sym, ◌∙◌, if◌then◌else◌, get_or}
 use Rattle.std.specs.List.{slice_get}
 use Rattle.std.proofs.lemmas.List.{map-append}
 use Rattle.std.proofs.lemmas.Option.{get_or_from_slice_get}
@@ -10,12 +10,12 @@ use Rattle.uimg_blob.specs.Tokens.{Property}
 use Rattle.uimg_blob.specs.Grammar.{Siblings, none, node}
 use Rattle.uimg_blob.specs.Roles.{Level, top, in_root, in_images, in_image, in_configurations, elsewhere, role_at, root_child, level_in, level_after, is_images, is_configurations, is_hash}
 use Rattle.uimg_blob.specs.Walk.{Open, opened}
-use Rattle.uimg_blob.specs.Kept.{Kept, kept, entry_of, role_word}
-use Rattle.uimg_blob.specs.SoFar.{count, innermost, level_past, next_level, open_row, so_far, entries_so_far}
+use Rattle.uimg_blob.specs.Kept.{Kept, kept, entry_of}
+use Rattle.uimg_blob.specs.SoFar.{count, level_past, next_level, open_row, so_far, entries_so_far}
 use Rattle.uimg_blob.specs.Passes.{root_level, child_level}
 use Rattle.uimg_blob.proofs.SoFarLaws.{length_so_far}
 use Rattle.uimg_blob.proofs.EntryLaws.{length_entries}
-use Rattle.uimg_blob.proofs.PhaseLaws.{some_none, some_some, true_false}
+use Rattle.uimg_blob.proofs.PhaseLaws.{true_false}
 
 -- the entry of the innermost node
 pub row_at : (ls : List Open) (at n : ℕ) (name : List ℕ) (own : List Property) (below : Siblings) (es : List (List ℕ)) (e : List ℕ)
@@ -116,19 +116,3 @@ level_is [] at name own below hi hc h = h
 level_is (opened at' name' own' below' ∷ ls) at name own below hi hc h =
     past_child (role_at (next_level (opened at' name' own' below' ∷ ls)) name) below hi hc
     (role_not_root (next_level (opened at' name' own' below' ∷ ls)) name (past_not_top (level_in (role_at (next_level ls) name')) below' (in_not_top (role_at (next_level ls) name'))))
-
--- the role of a child
-pub child_is : (ls : List Open) (n : ℕ) (name : List ℕ) (role parent : Role) (hi hc : Bool) (es : List (List ℕ)) (e : List ℕ)
-    → es ≡ entries_so_far ls → Some n ≡ innermost ls → slice_get es n ≡ Some e → root_level ls ≡ in_root hi hc
-    → ((r : Role) → get_or e 3 0 ≡ role_word r → parent ≡ r) → role ≡ role_at (child_level parent hi hc) name → role ≡ role_at (next_level ls) name
-child_is [] n name role parent hi hc es e old is read marks word child = absurd (some_none is)
-child_is (opened at' name' own' below' ∷ ls) n name role parent hi hc es e old is read marks word child =
-    let entry : e ≡ entry_of (open_row ls at' name' own') = row_at ls at' n name' own' below' es e old read (some_some n (count ls) is) in
-    let same : parent ≡ role_at (next_level ls) name' = word (role_at (next_level ls) name') (ap (λ (x : List ℕ). get_or x 3 0) entry) in
-    child ∙ ap (λ (r : Role). role_at (child_level r hi hc) name) same
-    ∙ ap (λ (l : Level). role_at l name) (sym (level_is ls at' name' own' below' hi hc marks))
-
-pub root_is : (ls : List Open) (name : List ℕ) → None ≡ innermost ls → Root ≡ role_at (next_level ls) name
-unfolding next_level
-root_is [] name h = refl
-root_is (o ∷ ls) name h = absurd (some_none (sym h))

@@ -26,6 +26,17 @@ pub record IsInside (x : Extent) (size : ℕ) : Type 0 where
   pub fits : x.totalsize < 2 ^ 32
   pub aligned : x.structure % 4 ≡ 0
 
+-- The numbers of a header are those of the file that begins with it.
+pub record HeadsFile (header file : List ℕ) : Type 0 where
+  pub magic : be32 file 0 ≡ be32 header 0
+  pub totalsize : be32 file 4 ≡ be32 header 4
+  pub structure : be32 file 8 ≡ be32 header 8
+  pub strings : be32 file 12 ≡ be32 header 12
+  pub version : be32 file 20 ≡ be32 header 20
+  pub compatible : be32 file 24 ≡ be32 header 24
+  pub strings_size : be32 file 32 ≡ be32 header 32
+  pub structure_size : be32 file 36 ≡ be32 header 36
+
 -- An answer is where the blocks of a file lie, and its totalsize, or the header's first fault, unless a read failed.
 abbrev pub GivesBlocks : List ℕ → Result Extent IndexFault → Type 0
 GivesBlocks file (Ok x) = (blocks file ≡ Ok (blocks_of file x)) × (x.totalsize ≡ be32 file 4)

@@ -1,21 +1,24 @@
 -- What an index leaves: a room's entries and a blob that are those of a tree.
-use Rattle.std.specs.Prelude.{◌≡◌, ◌^◌, ◌<◌, ◌≤◌, ◌+◌, ℕ, List, length, map, Option, Some, None, Ok, IsTrue, Bool, if◌then◌else◌}
+use Rattle.std.specs.Prelude.{◌≡◌, ◌^◌, ◌<◌, ◌≤◌, ◌+◌, ℕ, List, length, map, Option, Some, None, Result, Ok, IsTrue, max, Bool, if◌then◌else◌}
 use Rattle.std.specs.List.{AllByRecursion, slice_get}
 use Rattle.std.specs.Option.{is_some}
 use Rattle.uimg_base.specs.Device.{Device}
+use Rattle.uimg_base.specs.Held.{Held, held_bytes}
+use Rattle.uimg_blob.specs.declared.fault.IndexFault.{IndexFault}
 use Rattle.uimg_blob.specs.declared.nodes.Blob.{Blob}
 use Rattle.uimg_blob.specs.declared.texts.Span.{Span}
 use Rattle.uimg_blob.specs.declared.keys.Key.{Key}
 use Rattle.uimg_blob.specs.declared.roles.Role.{Role}
 use Rattle.uimg_blob.specs.Tokens.{Property}
 use Rattle.uimg_blob.specs.Grammar.{Siblings}
-use Rattle.uimg_blob.specs.Blob.{tree}
+use Rattle.uimg_blob.specs.Blob.{tree, blocks}
 use Rattle.uimg_blob.specs.Roles.{is_images, is_configurations, keys_of}
 use Rattle.uimg_blob.specs.Rows.{Row, table, child_number}
 use Rattle.uimg_blob.specs.LookUps.{first}
 use Rattle.uimg_blob.specs.Spots.{Spot, spot_of}
 use Rattle.uimg_blob.specs.Keys.{name_of}
 use Rattle.uimg_blob.specs.Kept.{kept_of, entries, slot, LiesIn}
+use Rattle.uimg_blob.specs.Passes.{Indexes, IsPrefix, tokens_in}
 
 -- The entries are those of a tree, the blob has the numbers of its `images` and `configurations`, and all names and values end
 -- within the blob's total size.
@@ -38,6 +41,34 @@ pub record IsRow (blob : Blob) (es : List (List ℕ)) (number : ℕ) (row : Row)
   pub nodes : Siblings
   pub indexed : IsIndexed nodes blob es
   pub is : slice_get (table nodes) number ≡ Some row
+
+-- What is so of the node's row in that table.
+abbrev pub OfRow : Blob → List (List ℕ) → ℕ → (Row → Type 0) → Type 0
+OfRow blob es number P = (row : Row) → IsRow blob es number row → P row
+
+-- What is so where the entries and the blob are those of some tree.
+abbrev pub WhereIndexed : Blob → List (List ℕ) → Type 0 → Type 0
+WhereIndexed blob es P = (t : Siblings) → IsIndexed t blob es → P
+
+-- An honest device was asked for at most so many bytes as its own are counted for.
+abbrev pub AsksWithin : (List ℕ → ℕ) → Device → Device → Type 0
+AsksWithin count d e = IsTrue d.honest → e.asked ≤ d.asked + count d.bytes
+
+-- Over an honest device no more nodes have entries than its bytes are counted for.
+abbrev pub KeepsWithin : (List ℕ → ℕ) → Device → Held → Type 0
+KeepsWithin count d k = IsTrue d.honest → length k.entries ≤ count d.bytes
+
+-- Over an honest device the room took no more memory than so many entries need.
+abbrev pub TakesWithin : (List ℕ → ℕ) → Device → Held → Held → Type 0
+TakesWithin count d h k = IsTrue d.honest → k.peak ≤ max h.peak (held_bytes (count d.bytes))
+
+-- Over an honest device the entries are those of the tree of its bytes, or the fault is the first in them.
+abbrev pub IndexesTree : {X : Type 0} → Device → Result X IndexFault → List (List ℕ) → Type 0
+IndexesTree d result es = IsTrue d.honest → Indexes (tree d.bytes) result es
+
+-- Over an honest device that memory was refused to, the entries are those of the nodes before the one at the fault.
+abbrev pub LeavesPrefix : {X : Type 0} → Device → Result X IndexFault → List (List ℕ) → Type 0
+LeavesPrefix d result es = IsTrue d.honest → IsPrefix (tokens_in (blocks d.bytes)) result es
 
 -- where a node's name stands: behind the word that begins the node
 abbrev pub name_span : Row → Span

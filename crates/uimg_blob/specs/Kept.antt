@@ -2,7 +2,7 @@
 use Rattle.std.specs.List.{AllByRecursion}
 use Rattle.std.specs.Option.{option_map}
 use Rattle.std.specs.Str.{bytes_eq}
-use Rattle.std.specs.Prelude.{ℕ, suc, ◌<◌, ◌≤◌, Bool, if◌then◌else◌, ◌+◌, ◌*◌, ◌-◌, ◌^◌, List, [], ◌∷◌, ◌++◌, length, map, replicate, Option, Some, None, find, get_or, ◌==◌}
+use Rattle.std.specs.Prelude.{◌≡◌, ℕ, suc, ◌<◌, ◌≤◌, Bool, if◌then◌else◌, ◌+◌, ◌*◌, ◌-◌, ◌^◌, List, [], ◌∷◌, ◌++◌, length, map, replicate, Option, Some, None, IfSome, find, get_or, ◌==◌}
 use Rattle.uimg_blob.specs.declared.keys.Key.{Key}
 use Rattle.uimg_blob.specs.declared.roles.Role.{Role}
 use Rattle.uimg_blob.specs.declared.roles.Role.TheVariants.{Root, Images, Image, Hash, Configurations, Configuration, Other}
@@ -26,6 +26,11 @@ pub record Kept : Type 0 where
 abbrev pub slot : List ℕ → List Key → Option ℕ
 slot name [] = None
 slot name (key ∷ keys) = if bytes_eq (name_of key) name then Some 0 else option_map suc (slot name keys)
+
+-- An answer is the place of a key's value among the eleven at most that are kept of a role.
+pub record IsSlot (role : Role) (key : Key) (result : Option ℕ) : Type 0 where
+  pub within : IfSome result (λ i. i < 11)
+  pub slot : result ≡ slot (name_of key) (keys_of role)
 
 -- what is kept of nodes that are numbered from i on, under a parent
 unfoldable pub kept : Level → Option ℕ → ℕ → Siblings → List Kept

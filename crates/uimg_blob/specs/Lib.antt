@@ -18,5 +18,7 @@ pub mod ReadTokens
 pub mod Walk
 pub mod Kept
 pub mod SoFar
+pub mod Entering
 pub mod Passes
+pub mod Acting
 pub mod Plain

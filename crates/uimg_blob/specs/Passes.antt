@@ -7,8 +7,6 @@ use Rattle.uimg_blob.specs.declared.fault.BlobFault.TheVariants.{BadNesting}
 use Rattle.uimg_blob.specs.declared.fault.IndexFault.{IndexFault}
 use Rattle.uimg_blob.specs.declared.fault.IndexFault.TheVariants.{Blob, Read}
 use Rattle.uimg_blob.specs.declared.states.State.{State}
-use Rattle.uimg_blob.specs.declared.keys.Key.{Key}
-use Rattle.uimg_blob.specs.Keys.{key_named}
 use Rattle.uimg_blob.specs.Reading.{Fault}
 use Rattle.uimg_blob.specs.Tokens.{Property, Token, Blocks, token_at, tokens_from, tokens, next, begin_node, end_node, prop, nop, last, stray}
 use Rattle.uimg_blob.specs.Grammar.{Siblings, none, node}
@@ -180,10 +178,6 @@ pub record Holds (p : Phase) (s : State) (es : List (List ℕ)) : Type 0 where
   pub few : 8 * length es ≤ s.at
   pub images : s.images ≡ number_of_role is_images_role 0 (nodes_at p)
   pub configurations : s.configurations ≡ number_of_role is_configurations_role 0 (nodes_at p)
-
--- The key of a name.
-pub record IsKeyOf (key : Option Key) (name : List ℕ) : Type 0 where
-  pub is : key ≡ key_named name
 
 -- An answer is what a step does, unless memory was refused: then the entries stay.
 abbrev pub Goes : Step → Option ℕ → Result State IndexFault → List (List ℕ) → List (List ℕ) → Type 0

@@ -1,5 +1,5 @@
 -- A tree of nodes with no places: what a blob is made of, and what is read of it again.
-use Rattle.std.specs.Prelude.{◌≡◌, ℕ, ◌≤◌, List, [], ◌∷◌, length, map, Result, Ok, Err, None, ⊤}
+use Rattle.std.specs.Prelude.{◌≡◌, ℕ, ◌≤◌, List, length, map, Result, Ok, Err, None, ⊤}
 use Rattle.std.specs.List.{AllByRecursion}
 use Rattle.uimg_blob.specs.Reading.{Fault}
 use Rattle.uimg_texts.specs.Nul.{before_nul}

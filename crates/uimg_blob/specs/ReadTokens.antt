@@ -1,5 +1,10 @@
 -- What is read of a token, and what that costs.
-use Rattle.std.specs.Prelude.{◌≡◌, ℕ, ◌+◌, ◌<◌, ◌≤◌, List, length, Option, Ok, Err, false, ⊤}
+use Rattle.std.specs.Prelude.{◌≡◌, ℕ, ◌+◌, ◌<◌, ◌≤◌, List, length, Option, Result, Ok, Err, IfOk, IsTrue, is_err, false, ⊤}
+use Rattle.uimg_base.specs.declared.source.SourceFault.{SourceFault}
+use Rattle.uimg_base.specs.Device.{Device}
+use Rattle.uimg_base.specs.Held.{Held}
+use Rattle.uimg_base.specs.Using.{Asks, UsesAtMost}
+use Rattle.uimg_blob.specs.declared.extent.Extent.{Extent}
 use Rattle.uimg_blob.specs.declared.keys.Key.{Key}
 use Rattle.uimg_blob.specs.declared.labels.Label.{Label}
 use Rattle.uimg_blob.specs.declared.tokens.ReadToken.{ReadToken}
@@ -7,7 +12,8 @@ use Rattle.uimg_blob.specs.declared.tokens.ReadToken.TheVariants.{BeginNode, Bad
 use Rattle.uimg_blob.specs.Keys.{key_named}
 use Rattle.uimg_blob.specs.Faults.{refuses_memory}
 use Rattle.uimg_blob.specs.Labels.{label_of}
-use Rattle.uimg_blob.specs.Tokens.{Token, Property, begin_node, end_node, prop, nop, last, stray}
+use Rattle.uimg_blob.specs.Extents.{blocks_of}
+use Rattle.uimg_blob.specs.Tokens.{Token, Property, begin_node, end_node, prop, nop, last, stray, token_at}
 
 -- the most bytes that are asked for to read a token: its word, and 256 of a name, and a property's length and name offset
 abbrev pub cost : Token → ℕ
@@ -71,3 +77,26 @@ IsSound (BadProp fault) = refuses_memory fault ≡ false
 IsSound Nop = ⊤
 IsSound End = ⊤
 IsSound (Stray fault) = refuses_memory fault ≡ false
+
+-- At most so many bytes were asked for, and what an honest device answers is so of its bytes.
+pub record Answers {X : Type 0} (most : ℕ) (result : Result X SourceFault) (P : List ℕ → X → Type 0) (d e : Device) : Type 0 where
+  pub uses : Asks most (is_err result) d e
+  pub told : IsTrue d.honest → IfOk result (P d.bytes)
+
+-- At most so many bytes were asked for, and the room stays. What was read stands below an end, whatever the source said; of an
+-- honest device it is what the token is read as.
+pub record ReadsToken (most : ℕ) (token : List ℕ → Token) (end at : ℕ) (result : Result ReadToken SourceFault) (d e : Device) (h k : Held) : Type 0 where
+  pub uses : Asks most (is_err result) d e
+  pub room : k ≡ h
+  pub read : IsTrue d.honest → IfOk result (λ found. IsReadAs at (token d.bytes) found)
+  pub sound : IfOk result (λ found. IsSound found)
+  pub stands : IfOk result (λ found. Stands end at found)
+
+-- The same of the token at a place of the blocks, for which an honest device is asked for at most its cost.
+pub record ReadsTokenAt (x : Extent) (at : ℕ) (result : Result ReadToken SourceFault) (d e : Device) (h k : Held) : Type 0 where
+  pub uses : UsesAtMost (cost (token_at (blocks_of d.bytes x) at)) (is_err result) d e
+  pub most : e.asked ≤ d.asked + 268
+  pub room : k ≡ h
+  pub read : IsTrue d.honest → IfOk result (λ found. IsReadAs at (token_at (blocks_of d.bytes x) at) found)
+  pub sound : IfOk result (λ found. IsSound found)
+  pub stands : IfOk result (λ found. Stands x.structure_end at found)

@@ -1,5 +1,19 @@
--- What a short text is read as.
-use Rattle.std.specs.Prelude.{◌≡◌, ◌<◌, ℕ, List, length, take, Option, Some, None}
+-- What is written of a text, and what a short one is read as.
+use Rattle.std.specs.Prelude.{◌≡◌, ◌<◌, ℕ, List, length, take, Option, Some, None, Result, is_err, IsTrue}
+use Rattle.uimg_texts.specs.Nul.{text}
+use Rattle.uimg_texts.specs.Slices.{slice}
+use Rattle.uimg_base.specs.declared.ranges.MoveFault.{MoveFault}
+use Rattle.uimg_base.specs.Device.{Device, RisesIf}
+use Rattle.uimg_base.specs.Sink.{Sink}
+use Rattle.uimg_base.specs.Using.{Asks}
+use Rattle.uimg_base.specs.Writing.{Written}
+use Rattle.uimg_base.specs.Ranges.{is_read, is_put}
+
+-- The text that some bytes begin with was written, no more than these bytes were asked for, and each fault was counted.
+pub record PutsText {X : Type 0} (at count : ℕ) (result : Result X MoveFault) (d e : Device) (s t : Sink) : Type 0 where
+  pub uses : Asks count (is_read result) d e
+  pub faults : RisesIf (is_put result) s.faults t.faults
+  pub told : IsTrue d.honest → Written (is_err result) s t (text (slice d.bytes at count))
 
 -- The text has at most 31 bytes and begins the list; or it is longer.
 abbrev pub GivesShort : List ℕ → Option ℕ → List ℕ → Type 0

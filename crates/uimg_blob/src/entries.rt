@@ -1,14 +1,8 @@
-ghost use Rattle.std.specs.Prelude.{◌≡◌, ◌+◌, ◌-◌, ◌^◌, ◌<◌, ◌*◌, ℕ, max, min, [], ◌∷◌, ◌++◌, List, length, OnOk, IfSome, is_ok, is_err, if◌then◌else◌};
-ghost use Rattle.std.specs.Bool.{OnFalse};
-ghost use Rattle.uimg_base.specs.Held.{SameSize, AddsOne};
-ghost use Rattle.std.specs.List.{AllByRecursion};
-ghost use Rattle.uimg_blob.specs.Tokens.{Property};
-ghost use Rattle.uimg_blob.specs.Keys.{name_of};
-ghost use Rattle.uimg_blob.specs.Grammar.{none};
-ghost use Rattle.uimg_blob.specs.Roles.{role_at};
-ghost use Rattle.uimg_blob.specs.Walk.{Open, opened, close, as_node};
-ghost use Rattle.uimg_blob.specs.Kept.{span_word, number_word, role_word, entries};
-ghost use Rattle.uimg_blob.specs.SoFar.{count, innermost, next_level, entries_so_far};
+//! The entry of a node: its words, and how a pass adds, ends and fills it.
+
+ghost use Rattle.std.specs.Prelude.{◌≡◌, ◌+◌, ◌^◌, ◌<◌, length, IfSome, is_ok, is_err};
+ghost use Rattle.uimg_blob.specs.Kept.{span_word, number_word, role_word};
+ghost use Rattle.uimg_blob.specs.Entering.{Enters, Keeps, begun_entry, ended_entries};
 
 use crate::keys::Key;
 use crate::roles::Role;
@@ -61,6 +55,32 @@ fn role_word(role: Role) -> u64
     }
 }
 
+// The number that a word stands for.
+pub(crate) fn number_in(word: u64) -> Option<usize>
+    ensures { word ≡ number_word result }
+{
+    if word == 0 {
+        None
+    } else {
+        Some((word - 1) as usize)
+    }
+}
+
+// The role that a word stands for.
+pub(crate) fn role_in(word: u64) -> Role
+    ensures { (role : Role) → word ≡ role_word role → result ≡ role }
+{
+    match word {
+        0 => Role::Root,
+        1 => Role::Images,
+        2 => Role::Image,
+        3 => Role::Hash,
+        4 => Role::Configurations,
+        5 => Role::Configuration,
+        _ => Role::Other,
+    }
+}
+
 // Adds the entry of a node that begins at a place inside its parent.
 pub(crate) fn enter<A: Allocator>(
     room: &mut Room<A>,
@@ -71,11 +91,8 @@ pub(crate) fn enter<A: Allocator>(
 ) -> Result<(), AllocError>
     requires place { at + 4 < 2 ^ 32 }
     requires parent { IfSome parent (λ i. i < 2 ^ 63) }
-    ensures entered { (ls : List Open) (name : List ℕ) → room.old.entries ≡ entries_so_far ls →
-        parent ≡ innermost ls → role ≡ role_at (next_level ls) name → name_length ≡ length name →
-        OnOk result (room.new.entries ≡ entries_so_far (opened at name [] none ∷ ls)) }
-    ensures stay { OnFalse (is_ok result) (room.new.entries ≡ room.old.entries) }
-    ensures size { AddsOne (is_ok result) (is_err result) room.old room.new }
+    ensures { Enters (is_ok result) (is_err result) (begun_entry at name_length parent role)
+        room.old room.new }
 {
     let mut entry = [0; 16];
     entry[NAME] = span_word(at + 4, name_length);
@@ -87,42 +104,33 @@ pub(crate) fn enter<A: Allocator>(
 // Ends the node of a number: all entries after it are of nodes below it.
 pub(crate) fn leave<A: Allocator>(room: &mut Room<A>, number: usize)
     requires { number < length room.old.entries }
-    ensures inner { (o parent : Open) (ls : List Open) →
-        room.old.entries ≡ entries_so_far (o ∷ parent ∷ ls) →
-        number ≡ count (parent ∷ ls) → room.new.entries ≡ entries_so_far (close o parent ∷ ls) }
-    ensures root { (o : Open) → room.old.entries ≡ entries_so_far (o ∷ []) → number ≡ 0 →
-        room.new.entries ≡ entries (as_node o) }
-    ensures size { SameSize room.old room.new }
+    ensures { room.new ≡ record room.old { entries = ended_entries number room.old.entries } }
 {
     let mut entry = room.entry(number);
     entry[END] = room.count() as u64;
     room.set(number, entry);
 }
 
-// Keeps where the value of a property of the innermost node stands, unless its role keeps none of
-// that key or it has a property of that name.
+// Keeps where the value of a property of the innermost node stands, unless the property has no key,
+// the node's role keeps none of that key, or it has a property of that name.
 pub(crate) fn keep<A: Allocator>(
     room: &mut Room<A>,
     number: usize,
-    role: Role,
-    key: Key,
+    key: Option<Key>,
     place: u64,
     value_length: u32,
 )
     requires number { number < length room.old.entries }
     requires place { place < 2 ^ 32 }
-    ensures kept { (at : ℕ) (name : List ℕ) (own : List Property) (p : Property) (ls : List Open) →
-        room.old.entries ≡ entries_so_far (opened at name own none ∷ ls) → number ≡ count ls →
-        role ≡ role_at (next_level ls) name → name_of key ≡ p.name → place ≡ p.place →
-        value_length ≡ length p.value →
-        AllByRecursion (λ q. 0 < q.place) own →
-        room.new.entries ≡ entries_so_far (opened at name (own ++ p ∷ []) none ∷ ls) }
-    ensures size { SameSize room.old room.new }
+    ensures { Keeps key place value_length number room.old room.new }
 {
-    let Some(i) = slot_of(role, key) else {
+    let Some(key) = key else {
         return;
     };
     let mut entry = room.entry(number);
+    let Some(i) = slot_of(role_in(entry[ROLE]), key) else {
+        return;
+    };
     if entry[i + VALUES] == 0 {
         entry[i + VALUES] = span_word(place, value_length);
         room.set(number, entry);

@@ -1,6 +1,7 @@
+//! The header of a blob: where its blocks lie.
+
 ghost use Rattle.std.specs.Prelude.{◌≡◌, ℕ, ◌+◌, ◌≤◌, List, length, false, IsTrue, IfOk};
-ghost use Rattle.uimg_texts.specs.Slices.{slice};
-ghost use Rattle.uimg_blob.specs.Extents.{IsInside, GivesBlocks};
+ghost use Rattle.uimg_blob.specs.Extents.{IsInside, HeadsFile, GivesBlocks};
 ghost use Rattle.uimg_blob.specs.Faults.{is_read, is_out_of_memory};
 ghost use Rattle.uimg_base.specs.Using.{Asks};
 
@@ -28,11 +29,12 @@ pub(crate) struct Extent {
 }
 
 // Where the blocks lie by the 40 bytes of the header, in a file of so many bytes.
+#[tactic(auto, unfolding(crate::specs::Blob::blocks))]
 fn extent_in(bytes: &[u8; 40], size: u64) -> Result<Extent, IndexFault>
     requires { 40 ≤ size }
     ensures no_read { is_read result ≡ false }
     ensures no_memory { is_out_of_memory result ≡ false }
-    ensures gives { (file : List ℕ) → bytes.now ≡ slice file 0 40 → size ≡ length file →
+    ensures gives { (file : List ℕ) → HeadsFile bytes.now file → size ≡ length file →
         GivesBlocks file result }
     ensures inside { IfOk result (λ extent. IsInside extent size) }
 {
@@ -73,7 +75,7 @@ fn extent_in(bytes: &[u8; 40], size: u64) -> Result<Extent, IndexFault>
 // `BadMagic` where they do not begin with `0xd00dfeed`, `BadVersion` for a version below 17 or a last
 // compatible version above 17, `BlockOutside` where the blob lies outside the source, a block
 // outside the blob, or the structure block not at a multiple of 4. `Read` where a read failed.
-#[tactic(auto, unfolding(crate::specs::Blob::blocks))]
+#[tactic(auto, unfolding(crate::specs::Blob::blocks), using(crate::proofs::NumberLaws::heads))]
 pub(crate) fn read_extent<S: Source>(source: &mut S) -> Result<Extent, IndexFault>
     ensures uses { Asks 40 (is_read result) (S.device source.old) (S.device source.new) }
     ensures no_memory { is_out_of_memory result ≡ false }

@@ -1,3 +1,5 @@
+//! What is refused, and why.
+
 use thiserror::Error;
 use uimg_base::SourceFault;
 

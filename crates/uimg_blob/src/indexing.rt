@@ -1,17 +1,14 @@
-ghost use Rattle.std.specs.Prelude.{◌≡◌, ℕ, List, [], ◌+◌, ◌*◌, ◌-◌, ◌^◌, ◌<◌, ◌≤◌, max, length, Ok, IfSome, IfOk, IsTrue};
+//! The pass over the tokens that gives each node an entry.
+
+ghost use Rattle.std.specs.Prelude.{◌≡◌, [], ◌+◌, ◌*◌, ◌^◌, ◌<◌, ◌≤◌, max, length, IfOk, IsTrue};
 ghost use Rattle.uimg_base.specs.Device.{RisesIf};
-ghost use Rattle.uimg_base.specs.Held.{held_bytes, Grows};
-ghost use Rattle.uimg_blob.specs.Extents.{IsInside, blocks_of};
-ghost use Rattle.uimg_blob.specs.Faults.{is_read, is_out_of_memory};
-ghost use Rattle.uimg_blob.specs.Tokens.{token_at, tokens};
-ghost use Rattle.uimg_blob.specs.Walk.{begun};
-ghost use Rattle.uimg_blob.specs.ReadTokens.{cost};
+ghost use Rattle.uimg_base.specs.Using.{Uses};
 ghost use Rattle.uimg_texts.specs.Numbers.{be32};
-ghost use Rattle.uimg_blob.specs.Blob.{tree, blocks};
 ghost use Rattle.uimg_blob.specs.Counts.{index_cost, nodes_met};
-ghost use Rattle.uimg_blob.specs.Passes.{Phase, Holds, Steps, Indexes, Passed, Within, IsPrefix, tokens_in};
-ghost use Rattle.uimg_blob.specs.Indexed.{Finds};
-ghost use Rattle.uimg_base.specs.Using.{Uses, UsesAtMost};
+ghost use Rattle.uimg_blob.specs.Extents.{IsInside};
+ghost use Rattle.uimg_blob.specs.Faults.{is_read, is_out_of_memory};
+ghost use Rattle.uimg_blob.specs.Indexed.{Finds, AsksWithin, KeepsWithin, TakesWithin, IndexesTree, LeavesPrefix};
+ghost use Rattle.uimg_blob.specs.Acting.{Suits, TakesStep, GoesOver};
 
 use crate::extent::{Extent, read_extent};
 use crate::fault::IndexFault;
@@ -30,17 +27,9 @@ fn step<S: Source, A: Allocator>(
 ) -> Result<Option<State>, IndexFault>
     requires inside { IsInside extent (length (S.device source.old).bytes) }
     requires place { state.at < 2 ^ 40 }
-    requires current { IfSome state.current (λ i. i < length room.old.entries) }
-    requires few { 8 * length room.old.entries ≤ state.at }
-    ensures uses { UsesAtMost (cost (token_at (blocks_of (S.device source.old).bytes extent)
-        state.at))
-        (is_read result) (S.device source.old) (S.device source.new) }
-    ensures size { Grows (is_out_of_memory result) room.old room.new }
-    ensures steps { (p : Phase) → Holds p state room.old.entries →
-        Steps (S.device source.old).honest (blocks_of (S.device source.old).bytes extent) p state.at
-        result room.old.entries room.new.entries }
-    ensures ahead { IfOk result (λ r. IfSome r
-        (λ s. (state.at + 4 ≤ s.at) × (s.at < extent.structure_end + 4))) }
+    requires suits { Suits state room.old.entries }
+    ensures { TakesStep extent state result (S.device source.old) (S.device source.new)
+        room.old room.new }
 {
     let token = read_token(source, room, extent, state.at)?;
     if is_done(room, state, token) {
@@ -58,20 +47,7 @@ fn pass<S: Source, A: Allocator>(
 ) -> Result<State, IndexFault>
     requires inside { IsInside extent (length (S.device source.old).bytes) }
     requires empty { room.old.entries ≡ [] }
-    ensures uses { Uses (is_read result) (S.device source.old) (S.device source.new) }
-    ensures size { Grows (is_out_of_memory result) room.old room.new }
-    ensures few { 8 * length room.new.entries ≤ extent.structure_end + 4 }
-    ensures within { IsTrue (S.device source.old).honest →
-        Within (blocks_of (S.device source.old).bytes extent)
-        (begun (tokens (blocks_of (S.device source.old).bytes extent)))
-        (S.device source.old).asked (S.device source.new).asked room.new.entries }
-    ensures prefix { IsTrue (S.device source.old).honest →
-        IsPrefix (tokens (blocks_of (S.device source.old).bytes extent)) result room.new.entries }
-    ensures passed { IfOk result (λ s. Passed (S.device source.old).honest
-        (blocks_of (S.device source.old).bytes extent) s room.new.entries) }
-    ensures indexes { IsTrue (S.device source.old).honest →
-        Indexes (begun (tokens (blocks_of (S.device source.old).bytes extent))) result
-        room.new.entries }
+    ensures { GoesOver extent result (S.device source.old) (S.device source.new) room.old room.new }
 {
     let mut state = State {
         at: extent.structure,
@@ -101,20 +77,14 @@ pub fn index<S: Source, A: Allocator>(
 ) -> Result<Blob, IndexFault>
     ensures uses { Uses (is_read result) (S.device source.old) (S.device source.new) }
     ensures refused { RisesIf (is_out_of_memory result) room.old.refused room.new.refused }
-    ensures asked { IsTrue (S.device source.old).honest →
-        (S.device source.new).asked
-        ≤ (S.device source.old).asked + index_cost (S.device source.old).bytes }
-    ensures nodes { IsTrue (S.device source.old).honest →
-        length room.new.entries ≤ nodes_met (S.device source.old).bytes }
-    ensures peak { IsTrue (S.device source.old).honest →
-        room.new.peak ≤ max room.old.peak (held_bytes (nodes_met (S.device source.old).bytes)) }
+    ensures asked { AsksWithin index_cost (S.device source.old) (S.device source.new) }
+    ensures nodes { KeepsWithin nodes_met (S.device source.old) room.new }
+    ensures peak { TakesWithin nodes_met (S.device source.old) room.old room.new }
     ensures most { room.new.peak ≤ max room.old.peak
         (8320 + 16 * length (S.device source.old).bytes) }
-    ensures prefix { IsTrue (S.device source.old).honest →
-        IsPrefix (tokens_in (blocks (S.device source.old).bytes)) result room.new.entries }
+    ensures prefix { LeavesPrefix (S.device source.old) result room.new.entries }
     ensures found { IfOk result (λ blob. Finds (S.device source.old) blob room.new.entries) }
-    ensures indexes { IsTrue (S.device source.old).honest →
-        Indexes (tree (S.device source.old).bytes) result room.new.entries }
+    ensures indexes { IndexesTree (S.device source.old) result room.new.entries }
     ensures totalsize { IsTrue (S.device source.old).honest →
         IfOk result (λ blob. blob.totalsize ≡ be32 (S.device source.old).bytes 4) }
 {

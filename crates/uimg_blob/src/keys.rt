@@ -1,3 +1,5 @@
+//! The properties that FIT gives a meaning, and their names.
+
 ghost use Rattle.std.specs.Prelude.{◌≡◌, map};
 ghost use Rattle.uimg_blob.specs.Keys.{key_of_name, key_row_of, key_named};
 

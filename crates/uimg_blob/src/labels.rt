@@ -1,3 +1,5 @@
+//! What a node's name says of its role.
+
 ghost use Rattle.std.specs.Prelude.{◌≡◌};
 ghost use Rattle.uimg_blob.specs.Labels.{label_of};
 

@@ -1,18 +1,17 @@
+//! The indexed blob, and what is looked up in it.
+
 ghost use Rattle.std.specs.Prelude.{◌≡◌, ℕ, ◌+◌, ◌*◌, ◌^◌, ◌<◌, ◌≤◌, List, length, Option, IfSome};
 ghost use Rattle.std.specs.List.{slice_get};
 ghost use Rattle.std.specs.Option.{option_map};
 ghost use Rattle.uimg_blob.specs.Tokens.{Property};
-ghost use Rattle.uimg_blob.specs.Grammar.{Siblings};
 ghost use Rattle.uimg_blob.specs.Roles.{is_hash_role};
-ghost use Rattle.uimg_blob.specs.Rows.{Row};
 ghost use Rattle.uimg_blob.specs.Kept.{span_word, value_word, entry_under};
-ghost use Rattle.uimg_blob.specs.Indexed.{IsIndexed, IsRow, name_span, property_span, value_span, value_of};
+ghost use Rattle.uimg_blob.specs.Indexed.{OfRow, WhereIndexed, name_span, property_span, value_span, value_of};
 
-use crate::entries::{END, NAME, PARENT, ROLE, VALUES};
+use crate::entries::{END, NAME, PARENT, ROLE, VALUES, role_in};
 use crate::keys::Key;
 use crate::roles::Role;
 use crate::slots::slot_of;
-use crate::states::role_in;
 use crate::texts::Span;
 use std::alloc::Allocator;
 use uimg_base::Room;
@@ -86,8 +85,7 @@ impl Blob {
     /// The number of a node's first child.
     pub fn first_child<A: Allocator>(&self, room: &Room<A>, node: usize) -> Option<usize>
         requires { node < length room.now.entries }
-        ensures child { (row : Row) → IsRow self.now room.now.entries node row →
-            result ≡ row.first_child }
+        ensures child { OfRow self.now room.now.entries node (λ row. result ≡ row.first_child) }
         ensures later { IfSome result (λ i. (node < i) × (i < length room.now.entries)) }
     {
         if node == room.count() - 1 {
@@ -99,10 +97,9 @@ impl Blob {
     /// The number of the next node that has the same parent.
     pub fn next_sibling<A: Allocator>(&self, room: &Room<A>, node: usize) -> Option<usize>
         requires { node < length room.now.entries }
-        ensures sibling { (row : Row) → IsRow self.now room.now.entries node row →
-            result ≡ row.next_sibling }
-        ensures later { (t : Siblings) → IsIndexed t self.now room.now.entries →
-            IfSome result (λ i. (node < i) × (i < length room.now.entries)) }
+        ensures sibling { OfRow self.now room.now.entries node (λ row. result ≡ row.next_sibling) }
+        ensures later { WhereIndexed self.now room.now.entries
+            (IfSome result (λ i. (node < i) × (i < length room.now.entries))) }
     {
         let entry = room.entry(node);
         node_under(room, entry[END] as usize, entry[PARENT])
@@ -111,8 +108,7 @@ impl Blob {
     /// Whether a node is a hash node: a child of an image, whose name begins with `hash`.
     pub fn is_hash<A: Allocator>(&self, room: &Room<A>, node: usize) -> bool
         requires { node < length room.now.entries }
-        ensures { (row : Row) → IsRow self.now room.now.entries node row →
-            result ≡ is_hash_role row.role }
+        ensures { OfRow self.now room.now.entries node (λ row. result ≡ is_hash_role row.role) }
     {
         match role_in(room.entry(node)[ROLE]) {
             Role::Hash => true,
@@ -123,10 +119,9 @@ impl Blob {
     /// Where a node's name stands, without its NUL.
     pub fn name<A: Allocator>(&self, room: &Room<A>, node: usize) -> Span
         requires { node < length room.now.entries }
-        ensures name { (row : Row) → IsRow self.now room.now.entries node row →
-            result ≡ name_span row }
-        ensures inside { (t : Siblings) → IsIndexed t self.now room.now.entries →
-            result.place + result.length ≤ self.now.totalsize }
+        ensures name { OfRow self.now room.now.entries node (λ row. result ≡ name_span row) }
+        ensures inside { WhereIndexed self.now room.now.entries
+            (result.place + result.length ≤ self.now.totalsize) }
     {
         span_in(room.entry(node)[NAME])
     }
@@ -139,10 +134,10 @@ impl Blob {
     /// `Fdt` and `Loadables`.
     pub fn value<A: Allocator>(&self, room: &Room<A>, node: usize, key: Key) -> Option<Span>
         requires { node < length room.now.entries }
-        ensures value { (row : Row) → IsRow self.now room.now.entries node row →
-            result ≡ option_map value_span (value_of row key) }
-        ensures inside { (t : Siblings) → IsIndexed t self.now room.now.entries →
-            IfSome result (λ s. s.place + s.length ≤ self.now.totalsize) }
+        ensures value { OfRow self.now room.now.entries node
+            (λ row. result ≡ option_map value_span (value_of row key)) }
+        ensures inside { WhereIndexed self.now room.now.entries
+            (IfSome result (λ s. s.place + s.length ≤ self.now.totalsize)) }
     {
         let entry = room.entry(node);
         let i = slot_of(role_in(entry[ROLE]), key)?;

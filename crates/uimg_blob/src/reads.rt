@@ -1,7 +1,9 @@
-ghost use Rattle.std.specs.Prelude.{◌≡◌, ◌+◌, ◌≤◌, length, take, is_err, IsTrue, IfOk};
+//! The words and names of the structure block, read from a source.
+
+ghost use Rattle.std.specs.Prelude.{◌≡◌, ◌+◌, ◌≤◌, length, take, IfOk};
 ghost use Rattle.uimg_texts.specs.Numbers.{be32};
 ghost use Rattle.uimg_blob.specs.Tokens.{reach};
-ghost use Rattle.uimg_base.specs.Using.{Asks};
+ghost use Rattle.uimg_blob.specs.ReadTokens.{Answers};
 
 use uimg_base::{Source, SourceFault, WINDOW, number_at};
 
@@ -9,9 +11,8 @@ use uimg_base::{Source, SourceFault, WINDOW, number_at};
 #[tactic(auto, unfolding(uimg_texts::specs::Numbers::be32))]
 pub(crate) fn read_word<S: Source>(source: &mut S, at: u64) -> Result<u32, SourceFault>
     requires { at + 4 ≤ length (S.device source.old).bytes }
-    ensures uses { Asks 4 (is_err result) (S.device source.old) (S.device source.new) }
-    ensures word { IsTrue (S.device source.old).honest →
-        IfOk result (λ n. n ≡ be32 (S.device source.old).bytes at) }
+    ensures { Answers 4 result (λ bytes n. n ≡ be32 bytes at)
+        (S.device source.old) (S.device source.new) }
 {
     let mut bytes = [0; 4];
     source.fill_at(at, &mut bytes)?;
@@ -21,11 +22,8 @@ pub(crate) fn read_word<S: Source>(source: &mut S, at: u64) -> Result<u32, Sourc
 // The two numbers of the eight bytes at a place of the source.
 pub(crate) fn read_pair<S: Source>(source: &mut S, at: u64) -> Result<(u32, u32), SourceFault>
     requires { at + 8 ≤ length (S.device source.old).bytes }
-    ensures uses { Asks 8 (is_err result) (S.device source.old) (S.device source.new) }
-    ensures first { IsTrue (S.device source.old).honest →
-        IfOk result (λ pair. pair.0 ≡ be32 (S.device source.old).bytes at) }
-    ensures second { IsTrue (S.device source.old).honest →
-        IfOk result (λ pair. pair.1 ≡ be32 (S.device source.old).bytes (at + 4)) }
+    ensures { Answers 8 result (λ bytes n. (n.0 ≡ be32 bytes at) × (n.1 ≡ be32 bytes (at + 4)))
+        (S.device source.old) (S.device source.new) }
 {
     let mut bytes = [0; 8];
     source.fill_at(at, &mut bytes)?;
@@ -41,10 +39,9 @@ pub(crate) fn read_near<S: Source>(
 ) -> Result<usize, SourceFault>
     requires ordered { at ≤ end }
     requires within { end ≤ length (S.device source.old).bytes }
-    ensures uses { Asks 256 (is_err result) (S.device source.old) (S.device source.new) }
+    ensures near { Answers 256 result (λ bytes n. take n window.new ≡ reach bytes at end)
+        (S.device source.old) (S.device source.new) }
     ensures bound { IfOk result (λ n. (n ≤ 256) × (at + n ≤ end)) }
-    ensures near { IsTrue (S.device source.old).honest → IfOk result (λ n.
-        take n window.new ≡ reach (S.device source.old).bytes at end) }
 {
     let length = u64::min(256, end - at) as usize;
     source.fill_at(at, &mut window[..length])?;

@@ -1,3 +1,5 @@
+//! The roles of nodes: what FIT makes of each.
+
 /// What a node is, by its place in the tree.
 #[derive(Clone, Copy, Debug, PartialEq, Eq)]
 pub(crate) enum Role {

@@ -1,15 +1,13 @@
-ghost use Rattle.std.specs.Prelude.{◌≡◌, ◌<◌, IfSome};
-ghost use Rattle.uimg_blob.specs.Keys.{name_of};
-ghost use Rattle.uimg_blob.specs.Roles.{keys_of};
-ghost use Rattle.uimg_blob.specs.Kept.{slot};
+//! Which values are kept of a node, and where in its entry.
+
+ghost use Rattle.uimg_blob.specs.Kept.{IsSlot};
 
 use crate::keys::Key;
 use crate::roles::Role;
 
 // Where a key's value stands among those that are kept of a role.
 pub(crate) fn slot_of(role: Role, key: Key) -> Option<usize>
-    ensures within { IfSome result (λ i. i < 11) }
-    ensures slot { result ≡ slot (name_of key) (keys_of role) }
+    ensures { IsSlot role key result }
 {
     match role {
         Role::Root => root_slot(key),
@@ -22,8 +20,7 @@ pub(crate) fn slot_of(role: Role, key: Key) -> Option<usize>
 }
 
 fn root_slot(key: Key) -> Option<usize>
-    ensures within { IfSome result (λ i. i < 11) }
-    ensures slot { result ≡ slot (name_of key) (keys_of Role.Root) }
+    ensures { IsSlot Role.Root key result }
 {
     match key {
         Key::Description => Some(0),
@@ -33,8 +30,7 @@ fn root_slot(key: Key) -> Option<usize>
 }
 
 fn image_slot(key: Key) -> Option<usize>
-    ensures within { IfSome result (λ i. i < 11) }
-    ensures slot { result ≡ slot (name_of key) (keys_of Role.Image) }
+    ensures { IsSlot Role.Image key result }
 {
     match key {
         Key::Description => Some(0),
@@ -53,8 +49,7 @@ fn image_slot(key: Key) -> Option<usize>
 }
 
 fn hash_slot(key: Key) -> Option<usize>
-    ensures within { IfSome result (λ i. i < 11) }
-    ensures slot { result ≡ slot (name_of key) (keys_of Role.Hash) }
+    ensures { IsSlot Role.Hash key result }
 {
     match key {
         Key::Algo => Some(0),
@@ -64,8 +59,7 @@ fn hash_slot(key: Key) -> Option<usize>
 }
 
 fn configurations_slot(key: Key) -> Option<usize>
-    ensures within { IfSome result (λ i. i < 11) }
-    ensures slot { result ≡ slot (name_of key) (keys_of Role.Configurations) }
+    ensures { IsSlot Role.Configurations key result }
 {
     match key {
         Key::Default => Some(0),
@@ -74,8 +68,7 @@ fn configurations_slot(key: Key) -> Option<usize>
 }
 
 fn configuration_slot(key: Key) -> Option<usize>
-    ensures within { IfSome result (λ i. i < 11) }
-    ensures slot { result ≡ slot (name_of key) (keys_of Role.Configuration) }
+    ensures { IsSlot Role.Configuration key result }
 {
     match key {
         Key::Description => Some(0),

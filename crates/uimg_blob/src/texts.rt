@@ -1,3 +1,5 @@
+//! The texts of values, written or read from where they stand.
+
 ghost use Rattle.std.specs.Prelude.{◌≡◌, ◌+◌, ◌<◌, ◌≤◌, length, is_err, nat_lt, Some, None, IsTrue, IfOk, IfSome, if◌then◌else◌};
 ghost use Rattle.std.specs.Option.{is_some};
 ghost use Rattle.uimg_texts.specs.Nul.{before_nul, text};
@@ -6,7 +8,7 @@ ghost use Rattle.uimg_base.specs.Device.{RisesIf};
 ghost use Rattle.uimg_base.specs.Ranges.{is_read, is_put};
 ghost use Rattle.uimg_base.specs.Using.{Asks};
 ghost use Rattle.uimg_base.specs.Writing.{Written};
-ghost use Rattle.uimg_blob.specs.Texts.{GivesShort};
+ghost use Rattle.uimg_blob.specs.Texts.{PutsText, GivesShort};
 
 use std::alloc::Allocator;
 use std::io::Write;
@@ -31,10 +33,8 @@ fn put_window<S: Source, W: Write>(
 ) -> Result<bool, MoveFault>
     requires range { at + len ≤ length (S.device source.old).bytes }
     requires window { len ≤ 8192 }
-    ensures uses { Asks len (is_read result) (S.device source.old) (S.device source.new) }
-    ensures faults { RisesIf (is_put result) out.old.faults out.new.faults }
-    ensures told { IsTrue (S.device source.old).honest →
-        Written (is_err result) out.old out.new (text (slice (S.device source.old).bytes at len)) }
+    ensures put { PutsText at len result (S.device source.old) (S.device source.new)
+        out.old out.new }
     ensures ended { IsTrue (S.device source.old).honest → IfOk result (λ ended.
         ended ≡ is_some (before_nul (slice (S.device source.old).bytes at len))) }
 {
@@ -57,10 +57,8 @@ fn put_through<S: Source, W: Write>(
     out: &mut Out<W>,
 ) -> Result<(), MoveFault>
     requires { span.place + span.length ≤ length (S.device source.old).bytes }
-    ensures uses { Asks span.length (is_read result) (S.device source.old) (S.device source.new) }
-    ensures faults { RisesIf (is_put result) out.old.faults out.new.faults }
-    ensures told { IsTrue (S.device source.old).honest → Written (is_err result) out.old out.new
-        (text (slice (S.device source.old).bytes span.place span.length)) }
+    ensures { PutsText span.place span.length result (S.device source.old) (S.device source.new)
+        out.old out.new }
 {
     let mut done = 0;
     while done < span.length {

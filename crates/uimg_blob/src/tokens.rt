@@ -1,11 +1,12 @@
-ghost use Rattle.std.specs.Prelude.{◌≡◌, ℕ, ◌+◌, ◌^◌, ◌<◌, ◌≤◌, length, is_err, IsTrue, IfOk};
+//! The tokens of the structure block, as they are read.
+
+ghost use Rattle.std.specs.Prelude.{◌≡◌, ℕ, ◌+◌, ◌^◌, ◌<◌, ◌≤◌, length};
 ghost use Rattle.std.specs.Option.{option_map};
+ghost use Rattle.uimg_texts.specs.Nul.{before_nul};
 ghost use Rattle.uimg_blob.specs.Extents.{IsInside, blocks_of};
 ghost use Rattle.uimg_blob.specs.Keys.{key_named};
-ghost use Rattle.uimg_blob.specs.Tokens.{reach, begins, property, prop, token_at};
-ghost use Rattle.uimg_texts.specs.Nul.{before_nul};
-ghost use Rattle.uimg_blob.specs.ReadTokens.{cost, IsReadAs, Stands, IsSound};
-ghost use Rattle.uimg_base.specs.Using.{UsesAtMost, Asks};
+ghost use Rattle.uimg_blob.specs.Tokens.{reach, begins, property, prop};
+ghost use Rattle.uimg_blob.specs.ReadTokens.{IsReadAs, IsSound, Stands, Answers, ReadsToken, ReadsTokenAt};
 
 use crate::extent::Extent;
 use crate::fault::BlobFault;
@@ -77,17 +78,13 @@ fn key_in(near: &[u8]) -> Option<Option<Key>>
 fn read_begin_node<S: Source, A: Allocator>(
     source: &mut S,
     room: &mut Room<A>,
-    end: u64,
     at: u64,
+    end: u64,
 ) -> Result<ReadToken, SourceFault>
     requires ordered { at + 4 ≤ end }
     requires within { end ≤ length (S.device source.old).bytes }
-    ensures uses { Asks 256 (is_err result) (S.device source.old) (S.device source.new) }
-    ensures room { room.new ≡ room.old }
-    ensures read { IsTrue (S.device source.old).honest → IfOk result (λ token.
-        IsReadAs at (begins at (reach (S.device source.old).bytes (at + 4) end)) token) }
-    ensures sound { IfOk result (λ token. IsSound token) }
-    ensures stands { IfOk result (λ token. Stands end at token) }
+    ensures { ReadsToken 256 (λ bytes. begins at (reach bytes (at + 4) end)) end at result
+        (S.device source.old) (S.device source.new) room.old room.new }
 {
     let window = room.window();
     let length = read_near(source, window, at + 4, end)?;
@@ -103,10 +100,10 @@ fn read_key<S: Source, A: Allocator>(
 ) -> Result<Option<Option<Key>>, SourceFault>
     requires ordered { at ≤ end }
     requires within { end ≤ length (S.device source.old).bytes }
-    ensures uses { Asks 256 (is_err result) (S.device source.old) (S.device source.new) }
+    ensures key { Answers 256 result
+        (λ bytes key. key ≡ option_map key_named (before_nul (reach bytes at end)))
+        (S.device source.old) (S.device source.new) }
     ensures room { room.new ≡ room.old }
-    ensures key { IsTrue (S.device source.old).honest → IfOk result (λ key.
-        key ≡ option_map key_named (before_nul (reach (S.device source.old).bytes at end))) }
 {
     let window = room.window();
     let length = read_near(source, window, at, end)?;
@@ -123,12 +120,9 @@ fn read_property<S: Source, A: Allocator>(
 ) -> Result<ReadToken, SourceFault>
     requires inside { IsInside extent (length (S.device source.old).bytes) }
     requires place { at < 2 ^ 40 }
-    ensures uses { Asks 264 (is_err result) (S.device source.old) (S.device source.new) }
-    ensures room { room.new ≡ room.old }
-    ensures read { IsTrue (S.device source.old).honest → IfOk result (λ token.
-        IsReadAs at (prop at (property (blocks_of (S.device source.old).bytes extent) at)) token) }
-    ensures sound { IfOk result (λ token. IsSound token) }
-    ensures stands { IfOk result (λ token. Stands extent.structure_end at token) }
+    ensures { ReadsToken 264 (λ bytes. prop at (property (blocks_of bytes extent) at))
+        extent.structure_end at result (S.device source.old) (S.device source.new)
+        room.old room.new }
 {
     if extent.structure_end < at + 12 {
         return Ok(ReadToken::BadProp(BlobFault::Truncated));
@@ -160,20 +154,14 @@ pub(crate) fn read_token<S: Source, A: Allocator>(
 ) -> Result<ReadToken, SourceFault>
     requires inside { IsInside extent (length (S.device source.old).bytes) }
     requires place { at < 2 ^ 40 }
-    ensures uses { UsesAtMost (cost (token_at (blocks_of (S.device source.old).bytes extent) at))
-        (is_err result) (S.device source.old) (S.device source.new) }
-    ensures room { room.new ≡ room.old }
-    ensures most { (S.device source.new).asked ≤ (S.device source.old).asked + 268 }
-    ensures read { IsTrue (S.device source.old).honest → IfOk result (λ token.
-        IsReadAs at (token_at (blocks_of (S.device source.old).bytes extent) at) token) }
-    ensures sound { IfOk result (λ token. IsSound token) }
-    ensures stands { IfOk result (λ token. Stands extent.structure_end at token) }
+    ensures { ReadsTokenAt extent at result (S.device source.old) (S.device source.new)
+        room.old room.new }
 {
     if extent.structure_end < at + 4 {
         return Ok(ReadToken::Stray(BlobFault::Truncated));
     }
     match read_word(source, at)? {
-        FDT_BEGIN_NODE => read_begin_node(source, room, extent.structure_end, at),
+        FDT_BEGIN_NODE => read_begin_node(source, room, at, extent.structure_end),
         FDT_END_NODE => Ok(ReadToken::EndNode),
         FDT_PROP => read_property(source, room, extent, at),
         FDT_NOP => Ok(ReadToken::Nop),

@@ -1,6 +1,5 @@
-use Rattle.std.proofs.Common.{◌∙◌, ap, subst, refl, Option, Ok, Err, Some, None, IfSome, length, ◌≤◌, ◌<◌, ◌+◌, arith}
-use Rattle.std.proofs.lemmas.Result.{err_from_is_err_and}
-use Rattle.uimg_blob.specs.declared.fault.IndexFault.{IndexFault}
+use Rattle.std.proofs.Common.{◌∙◌, ap, subst, refl, Option, Ok, Err, Some, None, IfSome, length, ◌≤◌, ◌<◌, ◌+◌, rules, arith}
+use Rattle.uimg_blob.proofs.KeyLaws.{passed_on}
 use Rattle.uimg_blob.specs.declared.states.State.{State}
 use Rattle.uimg_blob.specs.Extents.{blocks_of}
 use Rattle.uimg_blob.specs.Tokens.{tokens}
@@ -22,19 +21,10 @@ loop-next-init g c =
       pass = begins d.honest (blocks_of d.bytes c.args.extent) c.args.extent.structure d.asked c.args.room.now.entries c.requires.empty refl;
     }
 
-pub step-requires-clause-current : goal.step-requires-clause-current
-step-requires-clause-current g c =
-    holds_within c.loop-next.invariant.pass.phase c.loop-next.state c.loop-next.room.entries c.loop-next.invariant.pass.holds
-
-pub returns-in_err-next-clause-indexes : goal.returns-in_err-next-clause-indexes
-returns-in_err-next-clause-indexes g c = λ honest.
-    let d = g.S.Source.device c.args.source.now in
-    let b = blocks_of d.bytes c.args.extent in
+pub step-requires-clause-suits : goal.step-requires-clause-suits
+step-requires-clause-suits g c =
     let pass = c.loop-next.invariant.pass in
-    let r = err_from_is_err_and c.from_residual.result c.from_residual.ensures.1 in
-    ends_err d.honest b (begun (tokens b)) c.loop-next.state c.loop-next.room.entries c.step.new.room.entries c.in_err-next.field-0.0 c.from_residual.result d.asked (g.S.Source.device c.loop-next.source).asked pass
-    (r.1 ∙ ap (λ (e : IndexFault). Err e) r.2)
-    (steps_same d (g.S.Source.device c.loop-next.source) c.args.extent pass.phase c.loop-next.state.at (Err c.in_err-next.field-0.0) c.loop-next.room.entries c.step.new.room.entries c.loop-next.invariant.same (c.in_err-next.ensures.steps pass.phase pass.holds)) honest
+    record { current = holds_within pass.phase c.loop-next.state c.loop-next.room.entries pass.holds; few = pass.holds.few }
 
 pub loop-next-preserved : goal.loop-next-preserved
 loop-next-preserved g c =
@@ -50,8 +40,8 @@ loop-next-preserved g c =
     record {
       same = record { bytes = c.step.ensures.uses.same.bytes ∙ same.bytes; honest = c.step.ensures.uses.same.honest ∙ same.honest };
       failures = c.in_ok-next.ensures.uses.failures ∙ c.loop-next.invariant.failures;
-      refused = c.in_ok-next.ensures.size.refused ∙ c.loop-next.invariant.refused;
-      peak = omega (arith, c.step.ensures.size.peak, c.loop-next.invariant.peak, c.step.ensures.size.count);
+      refused = c.in_ok-next.ensures.room.refused ∙ c.loop-next.invariant.refused;
+      peak = omega (arith, c.step.ensures.room.peak, c.loop-next.invariant.peak, c.step.ensures.room.count);
       near = ahead.1;
       pass = goes_on d.honest b (begun (tokens b)) c.loop-next.state c.in-Some.next c.loop-next.room.entries c.step.new.room.entries d.asked e.asked (g.S.Source.device c.step.new.source).asked pass
           (steps_same d e c.args.extent pass.phase c.loop-next.state.at (Ok (Some c.in-Some.next)) c.loop-next.room.entries c.step.new.room.entries same steps)
@@ -59,75 +49,47 @@ loop-next-preserved g c =
           (paid_same d e c.args.extent c.loop-next.state.at (g.S.Source.device c.step.new.source).asked same c.step.ensures.uses.asked);
     }
 
-pub returns-clause-indexes : goal.returns-clause-indexes
-returns-clause-indexes g c = λ honest.
+pub returns-in_err-next : goal.returns-in_err-next
+returns-in_err-next g c =
     let d = g.S.Source.device c.args.source.now in
     let e = g.S.Source.device c.loop-next.source in
     let b = blocks_of d.bytes c.args.extent in
-    let pass = c.loop-next.invariant.pass in
-    let steps = subst (λ (o : Option State). Steps e.honest (blocks_of e.bytes c.args.extent) pass.phase c.loop-next.state.at (Ok o) c.loop-next.room.entries c.step.new.room.entries)
-    c.in_default.is (c.in_ok-next.ensures.steps pass.phase pass.holds) in
-    ends_ok d.honest b (begun (tokens b)) c.loop-next.state c.loop-next.room.entries c.step.new.room.entries c.loop-next.state d.asked e.asked pass
-    (steps_same d e c.args.extent pass.phase c.loop-next.state.at (Ok None) c.loop-next.room.entries c.step.new.room.entries c.loop-next.invariant.same steps) honest
+    let now = c.loop-next in
+    let new = c.step.new.room.entries in
+    let pass = now.invariant.pass in
+    let fault = c.in_err-next.field-0.0 in
+    let is = passed_on c.from_residual.result fault c.from_residual.ensures.1 in
+    let steps = steps_same d e c.args.extent pass.phase now.state.at (Err fault) now.room.entries new now.invariant.same (c.in_err-next.ensures.steps pass.phase pass.holds) in
+    let stay = stay_err d.honest b pass.phase now.state.at fault now.room.entries new steps in
+    record {
+      uses = search rules;
+      room = search rules;
+      few = omega (arith, pass.holds.few, now.invariant.near, ap length stay);
+      within = last_paid d.honest b (begun (tokens b)) now.state now.room.entries new d.asked e.asked (g.S.Source.device c.step.new.source).asked pass
+          (paid_same d e c.args.extent now.state.at (g.S.Source.device c.step.new.source).asked now.invariant.same c.step.ensures.uses.asked) stay;
+      prefix = prefix_err d.honest b (begun (tokens b)) now.state now.room.entries new fault c.from_residual.result d.asked e.asked pass is steps;
+      passed = search rules;
+      indexes = ends_err d.honest b (begun (tokens b)) now.state now.room.entries new fault c.from_residual.result d.asked e.asked pass is steps;
+    }
 
-pub returns-clause-passed : goal.returns-clause-passed
-returns-clause-passed g c =
+pub returns : goal.returns
+returns g c =
     let d = g.S.Source.device c.args.source.now in
     let e = g.S.Source.device c.loop-next.source in
     let b = blocks_of d.bytes c.args.extent in
-    let pass = c.loop-next.invariant.pass in
-    let steps = subst (λ (o : Option State). Steps e.honest (blocks_of e.bytes c.args.extent) pass.phase c.loop-next.state.at (Ok o) c.loop-next.room.entries c.step.new.room.entries)
-    c.in_default.is (c.in_ok-next.ensures.steps pass.phase pass.holds) in
-    ends_passed d.honest b c.loop-next.state c.loop-next.room.entries c.step.new.room.entries d.asked e.asked pass
-    (steps_same d e c.args.extent pass.phase c.loop-next.state.at (Ok None) c.loop-next.room.entries c.step.new.room.entries c.loop-next.invariant.same steps)
-
-pub returns-in_err-next-clause-within : goal.returns-in_err-next-clause-within
-returns-in_err-next-clause-within g c = λ honest.
-    let d = g.S.Source.device c.args.source.now in
-    let e = g.S.Source.device c.loop-next.source in
-    let b = blocks_of d.bytes c.args.extent in
-    let pass = c.loop-next.invariant.pass in
-    let same = c.loop-next.invariant.same in
-    last_paid d.honest b (begun (tokens b)) c.loop-next.state c.loop-next.room.entries c.step.new.room.entries d.asked e.asked (g.S.Source.device c.step.new.source).asked pass
-    (paid_same d e c.args.extent c.loop-next.state.at (g.S.Source.device c.step.new.source).asked same c.step.ensures.uses.asked)
-    (stay_err e.honest (blocks_of e.bytes c.args.extent) pass.phase c.loop-next.state.at c.in_err-next.field-0.0 c.loop-next.room.entries c.step.new.room.entries (c.in_err-next.ensures.steps pass.phase pass.holds))
-    honest
-
-pub returns-clause-within : goal.returns-clause-within
-returns-clause-within g c = λ honest.
-    let d = g.S.Source.device c.args.source.now in
-    let e = g.S.Source.device c.loop-next.source in
-    let b = blocks_of d.bytes c.args.extent in
-    let pass = c.loop-next.invariant.pass in
-    let same = c.loop-next.invariant.same in
-    let steps = subst (λ (o : Option State). Steps e.honest (blocks_of e.bytes c.args.extent) pass.phase c.loop-next.state.at (Ok o) c.loop-next.room.entries c.step.new.room.entries)
-    c.in_default.is (c.in_ok-next.ensures.steps pass.phase pass.holds) in
-    last_paid d.honest b (begun (tokens b)) c.loop-next.state c.loop-next.room.entries c.step.new.room.entries d.asked e.asked (g.S.Source.device c.step.new.source).asked pass
-    (paid_same d e c.args.extent c.loop-next.state.at (g.S.Source.device c.step.new.source).asked same c.step.ensures.uses.asked)
-    steps.acts.3 honest
-
-pub returns-in_err-next-clause-few : goal.returns-in_err-next-clause-few
-returns-in_err-next-clause-few g c =
-    let e = g.S.Source.device c.loop-next.source in
-    let pass = c.loop-next.invariant.pass in
-    let stay = stay_err e.honest (blocks_of e.bytes c.args.extent) pass.phase c.loop-next.state.at c.in_err-next.field-0.0 c.loop-next.room.entries c.step.new.room.entries (c.in_err-next.ensures.steps pass.phase pass.holds) in
-    omega (arith, pass.holds.few, c.loop-next.invariant.near, ap length stay)
-
-pub returns-clause-few : goal.returns-clause-few
-returns-clause-few g c =
-    let e = g.S.Source.device c.loop-next.source in
-    let pass = c.loop-next.invariant.pass in
-    let steps = subst (λ (o : Option State). Steps e.honest (blocks_of e.bytes c.args.extent) pass.phase c.loop-next.state.at (Ok o) c.loop-next.room.entries c.step.new.room.entries)
-    c.in_default.is (c.in_ok-next.ensures.steps pass.phase pass.holds) in
-    omega (arith, pass.holds.few, c.loop-next.invariant.near, ap length steps.acts.3)
-
-pub returns-in_err-next-clause-prefix : goal.returns-in_err-next-clause-prefix
-returns-in_err-next-clause-prefix g c = λ honest.
-    let d = g.S.Source.device c.args.source.now in
-    let e = g.S.Source.device c.loop-next.source in
-    let b = blocks_of d.bytes c.args.extent in
-    let pass = c.loop-next.invariant.pass in
-    let r = err_from_is_err_and c.from_residual.result c.from_residual.ensures.1 in
-    prefix_err d.honest b (begun (tokens b)) c.loop-next.state c.loop-next.room.entries c.step.new.room.entries c.in_err-next.field-0.0 c.from_residual.result d.asked e.asked pass
-    (r.1 ∙ ap (λ (e : IndexFault). Err e) r.2)
-    (steps_same d e c.args.extent pass.phase c.loop-next.state.at (Err c.in_err-next.field-0.0) c.loop-next.room.entries c.step.new.room.entries c.loop-next.invariant.same (c.in_err-next.ensures.steps pass.phase pass.holds)) honest
+    let now = c.loop-next in
+    let new = c.step.new.room.entries in
+    let pass = now.invariant.pass in
+    let steps = steps_same d e c.args.extent pass.phase now.state.at (Ok None) now.room.entries new now.invariant.same
+    (subst (λ (o : Option State). Steps e.honest (blocks_of e.bytes c.args.extent) pass.phase now.state.at (Ok o) now.room.entries new) c.in_default.is (c.in_ok-next.ensures.steps pass.phase pass.holds)) in
+    let stay = steps.acts.3 in
+    record {
+      uses = search rules;
+      room = search rules;
+      few = omega (arith, pass.holds.few, now.invariant.near, ap length stay);
+      within = last_paid d.honest b (begun (tokens b)) now.state now.room.entries new d.asked e.asked (g.S.Source.device c.step.new.source).asked pass
+          (paid_same d e c.args.extent now.state.at (g.S.Source.device c.step.new.source).asked now.invariant.same c.step.ensures.uses.asked) stay;
+      prefix = λ honest. tt;
+      passed = ends_passed d.honest b now.state now.room.entries new d.asked e.asked pass steps;
+      indexes = ends_ok d.honest b (begun (tokens b)) now.state now.room.entries new now.state d.asked e.asked pass steps;
+    }

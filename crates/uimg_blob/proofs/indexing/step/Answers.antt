@@ -1,75 +1,74 @@
-use Rattle.std.proofs.Common.{◌≡◌, ◌∙◌, sym, ap, subst, refl, ℕ, List, Ok, Err}
-use Rattle.std.proofs.lemmas.Result.{err_from_is_err_and}
+use Rattle.std.proofs.Common.{◌∙◌, sym, ap, subst, refl, Result, Option, rules}
 use Rattle.uimg_base.specs.Held.{Held}
 use Rattle.uimg_blob.specs.declared.fault.IndexFault.{IndexFault}
+use Rattle.uimg_blob.specs.declared.fault.IndexFault.TheVariants.{Read}
+use Rattle.uimg_blob.specs.declared.states.State.{State}
 use Rattle.uimg_blob.specs.Extents.{blocks_of}
 use Rattle.uimg_blob.specs.Tokens.{token_at, next}
-use Rattle.uimg_blob.specs.Passes.{Holds, step, Goes}
-use Rattle.uimg_blob.proofs.KeyLaws.{a_token, on_err}
-use Rattle.uimg_blob.proofs.LieLaws.{token_lies}
-use Rattle.uimg_blob.proofs.PhaseLaws.{done_goes}
-use Rattle.uimg_blob.proofs.PassLaws.{acts_read, acts_err, refuses_read, refuses_err}
+use Rattle.uimg_blob.specs.Passes.{step, Steps}
+use Rattle.uimg_blob.proofs.KeyLaws.{passed_on, on_err}
+use Rattle.uimg_blob.proofs.PassLaws.{acts_read, refuses_read}
+use Rattle.uimg_blob.proofs.ActLaws.{adds_grows, found, step_goes, step_ends}
 use Rattle.uimg_blob.proofs.indexing.step.Goals as goal
 
-pub returns-in_err-token-clause-steps : goal.returns-in_err-token-clause-steps
-returns-in_err-token-clause-steps g c p h =
-    let b = blocks_of (g.S.Source.device c.args.source.now).bytes c.args.extent in
+pub returns-in_err-token : goal.returns-in_err-token
+returns-in_err-token g c =
+    let t = token_at (blocks_of (g.S.Source.device c.args.source.now).bytes c.args.extent) c.args.state.at in
+    let is = passed_on c.from_residual.result Read c.from_residual.ensures.1 in
     record {
-      token = token_at b c.args.state.at;
-      is = λ honest. refl;
-      acts = acts_read (step p (token_at b c.args.state.at)) (next (token_at b c.args.state.at)) c.from_residual.result c.args.room.now.entries c.read_token.new.room.entries
-          (let r = err_from_is_err_and c.from_residual.result c.from_residual.ensures.1 in r.1 ∙ ap (λ (e : IndexFault). Err e) r.2) (ap (λ (x : Held). x.entries) c.read_token.ensures.room);
-      refuses = refuses_read (token_at b c.args.state.at) c.from_residual.result
-          (let r = err_from_is_err_and c.from_residual.result c.from_residual.ensures.1 in r.1 ∙ ap (λ (e : IndexFault). Err e) r.2);
-      lies = let r = err_from_is_err_and c.from_residual.result c.from_residual.ensures.1 in on_err _ c.from_residual.result r.0 r.1;
+      uses = search rules;
+      room = search rules;
+      steps = λ p h. record {
+        token = t;
+        is = λ honest. refl;
+        acts = acts_read (step p t) (next t) c.from_residual.result c.args.room.now.entries c.read_token.new.room.entries is (ap (λ (x : Held). x.entries) c.read_token.ensures.room);
+        refuses = refuses_read t c.from_residual.result is;
+        lies = on_err _ c.from_residual.result Read is;
+      };
+      ahead = search rules;
     }
 
-pub returns-then-is_done-clause-steps : goal.returns-then-is_done-clause-steps
-returns-then-is_done-clause-steps g c p h =
+pub returns-then-is_done : goal.returns-then-is_done
+returns-then-is_done g c =
     let d = g.S.Source.device c.args.source.now in
-    let same : c.read_token.new.room.entries ≡ c.args.room.now.entries = ap (λ (x : Held). x.entries) c.read_token.ensures.room in
-    let now : Holds p c.args.state c.read_token.new.room.entries = subst (λ (es : List (List ℕ)). Holds p c.args.state es) (sym same) h in
-    let t = a_token d.honest (blocks_of d.bytes c.args.extent) c.args.state.at c.in_ok-token.token c.in_ok-token.ensures.read c.in_ok-token.ensures.sound in
+    let b = blocks_of d.bytes c.args.extent in
+    let s = c.args.state in
+    let f = found d.honest b s.at c.in_ok-token.token c.in_ok-token.ensures.read c.in_ok-token.ensures.sound c.in_ok-token.ensures.stands in
     record {
-      token = t.0;
-      is = t.1;
-      acts = let r = done_goes p c.args.state c.read_token.new.room.entries t.0 now (sym (c.is_done.ensures p t.0 now t.2) ∙ c.if-is_done.true) in (r.0, r.1, r.2, same);
-      refuses = tt;
-      lies = token_lies c.args.state.at c.args.extent.structure_end t.0 c.in_ok-token.token t.2 c.in_ok-token.ensures.stands;
+      uses = search rules;
+      room = search rules;
+      steps = λ p h. step_ends d.honest b p s c.in_ok-token.token c.args.room.now c.read_token.new.room f c.read_token.ensures.room
+          (λ now. sym (c.is_done.ensures p f.token_is now f.read) ∙ c.if-is_done.true) h;
+      ahead = search rules;
     }
 
-pub returns-in_err-next-clause-steps : goal.returns-in_err-next-clause-steps
-returns-in_err-next-clause-steps g c p h =
+pub returns-in_err-next : goal.returns-in_err-next
+returns-in_err-next g c =
     let d = g.S.Source.device c.args.source.now in
-    let same : c.read_token.new.room.entries ≡ c.args.room.now.entries = ap (λ (x : Held). x.entries) c.read_token.ensures.room in
-    let now : Holds p c.args.state c.read_token.new.room.entries = subst (λ (es : List (List ℕ)). Holds p c.args.state es) (sym same) h in
-    let t = a_token d.honest (blocks_of d.bytes c.args.extent) c.args.state.at c.in_ok-token.token c.in_ok-token.ensures.read c.in_ok-token.ensures.sound in
+    let b = blocks_of d.bytes c.args.extent in
+    let s = c.args.state in
+    let f = found d.honest b s.at c.in_ok-token.token c.in_ok-token.ensures.read c.in_ok-token.ensures.sound c.in_ok-token.ensures.stands in
+    let is = passed_on c.from_residual-in_err-next.result c.in_err-next.field-0.0 c.from_residual-in_err-next.ensures.1 in
+    let room = adds_grows _ _ c.args.room.now c.read_token.new.room c.act.new.room c.read_token.ensures.room c.act.ensures.room in
     record {
-      token = t.0;
-      is = t.1;
-      acts = acts_err (step p t.0) (next t.0) c.in_err-next.field-0.0 c.from_residual-in_err-next.result c.args.room.now.entries c.act.new.room.entries
-          (let r = err_from_is_err_and c.from_residual-in_err-next.result c.from_residual-in_err-next.ensures.1 in r.1 ∙ ap (λ (e : IndexFault). Err e) r.2)
-          (subst (λ (es : List (List ℕ)). Goes (step p t.0) (next t.0) (Err c.in_err-next.field-0.0) es c.act.new.room.entries) same
-          (c.in_err-next.ensures.goes p t.0 now t.2 (sym (c.is_done.ensures p t.0 now t.2) ∙ c.if-is_done.false)));
-      refuses = refuses_err t.0 c.in_err-next.field-0.0 c.act.result c.from_residual-in_err-next.result c.in_err-next.was
-          (let r = err_from_is_err_and c.from_residual-in_err-next.result c.from_residual-in_err-next.ensures.1 in r.1 ∙ ap (λ (e : IndexFault). Err e) r.2) (c.act.ensures.refuses t.0 t.2);
-      lies = let r = err_from_is_err_and c.from_residual-in_err-next.result c.from_residual-in_err-next.ensures.1 in on_err _ c.from_residual-in_err-next.result r.0 r.1;
+      uses = search rules;
+      room = search (rules, room);
+      steps = λ p h. subst (λ (r : Result (Option State) IndexFault). Steps d.honest b p s.at r c.args.room.now.entries c.act.new.room.entries) (sym is)
+          (step_goes d.honest b p s c.in_ok-token.token _ c.args.room.now c.read_token.new.room c.act.new.room f c.read_token.ensures.room
+          (λ now. sym (c.is_done.ensures p f.token_is now f.read) ∙ c.if-is_done.false) c.in_err-next.ensures h);
+      ahead = search rules;
     }
 
-pub returns-clause-steps : goal.returns-clause-steps
-returns-clause-steps g c p h =
+pub returns : goal.returns
+returns g c =
     let d = g.S.Source.device c.args.source.now in
-    let same : c.read_token.new.room.entries ≡ c.args.room.now.entries = ap (λ (x : Held). x.entries) c.read_token.ensures.room in
-    let now : Holds p c.args.state c.read_token.new.room.entries = subst (λ (es : List (List ℕ)). Holds p c.args.state es) (sym same) h in
-    let t = a_token d.honest (blocks_of d.bytes c.args.extent) c.args.state.at c.in_ok-token.token c.in_ok-token.ensures.read c.in_ok-token.ensures.sound in
+    let b = blocks_of d.bytes c.args.extent in
+    let s = c.args.state in
+    let f = found d.honest b s.at c.in_ok-token.token c.in_ok-token.ensures.read c.in_ok-token.ensures.sound c.in_ok-token.ensures.stands in
     record {
-      token = t.0;
-      is = t.1;
-      acts = subst (λ (es : List (List ℕ)). Goes (step p t.0) (next t.0) (Ok c.in_ok-next.next) es c.act.new.room.entries) same
-          (c.in_ok-next.ensures.goes p t.0 now t.2 (sym (c.is_done.ensures p t.0 now t.2) ∙ c.if-is_done.false));
-      refuses = tt;
-      lies = token_lies c.args.state.at c.args.extent.structure_end t.0 c.in_ok-token.token t.2 c.in_ok-token.ensures.stands;
+      uses = search rules;
+      room = adds_grows _ _ c.args.room.now c.read_token.new.room c.act.new.room c.read_token.ensures.room c.in_ok-next.ensures.room;
+      steps = λ p h. step_goes d.honest b p s c.in_ok-token.token _ c.args.room.now c.read_token.new.room c.act.new.room f c.read_token.ensures.room
+          (λ now. sym (c.is_done.ensures p f.token_is now f.read) ∙ c.if-is_done.false) c.in_ok-next.ensures h;
+      ahead = c.in_ok-next.ensures.ahead c.args.extent.structure_end c.in_ok-token.ensures.stands;
     }
-
-pub returns-clause-ahead : goal.returns-clause-ahead
-returns-clause-ahead g c = c.in_ok-next.ensures.ahead c.args.extent.structure_end c.in_ok-token.ensures.stands
