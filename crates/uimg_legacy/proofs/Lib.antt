@@ -1,4 +1,5 @@
 pub mod HeaderLaws
+pub mod SourceLaws
 pub mod PartsLaws
 pub mod ChunkLaws
 pub mod LinesLaws

@@ -8,6 +8,7 @@ pub mod Extraction
 pub mod Work
 pub mod Listing
 pub mod Faults
+pub mod Reading
 pub mod Devices
 pub mod Building
 pub mod BuildingSteps

@@ -1,12 +1,12 @@
-ghost use Rattle.std.specs.Prelude.{◌≡◌, ◌+◌, ◌≤◌, [], false, length, IsTrue, IfOk};
+ghost use Rattle.std.specs.Prelude.{◌≡◌, ◌+◌, ◌≤◌, [], length, IsTrue, IfOk};
 ghost use Rattle.uimg_base.specs.Device.{RisesIf};
-ghost use Rattle.uimg_texts.specs.Slices.{slice};
 ghost use Rattle.uimg_base.specs.Using.{UsesAtMost};
 ghost use Rattle.uimg_base.specs.Outcome.{Tells};
 ghost use Rattle.uimg_base.specs.Ranges.{ReadsAhead};
-ghost use Rattle.uimg_legacy.specs.Extraction.{part_at, extract_of};
+ghost use Rattle.uimg_legacy.specs.Extraction.{extract_of};
 ghost use Rattle.uimg_legacy.specs.Work.{list_work, extract_work};
-ghost use Rattle.uimg_legacy.specs.Faults.{is_read, is_put, is_refused, end_of, Gives};
+ghost use Rattle.uimg_legacy.specs.Reading.{Reads, LocatesPart};
+ghost use Rattle.uimg_legacy.specs.Faults.{is_read, is_put, is_refused, end_of};
 
 use crate::fault::Fault;
 use crate::image::read_image;
@@ -21,15 +21,11 @@ fn locate_part<S: Source, A: Allocator>(
     room: &mut Room<A>,
     position: u32,
 ) -> Result<Span, Fault>
-    ensures uses { UsesAtMost (list_work (S.device source.old).bytes)
-        (is_read result) (S.device source.old) (S.device source.new) }
-    ensures room { room.new ≡ room.old }
-    ensures no_put { is_put result ≡ false }
+    ensures reads { Reads (UsesAtMost (list_work (S.device source.old).bytes))
+        (LocatesPart position) result
+        (S.device source.old) (S.device source.new) room.old room.new }
     ensures inside { IfOk result (λ span. span.start + span.length
         ≤ length (S.device source.old).bytes) }
-    ensures gives { IsTrue (S.device source.old).honest → Gives
-        (λ span. slice (S.device source.old).bytes span.start span.length) result
-        (part_at (S.device source.old).bytes position) }
 {
     let header = read_image(source, room)?;
     find_part(source, room, &header, position)

@@ -9,6 +9,7 @@ use Rattle.uimg_legacy.specs.declared.fault.LegacyFault.TheVariants.{PartOutside
 use Rattle.uimg_texts.specs.Numbers.{be32, up4}
 use Rattle.uimg_legacy.specs.Parts.{sizes}
 use Rattle.uimg_legacy.specs.Listing.{part_lines}
+use Rattle.uimg_legacy.proofs.SourceLaws.{honest_still, same_still}
 use Rattle.uimg_legacy.proofs.PartsLaws.{table_words, start_first, start_more, up4_bound}
 use Rattle.uimg_legacy.proofs.LinesLaws.{all_none, lines_more, lines_end, outside_yes, outside_no}
 use Rattle.uimg_legacy.proofs.listing.list_parts.Goals as goal
@@ -37,8 +38,8 @@ returns-then-start-length-clause-told g c = λ honest count.
     let image = (g.S.Source.device c.args.source.now).bytes in
     let table = sizes (slice image 64 c.args.size) in
     let same = c.loop-i.invariant.same in
-    let now = subst (λ (b : Bool). IsTrue b) (sym same.honest) honest in
-    let read = subst (λ (xs : List ℕ). c.in_ok-length.length ≡ be32 xs (64 + 4 * c.loop-i.i)) same.bytes (c.in_ok-length.ensures.size now) in
+    let now = honest_still same honest in
+    let read = rw same.bytes at c.in_ok-length.ensures.size now in
     let size = read ∙ sym (table_words image c.args.size c.requires.data c.loop-i.i (omega (arith, count))) in
     let far = outside_yes (slice image 64 c.args.size) table c.args.size c.loop-i.i c.loop-i.start c.in_ok-length.length (length-slice image 64 c.args.size c.requires.data) (c.loop-i.invariant.start honest count) size c.if-start-length.true in
     c.loop-i.invariant.told honest count (Some (refused PartOutside)) c.loop-i.out
@@ -49,8 +50,8 @@ returns-in_err-put_part_line-clause-told g c = λ honest count.
     let image = (g.S.Source.device c.args.source.now).bytes in
     let table = sizes (slice image 64 c.args.size) in
     let same = c.loop-i.invariant.same in
-    let now = subst (λ (b : Bool). IsTrue b) (sym same.honest) honest in
-    let read = subst (λ (xs : List ℕ). c.in_ok-length.length ≡ be32 xs (64 + 4 * c.loop-i.i)) same.bytes (c.in_ok-length.ensures.size now) in
+    let now = honest_still same honest in
+    let read = rw same.bytes at c.in_ok-length.ensures.size now in
     let size = read ∙ sym (table_words image c.args.size c.requires.data c.loop-i.i (omega (arith, count))) in
     let near = outside_no (slice image 64 c.args.size) table c.args.size c.loop-i.i c.loop-i.start c.in_ok-length.length (length-slice image 64 c.args.size c.requires.data) (c.loop-i.invariant.start honest count) size c.if-start-length.false in
     let p = err_from_is_err_and c.from_residual-in_err-put_part_line.result c.from_residual-in_err-put_part_line.ensures.1 in
@@ -63,20 +64,20 @@ loop-i-preserved g c =
     let table = sizes (slice image 64 c.args.size) in
     let same = c.loop-i.invariant.same in
     record {
-      same = record { bytes = c.size_at.ensures.uses.same.bytes ∙ same.bytes; honest = c.size_at.ensures.uses.same.honest ∙ same.honest };
+      same = same_still same c.size_at.ensures.uses.same;
       asked = omega arith;
       failures = omega (arith, c.in_ok-length.ensures.uses.failures);
       faults = omega (arith, c.in_ok-put_part_line.ensures.faults);
       bound = omega (arith, up4_bound c.in_ok-length.length);
       start = λ honest count.
-          let now = subst (λ (b : Bool). IsTrue b) (sym same.honest) honest in
-          let read = subst (λ (xs : List ℕ). c.in_ok-length.length ≡ be32 xs (64 + 4 * c.loop-i.i)) same.bytes (c.in_ok-length.ensures.size now) in
+          let now = honest_still same honest in
+          let read = rw same.bytes at c.in_ok-length.ensures.size now in
           let size = read ∙ sym (table_words image c.args.size c.requires.data c.loop-i.i (omega (arith, count))) in
           let up = c.up4-rounded.ensures ∙ ap up4 size in
           omega (arith, start_more table c.loop-i.i (omega (arith, count)), c.loop-i.invariant.start honest count, up);
       told = λ honest count e t rest.
-          let now = subst (λ (b : Bool). IsTrue b) (sym same.honest) honest in
-          let read = subst (λ (xs : List ℕ). c.in_ok-length.length ≡ be32 xs (64 + 4 * c.loop-i.i)) same.bytes (c.in_ok-length.ensures.size now) in
+          let now = honest_still same honest in
+          let read = rw same.bytes at c.in_ok-length.ensures.size now in
           let size = read ∙ sym (table_words image c.args.size c.requires.data c.loop-i.i (omega (arith, count))) in
           let near = outside_no (slice image 64 c.args.size) table c.args.size c.loop-i.i c.loop-i.start c.in_ok-length.length (length-slice image 64 c.args.size c.requires.data) (c.loop-i.invariant.start honest count) size c.if-start-length.false in
           c.loop-i.invariant.told honest count e t
