@@ -5,6 +5,7 @@ pub mod ChunkLaws
 pub mod LinesLaws
 pub mod Examples
 pub mod DevicesLaws
+pub mod PartStepsLaws
 pub mod JoinedLaws
 pub mod EmptyLaws
 pub mod ResultLaws

@@ -10,6 +10,7 @@ pub mod Listing
 pub mod Faults
 pub mod Reading
 pub mod Devices
+pub mod PartSteps
 pub mod Building
 pub mod BuildingSteps
 pub mod ReadsBack
