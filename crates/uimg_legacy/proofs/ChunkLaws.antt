@@ -1,5 +1,5 @@
 -- A window of the table of sizes: its words, and how many of them are sizes.
-use Rattle.std.proofs.Common.{◌≡◌, ◌≤◌, ◌<◌, ℕ, zero, suc, ◌+◌, ◌-◌, ◌*◌, List, [], ◌∷◌, length, take, drop, get_or, length-take, length-drop, Bool, true, false, not, cond, ◌==◌, min, ◌∙◌, ap, sym, refl, arith}
+use Rattle.std.proofs.Common.{◌≡◌, ◌≤◌, ◌<◌, ℕ, zero, suc, ◌+◌, ◌-◌, ◌*◌, List, [], ◌∷◌, length, take, drop, get_or, Bool, true, false, not, cond, ◌==◌, min, ◌∙◌, ap, sym, refl, arith}
 use Rattle.std.specs.Prelude.{sum_by}
 use Rattle.std.specs.List.{prefix_len}
 use Rattle.std.proofs.Math.Seq.{take-add}
@@ -10,49 +10,36 @@ use Rattle.uimg_texts.specs.Numbers.{be32, up4}
 use Rattle.uimg_legacy.specs.Words.{words}
 use Rattle.uimg_legacy.specs.Parts.{sizes, start}
 use Rattle.uimg_legacy.specs.Reading.{window}
-use Rattle.uimg_legacy.proofs.PartsLaws.{slice-slice, length-sizes, table_words}
+use Rattle.uimg_legacy.proofs.PartsLaws.{cond_le, slice-slice, length-sizes, table_words}
+
+four : (n : ℕ) → 4 * suc n ≡ suc (suc (suc (suc (4 * n))))
+four n = omega arith
 
 -- the words from a place on
 words-drop : (d : List ℕ) (i : ℕ) → words (drop (4 * i) d) ≡ drop i (words d)
 unfolding words
 words-drop d zero = refl
-words-drop [] (suc i) =
-    let e : 4 * suc i ≡ suc (suc (suc (suc (4 * i)))) = omega arith in rw e refl
-words-drop (a ∷ []) (suc i) =
-    let e : 4 * suc i ≡ suc (suc (suc (suc (4 * i)))) = omega arith in rw e refl
-words-drop (a ∷ b ∷ []) (suc i) =
-    let e : 4 * suc i ≡ suc (suc (suc (suc (4 * i)))) = omega arith in rw e refl
-words-drop (a ∷ b ∷ c ∷ []) (suc i) =
-    let e : 4 * suc i ≡ suc (suc (suc (suc (4 * i)))) = omega arith in rw e refl
-words-drop (a ∷ b ∷ c ∷ d ∷ rest) (suc i) =
-    let e : 4 * suc i ≡ suc (suc (suc (suc (4 * i)))) = omega arith in
-    rw e (words-drop rest i)
+words-drop [] (suc i) = rw (four i) refl
+words-drop (a ∷ []) (suc i) = rw (four i) refl
+words-drop (a ∷ b ∷ []) (suc i) = rw (four i) refl
+words-drop (a ∷ b ∷ c ∷ []) (suc i) = rw (four i) refl
+words-drop (a ∷ b ∷ c ∷ d ∷ rest) (suc i) = rw (four i) (words-drop rest i)
 
 -- the first words
 words-take : (d : List ℕ) (n : ℕ) → words (take (4 * n) d) ≡ take n (words d)
 unfolding words
 words-take d zero = refl
-words-take [] (suc n) =
-    let e : 4 * suc n ≡ suc (suc (suc (suc (4 * n)))) = omega arith in rw e refl
-words-take (a ∷ []) (suc n) =
-    let e : 4 * suc n ≡ suc (suc (suc (suc (4 * n)))) = omega arith in rw e refl
-words-take (a ∷ b ∷ []) (suc n) =
-    let e : 4 * suc n ≡ suc (suc (suc (suc (4 * n)))) = omega arith in rw e refl
-words-take (a ∷ b ∷ c ∷ []) (suc n) =
-    let e : 4 * suc n ≡ suc (suc (suc (suc (4 * n)))) = omega arith in rw e refl
-words-take (a ∷ b ∷ c ∷ d ∷ rest) (suc n) =
-    let e : 4 * suc n ≡ suc (suc (suc (suc (4 * n)))) = omega arith in
-    rw e (ap (λ (ws : List ℕ). be32 (a ∷ b ∷ c ∷ d ∷ []) 0 ∷ ws) (words-take rest n))
+words-take [] (suc n) = rw (four n) refl
+words-take (a ∷ []) (suc n) = rw (four n) refl
+words-take (a ∷ b ∷ []) (suc n) = rw (four n) refl
+words-take (a ∷ b ∷ c ∷ []) (suc n) = rw (four n) refl
+words-take (a ∷ b ∷ c ∷ d ∷ rest) (suc n) = rw (four n) (ap (λ (ws : List ℕ). be32 (a ∷ b ∷ c ∷ d ∷ []) 0 ∷ ws) (words-take rest n))
 
 -- the words of a window
 pub words-slice : (d : List ℕ) (i n : ℕ) → words (slice d (4 * i) (4 * n)) ≡ take n (drop i (words d))
 words-slice d i n = words-take (drop (4 * i) d) n ∙ ap (λ (ws : List ℕ). take n ws) (words-drop d i)
 
 -- a prefix after some of its elements
-cond_le : (b : Bool) (n i : ℕ) → suc i ≤ cond b (1 + n) 0 → (b ≡ true) × (i ≤ n)
-cond_le true n i h = (refl, omega arith)
-cond_le false n i h = absurd (omega arith)
-
 prefix_len-rest : (p : ℕ → Bool) (xs : List ℕ) (i : ℕ) → i ≤ prefix_len p xs → prefix_len p xs ≡ i + prefix_len p (drop i xs)
 prefix_len-rest p xs zero h = omega arith
 prefix_len-rest p [] (suc i) h = absurd (omega arith)

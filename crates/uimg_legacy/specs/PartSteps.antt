@@ -1,6 +1,6 @@
 -- What the steps did that read the parts of an image to be built. Their devices are seen by a function, of the parts
 -- before a step and after it.
-use Rattle.std.specs.Prelude.{◌≡◌, ℕ, ◌<◌, ◌≤◌, ◌^◌, List, [], ◌++◌, map, slice_index_or, ⊤, Bool, false, Result, OnOk, IfOk, is_err}
+use Rattle.std.specs.Prelude.{◌≡◌, ℕ, ◌<◌, ◌≤◌, ◌^◌, List, [], ◌++◌, map, slice_index_or, ⊤, false, Result, OnOk, IfOk, is_err}
 use Rattle.uimg_base.specs.Device.{Device, RisesIf}
 use Rattle.uimg_base.specs.Sink.{Sink}
 use Rattle.uimg_base.specs.Writing.{Written}

@@ -12,7 +12,7 @@ use Rattle.uimg_legacy.specs.declared.fault.LegacyFault.{LegacyFault}
 use Rattle.uimg_legacy.specs.declared.fault.Fault.{Fault}
 use Rattle.uimg_legacy.specs.declared.header.Header.{Header}
 use Rattle.uimg_legacy.specs.declared.parts.Span.{Span}
-use Rattle.uimg_legacy.specs.Image.{Image, payload, has_right_data, legacy}
+use Rattle.uimg_legacy.specs.Image.{payload, has_right_data, legacy}
 use Rattle.uimg_legacy.specs.Parts.{has_parts}
 use Rattle.uimg_legacy.specs.Extraction.{part_of_data, part_at}
 use Rattle.uimg_legacy.specs.Listing.{tail_with}
@@ -56,7 +56,7 @@ GivesImage image result = Gives (λ h. record { header = h; payload = payload im
 
 -- the bytes of the image that stand there
 abbrev pub bytes_at : List ℕ → Span → List ℕ
-bytes_at image span = slice image span.start span.length
+bytes_at image span = slice image span.at span.len
 
 -- where the part at a position stands, of an image with this header
 abbrev pub FindsPart : Header → ℕ → List ℕ → Result Span Fault → Type 0

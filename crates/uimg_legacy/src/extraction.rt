@@ -21,11 +21,9 @@ fn locate_part<S: Source, A: Allocator>(
     room: &mut Room<A>,
     position: u32,
 ) -> Result<Span, Fault>
-    ensures reads { Reads (UsesAtMost (list_work (S.device source.old).bytes))
-        (LocatesPart position) result
-        (S.device source.old) (S.device source.new) room.old room.new }
-    ensures inside { IfOk result (λ span. span.start + span.length
-        ≤ length (S.device source.old).bytes) }
+    ensures reads { Reads (UsesAtMost (list_work (S.device source.old).bytes)) (LocatesPart position)
+        result (S.device source.old) (S.device source.new) room.old room.new }
+    ensures inside { IfOk result (λ span. span.at + span.len ≤ length (S.device source.old).bytes) }
 {
     let header = read_image(source, room)?;
     find_part(source, room, &header, position)
@@ -45,10 +43,9 @@ pub fn extract<S: Source, A: Allocator, W: Write>(
     ensures uses { UsesAtMost (extract_work (S.device source.old).bytes position)
         (is_read result) (S.device source.old) (S.device source.new) }
     ensures room { room.new ≡ record room.old { entries = [] } }
-    ensures ahead { IsTrue (S.device source.old).honest →
-        ReadsAhead (list_work (S.device source.old).bytes)
-        (S.device source.old) (S.device source.new) out.old out.new
-        (extract_of (S.device source.old).bytes position).text }
+    ensures ahead { IsTrue (S.device source.old).honest → ReadsAhead
+        (list_work (S.device source.old).bytes) (S.device source.old) (S.device source.new)
+        out.old out.new (extract_of (S.device source.old).bytes position).text }
     ensures untouched { IsTrue (is_refused result) → out.new ≡ out.old }
     ensures faults { RisesIf (is_put result) out.old.faults out.new.faults }
     ensures told { IsTrue (S.device source.old).honest →
@@ -56,6 +53,6 @@ pub fn extract<S: Source, A: Allocator, W: Write>(
 {
     room.clear();
     let span = locate_part(source, room, position)?;
-    copy_range(source, room, span.start, span.length as u64, out)?;
+    copy_range(source, room, span.at, span.len as u64, out)?;
     Ok(Status::Done)
 }

@@ -35,12 +35,12 @@ fn list_parts<S: Source, W: Write>(
 {
     let mut start = 4 * (count as u64 + 1);
     for i in 0..count {
-        let length = size_at(source, i)?;
-        if start + length as u64 > size as u64 {
+        let len = size_at(source, i)?;
+        if start + len as u64 > size as u64 {
             return Err(Fault::Legacy(LegacyFault::PartOutside));
         }
-        put_part_line(out, i, length)?;
-        let rounded = up4(length as u64);
+        put_part_line(i, len, out)?;
+        let rounded = up4(len as u64);
         start += rounded;
     }
     Ok(Status::Done)
@@ -86,6 +86,6 @@ pub fn list<S: Source, A: Allocator, W: Write>(
 {
     room.clear();
     let header = read_image(source, room)?;
-    put_head(out, &header)?;
+    put_head(&header, out)?;
     list_tail(source, room, &header, out)
 }

@@ -63,8 +63,8 @@ pub(crate) fn count_sizes<S: Source, A: Allocator>(
 // Where a part of an image stands in its source.
 #[derive(Clone, Copy)]
 pub(crate) struct Span {
-    pub(crate) start: u64,
-    pub(crate) length: u32,
+    pub(crate) at: u64,
+    pub(crate) len: u32,
 }
 
 // Where the part at a position stands: one that the table has, or the data of a single file.
@@ -79,15 +79,15 @@ pub(crate) fn find_part<S: Source, A: Allocator>(
     ensures reads { Reads (UsesAtMost (table_work header.now (S.device source.old).bytes))
         (FindsPart header.now position) result
         (S.device source.old) (S.device source.new) room.old room.new }
-    ensures inside { IfOk result (λ span. span.start + span.length ≤ 64 + header.now.size) }
+    ensures inside { IfOk result (λ span. span.at + span.len ≤ 64 + header.now.size) }
 {
     if !has_parts(header.kind) {
         if position != 0 {
             return Err(Fault::Legacy(LegacyFault::NoSuchPart));
         }
         return Ok(Span {
-            start: 64,
-            length: header.size,
+            at: 64,
+            len: header.size,
         });
     }
     let count = count_sizes(source, room, header.size)?;
@@ -95,12 +95,12 @@ pub(crate) fn find_part<S: Source, A: Allocator>(
         return Err(Fault::Legacy(LegacyFault::NoSuchPart));
     }
     let start = 4 * (count as u64 + 1) + sum_first(source, room, position)?;
-    let length = size_at(source, position)?;
-    if start + length as u64 > header.size as u64 {
+    let len = size_at(source, position)?;
+    if start + len as u64 > header.size as u64 {
         return Err(Fault::Legacy(LegacyFault::PartOutside));
     }
     Ok(Span {
-        start: 64 + start,
-        length,
+        at: 64 + start,
+        len,
     })
 }

@@ -1,5 +1,4 @@
-use Rattle.std.proofs.Common.{◌≡◌, ◌<◌, ◌^◌, ◌++◌, ℕ, List, length, map, Ok, ◌∙◌, ap, sym, refl, arith}
-use Rattle.std.specs.List.{All}
+use Rattle.std.proofs.Common.{◌≡◌, ◌++◌, length, map, Ok, ◌∙◌, ap, sym, refl, arith}
 use Rattle.uimg_legacy.specs.Header.{header, spelled}
 use Rattle.uimg_legacy.specs.Parts.{has_parts}
 use Rattle.uimg_legacy.specs.Building.{data_for, header_for, legacy_image}

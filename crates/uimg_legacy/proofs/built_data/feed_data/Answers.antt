@@ -1,4 +1,4 @@
-use Rattle.std.proofs.Common.{◌≡◌, ◌++◌, List, map, append_assoc}
+use Rattle.std.proofs.Common.{◌≡◌, ◌++◌, map, append_assoc}
 use Rattle.uimg_legacy.specs.Building.{size_table, joined, data_of}
 use Rattle.uimg_legacy.specs.Devices.{bytes_of}
 use Rattle.uimg_legacy.proofs.DevicesLaws.{honest_then, uses_then}

@@ -1,4 +1,4 @@
-use Rattle.std.proofs.Common.{rules, ◌≡◌, ◌++◌, ℕ, List, map, take, append_assoc, subst, arith}
+use Rattle.std.proofs.Common.{rules, ◌≡◌, ◌++◌, map, take, append_assoc, arith}
 use Rattle.std.specs.Int.{to_be_bytes, w32}
 use Rattle.uimg_legacy.specs.Building.{size_table}
 use Rattle.uimg_legacy.specs.Devices.{bytes_of}

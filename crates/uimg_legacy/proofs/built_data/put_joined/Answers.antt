@@ -1,11 +1,11 @@
-use Rattle.std.proofs.Common.{rules, ◌≡◌, ◌<◌, ℕ, List, [], length, map, take, get_or, ◌∙◌, ap, sym, subst, refl, arith}
-use Rattle.uimg_base.specs.Sink.{AppendsAll, AppendsPrefix}
+use Rattle.std.proofs.Common.{rules, ◌≡◌, ◌<◌, ℕ, List, [], length, map, take, get_or, ◌∙◌, ap, refl, arith}
 use Rattle.uimg_base.proofs.SinkLaws.{prefix_all, prefix_first, prefix_then, all_then}
 use Rattle.uimg_legacy.specs.Building.{padding, joined}
 use Rattle.uimg_legacy.specs.Devices.{bytes_of}
 use Rattle.uimg_legacy.specs.Faults.{is_read}
 use Rattle.uimg_legacy.proofs.LinesLaws.{all_none}
 use Rattle.uimg_legacy.proofs.DevicesLaws.{same_then, honest_then, uses_then, count_bytes, count_parts}
+use Rattle.uimg_legacy.proofs.PartStepsLaws.{puts_by}
 use Rattle.uimg_legacy.proofs.JoinedLaws.{joined_none, joined_nil, joined_more, remainder_more, joined_prefix, joined_all}
 use Rattle.uimg_legacy.proofs.built_data.put_joined.Goals as goal
 
@@ -21,45 +21,24 @@ loop-i-init g c = record {
 }
 
 pub returns-in_err-put_all : goal.returns-in_err-put_all
-returns-in_err-put_all g c = record {
-  uses = search rules;
-  faults = search rules;
-  accepted = search rules;
-  written = λ honest.
-      let device = g.S.Source.device in
-      let bytes = bytes_of (map device c.args.parts.now) in
-      let i = c.loop-i.i in
-      let zeros : c.zeros_after.result.now ≡ padding (length (joined (take i bytes))) = c.zeros_after.ensures _ c.loop-i.invariant.remainder in
-      record {
-        all = search rules;
-        prefix = joined_prefix c.args.out.now c.loop-i.out c.put_all.new.self bytes i (omega (arith, count_bytes device c.args.parts.now)) (c.loop-i.invariant.written honest)
-            (prefix_first c.loop-i.out c.put_all.new.self (padding (length (joined (take i bytes)))) (get_or bytes i []) (rw zeros at c.put_all.ensures.writes.prefix));
-      };
-}
+returns-in_err-put_all g c = puts_by (search rules) (search rules) (search rules) (λ honest.
+    let bytes = bytes_of (map g.S.Source.device c.args.parts.now) in
+    let i = c.loop-i.i in
+    let zeros : c.zeros_after.result.now ≡ padding (length (joined (take i bytes))) = c.zeros_after.ensures _ c.loop-i.invariant.remainder in
+    let here = prefix_first c.loop-i.out c.put_all.new.self (padding (length (joined (take i bytes)))) (get_or bytes i []) (rw zeros at c.put_all.ensures.writes.prefix) in
+    record { all = search rules; prefix = joined_prefix c.args.out.now c.loop-i.out c.put_all.new.self bytes i (omega (arith, count_bytes g.S.Source.device c.args.parts.now)) (c.loop-i.invariant.written honest) here })
 
 pub returns-in_err-remainder : goal.returns-in_err-remainder
 returns-in_err-remainder g c =
     let failed : is_read c.from_residual-in_err-remainder.result ≡ is_read c.put_part.result = search rules in
     let inv = c.loop-i.invariant in
-    record {
-      uses = rw failed (uses_then (record { same = inv.same; failures = inv.failures }) c.put_part.ensures.puts.uses);
-      faults = search rules;
-      accepted = search rules;
-      written = λ honest.
-          let device = g.S.Source.device in
-          let old = map device c.args.parts.now in
-          let bytes = bytes_of old in
-          let i = c.loop-i.i in
-          let now = honest_then old (map device c.loop-i.parts) inv.same honest in
-          let zeros : c.zeros_after.result.now ≡ padding (length (joined (take i bytes))) = c.zeros_after.ensures _ inv.remainder in
-          let here : get_or (bytes_of (map device c.loop-i.parts)) i [] ≡ get_or bytes i [] = ap (λ (ps : List (List ℕ)). get_or ps i []) inv.same.bytes in
-          record {
-            all = search rules;
-            prefix = joined_prefix c.args.out.now c.loop-i.out c.put_part.new.out bytes i (omega (arith, count_bytes device c.args.parts.now)) (inv.written honest)
-                (prefix_then c.loop-i.out c.put_all.new.self c.put_part.new.out (padding (length (joined (take i bytes)))) (get_or bytes i [])
-                (rw zeros at c.in_ok-put_all.ensures.writes.all) (rw here at (c.put_part.ensures.puts.written now).prefix));
-          };
-    }
+    puts_by (rw failed (uses_then (record { same = inv.same; failures = inv.failures }) c.put_part.ensures.puts.uses)) (search rules) (search rules) (λ honest.
+    let bytes = bytes_of (map g.S.Source.device c.args.parts.now) in
+    let i = c.loop-i.i in
+    let zeros : c.zeros_after.result.now ≡ padding (length (joined (take i bytes))) = c.zeros_after.ensures _ inv.remainder in
+    let here : get_or (bytes_of (map g.S.Source.device c.loop-i.parts)) i [] ≡ get_or bytes i [] = ap (λ (ps : List (List ℕ)). get_or ps i []) inv.same.bytes in
+    let part = prefix_then c.loop-i.out c.put_all.new.self c.put_part.new.out (padding (length (joined (take i bytes)))) (get_or bytes i []) (rw zeros at c.in_ok-put_all.ensures.writes.all) (rw here at (c.put_part.ensures.puts.written (honest_then _ _ inv.same honest)).prefix) in
+    record { all = search rules; prefix = joined_prefix c.args.out.now c.loop-i.out c.put_part.new.out bytes i (omega (arith, count_bytes g.S.Source.device c.args.parts.now)) (inv.written honest) part })
 
 pub loop-i-preserved : goal.loop-i-preserved
 loop-i-preserved g c =
@@ -88,13 +67,7 @@ loop-i-preserved g c =
 
 pub returns : goal.returns
 returns g c =
-    let bytes = bytes_of (map g.S.Source.device c.args.parts.now) in
-    let all = joined_all bytes c.loop-i.i (omega (arith, count_bytes g.S.Source.device c.args.parts.now)) in
-    record {
-      uses = search rules;
-      faults = search rules;
-      accepted = search rules;
-      written = λ honest.
-          let whole = rw all at c.loop-i.invariant.written honest in
-          record { all = whole; prefix = prefix_all _ _ _ whole };
-    }
+    let all = joined_all (bytes_of (map g.S.Source.device c.args.parts.now)) c.loop-i.i (omega (arith, count_bytes g.S.Source.device c.args.parts.now)) in
+    puts_by (search rules) (search rules) (search rules) (λ honest.
+    let whole = rw all at c.loop-i.invariant.written honest in
+    record { all = whole; prefix = prefix_all _ _ _ whole })
