@@ -1,59 +1,45 @@
 -- A window of the table of sizes: its words, and how many of them are sizes.
-use Rattle.std.proofs.Common.{◌≡◌, ◌≤◌, ◌<◌, ℕ, zero, suc, ◌+◌, ◌-◌, ◌*◌, List, [], ◌∷◌, length, take, drop, get_or, length-take, length-drop, Bool, true, false, not, cond, ◌==◌, min, ◌∙◌, ap, sym, refl, arith}
+use Rattle.std.proofs.Common.{◌≡◌, ◌≤◌, ◌<◌, ℕ, zero, suc, ◌+◌, ◌-◌, ◌*◌, List, [], ◌∷◌, length, take, drop, get_or, Bool, true, false, not, cond, ◌==◌, min, ◌∙◌, ap, sym, refl, arith}
 use Rattle.std.specs.Prelude.{sum_by}
-use Rattle.std.specs.Int.{from_be_bytes, w32}
 use Rattle.std.specs.List.{prefix_len}
 use Rattle.std.proofs.Math.Seq.{take-add}
-use Rattle.std.proofs.lemmas.List.{ext_get_or, get_or-take, get_or-drop}
+use Rattle.std.proofs.lemmas.List.{take-take, drop-drop}
 use Rattle.std.proofs.lemmas.List.Sums.{prefix_len-le-length, sum_by-append}
 use Rattle.uimg_texts.specs.Slices.{slice}
-use Rattle.uimg_base.proofs.Slices.{length-slice}
 use Rattle.uimg_texts.specs.Numbers.{be32, up4}
 use Rattle.uimg_legacy.specs.Words.{words}
 use Rattle.uimg_legacy.specs.Parts.{sizes, start}
-use Rattle.uimg_legacy.proofs.PartsLaws.{slice-slice, words-at, length-words, length-sizes}
+use Rattle.uimg_legacy.specs.Reading.{window}
+use Rattle.uimg_legacy.proofs.PartsLaws.{cond_le, slice-slice, length-sizes, table_words}
+
+four : (n : ℕ) → 4 * suc n ≡ suc (suc (suc (suc (4 * n))))
+four n = omega arith
 
 -- the words from a place on
 words-drop : (d : List ℕ) (i : ℕ) → words (drop (4 * i) d) ≡ drop i (words d)
 unfolding words
 words-drop d zero = refl
-words-drop [] (suc i) =
-    let e : 4 * suc i ≡ suc (suc (suc (suc (4 * i)))) = omega arith in rw e refl
-words-drop (a ∷ []) (suc i) =
-    let e : 4 * suc i ≡ suc (suc (suc (suc (4 * i)))) = omega arith in rw e refl
-words-drop (a ∷ b ∷ []) (suc i) =
-    let e : 4 * suc i ≡ suc (suc (suc (suc (4 * i)))) = omega arith in rw e refl
-words-drop (a ∷ b ∷ c ∷ []) (suc i) =
-    let e : 4 * suc i ≡ suc (suc (suc (suc (4 * i)))) = omega arith in rw e refl
-words-drop (a ∷ b ∷ c ∷ d ∷ rest) (suc i) =
-    let e : 4 * suc i ≡ suc (suc (suc (suc (4 * i)))) = omega arith in
-    rw e (words-drop rest i)
+words-drop [] (suc i) = rw (four i) refl
+words-drop (a ∷ []) (suc i) = rw (four i) refl
+words-drop (a ∷ b ∷ []) (suc i) = rw (four i) refl
+words-drop (a ∷ b ∷ c ∷ []) (suc i) = rw (four i) refl
+words-drop (a ∷ b ∷ c ∷ d ∷ rest) (suc i) = rw (four i) (words-drop rest i)
 
 -- the first words
 words-take : (d : List ℕ) (n : ℕ) → words (take (4 * n) d) ≡ take n (words d)
 unfolding words
 words-take d zero = refl
-words-take [] (suc n) =
-    let e : 4 * suc n ≡ suc (suc (suc (suc (4 * n)))) = omega arith in rw e refl
-words-take (a ∷ []) (suc n) =
-    let e : 4 * suc n ≡ suc (suc (suc (suc (4 * n)))) = omega arith in rw e refl
-words-take (a ∷ b ∷ []) (suc n) =
-    let e : 4 * suc n ≡ suc (suc (suc (suc (4 * n)))) = omega arith in rw e refl
-words-take (a ∷ b ∷ c ∷ []) (suc n) =
-    let e : 4 * suc n ≡ suc (suc (suc (suc (4 * n)))) = omega arith in rw e refl
-words-take (a ∷ b ∷ c ∷ d ∷ rest) (suc n) =
-    let e : 4 * suc n ≡ suc (suc (suc (suc (4 * n)))) = omega arith in
-    rw e (ap (λ (ws : List ℕ). be32 (a ∷ b ∷ c ∷ d ∷ []) 0 ∷ ws) (words-take rest n))
+words-take [] (suc n) = rw (four n) refl
+words-take (a ∷ []) (suc n) = rw (four n) refl
+words-take (a ∷ b ∷ []) (suc n) = rw (four n) refl
+words-take (a ∷ b ∷ c ∷ []) (suc n) = rw (four n) refl
+words-take (a ∷ b ∷ c ∷ d ∷ rest) (suc n) = rw (four n) (ap (λ (ws : List ℕ). be32 (a ∷ b ∷ c ∷ d ∷ []) 0 ∷ ws) (words-take rest n))
 
 -- the words of a window
 pub words-slice : (d : List ℕ) (i n : ℕ) → words (slice d (4 * i) (4 * n)) ≡ take n (drop i (words d))
 words-slice d i n = words-take (drop (4 * i) d) n ∙ ap (λ (ws : List ℕ). take n ws) (words-drop d i)
 
 -- a prefix after some of its elements
-cond_le : (b : Bool) (n i : ℕ) → suc i ≤ cond b (1 + n) 0 → (b ≡ true) × (i ≤ n)
-cond_le true n i h = (refl, omega arith)
-cond_le false n i h = absurd (omega arith)
-
 prefix_len-rest : (p : ℕ → Bool) (xs : List ℕ) (i : ℕ) → i ≤ prefix_len p xs → prefix_len p xs ≡ i + prefix_len p (drop i xs)
 prefix_len-rest p xs zero h = omega arith
 prefix_len-rest p [] (suc i) h = absurd (omega arith)
@@ -93,28 +79,34 @@ sizes-le-words d =
     let most = prefix_len-le-length (λ w. not (w == 0)) (words d) in
     omega (arith, length-sizes d, most)
 
--- the words of a window are the sizes of the table at its place
-table_window : (image table : List ℕ) (count i n : ℕ) → length table ≡ count → ((k : ℕ) → k < count → get_or table k 0 ≡ be32 image (64 + 4 * k)) → i + n ≤ count → 64 + 4 * count ≤ length image → take n (drop i table) ≡ words (slice image (64 + 4 * i) (4 * n))
-unfolding be32
-table_window image table count i n len same inside fits =
-    let window = slice image (64 + 4 * i) (4 * n) in
-    let size = length-slice image (64 + 4 * i) (4 * n) (omega arith) in
-    let few = length-words window in
-    let prefix : length (take n (drop i table)) ≡ n = simp (length-take, length-drop) (omega arith) in
-    ext_get_or 0 (take n (drop i table)) (words window) (omega (arith, prefix, size, few.0, few.1)) (λ k h.
-    let here : k < n = omega (arith, prefix) in
-    let place : 64 + 4 * (i + k) ≡ 64 + 4 * i + 4 * k = omega arith in
-    get_or-take n (drop i table) k 0 here
-    ∙ get_or-drop i table k 0
-    ∙ same (i + k) (omega arith)
-    ∙ ap (λ (at : ℕ). from_be_bytes w32 (slice image at 4)) place
-    ∙ ap (λ (w : List ℕ). from_be_bytes w32 w) (sym (slice-slice image (64 + 4 * i) (4 * n) (4 * k) 4 (omega arith)))
-    ∙ sym (words-at window k (omega (arith, size))))
+-- the words of a window, of all the words behind the header
+words-window : (image : List ℕ) (first count : ℕ) → words (window image first count) ≡ take count (drop first (words (drop 64 image)))
+words-window image first count =
+    ap (λ (w : List ℕ). words (take (4 * count) w)) (sym (drop-drop (4 * first) 64 image)) ∙ words-slice (drop 64 image) first count
 
--- where a part starts, from where one before it does
-pub start_window : (image table : List ℕ) (count i n : ℕ) → length table ≡ count → ((k : ℕ) → k < count → get_or table k 0 ≡ be32 image (64 + 4 * k)) → i + n ≤ count → 64 + 4 * count ≤ length image → start table (i + n) ≡ start table i + sum_by up4 (words (slice image (64 + 4 * i) (4 * n)))
-unfolding start
-start_window image table count i n len same inside fits =
-    let sum : sum_by up4 (take (i + n) table) ≡ sum_by up4 (take i table) + sum_by up4 (take n (drop i table)) = ap (λ (w : List ℕ). sum_by up4 w) (take-add i n table) ∙ sum_by-append up4 (take i table) (take n (drop i table)) in
-    let rest = ap (λ (w : List ℕ). sum_by up4 w) (table_window image table count i n len same inside fits) in
-    omega (arith, sum, rest)
+-- no words
+pub sum_none : (image : List ℕ) → 0 ≡ sum_by up4 (words (window image 0 0))
+unfolding words
+sum_none image = refl
+
+-- the sum of the first words and of those in the window behind them
+pub sum_more_words : (image : List ℕ) (i n : ℕ) → sum_by up4 (words (window image 0 (i + n))) ≡ sum_by up4 (words (window image 0 i)) + sum_by up4 (words (window image i n))
+sum_more_words image i n =
+    let all = words (drop 64 image) in
+    rw (words-window image 0 (i + n), words-window image 0 i, words-window image i n)
+    (ap (λ (w : List ℕ). sum_by up4 w) (take-add i n all) ∙ sum_by-append up4 (take i all) (take n (drop i all)))
+
+-- where a part starts
+pub start_sum : (image : List ℕ) (size position : ℕ) → 4 * position ≤ size → position ≤ length (sizes (slice image 64 size)) → start (sizes (slice image 64 size)) position ≡ 4 * (length (sizes (slice image 64 size)) + 1) + sum_by up4 (words (window image 0 position))
+unfolding start sizes
+start_sum image size position inside h =
+    let d = slice image 64 size in
+    let len = length-sizes d in
+    let first : words (window image 0 position) ≡ take position (words d) = ap (λ (w : List ℕ). words w) (sym (slice-slice image 64 size 0 (4 * position) (omega arith))) ∙ words-slice d 0 position in
+    let same : take position (sizes d) ≡ words (window image 0 position) = take-take position _ (words d) (omega arith) ∙ sym first in
+    ap (λ (w : List ℕ). 4 * (length (sizes d) + 1) + sum_by up4 w) same
+
+-- what is read of a part in the table: where it starts, and its size
+pub part_read : (image : List ℕ) (size count position sum n : ℕ) → 64 + size ≤ length image → 4 * (count + 1) ≤ size → count ≡ length (sizes (slice image 64 size)) → position < count → sum ≡ sum_by up4 (words (window image 0 position)) → n ≡ be32 image (64 + 4 * position) → (4 * (count + 1) + sum ≡ start (sizes (slice image 64 size)) position) × (n ≡ get_or (sizes (slice image 64 size)) position 0)
+part_read image size count position sum n inside fits counts there e word =
+    (omega (arith, counts, e, start_sum image size position (omega arith) (omega (arith, counts))), word ∙ sym (table_words image size inside position (omega (arith, counts))))

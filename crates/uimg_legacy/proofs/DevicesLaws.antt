@@ -3,7 +3,7 @@ use Rattle.std.proofs.Common.{◌≡◌, ◌<◌, ℕ, List, [], length, map, ge
 use Rattle.std.proofs.lemmas.List.{map-set, length-map, get_or-map, get_or-set_same, get_or-set_other}
 use Rattle.std.proofs.Math.Seq.{map-set_same}
 use Rattle.uimg_base.specs.Device.{Device, SameDevice, Rose, RisesIf}
-use Rattle.uimg_legacy.specs.Devices.{bytes_of, asked_of, failures_of, AreHonest, SameDevices, OneRisesIf}
+use Rattle.uimg_legacy.specs.Devices.{bytes_of, asked_of, failures_of, AreHonest, SameDevices, OneRisesIf, UsesAll, AsksNone}
 
 -- a fact of one of them
 at_map : {X Y : Type 0} (device : X → Device) (f : Device → Y) (xs : List X) (i : ℕ) (x : X) (y : Y) → i < length xs → get_or (map f (map device xs)) i y ≡ f (device (get_or xs i x))
@@ -55,6 +55,10 @@ rises_after device true xs i x z within rose =
           ∙ get_or-set_other (map (λ (d : Device). d.failures) (map device xs)) i j (device z).failures 0 other;
     }
 
+-- the part was used, and so all were
+pub uses_after : {X : Type 0} (device : X → Device) (b : Bool) (xs : List X) (i : ℕ) (x z : X) → i < length xs → SameDevice (device (get_or xs i x)) (device z) → RisesIf b (device (get_or xs i x)).failures (device z).failures → UsesAll b (map device xs) (map device (set xs i z))
+uses_after device b xs i x z within same rose = record { same = same_after device xs i x z within same; failures = rises_after device b xs i x z within rose }
+
 -- one call after others
 pub same_then : (o m n : List Device) → SameDevices o m → SameDevices m n → SameDevices o n
 same_then o m n p q = record { bytes = q.bytes ∙ p.bytes; honest = q.honest ∙ p.honest }
@@ -92,3 +96,11 @@ rises_then true o m n count same rose = record {
   rose = subst (λ (ns : List ℕ). Rose (get_or ns rose.number 0) (failures_of n rose.number)) same rose.rose;
   others = λ j other. subst (λ (ns : List ℕ). failures_of n j ≡ get_or ns j 0) same (rose.others j other);
 }
+
+-- a use after others that did not fail
+pub uses_then : {b : Bool} {o m n : List Device} → UsesAll false o m → UsesAll b m n → UsesAll b o n
+uses_then p q = record { same = same_then _ _ _ p.same q.same; failures = rises_then _ _ _ _ (count_same _ _ p.same) p.failures q.failures }
+
+-- one that asks for no byte is a use
+pub unasked : {b : Bool} {o n : List Device} → AsksNone b o n → UsesAll b o n
+unasked p = record { same = p.same; failures = p.failures }

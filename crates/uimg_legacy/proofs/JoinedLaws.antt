@@ -1,10 +1,9 @@
 -- The parts joined, one at a time.
 use Rattle.std.proofs.Common.{◌≡◌, ◌≤◌, ◌<◌, ℕ, zero, suc, ◌+◌, ◌-◌, ◌%◌, List, [], ◌∷◌, ◌++◌, length, take, get_or, replicate, length-append, append_assoc, append-nil, ◌∙◌, ap, sym, subst, refl, arith}
 use Rattle.std.specs.Int.{to_be_bytes, w32}
-use Rattle.std.proofs.lemmas.Grind.{flat_map-append}
 use Rattle.std.proofs.lemmas.List.{take_more, take_all, length-replicate}
 use Rattle.uimg_base.specs.Sink.{Sink, AppendsAll, AppendsPrefix}
-use Rattle.uimg_base.proofs.SinkLaws.{prefix_none, prefix_all, prefix_first, prefix_then, prefix_at}
+use Rattle.uimg_base.proofs.SinkLaws.{prefix_none, prefix_first, prefix_then, prefix_at}
 use Rattle.uimg_texts.specs.Numbers.{up4}
 use Rattle.uimg_legacy.specs.Building.{padding, joined, size_table}
 use Rattle.uimg_legacy.proofs.TableLaws.{size_words}
@@ -43,13 +42,6 @@ joined_snoc (x ∷ z ∷ zs) p =
     ∙ ap (λ (w : List ℕ). prefix ++ (rest ++ (w ++ p))) (sym (padding_behind x rest))
     ∙ sym (append_assoc prefix rest (padding (length (prefix ++ rest)) ++ p))
 
--- the words of the first sizes and one more
-pub words_more : (ps : List (List ℕ)) (i : ℕ) → i < length ps → size_words (take (i + 1) ps) ≡ size_words (take i ps) ++ to_be_bytes w32 (length (get_or ps i []))
-words_more ps i h =
-    ap size_words (take_more ps i [] h)
-    ∙ flat_map-append (λ p. to_be_bytes w32 (length p)) (take i ps) (get_or ps i [] ∷ [])
-    ∙ ap (λ (w : List ℕ). size_words (take i ps) ++ w) (append-nil (to_be_bytes w32 (length (get_or ps i []))))
-
 -- the whole table
 pub table_whole : (ps : List (List ℕ)) → size_table ps ≡ size_words ps ++ to_be_bytes w32 0
 unfolding size_table
@@ -73,15 +65,6 @@ table_start s t ps i h p = table_prefix s t t ps i h p (prefix_none t _)
 pub joined_more : (ps : List (List ℕ)) (i : ℕ) → i < length ps → joined (take (i + 1) ps) ≡ joined (take i ps) ++ (padding (length (joined (take i ps))) ++ get_or ps i [])
 joined_more ps i h = ap joined (take_more ps i [] h) ∙ joined_snoc (take i ps) (get_or ps i [])
 
--- the remainder of their length by 4
-pub remainder_more : (ps : List (List ℕ)) (i : ℕ) → i < length ps → length (joined (take (i + 1) ps)) % 4 ≡ length (get_or ps i []) % 4
-remainder_more ps i h =
-    let all = length-append (joined (take i ps)) (padding (length (joined (take i ps))) ++ get_or ps i []) in
-    let rest = length-append (padding (length (joined (take i ps)))) (get_or ps i []) in
-    let zeros = length-padding (length (joined (take i ps))) in
-    let more = ap length (joined_more ps i h) in
-    omega (arith, all, rest, zeros, more)
-
 -- where they end
 pub length_more : (ps : List (List ℕ)) (i : ℕ) → i < length ps → length (joined (take (i + 1) ps)) ≡ up4 (length (joined (take i ps))) + length (get_or ps i [])
 length_more ps i h =
@@ -90,6 +73,10 @@ length_more ps i h =
     let zeros = length-padding (length (joined (take i ps))) in
     let more = ap length (joined_more ps i h) in
     omega (arith, all, rest, zeros, more)
+
+-- the remainder of their length by 4
+pub remainder_more : (ps : List (List ℕ)) (i : ℕ) → i < length ps → length (joined (take (i + 1) ps)) % 4 ≡ length (get_or ps i []) % 4
+remainder_more ps i h = omega (arith, length_more ps i h)
 
 -- all of them
 pub joined_all : (ps : List (List ℕ)) (n : ℕ) → length ps ≤ n → joined (take n ps) ≡ joined ps
@@ -108,12 +95,6 @@ joined_rest (p ∷ q ∷ more) (suc (suc n)) =
     let prefix = p ++ padding (length p) in
     let others = joined_rest (q ∷ more) (suc n) in
     (others.0, ap (λ (w : List ℕ). prefix ++ w) others.1 ∙ sym (append_assoc prefix (joined (q ∷ take n more)) others.0))
-
--- the parts before one are a prefix of all
-pub joined_start : (s t : Sink) (ps : List (List ℕ)) (i : ℕ) → AppendsAll s t (joined (take i ps)) → AppendsPrefix s t (joined ps)
-joined_start s t ps i p =
-    let rest = joined_rest ps i in
-    subst (λ (w : List ℕ). AppendsPrefix s t w) (sym rest.1) (prefix_first s t (joined (take i ps)) rest.0 (prefix_all s t (joined (take i ps)) p))
 
 -- a prefix of the zeros before a part, and of that part, after the parts before it
 pub joined_prefix : (s m t : Sink) (ps : List (List ℕ)) (i : ℕ) → i < length ps → AppendsAll s m (joined (take i ps)) → AppendsPrefix m t (padding (length (joined (take i ps))) ++ get_or ps i []) → AppendsPrefix s t (joined ps)

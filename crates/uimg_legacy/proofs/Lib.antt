@@ -1,9 +1,11 @@
 pub mod HeaderLaws
+pub mod SourceLaws
 pub mod PartsLaws
 pub mod ChunkLaws
 pub mod LinesLaws
 pub mod Examples
 pub mod DevicesLaws
+pub mod PartStepsLaws
 pub mod JoinedLaws
 pub mod EmptyLaws
 pub mod ResultLaws

@@ -53,7 +53,7 @@ payload_word image size i inside h =
     ∙ ap (λ (w : List ℕ). from_be_bytes w32 w) (slice-slice image 64 size (4 * i) 4 (omega arith))
 
 -- a prefix one longer, and a prefix that ends
-cond_le : (b : Bool) (n i : ℕ) → suc i ≤ cond b (1 + n) 0 → (b ≡ true) × (i ≤ n)
+pub cond_le : (b : Bool) (n i : ℕ) → suc i ≤ cond b (1 + n) 0 → (b ≡ true) × (i ≤ n)
 cond_le true n i h = (refl, omega arith)
 cond_le false n i h = absurd (omega arith)
 

@@ -31,6 +31,10 @@ abbrev pub data_of : Bool → List (List ℕ) → List ℕ
 data_of true parts = size_table parts ++ joined parts
 data_of false parts = joined parts
 
+-- the data that are built for a type
+abbrev pub data_for : ℕ → List (List ℕ) → List ℕ
+data_for kind parts = data_of (has_parts kind) parts
+
 -- the header of such data, with the fields that the options give
 abbrev pub header_for : Options → List ℕ → Header
 header_for options payload = record {

@@ -8,7 +8,9 @@ pub mod Extraction
 pub mod Work
 pub mod Listing
 pub mod Faults
+pub mod Reading
 pub mod Devices
+pub mod PartSteps
 pub mod Building
 pub mod BuildingSteps
 pub mod ReadsBack

@@ -11,7 +11,7 @@ use Rattle.uimg_legacy.specs.declared.header.Header.{Header}
 use Rattle.uimg_legacy.specs.declared.fault.LegacyFault.{LegacyFault}
 use Rattle.uimg_legacy.specs.declared.fault.LegacyFault.TheVariants.{PartOutside}
 use Rattle.uimg_legacy.specs.Image.{legacy}
-use Rattle.uimg_legacy.specs.Parts.{has_parts, part_sizes, is_outside}
+use Rattle.uimg_legacy.specs.Parts.{has_parts, sizes, part_sizes, is_outside}
 
 -- a value behind its label, which is padded with blanks to 14 bytes
 abbrev pub labelled : List ℕ → List ℕ → List ℕ
@@ -70,6 +70,10 @@ part_lines payload table (suc n) i =
 -- the parts, unless their table has no end
 abbrev pub contents : List ℕ → Outcome LegacyFault
 contents payload = unless_refused (part_sizes payload) (λ table. after (line (codes "Contents:")) (part_lines payload table (length table) 0))
+
+-- the lines of so many parts of the data
+abbrev pub lines_of : List ℕ → ℕ → Outcome LegacyFault
+lines_of payload count = part_lines payload (sizes payload) count 0
 
 -- what stands after the six lines
 abbrev pub tail_with : Bool → List ℕ → Outcome LegacyFault

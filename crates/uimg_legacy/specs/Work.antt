@@ -3,7 +3,7 @@ use Rattle.std.specs.Prelude.{ℕ, ◌+◌, ◌*◌, List, length, nat_lt, if◌
 use Rattle.uimg_legacy.specs.declared.header.Header.{Header}
 use Rattle.uimg_legacy.specs.declared.fault.LegacyFault.{LegacyFault}
 use Rattle.uimg_legacy.specs.Header.{header}
-use Rattle.uimg_legacy.specs.Image.{Image, legacy}
+use Rattle.uimg_legacy.specs.Image.{Image, payload, legacy}
 use Rattle.uimg_legacy.specs.Parts.{has_parts, sizes}
 use Rattle.uimg_legacy.specs.Extraction.{extract_of}
 
@@ -30,7 +30,11 @@ abbrev pub sizes_read_with : Bool → List ℕ → ℕ
 sizes_read_with true payload = length (sizes payload)
 sizes_read_with false payload = 0
 
--- the same of an image that is not refused
+-- the most that is asked for of the sizes, once the header is known
+abbrev pub table_work : Header → List ℕ → ℕ
+table_work h image = 12 * (sizes_read_with (has_parts h.kind) (payload image h) + 1)
+
+-- how many sizes are read of an image that is not refused
 abbrev pub sizes_read_from : Result Image LegacyFault → ℕ
 sizes_read_from (Ok image) = sizes_read_with (has_parts image.header.kind) image.payload
 sizes_read_from (Err fault) = 0

@@ -2,11 +2,11 @@ ghost use Rattle.std.specs.Prelude.{◌≡◌, ◌≢◌, ℕ, ◌^◌, ◌<◌,
 ghost use Rattle.std.specs.List.{All};
 ghost use Rattle.uimg_sums.specs.Crc.{crc};
 ghost use Rattle.uimg_base.specs.Device.{RisesIf};
-ghost use Rattle.uimg_base.specs.Writing.{Written};
 ghost use Rattle.uimg_base.specs.Outcome.{Tells};
 ghost use Rattle.uimg_legacy.specs.Parts.{has_parts};
-ghost use Rattle.uimg_legacy.specs.Building.{data_of, data_to_build, legacy_built, build_of, header_for};
+ghost use Rattle.uimg_legacy.specs.Building.{data_of, data_for, data_to_build, legacy_built, build_of, header_for};
 ghost use Rattle.uimg_legacy.specs.BuildingSteps.{IsHead};
+ghost use Rattle.uimg_legacy.specs.PartSteps.{Puts};
 ghost use Rattle.uimg_legacy.specs.ReadsBack.{ReadsBack};
 ghost use Rattle.uimg_legacy.specs.Devices.{bytes_of, asked_of, AreHonest, UsesAll};
 ghost use Rattle.uimg_legacy.specs.Faults.{is_read, is_put, is_refused, built_end, Gives};
@@ -41,40 +41,35 @@ fn header_for(options: &Options, size: u32, dcrc: u32) -> Header
 
 // The header's bytes for the data that are built from the parts.
 fn head_of<S: Source>(
-    options: &Options,
-    size: u32,
     parts: &mut [S],
     window: &mut [u8; WINDOW],
+    options: &Options,
+    size: u32,
 ) -> Result<[u8; HEADER_LEN], SourceFault>
     requires small { All (λ part. length part < 2 ^ 32) (bytes_of (map S.device parts.old)) }
-    requires size { size ≡ length (data_of (has_parts options.now.kind)
-        (bytes_of (map S.device parts.old))) }
+    requires size { size ≡ length (data_for options.now.kind (bytes_of (map S.device parts.old))) }
     ensures uses { UsesAll (is_err result) (map S.device parts.old) (map S.device parts.new) }
-    ensures head { AreHonest (map S.device parts.old) → IfOk result (λ bytes. IsHead bytes
-        (header_for options.now (data_of (has_parts options.now.kind)
-        (bytes_of (map S.device parts.old))))) }
+    ensures head { AreHonest (map S.device parts.old) → IfOk result (λ head. IsHead head
+        (header_for options.now (data_for options.now.kind (bytes_of (map S.device parts.old))))) }
 {
-    let dcrc = data_crc(has_parts(options.kind), parts, window)?;
+    let dcrc = data_crc(parts, window, has_parts(options.kind))?;
     Ok(header_bytes(&header_for(options, size, dcrc)))
 }
 
 // Writes the header's bytes and the data.
 fn put_image<S: Source, W: Write>(
-    head: &[u8; HEADER_LEN],
-    has_parts: bool,
     parts: &mut [S],
     window: &mut [u8; WINDOW],
+    head: &[u8; HEADER_LEN],
+    has_parts: bool,
     out: &mut Out<W>,
 ) -> Result<(), Fault>
     requires small { All (λ part. length part < 2 ^ 32) (bytes_of (map S.device parts.old)) }
-    ensures uses { UsesAll (is_read result) (map S.device parts.old) (map S.device parts.new) }
-    ensures faults { RisesIf (is_put result) out.old.faults out.new.faults }
-    ensures accepted { is_refused result ≡ false }
-    ensures written { AreHonest (map S.device parts.old) → Written (is_err result) out.old out.new
-        (head.now ++ data_of has_parts (bytes_of (map S.device parts.old))) }
+    ensures { Puts AreHonest (λ ps. head.now ++ data_of has_parts ps) result
+        S.device parts.old parts.new out.old out.new }
 {
     out.put_all(head)?;
-    put_data(has_parts, parts, window, out)
+    put_data(parts, window, has_parts, out)
 }
 
 /// Builds a legacy image from its parts: the header's 64 bytes with the fields of the options, and
@@ -102,18 +97,16 @@ pub fn build<S: Source, W: Write>(
     ensures accepted { IsTrue (is_put result) →
         data_to_build options.now.kind (bytes_of (map S.device parts.old))
         ≡ Ok (data_of (has_parts options.now.kind) (bytes_of (map S.device parts.old))) }
-    ensures untouched { IsTrue (is_refused result) →
-        (out.new ≡ out.old) × (asked_of (map S.device parts.new)
-        ≡ asked_of (map S.device parts.old)) }
-    ensures told { AreHonest (map S.device parts.old) →
-        Tells (built_end result) (build_of options.now (bytes_of (map S.device parts.old))) out.old
-        out.new }
+    ensures untouched { IsTrue (is_refused result) → (out.new ≡ out.old)
+        × (asked_of (map S.device parts.new) ≡ asked_of (map S.device parts.old)) }
+    ensures told { AreHonest (map S.device parts.old) → Tells (built_end result)
+        (build_of options.now (bytes_of (map S.device parts.old))) out.old out.new }
     ensures reads_back { AreHonest (map S.device parts.old) → OnOk result (ReadsBack
         (legacy_built options.now (bytes_of (map S.device parts.old)))
         (bytes_of (map S.device parts.old))) }
 {
-    let size = measure(options.kind, parts)?;
+    let size = measure(parts, options.kind)?;
     let mut window = [0; WINDOW];
-    let head = head_of(options, size, parts, &mut window)?;
-    put_image(&head, has_parts(options.kind), parts, &mut window, out)
+    let head = head_of(parts, &mut window, options, size)?;
+    put_image(parts, &mut window, &head, has_parts(options.kind), out)
 }

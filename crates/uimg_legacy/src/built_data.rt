@@ -1,11 +1,9 @@
-ghost use Rattle.std.specs.Prelude.{◌≡◌, ℕ, ◌^◌, ◌<◌, List, ◌++◌, length, map, false, OnOk, IfOk, is_err};
+ghost use Rattle.std.specs.Prelude.{◌≡◌, ◌^◌, ◌<◌, length, map, IfOk, is_err};
 ghost use Rattle.std.specs.List.{All};
 ghost use Rattle.uimg_sums.specs.Crc.{crc};
-ghost use Rattle.uimg_base.specs.Device.{RisesIf};
-ghost use Rattle.uimg_base.specs.Writing.{Written};
 ghost use Rattle.uimg_legacy.specs.Building.{size_table, joined, data_of};
 ghost use Rattle.uimg_legacy.specs.Devices.{bytes_of, AreHonest, UsesAll};
-ghost use Rattle.uimg_legacy.specs.Faults.{is_read, is_put, is_refused};
+ghost use Rattle.uimg_legacy.specs.PartSteps.{Feeds, Puts, AnyDevices};
 
 use crate::fault::Fault;
 use crate::one_part::{feed_part, put_part, size_word, zeros_after};
@@ -13,12 +11,10 @@ use std::io::Write;
 use uimg_base::{Crc, Out, Source, SourceFault, Summer, WINDOW};
 
 // Feeds the table of sizes to a sum.
-fn feed_table<M: Summer, S: Source>(sum: &mut M, parts: &mut [S]) -> Result<(), SourceFault>
+fn feed_table<M: Summer, S: Source>(parts: &mut [S], sum: &mut M) -> Result<(), SourceFault>
     requires small { All (λ part. length part < 2 ^ 32) (bytes_of (map S.device parts.old)) }
-    ensures uses { UsesAll (is_err result) (map S.device parts.old) (map S.device parts.new) }
-    ensures fed { OnOk result ((fed : List ℕ) →
-        M.holds sum.old fed → M.holds sum.new (fed ++ size_table
-        (bytes_of (map S.device parts.old)))) }
+    ensures { Feeds AnyDevices M.holds size_table result
+        S.device parts.old parts.new sum.old sum.new }
 {
     for i in 0..parts.len() {
         sum.feed(&size_word(parts, i)?);
@@ -29,47 +25,43 @@ fn feed_table<M: Summer, S: Source>(sum: &mut M, parts: &mut [S]) -> Result<(), 
 
 // Feeds the parts to a sum, each but the last padded to a multiple of 4.
 fn feed_joined<M: Summer, S: Source>(
-    sum: &mut M,
     parts: &mut [S],
     window: &mut [u8; WINDOW],
+    sum: &mut M,
 ) -> Result<(), SourceFault>
-    ensures uses { UsesAll (is_err result) (map S.device parts.old) (map S.device parts.new) }
-    ensures fed { AreHonest (map S.device parts.old) → OnOk result ((fed : List ℕ) →
-        M.holds sum.old fed → M.holds sum.new (fed ++ joined (bytes_of (map S.device parts.old)))) }
+    ensures { Feeds AreHonest M.holds joined result S.device parts.old parts.new sum.old sum.new }
 {
     let mut remainder = 0;
     for i in 0..parts.len() {
         sum.feed(zeros_after(remainder));
-        remainder = feed_part(sum, parts, i, window)? % 4;
+        remainder = feed_part(parts, window, i, sum)? % 4;
     }
     Ok(())
 }
 
 // Feeds the data that are built from the parts to a sum.
 fn feed_data<M: Summer, S: Source>(
-    sum: &mut M,
-    has_parts: bool,
     parts: &mut [S],
     window: &mut [u8; WINDOW],
+    has_parts: bool,
+    sum: &mut M,
 ) -> Result<(), SourceFault>
     requires small { All (λ part. length part < 2 ^ 32) (bytes_of (map S.device parts.old)) }
-    ensures uses { UsesAll (is_err result) (map S.device parts.old) (map S.device parts.new) }
-    ensures fed { AreHonest (map S.device parts.old) → OnOk result ((fed : List ℕ) →
-        M.holds sum.old fed → M.holds sum.new (fed ++ data_of has_parts
-        (bytes_of (map S.device parts.old)))) }
+    ensures { Feeds AreHonest M.holds (data_of has_parts) result
+        S.device parts.old parts.new sum.old sum.new }
 {
     if !has_parts {
-        return feed_joined(sum, parts, window);
+        return feed_joined(parts, window, sum);
     }
-    feed_table(sum, parts)?;
-    feed_joined(sum, parts, window)
+    feed_table(parts, sum)?;
+    feed_joined(parts, window, sum)
 }
 
 // The CRC of the data that are built from the parts.
 pub(crate) fn data_crc<S: Source>(
-    has_parts: bool,
     parts: &mut [S],
     window: &mut [u8; WINDOW],
+    has_parts: bool,
 ) -> Result<u32, SourceFault>
     requires small { All (λ part. length part < 2 ^ 32) (bytes_of (map S.device parts.old)) }
     ensures uses { UsesAll (is_err result) (map S.device parts.old) (map S.device parts.new) }
@@ -77,18 +69,14 @@ pub(crate) fn data_crc<S: Source>(
         IfOk result (λ n. n ≡ crc (data_of has_parts (bytes_of (map S.device parts.old)))) }
 {
     let mut sum = Crc::start();
-    feed_data(&mut sum, has_parts, parts, window)?;
+    feed_data(parts, window, has_parts, &mut sum)?;
     Ok(sum.value())
 }
 
 // Writes the table of sizes.
 fn put_table<S: Source, W: Write>(parts: &mut [S], out: &mut Out<W>) -> Result<(), Fault>
     requires small { All (λ part. length part < 2 ^ 32) (bytes_of (map S.device parts.old)) }
-    ensures uses { UsesAll (is_read result) (map S.device parts.old) (map S.device parts.new) }
-    ensures faults { RisesIf (is_put result) out.old.faults out.new.faults }
-    ensures accepted { is_refused result ≡ false }
-    ensures written { Written (is_err result) out.old out.new
-        (size_table (bytes_of (map S.device parts.old))) }
+    ensures { Puts AnyDevices size_table result S.device parts.old parts.new out.old out.new }
 {
     for i in 0..parts.len() {
         out.put_all(&size_word(parts, i)?)?;
@@ -103,33 +91,26 @@ fn put_joined<S: Source, W: Write>(
     window: &mut [u8; WINDOW],
     out: &mut Out<W>,
 ) -> Result<(), Fault>
-    ensures uses { UsesAll (is_read result) (map S.device parts.old) (map S.device parts.new) }
-    ensures faults { RisesIf (is_put result) out.old.faults out.new.faults }
-    ensures accepted { is_refused result ≡ false }
-    ensures written { AreHonest (map S.device parts.old) → Written (is_err result) out.old out.new
-        (joined (bytes_of (map S.device parts.old))) }
+    ensures { Puts AreHonest joined result S.device parts.old parts.new out.old out.new }
 {
     let mut remainder = 0;
     for i in 0..parts.len() {
         out.put_all(zeros_after(remainder))?;
-        remainder = put_part(parts, i, window, out)? % 4;
+        remainder = put_part(parts, window, i, out)? % 4;
     }
     Ok(())
 }
 
 // Writes the data that are built from the parts.
 pub(crate) fn put_data<S: Source, W: Write>(
-    has_parts: bool,
     parts: &mut [S],
     window: &mut [u8; WINDOW],
+    has_parts: bool,
     out: &mut Out<W>,
 ) -> Result<(), Fault>
     requires small { All (λ part. length part < 2 ^ 32) (bytes_of (map S.device parts.old)) }
-    ensures uses { UsesAll (is_read result) (map S.device parts.old) (map S.device parts.new) }
-    ensures faults { RisesIf (is_put result) out.old.faults out.new.faults }
-    ensures accepted { is_refused result ≡ false }
-    ensures written { AreHonest (map S.device parts.old) → Written (is_err result) out.old out.new
-        (data_of has_parts (bytes_of (map S.device parts.old))) }
+    ensures { Puts AreHonest (data_of has_parts) result
+        S.device parts.old parts.new out.old out.new }
 {
     if !has_parts {
         return put_joined(parts, window, out);

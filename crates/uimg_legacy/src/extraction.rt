@@ -1,12 +1,12 @@
-ghost use Rattle.std.specs.Prelude.{◌≡◌, ◌+◌, ◌≤◌, [], false, length, IsTrue, IfOk};
+ghost use Rattle.std.specs.Prelude.{◌≡◌, ◌+◌, ◌≤◌, [], length, IsTrue, IfOk};
 ghost use Rattle.uimg_base.specs.Device.{RisesIf};
-ghost use Rattle.uimg_texts.specs.Slices.{slice};
 ghost use Rattle.uimg_base.specs.Using.{UsesAtMost};
 ghost use Rattle.uimg_base.specs.Outcome.{Tells};
 ghost use Rattle.uimg_base.specs.Ranges.{ReadsAhead};
-ghost use Rattle.uimg_legacy.specs.Extraction.{part_at, extract_of};
+ghost use Rattle.uimg_legacy.specs.Extraction.{extract_of};
 ghost use Rattle.uimg_legacy.specs.Work.{list_work, extract_work};
-ghost use Rattle.uimg_legacy.specs.Faults.{is_read, is_put, is_refused, end_of, Gives};
+ghost use Rattle.uimg_legacy.specs.Reading.{Reads, LocatesPart};
+ghost use Rattle.uimg_legacy.specs.Faults.{is_read, is_put, is_refused, end_of};
 
 use crate::fault::Fault;
 use crate::image::read_image;
@@ -21,15 +21,9 @@ fn locate_part<S: Source, A: Allocator>(
     room: &mut Room<A>,
     position: u32,
 ) -> Result<Span, Fault>
-    ensures uses { UsesAtMost (list_work (S.device source.old).bytes)
-        (is_read result) (S.device source.old) (S.device source.new) }
-    ensures room { room.new ≡ room.old }
-    ensures no_put { is_put result ≡ false }
-    ensures inside { IfOk result (λ span. span.start + span.length
-        ≤ length (S.device source.old).bytes) }
-    ensures gives { IsTrue (S.device source.old).honest → Gives
-        (λ span. slice (S.device source.old).bytes span.start span.length) result
-        (part_at (S.device source.old).bytes position) }
+    ensures reads { Reads (UsesAtMost (list_work (S.device source.old).bytes)) (LocatesPart position)
+        result (S.device source.old) (S.device source.new) room.old room.new }
+    ensures inside { IfOk result (λ span. span.at + span.len ≤ length (S.device source.old).bytes) }
 {
     let header = read_image(source, room)?;
     find_part(source, room, &header, position)
@@ -49,10 +43,9 @@ pub fn extract<S: Source, A: Allocator, W: Write>(
     ensures uses { UsesAtMost (extract_work (S.device source.old).bytes position)
         (is_read result) (S.device source.old) (S.device source.new) }
     ensures room { room.new ≡ record room.old { entries = [] } }
-    ensures ahead { IsTrue (S.device source.old).honest →
-        ReadsAhead (list_work (S.device source.old).bytes)
-        (S.device source.old) (S.device source.new) out.old out.new
-        (extract_of (S.device source.old).bytes position).text }
+    ensures ahead { IsTrue (S.device source.old).honest → ReadsAhead
+        (list_work (S.device source.old).bytes) (S.device source.old) (S.device source.new)
+        out.old out.new (extract_of (S.device source.old).bytes position).text }
     ensures untouched { IsTrue (is_refused result) → out.new ≡ out.old }
     ensures faults { RisesIf (is_put result) out.old.faults out.new.faults }
     ensures told { IsTrue (S.device source.old).honest →
@@ -60,6 +53,6 @@ pub fn extract<S: Source, A: Allocator, W: Write>(
 {
     room.clear();
     let span = locate_part(source, room, position)?;
-    copy_range(source, room, span.start, span.length as u64, out)?;
+    copy_range(source, room, span.at, span.len as u64, out)?;
     Ok(Status::Done)
 }

@@ -59,6 +59,7 @@ pub(crate) fn read_head<S: Source>(source: &mut S) -> Result<[u8; HEADER_LEN], F
     Ok(bytes)
 }
 
+// Whether the header's CRC is that of its bytes with zeros in its place.
 #[tactic(auto, unfolding(crate::specs::Header::has_right_crc))]
 pub(crate) fn has_right_crc(bytes: &[u8; HEADER_LEN]) -> bool
     ensures { result ≡ has_right_crc bytes.now }
@@ -68,6 +69,7 @@ pub(crate) fn has_right_crc(bytes: &[u8; HEADER_LEN]) -> bool
     number_at(bytes, 4) == crc_of(&cleared)
 }
 
+// The fields at their places.
 pub(crate) fn fields(bytes: &[u8; HEADER_LEN]) -> Header
     ensures fields { result ≡ fields bytes.now }
     ensures spelled { be32 bytes.now 0 ≡ magic → has_right_crc bytes.now ≡ true →
@@ -153,7 +155,7 @@ pub fn name_field(name: &[u8]) -> [u8; 32]
     ensures { result ≡ name_of name.now }
 {
     let mut field = [0; 32];
-    let length = usize::min(name.len(), 32);
-    field[..length].copy_from_slice(&name[..length]);
+    let len = usize::min(name.len(), 32);
+    field[..len].copy_from_slice(&name[..len]);
     field
 }

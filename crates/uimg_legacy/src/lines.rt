@@ -24,7 +24,7 @@ fn address_text(address: u32) -> [u8; 8]
 
 // A line that ends with a size.
 #[tactic(auto, using(uimg_base::proofs::WritingLaws::writing))]
-fn put_size<W: Write>(out: &mut Out<W>, before: &[u8], size: u32) -> Result<(), PutFault>
+fn put_size<W: Write>(before: &[u8], size: u32, out: &mut Out<W>) -> Result<(), PutFault>
     ensures { Writes (is_err result) out.old out.new (line (before.now ++ size_text size)) }
 {
     out.put_all(before)?;
@@ -33,19 +33,19 @@ fn put_size<W: Write>(out: &mut Out<W>, before: &[u8], size: u32) -> Result<(), 
 }
 
 // A line of a label, padded with blanks, and a value.
-fn put_line<W: Write>(out: &mut Out<W>, label: &[u8], value: &[u8]) -> Result<(), PutFault>
+fn put_line<W: Write>(label: &[u8], value: &[u8], out: &mut Out<W>) -> Result<(), PutFault>
     ensures { Writes (is_err result) out.old out.new (line (label.now ++ value.now)) }
 {
     out.put_pieces(&[label, value, b"\n"])
 }
 
-// The line of an image's type, by the names of its codes.
+// The line of the type, by the names of its codes.
 fn put_type_names<W: Write>(
-    out: &mut Out<W>,
     arch: &str,
     os: &str,
     kind: &str,
     comp: &str,
+    out: &mut Out<W>,
 ) -> Result<(), PutFault>
     ensures { Writes (is_err result) out.old out.new
         (labelled (codes "Image Type:") (type_text arch.now os.now kind.now comp.now)) }
@@ -63,70 +63,76 @@ fn put_type_names<W: Write>(
     ])
 }
 
+// The line of the type, by the header's codes.
 #[tactic(auto, unfolding(crate::specs::Listing::type_line))]
-fn put_type<W: Write>(out: &mut Out<W>, header: &Header) -> Result<(), PutFault>
+fn put_type<W: Write>(header: &Header, out: &mut Out<W>) -> Result<(), PutFault>
     ensures { Writes (is_err result) out.old out.new (type_line header.now) }
 {
     let arch = arch_text(header.arch);
     let os = os_text(header.os);
     let kind = kind_text(header.kind);
     let comp = comp_text(header.comp);
-    put_type_names(out, arch, os, kind, comp)
+    put_type_names(arch, os, kind, comp, out)
 }
 
+// The line of the name.
 #[tactic(auto, unfolding(crate::specs::Listing::name_line))]
-fn put_name<W: Write>(out: &mut Out<W>, header: &Header) -> Result<(), PutFault>
+fn put_name<W: Write>(header: &Header, out: &mut Out<W>) -> Result<(), PutFault>
     ensures { Writes (is_err result) out.old out.new (name_line header.now) }
 {
-    put_line(out, b"Image Name:   ", before_nul(&header.name))
+    put_line(b"Image Name:   ", before_nul(&header.name), out)
 }
 
+// The line of the time.
 #[tactic(auto, unfolding(crate::specs::Listing::time_line))]
-fn put_time<W: Write>(out: &mut Out<W>, header: &Header) -> Result<(), PutFault>
+fn put_time<W: Write>(header: &Header, out: &mut Out<W>) -> Result<(), PutFault>
     ensures { Writes (is_err result) out.old out.new (time_line header.now) }
 {
-    put_line(out, b"Created:      ", &time_text(header.time))
+    put_line(b"Created:      ", &time_text(header.time), out)
 }
 
+// The line of the data's size.
 #[tactic(auto, unfolding(crate::specs::Listing::size_line))]
-fn put_data_size<W: Write>(out: &mut Out<W>, header: &Header) -> Result<(), PutFault>
+fn put_data_size<W: Write>(header: &Header, out: &mut Out<W>) -> Result<(), PutFault>
     ensures { Writes (is_err result) out.old out.new (size_line header.now) }
 {
-    put_size(out, b"Data Size:    ", header.size)
+    put_size(b"Data Size:    ", header.size, out)
 }
 
+// The line of the load address.
 #[tactic(auto, unfolding(crate::specs::Listing::load_line))]
-fn put_load<W: Write>(out: &mut Out<W>, header: &Header) -> Result<(), PutFault>
+fn put_load<W: Write>(header: &Header, out: &mut Out<W>) -> Result<(), PutFault>
     ensures { Writes (is_err result) out.old out.new (load_line header.now) }
 {
-    put_line(out, b"Load Address: ", &address_text(header.load))
+    put_line(b"Load Address: ", &address_text(header.load), out)
 }
 
+// The line of the entry point.
 #[tactic(auto, unfolding(crate::specs::Listing::entry_line))]
-fn put_entry<W: Write>(out: &mut Out<W>, header: &Header) -> Result<(), PutFault>
+fn put_entry<W: Write>(header: &Header, out: &mut Out<W>) -> Result<(), PutFault>
     ensures { Writes (is_err result) out.old out.new (entry_line header.now) }
 {
-    put_line(out, b"Entry Point:  ", &address_text(header.ep))
+    put_line(b"Entry Point:  ", &address_text(header.ep), out)
 }
 
 // The line of a part.
 #[tactic(auto, unfolding(crate::specs::Listing::part_line))]
-pub(crate) fn put_part_line<W: Write>(out: &mut Out<W>, i: u32, size: u32) -> Result<(), PutFault>
+pub(crate) fn put_part_line<W: Write>(i: u32, size: u32, out: &mut Out<W>) -> Result<(), PutFault>
     ensures { Writes (is_err result) out.old out.new (part_line i size) }
 {
     out.put_pieces(&[b"   Image ", Buffer::new().format(i).as_bytes(), b": "])?;
-    put_size(out, b"", size)
+    put_size(b"", size, out)
 }
 
 // The six lines of each image.
 #[tactic(auto, using(uimg_base::proofs::WritingLaws::writing))]
-pub(crate) fn put_head<W: Write>(out: &mut Out<W>, header: &Header) -> Result<(), PutFault>
+pub(crate) fn put_head<W: Write>(header: &Header, out: &mut Out<W>) -> Result<(), PutFault>
     ensures { Writes (is_err result) out.old out.new (head_text header.now) }
 {
-    put_name(out, header)?;
-    put_time(out, header)?;
-    put_type(out, header)?;
-    put_data_size(out, header)?;
-    put_load(out, header)?;
-    put_entry(out, header)
+    put_name(header, out)?;
+    put_time(header, out)?;
+    put_type(header, out)?;
+    put_data_size(header, out)?;
+    put_load(header, out)?;
+    put_entry(header, out)
 }

@@ -3,10 +3,10 @@ ghost use Rattle.uimg_base.specs.Device.{RisesIf};
 ghost use Rattle.uimg_texts.specs.Slices.{slice};
 ghost use Rattle.uimg_base.specs.Using.{Asks, UsesAtMost};
 ghost use Rattle.uimg_base.specs.Outcome.{Tells};
-ghost use Rattle.uimg_legacy.specs.Image.{payload};
-ghost use Rattle.uimg_legacy.specs.Parts.{has_parts, sizes, part_sizes};
-ghost use Rattle.uimg_legacy.specs.Listing.{part_lines, contents, tail_with, list_of};
-ghost use Rattle.uimg_legacy.specs.Work.{sizes_read_with, list_work};
+ghost use Rattle.uimg_legacy.specs.Parts.{sizes};
+ghost use Rattle.uimg_legacy.specs.Listing.{lines_of, list_of};
+ghost use Rattle.uimg_legacy.specs.Work.{table_work, list_work};
+ghost use Rattle.uimg_legacy.specs.Reading.{Reports, tail_of};
 ghost use Rattle.uimg_legacy.specs.Faults.{is_read, is_put, end_of};
 
 use crate::fault::{Fault, LegacyFault};
@@ -21,75 +21,50 @@ use uimg_base::{Out, Room, Source, Status, up4};
 // The lines of the parts, up to the first that ends after the data.
 fn list_parts<S: Source, W: Write>(
     source: &mut S,
-    out: &mut Out<W>,
     size: u32,
     count: u32,
+    out: &mut Out<W>,
 ) -> Result<Status, Fault>
     requires data { 64 + size ≤ length (S.device source.old).bytes }
     requires table { 4 * (count + 1) ≤ size }
     ensures uses { Asks (4 * count) (is_read result) (S.device source.old) (S.device source.new) }
     ensures faults { RisesIf (is_put result) out.old.faults out.new.faults }
     ensures told { IsTrue (S.device source.old).honest →
-        count ≡ length (sizes (slice (S.device source.old).bytes 64 size)) →
-        Tells (end_of result) (part_lines (slice (S.device source.old).bytes 64 size)
-        (sizes (slice (S.device source.old).bytes 64 size)) count 0) out.old out.new }
+        count ≡ length (sizes (slice (S.device source.old).bytes 64 size)) → Tells (end_of result)
+        (lines_of (slice (S.device source.old).bytes 64 size) count) out.old out.new }
 {
     let mut start = 4 * (count as u64 + 1);
     for i in 0..count {
-        let length = size_at(source, i)?;
-        if start + length as u64 > size as u64 {
+        let len = size_at(source, i)?;
+        if start + len as u64 > size as u64 {
             return Err(Fault::Legacy(LegacyFault::PartOutside));
         }
-        put_part_line(out, i, length)?;
-        let rounded = up4(length as u64);
+        put_part_line(i, len, out)?;
+        let rounded = up4(len as u64);
         start += rounded;
     }
     Ok(Status::Done)
 }
 
-// The parts, unless their table has no end.
-fn list_contents<S: Source, A: Allocator, W: Write>(
-    source: &mut S,
-    room: &mut Room<A>,
-    out: &mut Out<W>,
-    size: u32,
-) -> Result<Status, Fault>
-    requires { 64 + size ≤ length (S.device source.old).bytes }
-    ensures uses { UsesAtMost (12 * (length (sizes (slice (S.device source.old).bytes 64 size))
-        + 1))
-        (is_read result) (S.device source.old) (S.device source.new) }
-    ensures room { room.new ≡ room.old }
-    ensures faults { RisesIf (is_put result) out.old.faults out.new.faults }
-    ensures told { IsTrue (S.device source.old).honest → Tells (end_of result)
-        (contents (slice (S.device source.old).bytes 64 size)) out.old out.new }
-{
-    let count = count_sizes(source, room, size)?;
-    out.put_all(b"Contents:\n")?;
-    list_parts(source, out, size, count)
-}
-
-// What stands after the six lines.
+// What stands after the six lines: of a type that has parts their lines, unless their table has no
+// end.
 fn list_tail<S: Source, A: Allocator, W: Write>(
     source: &mut S,
     room: &mut Room<A>,
-    out: &mut Out<W>,
     header: &Header,
+    out: &mut Out<W>,
 ) -> Result<Status, Fault>
     requires { 64 + header.now.size ≤ length (S.device source.old).bytes }
-    ensures uses { UsesAtMost (12 * (sizes_read_with (has_parts header.now.kind)
-        (payload (S.device source.old).bytes header.now) + 1))
-        (is_read result) (S.device source.old) (S.device source.new) }
-    ensures room { room.new ≡ room.old }
-    ensures faults { RisesIf (is_put result) out.old.faults out.new.faults }
-    ensures told { IsTrue (S.device source.old).honest → Tells (end_of result)
-        (tail_with (has_parts header.now.kind) (payload (S.device source.old).bytes header.now))
-        out.old out.new }
+    ensures { Reports (UsesAtMost (table_work header.now (S.device source.old).bytes))
+        (tail_of header.now) result
+        (S.device source.old) (S.device source.new) room.old room.new out.old out.new }
 {
-    if has_parts(header.kind) {
-        list_contents(source, room, out, header.size)
-    } else {
-        Ok(Status::Done)
+    if !has_parts(header.kind) {
+        return Ok(Status::Done);
     }
+    let count = count_sizes(source, room, header.size)?;
+    out.put_all(b"Contents:\n")?;
+    list_parts(source, header.size, count, out)
 }
 
 /// Writes the listing of the image: six lines, and for type multi and script `Contents:` and a line
@@ -111,6 +86,6 @@ pub fn list<S: Source, A: Allocator, W: Write>(
 {
     room.clear();
     let header = read_image(source, room)?;
-    put_head(out, &header)?;
-    list_tail(source, room, out, &header)
+    put_head(&header, out)?;
+    list_tail(source, room, &header, out)
 }

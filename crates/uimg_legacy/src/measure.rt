@@ -1,8 +1,9 @@
-ghost use Rattle.std.specs.Prelude.{◌≡◌, ◌+◌, ◌%◌, ◌^◌, ◌<◌, ◌≤◌, ◌&&◌, length, map, false, IfOk, is_err};
+ghost use Rattle.std.specs.Prelude.{◌≡◌, ◌+◌, ◌%◌, ◌&&◌, length, map, false};
 ghost use Rattle.uimg_legacy.specs.Parts.{has_parts};
 ghost use Rattle.uimg_legacy.specs.Building.{joined, data_of, has_empty};
 ghost use Rattle.uimg_legacy.specs.BuildingSteps.{Measures};
 ghost use Rattle.uimg_legacy.specs.Devices.{bytes_of, AsksNone};
+ghost use Rattle.uimg_legacy.specs.PartSteps.{Learns, SumsTo};
 ghost use Rattle.uimg_legacy.specs.Faults.{is_read, is_put};
 
 use crate::fault::{Fault, LegacyFault};
@@ -12,8 +13,7 @@ use uimg_base::{Source, SourceFault};
 
 // Whether one of the parts is empty.
 fn has_empty<S: Source>(parts: &mut [S]) -> Result<bool, SourceFault>
-    ensures uses { AsksNone (is_err result) (map S.device parts.old) (map S.device parts.new) }
-    ensures empty { IfOk result (λ b. b ≡ has_empty (bytes_of (map S.device parts.old))) }
+    ensures { Learns (λ ps b. b ≡ has_empty ps) result S.device parts.old parts.new }
 {
     for i in 0..parts.len() {
         if part_size(parts, i)? == 0 {
@@ -26,12 +26,9 @@ fn has_empty<S: Source>(parts: &mut [S]) -> Result<bool, SourceFault>
 // Where the parts end that begin at a multiple of 4, each but the last rounded up to one. An end of
 // 2^32 or more may be too small.
 fn end_of_parts<S: Source>(parts: &mut [S], start: u128) -> Result<u128, SourceFault>
-    requires aligned { start % 4 ≡ 0 }
-    ensures uses { AsksNone (is_err result) (map S.device parts.old) (map S.device parts.new) }
-    ensures most { IfOk result (λ n. n ≤ start + length
-        (joined (bytes_of (map S.device parts.old)))) }
-    ensures exact { IfOk result (λ n. n < 2 ^ 32 →
-        n ≡ start + length (joined (bytes_of (map S.device parts.old)))) }
+    requires { start % 4 ≡ 0 }
+    ensures { Learns (λ ps. SumsTo (start + length (joined ps))) result
+        S.device parts.old parts.new }
 {
     let mut end = start;
     for i in 0..parts.len() {
@@ -42,10 +39,9 @@ fn end_of_parts<S: Source>(parts: &mut [S], start: u128) -> Result<u128, SourceF
 }
 
 // Whether a part is empty.
-fn has_empty_part<S: Source>(kind: u8, parts: &mut [S]) -> Result<bool, SourceFault>
-    ensures uses { AsksNone (is_err result) (map S.device parts.old) (map S.device parts.new) }
-    ensures empty { IfOk result (λ b. b ≡ (has_parts kind && has_empty
-        (bytes_of (map S.device parts.old)))) }
+fn has_empty_part<S: Source>(parts: &mut [S], kind: u8) -> Result<bool, SourceFault>
+    ensures { Learns (λ ps b. b ≡ (has_parts kind && has_empty ps)) result
+        S.device parts.old parts.new }
 {
     if has_parts(kind) {
         has_empty(parts)
@@ -56,12 +52,9 @@ fn has_empty_part<S: Source>(kind: u8, parts: &mut [S]) -> Result<bool, SourceFa
 
 // How many bytes the data have, with the table of sizes where there is one. A size of 2^32 or more
 // may be too small.
-fn data_size<S: Source>(kind: u8, parts: &mut [S]) -> Result<u128, SourceFault>
-    ensures uses { AsksNone (is_err result) (map S.device parts.old) (map S.device parts.new) }
-    ensures most { IfOk result (λ n. n ≤ length
-        (data_of (has_parts kind) (bytes_of (map S.device parts.old)))) }
-    ensures exact { IfOk result (λ n. n < 2 ^ 32 →
-        n ≡ length (data_of (has_parts kind) (bytes_of (map S.device parts.old)))) }
+fn data_size<S: Source>(parts: &mut [S], kind: u8) -> Result<u128, SourceFault>
+    ensures { Learns (λ ps. SumsTo (length (data_of (has_parts kind) ps))) result
+        S.device parts.old parts.new }
 {
     if has_parts(kind) {
         let table = 4 * (parts.len() as u128 + 1);
@@ -73,15 +66,15 @@ fn data_size<S: Source>(kind: u8, parts: &mut [S]) -> Result<u128, SourceFault>
 
 // How many bytes the data have that are built from the parts, or why the parts are refused.
 #[tactic(auto, unfolding(crate::specs::Building::data_to_build))]
-pub(crate) fn measure<S: Source>(kind: u8, parts: &mut [S]) -> Result<u32, Fault>
+pub(crate) fn measure<S: Source>(parts: &mut [S], kind: u8) -> Result<u32, Fault>
     ensures uses { AsksNone (is_read result) (map S.device parts.old) (map S.device parts.new) }
     ensures no_put { is_put result ≡ false }
     ensures measures { Measures kind (bytes_of (map S.device parts.old)) result }
 {
-    if has_empty_part(kind, parts)? {
+    if has_empty_part(parts, kind)? {
         return Err(Fault::Legacy(LegacyFault::EmptyPart));
     }
-    let size = data_size(kind, parts)?;
+    let size = data_size(parts, kind)?;
     if size > u32::MAX as u128 {
         return Err(Fault::Legacy(LegacyFault::TooLarge));
     }

@@ -1,8 +1,8 @@
-ghost use Rattle.std.specs.Prelude.{◌≡◌, ◌+◌, ◌≤◌, [], IsTrue};
+ghost use Rattle.std.specs.Prelude.{◌≡◌, [], IsTrue};
 ghost use Rattle.uimg_base.specs.Device.{RisesIf};
 ghost use Rattle.uimg_base.specs.Outcome.{Tells};
-ghost use Rattle.uimg_legacy.specs.Image.{has_right_data};
-ghost use Rattle.uimg_legacy.specs.Report.{data_report, verify_of};
+ghost use Rattle.uimg_legacy.specs.Report.{verify_of};
+ghost use Rattle.uimg_legacy.specs.Reading.{Reports, report_on};
 ghost use Rattle.uimg_legacy.specs.Work.{data_read, verify_work};
 ghost use Rattle.uimg_base.specs.Using.{Asks, UsesAtMost};
 ghost use Rattle.uimg_legacy.specs.Faults.{is_read, is_put, end_of};
@@ -14,19 +14,15 @@ use std::alloc::Allocator;
 use std::io::Write;
 use uimg_base::{Out, Room, Source, Status};
 
+// The line on the data's CRC.
 fn report_data<S: Source, A: Allocator, W: Write>(
     source: &mut S,
     room: &mut Room<A>,
-    out: &mut Out<W>,
     header: &Header,
+    out: &mut Out<W>,
 ) -> Result<Status, Fault>
-    ensures uses { Asks (data_read (S.device source.old).bytes header.now) (is_read result)
-        (S.device source.old) (S.device source.new) }
-    ensures room { room.new ≡ room.old }
-    ensures faults { RisesIf (is_put result) out.old.faults out.new.faults }
-    ensures told { IsTrue (S.device source.old).honest →
-        Tells (end_of result) (data_report (has_right_data (S.device source.old).bytes header.now))
-        out.old out.new }
+    ensures { Reports (Asks (data_read (S.device source.old).bytes header.now)) (report_on header.now)
+        result (S.device source.old) (S.device source.new) room.old room.new out.old out.new }
 {
     if has_right_data(source, room, header)? {
         out.put_all(b"data crc32 ok\n")?;
@@ -57,7 +53,7 @@ pub fn verify<S: Source, A: Allocator, W: Write>(
     let bytes = read_head(source)?;
     if has_right_crc(&bytes) {
         out.put_all(b"header crc32 ok\n")?;
-        report_data(source, room, out, &fields(&bytes))
+        report_data(source, room, &fields(&bytes), out)
     } else {
         out.put_all(b"header crc32 bad\n")?;
         Ok(Status::NotRight)

@@ -1,9 +1,8 @@
-ghost use Rattle.std.specs.Prelude.{◌≡◌, ℕ, ◌+◌, ◌*◌, ◌/◌, ◌^◌, ◌≤◌, length, sum_by, IsTrue, IfOk, is_err};
-ghost use Rattle.uimg_base.specs.Using.{Asks};
-ghost use Rattle.uimg_texts.specs.Slices.{slice};
+ghost use Rattle.std.specs.Prelude.{◌≡◌, ◌+◌, ◌*◌, ◌/◌, ◌^◌, ◌≤◌, length, sum_by};
 ghost use Rattle.uimg_texts.specs.Numbers.{up4};
 ghost use Rattle.uimg_legacy.specs.Words.{words};
 ghost use Rattle.uimg_legacy.specs.Parts.{sizes};
+ghost use Rattle.uimg_legacy.specs.Reading.{ReadsWords, window};
 
 use std::alloc::Allocator;
 use uimg_base::{Room, Source, SourceFault, number_at, up4};
@@ -31,11 +30,8 @@ pub(crate) fn count_window<S: Source, A: Allocator>(
 ) -> Result<u32, SourceFault>
     requires range { 64 + 4 * (first + count) ≤ length (S.device source.old).bytes }
     requires window { count ≤ 2048 }
-    ensures uses { Asks (4 * count) (is_err result) (S.device source.old) (S.device source.new) }
-    ensures room { room.new ≡ room.old }
-    ensures bound { IfOk result (λ n. n ≤ count) }
-    ensures count { IsTrue (S.device source.old).honest → IfOk result (λ n.
-        n ≡ length (sizes (slice (S.device source.old).bytes (64 + 4 * first) (4 * count)))) }
+    ensures { ReadsWords count count (λ image. length (sizes (window image first count))) result
+        (S.device source.old) (S.device source.new) room.old room.new }
 {
     let window = &mut room.window()[..4 * count as usize];
     source.fill_at(64 + 4 * first as u64, window)?;
@@ -58,7 +54,7 @@ fn rounded_sum(bytes: &[u8]) -> u64
 }
 
 // The sum of the words of a window of the data, each rounded up to a multiple of 4.
-pub(crate) fn sum_window<S: Source, A: Allocator>(
+fn sum_window<S: Source, A: Allocator>(
     source: &mut S,
     room: &mut Room<A>,
     first: u32,
@@ -66,13 +62,32 @@ pub(crate) fn sum_window<S: Source, A: Allocator>(
 ) -> Result<u64, SourceFault>
     requires range { 64 + 4 * (first + count) ≤ length (S.device source.old).bytes }
     requires window { count ≤ 2048 }
-    ensures uses { Asks (4 * count) (is_err result) (S.device source.old) (S.device source.new) }
-    ensures room { room.new ≡ room.old }
-    ensures bound { IfOk result (λ n. n ≤ 2 ^ 32 * count) }
-    ensures sum { IsTrue (S.device source.old).honest → IfOk result (λ n.
-        n ≡ sum_by up4 (words (slice (S.device source.old).bytes (64 + 4 * first) (4 * count)))) }
+    ensures { ReadsWords count (2 ^ 32 * count)
+        (λ image. sum_by up4 (words (window image first count))) result
+        (S.device source.old) (S.device source.new) room.old room.new }
 {
     let window = &mut room.window()[..4 * count as usize];
     source.fill_at(64 + 4 * first as u64, window)?;
     Ok(rounded_sum(window))
+}
+
+// The sum of the first words of the data, each rounded up to a multiple of 4.
+pub(crate) fn sum_first<S: Source, A: Allocator>(
+    source: &mut S,
+    room: &mut Room<A>,
+    count: u32,
+) -> Result<u64, SourceFault>
+    requires { 64 + 4 * count ≤ length (S.device source.old).bytes }
+    ensures { ReadsWords count (2 ^ 32 * count)
+        (λ image. sum_by up4 (words (window image 0 count))) result
+        (S.device source.old) (S.device source.new) room.old room.new }
+{
+    let mut sum = 0;
+    let mut done = 0;
+    while done < count {
+        let next = u32::min(count - done, 2048);
+        sum += sum_window(source, room, done, next)?;
+        done += next;
+    }
+    Ok(sum)
 }

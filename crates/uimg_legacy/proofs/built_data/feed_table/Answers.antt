@@ -1,4 +1,4 @@
-use Rattle.std.proofs.Common.{◌≡◌, ◌++◌, ℕ, List, map, take, append_assoc, subst, arith}
+use Rattle.std.proofs.Common.{rules, ◌≡◌, ◌++◌, map, take, append_assoc, arith}
 use Rattle.std.specs.Int.{to_be_bytes, w32}
 use Rattle.uimg_legacy.specs.Building.{size_table}
 use Rattle.uimg_legacy.specs.Devices.{bytes_of}
@@ -7,11 +7,14 @@ use Rattle.uimg_legacy.proofs.TableLaws.{size_words}
 use Rattle.uimg_legacy.proofs.JoinedLaws.{words_all, table_whole}
 use Rattle.uimg_legacy.proofs.built_data.feed_table.Goals as goal
 
-pub returns-clause-fed : goal.returns-clause-fed
-returns-clause-fed g c = λ fed held.
+pub returns : goal.returns
+returns g c =
     let bytes = bytes_of (map g.S.Source.device c.args.parts.now) in
     let all : size_words (take c.loop-i.i bytes) ≡ size_words bytes = words_all bytes c.loop-i.i (omega (arith, count_bytes g.S.Source.device c.args.parts.now)) in
-    let here = c.feed-2.ensures _ (c.loop-i.invariant.fed fed held) in
-    let joined : (fed ++ size_words (take c.loop-i.i bytes)) ++ c.to_be_bytes.result ≡ fed ++ size_table bytes =
-    rw (all, c.to_be_bytes.ensures, table_whole bytes) (append_assoc fed (size_words bytes) (to_be_bytes w32 0)) in
-    subst (λ (w : List ℕ). g.M.Summer.holds c.feed-2.new.self w) joined here
+    record {
+      uses = search rules;
+      fed = λ sure fed held.
+          let joined : (fed ++ size_words (take c.loop-i.i bytes)) ++ c.to_be_bytes.result ≡ fed ++ size_table bytes =
+          rw (all, c.to_be_bytes.ensures, table_whole bytes) (append_assoc fed (size_words bytes) (to_be_bytes w32 0)) in
+          rw joined at (c.feed-2.ensures _ (c.loop-i.invariant.fed fed held));
+    }

@@ -13,10 +13,8 @@ length-data device xs has is =
     let all = length-append (size_table bytes) (joined bytes) in
     rw is (omega (arith, all, length-table bytes, count_bytes device xs))
 
-pub returns-then-has_parts-clause-most : goal.returns-then-has_parts-clause-most
-returns-then-has_parts-clause-most g c =
-    rw (length-data g.S.Source.device c.args.parts.now _ (sym c.has_parts.ensures ∙ c.if-has_parts.true)) c.end_of_parts.ensures.most
-
-pub returns-then-has_parts-clause-exact : goal.returns-then-has_parts-clause-exact
-returns-then-has_parts-clause-exact g c =
-    rw (length-data g.S.Source.device c.args.parts.now _ (sym c.has_parts.ensures ∙ c.if-has_parts.true)) c.end_of_parts.ensures.exact
+pub returns-then-has_parts : goal.returns-then-has_parts
+returns-then-has_parts g c = record {
+  uses = c.end_of_parts.ensures.uses;
+  answer = rw (length-data g.S.Source.device c.args.parts.now _ (sym c.has_parts.ensures ∙ c.if-has_parts.true)) c.end_of_parts.ensures.answer;
+}

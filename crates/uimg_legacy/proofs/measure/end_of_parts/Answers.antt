@@ -12,7 +12,7 @@ loop-i-preserved g c =
     let device = g.S.Source.device in
     let bytes = bytes_of (map device c.args.parts.now) in
     let same = same_then (map device c.args.parts.now) (map device c.loop-i.parts) (map device c.part_size.new.parts) c.loop-i.invariant.same c.part_size.ensures.uses.same in
-    let size : c.in_ok-size.size ≡ length (get_or bytes c.loop-i.i []) = c.in_ok-size.ensures.size ∙ ap (λ (ps : List (List ℕ)). length (get_or ps c.loop-i.i [])) c.loop-i.invariant.same.bytes in
+    let size : c.in_ok-size.size ≡ length (get_or bytes c.loop-i.i []) = c.in_ok-size.ensures.answer ∙ ap (λ (ps : List (List ℕ)). length (get_or ps c.loop-i.i [])) c.loop-i.invariant.same.bytes in
     let more = length_more bytes c.loop-i.i (omega (arith, count_bytes device c.args.parts.now)) in
     record {
       count = count_parts device c.args.parts.now c.part_size.new.parts same;

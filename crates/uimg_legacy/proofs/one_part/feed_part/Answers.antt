@@ -1,16 +1,21 @@
-use Rattle.uimg_legacy.proofs.DevicesLaws.{bytes_at, honest_at, same_after, rises_after}
+use Rattle.std.proofs.Common.{rules}
+use Rattle.uimg_legacy.proofs.SourceLaws.{honest_still}
+use Rattle.uimg_legacy.proofs.DevicesLaws.{bytes_at}
+use Rattle.uimg_legacy.proofs.PartStepsLaws.{whole, feeds_after}
 use Rattle.uimg_legacy.proofs.one_part.feed_part.Goals as goal
 
-pub returns-clause-uses : goal.returns-clause-uses
-returns-clause-uses g c = record {
-  same = same_after g.S.Source.device c.args.parts.now c.args.i c.index-parts-i.result c.feed_whole.new.source c.requires c.feed_whole.ensures.uses.same;
-  failures = rises_after g.S.Source.device _ c.args.parts.now c.args.i c.index-parts-i.result c.feed_whole.new.source c.requires c.feed_whole.ensures.uses.failures;
-}
+pub returns-in_err-size-clause-feeds : goal.returns-in_err-size-clause-feeds
+returns-in_err-size-clause-feeds g c =
+    feeds_after _ g.S.Source.device g.M.Summer.holds c.args.parts.now c.args.i c.index-parts-i.result c.size.new.self c.args.sum.now c.args.sum.now c.requires (search rules) (search rules)
+
+pub returns-in_err-feed_through-clause-feeds : goal.returns-in_err-feed_through-clause-feeds
+returns-in_err-feed_through-clause-feeds g c =
+    feeds_after _ g.S.Source.device g.M.Summer.holds c.args.parts.now c.args.i c.index-parts-i.result c.feed_through.new.source c.args.sum.now c.feed_through.new.sum c.requires (search rules) (search rules)
+
+pub returns-clause-feeds : goal.returns-clause-feeds
+returns-clause-feeds g c =
+    feeds_after _ g.S.Source.device g.M.Summer.holds c.args.parts.now c.args.i c.index-parts-i.result c.feed_through.new.source c.args.sum.now c.feed_through.new.sum c.requires (search rules)
+    (λ honest. rw (whole _ _ _ c.size.ensures.same.bytes c.in_ok-size.ensures.length) at (c.in_ok-feed_through.ensures.fed (honest_still c.size.ensures.same honest)))
 
 pub returns-clause-size : goal.returns-clause-size
-returns-clause-size g c = rw (bytes_at g.S.Source.device c.args.parts.now c.args.i c.index-parts-i.result c.requires) c.feed_whole.ensures.size
-
-pub returns-clause-fed : goal.returns-clause-fed
-returns-clause-fed g c = λ honest.
-    rw (bytes_at g.S.Source.device c.args.parts.now c.args.i c.index-parts-i.result c.requires)
-    (c.feed_whole.ensures.fed (honest_at g.S.Source.device c.args.parts.now c.args.i c.index-parts-i.result c.requires honest))
+returns-clause-size g c = rw (bytes_at g.S.Source.device c.args.parts.now c.args.i c.index-parts-i.result c.requires) c.in_ok-size.ensures.length
