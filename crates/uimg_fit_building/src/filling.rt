@@ -52,8 +52,8 @@ fn fill_parent<F: Files, A: Allocator + Copy>(
     parent: &mut Node<A>,
     files: &mut F,
 ) -> Result<(), FitFault>
-    ensures opens { OpensKept F.Opened.steady (AllByRecursion
-        (IsKeptImage (F.map files.old).bytes) (listed parent.old.children)) result
+    ensures opens { OpensKept F.Opened.steady
+        (AllByRecursion (IsKeptImage (F.map files.old).bytes) (listed parent.old.children)) result
         (F.map files.old) (F.map files.new) }
     ensures filled { IsTrue (F.map files.old).honest → FillsParent (F.map files.old).bytes
         parent.old parent.new result }
@@ -73,9 +73,10 @@ fn fill_below<F: Files, A: Allocator + Copy>(
     nodes: &mut [Node<A>],
     files: &mut F,
 ) -> Result<(), FitFault>
-    ensures opens { OpensKept F.Opened.steady (IfSome (images_among (siblings nodes.old))
-        (AllByRecursion (IsKeptImage (F.map files.old).bytes))) result (F.map files.old)
-        (F.map files.new) }
+    ensures opens { OpensKept F.Opened.steady
+        (IfSome (images_among (siblings nodes.old))
+        (AllByRecursion (IsKeptImage (F.map files.old).bytes))) result
+        (F.map files.old) (F.map files.new) }
     ensures filled { IsTrue (F.map files.old).honest → FillsBelow (F.map files.old).bytes
         (siblings nodes.old) (siblings nodes.new) result }
     ensures order { IsTrue (F.map files.old).honest →

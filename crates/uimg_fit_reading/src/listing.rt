@@ -52,8 +52,8 @@ fn put_configurations<S: Source, A: Allocator, W: Write>(
         (S.device source.new) room.old room.new out.old out.new }
     ensures told { (t : Siblings) → Opened (S.device source.old) blob.now room.old t → Lists
         (is_err result) (configurations_allowance (configurations (spots t)))
-        (S.device source.old) (S.device source.new) out.old out.new (configurations_text
-        (S.device source.old).bytes (configurations (spots t))) }
+        (S.device source.old) (S.device source.new) out.old out.new
+        (configurations_text (S.device source.old).bytes (configurations (spots t))) }
 {
     let Some(node) = configurations_of(blob, room) else {
         return Ok(());
@@ -76,10 +76,11 @@ fn put_body<S: Source, A: Allocator, W: Write>(
     ensures leaves { Leaves (range.is_read result) (range.is_put result) (S.device source.old)
         (S.device source.new) room.old room.new out.old out.new }
     ensures told { (t : Siblings) → Opened (S.device source.old) blob.now room.old t →
-        (found : List (NodeOf Spot)) → AreFrom t in_images first found → Lists (is_err result)
-        (body_allowance (spots t) (Some found)) (S.device source.old) (S.device source.new)
-        out.old out.new (images_text (S.device source.old).bytes time found ++ configurations_text
-        (S.device source.old).bytes (configurations (spots t))) }
+        (found : List (NodeOf Spot)) → AreFrom t in_images first found →
+        Lists (is_err result) (body_allowance (spots t) (Some found))
+        (S.device source.old) (S.device source.new) out.old out.new
+        (images_text (S.device source.old).bytes time found
+        ++ configurations_text (S.device source.old).bytes (configurations (spots t))) }
 {
     put_listed_nodes(source, blob, room, Kind::Image(time), first, out)?;
     put_configurations(source, blob, room, out)

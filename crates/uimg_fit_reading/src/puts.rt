@@ -72,8 +72,8 @@ pub(crate) fn put_span<S: Source, A: Allocator, W: Write>(
 ) -> Result<(), MoveFault>
     requires { span.place + span.length ≤ length (S.device source.old).bytes }
     ensures { Puts span.length result (S.device source.old) (S.device source.new)
-        room.old room.new out.old out.new (slice (S.device source.old).bytes span.place
-        span.length) }
+        room.old room.new out.old out.new
+        (slice (S.device source.old).bytes span.place span.length) }
 {
     copy_range(source, room, span.place, span.length, out)
 }

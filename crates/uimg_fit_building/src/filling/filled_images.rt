@@ -28,8 +28,8 @@ fn fill_hashes<F: Files, A: Allocator + Copy>(
     files: &mut F,
 ) -> Result<(), FitFault>
     ensures opens { OpensKept F.Opened.steady
-        (IsKept (F.map files.old).bytes (content payload.now)) result (F.map files.old)
-        (F.map files.new) }
+        (IsKept (F.map files.old).bytes (content payload.now)) result
+        (F.map files.old) (F.map files.new) }
     ensures filled { IsTrue (F.map files.old).honest →
         FillsHashes (λ u. siblings nodes.new) (F.map files.old).bytes (content payload.now)
         (siblings nodes.old) result }
@@ -56,8 +56,8 @@ fn fill_image<F: Files, A: Allocator + Copy>(
     files: &mut F,
 ) -> Result<(), FitFault>
     ensures opens { OpensKept F.Opened.steady
-        (IsKeptImage (F.map files.old).bytes (entry image.old)) result (F.map files.old)
-        (F.map files.new) }
+        (IsKeptImage (F.map files.old).bytes (entry image.old)) result
+        (F.map files.old) (F.map files.new) }
     ensures filled { IsTrue (F.map files.old).honest →
         FillsImage (F.map files.old).bytes (entry image.old) (entry image.new) result }
     ensures order { IsTrue (F.map files.old).honest →
@@ -81,9 +81,9 @@ pub(crate) fn fill_images<F: Files, A: Allocator + Copy>(
     images: &mut [Node<A>],
     files: &mut F,
 ) -> Result<(), FitFault>
-    ensures opens { OpensKept F.Opened.steady (AllByRecursion
-        (IsKeptImage (F.map files.old).bytes) (map entry images.old)) result (F.map files.old)
-        (F.map files.new) }
+    ensures opens { OpensKept F.Opened.steady
+        (AllByRecursion (IsKeptImage (F.map files.old).bytes) (map entry images.old)) result
+        (F.map files.old) (F.map files.new) }
     ensures filled { IsTrue (F.map files.old).honest → FillsImages (F.map files.old).bytes
         (map entry images.old) (map entry images.new) result }
     ensures order { IsTrue (F.map files.old).honest →

@@ -43,8 +43,8 @@ fn feed_file<F: Files>(
     files: &mut F,
 ) -> Result<(), FitFault>
     ensures opens { OpensKept F.Opened.steady
-        (IsKept (F.map files.old).bytes (file name.now size)) result (F.map files.old)
-        (F.map files.new) }
+        (IsKept (F.map files.old).bytes (file name.now size)) result
+        (F.map files.old) (F.map files.new) }
     ensures faults { IfErr result (IsFileFault (file name.now size)) }
     ensures kept { IsTrue (F.map files.old).honest →
         OnOk result (IsKept (F.map files.old).bytes (file name.now size)) }
@@ -65,8 +65,8 @@ fn feed_payload<F: Files, A: Allocator>(
     files: &mut F,
 ) -> Result<(), FitFault>
     ensures opens { OpensKept F.Opened.steady
-        (IsKept (F.map files.old).bytes (content payload.now)) result (F.map files.old)
-        (F.map files.new) }
+        (IsKept (F.map files.old).bytes (content payload.now)) result
+        (F.map files.old) (F.map files.new) }
     ensures faults { IfErr result (IsFileFault (content payload.now)) }
     ensures kept { IsTrue (F.map files.old).honest →
         OnOk result (IsKept (F.map files.old).bytes (content payload.now)) }
@@ -90,8 +90,8 @@ pub(crate) fn payload_digests<F: Files, A: Allocator>(
     files: &mut F,
 ) -> Result<Digests, FitFault>
     ensures opens { OpensKept F.Opened.steady
-        (IsKept (F.map files.old).bytes (content payload.now)) result (F.map files.old)
-        (F.map files.new) }
+        (IsKept (F.map files.old).bytes (content payload.now)) result
+        (F.map files.old) (F.map files.new) }
     ensures faults { IfErr result (IsFileFault (content payload.now)) }
     ensures kept { IsTrue (F.map files.old).honest →
         OnOk result (IsKept (F.map files.old).bytes (content payload.now)) }

@@ -45,8 +45,8 @@ fn put_one_cell<W: Write>(out: &mut Out<W>, bytes: &[u8; 4]) -> Result<(), MoveF
 
 // A line of a label and the address of two cells.
 fn put_two_cells<W: Write>(out: &mut Out<W>, bytes: &[u8; 8]) -> Result<(), MoveFault>
-    ensures { PutsOwn result out.old out.new (line (codes "0x" ++ eight_or_more
-        (encode_lower bytes.now))) }
+    ensures { PutsOwn result out.old out.new
+        (line (codes "0x" ++ eight_or_more (encode_lower bytes.now))) }
 {
     let mut digits = [0; 16];
     if hex::encode_to_slice(bytes, &mut digits).is_err() {
@@ -63,8 +63,8 @@ fn put_address<S: Source, W: Write>(
 ) -> Result<(), MoveFault>
     requires { span.place + span.length ≤ length (S.device source.old).bytes }
     ensures { PutsFrom (min 8 span.length) result (S.device source.old) (S.device source.new)
-        out.old out.new (line (address_text (slice (S.device source.old).bytes span.place
-        span.length))) }
+        out.old out.new
+        (line (address_text (slice (S.device source.old).bytes span.place span.length))) }
 {
     match span.length {
         4 => {
@@ -91,8 +91,9 @@ pub(crate) fn put_address_line<S: Source, W: Write>(
 ) -> Result<(), MoveFault>
     requires { span.place + span.length ≤ length (S.device source.old).bytes }
     ensures { PutsFrom (min 8 span.length) result (S.device source.old) (S.device source.new)
-        out.old out.new (line (label.now ++ address_text (slice (S.device source.old).bytes
-        span.place span.length))) }
+        out.old out.new
+        (line
+        (label.now ++ address_text (slice (S.device source.old).bytes span.place span.length))) }
 {
     put(out, label)?;
     put_address(source, span, out)

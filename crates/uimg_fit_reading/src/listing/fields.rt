@@ -31,8 +31,8 @@ pub(crate) fn put_text_line<S: Source, A: Allocator, W: Write>(
 ) -> Result<(), MoveFault>
     requires { span.place + span.length ≤ length (S.device source.old).bytes }
     ensures { Puts span.length result (S.device source.old) (S.device source.new)
-        room.old room.new out.old out.new (line (label.now ++ text (slice
-        (S.device source.old).bytes span.place span.length))) }
+        room.old room.new out.old out.new
+        (line (label.now ++ text (slice (S.device source.old).bytes span.place span.length))) }
 {
     put(out, label)?;
     put_text(source, room, span, out)?;
@@ -50,9 +50,9 @@ fn put_value<S: Source, A: Allocator, W: Write>(
     out: &mut Out<W>,
 ) -> Result<(), MoveFault>
     requires { span.place + span.length ≤ length (S.device source.old).bytes }
-    ensures { Puts (value_cost show span.length) result (S.device source.old)
-        (S.device source.new) room.old room.new out.old out.new (value_lines show label.now (slice
-        (S.device source.old).bytes span.place span.length)) }
+    ensures { Puts (value_cost show span.length) result
+        (S.device source.old) (S.device source.new) room.old room.new out.old out.new
+        (value_lines show label.now (slice (S.device source.old).bytes span.place span.length)) }
 {
     match show {
         Show::Text => put_text_line(source, room, label, span, out),
@@ -74,8 +74,8 @@ fn put_property<S: Source, A: Allocator, W: Write>(
 ) -> Result<(), MoveFault>
     requires { IfSome value (λ s. s.place + s.length ≤ length (S.device source.old).bytes) }
     ensures { Puts (option_map_or (λ s. value_cost show s.length) value 0) result
-        (S.device source.old) (S.device source.new) room.old room.new out.old out.new (shown show
-        label.now (bytes_in (S.device source.old).bytes value)) }
+        (S.device source.old) (S.device source.new) room.old room.new out.old out.new
+        (shown show label.now (bytes_in (S.device source.old).bytes value)) }
 {
     match value {
         Some(span) => put_value(source, room, label, show, span, out),
@@ -148,9 +148,9 @@ pub(crate) fn put_fields<S: Source, A: Allocator, W: Write>(
     out: &mut Out<W>,
 ) -> Result<(), MoveFault>
     requires { AllByRecursion (FieldEndsIn (length (S.device source.old).bytes)) fields.now }
-    ensures { Puts (sum_by field_cost fields.now) result (S.device source.old)
-        (S.device source.new) room.old room.new out.old out.new (flat_map
-        (field_lines (S.device source.old).bytes) fields.now) }
+    ensures { Puts (sum_by field_cost fields.now) result
+        (S.device source.old) (S.device source.new) room.old room.new out.old out.new
+        (flat_map (field_lines (S.device source.old).bytes) fields.now) }
 {
     for field in fields {
         put_field(source, room, *field, out)?;

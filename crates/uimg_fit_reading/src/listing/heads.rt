@@ -23,8 +23,8 @@ fn put_description<S: Source, A: Allocator, W: Write>(
 ) -> Result<(), MoveFault>
     requires { IfSome description (λ s. s.place + s.length ≤ length (S.device source.old).bytes) }
     ensures { Puts (span_size description) result (S.device source.old) (S.device source.new)
-        room.old room.new out.old out.new (description_line (bytes_in (S.device source.old).bytes
-        description)) }
+        room.old room.new out.old out.new
+        (description_line (bytes_in (S.device source.old).bytes description)) }
 {
     match description {
         Some(span) => put_text_line(source, room, b"FIT description: ", span, out),
@@ -52,8 +52,9 @@ pub(crate) fn put_head<S: Source, A: Allocator, W: Write>(
 ) -> Result<(), MoveFault>
     requires { IfSome description (λ s. s.place + s.length ≤ length (S.device source.old).bytes) }
     ensures { Puts (span_size description) result (S.device source.old) (S.device source.new)
-        room.old room.new out.old out.new (description_line (bytes_in (S.device source.old).bytes
-        description) ++ created_line time) }
+        room.old room.new out.old out.new
+        (description_line (bytes_in (S.device source.old).bytes description) ++ created_line
+        time) }
 {
     put_description(source, room, description, out)?;
     put_created(out, time)
@@ -68,8 +69,10 @@ fn put_default_line<S: Source, A: Allocator, W: Write>(
 ) -> Result<(), MoveFault>
     requires { span.place + span.length ≤ length (S.device source.old).bytes }
     ensures { Puts span.length result (S.device source.old) (S.device source.new)
-        room.old room.new out.old out.new (line (codes " Default Configuration: '" ++ (text (slice
-        (S.device source.old).bytes span.place span.length) ++ codes "'"))) }
+        room.old room.new out.old out.new
+        (line
+        (codes " Default Configuration: '"
+        ++ (text (slice (S.device source.old).bytes span.place span.length) ++ codes "'"))) }
 {
     put(out, b" Default Configuration: '")?;
     put_text(source, room, span, out)?;
@@ -85,8 +88,8 @@ pub(crate) fn put_default<S: Source, A: Allocator, W: Write>(
 ) -> Result<(), MoveFault>
     requires { IfSome default (λ s. s.place + s.length ≤ length (S.device source.old).bytes) }
     ensures { Puts (span_size default) result (S.device source.old) (S.device source.new)
-        room.old room.new out.old out.new (default_line
-        (bytes_in (S.device source.old).bytes default)) }
+        room.old room.new out.old out.new
+        (default_line (bytes_in (S.device source.old).bytes default)) }
 {
     match default {
         Some(span) => put_default_line(source, room, span, out),

@@ -51,7 +51,8 @@ fn put_hexadecimal<S: Source, W: Write>(
 ) -> Result<(), MoveFault>
     requires { span.place + span.length ≤ length (S.device source.old).bytes }
     ensures { PutsFrom span.length result (S.device source.old) (S.device source.new)
-        out.old out.new (encode_lower (slice (S.device source.old).bytes span.place span.length)) }
+        out.old out.new
+        (encode_lower (slice (S.device source.old).bytes span.place span.length)) }
 {
     let mut done = 0;
     while done < span.length {
@@ -72,8 +73,9 @@ pub(crate) fn put_hexadecimal_line<S: Source, W: Write>(
 ) -> Result<(), MoveFault>
     requires { span.place + span.length ≤ length (S.device source.old).bytes }
     ensures { PutsFrom span.length result (S.device source.old) (S.device source.new)
-        out.old out.new (line (label.now ++ encode_lower (slice (S.device source.old).bytes
-        span.place span.length))) }
+        out.old out.new
+        (line
+        (label.now ++ encode_lower (slice (S.device source.old).bytes span.place span.length))) }
 {
     put(out, label)?;
     put_hexadecimal(source, span, out)?;

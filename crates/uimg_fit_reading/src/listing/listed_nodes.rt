@@ -43,9 +43,9 @@ fn put_hash<S: Source, A: Allocator, W: Write>(
     requires { HasNode (S.device source.old) blob.now room.old hash }
     ensures leaves { Leaves (is_read result) (is_put result) (S.device source.old)
         (S.device source.new) room.old room.new out.old out.new }
-    ensures told { OfNode (S.device source.old) blob.now room.old in_image hash (λ found. is_hash
-        found.name ≡ true → Lists (is_err result) (node_allowance found) (S.device source.old)
-        (S.device source.new) out.old out.new (hash_text found.own)) }
+    ensures told { OfNode (S.device source.old) blob.now room.old in_image hash (λ found.
+        is_hash found.name ≡ true → Lists (is_err result) (node_allowance found)
+        (S.device source.old) (S.device source.new) out.old out.new (hash_text found.own)) }
 {
     let fields = hash_fields(blob, room, hash);
     put_fields(source, room, &fields, out)
@@ -62,9 +62,10 @@ fn put_hashes<S: Source, A: Allocator, W: Write>(
     requires { HasNodes (S.device source.old) blob.now room.old first }
     ensures leaves { Leaves (is_read result) (is_put result) (S.device source.old)
         (S.device source.new) room.old room.new out.old out.new }
-    ensures told { OfHashes (S.device source.old) blob.now room.old first (λ hs. Lists
-        (is_err result) (sum_by node_allowance hs) (S.device source.old) (S.device source.new)
-        out.old out.new (flat_map (λ h. hash_text h.own) hs)) }
+    ensures told { OfHashes (S.device source.old) blob.now room.old first (λ hs.
+        Lists (is_err result) (sum_by node_allowance hs)
+        (S.device source.old) (S.device source.new) out.old out.new
+        (flat_map (λ h. hash_text h.own) hs)) }
 {
     let mut next = first;
     while let Some(hash) = next {
@@ -99,11 +100,12 @@ fn put_sized_image<S: Source, A: Allocator, W: Write>(
     requires { HasNode (S.device source.old) blob.now room.old image }
     ensures leaves { Leaves (is_read result) (is_put result) (S.device source.old)
         (S.device source.new) room.old room.new out.old out.new }
-    ensures told { OfNode (S.device source.old) blob.now room.old in_images image (λ found. Lists
-        (is_err result) (748 + 4 * text_sizes found.own + sum_by node_allowance (hashes found))
-        (S.device source.old) (S.device source.new) out.old out.new (title_text (codes " Image ")
-        number found.name ++ (image_text time size found.own ++ flat_map (λ h. hash_text h.own)
-        (hashes found)))) }
+    ensures told { OfNode (S.device source.old) blob.now room.old in_images image (λ found.
+        Lists (is_err result)
+        (748 + 4 * text_sizes found.own + sum_by node_allowance (hashes found))
+        (S.device source.old) (S.device source.new) out.old out.new
+        (title_text (codes " Image ") number found.name
+        ++ (image_text time size found.own ++ flat_map (λ h. hash_text h.own) (hashes found)))) }
 {
     let name = name_of(blob, room, image);
     let fields = image_fields(blob, room, image, time, size);
@@ -124,8 +126,8 @@ fn put_image<S: Source, A: Allocator, W: Write>(
     requires { HasNode (S.device source.old) blob.now room.old image }
     ensures leaves { Leaves (is_read result) (is_put result) (S.device source.old)
         (S.device source.new) room.old room.new out.old out.new }
-    ensures told { OfNode (S.device source.old) blob.now room.old in_images image (λ found. Lists
-        (is_err result) (node_allowance found) (S.device source.old) (S.device source.new)
+    ensures told { OfNode (S.device source.old) blob.now room.old in_images image (λ found.
+        Lists (is_err result) (node_allowance found) (S.device source.old) (S.device source.new)
         out.old out.new (node_lines (S.device source.old).bytes (Kind.Image time) number found)) }
 {
     match find_place(source, blob, room, image) {
@@ -149,9 +151,10 @@ fn put_configuration<S: Source, A: Allocator, W: Write>(
     ensures leaves { Leaves (is_read result) (is_put result) (S.device source.old)
         (S.device source.new) room.old room.new out.old out.new }
     ensures told { OfNode (S.device source.old) blob.now room.old in_configurations configuration
-        (λ found. Lists (is_err result) (node_allowance found) (S.device source.old)
-        (S.device source.new) out.old out.new (node_lines (S.device source.old).bytes
-        Kind.Configuration number found)) }
+        (λ found.
+        Lists (is_err result) (node_allowance found) (S.device source.old) (S.device source.new)
+        out.old out.new
+        (node_lines (S.device source.old).bytes Kind.Configuration number found)) }
 {
     let name = name_of(blob, room, configuration);
     let fields = configuration_fields(blob, room, configuration);
@@ -194,9 +197,9 @@ pub(crate) fn put_listed_nodes<S: Source, A: Allocator, W: Write>(
     ensures leaves { Leaves (is_read result) (is_put result) (S.device source.old)
         (S.device source.new) room.old room.new out.old out.new }
     ensures told { OfNodes (S.device source.old) blob.now room.old (level_of kind) first (λ found.
-        Lists (is_err result) (sum_by node_allowance found) (S.device source.old)
-        (S.device source.new) out.old out.new (numbered
-        (node_lines (S.device source.old).bytes kind) 0 found)) }
+        Lists (is_err result) (sum_by node_allowance found)
+        (S.device source.old) (S.device source.new) out.old out.new
+        (numbered (node_lines (S.device source.old).bytes kind) 0 found)) }
 {
     let mut next = first;
     for number in 0..room.count() {

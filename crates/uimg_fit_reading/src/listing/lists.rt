@@ -162,8 +162,8 @@ pub(crate) fn put_list_lines<S: Source, A: Allocator, W: Write>(
 ) -> Result<(), MoveFault>
     requires { span.place + span.length ≤ length (S.device source.old).bytes }
     ensures { Puts span.length result (S.device source.old) (S.device source.new)
-        room.old room.new out.old out.new (lines_of label.now (pieces (slice
-        (S.device source.old).bytes span.place span.length))) }
+        room.old room.new out.old out.new
+        (lines_of label.now (pieces (slice (S.device source.old).bytes span.place span.length))) }
 {
     match put_value(source, room.window(), label, span, out)? {
         Line::Open => put(out, b"\n"),

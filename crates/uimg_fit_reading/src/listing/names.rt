@@ -123,8 +123,9 @@ pub(crate) fn put_name_line<S: Source, W: Write>(
 ) -> Result<(), MoveFault>
     requires { span.place + span.length ≤ length (S.device source.old).bytes }
     ensures { PutsFrom (min 32 span.length) result (S.device source.old) (S.device source.new)
-        out.old out.new (line (label.now ++ name_in table (slice (S.device source.old).bytes
-        span.place span.length))) }
+        out.old out.new
+        (line
+        (label.now ++ name_in table (slice (S.device source.old).bytes span.place span.length))) }
 {
     match long_name(source, table, span) {
         Ok(name) => put_line(out, label, name.as_bytes()),

@@ -36,8 +36,9 @@ fn put_title<S: Source, A: Allocator, W: Write>(
 ) -> Result<(), MoveFault>
     requires { name.place + name.length ≤ length (S.device source.old).bytes }
     ensures { Puts name.length result (S.device source.old) (S.device source.new)
-        room.old room.new out.old out.new (title_text before.now number (slice
-        (S.device source.old).bytes name.place name.length)) }
+        room.old room.new out.old out.new
+        (title_text before.now number
+        (slice (S.device source.old).bytes name.place name.length)) }
 {
     put_number(out, before, number)?;
     put_span(source, room, name, out)?;
@@ -56,10 +57,10 @@ pub(crate) fn put_node<S: Source, A: Allocator, W: Write>(
 ) -> Result<(), MoveFault>
     requires name { name.place + name.length ≤ length (S.device source.old).bytes }
     requires fields { AllByRecursion (FieldEndsIn (length (S.device source.old).bytes)) fields.now }
-    ensures { Puts (name.length + sum_by field_cost fields.now) result (S.device source.old)
-        (S.device source.new) room.old room.new out.old out.new (title_text before.now number
-        (slice (S.device source.old).bytes name.place name.length) ++ flat_map
-        (field_lines (S.device source.old).bytes) fields.now) }
+    ensures { Puts (name.length + sum_by field_cost fields.now) result
+        (S.device source.old) (S.device source.new) room.old room.new out.old out.new
+        (title_text before.now number (slice (S.device source.old).bytes name.place name.length)
+        ++ flat_map (field_lines (S.device source.old).bytes) fields.now) }
 {
     put_title(source, room, before, number, name, out)?;
     put_fields(source, room, fields, out)

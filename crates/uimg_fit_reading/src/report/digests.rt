@@ -33,8 +33,8 @@ fn compared_algos<S: Source, A: Allocator>(
 ) -> Result<AlgoSet, SourceFault>
     requires { HasNodes (S.device source.old) blob.now room.now first }
     ensures uses { Uses (is_err result) (S.device source.old) (S.device source.new) }
-    ensures found { OfHashes (S.device source.old) blob.now room.now first (λ hs. FindsAlgos hs
-        (S.device source.old).asked (S.device source.new).asked result) }
+    ensures found { OfHashes (S.device source.old) blob.now room.now first (λ hs.
+        FindsAlgos hs (S.device source.old).asked (S.device source.new).asked result) }
 {
     let mut set = AlgoSet::none();
     let mut next = first;
@@ -81,8 +81,8 @@ pub(crate) fn compared_digests<S: Source, A: Allocator>(
     requires payload { place.at + place.size ≤ length (S.device source.old).bytes }
     ensures uses { Uses (is_err result) (S.device source.old) (S.device source.new) }
     ensures room { room.new ≡ room.old }
-    ensures found { OfHashes (S.device source.old) blob.now room.old first (λ hs. FindsDigests
-        (slice (S.device source.old).bytes place.at place.size) place.size hs
+    ensures found { OfHashes (S.device source.old) blob.now room.old first (λ hs.
+        FindsDigests (slice (S.device source.old).bytes place.at place.size) place.size hs
         (S.device source.old).asked (S.device source.new).asked result) }
 {
     let set = compared_algos(source, blob, room, first)?;

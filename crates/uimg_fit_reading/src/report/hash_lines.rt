@@ -33,8 +33,8 @@ fn put_name<S: Source, A: Allocator, W: Write>(
 ) -> Result<(), MoveFault>
     requires { span.place + span.length ≤ length (S.device source.old).bytes }
     ensures { Puts span.length result (S.device source.old) (S.device source.new)
-        room.old room.new out.old out.new (slice (S.device source.old).bytes span.place
-        span.length ++ codes " ") }
+        room.old room.new out.old out.new
+        (slice (S.device source.old).bytes span.place span.length ++ codes " ") }
 {
     put_span(source, room, span, out)?;
     put(out, b" ")
@@ -74,8 +74,8 @@ fn put_names<S: Source, A: Allocator, W: Write>(
 ) -> Result<(), MoveFault>
     requires image { line.image.place + line.image.length ≤ length (S.device source.old).bytes }
     requires hash { line.hash.place + line.hash.length ≤ length (S.device source.old).bytes }
-    ensures { Puts (line.image.length + line.hash.length) result (S.device source.old)
-        (S.device source.new) room.old room.new out.old out.new
+    ensures { Puts (line.image.length + line.hash.length) result
+        (S.device source.old) (S.device source.new) room.old room.new out.old out.new
         (names_text (S.device source.old).bytes line) }
 {
     put_name(source, room, line.image, out)?;
@@ -128,8 +128,9 @@ pub(crate) fn put_unhashed<S: Source, A: Allocator, W: Write>(
 ) -> Result<(), MoveFault>
     requires { image.place + image.length ≤ length (S.device source.old).bytes }
     ensures { Puts image.length result (S.device source.old) (S.device source.new)
-        room.old room.new out.old out.new (slice (S.device source.old).bytes image.place
-        image.length ++ line (codes " - none unhashed")) }
+        room.old room.new out.old out.new
+        (slice (S.device source.old).bytes image.place image.length ++ line
+        (codes " - none unhashed")) }
 {
     put_span(source, room, image, out)?;
     put(out, b" - none unhashed\n")

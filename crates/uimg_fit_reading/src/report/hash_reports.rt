@@ -61,9 +61,9 @@ pub(crate) fn report_hashes<S: Source, A: Allocator, W: Write>(
     requires payload { place.at + place.size ≤ length (S.device source.old).bytes }
     ensures leaves { Leaves (is_read result) (is_put result) (S.device source.old)
         (S.device source.new) room.old room.new out.old out.new }
-    ensures told { OfHashes (S.device source.old) blob.now room.old first (λ hs. ReportsHashes
-        (slice (S.device source.old).bytes image.place image.length) (slice
-        (S.device source.old).bytes place.at place.size) place.size image.length hs
+    ensures told { OfHashes (S.device source.old) blob.now room.old first (λ hs.
+        ReportsHashes (slice (S.device source.old).bytes image.place image.length)
+        (slice (S.device source.old).bytes place.at place.size) place.size image.length hs
         (S.device source.old).asked (S.device source.new).asked result out.old out.new) }
 {
     let Ok(digests) = compared_digests(source, blob, room, first, place) else {

@@ -52,10 +52,10 @@ fn put_judged<S: Source, A: Allocator, W: Write>(
     requires name { image.place + image.length ≤ length (S.device source.old).bytes }
     ensures leaves { Leaves (is_read result) (is_put result) (S.device source.old)
         (S.device source.new) room.old room.new out.old out.new }
-    ensures told { OfHash (S.device source.old) blob.now room.old hash (λ found. Lists
-        (is_err result) (image.length + 255 + algo_length found) (S.device source.old)
-        (S.device source.new) out.old out.new (line_of (slice (S.device source.old).bytes
-        image.place image.length) word found)) }
+    ensures told { OfHash (S.device source.old) blob.now room.old hash (λ found.
+        Lists (is_err result) (image.length + 255 + algo_length found)
+        (S.device source.old) (S.device source.new) out.old out.new
+        (line_of (slice (S.device source.old).bytes image.place image.length) word found)) }
 {
     let line = HashLine {
         image,

@@ -78,11 +78,11 @@ pub(crate) fn plan_at<S: Source, A: Allocator>(
     requires { HasNode (S.device source.old) blob.now room.now hash }
     ensures uses { Asks 32 (is_err result) (S.device source.old) (S.device source.new) }
     ensures ends { IfOk result (EndsIn (length (S.device source.old).bytes)) }
-    ensures plan { OfHash (S.device source.old) blob.now room.now hash (λ found. IfOk result
-        (λ plan. plan ≡ plan_of found)) }
+    ensures plan { OfHash (S.device source.old) blob.now room.now hash (λ found.
+        IfOk result (λ plan. plan ≡ plan_of found)) }
     ensures word { OfHash (S.device source.old) blob.now room.now hash (λ found.
-        (message : List ℕ) → IfOk result (λ plan. word_by (S.device source.old).bytes message
-        plan ≡ word_of message found)) }
+        (message : List ℕ) → IfOk result (λ plan.
+        word_by (S.device source.old).bytes message plan ≡ word_of message found)) }
 {
     let algo = value_of(blob, room, hash, Key::Algo);
     let value = value_of(blob, room, hash, Key::Value);
