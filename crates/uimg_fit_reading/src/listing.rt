@@ -50,8 +50,8 @@ fn put_configurations<S: Source, A: Allocator, W: Write>(
     requires { InFile (length (S.device source.old).bytes) blob.now room.old.entries }
     ensures leaves { Leaves (range.is_read result) (range.is_put result) (S.device source.old)
         (S.device source.new) room.old room.new out.old out.new }
-    ensures told { (t : Siblings) → Opened (S.device source.old) blob.now room.old t → Lists
-        (is_err result) (configurations_allowance (configurations (spots t)))
+    ensures told { (t : Siblings) → Opened (S.device source.old) blob.now room.old t →
+        Lists (is_err result) (configurations_allowance (configurations (spots t)))
         (S.device source.old) (S.device source.new) out.old out.new
         (configurations_text (S.device source.old).bytes (configurations (spots t))) }
 {
@@ -98,10 +98,11 @@ fn list_body<S: Source, A: Allocator, W: Write>(
     ensures leaves { Leaves (is_read result) (is_put result) (S.device source.old)
         (S.device source.new) room.old room.new out.old out.new }
     ensures memory { is_out_of_memory result ≡ false }
-    ensures told { (t : Siblings) → Opened (S.device source.old) blob.now room.old t → time ≡ cell
-        (root_own (spots t)) (codes "timestamp") → TellsWithin (end_of result)
-        (body_allowance (spots t) (images (spots t))) (S.device source.old) (S.device source.new)
-        out.old out.new (lists (S.device source.old).bytes (spots t) (images (spots t))) }
+    ensures told { (t : Siblings) → Opened (S.device source.old) blob.now room.old t →
+        time ≡ cell (root_own (spots t)) (codes "timestamp") →
+        TellsWithin (end_of result) (body_allowance (spots t) (images (spots t)))
+        (S.device source.old) (S.device source.new) out.old out.new
+        (lists (S.device source.old).bytes (spots t) (images (spots t))) }
 {
     let first = first_image(blob, room)?;
     put_body(source, blob, room, time, first, out)?;
