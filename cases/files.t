@@ -59,12 +59,40 @@ Outfiles of an extraction that cannot be written:
   uimg: write failed
   [3]
 
-The outfile is emptied after the image was opened, so an image that is its own outfile is cut:
+A file that is read is not written, by whatever path; nothing is touched:
 
   $ cp "$files/abc-kernel.img" own.img
   $ uimg dumpimage -o own.img own.img
-  uimg: read failed
-  [3]
+  uimg: own.img would be written while it is read
+  [2]
+  $ ln -s own.img link.img
+  $ ln own.img hard.img
+  $ uimg dumpimage -o link.img own.img
+  uimg: link.img would be written while it is read
+  [2]
+  $ uimg dumpimage -o ./hard.img link.img
+  uimg: ./hard.img would be written while it is read
+  [2]
+  $ cmp own.img "$files/abc-kernel.img"
+  $ uimg mkimage -d abc.bin abc.bin
+  uimg: abc.bin would be written while it is read
+  [2]
+  $ cp abc.bin part.bin
+  $ uimg mkimage -T multi -d abc.bin:part.bin ./part.bin
+  uimg: ./part.bin would be written while it is read
+  [2]
+  $ echo '/dts-v1/; / { images { k { data = /incbin/("abc.bin"); }; }; };' > own.its
+  $ uimg mkimage -f own.its own.its
+  uimg: own.its would be written while it is read
+  [2]
+  $ uimg mkimage -f own.its abc.bin
+  uimg: abc.bin would be written while it is read
+  [2]
+  $ cat own.its
+  /dts-v1/; / { images { k { data = /incbin/("abc.bin"); }; }; };
+  $ cat abc.bin
+  abc (no-eol)
+  $ rm own.img link.img hard.img part.bin own.its
 
 A file that has fewer bytes than its size, as those of sysfs have:
 

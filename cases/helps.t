@@ -9,11 +9,15 @@ Helps
   Commands:
     mkimage    Make an image from files, or list one
     dumpimage  List an image, or extract a part of it
-    verify     Check every checksum of an image, and report each
+    verify     Check the checksums and hashes of an image, and report each
   
   Options:
         --version  Print the name and the version
     -h, --help     Print help
+  
+  Examples:
+    uimg dumpimage -l kernel.itb
+    uimg mkimage --help
   $ uimg --help > help 2> err; echo $? $(wc -c < err)
   0 0
   $ uimg -h | cmp - help
@@ -61,7 +65,7 @@ Helps
   Exit status:
     0  The image was made, or listed
     1  The image, a part or the image source is refused
-    2  The command line is wrong
+    2  The command line is wrong, or the image is one of the files it is made of
     3  A file cannot be opened, or a read, a write or memory failed
   $ uimg mkimage -h > short && uimg mkimage --help | cmp - short
   $ uimg dumpimage --help
@@ -94,11 +98,11 @@ Helps
   Exit status:
     0  The image was listed, or the part extracted
     1  The image or the part is refused
-    2  The command line is wrong
+    2  The command line is wrong, or the outfile is the image
     3  A file cannot be opened, or a read, a write or memory failed
   $ uimg dumpimage -h > short && uimg dumpimage --help | cmp - short
   $ uimg verify -h
-  Check every checksum of an image, and report each
+  Check the checksums and hashes of an image, and report each
   
   Usage: uimg verify <image>
   
@@ -112,15 +116,15 @@ Helps
   table of sizes of the types multi and script is not checked: dumpimage -l reads
   it. Of a FIT image each hash node of each image is reported on: ok, bad,
   malformed or unsupported. An image without hash nodes is unhashed. Signatures
-  are not checked.
+  and the hashes of configurations are not checked.
   
   Examples:
     uimg verify uImage
     uimg verify kernel.itb && cp kernel.itb /boot
   
   Exit status:
-    0  All checksums are right
-    1  A checksum is not right, or the image is refused
+    0  Each line ends with ok or unhashed, or there is none
+    1  A line ends with another word, or the image is refused
     2  The command line is wrong
     3  A file cannot be opened, or a read, a write or memory failed
   $ uimg verify --help > short && uimg verify -h | cmp - short
@@ -137,11 +141,15 @@ No words are a wrong line: the help goes to standard error.
   Commands:
     mkimage    Make an image from files, or list one
     dumpimage  List an image, or extract a part of it
-    verify     Check every checksum of an image, and report each
+    verify     Check the checksums and hashes of an image, and report each
   
   Options:
         --version  Print the name and the version
     -h, --help     Print help
+  
+  Examples:
+    uimg dumpimage -l kernel.itb
+    uimg mkimage --help
   [2]
   $ wc -c < out
   0

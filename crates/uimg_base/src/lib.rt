@@ -19,6 +19,7 @@ mod seek_source;
 mod shelves;
 mod sizes;
 mod source;
+mod spans;
 mod status;
 mod windows;
 
@@ -38,6 +39,7 @@ pub use seek_source::SeekSource;
 pub use shelves::Shelf;
 pub use sizes::size_text;
 pub use source::{MemSource, Source, SourceFault};
+pub use spans::Span;
 pub use status::Status;
 pub use uimg_sums::{
     Algo, Bundle, Crc, Md5Sum, Sha1Sum, Sha256Sum, Sha384Sum, Sha512Sum, Summer, crc_entry, crc_of,

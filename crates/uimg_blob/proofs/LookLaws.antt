@@ -20,7 +20,7 @@ use Rattle.uimg_blob.specs.Rows.{Row, size, first_of, rows, table}
 use Rattle.uimg_blob.specs.LookUps.{first}
 use Rattle.uimg_blob.specs.Spots.{spot_of}
 use Rattle.uimg_blob.specs.Kept.{Kept, kept, kept_of, entry_of, slot, value_word, span_word, number_word, property_named, LiesIn, entry_under}
-use Rattle.uimg_blob.specs.declared.texts.Span.{Span}
+use Rattle.uimg_base.specs.declared.spans.Span.{Span}
 use Rattle.uimg_blob.specs.Indexed.{IsIndexed, IsRow, property_span, value_span, value_of}
 use Rattle.uimg_blob.proofs.SoFarLaws.{length_kept}
 use Rattle.uimg_blob.proofs.ValueLaws.{words_of, word_at, slot_below}

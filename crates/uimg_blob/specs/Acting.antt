@@ -36,7 +36,8 @@ abbrev pub adds_entry : ReadToken → Result State IndexFault → Bool
 adds_entry token (Ok s) = is_begin_node token
 adds_entry token (Err e) = false
 
--- The answer is what the token does that was read so, in each phase; it goes on behind the token, which ends below an end.
+-- The answer is what the token that was read does, in each phase of the pass. A pass that goes on stands behind the token,
+-- which ends before the structure block does.
 -- Memory is refused only where a node begins.
 pub record Does (token : ReadToken) (s : State) (result : Result State IndexFault) (old new : Held) : Type 0 where
   pub goes : (p : Phase) (t : Token) → Holds p s old.entries → IsReadAs s.at t token → is_done p t ≡ false → Goes (step p t) (next t) result old.entries new.entries

@@ -6,7 +6,7 @@ use Rattle.uimg_base.specs.Device.{Device}
 use Rattle.uimg_base.specs.Held.{Held, held_bytes}
 use Rattle.uimg_blob.specs.declared.fault.IndexFault.{IndexFault}
 use Rattle.uimg_blob.specs.declared.nodes.Blob.{Blob}
-use Rattle.uimg_blob.specs.declared.texts.Span.{Span}
+use Rattle.uimg_base.specs.declared.spans.Span.{Span}
 use Rattle.uimg_blob.specs.declared.keys.Key.{Key}
 use Rattle.uimg_blob.specs.declared.roles.Role.{Role}
 use Rattle.uimg_blob.specs.Tokens.{Property}
@@ -66,7 +66,7 @@ TakesWithin count d h k = IsTrue d.honest → k.peak ≤ max h.peak (held_bytes 
 abbrev pub IndexesTree : {X : Type 0} → Device → Result X IndexFault → List (List ℕ) → Type 0
 IndexesTree d result es = IsTrue d.honest → Indexes (tree d.bytes) result es
 
--- Over an honest device that memory was refused to, the entries are those of the nodes before the one at the fault.
+-- Over an honest device, where memory was refused, the entries are those of the nodes before the one that is told.
 abbrev pub LeavesPrefix : {X : Type 0} → Device → Result X IndexFault → List (List ℕ) → Type 0
 LeavesPrefix d result es = IsTrue d.honest → IsPrefix (tokens_in (blocks d.bytes)) result es
 

@@ -15,7 +15,7 @@ pub record PutsText {X : Type 0} (at count : ℕ) (result : Result X MoveFault) 
   pub faults : RisesIf (is_put result) s.faults t.faults
   pub told : IsTrue d.honest → Written (is_err result) s t (text (slice d.bytes at count))
 
--- The text has at most 31 bytes and begins the list; or it is longer.
+-- A text of at most 31 bytes is given: a list begins with it, and its length is told. A longer one is not.
 abbrev pub GivesShort : List ℕ → Option ℕ → List ℕ → Type 0
 GivesShort text (Some n) to = (n ≡ length text) × (n < 32) × (take n to ≡ text)
 GivesShort text None to = 31 < length text

@@ -8,7 +8,8 @@ ghost use Rattle.uimg_base.specs.Using.{Asks};
 use crate::fault::{BlobFault, IndexFault};
 use uimg_base::{Source, number_at};
 
-const MAGIC: u32 = 0xd00d_feed;
+/// What each blob begins with (Devicetree Specification, section 5.2).
+pub const BLOB_MAGIC: u32 = 0xd00d_feed;
 
 // The version of the format that is read.
 const VERSION: u32 = 17;
@@ -43,7 +44,7 @@ fn extent_in(bytes: &[u8; 40], size: u64) -> Result<Extent, IndexFault>
     let strings = number_at(bytes, 12) as u64;
     let strings_size = number_at(bytes, 32) as u64;
     let structure_end = structure + number_at(bytes, 36) as u64;
-    if number_at(bytes, 0) != MAGIC {
+    if number_at(bytes, 0) != BLOB_MAGIC {
         Err(IndexFault::Blob(BlobFault::BadMagic, 0))
     } else if number_at(bytes, 20) < VERSION {
         Err(IndexFault::Blob(BlobFault::BadVersion, 20))

@@ -17,8 +17,9 @@ mod states;
 mod texts;
 mod tokens;
 
+pub use extent::BLOB_MAGIC;
 pub use fault::{BlobFault, IndexFault};
 pub use indexing::index;
 pub use keys::Key;
 pub use nodes::Blob;
-pub use texts::{Span, put_text, short_text};
+pub use texts::{put_text, short_text};

@@ -12,9 +12,8 @@ use crate::entries::{END, NAME, PARENT, ROLE, VALUES, role_in};
 use crate::keys::Key;
 use crate::roles::Role;
 use crate::slots::slot_of;
-use crate::texts::Span;
 use std::alloc::Allocator;
-use uimg_base::Room;
+use uimg_base::{Room, Span};
 
 /// A devicetree blob whose nodes have entries in a room, and are numbered from 0 in reading order.
 ///

@@ -12,16 +12,7 @@ ghost use Rattle.uimg_blob.specs.Texts.{PutsText, GivesShort};
 
 use std::alloc::Allocator;
 use std::io::Write;
-use uimg_base::{MoveFault, Out, Room, Source, SourceFault, WINDOW, before_nul};
-
-/// Where a name or a value stands in the source.
-#[derive(Clone, Copy, Debug, PartialEq, Eq)]
-pub struct Span {
-    /// The offset of its first byte from the file's start.
-    pub place: u64,
-    /// How many bytes it has.
-    pub length: u64,
-}
+use uimg_base::{MoveFault, Out, Room, Source, SourceFault, Span, WINDOW, before_nul};
 
 // Puts the text at the beginning of at most a window's bytes; true where a NUL ends it.
 fn put_window<S: Source, W: Write>(

@@ -4,10 +4,9 @@ use Rattle.uimg_texts.specs.Slices.{slice}
 use Rattle.uimg_texts.specs.Numbers.{be32, up4}
 use Rattle.uimg_base.specs.Results.{◌>>=◌}
 use Rattle.std.specs.Option.{option_map}
-use Rattle.uimg_blob.specs.declared.texts.Span.{Span}
+use Rattle.uimg_base.specs.declared.spans.Span.{Span}
 use Rattle.uimg_blob.specs.Indexed.{value_span}
 use Rattle.uimg_blob.specs.LookUps.{NodeOf, first}
-use Rattle.uimg_fit_base.specs.declared.place.Place.{Place}
 use Rattle.uimg_blob.specs.Spots.{Spot}
 use Rattle.uimg_fit_base.specs.declared.fault.Fault.{Fault}
 use Rattle.uimg_fit_base.specs.declared.fault.Fault.TheVariants.{Blob, Fit}
@@ -16,32 +15,32 @@ use Rattle.uimg_fit_base.specs.declared.fault.FitFault.TheVariants.{NoData, Data
 use Rattle.uimg_fit_base.specs.Files.{cell}
 
 -- a place from a base on and a size, if both are there
-abbrev pub external : ℕ → Option ℕ → Option ℕ → Option Place
-external base (Some at) (Some size) = Some (record { at = base + at; size = size })
+abbrev pub external : ℕ → Option ℕ → Option ℕ → Option Span
+external base (Some at) (Some size) = Some (record { place = base + at; length = size })
 external base at size = None
 
 -- the place of a value in the blob
-abbrev pub embedded : Option Span → Result Place FitFault
-embedded (Some s) = Ok (record { at = s.place; size = s.length })
+abbrev pub embedded : Option Span → Result Span FitFault
+embedded (Some s) = Ok s
 embedded None = Err NoData
 
 -- the first of two places that is there, or else the third
-abbrev pub or_else : Option Place → Option Place → Result Place FitFault → Result Place FitFault
+abbrev pub or_else : Option Span → Option Span → Result Span FitFault → Result Span FitFault
 or_else (Some p) second third = Ok p
 or_else None (Some p) third = Ok p
 or_else None None third = third
 
 -- The payload's place: `data-position` from the file's start, else `data-offset` from the blob's end, rounded up to a multiple
 -- of 4, each with `data-size`; else that of the first `data`; else there is none.
-abbrev pub place : List ℕ → NodeOf Spot → Result Place FitFault
+abbrev pub place : List ℕ → NodeOf Spot → Result Span FitFault
 place file image =
     or_else (external 0 (cell image.own (codes "data-position")) (cell image.own (codes "data-size")))
     (external (up4 (be32 file 4)) (cell image.own (codes "data-offset")) (cell image.own (codes "data-size")))
     (embedded (option_map value_span (first image.own (codes "data"))))
 
 -- the bytes at a place, unless they end after the file
-unfoldable pub bytes_at : List ℕ → Place → Result (List ℕ) FitFault
-bytes_at file p = if nat_lt (length file) (p.at + p.size) then Err DataOutside else Ok (slice file p.at p.size)
+unfoldable pub bytes_at : List ℕ → Span → Result (List ℕ) FitFault
+bytes_at file p = if nat_lt (length file) (p.place + p.length) then Err DataOutside else Ok (slice file p.place p.length)
 
 -- the payload of an image
 abbrev pub payload : List ℕ → NodeOf Spot → Result (List ℕ) FitFault
@@ -50,8 +49,8 @@ payload file image = do
   bytes_at file p
 
 -- what is said of the place of an image's payload: where it is, or why there is none that ends in the file
-abbrev pub TellsPlace : List ℕ → NodeOf Spot → Result Place Fault → Type 0
-TellsPlace file image (Ok p) = payload file image ≡ Ok (slice file p.at p.size)
+abbrev pub TellsPlace : List ℕ → NodeOf Spot → Result Span Fault → Type 0
+TellsPlace file image (Ok p) = payload file image ≡ Ok (slice file p.place p.length)
 TellsPlace file image (Err (Fit fault)) = payload file image ≡ Err fault
 TellsPlace file image (Err (Blob fault at)) = ⊥
 TellsPlace file image (Err _) = ⊤

@@ -12,47 +12,47 @@ use Rattle.uimg_blob.specs.Spots.{Spot}
 use Rattle.uimg_fit_base.specs.declared.fault.Fault.{Fault}
 use Rattle.uimg_fit_base.specs.declared.fault.Fault.TheVariants.{Fit}
 use Rattle.uimg_fit_base.specs.declared.fault.FitFault.{FitFault}
-use Rattle.uimg_fit_base.specs.declared.words.Word.{Word}
-use Rattle.uimg_fit_base.specs.declared.words.Word.TheVariants.{Malformed, Unsupported, Right, Wrong}
+use Rattle.uimg_fit_base.specs.declared.verdicts.Verdict.{Verdict}
+use Rattle.uimg_fit_base.specs.declared.verdicts.Verdict.TheVariants.{Malformed, Unsupported, Right, Wrong}
 use Rattle.uimg_fit_base.specs.Files.{images_of, bytes_of}
 use Rattle.uimg_fit_base.specs.Places.{payload}
 
 -- what is printed of a hash node
-abbrev pub word_text : Word → List ℕ
+abbrev pub word_text : Verdict → List ℕ
 word_text Malformed = codes "malformed"
 word_text Unsupported = codes "unsupported"
 word_text Right = codes "ok"
 word_text Wrong = codes "bad"
 
-abbrev pub is_right : Word → Bool
+abbrev pub is_right : Verdict → Bool
 is_right Malformed = false
 is_right Unsupported = false
 is_right Right = true
 is_right Wrong = false
 
 -- the word says that a digest was compared
-abbrev pub is_compared : Word → Bool
+abbrev pub is_compared : Verdict → Bool
 is_compared Malformed = false
 is_compared Unsupported = false
 is_compared Right = true
 is_compared Wrong = true
 
 -- whether a value is the digest of a payload; one of another length is malformed
-unfoldable pub compared : Algo → List ℕ → List ℕ → Word
+unfoldable pub compared : Algo → List ℕ → List ℕ → Verdict
 compared algo value message =
     if length value == digest_size algo then (if bytes_eq value (digest_by algo message) then Right else Wrong) else Malformed
 
 -- The word of a hash node, by the name of its algorithm and its value, each of which may be missing: a missing name comes
 -- first, then an unknown one, then a missing value.
-abbrev pub by_value : Algo → Option (List ℕ) → List ℕ → Word
+abbrev pub by_value : Algo → Option (List ℕ) → List ℕ → Verdict
 by_value algo None message = Malformed
 by_value algo (Some value) message = compared algo value message
 
-abbrev pub by_algo : Option Algo → Option (List ℕ) → List ℕ → Word
+abbrev pub by_algo : Option Algo → Option (List ℕ) → List ℕ → Verdict
 by_algo None value message = Unsupported
 by_algo (Some algo) value message = by_value algo value message
 
-abbrev pub by_name : Option (List ℕ) → Option (List ℕ) → List ℕ → Word
+abbrev pub by_name : Option (List ℕ) → Option (List ℕ) → List ℕ → Verdict
 by_name None value message = Malformed
 by_name (Some name) value message = by_algo (algo_named name) value message
 
@@ -61,7 +61,7 @@ abbrev pub algo_of : NodeOf Spot → Option (List ℕ)
 algo_of hash = option_map text (bytes_of hash.own (codes "algo"))
 
 -- the word of a hash node
-abbrev pub word_of : List ℕ → NodeOf Spot → Word
+abbrev pub word_of : List ℕ → NodeOf Spot → Verdict
 word_of message hash = by_name (algo_of hash) (bytes_of hash.own (codes "value")) message
 
 -- `<image> <hash> <algo> <word>`; `-` stands for a missing algorithm

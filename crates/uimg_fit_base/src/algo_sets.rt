@@ -180,7 +180,8 @@ impl Digests {
         }
     }
 
-    /// The digest by an algorithm of the set, with zeros behind it.
+    /// The digest by an algorithm of the set, with zeros behind it up to 64 bytes. Of an algorithm that
+    /// is not in the set nothing is said.
     pub fn by(&self, algo: Algo) -> [u8; 64]
         ensures { (message : List ℕ) → AreDigests self.now message → has (set_of self.now) algo ≡ true →
             result ≡ (padded_digest (digest_by algo message)).0 }

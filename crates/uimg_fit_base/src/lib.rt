@@ -5,13 +5,11 @@
 mod algo_sets;
 mod fault;
 mod feeds;
-mod place;
 mod placement;
-mod words;
+mod verdicts;
 
 pub use algo_sets::{AlgoSet, Digests};
 pub use fault::{Fault, FitFault};
 pub use feeds::feed_through;
-pub use place::Place;
 pub use placement::Placement;
-pub use words::{Word, is_right, word_text};
+pub use verdicts::{Verdict, is_right, word_text};

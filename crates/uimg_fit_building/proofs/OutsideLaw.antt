@@ -15,7 +15,7 @@ use Rattle.uimg_fit_base.specs.declared.placement.Placement.TheVariants.{After, 
 use Rattle.uimg_blob.specs.LookUps.{NodeOf, first, images, hashes}
 use Rattle.uimg_blob.specs.Spots.{Spot}
 use Rattle.uimg_base.specs.Results.{◌>>=◌}
-use Rattle.uimg_fit_base.specs.declared.place.Place.{Place}
+use Rattle.uimg_base.specs.declared.spans.Span.{Span}
 use Rattle.uimg_fit_base.specs.Files.{number, cell}
 use Rattle.uimg_fit_base.specs.Places.{place, bytes_at}
 use Rattle.uimg_fit_building.specs.Filling.{in_first, IsFilledImage, IsFilled, IsDigest}
@@ -50,7 +50,7 @@ stored is = flat_map (λ image. padded (data_of image.own)) is
 module _ (key other : List ℕ) (base : ℕ) (file : List ℕ)
     (key_key : bytes_eq key key ≡ true) (size_key : bytes_eq (codes "data-size") key ≡ false) (other_key : bytes_eq other key ≡ false) (other_size : bytes_eq other (codes "data-size") ≡ false)
     (no_key : (i : NodeOf (List ℕ)) → IsFilledImage i → first i.own key ≡ None) (no_other : (i : NodeOf (List ℕ)) → IsFilledImage i → first i.own other ≡ None)
-    (placed : (i : NodeOf Spot) (at size : ℕ) → cell i.own key ≡ Some at → cell i.own (codes "data-size") ≡ Some size → cell i.own other ≡ None → place file i ≡ Ok (record { at = base + at; size = size }))
+    (placed : (i : NodeOf Spot) (at size : ℕ) → cell i.own key ≡ Some at → cell i.own (codes "data-size") ≡ Some size → cell i.own other ≡ None → place file i ≡ Ok (record { place = base + at; length = size }))
     (fits : length file < 2 ^ 32) where
   -- a payload that stands where it was placed is sound
   outside-image : (i : NodeOf Spot) (f : NodeOf (List ℕ)) (at : ℕ) (rest : List ℕ) → plain i ≡ moved_node key at f → IsFilledImage f → base + at ≤ length file
@@ -68,12 +68,12 @@ module _ (key other : List ℕ) (base : ℕ) (file : List ℕ)
       let at_cell = cell-word i key (moved_own key at f.own) at own m.place (omega (arith, within, fits)) in
       let size_cell = cell-word i (codes "data-size") (moved_own key at f.own) (length message) own m.size (omega (arith, ends, fits)) in
       let other_cell = cell-none i other (moved_own key at f.own) own m.none in
-      let spot : place file i ≡ Ok (record { at = base + at; size = length message }) = placed i at (length message) at_cell size_cell other_cell in
+      let spot : place file i ≡ Ok (record { place = base + at; length = length message }) = placed i at (length message) at_cell size_cell other_cell in
       let inside : nat_lt (length file) (base + at + length message) ≡ false = le-ltb _ _ ends in
-      let bytes : bytes_at file (record { at = base + at; size = length message }) ≡ Ok message = rw (inside, piece-lies file (base + at) message (pad ++ rest) here) refl in
+      let bytes : bytes_at file (record { place = base + at; length = length message }) ≡ Ok message = rw (inside, piece-lies file (base + at) message (pad ++ rest) here) refl in
       let digests : AllByRecursion (IsDigest message) (hashes f) = subst (λ (w : List ℕ). AllByRecursion (IsDigest w) (hashes f)) is_data filled.digests in
       record {
-        is = ap (λ (r : Result Place FitFault). r >>= bytes_at file) spot ∙ bytes;
+        is = ap (λ (r : Result Span FitFault). r >>= bytes_at file) spot ∙ bytes;
         digests = subst (λ (n : NodeOf (List ℕ)). AllByRecursion (IsDigest message) (hashes n)) (sym same) digests;
       }
 

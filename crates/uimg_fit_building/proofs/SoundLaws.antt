@@ -19,7 +19,7 @@ use Rattle.uimg_fit_base.specs.declared.fault.Fault.{Fault}
 use Rattle.uimg_fit_base.specs.declared.fault.FitFault.{FitFault}
 use Rattle.uimg_fit_base.specs.Files.{images_of, bytes_of}
 use Rattle.uimg_fit_base.specs.Places.{payload}
-use Rattle.uimg_fit_base.specs.declared.words.Word.TheVariants.{Right}
+use Rattle.uimg_fit_base.specs.declared.verdicts.Verdict.TheVariants.{Right}
 use Rattle.uimg_fit_base.specs.Report.{compared, by_value, by_algo, by_name, word_of, are_right, report}
 use Rattle.uimg_fit_base.specs.Extraction.{of_images, payload_of}
 use Rattle.uimg_blob.specs.Plain.{Nodes}

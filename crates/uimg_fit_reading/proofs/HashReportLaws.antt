@@ -11,7 +11,7 @@ use Rattle.uimg_blob.specs.Grammar.{Siblings}
 use Rattle.uimg_blob.specs.LookUps.{NodeOf}
 use Rattle.uimg_blob.specs.Spots.{Spot}
 use Rattle.uimg_fit_base.specs.declared.algo_sets.AlgoSet.{AlgoSet}
-use Rattle.uimg_fit_base.specs.declared.words.Word.{Word}
+use Rattle.uimg_fit_base.specs.declared.verdicts.Verdict.{Verdict}
 use Rattle.uimg_fit_base.specs.AlgoSets.{no_algos}
 use Rattle.uimg_fit_base.specs.Report.{word_of, is_right, hash_line, are_right}
 use Rattle.uimg_fit_reading.specs.HashReports.{line_cost, hash_cost, AllCovered, FindsAlgos, PutsHashes}
@@ -92,14 +92,14 @@ pub covered_first : (set : AlgoSet) (hs : List (NodeOf Spot)) (t : Siblings) (nu
 covered_first set hs t number f covered = subst (λ (l : List (NodeOf Spot)). AllCovered set l) f.are covered
 
 pub lines_more : (t : Siblings) (set : AlgoSet) (name message : List ℕ) (n : ℕ) (hs : List (NodeOf Spot)) (asked new : ℕ) (old now : Sink) (right : Bool) (next : Option ℕ) (number : ℕ)
-    (k : LinesLeft t set name message n hs asked new old now right next) (f : FirstHash t number k.left) (word : Word) (further : Sink) (following : Option ℕ) (later : ℕ)
+    (k : LinesLeft t set name message n hs asked new old now right next) (f : FirstHash t number k.left) (word : Verdict) (further : Sink) (following : Option ℕ) (later : ℕ)
     → word ≡ word_of message f.hash → Written false now further (hash_line name message f.hash) → later ≤ new + line_cost n f.hash → HashesAt t following f.more
     → LinesLeft t set name message n hs asked later old further (right && is_right word) following
 lines_more t set name message n hs asked new old now right next number k f word further following later is put paid at = record {
   left = f.more;
   at = at;
   covered = (covered_first set k.left t number f k.covered).1;
-  all_right = three right (is_right word) (are_right message f.more) ∙ ap (λ (w : Word). right && (is_right w && are_right message f.more)) is
+  all_right = three right (is_right word) (are_right message f.more) ∙ ap (λ (w : Verdict). right && (is_right w && are_right message f.more)) is
       ∙ ap (λ (l : List (NodeOf Spot)). right && are_right message l) (sym f.are) ∙ k.all_right;
   written = λ failed s w. k.written failed s (subst (λ (l : List (NodeOf Spot)). Written failed now s (flat_map (hash_line name message) l)) (sym f.are) (put.all ▶ w));
   paid = omega (arith, paid, k.paid, ap (sum_by (line_cost n)) f.are, sum_by-cons (line_cost n) f.hash f.more);

@@ -17,7 +17,7 @@ pub mod SharesLaws
 pub mod HashReportLaws
 pub mod ImageReportLaws
 pub mod ReportLaws
-pub mod FieldLaws
 pub mod TellingLaws
+pub mod RowLaws
 pub mod ListingLaws
 pub mod WithinLaws

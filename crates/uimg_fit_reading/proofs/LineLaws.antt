@@ -8,12 +8,12 @@ use Rattle.uimg_base.specs.Outcome.{line}
 use Rattle.uimg_base.specs.Sink.{Sink}
 use Rattle.uimg_base.specs.Writing.{Written}
 use Rattle.uimg_base.proofs.Slices.{length-slice}
-use Rattle.uimg_blob.specs.declared.texts.Span.{Span}
+use Rattle.uimg_base.specs.declared.spans.Span.{Span}
 use Rattle.uimg_blob.specs.LookUps.{NodeOf}
 use Rattle.uimg_blob.specs.Spots.{Spot}
 use Rattle.uimg_base.specs.declared.ranges.MoveFault.{MoveFault}
 use Rattle.uimg_fit_reading.specs.declared.report.hash_lines.HashLine.{HashLine}
-use Rattle.uimg_fit_base.specs.declared.words.Word.{Word}
+use Rattle.uimg_fit_base.specs.declared.verdicts.Verdict.{Verdict}
 use Rattle.uimg_fit_base.specs.Files.{bytes_of, bytes_in}
 use Rattle.uimg_fit_reading.specs.HashReports.{PutsHash, line_of}
 use Rattle.uimg_fit_reading.specs.Plans.{algo_length, hash_text, span_length}
@@ -43,11 +43,11 @@ pub algo_long : (file : List ℕ) (value : Option Span) (found : NodeOf Spot) �
 algo_long file value found within algo = spans file value within ∙ ap (λ (o : Option (List ℕ)). option_map_or (λ v. length v) o 0) (sym algo)
 
 -- the line of a hash node whose word is known
-pub puts_line : (name message : List ℕ) (n : ℕ) (hash : NodeOf Spot) (asked middle new : ℕ) (word : Word) (r : Result Word MoveFault) (failed : Bool) (s t : Sink) → word ≡ word_of message hash
+pub puts_line : (name message : List ℕ) (n : ℕ) (hash : NodeOf Spot) (asked middle new : ℕ) (word : Verdict) (r : Result Verdict MoveFault) (failed : Bool) (s t : Sink) → word ≡ word_of message hash
     → IfOk r (λ w. w ≡ word) → is_err r ≡ failed → Written failed s t (line_of name word hash) → new ≤ middle + (n + 255 + algo_length hash) → middle ≤ asked + 96
     → PutsHash name message n hash asked new r s t
 puts_line name message n hash asked middle new word r failed s t is right ends written paid judged = record {
   word = of_answer r _ _ (λ w same. same ∙ is) right;
-  written = subst (λ (b : Bool). Written b s t (hash_line name message hash)) (sym ends) (subst (λ (w : Word). Written failed s t (line_of name w hash)) is written);
+  written = subst (λ (b : Bool). Written b s t (hash_line name message hash)) (sym ends) (subst (λ (w : Verdict). Written failed s t (line_of name w hash)) is written);
   paid = omega (arith, paid, judged);
 }

@@ -5,11 +5,10 @@ use Rattle.std.proofs.lemmas.Bool.{lt-ltb, le-ltb}
 use Rattle.uimg_texts.specs.Slices.{slice}
 use Rattle.uimg_texts.specs.Numbers.{be32, up4}
 use Rattle.uimg_base.specs.Results.{◌>>=◌}
-use Rattle.uimg_blob.specs.declared.texts.Span.{Span}
+use Rattle.uimg_base.specs.declared.spans.Span.{Span}
 use Rattle.uimg_blob.specs.Indexed.{value_span}
 use Rattle.uimg_blob.specs.LookUps.{NodeOf, first}
 use Rattle.uimg_blob.specs.Spots.{Spot}
-use Rattle.uimg_fit_base.specs.declared.place.Place.{Place}
 use Rattle.uimg_fit_base.specs.declared.fault.FitFault.{FitFault}
 use Rattle.uimg_fit_base.specs.declared.fault.FitFault.TheVariants.{DataOutside}
 use Rattle.uimg_fit_base.specs.Files.{cell}
@@ -22,22 +21,22 @@ pub place_is : (file : List ℕ) (image : NodeOf Spot) (base : ℕ) (size positi
     → or_else (external 0 position size) (external base offset size) (embedded value) ≡ place file image
 place_is file image base size position offset value b s p o v = rw b (rw s (rw p (rw o (rw v refl))))
 
-inside_of : (file : List ℕ) (p : Place) → p.at + p.size ≤ length file → bytes_at file p ≡ Ok (slice file p.at p.size)
+inside_of : (file : List ℕ) (p : Span) → p.place + p.length ≤ length file → bytes_at file p ≡ Ok (slice file p.place p.length)
 unfolding bytes_at
-inside_of file p inside = rw (le-ltb (length file) (p.at + p.size) inside) refl
+inside_of file p inside = rw (le-ltb (length file) (p.place + p.length) inside) refl
 
-outside_of : (file : List ℕ) (p : Place) → length file < p.at + p.size → bytes_at file p ≡ Err DataOutside
+outside_of : (file : List ℕ) (p : Span) → length file < p.place + p.length → bytes_at file p ≡ Err DataOutside
 unfolding bytes_at
-outside_of file p outside = rw (lt-ltb (length file) (p.at + p.size) outside) refl
+outside_of file p outside = rw (lt-ltb (length file) (p.place + p.length) outside) refl
 
 -- a payload that ends in the file
-pub payload_inside : (file : List ℕ) (image : NodeOf Spot) (p : Place) → Ok p ≡ place file image → p.at + p.size ≤ length file → payload file image ≡ Ok (slice file p.at p.size)
-payload_inside file image p is inside = ap (λ (r : Result Place FitFault). r >>= bytes_at file) (sym is) ∙ inside_of file p inside
+pub payload_inside : (file : List ℕ) (image : NodeOf Spot) (p : Span) → Ok p ≡ place file image → p.place + p.length ≤ length file → payload file image ≡ Ok (slice file p.place p.length)
+payload_inside file image p is inside = ap (λ (r : Result Span FitFault). r >>= bytes_at file) (sym is) ∙ inside_of file p inside
 
 -- one that ends after it
-pub payload_outside : (file : List ℕ) (image : NodeOf Spot) (p : Place) → Ok p ≡ place file image → length file < p.at + p.size → payload file image ≡ Err DataOutside
-payload_outside file image p is outside = ap (λ (r : Result Place FitFault). r >>= bytes_at file) (sym is) ∙ outside_of file p outside
+pub payload_outside : (file : List ℕ) (image : NodeOf Spot) (p : Span) → Ok p ≡ place file image → length file < p.place + p.length → payload file image ≡ Err DataOutside
+payload_outside file image p is outside = ap (λ (r : Result Span FitFault). r >>= bytes_at file) (sym is) ∙ outside_of file p outside
 
 -- an image without a place
 pub payload_lacks : (file : List ℕ) (image : NodeOf Spot) (fault : FitFault) → Err fault ≡ place file image → payload file image ≡ Err fault
-payload_lacks file image fault is = ap (λ (r : Result Place FitFault). r >>= bytes_at file) (sym is)
+payload_lacks file image fault is = ap (λ (r : Result Span FitFault). r >>= bytes_at file) (sym is)

@@ -11,15 +11,15 @@ use Rattle.uimg_sums.proofs.DigestSizes.{length-digest_by}
 use Rattle.uimg_texts.specs.Slices.{slice}
 use Rattle.uimg_base.proofs.Slices.{length-slice}
 use Rattle.uimg_blob.proofs.PhaseLaws.{by_bool}
-use Rattle.uimg_blob.specs.declared.texts.Span.{Span}
+use Rattle.uimg_base.specs.declared.spans.Span.{Span}
 use Rattle.uimg_fit_reading.specs.declared.report.plans.Plan.{Plan}
 use Rattle.uimg_fit_reading.specs.declared.report.plans.Plan.TheVariants.{Compared}
 use Rattle.uimg_fit_reading.specs.declared.report.plans.Plan.TheVariants as plan
 use Rattle.uimg_fit_base.specs.declared.algo_sets.AlgoSet.{AlgoSet}
 use Rattle.uimg_fit_base.specs.AlgoSets.{has}
-use Rattle.uimg_fit_base.specs.declared.words.Word.{Word}
-use Rattle.uimg_fit_base.specs.declared.words.Word.TheVariants.{Right, Wrong}
-use Rattle.uimg_fit_base.specs.declared.words.Word.TheVariants as word
+use Rattle.uimg_fit_base.specs.declared.verdicts.Verdict.{Verdict}
+use Rattle.uimg_fit_base.specs.declared.verdicts.Verdict.TheVariants.{Right, Wrong}
+use Rattle.uimg_fit_base.specs.declared.verdicts.Verdict.TheVariants as word
 use Rattle.uimg_fit_base.specs.Files.{bytes_in}
 use Rattle.uimg_fit_reading.specs.Plans.{EndsIn, IsCovered, plan_for, plan_by_value, plan_by_algo, plan_by_name, word_by}
 use Rattle.uimg_fit_base.specs.Report.{compared, by_value, by_algo, by_name}
@@ -51,7 +51,7 @@ plan_word : (file message : List ℕ) (algo : Algo) (span : Span) → span.place
 unfolding plan_for compared
 plan_word file message algo span within =
     let long : length (slice file span.place span.length) ≡ span.length = length-slice file span.place span.length within in
-    let right : Word = if bytes_eq (slice file span.place span.length) (digest_by algo message) then Right else Wrong in
+    let right : Verdict = if bytes_eq (slice file span.place span.length) (digest_by algo message) then Right else Wrong in
     by_bool (span.length == digest_size algo)
     (λ fits. ap (λ (b : Bool). word_by file message (if b then Compared algo span else plan.Malformed)) fits
     ∙ sym (ap (λ (b : Bool). if b then right else word.Malformed) (ap (λ (n : ℕ). n == digest_size algo) long ∙ fits)))

@@ -13,7 +13,7 @@ use Rattle.uimg_blob.specs.Spots.{Spot}
 use Rattle.uimg_blob.proofs.PhaseLaws.{some_none, some_some, by_bool, true_false}
 use Rattle.uimg_fit_base.specs.Files.{root_own}
 use Rattle.uimg_fit_reading.specs.Allowances.{text_size, text_sizes, allowance, node_allowance}
-use Rattle.uimg_fit_reading.specs.FieldTexts.{size_of}
+use Rattle.uimg_fit_reading.specs.Rows.{size_of}
 
 -- one that is found
 found_le : {X : Type 0} (f : X → ℕ) (p : X → Bool) (xs : List X) (x : X) → find p xs ≡ Some x → f x ≤ sum_by f xs

@@ -15,7 +15,7 @@ use Rattle.uimg_fit_reading.specs.Nodes.{IsRead}
 use Rattle.uimg_fit_reading.specs.declared.listing.listed_nodes.Kind.{Kind}
 use Rattle.uimg_fit_reading.specs.declared.listing.listed_nodes.Kind.TheVariants.{Image, Configuration}
 use Rattle.uimg_fit_reading.specs.Listing.{numbered}
-use Rattle.uimg_fit_reading.specs.NodeLines.{title_text, level_of}
+use Rattle.uimg_fit_reading.specs.NodeLines.{level_of}
 use Rattle.uimg_fit_reading.specs.Telling.{Lists}
 use Rattle.uimg_fit_reading.proofs.PutLaws.{◌▶◌, cut, nothing}
 
@@ -71,12 +71,6 @@ left_ends At texts i next d m s n all left is none =
 pub read_same : (file other : List ℕ) (blob : Blob) (es fs : List (List ℕ)) (t : Siblings) → other ≡ file → fs ≡ es → IsRead file blob es t → IsRead other blob fs t
 read_same file other blob es fs t same kept read =
     subst (λ (w : List ℕ). IsRead w blob fs t) (sym same) (subst (λ (w : List (List ℕ)). IsRead file blob w t) (sym kept) read)
-
--- a title and the lines below it, by the name and the text that they are
-pub titled : (e : Bool) (s t : Sink) (before : List ℕ) (number : ℕ) (name other xs ys : List ℕ) → name ≡ other → xs ≡ ys
-    → Written e s t (title_text before number name ++ xs) → Written e s t (title_text before number other ++ ys)
-titled e s t before number name other xs ys named are told =
-    subst (λ (w : List ℕ). Written e s t (title_text before number w ++ ys)) named (subst (λ (w : List ℕ). Written e s t (title_text before number name ++ w)) are told)
 
 -- numbered lines, one more
 pub numbered_more : (lines : ℕ → NodeOf Spot → List ℕ) (i : ℕ) (n : NodeOf Spot) (ns : List (NodeOf Spot)) → numbered lines i (n ∷ ns) ≡ lines i n ++ numbered lines (i + 1) ns

@@ -6,7 +6,7 @@ use Rattle.uimg_base.proofs.Slices.{length-slice}
 use Rattle.uimg_base.specs.declared.ranges.MoveFault.{MoveFault}
 use Rattle.uimg_base.specs.declared.ranges.MoveFault.TheVariants as move
 use Rattle.uimg_base.specs.declared.status.Status.{Status}
-use Rattle.uimg_blob.specs.declared.texts.Span.{Span}
+use Rattle.uimg_base.specs.declared.spans.Span.{Span}
 use Rattle.uimg_blob.specs.Blob.{tree}
 use Rattle.uimg_blob.specs.Counts.{nodes_met, texts_met}
 use Rattle.uimg_blob.specs.Grammar.{Siblings}
@@ -22,7 +22,7 @@ use Rattle.uimg_fit_base.specs.Files.{bytes_of, bytes_in, root_own}
 use Rattle.uimg_fit_reading.specs.Heads.{span_size}
 use Rattle.uimg_fit_reading.specs.ListingParts.{configurations_allowance, body_allowance}
 use Rattle.uimg_fit_reading.proofs.AllowanceLaws.{tree-paid}
-use Rattle.uimg_fit_reading.specs.FieldTexts.{size_of}
+use Rattle.uimg_fit_reading.specs.Rows.{size_of}
 use Rattle.uimg_fit_reading.proofs.SharesLaws.{images_allowed, both_allowed}
 
 size_by : (o : Option Spot) → span_size (option_map value_span o) ≡ option_map_or length (option_map (λ s. s.bytes) o) 0

@@ -11,7 +11,7 @@ use Rattle.uimg_blob.specs.LookUps.{NodeOf}
 use Rattle.uimg_blob.specs.Spots.{Spot}
 use Rattle.uimg_fit_base.specs.declared.algo_sets.AlgoSet.{AlgoSet}
 use Rattle.uimg_fit_base.specs.declared.algo_sets.Digests.{Digests}
-use Rattle.uimg_fit_base.specs.declared.words.Word.{Word}
+use Rattle.uimg_fit_base.specs.declared.verdicts.Verdict.{Verdict}
 use Rattle.uimg_fit_base.specs.AlgoSets.{no_algos, set_of, AreDigests}
 use Rattle.uimg_fit_base.specs.Report.{algo_of, word_text, word_of, hash_line, are_right}
 use Rattle.uimg_fit_reading.specs.Plans.{IsCovered, are_compared, with_all, plan_of, algo_length}
@@ -20,7 +20,7 @@ use Rattle.uimg_fit_reading.specs.Plans.{IsCovered, are_compared, with_all, plan
 abbrev pub line_cost : ℕ → NodeOf Spot → ℕ
 line_cost n hash = n + 351 + algo_length hash
 
--- the same with those that tell its algorithm before the payload is read
+-- the same with the 32 that its algorithm may be told by before the payload is read
 abbrev pub hash_cost : ℕ → NodeOf Spot → ℕ
 hash_cost n hash = n + 383 + algo_length hash
 
@@ -28,7 +28,7 @@ hash_cost n hash = n + 383 + algo_length hash
 abbrev pub AllCovered : AlgoSet → List (NodeOf Spot) → Type 0
 AllCovered set hs = AllByRecursion (λ h. IsCovered set (plan_of h)) hs
 
--- The algorithms that hash nodes are compared by were found; 32 bytes were asked for about each node.
+-- The algorithms that hash nodes are compared by were found; at most 32 bytes were asked for about each node.
 pub record FindsAlgos (hs : List (NodeOf Spot)) (asked new : ℕ) (result : Result AlgoSet SourceFault) : Type 0 where
   pub algos : IfOk result (λ set. set ≡ with_all no_algos hs)
   pub paid : new ≤ asked + 32 * length hs
@@ -40,12 +40,12 @@ pub record FindsDigests (message : List ℕ) (size : ℕ) (hs : List (NodeOf Spo
   pub paid : new ≤ asked + ((if are_compared hs then size else 0) + 32 * length hs)
 
 -- the line of a hash node with a word
-abbrev pub line_of : List ℕ → Word → NodeOf Spot → List ℕ
+abbrev pub line_of : List ℕ → Verdict → NodeOf Spot → List ℕ
 line_of name word hash =
     line (name ++ codes " " ++ hash.name ++ codes " " ++ option_map_or (λ n. n) (algo_of hash) (codes "-") ++ codes " " ++ word_text word)
 
 -- The line of a hash node was written, and its word is told.
-pub record PutsHash (name message : List ℕ) (n : ℕ) (hash : NodeOf Spot) (asked new : ℕ) (result : Result Word MoveFault) (old now : Sink) : Type 0 where
+pub record PutsHash (name message : List ℕ) (n : ℕ) (hash : NodeOf Spot) (asked new : ℕ) (result : Result Verdict MoveFault) (old now : Sink) : Type 0 where
   pub word : IfOk result (λ word. word ≡ word_of message hash)
   pub written : Written (is_err result) old now (hash_line name message hash)
   pub paid : new ≤ asked + line_cost n hash

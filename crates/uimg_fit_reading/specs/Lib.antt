@@ -9,7 +9,7 @@ pub mod Nodes
 pub mod Rooms
 pub mod Shows
 pub mod Lists
-pub mod FieldTexts
+pub mod Rows
 pub mod Allowances
 pub mod Telling
 pub mod NodeLines

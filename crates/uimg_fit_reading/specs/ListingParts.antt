@@ -1,29 +1,16 @@
--- What a listing has after its head lines, by the tree that was read.
-use Rattle.std.specs.Prelude.{ℕ, ◌+◌, ◌≤◌, List, [], ◌++◌, Option, Some, None, codes}
+-- What is asked for after the head lines of a listing.
+use Rattle.std.specs.Prelude.{ℕ, ◌+◌, ◌≤◌, List, Option, Some, None}
 use Rattle.std.specs.List.{sum_by}
 use Rattle.uimg_base.specs.Device.{Device}
 use Rattle.uimg_base.specs.Sink.{Sink}
 use Rattle.uimg_base.specs.Outcome.{End, Outcome, Tells}
 use Rattle.uimg_blob.specs.Plain.{NodesOf}
-use Rattle.uimg_blob.specs.LookUps.{NodeOf, listed, configurations}
+use Rattle.uimg_blob.specs.LookUps.{NodeOf, configurations}
 use Rattle.uimg_blob.specs.Spots.{Spot}
 use Rattle.uimg_fit_base.specs.declared.fault.Fault.{Fault}
-use Rattle.uimg_fit_reading.specs.declared.listing.listed_nodes.Kind.TheVariants.{Image, Configuration}
 use Rattle.uimg_fit_reading.specs.Allowances.{node_allowance}
-use Rattle.uimg_fit_base.specs.Files.{bytes_of}
-use Rattle.uimg_fit_reading.specs.Heads.{default_line}
-use Rattle.uimg_fit_reading.specs.Listing.{numbered}
-use Rattle.uimg_fit_reading.specs.NodeLines.{node_lines}
 
--- the lines of the images
-abbrev pub images_text : List ℕ → Option ℕ → List (NodeOf Spot) → List ℕ
-images_text file time found = numbered (node_lines file (Image time)) 0 found
-
--- the lines of the configurations
-abbrev pub configurations_text : List ℕ → Option (NodeOf Spot) → List ℕ
-configurations_text file None = []
-configurations_text file (Some c) = default_line (bytes_of c.own (codes "default")) ++ numbered (node_lines file Configuration) 0 (listed c.below)
-
+-- what the configurations are allowed
 abbrev pub configurations_allowance : Option (NodeOf Spot) → ℕ
 configurations_allowance None = 0
 configurations_allowance (Some c) = node_allowance c

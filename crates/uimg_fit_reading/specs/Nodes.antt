@@ -161,6 +161,10 @@ TellsConfigurations t (Some number) = HasConfigurations t number
 abbrev pub OfNode : Device → Blob → Held → Level → ℕ → (NodeOf Spot → Type 0) → Type 0
 OfNode d blob room level number P = (t : Siblings) → Opened d blob room t → (found : NodeOf Spot) → IsNode t level number found → P found
 
+-- .. of the node at a number, at whatever level it stands ..
+abbrev pub OfAnyNode : Device → Blob → Held → ℕ → (Level → NodeOf Spot → Type 0) → Type 0
+OfAnyNode d blob room number P = (t : Siblings) → Opened d blob room t → (level : Level) (found : NodeOf Spot) → IsNode t level number found → P level found
+
 -- .. of the nodes from a number of a level on ..
 abbrev pub OfNodes : Device → Blob → Held → Level → Option ℕ → (List (NodeOf Spot) → Type 0) → Type 0
 OfNodes d blob room level first P = (t : Siblings) → Opened d blob room t → (found : List (NodeOf Spot)) → AreFrom t level first found → P found

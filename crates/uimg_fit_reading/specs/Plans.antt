@@ -8,7 +8,7 @@ use Rattle.uimg_sums.specs.Algorithms.{algo_named, digest_size, digest_by}
 use Rattle.uimg_texts.specs.Nul.{text}
 use Rattle.uimg_texts.specs.Slices.{slice}
 use Rattle.uimg_base.specs.Outcome.{line}
-use Rattle.uimg_blob.specs.declared.texts.Span.{Span}
+use Rattle.uimg_base.specs.declared.spans.Span.{Span}
 use Rattle.uimg_blob.specs.LookUps.{NodeOf, first}
 use Rattle.uimg_blob.specs.Indexed.{value_span}
 use Rattle.uimg_blob.specs.Spots.{Spot}
@@ -16,8 +16,8 @@ use Rattle.uimg_fit_reading.specs.declared.report.plans.Plan.{Plan}
 use Rattle.uimg_fit_reading.specs.declared.report.plans.Plan.TheVariants.{Malformed, Unsupported, Compared}
 use Rattle.uimg_fit_base.specs.declared.algo_sets.AlgoSet.{AlgoSet}
 use Rattle.uimg_fit_base.specs.AlgoSets.{has, marked}
-use Rattle.uimg_fit_base.specs.declared.words.Word.{Word}
-use Rattle.uimg_fit_base.specs.declared.words.Word.TheVariants as word
+use Rattle.uimg_fit_base.specs.declared.verdicts.Verdict.{Verdict}
+use Rattle.uimg_fit_base.specs.declared.verdicts.Verdict.TheVariants as word
 use Rattle.uimg_fit_base.specs.Files.{bytes_in, bytes_of}
 use Rattle.uimg_fit_reading.specs.declared.report.hash_lines.HashLine.{HashLine}
 use Rattle.uimg_fit_base.specs.Report.{algo_of, word_text}
@@ -106,7 +106,7 @@ EndsIn size Unsupported = ⊤
 EndsIn size (Compared algo span) = (span.place + span.length ≤ size) × (span.length ≡ digest_size algo)
 
 -- the word of a hash node, once its value is compared
-abbrev pub word_by : List ℕ → List ℕ → Plan → Word
+abbrev pub word_by : List ℕ → List ℕ → Plan → Verdict
 word_by file message Malformed = word.Malformed
 word_by file message Unsupported = word.Unsupported
 word_by file message (Compared algo span) =

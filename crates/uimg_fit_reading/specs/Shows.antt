@@ -1,5 +1,5 @@
 -- The lines of a property's value, where its label is padded already.
-use Rattle.std.specs.Prelude.{ℕ, ◌+◌, ◌≤◌, min, List, [], ◌∷◌, ◌++◌, length, replicate, codes, Option, IfSome, ⊤}
+use Rattle.std.specs.Prelude.{ℕ, min, List, [], ◌∷◌, ◌++◌, length, replicate, codes, Option}
 use Rattle.std.specs.List.{flat_map}
 use Rattle.std.specs.Option.{option_map_or}
 use Rattle.hex.specs.Hex.{encode_lower}
@@ -12,10 +12,6 @@ use Rattle.uimg_fit_reading.specs.declared.listing.shows.Table.{Table}
 use Rattle.uimg_fit_reading.specs.declared.listing.shows.Table.TheVariants.{Kinds, Compressions, Architectures, Systems}
 use Rattle.uimg_fit_reading.specs.declared.listing.shows.Show.{Show}
 use Rattle.uimg_fit_reading.specs.declared.listing.shows.Show.TheVariants as show
-use Rattle.uimg_fit_reading.specs.declared.listing.shows.Content.{Content}
-use Rattle.uimg_fit_reading.specs.declared.listing.shows.Content.TheVariants.{Property, Time, Size}
-use Rattle.uimg_fit_reading.specs.declared.listing.shows.Field.{Field}
-use Rattle.uimg_fit_base.specs.Files.{bytes_in}
 use Rattle.uimg_fit_reading.specs.Values.{address_text, pieces}
 
 -- the rows of a table
@@ -65,24 +61,6 @@ time_line label time = option_map_or (λ t. line (label ++ time_text t)) time []
 abbrev pub size_line : List ℕ → Option ℕ → List ℕ
 size_line label size = line (label ++ option_map_or size_text size (codes "unavailable"))
 
--- the lines of a field, whose value stands in a file
-abbrev pub content_lines : List ℕ → List ℕ → Content → List ℕ
-content_lines file label (Property how value) = shown how label (bytes_in file value)
-content_lines file label (Time time) = time_line label time
-content_lines file label (Size size) = size_line label size
-
-abbrev pub field_lines : List ℕ → Field → List ℕ
-field_lines file field = content_lines file field.label.now field.content
-
--- a value that is shown ends in a file of so many bytes
-abbrev pub EndsIn : ℕ → Content → Type 0
-EndsIn size (Property how value) = IfSome value (λ s. s.place + s.length ≤ size)
-EndsIn size (Time time) = ⊤
-EndsIn size (Size n) = ⊤
-
-abbrev pub FieldEndsIn : ℕ → Field → Type 0
-FieldEndsIn size field = EndsIn size field.content
-
 -- the most bytes of a value that are asked for
 abbrev pub value_cost : Show → ℕ → ℕ
 value_cost show.Text n = n
@@ -94,11 +72,3 @@ value_cost show.List n = n
 -- the same of a value that may be missing
 abbrev pub weight : Show → Option (List ℕ) → ℕ
 weight how value = option_map_or (λ v. value_cost how (length v)) value 0
-
-abbrev pub content_cost : Content → ℕ
-content_cost (Property how value) = option_map_or (λ s. value_cost how s.length) value 0
-content_cost (Time time) = 0
-content_cost (Size n) = 0
-
-abbrev pub field_cost : Field → ℕ
-field_cost field = content_cost field.content

@@ -1,14 +1,7 @@
 -- What the values of properties are printed as.
 use Rattle.std.specs.Prelude.{ℕ, zero, suc, min, ◌-◌, List, [], ◌∷◌, ◌++◌, length, drop, not, ◌==◌, if◌then◌else◌, codes}
 use Rattle.std.specs.List.{position_or_len}
-use Rattle.std.specs.Option.{option_map_or}
 use Rattle.hex.specs.Hex.{encode_lower}
-use Rattle.uimg_texts.specs.Names.{Row, code_of, printed}
-use Rattle.uimg_texts.specs.Nul.{text}
-
--- the printed name of what a text names, or what is printed where no row has it
-abbrev pub long_name : List Row → List ℕ → List ℕ → List ℕ
-long_name table unknown value = option_map_or (printed table unknown) (code_of table (text value)) unknown
 
 -- hexadecimal digits without the zeros before the last eight
 abbrev pub eight_or_more : List ℕ → List ℕ

@@ -14,22 +14,22 @@ use crate::places::payload_place;
 use crate::tree::read_tree;
 use std::alloc::Allocator;
 use std::io::Write;
-use uimg_base::{Out, Room, Source, Status, copy_range};
-use uimg_fit_base::{Fault, Place};
+use uimg_base::{Out, Room, Source, Span, Status, copy_range};
+use uimg_fit_base::Fault;
 
 // The place of the payload of the image at a position.
 fn locate_payload<S: Source, A: Allocator>(
     source: &mut S,
     room: &mut Room<A>,
     position: u32,
-) -> Result<Place, Fault>
+) -> Result<Span, Fault>
     ensures uses { UsesAtMost (list_work (S.device source.old).bytes) (is_read result)
         (S.device source.old) (S.device source.new) }
     ensures room { TakesNodes (S.device source.old) (is_out_of_memory result) room.old room.new }
     ensures no_put { is_put result ≡ false }
-    ensures inside { IfOk result (λ p. p.at + p.size ≤ length (S.device source.old).bytes) }
+    ensures inside { IfOk result (λ p. p.place + p.length ≤ length (S.device source.old).bytes) }
     ensures gives { IsTrue (S.device source.old).honest → Gives
-        (λ p. slice (S.device source.old).bytes p.at p.size) result
+        (λ p. slice (S.device source.old).bytes p.place p.length) result
         (payload_at (S.device source.old).bytes position) }
 {
     let blob = read_tree(source, room)?;
@@ -61,7 +61,7 @@ pub fn extract<S: Source, A: Allocator, W: Write>(
     ensures told { IsTrue (S.device source.old).honest →
         Tells (end_of result) (extract_of (S.device source.old).bytes position) out.old out.new }
 {
-    let place = locate_payload(source, room, position)?;
-    copy_range(source, room, place.at, place.size, out)?;
+    let span = locate_payload(source, room, position)?;
+    copy_range(source, room, span.place, span.length, out)?;
     Ok(Status::Done)
 }

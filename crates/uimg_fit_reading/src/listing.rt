@@ -9,8 +9,8 @@ ghost use Rattle.uimg_blob.specs.Roles.{in_images};
 ghost use Rattle.uimg_blob.specs.Spots.{Spot, spots};
 ghost use Rattle.uimg_fit_base.specs.Faults.{is_read, is_put, is_out_of_memory, end_of};
 ghost use Rattle.uimg_fit_base.specs.Files.{root_own, cell};
-ghost use Rattle.uimg_fit_reading.specs.Listing.{lists, list_of};
-ghost use Rattle.uimg_fit_reading.specs.ListingParts.{configurations_allowance, configurations_text, images_text, body_allowance, TellsWithin};
+ghost use Rattle.uimg_fit_reading.specs.Listing.{configurations_lines, image_lines, lists, list_of, numbered};
+ghost use Rattle.uimg_fit_reading.specs.ListingParts.{configurations_allowance, body_allowance, TellsWithin};
 ghost use Rattle.uimg_fit_reading.specs.Nodes.{InFile, AreFrom, Opened, HasNodes};
 ghost use Rattle.uimg_fit_reading.specs.Rooms.{TakesNodes};
 ghost use Rattle.uimg_fit_reading.specs.Telling.{Lists};
@@ -24,7 +24,7 @@ mod hexadecimal;
 mod listed_nodes;
 mod lists;
 mod names;
-mod properties;
+mod rows;
 mod shows;
 mod titles;
 
@@ -53,7 +53,7 @@ fn put_configurations<S: Source, A: Allocator, W: Write>(
     ensures told { (t : Siblings) → Opened (S.device source.old) blob.now room.old t →
         Lists (is_err result) (configurations_allowance (configurations (spots t)))
         (S.device source.old) (S.device source.new) out.old out.new
-        (configurations_text (S.device source.old).bytes (configurations (spots t))) }
+        (configurations_lines (configurations (spots t))) }
 {
     let Some(node) = configurations_of(blob, room) else {
         return Ok(());
@@ -79,8 +79,8 @@ fn put_body<S: Source, A: Allocator, W: Write>(
         (found : List (NodeOf Spot)) → AreFrom t in_images first found →
         Lists (is_err result) (body_allowance (spots t) (Some found))
         (S.device source.old) (S.device source.new) out.old out.new
-        (images_text (S.device source.old).bytes time found
-        ++ configurations_text (S.device source.old).bytes (configurations (spots t))) }
+        (numbered (image_lines (S.device source.old).bytes time) 0 found
+        ++ configurations_lines (configurations (spots t))) }
 {
     put_listed_nodes(source, blob, room, Kind::Image(time), first, out)?;
     put_configurations(source, blob, room, out)

@@ -12,8 +12,8 @@ ghost use Rattle.uimg_fit_base.specs.Files.{bytes_of, bytes_in, root_own};
 ghost use Rattle.uimg_fit_reading.specs.Nodes.{Indexed, InFile, IsRead, IsNode, AtNode, InTree, AreFrom, HashesFrom, HashAt, HashesAt, TellsConfigurations};
 
 use std::alloc::Allocator;
-use uimg_base::Room;
-use uimg_blob::{Blob, Key, Span};
+use uimg_base::{Room, Span};
+use uimg_blob::{Blob, Key};
 
 // Where the name of a node stands.
 pub(crate) fn name_of<A: Allocator>(blob: &Blob, room: &Room<A>, node: usize) -> Span

@@ -11,9 +11,9 @@ ghost use Rattle.uimg_fit_base.specs.Places.{external, or_else, embedded, place,
 
 use crate::nodes::value_of;
 use std::alloc::Allocator;
-use uimg_base::{Room, Source, SourceFault, number_at, up4};
-use uimg_blob::{Blob, Key, Span};
-use uimg_fit_base::{Fault, FitFault, Place};
+use uimg_base::{Room, Source, SourceFault, Span, number_at, up4};
+use uimg_blob::{Blob, Key};
+use uimg_fit_base::{Fault, FitFault};
 
 // The number of a value that has four bytes.
 pub(crate) fn cell<S: Source>(
@@ -43,32 +43,26 @@ pub(crate) fn decide(
     position: Option<u32>,
     offset: Option<u32>,
     payload: Option<Span>,
-) -> Result<Place, FitFault>
+) -> Result<Span, FitFault>
     requires { base < 2 ^ 40 }
     ensures place { result ≡ or_else (external 0 position size) (external base offset size)
         (embedded payload) }
     ensures small { IfSome payload (λ s. (s.place < 2 ^ 40) × (s.length < 2 ^ 32)) →
-        IfOk result (λ p. (p.at < 2 ^ 41) × (p.size < 2 ^ 32)) }
+        IfOk result (λ p. (p.place < 2 ^ 41) × (p.length < 2 ^ 32)) }
 {
     if let (Some(at), Some(size)) = (position, size) {
-        return Ok(Place {
-            at: at as u64,
-            size: size as u64,
+        return Ok(Span {
+            place: at as u64,
+            length: size as u64,
         });
     }
     if let (Some(at), Some(size)) = (offset, size) {
-        return Ok(Place {
-            at: base + at as u64,
-            size: size as u64,
+        return Ok(Span {
+            place: base + at as u64,
+            length: size as u64,
         });
     }
-    match payload {
-        Some(span) => Ok(Place {
-            at: span.place,
-            size: span.length,
-        }),
-        None => Err(FitFault::NoData),
-    }
+    payload.ok_or(FitFault::NoData)
 }
 
 // The place of an image's payload, or that it has none.
@@ -77,10 +71,10 @@ pub(crate) fn find_place<S: Source, A: Allocator>(
     blob: &Blob,
     room: &Room<A>,
     image: usize,
-) -> Result<Result<Place, FitFault>, SourceFault>
+) -> Result<Result<Span, FitFault>, SourceFault>
     requires { HasNode (S.device source.old) blob.now room.now image }
     ensures uses { Asks 12 (is_err result) (S.device source.old) (S.device source.new) }
-    ensures small { IfOk result (λ found. IfOk found (λ p. (p.at < 2 ^ 41) × (p.size < 2 ^ 32))) }
+    ensures small { IfOk result (λ found. IfOk found (λ p. (p.place < 2 ^ 41) × (p.length < 2 ^ 32))) }
     ensures place { IsTrue (S.device source.old).honest → (t : Siblings) →
         IsRead (S.device source.old).bytes blob.now room.now.entries t → (found : NodeOf Spot) →
         IsNode t in_images image found →
@@ -105,19 +99,19 @@ pub(crate) fn payload_place<S: Source, A: Allocator>(
     blob: &Blob,
     room: &Room<A>,
     image: usize,
-) -> Result<Place, Fault>
+) -> Result<Span, Fault>
     requires { HasNode (S.device source.old) blob.now room.now image }
     ensures uses { Asks 12 (is_read result) (S.device source.old) (S.device source.new) }
     ensures no_put { is_put result ≡ false }
     ensures memory { is_out_of_memory result ≡ false }
-    ensures inside { IfOk result (λ p. p.at + p.size ≤ length (S.device source.old).bytes) }
+    ensures inside { IfOk result (λ p. p.place + p.length ≤ length (S.device source.old).bytes) }
     ensures told { IsTrue (S.device source.old).honest → (t : Siblings) →
         IsRead (S.device source.old).bytes blob.now room.now.entries t → (found : NodeOf Spot) →
         IsNode t in_images image found → TellsPlace (S.device source.old).bytes found result }
 {
-    let place = find_place(source, blob, room, image)??;
-    if place.at + place.size > source.size()? {
+    let span = find_place(source, blob, room, image)??;
+    if span.place + span.length > source.size()? {
         return Err(Fault::Fit(FitFault::DataOutside));
     }
-    Ok(place)
+    Ok(span)
 }

@@ -8,8 +8,7 @@ ghost use Rattle.uimg_fit_reading.specs.Puts.{Puts, PutsOwn};
 
 use std::alloc::Allocator;
 use std::io::Write;
-use uimg_base::{MoveFault, Out, Room, Source, copy_range};
-use uimg_blob::Span;
+use uimg_base::{MoveFault, Out, Room, Source, Span, copy_range};
 
 // Writes a text.
 pub(crate) fn put<W: Write>(out: &mut Out<W>, text: &[u8]) -> Result<(), MoveFault>

@@ -1,7 +1,7 @@
 -- The words of short texts, and the tree of the case mixed-values, by computing.
 use Rattle.std.proofs.Common.{◌≡◌, [], ◌∷◌, Some, None, refl}
 use Rattle.std.specs.Prelude.{codes}
-use Rattle.uimg_its.specs.declared.words.Mark.TheVariants.{Slash, Comma}
+use Rattle.uimg_its.specs.declared.tokens.Mark.TheVariants.{Slash, Comma}
 use Rattle.uimg_its.specs.Digits.{number}
 use Rattle.uimg_its.specs.Strings.{escape, unit, string_end, string_bytes}
 use Rattle.uimg_its.specs.Words.{name, directive, text, mark, stray, comment, piece, words_from, words}

@@ -1,7 +1,7 @@
 -- Labels before a name have no effect.
 use Rattle.std.proofs.Common.{◌≡◌, List, [], ◌∷◌, Option, Some, None, Bool, true, false, length, nat_lt, refl, sym, ap, ◌∙◌}
 use Rattle.uimg_its.specs.declared.fault.Kind.{Kind}
-use Rattle.uimg_its.specs.declared.words.Mark.TheVariants.{Colon}
+use Rattle.uimg_its.specs.declared.tokens.Mark.TheVariants.{Colon}
 use Rattle.uimg_its.specs.Words.{Word, name, mark, stray}
 use Rattle.uimg_its.specs.Options.{◌>>=◌}
 use Rattle.uimg_its.specs.Answers.{Refuses}

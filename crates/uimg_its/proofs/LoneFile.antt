@@ -1,7 +1,7 @@
 -- A file that is the whole value of a property.
 use Rattle.std.proofs.Common.{◌≡◌, ℕ, List, [], ◌∷◌, Option, Some, None, true, refl, ap, ◌∙◌}
 use Rattle.std.specs.Prelude.{cond, codes}
-use Rattle.uimg_its.specs.declared.words.Mark.TheVariants.{Semicolon, ParenOpen, ParenClose}
+use Rattle.uimg_its.specs.declared.tokens.Mark.TheVariants.{Semicolon, ParenOpen, ParenClose}
 use Rattle.uimg_its.specs.Parts.{FileBytes}
 use Rattle.uimg_its.specs.Words.{Word, directive, text, mark}
 use Rattle.uimg_its.specs.Reader.{next, expect, string, is_incbin, lone_file, values}

@@ -2,7 +2,7 @@
 use Rattle.std.proofs.Common.{◌≡◌, ℕ, zero, suc, ◌≤◌, List, [], ◌∷◌, ◌++◌, Bool, true, false, Option, Some, None, length, refl, sym, ap, subst, ◌∙◌, append_assoc}
 use Rattle.std.specs.Prelude.{cond, nat_lt, codes}
 use Rattle.std.proofs.lemmas.Bool.{ltb-false}
-use Rattle.uimg_its.specs.declared.words.Mark.TheVariants.{Slash, BraceOpen, BraceClose, Semicolon, Equals, Colon}
+use Rattle.uimg_its.specs.declared.tokens.Mark.TheVariants.{Slash, BraceOpen, BraceClose, Semicolon, Equals, Colon}
 use Rattle.uimg_its.specs.Options.{◌>>=◌}
 use Rattle.uimg_blob.specs.Plain.{Named, no_node, a_node}
 use Rattle.uimg_its.specs.Parts.{FileBytes, NodeParts, chain, single}

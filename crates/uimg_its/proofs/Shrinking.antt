@@ -2,8 +2,8 @@
 use Rattle.std.proofs.Common.{◌≡◌, ℕ, zero, suc, ◌<◌, ◌≤◌, List, [], ◌∷◌, Bool, true, false, Option, Some, None, length, refl, ap, arith}
 use Rattle.std.specs.Prelude.{cond, codes}
 use Rattle.std.specs.Str.{bytes_eq}
-use Rattle.uimg_its.specs.declared.words.Mark.{Mark}
-use Rattle.uimg_its.specs.declared.words.Mark.TheVariants.{Less, ParenOpen, ParenClose, BracketOpen}
+use Rattle.uimg_its.specs.declared.tokens.Mark.{Mark}
+use Rattle.uimg_its.specs.declared.tokens.Mark.TheVariants.{Less, ParenOpen, ParenClose, BracketOpen}
 use Rattle.uimg_its.specs.Parts.{FileBytes}
 use Rattle.uimg_its.specs.Words.{Word, directive, text, mark, stray}
 use Rattle.uimg_its.specs.declared.lists.Listed.{Listed}

@@ -1,8 +1,8 @@
 -- What is spelled is read.
 use Rattle.std.proofs.Common.{◌≡◌, ℕ, zero, suc, ◌≤◌, List, [], ◌∷◌, ◌++◌, Bool, true, false, Option, Some, length, refl, sym, ap, subst, ◌∙◌, append_assoc}
 use Rattle.std.proofs.lemmas.Bool.{le-ltb}
-use Rattle.uimg_its.specs.declared.words.Mark.{Mark}
-use Rattle.uimg_its.specs.declared.words.Mark.TheVariants.{Comma, BraceOpen, BraceClose, Semicolon, Equals, Greater, BracketClose, Colon}
+use Rattle.uimg_its.specs.declared.tokens.Mark.{Mark}
+use Rattle.uimg_its.specs.declared.tokens.Mark.TheVariants.{Comma, BraceOpen, BraceClose, Semicolon, Equals, Greater, BracketClose, Colon}
 use Rattle.uimg_its.specs.declared.lists.Listed.{Listed}
 use Rattle.uimg_its.specs.declared.lists.Listed.TheVariants.{Cells, Bytes}
 use Rattle.uimg_its.specs.Options.{◌>>=◌}

@@ -2,8 +2,8 @@
 use Rattle.std.specs.Prelude.{ℕ, zero, suc, Bool, true, false, List, [], ◌∷◌, ◌++◌, length, Option, Some, None, nat_lt, if◌then◌else◌, codes}
 use Rattle.std.specs.Str.{bytes_eq}
 use Rattle.uimg_blob.specs.Plain.{Named}
-use Rattle.uimg_its.specs.declared.words.Mark.{Mark}
-use Rattle.uimg_its.specs.declared.words.Mark.TheVariants.{Slash, Comma, BraceOpen, BraceClose, Semicolon, Equals, Less, Greater, ParenOpen, ParenClose, BracketOpen, BracketClose, Colon}
+use Rattle.uimg_its.specs.declared.tokens.Mark.{Mark}
+use Rattle.uimg_its.specs.declared.tokens.Mark.TheVariants.{Slash, Comma, BraceOpen, BraceClose, Semicolon, Equals, Less, Greater, ParenOpen, ParenClose, BracketOpen, BracketClose, Colon}
 use Rattle.uimg_its.specs.declared.lists.Listed.{Listed}
 use Rattle.uimg_its.specs.declared.lists.Listed.TheVariants.{Cells, Bytes}
 use Rattle.uimg_its.specs.Words.{Word, name, directive, text, mark, stray}

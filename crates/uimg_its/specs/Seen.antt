@@ -1,9 +1,9 @@
 -- What the code sees of a text.
 use Rattle.std.specs.Prelude.{◌≡◌, ℕ, ◌≤◌, List, [], ◌∷◌, Option, Some, None, Result, Ok, Err}
 use Rattle.std.specs.Borrow.{Bor}
-use Rattle.uimg_its.specs.declared.words.Word.{Word as Found}
-use Rattle.uimg_its.specs.declared.words.Word.TheVariants as found
-use Rattle.uimg_its.specs.declared.words.Token.{Token}
+use Rattle.uimg_its.specs.declared.tokens.Word.{Word as Found}
+use Rattle.uimg_its.specs.declared.tokens.Word.TheVariants as found
+use Rattle.uimg_its.specs.declared.tokens.Token.{Token}
 use Rattle.uimg_its.specs.declared.pieces.Piece.{Piece as FoundPiece}
 use Rattle.uimg_its.specs.declared.pieces.Piece.TheVariants as found_piece
 use Rattle.uimg_its.specs.declared.stop.Stop.{Stop}

@@ -3,8 +3,8 @@ use Rattle.std.specs.Prelude.{ℕ, zero, suc, ◌+◌, List, [], ◌∷◌, take
 use Rattle.std.specs.Option.{option_map}
 use Rattle.std.specs.List.{prefix_len, starts_with}
 use Rattle.std.specs.Char.{is_ascii_digit, is_ascii_alphabetic}
-use Rattle.uimg_its.specs.declared.words.Mark.{Mark}
-use Rattle.uimg_its.specs.declared.words.Mark.TheVariants.{Slash, Comma, BraceOpen, BraceClose, Semicolon, Equals, Less, Greater, ParenOpen, ParenClose, BracketOpen, BracketClose, Colon, Ampersand, Apostrophe}
+use Rattle.uimg_its.specs.declared.tokens.Mark.{Mark}
+use Rattle.uimg_its.specs.declared.tokens.Mark.TheVariants.{Slash, Comma, BraceOpen, BraceClose, Semicolon, Equals, Less, Greater, ParenOpen, ParenClose, BracketOpen, BracketClose, Colon, Ampersand, Apostrophe}
 use Rattle.uimg_its.specs.Strings.{string_end, string_bytes}
 
 -- A name, a directive by what stands between its slashes, a string by its bytes, a mark, or a byte that begins no word.

@@ -2,7 +2,7 @@ ghost use Rattle.std.specs.Prelude.{◌≡◌, ◌==◌, ◌≤◌, not, length,
 ghost use Rattle.std.specs.List.{prefix_len};
 ghost use Rattle.uimg_its.specs.Words.{mark_of, is_blank, is_name_byte, is_directive_byte};
 
-use crate::words::Mark;
+use crate::tokens::Mark;
 
 /// The text behind its first n bytes.
 pub(crate) fn after(text: &[u8], n: usize) -> &[u8]

@@ -17,7 +17,7 @@ use crate::lexer::{expect, is_mark, need_word, next_word};
 use crate::lines::line_of;
 use crate::nodes::node;
 use crate::stop::{Place, Stop, unexpected};
-use crate::words::{Mark, Token, Word as Found};
+use crate::tokens::{Mark, Token, Word as Found};
 use std::alloc::Allocator;
 use uimg_base::Files;
 use uimg_tree::{Node, Tree};

@@ -10,13 +10,13 @@ ghost use Rattle.uimg_its.specs.Steps.{with_front};
 ghost use Rattle.uimg_its.specs.Reader.{string, string_in, file, expect, is_incbin, lone_file};
 ghost use Rattle.uimg_its.specs.FileValues.{IsSoundIn};
 ghost use Rattle.uimg_its.specs.Seen.{word_of};
-ghost use Rattle.uimg_its.specs.declared.words.Mark.TheVariants.{ParenClose};
+ghost use Rattle.uimg_its.specs.declared.tokens.Mark.TheVariants.{ParenClose};
 
 use crate::fault::{Construct, Kind};
 use crate::growth::{append, append_string, out_of_memory};
 use crate::lexer::{expect, is_mark, need_word};
 use crate::stop::{Place, Stop, unexpected};
-use crate::words::{Mark, Token, Word};
+use crate::tokens::{Mark, Token, Word};
 use std::alloc::Allocator;
 use uimg_base::{Files, MoveFault, Out, Source, WINDOW, copy_through};
 use uimg_tree::{ByteList, Value};

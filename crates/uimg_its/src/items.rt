@@ -8,7 +8,7 @@ ghost use Rattle.uimg_its.specs.Seen.{word_of, item_is};
 use crate::fault::Kind;
 use crate::lexer::{is_mark, need_word};
 use crate::stop::{Place, Stop, unexpected};
-use crate::words::{Mark, Token, Word};
+use crate::tokens::{Mark, Token, Word};
 
 /// The most bytes that a name of a node or a property has.
 const LONGEST_NAME: usize = 255;

@@ -9,7 +9,7 @@ use crate::fault::Kind;
 use crate::pieces::{Piece, first_piece};
 use crate::stop::{Place, Stop, ends_early, unexpected};
 use crate::strings::string_fault;
-use crate::words::{Mark, Token, Word};
+use crate::tokens::{Mark, Token, Word};
 
 // No word begins at the front of a text.
 fn stray(text: &[u8]) -> Stop

@@ -18,8 +18,8 @@ mod pieces;
 mod properties;
 mod stop;
 mod strings;
+mod tokens;
 mod values;
-mod words;
 
 pub use compiler::{compile, one_tree};
 pub use fault::{Construct, ItsFault, Kind};

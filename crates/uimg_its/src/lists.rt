@@ -13,7 +13,7 @@ use crate::growth::append;
 use crate::lexer::need_word;
 use crate::numbers::{cell, hex_pair};
 use crate::stop::{Place, Stop, unexpected};
-use crate::words::{Mark, Token, Word};
+use crate::tokens::{Mark, Token, Word};
 use std::alloc::Allocator;
 
 /// What a list has: cells between `<` and `>`, or bytes between `[` and `]`.

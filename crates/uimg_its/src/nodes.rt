@@ -13,7 +13,7 @@ use crate::items::{Item, read_item};
 use crate::lexer::expect;
 use crate::properties::properties;
 use crate::stop::{Place, Stop, unexpected};
-use crate::words::Mark;
+use crate::tokens::Mark;
 use std::alloc::Allocator;
 use uimg_base::Files;
 use uimg_tree::{ByteList, Node, Nodes, Props};

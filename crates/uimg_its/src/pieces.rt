@@ -7,7 +7,7 @@ use crate::bytes::{
     after, directive_length, is_blank, is_name_byte, line_length, mark_of, name_length,
 };
 use crate::strings::string_length;
-use crate::words::{Mark, Word};
+use crate::tokens::{Mark, Word};
 
 /// What a text begins with, and how many bytes more than one it takes.
 #[derive(Clone, Copy)]

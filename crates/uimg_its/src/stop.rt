@@ -3,7 +3,7 @@ ghost use Rattle.uimg_its.specs.Answers.{is_outside, NotInFile};
 ghost use Rattle.uimg_its.specs.declared.fault.Kind.TheVariants as kinds;
 
 use crate::fault::{Construct, Kind};
-use crate::words::{Mark, Token, Word};
+use crate::tokens::{Mark, Token, Word};
 
 /// Why reading stopped, and how many bytes of the text were left at the word at which it did.
 #[derive(Clone, Copy, Debug)]

@@ -14,7 +14,7 @@ use crate::incbin::{file, kept, lone_file};
 use crate::lexer::need_word;
 use crate::lists::{Listed, read_list};
 use crate::stop::{Place, Stop, unexpected};
-use crate::words::{Mark, Token, Word};
+use crate::tokens::{Mark, Token, Word};
 use std::alloc::Allocator;
 use uimg_base::Files;
 use uimg_tree::{ByteList, Value};

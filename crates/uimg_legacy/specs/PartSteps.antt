@@ -13,7 +13,7 @@ use Rattle.uimg_legacy.specs.Faults.{is_read, is_put, is_refused}
 abbrev pub numbered : ℕ → List (List ℕ) → List ℕ
 numbered i parts = slice_index_or parts i []
 
--- A step that asks for no byte. Its answer is a fact about the parts' bytes.
+-- A step that asks for no byte. Its answer is about the parts' bytes, whatever the devices answer.
 pub record Learns {X P : Type 0} (fact : List (List ℕ) → X → Type 0) (result : Result X SourceFault) (device : P → Device) (old new : List P) : Type 0 where
   pub uses : AsksNone (is_err result) (map device old) (map device new)
   pub answer : IfOk result (fact (bytes_of (map device old)))

@@ -11,7 +11,7 @@ use Rattle.uimg_base.specs.declared.status.Status.{Status}
 use Rattle.uimg_legacy.specs.declared.fault.LegacyFault.{LegacyFault}
 use Rattle.uimg_legacy.specs.declared.fault.Fault.{Fault}
 use Rattle.uimg_legacy.specs.declared.header.Header.{Header}
-use Rattle.uimg_legacy.specs.declared.parts.Span.{Span}
+use Rattle.uimg_base.specs.declared.spans.Span.{Span}
 use Rattle.uimg_legacy.specs.Image.{payload, has_right_data, legacy}
 use Rattle.uimg_legacy.specs.Parts.{has_parts}
 use Rattle.uimg_legacy.specs.Extraction.{part_of_data, part_at}
@@ -42,27 +42,27 @@ pub record ReadsWords (count most : ℕ) (measure : List ℕ → ℕ) (result : 
   pub bound : IfOk result (λ n. n ≤ most)
   pub value : IsTrue old.honest → IfOk result (λ n. n ≡ measure old.bytes)
 
--- the bytes of so many words of the data, from the first on
+-- the bytes of so many words of the data, from the word of a number on
 abbrev pub window : List ℕ → ℕ → ℕ → List ℕ
 window image first count = slice image (64 + 4 * first) (4 * count)
 
--- whether the data's CRC is that in the header
+-- what is told of the data: whether their CRC is that in the header, or why they are refused
 abbrev pub TellsRight : Header → List ℕ → Result Bool Fault → Type 0
 TellsRight h image result = Gives (λ right. right) result (has_right_data image h)
 
--- the header of an image
+-- the header of an image, or why it is refused
 abbrev pub GivesImage : List ℕ → Result Header Fault → Type 0
 GivesImage image result = Gives (λ h. record { header = h; payload = payload image h }) result (legacy image)
 
--- the bytes of the image that stand there
+-- the bytes of the image at a span
 abbrev pub bytes_at : List ℕ → Span → List ℕ
-bytes_at image span = slice image span.at span.len
+bytes_at image span = slice image span.place span.length
 
--- where the part at a position stands, of an image with this header
+-- where the part at a position stands, of an image with this header, or why it is refused
 abbrev pub FindsPart : Header → ℕ → List ℕ → Result Span Fault → Type 0
 FindsPart h position image result = Gives (bytes_at image) result (part_of_data (has_parts h.kind) (payload image h) position)
 
--- where the part at a position stands
+-- the same of an image, whose header is read first
 abbrev pub LocatesPart : ℕ → List ℕ → Result Span Fault → Type 0
 LocatesPart position image result = Gives (bytes_at image) result (part_at image position)
 

@@ -10,10 +10,10 @@ ghost use Rattle.uimg_legacy.specs.Faults.{is_read, is_put, is_refused, end_of};
 
 use crate::fault::Fault;
 use crate::image::read_image;
-use crate::parts::{Span, find_part};
+use crate::parts::find_part;
 use std::alloc::Allocator;
 use std::io::Write;
-use uimg_base::{Out, Room, Source, Status, copy_range};
+use uimg_base::{Out, Room, Source, Span, Status, copy_range};
 
 // Where the part at a position stands, of an image whose checksums are right.
 fn locate_part<S: Source, A: Allocator>(
@@ -23,7 +23,7 @@ fn locate_part<S: Source, A: Allocator>(
 ) -> Result<Span, Fault>
     ensures reads { Reads (UsesAtMost (list_work (S.device source.old).bytes)) (LocatesPart position)
         result (S.device source.old) (S.device source.new) room.old room.new }
-    ensures inside { IfOk result (λ span. span.at + span.len ≤ length (S.device source.old).bytes) }
+    ensures inside { IfOk result (λ span. span.place + span.length ≤ length (S.device source.old).bytes) }
 {
     let header = read_image(source, room)?;
     find_part(source, room, &header, position)
@@ -53,6 +53,6 @@ pub fn extract<S: Source, A: Allocator, W: Write>(
 {
     room.clear();
     let span = locate_part(source, room, position)?;
-    copy_range(source, room, span.at, span.len as u64, out)?;
+    copy_range(source, room, span.place, span.length, out)?;
     Ok(Status::Done)
 }

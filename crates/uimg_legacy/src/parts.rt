@@ -11,7 +11,7 @@ use crate::fault::{Fault, LegacyFault};
 use crate::header::Header;
 use crate::table::{count_window, sum_first};
 use std::alloc::Allocator;
-use uimg_base::{MULTI, Room, SCRIPT, Source, SourceFault, number_at};
+use uimg_base::{MULTI, Room, SCRIPT, Source, SourceFault, Span, number_at};
 
 /// Whether an image of the type of this code has parts: multi (4) and script (6) do.
 #[tactic(auto, unfolding(crate::specs::Parts::has_parts))]
@@ -60,13 +60,6 @@ pub(crate) fn count_sizes<S: Source, A: Allocator>(
     Err(Fault::Legacy(LegacyFault::NoTableEnd))
 }
 
-// Where a part of an image stands in its source.
-#[derive(Clone, Copy)]
-pub(crate) struct Span {
-    pub(crate) at: u64,
-    pub(crate) len: u32,
-}
-
 // Where the part at a position stands: one that the table has, or the data of a single file.
 #[tactic(auto, unfolding(crate::specs::Extraction::single))]
 pub(crate) fn find_part<S: Source, A: Allocator>(
@@ -79,15 +72,15 @@ pub(crate) fn find_part<S: Source, A: Allocator>(
     ensures reads { Reads (UsesAtMost (table_work header.now (S.device source.old).bytes))
         (FindsPart header.now position) result
         (S.device source.old) (S.device source.new) room.old room.new }
-    ensures inside { IfOk result (λ span. span.at + span.len ≤ 64 + header.now.size) }
+    ensures inside { IfOk result (λ span. span.place + span.length ≤ 64 + header.now.size) }
 {
     if !has_parts(header.kind) {
         if position != 0 {
             return Err(Fault::Legacy(LegacyFault::NoSuchPart));
         }
         return Ok(Span {
-            at: 64,
-            len: header.size,
+            place: 64,
+            length: header.size as u64,
         });
     }
     let count = count_sizes(source, room, header.size)?;
@@ -100,7 +93,7 @@ pub(crate) fn find_part<S: Source, A: Allocator>(
         return Err(Fault::Legacy(LegacyFault::PartOutside));
     }
     Ok(Span {
-        at: 64 + start,
-        len,
+        place: 64 + start,
+        length: len as u64,
     })
 }

@@ -29,7 +29,7 @@ use Rattle.uimg_fit_base.specs.Files.{tree_of, root_own, listed_or}
 use Rattle.uimg_fit_reading.specs.Listing.{head_lines, lists, list_of}
 use Rattle.uimg_fit_base.specs.Report.{report, verify_of}
 use Rattle.uimg_words.specs.declared.command.Action.TheVariants as action
-use Rattle.uimg_words.specs.declared.command.Form.TheVariants as form
+use Rattle.uimg_words.specs.declared.command.Format.TheVariants as format
 use Rattle.uimg_tool.specs.declared.fault.Fault.{Fault}
 use Rattle.uimg_tool.specs.declared.fault.Fault.TheVariants.{Legacy, Blob, Fit, Its, Read, Put, NoFile, Keep, OutOfMemory}
 use Rattle.uimg_tool.specs.Faults.{end_of, unless_memory, of_fit, is_of_making, is_no_memory}
@@ -74,13 +74,13 @@ keeping_tree files source time placement image now kept builds empty whole hones
     }
 
 -- what was kept is listed as a FIT image
-told_as_fit : (file image : List ℕ) (r : Result Status Fault) (s t : Sink) → file ≡ image → begins_as_blob image ≡ true → Tells (end_of r) (outcome_of (record { action = action.List; form = form.Guess }) file) s t → Tells (end_of r) (outcome_as of_fit (list_of image)) s t
+told_as_fit : (file image : List ℕ) (r : Result Status Fault) (s t : Sink) → file ≡ image → begins_as_blob image ≡ true → Tells (end_of r) (outcome_of (record { action = action.List; format = format.Guess }) file) s t → Tells (end_of r) (outcome_as of_fit (list_of image)) s t
 told_as_fit file image r s t same begins told =
     subst (λ (is_fit : Bool). Tells (end_of r) (outcome_in is_fit action.List image) s t) begins
-    (subst (λ (bytes : List ℕ). Tells (end_of r) (outcome_of (record { action = action.List; form = form.Guess }) bytes) s t) same told)
+    (subst (λ (bytes : List ℕ). Tells (end_of r) (outcome_of (record { action = action.List; format = format.Guess }) bytes) s t) same told)
 
 -- what is kept, and then listed
-pub listing_makes_tree : (files : List ℕ → Option (List ℕ)) (source : List ℕ) (time : ℕ) (placement : Placement) (kept now : Device) (status : Status) (s t : Sink) → KeepsTree files source time placement kept → SameDevice kept now → Tells (end_of (Ok status)) (outcome_of (record { action = action.List; form = form.Guess }) kept.bytes) s t → MakesTree files source time placement now s t
+pub listing_makes_tree : (files : List ℕ → Option (List ℕ)) (source : List ℕ) (time : ℕ) (placement : Placement) (kept now : Device) (status : Status) (s t : Sink) → KeepsTree files source time placement kept → SameDevice kept now → Tells (end_of (Ok status)) (outcome_of (record { action = action.List; format = format.Guess }) kept.bytes) s t → MakesTree files source time placement now s t
 listing_makes_tree files source time placement kept now status s t keeps same told =
     record {
       keeps = record {
@@ -118,12 +118,12 @@ listing_stops_by files source time placement kept (NoFile i) s t keeps not told 
 listing_stops_by files source time placement kept Keep s t keeps not told = absurd (not_done _ _ s t keeps.done told)
 listing_stops_by files source time placement kept OutOfMemory s t keeps not told = absurd (not_done _ _ s t keeps.done told)
 
-pub listing_stops_tree : (files : List ℕ → Option (List ℕ)) (source : List ℕ) (time : ℕ) (placement : Placement) (kept : Device) (f : Fault) (s t : Sink) → KeepsTree files source time placement kept → is_of_making {X = Status} (Err f) ≡ false → Tells (end_of (Err f)) (outcome_of (record { action = action.List; form = form.Guess }) kept.bytes) s t → StopsSource files source time placement f s t
+pub listing_stops_tree : (files : List ℕ → Option (List ℕ)) (source : List ℕ) (time : ℕ) (placement : Placement) (kept : Device) (f : Fault) (s t : Sink) → KeepsTree files source time placement kept → is_of_making {X = Status} (Err f) ≡ false → Tells (end_of (Err f)) (outcome_of (record { action = action.List; format = format.Guess }) kept.bytes) s t → StopsSource files source time placement f s t
 listing_stops_tree files source time placement kept f s t keeps not told =
     listing_stops_by files source time placement kept f s t keeps not (told_as_fit kept.bytes _ (Err f) s t keeps.bytes keeps.is_fit told)
 
 -- the listing of what was kept loses no payload
-pub none_lost_tree : (files : List ℕ → Option (List ℕ)) (source : List ℕ) (time : ℕ) (placement : Placement) (kept : Device) (f : FitFault) (s t : Sink) → KeepsTree files source time placement kept → Tells (end_of (Err (Fit f))) (outcome_of (record { action = action.List; form = form.Guess }) kept.bytes) s t → ⊥
+pub none_lost_tree : (files : List ℕ → Option (List ℕ)) (source : List ℕ) (time : ℕ) (placement : Placement) (kept : Device) (f : FitFault) (s t : Sink) → KeepsTree files source time placement kept → Tells (end_of (Err (Fit f))) (outcome_of (record { action = action.List; format = format.Guess }) kept.bytes) s t → ⊥
 none_lost_tree files source time placement kept f s t keeps told =
     not_done _ (Fit f) s t keeps.done (told_as_fit kept.bytes _ (Err (Fit f)) s t keeps.bytes keeps.is_fit told)
 

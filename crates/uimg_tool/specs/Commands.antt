@@ -10,7 +10,7 @@ use Rattle.uimg_fit_reading.specs.Rooms.{TakesNodes}
 use Rattle.uimg_tool.specs.declared.fault.Fault.{Fault}
 use Rattle.uimg_tool.specs.declared.fault.Fault.TheVariants.{NoFile, Fit}
 use Rattle.uimg_words.specs.declared.command.Action.TheVariants as Action
-use Rattle.uimg_words.specs.declared.command.Form.TheVariants as Form
+use Rattle.uimg_words.specs.declared.command.Format.TheVariants as Format
 use Rattle.uimg_words.specs.declared.make_command.MakeCommand.{MakeCommand}
 use Rattle.uimg_words.specs.declared.make_command.MakeCommand.TheVariants.{Parts, Tree}
 use Rattle.uimg_tool.specs.Faults.{is_no_memory, is_of_making, is_no_text, is_no_payload, refuses_payload}
@@ -97,7 +97,7 @@ HoldsCommand (Tree source placement) time files old new = HoldsSource files sour
 -- the listing of an image that was made
 abbrev pub listing_of : MakeCommand → List ℕ → Outcome Fault
 listing_of (Parts options files) file = outcome_in false Action.List file
-listing_of (Tree source placement) file = outcome_of (record { action = Action.List; form = Form.Guess }) file
+listing_of (Tree source placement) file = outcome_of (record { action = Action.List; format = Format.Guess }) file
 
 -- what that listing did to a room
 abbrev pub TakesListing : MakeCommand → Device → Bool → (old new : Held) → Type 0

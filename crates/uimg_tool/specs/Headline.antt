@@ -25,8 +25,8 @@ use Rattle.uimg_tool.specs.declared.fault.Fault.TheVariants.{Legacy}
 use Rattle.uimg_words.specs.declared.command.Action.{Action}
 use Rattle.uimg_words.specs.declared.command.Action.TheVariants as action
 use Rattle.uimg_words.specs.declared.command.Command.{Command}
-use Rattle.uimg_words.specs.declared.command.Form.{Form}
-use Rattle.uimg_words.specs.declared.command.Form.TheVariants as form
+use Rattle.uimg_words.specs.declared.command.Format.{Format}
+use Rattle.uimg_words.specs.declared.command.Format.TheVariants as format
 use Rattle.uimg_tool.specs.Faults.{end_of, of_fit, is_read, is_put, is_no_memory, is_refused, is_of_making}
 
 -- the file begins with the magic number of a devicetree blob (Devicetree Specification, section 5.2)
@@ -34,10 +34,10 @@ unfoldable pub begins_as_blob : List ℕ → Bool
 begins_as_blob file = if nat_lt (length file) 4 then false else be32 file 0 == 0xd00dfeed
 
 -- The file is read as a FIT image: that is asked for, or its first bytes tell it. Any other file is read as a legacy image.
-abbrev pub is_fit : Form → List ℕ → Bool
-is_fit form.Guess file = begins_as_blob file
-is_fit form.Legacy file = false
-is_fit form.Fit file = true
+abbrev pub is_fit : Format → List ℕ → Bool
+is_fit format.Guess file = begins_as_blob file
+is_fit format.Legacy file = false
+is_fit format.Fit file = true
 
 -- an outcome whose fault is told in another way
 abbrev pub end_as : {F : Type 0} → (F → Fault) → End F → End Fault
@@ -67,7 +67,7 @@ outcome_in false action file = outcome_as Legacy (legacy_outcome action file)
 
 -- the outcome of a command on a file
 abbrev pub outcome_of : Command → List ℕ → Outcome Fault
-outcome_of command file = outcome_in (is_fit command.form file) command.action file
+outcome_of command file = outcome_in (is_fit command.format file) command.action file
 
 -- the most bytes that the engine of a format asks for
 abbrev pub work_in : Bool → Action → List ℕ → ℕ
@@ -82,7 +82,7 @@ work_in false (action.Extract position) file = legacy.extract_work file position
 -- that is `64 + 1024 * (nodes + properties) + 4 * (bytes of texts + NOPs)` for a FIT image, each counted as it is met, and
 -- `64 + 16 * (sizes + 1)` for a legacy image.
 abbrev pub work : Command → List ℕ → ℕ
-work command file = 4 + work_in (is_fit command.form file) command.action file
+work command file = 4 + work_in (is_fit command.format file) command.action file
 
 -- how many entries a command's table has at most: one for each node of a FIT image, none for a legacy image
 abbrev pub nodes_in : Bool → List ℕ → ℕ
@@ -90,7 +90,7 @@ nodes_in true file = nodes_met file
 nodes_in false file = 0
 
 abbrev pub nodes_of : Command → List ℕ → ℕ
-nodes_of command file = nodes_in (is_fit command.form file) file
+nodes_of command file = nodes_in (is_fit command.format file) file
 
 -- An extraction asked for at most its work without the payload, the bytes that it wrote, and a window of 8192 more.
 -- Of other actions this says nothing.
@@ -116,10 +116,10 @@ GrowthsSucceed true old new = Stays old.refused new.refused
 GrowthsSucceed false old new = ⊤
 
 -- The file is surely read as a legacy image: that is asked for, or the bytes of an honest source tell it.
-abbrev pub IsLegacy : Form → Device → Type 0
-IsLegacy form.Guess source = IsTrue source.honest × (begins_as_blob source.bytes ≡ false)
-IsLegacy form.Legacy source = ⊤
-IsLegacy form.Fit source = ⊥
+abbrev pub IsLegacy : Format → Device → Type 0
+IsLegacy format.Guess source = IsTrue source.honest × (begins_as_blob source.bytes ≡ false)
+IsLegacy format.Legacy source = ⊤
+IsLegacy format.Fit source = ⊥
 
 -- What a command does to a room: it takes memory for a table of nodes, or none.
 abbrev pub Takes : Bool → Device → Bool → (old new : Held) → Type 0
@@ -136,11 +136,11 @@ pub record CarriesOut (fit : Bool) (what : Action) (result : Result Status Fault
   pub not_making : is_of_making result ≡ false
   pub told : IsTrue d.honest → Tells (end_of result) (outcome_in fit what d.bytes) s t
 
--- The same of a command, whose format its form or the file's first bytes tell.
+-- The same of a command, whose format it names or the file's first bytes tell.
 pub record Runs (command : Command) (result : Result Status Fault) (d e : Device) (old new : Held) (s t : Sink) : Type 0 where
   pub uses : UsesAtMost (work command d.bytes) (is_read result) d e
   pub room : TakesNodes d (is_no_memory result) old new
-  pub legacy : IsLegacy command.form d → Takes false d (is_no_memory result) old new
+  pub legacy : IsLegacy command.format d → Takes false d (is_no_memory result) old new
   pub ahead : IsTrue d.honest → ExtractsAhead (work (record command { action = action.List }) d.bytes) command.action (outcome_of command d.bytes) d e s t
   pub untouched : KeepsOutput command.action (is_refused result) s t
   pub faults : RisesIf (is_put result) s.faults t.faults

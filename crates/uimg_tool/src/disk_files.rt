@@ -2,6 +2,7 @@ ghost use Rattle.std.specs.Prelude.{◌≡◌, None, false, IfOk};
 ghost use Rattle.std.specs.Path.{path_buf_bytes, path_join};
 ghost use Rattle.uimg_base.specs.Device.{IsFresh};
 
+use crate::same_files::is_same_file;
 use std::alloc::Allocator;
 use std::path::{Path, PathBuf};
 use std::rt;
@@ -10,11 +11,14 @@ use uimg_base::{FileSource, Files, Source, SourceFault};
 /// The files of a folder, opened by their paths.
 ///
 /// A name that begins with `/` is a path of its own, any other name is looked for in the folder.
-/// No contract says what a file has, so the files are not claimed to be honest.
+/// No contract says what a file has, so the files are not claimed to be honest. A file may be left
+/// out: one that is written while the others are read.
 #[derive(Drop)]
 pub struct DiskFiles<'a, R: rt::Files + AllocGlobal> {
     rt: &'a R,
     folder: &'a str,
+    left_out: Option<&'a str>,
+    has_met_left_out: bool,
     refusals: u64,
 }
 
@@ -27,8 +31,25 @@ impl<'a, R: rt::Files + AllocGlobal> DiskFiles<'a, R> {
         DiskFiles {
             rt,
             folder,
+            left_out: None,
+            has_met_left_out: false,
             refusals: 0,
         }
+    }
+
+    /// The same, but for the file that a path leads to, whose open is refused.
+    pub fn without(rt: &'a R, folder: &'a str, path: &'a str) -> DiskFiles<'a, R>
+        ensures { (⟦<DiskFiles<'a, R> as Files>⟧.map result).refusals ≡ 0 }
+    {
+        DiskFiles {
+            left_out: Some(path),
+            ..DiskFiles::new(rt, folder)
+        }
+    }
+
+    /// Whether the open of the file that is left out was asked for, and refused.
+    pub fn has_met_left_out(&self) -> bool {
+        self.has_met_left_out
     }
 }
 
@@ -45,9 +66,17 @@ impl<'a, R: rt::Files + AllocGlobal> Files for DiskFiles<'a, R> {
     /// Opens the file of this name.
     ///
     /// `SourceFault` comes where the name is not UTF-8, where the memory for the path is refused,
-    /// and as from `FileSource::open`.
+    /// where the file is the one that is left out, and as from `FileSource::open`.
     fn open(&mut self, name: &[u8]) -> Result<FileSource<R::File>, SourceFault> {
-        let opened = open_in(self.rt, self.folder, name);
+        let opened = match path_in(self.rt.alloc(), self.folder, name) {
+            Ok(path) => open_other(
+                self.rt,
+                path.as_str(),
+                self.left_out,
+                &mut self.has_met_left_out,
+            ),
+            Err(fault) => Err(fault),
+        };
         if opened.is_err() {
             self.refusals = self.refusals.saturating_add(1);
         }
@@ -55,16 +84,22 @@ impl<'a, R: rt::Files + AllocGlobal> Files for DiskFiles<'a, R> {
     }
 }
 
-// Opens the file of a name in a folder.
-fn open_in<R: rt::Files + AllocGlobal>(
+// Opens the file at a path, unless it is the one that is left out.
+fn open_other<R: rt::Files + AllocGlobal>(
     rt: &R,
-    folder: &str,
-    name: &[u8],
+    path: &str,
+    left_out: Option<&str>,
+    has_met_left_out: &mut bool,
 ) -> Result<FileSource<R::File>, SourceFault>
     ensures { IfOk result (λ source. IsFresh (⟦<FileSource<R::File> as Source>⟧.device source)) }
 {
-    let path = path_in(rt.alloc(), folder, name)?;
-    FileSource::open(rt, path.as_str())
+    if let Some(other) = left_out
+        && is_same_file(rt, path, other)
+    {
+        *has_met_left_out = true;
+        return Err(SourceFault);
+    }
+    FileSource::open(rt, path)
 }
 
 // The path of a name in a folder: the name itself where it begins with `/`.

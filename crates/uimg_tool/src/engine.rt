@@ -49,7 +49,7 @@ fn run_fit<S: Source, A: Allocator, W: Write>(
 }
 
 // The command by the engine of the format that the file is read as.
-pub(crate) fn run_by_form<S: Source, A: Allocator, W: Write>(
+pub(crate) fn run_by_format<S: Source, A: Allocator, W: Write>(
     command: &Command,
     source: &mut S,
     room: &mut Room<A>,
@@ -59,7 +59,7 @@ pub(crate) fn run_by_form<S: Source, A: Allocator, W: Write>(
         room.old room.new out.old out.new }
 {
     room.clear();
-    if is_fit(command.form, source)? {
+    if is_fit(command.format, source)? {
         run_fit(command.action, source, room, out)
     } else {
         run_legacy(command.action, source, room, out)
@@ -87,7 +87,7 @@ pub fn run<S: Source, A: Allocator, W: Write>(
     ensures headline { IsTrue (S.device source.old).honest →
         Stays (S.device source.old).failures (S.device source.new).failures →
         Stays out.old.faults out.new.faults →
-        GrowthsSucceed (is_fit command.now.form (S.device source.old).bytes) room.old room.new →
+        GrowthsSucceed (is_fit command.now.format (S.device source.old).bytes) room.old room.new →
         Meets result (outcome_of command.now (S.device source.old).bytes) out.old out.new }
     ensures prefix { IsTrue (S.device source.old).honest →
         AppendsPrefix out.old out.new (outcome_of command.now (S.device source.old).bytes).text }
@@ -112,9 +112,9 @@ pub fn run<S: Source, A: Allocator, W: Write>(
         ≤ max room.old.peak (held_bytes (nodes_of command.now (S.device source.old).bytes)) }
     ensures most { room.new.peak ≤ max room.old.peak
         (8320 + 16 * length (S.device source.old).bytes) }
-    ensures legacy { IsLegacy command.now.form (S.device source.old) →
+    ensures legacy { IsLegacy command.now.format (S.device source.old) →
         room.new ≡ record room.old { entries = [] } }
     ensures same { SameDevice (S.device source.old) (S.device source.new) }
 {
-    run_by_form(command, source, room, out)
+    run_by_format(command, source, room, out)
 }

@@ -3,10 +3,8 @@ ghost use Rattle.uimg_base.specs.Using.{Asks};
 ghost use Rattle.uimg_tool.specs.Headline.{begins_as_blob, is_fit};
 
 use uimg_base::{Source, SourceFault, number_at};
-use uimg_words::Form;
-
-// What each devicetree blob begins with.
-const BLOB_MAGIC: u32 = 0xd00d_feed;
+use uimg_blob::BLOB_MAGIC;
+use uimg_words::Format;
 
 // Whether a file begins as a blob does.
 #[tactic(auto, unfolding(crate::specs::Headline::begins_as_blob, uimg_texts::specs::Numbers::be32))]
@@ -24,15 +22,15 @@ fn begins_as_blob<S: Source>(source: &mut S) -> Result<bool, SourceFault>
 }
 
 // Whether a file is read as a FIT image: where that is asked for, or its first bytes tell it.
-pub(crate) fn is_fit<S: Source>(form: Form, source: &mut S) -> Result<bool, SourceFault>
+pub(crate) fn is_fit<S: Source>(format: Format, source: &mut S) -> Result<bool, SourceFault>
     ensures uses { Asks 4 (is_err result) (S.device source.old) (S.device source.new) }
-    ensures asked_for { form ≡ Form.Legacy → IfOk result (λ fit. fit ≡ false) }
+    ensures asked_for { format ≡ Format.Legacy → IfOk result (λ fit. fit ≡ false) }
     ensures told { IsTrue (S.device source.old).honest →
-        IfOk result (λ fit. fit ≡ is_fit form (S.device source.old).bytes) }
+        IfOk result (λ fit. fit ≡ is_fit format (S.device source.old).bytes) }
 {
-    match form {
-        Form::Guess => begins_as_blob(source),
-        Form::Legacy => Ok(false),
-        Form::Fit => Ok(true),
+    match format {
+        Format::Guess => begins_as_blob(source),
+        Format::Legacy => Ok(false),
+        Format::Fit => Ok(true),
     }
 }

@@ -6,7 +6,7 @@ ghost use Rattle.uimg_tool.specs.Headline.{outcome_of, is_fit};
 ghost use Rattle.uimg_words.specs.Commands.{HasFitNames};
 ghost use Rattle.uimg_tool.specs.Commands.{LacksFile, MakesCommand};
 
-use crate::engine::run_by_form;
+use crate::engine::run_by_format;
 use crate::fault::Fault;
 use crate::making::make;
 use std::alloc::Allocator;
@@ -30,11 +30,11 @@ pub fn run_in_memory<A: Allocator, B: Allocator>(
     ensures end { is_put result.0 ≡ false → is_no_memory result.0 ≡ false →
         end_of result.0 ≡ Some (outcome_of command.now image.now).end }
     ensures read { is_read result.0 ≡ false }
-    ensures legacy { is_fit command.now.form image.now ≡ false → is_no_memory result.0 ≡ false }
+    ensures legacy { is_fit command.now.format image.now ≡ false → is_no_memory result.0 ≡ false }
 {
     let mut source = MemSource::new(image);
     let mut out = Out::new(Vec::new(alloc));
-    let end = run_by_form(command, &mut source, room, &mut out);
+    let end = run_by_format(command, &mut source, room, &mut out);
     (end, out.into_inner())
 }
 

@@ -11,6 +11,7 @@ mod making;
 mod making_lists;
 mod making_parts;
 mod making_trees;
+mod same_files;
 
 pub use disk_files::DiskFiles;
 pub use engine::run;
@@ -18,4 +19,4 @@ pub use fault::Fault;
 pub use in_memory::{make_in_memory, run_in_memory};
 pub use main_program::program;
 pub use making::{build_image, make};
-pub use uimg_words::{Action, Command, Form, MakeCommand};
+pub use uimg_words::{Action, Command, Format, MakeCommand};

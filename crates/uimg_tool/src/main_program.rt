@@ -4,6 +4,7 @@ use crate::disk_files::DiskFiles;
 use crate::engine::run;
 use crate::fault::Fault;
 use crate::making::make;
+use crate::same_files::is_same_file;
 use std::fmt::Display;
 use std::fs;
 use std::io::{BufWriter, Write};
@@ -35,6 +36,9 @@ enum RequestFault<'a> {
 
     #[error("cannot write {0}")]
     CannotWrite(&'a str),
+
+    #[error("{0} would be written while it is read")]
+    WritesWhatIsRead(&'a str),
 
     #[error("out of memory")]
     OutOfMemory,
@@ -97,6 +101,7 @@ fn tell<V: Write, D: Display>(err: &mut V, fault: &D, status: u8) -> u8 {
 
 fn status_of(fault: &RequestFault<'_>) -> u8 {
     match fault {
+        RequestFault::WritesWhatIsRead(_) => WRONG_LINE,
         RequestFault::Stopped(Fault::Legacy(_)) => REFUSED,
         RequestFault::Stopped(Fault::Blob(fault, _)) if *fault != BlobFault::OutOfMemory => REFUSED,
         RequestFault::Stopped(Fault::Fit(fault)) => status_of_fit(*fault),
@@ -122,8 +127,8 @@ fn status_of_source(kind: Kind) -> u8 {
 // Carries out a request. What it prints is gathered, and the rest of it written at the end. A failure
 // there comes before any other end, since the text stands before what ended the request.
 fn carry_out<'a, R: Files + AllocGlobal, W: Write>(
-    rt: &R,
-    request: &'a Request<'_>,
+    rt: &'a R,
+    request: &'a Request<'a>,
     out: &mut W,
 ) -> Result<Status, RequestFault<'a>> {
     let Ok(mut gathered) = BufWriter::new(rt.alloc(), out) else {
@@ -164,6 +169,9 @@ fn run_command<'a, R: Files + AllocGlobal, W: Write>(
     let status = match request.outfile {
         None => run(&request.command, &mut source, &mut room, &mut Out::new(out))?,
         Some(path) => {
+            if is_same_file(rt, path, request.image) {
+                return Err(RequestFault::WritesWhatIsRead(path));
+            }
             let Ok(outfile) = fs::create(rt, path) else {
                 return Err(RequestFault::CannotWrite(path));
             };
@@ -180,21 +188,25 @@ fn run_command<'a, R: Files + AllocGlobal, W: Write>(
 
 // Makes the image of a request.
 fn make_image<'a, R: Files + AllocGlobal, W: Write>(
-    rt: &R,
-    request: &'a MakeRequest<'_>,
+    rt: &'a R,
+    request: &'a MakeRequest<'a>,
     out: &mut W,
 ) -> Result<Status, RequestFault<'a>> {
+    let mut files = DiskFiles::without(rt, request.folder, request.outfile);
     let made = make(
         rt.alloc(),
         &request.command,
         request.time,
-        &mut DiskFiles::new(rt, request.folder),
+        &mut files,
         FileShelf::new(rt, request.outfile),
         &mut Room::new(rt.alloc()),
-        &mut Out::new(out),
+        &mut Out::new(&mut *out),
     );
     match made {
         Ok(_) => Ok(Status::Done),
+        Err(_) if files.has_met_left_out() => {
+            Err(RequestFault::WritesWhatIsRead(request.outfile))
+        }
         Err(fault) => Err(stopped_making(request, fault)),
     }
 }

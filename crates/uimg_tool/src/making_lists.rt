@@ -5,12 +5,12 @@ ghost use Rattle.uimg_base.specs.Outcome.{Tells};
 ghost use Rattle.uimg_tool.specs.Faults.{is_read, is_put, is_no_memory, is_of_making, end_of};
 ghost use Rattle.uimg_tool.specs.Commands.{listing_of, TakesListing};
 
-use crate::engine::{run_by_form, run_legacy};
+use crate::engine::{run_by_format, run_legacy};
 use crate::fault::Fault;
 use std::alloc::Allocator;
 use std::io::Write;
 use uimg_base::{Out, Room, Source, Status};
-use uimg_words::{Action, Command, Form, MakeCommand};
+use uimg_words::{Action, Command, Format, MakeCommand};
 
 /// Writes the listing of what was kept: of a legacy image, or of the format that its first bytes tell.
 pub(crate) fn list_kept<S: Source, A: Allocator, W: Write>(
@@ -35,9 +35,9 @@ pub(crate) fn list_kept<S: Source, A: Allocator, W: Write>(
         MakeCommand::Tree { .. } => {
             let command = Command {
                 action: Action::List,
-                form: Form::Guess,
+                format: Format::Guess,
             };
-            run_by_form(&command, kept, room, out)
+            run_by_format(&command, kept, room, out)
         },
     }
 }

@@ -14,8 +14,8 @@ mod payloads;
 mod properties;
 mod props;
 mod sizes;
+mod tokens;
 mod tree;
-mod words;
 mod writing;
 
 pub use byte_list::ByteList;

@@ -8,8 +8,8 @@ ghost use Rattle.uimg_tree.specs.Trees.{node_of};
 
 use crate::fault::TreeFault;
 use crate::properties::put_properties;
+use crate::tokens::{put_begin_node, put_end_node};
 use crate::tree::{Node, Nodes};
-use crate::words::{put_begin_node, put_end_node};
 use std::alloc::Allocator;
 use std::io::Write;
 use uimg_base::{Files, Out, WINDOW};

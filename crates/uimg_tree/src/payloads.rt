@@ -6,7 +6,7 @@ ghost use Rattle.uimg_tree.specs.Properties.{content};
 use crate::fault::TreeFault;
 use crate::file_pieces::put_file;
 use crate::props::Value;
-use crate::words::put_padding;
+use crate::tokens::put_padding;
 use std::alloc::Allocator;
 use std::io::Write;
 use uimg_base::{Files, Out, WINDOW};

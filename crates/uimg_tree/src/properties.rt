@@ -11,7 +11,7 @@ use crate::fault::TreeFault;
 use crate::file_pieces::put_file;
 use crate::names::name_offset;
 use crate::props::{Prop, Props, Value};
-use crate::words::{put_head, put_padding, put_whole};
+use crate::tokens::{put_head, put_padding, put_whole};
 use std::alloc::Allocator;
 use std::io::Write;
 use uimg_base::{Files, Out, WINDOW};

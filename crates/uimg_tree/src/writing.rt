@@ -15,15 +15,14 @@ ghost use Rattle.uimg_tree.specs.UsingFiles.{UsesFiles};
 use crate::fault::TreeFault;
 use crate::layout::{Layout, STRUCTURE_OFFSET};
 use crate::nodes::{ThisNode, put_node};
+use crate::tokens::{put_end, put_padding};
 use crate::tree::Tree;
-use crate::words::{put_end, put_padding};
 use std::alloc::Allocator;
 use std::io::Write;
 use uimg_base::{Files, Out, PutFault, WINDOW};
+use uimg_blob::BLOB_MAGIC;
 
 // The numbers of the header (Devicetree Specification, section 5.2).
-const MAGIC: u32 = 0xd00d_feed;
-
 const RESERVATION_OFFSET: u32 = 40;
 
 const VERSION: u32 = 17;
@@ -44,7 +43,7 @@ fn put_header<W: Write, A: Allocator>(layout: &Layout<A>, out: &mut Out<W>) -> R
     let structure = layout.structure_size;
     let strings = layout.strings_size;
     out.put_pieces(&[
-        &MAGIC.to_be_bytes(),
+        &BLOB_MAGIC.to_be_bytes(),
         &layout.totalsize().to_be_bytes(),
         &STRUCTURE_OFFSET.to_be_bytes(),
         &(STRUCTURE_OFFSET + structure).to_be_bytes(),

@@ -14,7 +14,7 @@ pub enum Action {
 
 /// The format that an image is read as.
 #[derive(Clone, Copy, Debug, PartialEq, Eq)]
-pub enum Form {
+pub enum Format {
     /// The format that its first four bytes tell: a FIT image where they are `0xd00dfeed`, a legacy
     /// image otherwise, also where there are fewer.
     Guess,
@@ -33,5 +33,5 @@ pub struct Command {
     pub action: Action,
 
     /// What the image is read as.
-    pub form: Form,
+    pub format: Format,
 }

@@ -2,11 +2,11 @@
 #![tactic(auto)]
 
 mod command;
+mod command_line;
 mod make_command;
 mod number_words;
-mod words;
 
-pub use command::{Action, Command, Form};
+pub use command::{Action, Command, Format};
+pub use command_line::{MakeRequest, Request, RunRequest, WordsFault, read_words};
 pub use make_command::MakeCommand;
 pub use number_words::{decimal, hexadecimal};
-pub use words::{MakeRequest, Request, RunRequest, WordsFault, read_words};

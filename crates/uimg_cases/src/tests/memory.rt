@@ -6,7 +6,7 @@ use super::runs::{action_named, shown, told};
 use std::process::Abort;
 use std::test::Fail;
 use uimg_base::{Out, Room, Source};
-use uimg_tool::{Command, Form, make_in_memory, run_in_memory};
+use uimg_tool::{Command, Format, make_in_memory, run_in_memory};
 
 // The image, the action, its end, and what is written.
 const ROWS: [(&str, &str, &str, &str); 6] = [
@@ -29,7 +29,7 @@ fn plays<R: AllocGlobal + Abort>(rt: &R, row: (&str, &str, &str, &str)) {
     let mut room = Room::new(rt.alloc());
     let command = Command {
         action: action_named(action),
-        form: Form::Guess,
+        format: Format::Guess,
     };
     let (answer, written) = run_in_memory(rt.alloc(), &command, &image, &mut room);
     assert_eq!(rt; shown(&told(rt.alloc(), &answer)), end, "{name}: {action}");

@@ -7,7 +7,7 @@ use std::process::Abort;
 use std::test::Fail;
 use uimg_base::{MemSource, Out, Room};
 use uimg_samples::fit::set_cell;
-use uimg_tool::{Command, Fault, Form, run};
+use uimg_tool::{Command, Fault, Format, run};
 
 const ACTIONS: [&str; 3] = ["list", "verify", "0"];
 
@@ -157,7 +157,7 @@ fn the_fourth_growth_is_refused(rt: HostRuntime) -> Result<(), Fail> {
         let mut out = Out::new(Vec::new(rt.alloc()));
         let command = Command {
             action: action_named(action),
-            form: Form::Guess,
+            format: Format::Guess,
         };
         let end = run(&command, &mut MemSource::new(&image), &mut room, &mut out);
         assert_eq!(rt; shown(&told(rt.alloc(), &end)), "B11 out of memory at 284");

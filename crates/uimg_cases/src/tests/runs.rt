@@ -2,7 +2,7 @@
 use std::alloc::Global;
 use std::io::Write;
 use uimg_base::{FuseSource, FuseWriter, MemSource, Out, Room, Source, Status};
-use uimg_tool::{Action, Command, Fault, Form, run};
+use uimg_tool::{Action, Command, Fault, Format, run};
 
 /// As many calls, or bytes, as there are.
 pub(super) const ALL: u64 = u64::MAX;
@@ -33,7 +33,7 @@ pub(super) fn action_named(word: &str) -> Action {
 pub(super) fn ran(alloc: Global, action: &str, image: &[u8], calls: u64, bytes: u64) -> Left {
     let command = Command {
         action: action_named(action),
-        form: Form::Guess,
+        format: Format::Guess,
     };
     let mut source = FuseSource::new(MemSource::new(image), calls);
     let mut room = Room::new(alloc);

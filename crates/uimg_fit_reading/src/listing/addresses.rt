@@ -8,8 +8,7 @@ ghost use Rattle.uimg_fit_reading.specs.Puts.{PutsFrom, PutsOwn};
 
 use crate::puts::{put, put_line, read};
 use std::io::Write;
-use uimg_base::{MoveFault, Out, Source};
-use uimg_blob::Span;
+use uimg_base::{MoveFault, Out, Source, Span};
 
 // How many zeros stand before the first other digit.
 fn leading_zeros(digits: &[u8]) -> usize

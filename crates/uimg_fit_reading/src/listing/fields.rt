@@ -1,24 +1,31 @@
-ghost use Rattle.std.specs.Prelude.{◌+◌, ◌≤◌, ◌++◌, length, IfSome};
-ghost use Rattle.std.specs.List.{AllByRecursion, flat_map, sum_by};
+//! The lines of rows.
+ghost use Rattle.std.specs.Prelude.{◌≡◌, ◌+◌, ◌≤◌, ◌++◌, length, is_err, true, IfSome};
+ghost use Rattle.std.specs.List.{list_all, sum_by};
 ghost use Rattle.std.specs.Option.{option_map_or};
+ghost use Rattle.uimg_base.specs.Ranges.{is_read, is_put};
 ghost use Rattle.uimg_base.specs.Outcome.{line};
 ghost use Rattle.uimg_texts.specs.Nul.{text};
 ghost use Rattle.uimg_texts.specs.Sizes.{size_text};
 ghost use Rattle.uimg_texts.specs.Slices.{slice};
 ghost use Rattle.uimg_fit_base.specs.Files.{bytes_in};
-ghost use Rattle.uimg_fit_reading.specs.Shows.{value_lines, value_cost, shown, time_line, size_line, field_lines, field_cost, FieldEndsIn};
-ghost use Rattle.uimg_fit_reading.specs.Puts.{Puts, PutsOwn};
+ghost use Rattle.uimg_fit_reading.specs.Nodes.{HasNode, OfAnyNode};
+ghost use Rattle.uimg_fit_reading.specs.Puts.{Leaves, Puts, PutsOwn};
+ghost use Rattle.uimg_fit_reading.specs.Rows.{keeps_row, row_cost, row_lines, rows_lines};
+ghost use Rattle.uimg_fit_reading.specs.Shows.{value_lines, value_cost, shown, time_line, size_line};
+ghost use Rattle.uimg_fit_reading.specs.Telling.{Lists};
 
 use crate::listing::addresses::put_address_line;
 use crate::listing::hexadecimal::put_hexadecimal_line;
 use crate::listing::lists::put_list_lines;
 use crate::listing::names::put_name_line;
-use crate::listing::shows::{Content, Field, Show};
+use crate::listing::rows::{Facts, Row};
+use crate::listing::shows::Show;
+use crate::nodes::value_of;
 use crate::puts::{put, put_line};
 use std::alloc::Allocator;
 use std::io::Write;
-use uimg_base::{MoveFault, Out, Room, Source, size_text, time_text};
-use uimg_blob::{Span, put_text};
+use uimg_base::{MoveFault, Out, Room, Source, Span, size_text, time_text};
+use uimg_blob::{Blob, put_text};
 
 // A line of a label and the text of a value.
 #[tactic(auto, using(uimg_base::proofs::WritingLaws::writing))]
@@ -122,38 +129,56 @@ fn put_size_line<W: Write>(
     put_size(out, size)
 }
 
-// The lines of a field.
-fn put_field<S: Source, A: Allocator, W: Write>(
+// The lines of a row.
+fn put_row<S: Source, A: Allocator, W: Write>(
     source: &mut S,
+    blob: &Blob,
     room: &mut Room<A>,
-    field: Field,
+    node: usize,
+    facts: Facts,
+    row: Row,
     out: &mut Out<W>,
 ) -> Result<(), MoveFault>
-    requires { FieldEndsIn (length (S.device source.old).bytes) field }
-    ensures { Puts (field_cost field) result (S.device source.old) (S.device source.new)
-        room.old room.new out.old out.new (field_lines (S.device source.old).bytes field) }
+    requires { HasNode (S.device source.old) blob.now room.old node }
+    ensures leaves { Leaves (is_read result) (is_put result) (S.device source.old)
+        (S.device source.new) room.old room.new out.old out.new }
+    ensures told { OfAnyNode (S.device source.old) blob.now room.old node (λ level found.
+        keeps_row level found.name row ≡ true →
+        Lists (is_err result) (row_cost found.own row)
+        (S.device source.old) (S.device source.new) out.old out.new
+        (row_lines facts found.own row)) }
 {
-    match field.content {
-        Content::Property(show, value) => put_property(source, room, field.label, show, value, out),
-        Content::Time(time) => put_time_line(out, field.label, time),
-        Content::Size(size) => put_size_line(out, field.label, size),
+    match row {
+        Row::Property(key, label, show) => {
+            let value = value_of(blob, room, node, key);
+            put_property(source, room, &label, show, value, out)
+        }
+        Row::Time(label) => put_time_line(out, &label, facts.time),
+        Row::Size(label) => put_size_line(out, &label, facts.size),
     }
 }
 
-// The lines of fields.
-pub(crate) fn put_fields<S: Source, A: Allocator, W: Write>(
+// The lines of rows.
+pub(crate) fn put_rows<S: Source, A: Allocator, W: Write>(
     source: &mut S,
+    blob: &Blob,
     room: &mut Room<A>,
-    fields: &[Field],
+    node: usize,
+    facts: Facts,
+    rows: &[Row],
     out: &mut Out<W>,
 ) -> Result<(), MoveFault>
-    requires { AllByRecursion (FieldEndsIn (length (S.device source.old).bytes)) fields.now }
-    ensures { Puts (sum_by field_cost fields.now) result
-        (S.device source.old) (S.device source.new) room.old room.new out.old out.new
-        (flat_map (field_lines (S.device source.old).bytes) fields.now) }
+    requires { HasNode (S.device source.old) blob.now room.old node }
+    ensures leaves { Leaves (is_read result) (is_put result) (S.device source.old)
+        (S.device source.new) room.old room.new out.old out.new }
+    ensures told { OfAnyNode (S.device source.old) blob.now room.old node (λ level found.
+        list_all (keeps_row level found.name) rows.now ≡ true →
+        Lists (is_err result) (sum_by (row_cost found.own) rows.now)
+        (S.device source.old) (S.device source.new) out.old out.new
+        (rows_lines facts found.own rows.now)) }
 {
-    for field in fields {
-        put_field(source, room, *field, out)?;
+    for row in rows {
+        put_row(source, blob, room, node, facts, *row, out)?;
     }
     Ok(())
 }

@@ -11,8 +11,8 @@ use crate::listing::fields::put_text_line;
 use crate::puts::{put, put_line};
 use std::alloc::Allocator;
 use std::io::Write;
-use uimg_base::{MoveFault, Out, Room, Source, time_text};
-use uimg_blob::{Span, put_text};
+use uimg_base::{MoveFault, Out, Room, Source, Span, time_text};
+use uimg_blob::put_text;
 
 // The line of the image's description.
 fn put_description<S: Source, A: Allocator, W: Write>(

@@ -6,8 +6,7 @@ ghost use Rattle.uimg_fit_reading.specs.Puts.{PutsFrom, PutsOwn};
 
 use crate::puts::{put, read};
 use std::io::Write;
-use uimg_base::{MoveFault, Out, Source};
-use uimg_blob::Span;
+use uimg_base::{MoveFault, Out, Source, Span};
 
 // How many bytes are turned into digits at once.
 const PART: usize = 64;

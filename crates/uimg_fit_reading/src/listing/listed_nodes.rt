@@ -5,23 +5,23 @@ ghost use Rattle.uimg_base.specs.Ranges.{is_read, is_put};
 ghost use Rattle.uimg_blob.specs.LookUps.{hashes};
 ghost use Rattle.uimg_blob.specs.Roles.{in_images, in_image, in_configurations, is_hash};
 ghost use Rattle.uimg_fit_reading.specs.Allowances.{text_sizes, node_allowance};
-ghost use Rattle.uimg_fit_reading.specs.FieldTexts.{image_text, hash_text};
-ghost use Rattle.uimg_fit_reading.specs.Listing.{numbered};
-ghost use Rattle.uimg_fit_reading.specs.NodeLines.{title_text, size_in, level_of, node_lines};
+ghost use Rattle.uimg_fit_reading.specs.Listing.{hash_lines, numbered, size_in};
+ghost use Rattle.uimg_fit_reading.specs.NodeLines.{level_of, node_lines};
+ghost use Rattle.uimg_fit_reading.specs.Rows.{image_rows, rows_lines, title};
 ghost use Rattle.uimg_fit_reading.specs.Nodes.{OfNode, OfNodes, OfHashes, HasNode, HasNodes};
 ghost use Rattle.uimg_fit_reading.specs.Telling.{Lists};
 ghost use Rattle.uimg_fit_reading.specs.Puts.{Leaves};
 
-use crate::listing::fields::put_fields;
-use crate::listing::properties::{configuration_fields, hash_fields, image_fields};
+use crate::listing::fields::put_rows;
+use crate::listing::rows::{CONFIGURATION, Facts, HASH, IMAGE, NO_FACTS};
 use crate::listing::titles::put_node;
-use crate::nodes::{first_hash, name_of, next_hash, next_of};
+use crate::nodes::{first_hash, next_hash, next_of};
 use crate::places::find_place;
 use std::alloc::Allocator;
 use std::io::Write;
-use uimg_base::{MoveFault, Out, Room, Source};
+use uimg_base::{MoveFault, Out, Room, Source, Span};
 use uimg_blob::Blob;
-use uimg_fit_base::{FitFault, Place};
+use uimg_fit_base::FitFault;
 
 /// What a listed node is.
 #[derive(Clone, Copy, Debug, PartialEq, Eq)]
@@ -45,10 +45,9 @@ fn put_hash<S: Source, A: Allocator, W: Write>(
         (S.device source.new) room.old room.new out.old out.new }
     ensures told { OfNode (S.device source.old) blob.now room.old in_image hash (λ found.
         is_hash found.name ≡ true → Lists (is_err result) (node_allowance found)
-        (S.device source.old) (S.device source.new) out.old out.new (hash_text found.own)) }
+        (S.device source.old) (S.device source.new) out.old out.new (hash_lines found)) }
 {
-    let fields = hash_fields(blob, room, hash);
-    put_fields(source, room, &fields, out)
+    put_rows(source, blob, room, hash, NO_FACTS, &HASH, out)
 }
 
 // The lines of hash nodes.
@@ -65,7 +64,7 @@ fn put_hashes<S: Source, A: Allocator, W: Write>(
     ensures told { OfHashes (S.device source.old) blob.now room.old first (λ hs.
         Lists (is_err result) (sum_by node_allowance hs)
         (S.device source.old) (S.device source.new) out.old out.new
-        (flat_map (λ h. hash_text h.own) hs)) }
+        (flat_map hash_lines hs)) }
 {
     let mut next = first;
     while let Some(hash) = next {
@@ -76,23 +75,22 @@ fn put_hashes<S: Source, A: Allocator, W: Write>(
 }
 
 // The size of a payload, if its place is known.
-fn size_in(place: Result<Place, FitFault>) -> Option<u32>
-    requires { IfOk place (λ p. p.size < 2 ^ 32) }
+fn size_in(place: Result<Span, FitFault>) -> Option<u32>
+    requires { IfOk place (λ p. p.length < 2 ^ 32) }
     ensures { result ≡ size_in place }
 {
     match place {
-        Ok(found) => Some(found.size as u32),
+        Ok(found) => Some(found.length as u32),
         Err(_) => None,
     }
 }
 
-// The lines of an image whose payload's size is known, or is not.
-fn put_sized_image<S: Source, A: Allocator, W: Write>(
+// The lines of an image of which some facts are known.
+fn put_known_image<S: Source, A: Allocator, W: Write>(
     source: &mut S,
     blob: &Blob,
     room: &mut Room<A>,
-    time: Option<u32>,
-    size: Option<u32>,
+    facts: Facts,
     number: usize,
     image: usize,
     out: &mut Out<W>,
@@ -104,12 +102,12 @@ fn put_sized_image<S: Source, A: Allocator, W: Write>(
         Lists (is_err result)
         (748 + 4 * text_sizes found.own + sum_by node_allowance (hashes found))
         (S.device source.old) (S.device source.new) out.old out.new
-        (title_text (codes " Image ") number found.name
-        ++ (image_text time size found.own ++ flat_map (λ h. hash_text h.own) (hashes found)))) }
+        (title (codes " Image ") number found.name
+        ++ (rows_lines facts found.own image_rows ++ flat_map hash_lines (hashes found)))) }
 {
-    let name = name_of(blob, room, image);
-    let fields = image_fields(blob, room, image, time, size);
-    put_node(source, room, b" Image ", number, name, &fields, out)?;
+    put_node(
+        source, blob, room, b" Image ", number, image, facts, &IMAGE, out,
+    )?;
     put_hashes(source, blob, room, first_hash(blob, room, image), out)
 }
 
@@ -132,7 +130,8 @@ fn put_image<S: Source, A: Allocator, W: Write>(
 {
     match find_place(source, blob, room, image) {
         Ok(place) => {
-            put_sized_image(source, blob, room, time, size_in(place), number, image, out)
+            let size = size_in(place);
+            put_known_image(source, blob, room, Facts { time, size }, number, image, out)
         }
         Err(_) => Err(MoveFault::Read),
     }
@@ -156,9 +155,17 @@ fn put_configuration<S: Source, A: Allocator, W: Write>(
         out.old out.new
         (node_lines (S.device source.old).bytes Kind.Configuration number found)) }
 {
-    let name = name_of(blob, room, configuration);
-    let fields = configuration_fields(blob, room, configuration);
-    put_node(source, room, b" Configuration ", number, name, &fields, out)
+    put_node(
+        source,
+        blob,
+        room,
+        b" Configuration ",
+        number,
+        configuration,
+        NO_FACTS,
+        &CONFIGURATION,
+        out,
+    )
 }
 
 // The lines of a node.

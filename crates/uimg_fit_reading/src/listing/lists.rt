@@ -13,8 +13,7 @@ ghost use Rattle.uimg_fit_reading.specs.Puts.{Puts};
 use crate::puts::{put, put_line, put_pair, read};
 use std::alloc::Allocator;
 use std::io::Write;
-use uimg_base::{MoveFault, Out, Room, Source, WINDOW, before_nul};
-use uimg_blob::Span;
+use uimg_base::{MoveFault, Out, Room, Source, Span, WINDOW, before_nul};
 
 /// Where the next byte of a list of texts stands.
 #[derive(Clone, Copy, Debug, PartialEq, Eq)]

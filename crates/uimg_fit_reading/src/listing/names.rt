@@ -11,10 +11,10 @@ use crate::listing::shows::Table;
 use crate::puts::put_line;
 use std::io::Write;
 use uimg_base::{
-    MoveFault, Out, Source, SourceFault, arch_code, arch_text, comp_code, comp_text, kind_code,
-    kind_text, os_code, os_text,
+    MoveFault, Out, Source, SourceFault, Span, arch_code, arch_text, comp_code, comp_text,
+    kind_code, kind_text, os_code, os_text,
 };
-use uimg_blob::{Span, short_text};
+use uimg_blob::short_text;
 
 const UNKNOWN_KIND: &str = "Unknown Image";
 

@@ -1,4 +1,4 @@
-use uimg_blob::Span;
+//! What values are printed as.
 
 /// A table of names that texts are looked up in.
 #[derive(Clone, Copy, Debug, PartialEq, Eq)]
@@ -26,22 +26,4 @@ pub(crate) enum Show {
     Hexadecimal,
     /// A line for each of its texts.
     List,
-}
-
-/// What stands behind a label.
-#[derive(Clone, Copy, Debug, PartialEq, Eq)]
-pub(crate) enum Content {
-    /// A property's value, where it is there.
-    Property(Show, Option<Span>),
-    /// A time, where there is one.
-    Time(Option<u32>),
-    /// A size, or that it is not known.
-    Size(Option<u32>),
-}
-
-/// A label, padded with blanks, and what stands behind it.
-#[derive(Clone, Copy, Debug, PartialEq, Eq)]
-pub(crate) struct Field {
-    pub(crate) label: &'static [u8],
-    pub(crate) content: Content,
 }

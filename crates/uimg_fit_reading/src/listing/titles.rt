@@ -1,18 +1,22 @@
-ghost use Rattle.std.specs.Prelude.{◌+◌, ◌≤◌, ◌++◌, length, decimal, codes};
-ghost use Rattle.std.specs.List.{AllByRecursion, flat_map, sum_by};
+//! The title of a node, and its lines.
+ghost use Rattle.std.specs.Prelude.{◌≡◌, ◌+◌, ◌≤◌, ◌++◌, length, decimal, codes, is_err, true};
+ghost use Rattle.std.specs.List.{list_all, sum_by};
+ghost use Rattle.uimg_base.specs.Ranges.{is_read, is_put};
 ghost use Rattle.uimg_texts.specs.Slices.{slice};
-ghost use Rattle.uimg_fit_reading.specs.Shows.{field_lines, field_cost, FieldEndsIn};
-ghost use Rattle.uimg_fit_reading.specs.NodeLines.{title_text};
-ghost use Rattle.uimg_fit_reading.specs.Puts.{Puts, PutsOwn};
+ghost use Rattle.uimg_fit_reading.specs.Nodes.{HasNode, OfAnyNode};
+ghost use Rattle.uimg_fit_reading.specs.Puts.{Leaves, Puts, PutsOwn};
+ghost use Rattle.uimg_fit_reading.specs.Rows.{keeps_row, row_cost, rows_lines, title};
+ghost use Rattle.uimg_fit_reading.specs.Telling.{Lists};
 
-use crate::listing::fields::put_fields;
-use crate::listing::shows::Field;
+use crate::listing::fields::put_rows;
+use crate::listing::rows::{Facts, Row};
+use crate::nodes::name_of;
 use crate::puts::{put, put_span};
 use itoa::Buffer;
 use std::alloc::Allocator;
 use std::io::Write;
-use uimg_base::{MoveFault, Out, Room, Source};
-use uimg_blob::Span;
+use uimg_base::{MoveFault, Out, Room, Source, Span};
+use uimg_blob::Blob;
 
 // What stands before a node's name.
 fn put_number<W: Write>(out: &mut Out<W>, before: &[u8], number: usize) -> Result<(), MoveFault>
@@ -37,7 +41,7 @@ fn put_title<S: Source, A: Allocator, W: Write>(
     requires { name.place + name.length ≤ length (S.device source.old).bytes }
     ensures { Puts name.length result (S.device source.old) (S.device source.new)
         room.old room.new out.old out.new
-        (title_text before.now number
+        (title before.now number
         (slice (S.device source.old).bytes name.place name.length)) }
 {
     put_number(out, before, number)?;
@@ -45,23 +49,27 @@ fn put_title<S: Source, A: Allocator, W: Write>(
     put(out, b")\n")
 }
 
-// The title and the fields of a node.
+// The title and the rows of a node.
 pub(crate) fn put_node<S: Source, A: Allocator, W: Write>(
     source: &mut S,
+    blob: &Blob,
     room: &mut Room<A>,
     before: &[u8],
     number: usize,
-    name: Span,
-    fields: &[Field],
+    node: usize,
+    facts: Facts,
+    rows: &[Row],
     out: &mut Out<W>,
 ) -> Result<(), MoveFault>
-    requires name { name.place + name.length ≤ length (S.device source.old).bytes }
-    requires fields { AllByRecursion (FieldEndsIn (length (S.device source.old).bytes)) fields.now }
-    ensures { Puts (name.length + sum_by field_cost fields.now) result
-        (S.device source.old) (S.device source.new) room.old room.new out.old out.new
-        (title_text before.now number (slice (S.device source.old).bytes name.place name.length)
-        ++ flat_map (field_lines (S.device source.old).bytes) fields.now) }
+    requires { HasNode (S.device source.old) blob.now room.old node }
+    ensures leaves { Leaves (is_read result) (is_put result) (S.device source.old)
+        (S.device source.new) room.old room.new out.old out.new }
+    ensures told { OfAnyNode (S.device source.old) blob.now room.old node (λ level found.
+        list_all (keeps_row level found.name) rows.now ≡ true →
+        Lists (is_err result) (255 + sum_by (row_cost found.own) rows.now)
+        (S.device source.old) (S.device source.new) out.old out.new
+        (title before.now number found.name ++ rows_lines facts found.own rows.now)) }
 {
-    put_title(source, room, before, number, name, out)?;
-    put_fields(source, room, fields, out)
+    put_title(source, room, before, number, name_of(blob, room, node), out)?;
+    put_rows(source, blob, room, node, facts, rows, out)
 }

@@ -10,9 +10,9 @@ ghost use Rattle.uimg_fit_reading.specs.Plans.{with_plan};
 use crate::nodes::next_hash;
 use crate::report::plans::{Plan, plan_at};
 use std::alloc::Allocator;
-use uimg_base::{Room, Source, SourceFault};
+use uimg_base::{Room, Source, SourceFault, Span};
 use uimg_blob::Blob;
-use uimg_fit_base::{AlgoSet, Digests, Place, feed_through};
+use uimg_fit_base::{AlgoSet, Digests, feed_through};
 
 // A set with the algorithm that a plan compares by, if it compares.
 fn with_plan(set: AlgoSet, plan: Plan) -> AlgoSet
@@ -51,21 +51,21 @@ fn payload_digests<S: Source, A: Allocator>(
     source: &mut S,
     room: &mut Room<A>,
     set: AlgoSet,
-    place: Place,
+    span: Span,
 ) -> Result<Digests, SourceFault>
-    requires { place.at + place.size ≤ length (S.device source.old).bytes }
-    ensures uses { Asks (if is_empty set then 0 else place.size) (is_err result)
+    requires { span.place + span.length ≤ length (S.device source.old).bytes }
+    ensures uses { Asks (if is_empty set then 0 else span.length) (is_err result)
         (S.device source.old) (S.device source.new) }
     ensures room { room.new ≡ room.old }
     ensures set { IfOk result (λ found. set_of found ≡ set) }
     ensures digests { IsTrue (S.device source.old).honest → IfOk result (λ found.
-        AreDigests found (slice (S.device source.old).bytes place.at place.size)) }
+        AreDigests found (slice (S.device source.old).bytes span.place span.length)) }
 {
     let mut sums = set.sums();
     if set.is_empty() {
         return Ok(Digests::of(set, sums));
     }
-    feed_through(&mut sums, source, room.window(), place.at, place.size)?;
+    feed_through(&mut sums, source, room.window(), span.place, span.length)?;
     Ok(Digests::of(set, sums))
 }
 
@@ -75,16 +75,16 @@ pub(crate) fn compared_digests<S: Source, A: Allocator>(
     blob: &Blob,
     room: &mut Room<A>,
     first: Option<usize>,
-    place: Place,
+    span: Span,
 ) -> Result<Digests, SourceFault>
     requires node { HasNodes (S.device source.old) blob.now room.old first }
-    requires payload { place.at + place.size ≤ length (S.device source.old).bytes }
+    requires payload { span.place + span.length ≤ length (S.device source.old).bytes }
     ensures uses { Uses (is_err result) (S.device source.old) (S.device source.new) }
     ensures room { room.new ≡ room.old }
     ensures found { OfHashes (S.device source.old) blob.now room.old first (λ hs.
-        FindsDigests (slice (S.device source.old).bytes place.at place.size) place.size hs
+        FindsDigests (slice (S.device source.old).bytes span.place span.length) span.length hs
         (S.device source.old).asked (S.device source.new).asked result) }
 {
     let set = compared_algos(source, blob, room, first)?;
-    payload_digests(source, room, set, place)
+    payload_digests(source, room, set, span)
 }

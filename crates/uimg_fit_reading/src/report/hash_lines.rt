@@ -9,9 +9,9 @@ ghost use Rattle.uimg_fit_reading.specs.Puts.{Puts, PutsOwn};
 use crate::puts::{put, put_line, put_span};
 use std::alloc::Allocator;
 use std::io::Write;
-use uimg_base::{MoveFault, Out, Room, Source};
-use uimg_blob::{Span, put_text};
-use uimg_fit_base::{Word, word_text};
+use uimg_base::{MoveFault, Out, Room, Source, Span};
+use uimg_blob::put_text;
+use uimg_fit_base::{Verdict, word_text};
 
 /// What the line of a hash node is made of: where the image's name, its own and its algorithm's stand, and
 /// its word.
@@ -20,7 +20,7 @@ pub(crate) struct HashLine {
     pub(crate) image: Span,
     pub(crate) hash: Span,
     pub(crate) algo: Option<Span>,
-    pub(crate) word: Word,
+    pub(crate) word: Verdict,
 }
 
 // Writes the bytes at a span and a blank.
@@ -58,7 +58,7 @@ fn put_algo<S: Source, A: Allocator, W: Write>(
 }
 
 // Writes a word behind a blank, and ends the line.
-fn put_word<W: Write>(word: Word, out: &mut Out<W>) -> Result<(), MoveFault>
+fn put_word<W: Write>(word: Verdict, out: &mut Out<W>) -> Result<(), MoveFault>
     ensures { PutsOwn result out.old out.new (line (codes " " ++ word_text word)) }
 {
     put_line(out, b" ", word_text(word).as_bytes())

@@ -12,9 +12,9 @@ use crate::report::digests::compared_digests;
 use crate::report::judging::put_hash;
 use std::alloc::Allocator;
 use std::io::Write;
-use uimg_base::{MoveFault, Out, Room, Source};
-use uimg_blob::{Blob, Span};
-use uimg_fit_base::{Digests, Place, is_right};
+use uimg_base::{MoveFault, Out, Room, Source, Span};
+use uimg_blob::Blob;
+use uimg_fit_base::{Digests, is_right};
 
 // Writes a line for each hash node from one on, by the digests of their payload; tells whether all are right.
 fn put_hashes<S: Source, A: Allocator, W: Write>(
@@ -52,21 +52,21 @@ pub(crate) fn report_hashes<S: Source, A: Allocator, W: Write>(
     blob: &Blob,
     room: &mut Room<A>,
     image: Span,
-    place: Place,
+    span: Span,
     first: Option<usize>,
     out: &mut Out<W>,
 ) -> Result<bool, MoveFault>
     requires node { HasNodes (S.device source.old) blob.now room.old first }
     requires name { image.place + image.length ≤ length (S.device source.old).bytes }
-    requires payload { place.at + place.size ≤ length (S.device source.old).bytes }
+    requires payload { span.place + span.length ≤ length (S.device source.old).bytes }
     ensures leaves { Leaves (is_read result) (is_put result) (S.device source.old)
         (S.device source.new) room.old room.new out.old out.new }
     ensures told { OfHashes (S.device source.old) blob.now room.old first (λ hs.
         ReportsHashes (slice (S.device source.old).bytes image.place image.length)
-        (slice (S.device source.old).bytes place.at place.size) place.size image.length hs
+        (slice (S.device source.old).bytes span.place span.length) span.length image.length hs
         (S.device source.old).asked (S.device source.new).asked result out.old out.new) }
 {
-    let Ok(digests) = compared_digests(source, blob, room, first, place) else {
+    let Ok(digests) = compared_digests(source, blob, room, first, span) else {
         return Err(MoveFault::Read);
     };
     put_hashes(source, blob, room, image, first, &digests, out)

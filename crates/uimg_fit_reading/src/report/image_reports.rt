@@ -14,9 +14,9 @@ use crate::report::hash_lines::put_unhashed;
 use crate::report::hash_reports::report_hashes;
 use std::alloc::Allocator;
 use std::io::Write;
-use uimg_base::{MoveFault, Out, Room, Source, Status};
+use uimg_base::{MoveFault, Out, Room, Source, Span, Status};
 use uimg_blob::Blob;
-use uimg_fit_base::{Fault, Place};
+use uimg_fit_base::Fault;
 
 // Reports on an image whose payload stands at a place; it tells whether all its hash nodes are right.
 fn report_found<S: Source, A: Allocator, W: Write>(
@@ -24,15 +24,15 @@ fn report_found<S: Source, A: Allocator, W: Write>(
     blob: &Blob,
     room: &mut Room<A>,
     image: usize,
-    place: Place,
+    span: Span,
     out: &mut Out<W>,
 ) -> Result<bool, MoveFault>
     requires node { HasNode (S.device source.old) blob.now room.old image }
-    requires payload { place.at + place.size ≤ length (S.device source.old).bytes }
+    requires payload { span.place + span.length ≤ length (S.device source.old).bytes }
     ensures leaves { Leaves (moves.is_read result) (moves.is_put result) (S.device source.old)
         (S.device source.new) room.old room.new out.old out.new }
     ensures told { OfNode (S.device source.old) blob.now room.old in_images image (λ found.
-        ReportsFound found (slice (S.device source.old).bytes place.at place.size) place.size
+        ReportsFound found (slice (S.device source.old).bytes span.place span.length) span.length
         (S.device source.old).asked (S.device source.new).asked result out.old out.new) }
 {
     let name = name_of(blob, room, image);
@@ -41,7 +41,7 @@ fn report_found<S: Source, A: Allocator, W: Write>(
         put_unhashed(source, room, name, out)?;
         return Ok(true);
     }
-    report_hashes(source, blob, room, name, place, first, out)
+    report_hashes(source, blob, room, name, span, first, out)
 }
 
 // Reports on an image; it tells whether all its hash nodes are right.
@@ -60,8 +60,8 @@ fn report_image<S: Source, A: Allocator, W: Write>(
         ReportsImage (S.device source.old).bytes found (S.device source.old).asked
         (S.device source.new).asked result out.old out.new) }
 {
-    let place = payload_place(source, blob, room, image)?;
-    Ok(report_found(source, blob, room, image, place, out)?)
+    let span = payload_place(source, blob, room, image)?;
+    Ok(report_found(source, blob, room, image, span, out)?)
 }
 
 // The status of a report.

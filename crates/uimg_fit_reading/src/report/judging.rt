@@ -16,9 +16,9 @@ use crate::report::hash_lines::{HashLine, put_hash_line};
 use crate::report::plans::{judged, plan_at};
 use std::alloc::Allocator;
 use std::io::Write;
-use uimg_base::{MoveFault, Out, Room, Source, SourceFault};
-use uimg_blob::{Blob, Key, Span};
-use uimg_fit_base::{Digests, Word};
+use uimg_base::{MoveFault, Out, Room, Source, SourceFault, Span};
+use uimg_blob::{Blob, Key};
+use uimg_fit_base::{Digests, Verdict};
 
 // The word of a hash node, by the digests of its payload.
 fn judge<S: Source, A: Allocator>(
@@ -27,7 +27,7 @@ fn judge<S: Source, A: Allocator>(
     room: &Room<A>,
     hash: usize,
     digests: &Digests,
-) -> Result<Word, SourceFault>
+) -> Result<Verdict, SourceFault>
     requires { HasNode (S.device source.old) blob.now room.now hash }
     ensures uses { Asks 96 (is_err result) (S.device source.old) (S.device source.new) }
     ensures word { OfHash (S.device source.old) blob.now room.now hash (λ found.
@@ -45,7 +45,7 @@ fn put_judged<S: Source, A: Allocator, W: Write>(
     room: &mut Room<A>,
     image: Span,
     hash: usize,
-    word: Word,
+    word: Verdict,
     out: &mut Out<W>,
 ) -> Result<(), MoveFault>
     requires node { HasNode (S.device source.old) blob.now room.old hash }
@@ -75,7 +75,7 @@ pub(crate) fn put_hash<S: Source, A: Allocator, W: Write>(
     hash: usize,
     digests: &Digests,
     out: &mut Out<W>,
-) -> Result<Word, MoveFault>
+) -> Result<Verdict, MoveFault>
     requires node { HasNode (S.device source.old) blob.now room.old hash }
     requires name { image.place + image.length ≤ length (S.device source.old).bytes }
     ensures leaves { Leaves (is_read result) (is_put result) (S.device source.old)

@@ -11,9 +11,9 @@ ghost use Rattle.uimg_fit_reading.specs.Plans.{plan_by_value, plan_by_algo, plan
 
 use crate::nodes::value_of;
 use std::alloc::Allocator;
-use uimg_base::{Algo, Room, Source, SourceFault};
-use uimg_blob::{Blob, Key, Span, short_text};
-use uimg_fit_base::{Digests, Word};
+use uimg_base::{Algo, Room, Source, SourceFault, Span};
+use uimg_blob::{Blob, Key, short_text};
+use uimg_fit_base::{Digests, Verdict};
 
 /// What is to be done about a hash node, before any payload is read.
 #[derive(Clone, Copy, Debug, PartialEq, Eq)]
@@ -110,7 +110,7 @@ pub(crate) fn judged<S: Source>(
     source: &mut S,
     plan: Plan,
     digests: &Digests,
-) -> Result<Word, SourceFault>
+) -> Result<Verdict, SourceFault>
     requires { EndsIn (length (S.device source.old).bytes) plan }
     ensures uses { Asks 64 (is_err result) (S.device source.old) (S.device source.new) }
     ensures word { IsTrue (S.device source.old).honest → (message : List ℕ) →
@@ -118,13 +118,13 @@ pub(crate) fn judged<S: Source>(
         IfOk result (λ word. word ≡ word_by (S.device source.old).bytes message plan) }
 {
     match plan {
-        Plan::Malformed => Ok(Word::Malformed),
-        Plan::Unsupported => Ok(Word::Unsupported),
+        Plan::Malformed => Ok(Verdict::Malformed),
+        Plan::Unsupported => Ok(Verdict::Unsupported),
         Plan::Compared(algo, span) => {
             if is_digest(source, span, &digests.by(algo))? {
-                Ok(Word::Right)
+                Ok(Verdict::Right)
             } else {
-                Ok(Word::Wrong)
+                Ok(Verdict::Wrong)
             }
         }
     }

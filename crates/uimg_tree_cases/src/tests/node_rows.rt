@@ -4,8 +4,8 @@ ghost use Rattle.std.specs.Prelude.{◌<◌, length};
 use super::made::{made, shown};
 use std::alloc::{AllocError, Global};
 use std::test::Fail;
-use uimg_base::{MemSource, Room};
-use uimg_blob::{Blob, Key, Span, index};
+use uimg_base::{MemSource, Room, Span};
+use uimg_blob::{Blob, Key, index};
 
 // The keys, in the order of the documentation, by the names of their properties.
 const KEYS: [(&str, Key); 19] = [

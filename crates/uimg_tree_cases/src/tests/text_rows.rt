@@ -5,8 +5,10 @@ use super::bytes::unhex;
 use super::made::made;
 use std::alloc::{AllocError, Global};
 use std::test::Fail;
-use uimg_base::{FuseSource, FuseWriter, MemSource, MoveFault, Out, Room, Source, SourceFault};
-use uimg_blob::{Span, put_text, short_text};
+use uimg_base::{
+    FuseSource, FuseWriter, MemSource, MoveFault, Out, Room, Source, SourceFault, Span,
+};
+use uimg_blob::{put_text, short_text};
 
 // What is written of a text, if it is.
 fn written(alloc: Global, bytes: &[u8], at: Span) -> Option<Vec<u8>>

@@ -4,7 +4,8 @@ use Rattle.uimg_base.specs.Held.{Held}
 use Rattle.uimg_blob.specs.LookUps.{configurations}
 use Rattle.uimg_blob.specs.Spots.{spots}
 use Rattle.uimg_fit_reading.specs.Allowances.{node_allowance}
-use Rattle.uimg_fit_reading.specs.ListingParts.{images_text, configurations_text, configurations_allowance}
+use Rattle.uimg_fit_reading.specs.Listing.{configurations_lines, image_lines, numbered}
+use Rattle.uimg_fit_reading.specs.ListingParts.{configurations_allowance}
 use Rattle.uimg_fit_reading.specs.Telling.{Lists}
 use Rattle.uimg_fit_reading.proofs.OpenedLaws.{still}
 use Rattle.uimg_fit_reading.proofs.TellingLaws.{then_lists, cut_lists, read_same}
@@ -16,7 +17,7 @@ returns-in_err-put_listed_nodes-clause-told g c = λ t o found at.
     let d = g.S.Source.device c.args.source.now in
     let m = g.S.Source.device c.put_listed_nodes.new.source in
     rw failed (cut_lists (sum_by node_allowance found) (configurations_allowance (configurations (spots t))) d m c.args.out.now c.put_listed_nodes.new.out
-    (images_text d.bytes c.args.time found) (configurations_text d.bytes (configurations (spots t))) (c.in_err-put_listed_nodes.ensures.told t o found at))
+    (numbered (image_lines d.bytes c.args.time) 0 found) (configurations_lines (configurations (spots t))) (c.in_err-put_listed_nodes.ensures.told t o found at))
 
 pub returns-clause-told : goal.returns-clause-told
 returns-clause-told g c = λ t o found at.
@@ -26,7 +27,6 @@ returns-clause-told g c = λ t o found at.
     let e = is_err c.put_configurations.result in
     let same = c.put_listed_nodes.ensures.leaves.uses.same in
     let here = still same c.put_listed_nodes.ensures.leaves.room o in
-    let tail = subst (λ (w : List ℕ). Lists e (configurations_allowance (configurations (spots t))) m f c.put_listed_nodes.new.out c.put_configurations.new.out (configurations_text w (configurations (spots t)))) same.bytes
-    (c.put_configurations.ensures.told t here) in
+    let tail = c.put_configurations.ensures.told t here in
     then_lists e (sum_by node_allowance found) (configurations_allowance (configurations (spots t))) d m f c.args.out.now c.put_listed_nodes.new.out c.put_configurations.new.out
-    (images_text d.bytes c.args.time found) (configurations_text d.bytes (configurations (spots t))) (c.in_ok-put_listed_nodes.ensures.told t o found at) tail
+    (numbered (image_lines d.bytes c.args.time) 0 found) (configurations_lines (configurations (spots t))) (c.in_ok-put_listed_nodes.ensures.told t o found at) tail

@@ -1,5 +1,5 @@
 use Rattle.std.proofs.Common.{ap, ℕ, List, length, get_or, ◌+◌, arith}
-use Rattle.uimg_blob.specs.declared.texts.Span.{Span}
+use Rattle.uimg_base.specs.declared.spans.Span.{Span}
 use Rattle.uimg_blob.proofs.LookLaws.{row_entry, entry_is}
 use Rattle.uimg_blob.proofs.nodes.Blob.name.Goals as goal
 

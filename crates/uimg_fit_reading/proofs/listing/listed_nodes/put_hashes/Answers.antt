@@ -3,14 +3,14 @@ use Rattle.std.specs.List.{flat_map}
 use Rattle.uimg_base.specs.Held.{Held}
 use Rattle.uimg_blob.specs.LookUps.{NodeOf}
 use Rattle.uimg_blob.specs.Spots.{Spot}
-use Rattle.uimg_fit_reading.specs.FieldTexts.{hash_text}
+use Rattle.uimg_fit_reading.specs.Listing.{hash_lines}
 use Rattle.uimg_fit_reading.specs.Nodes.{HashesAt, FirstHash}
 use Rattle.uimg_fit_reading.proofs.OpenedLaws.{still}
 use Rattle.uimg_fit_reading.proofs.TellingLaws.{left_more, left_fails, read_same}
 use Rattle.uimg_fit_reading.proofs.listing.listed_nodes.put_hashes.Goals as goal
 
 abbrev texts : ℕ → List (NodeOf Spot) → List ℕ
-texts i ns = flat_map (λ h. hash_text h.own) ns
+texts i ns = flat_map hash_lines ns
 
 pub returns-in_err-put_hash-clause-told : goal.returns-in_err-put_hash-clause-told
 returns-in_err-put_hash-clause-told g c = λ t o hs at.
@@ -20,7 +20,7 @@ returns-in_err-put_hash-clause-told g c = λ t o hs at.
     let first : FirstHash t c.in-Some.hash left.rest = subst (λ (o : Option ℕ). HashesAt t o left.rest) c.in-Some.is left.at in
     let here = still same c.loop-next.invariant.room o in
     let told = c.in_err-put_hash.ensures.told t here first.hash first.at.node first.at.named in
-    rw failed (left_fails (HashesAt t) texts 0 0 c.loop-next.next _ _ _ _ _ _ hs left first.hash first.more (hash_text first.hash.own) first.are refl told)
+    rw failed (left_fails (HashesAt t) texts 0 0 c.loop-next.next _ _ _ _ _ _ hs left first.hash first.more (hash_lines first.hash) first.are refl told)
 
 pub loop-next-preserved : goal.loop-next-preserved
 loop-next-preserved g c =
@@ -37,6 +37,6 @@ loop-next-preserved g c =
           let here = still same c.loop-next.invariant.room o in
           let then = still c.put_hash.ensures.leaves.uses.same c.put_hash.ensures.leaves.room here in
           let told = c.in_ok-put_hash.ensures.told t here first.hash first.at.node first.at.named in
-          left_more (HashesAt t) texts 0 0 c.loop-next.next c.next_hash-next.result _ _ _ _ _ _ hs left first.hash first.more (hash_text first.hash.own) first.are refl told
+          left_more (HashesAt t) texts 0 0 c.loop-next.next c.next_hash-next.result _ _ _ _ _ _ hs left first.hash first.more (hash_lines first.hash) first.are refl told
           (c.next_hash-next.ensures.hashes t then.read.indexed first.hash first.more first.at);
     }

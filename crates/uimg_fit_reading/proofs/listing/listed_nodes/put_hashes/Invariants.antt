@@ -5,7 +5,7 @@ use Rattle.uimg_base.specs.Device.{SameDevice}
 use Rattle.uimg_blob.specs.Grammar.{Siblings}
 use Rattle.uimg_blob.specs.LookUps.{NodeOf}
 use Rattle.uimg_blob.specs.Spots.{Spot}
-use Rattle.uimg_fit_reading.specs.FieldTexts.{hash_text}
+use Rattle.uimg_fit_reading.specs.Listing.{hash_lines}
 use Rattle.uimg_fit_reading.specs.Nodes.{Opened, HashesAt}
 use Rattle.uimg_fit_reading.proofs.TellingLaws.{Left}
 use Rattle.uimg_fit_reading.proofs.listing.listed_nodes.put_hashes.Given as goal
@@ -21,7 +21,7 @@ invariant-loop-next g l =
       failures : (device l.source).failures ≡ (device l.fn.source).failures;
       faults : l.out.faults ≡ l.fn.out.faults;
       left : (t : Siblings) → Opened (device l.fn.source) l.blob l.fn.room t → (hs : List (NodeOf Spot)) → HashesAt t l.fn.first hs
-          → Left (HashesAt t) (λ i ns. flat_map (λ h. hash_text h.own) ns) 0 l.next (device l.fn.source) (device l.source) l.fn.out l.out hs;
+          → Left (HashesAt t) (λ i ns. flat_map hash_lines ns) 0 l.next (device l.fn.source) (device l.source) l.fn.out l.out hs;
     }
 
 abbrev pub decreases-loop-next : goal.decreases-loop-next

@@ -1,18 +1,32 @@
-use Rattle.std.proofs.Common.{rules, ℕ, List, Bool, IsTrue, is_err, sym, subst}
-use Rattle.std.specs.List.{flat_map}
+use Rattle.std.proofs.Common.{rules, ◌≡◌, ◌+◌, List, Bool, ℕ, true, false, is_err, sym, subst, arith}
+use Rattle.std.specs.List.{sum_by}
 use Rattle.uimg_base.specs.Writing.{Written}
-use Rattle.uimg_fit_reading.specs.Shows.{field_lines}
-use Rattle.uimg_fit_reading.proofs.PutLaws.{◌▶◌}
+use Rattle.uimg_fit_reading.specs.Rows.{row_cost, rows_lines, title}
+use Rattle.uimg_fit_reading.specs.Telling.{Lists}
+use Rattle.uimg_fit_reading.proofs.OpenedLaws.{still}
+use Rattle.uimg_fit_reading.proofs.TellingLaws.{then_lists, cut_lists}
 use Rattle.uimg_fit_reading.proofs.listing.titles.put_node.Goals as goal
 
-pub returns : goal.returns
-returns g c = record {
-  uses = search rules;
-  room = search rules;
-  faults = search rules;
-  told = λ honest.
-      let same = c.put_title.ensures.uses.same in
-      let now = subst (λ (b : Bool). IsTrue b) (sym same.honest) honest in
-      (c.in_ok-put_title.ensures.told honest).all
-      ▶ subst (λ (w : List ℕ). Written (is_err c.put_fields.result) c.put_title.new.out c.put_fields.new.out (flat_map (field_lines w) c.args.fields.now)) same.bytes (c.put_fields.ensures.told now);
-}
+pub returns-in_err-put_title-clause-told : goal.returns-in_err-put_title-clause-told
+returns-in_err-put_title-clause-told g c = λ t o level found n keeps.
+    let failed : is_err c.from_residual.result ≡ true = search rules in
+    let d = g.S.Source.device c.args.source.now in
+    let m = g.S.Source.device c.put_title.new.source in
+    let head : Lists true 255 d m c.args.out.now c.put_title.new.out (title c.args.before.now c.args.number found.name) = record {
+      asked = omega (arith, c.put_title.ensures.uses.asked, c.name_of.ensures.short d.bytes t o.read level found n);
+      written = subst (λ (w : List ℕ). Written true c.args.out.now c.put_title.new.out (title c.args.before.now c.args.number w)) (c.name_of.ensures.name d.bytes t o.read level found n) (c.in_err-put_title.ensures.told o.honest);
+    } in
+    rw failed (cut_lists 255 (sum_by (row_cost found.own) c.args.rows.now) d m c.args.out.now c.put_title.new.out (title c.args.before.now c.args.number found.name) (rows_lines c.args.facts found.own c.args.rows.now) head)
+
+pub returns-clause-told : goal.returns-clause-told
+returns-clause-told g c = λ t o level found n keeps.
+    let d = g.S.Source.device c.args.source.now in
+    let m = g.S.Source.device c.put_title.new.source in
+    let f = g.S.Source.device c.put_rows.new.source in
+    let here = still c.put_title.ensures.uses.same c.put_title.ensures.room o in
+    let head : Lists false 255 d m c.args.out.now c.put_title.new.out (title c.args.before.now c.args.number found.name) = record {
+      asked = omega (arith, c.put_title.ensures.uses.asked, c.name_of.ensures.short d.bytes t o.read level found n);
+      written = subst (λ (w : List ℕ). Written false c.args.out.now c.put_title.new.out (title c.args.before.now c.args.number w)) (c.name_of.ensures.name d.bytes t o.read level found n) (c.in_ok-put_title.ensures.told o.honest);
+    } in
+    then_lists (is_err c.put_rows.result) 255 (sum_by (row_cost found.own) c.args.rows.now) d m f c.args.out.now c.put_title.new.out c.put_rows.new.out
+    (title c.args.before.now c.args.number found.name) (rows_lines c.args.facts found.own c.args.rows.now) head (c.put_rows.ensures.told t here level found n keeps)

@@ -24,15 +24,15 @@ returns-clause-found g c = λ t o hs at.
     let found = c.in_ok-set.ensures.found t o hs at in
     let same = c.compared_algos.ensures.uses.same in
     let here = still same refl o in
-    let place = c.args.place in
+    let span = c.args.span in
     record {
-      digests = of_answer c.payload_digests.result _ _ (λ x are. subst (λ (xs : List ℕ). AreDigests x (slice xs place.at place.size)) same.bytes are) (c.payload_digests.ensures.digests here.honest);
+      digests = of_answer c.payload_digests.result _ _ (λ x are. subst (λ (xs : List ℕ). AreDigests x (slice xs span.place span.length)) same.bytes are) (c.payload_digests.ensures.digests here.honest);
       covered = of_answer c.payload_digests.result _ _ (λ x is. subst (λ (s : AlgoSet). AllCovered s hs) (sym (is ∙ found.algos)) (all_covered no_algos hs)) c.payload_digests.ensures.set;
       paid = omega (
         arith,
         found.paid,
         c.payload_digests.ensures.uses.asked,
-        ap (λ (s : AlgoSet). if is_empty s then 0 else place.size) found.algos,
-        read_where_compared hs place.size,
+        ap (λ (s : AlgoSet). if is_empty s then 0 else span.length) found.algos,
+        read_where_compared hs span.length,
       );
     }

@@ -6,7 +6,7 @@ use Rattle.uimg_fit_reading.proofs.report.digests.payload_digests.Goals as goal
 
 pub returns-then-is_empty-clause-digests : goal.returns-then-is_empty-clause-digests
 returns-then-is_empty-clause-digests g c = λ honest.
-    empty_digests c.of.result (slice (g.S.Source.device c.args.source.now).bytes c.args.place.at c.args.place.size)
+    empty_digests c.of.result (slice (g.S.Source.device c.args.source.now).bytes c.args.span.place c.args.span.length)
     (ap is_empty c.of.ensures.set ∙ sym c.is_empty.ensures ∙ c.if-is_empty.true) (c.of.ensures.digests [] c.sums-sums.ensures)
 
 pub returns-clause-digests : goal.returns-clause-digests

@@ -21,7 +21,7 @@ returns-clause-told g c = λ t o hs at.
     let found = c.in-Ok.ensures.found t o hs at in
     let same = c.compared_digests.ensures.uses.same in
     let here = still same c.compared_digests.ensures.room o in
-    let message = slice (d c.args.source.now).bytes c.args.place.at c.args.place.size in
+    let message = slice (d c.args.source.now).bytes c.args.span.place c.args.span.length in
     let put = subst (λ (xs : List ℕ). PutsHashes (slice xs image.place image.length) message image.length hs (d c.compared_digests.new.source).asked (d c.put_hashes.new.source).asked c.put_hashes.result c.args.out.now c.put_hashes.new.out) same.bytes
     (c.put_hashes.ensures.told t here hs at message found.digests found.covered) in
     record {

@@ -1,6 +1,6 @@
 use Rattle.std.proofs.Common.{sym, ◌∙◌, ap, length}
 use Rattle.std.specs.Prelude.{Bool, if◌then◌else◌}
-use Rattle.uimg_fit_base.specs.declared.words.Word.TheVariants.{Right, Wrong}
+use Rattle.uimg_fit_base.specs.declared.verdicts.Verdict.TheVariants.{Right, Wrong}
 use Rattle.uimg_fit_base.specs.AlgoSets.{set_of}
 use Rattle.uimg_fit_reading.proofs.PlanLaws.{compared_word, covered_algo}
 use Rattle.uimg_fit_reading.proofs.report.plans.judged.Goals as goal

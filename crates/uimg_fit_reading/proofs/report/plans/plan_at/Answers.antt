@@ -2,7 +2,7 @@ use Rattle.std.proofs.Common.{subst, sym, ap, ◌∙◌}
 use Rattle.std.specs.Prelude.{◌≡◌, List, ℕ, Option, IfOk, length}
 use Rattle.std.specs.Option.{option_map}
 use Rattle.uimg_texts.specs.Nul.{text}
-use Rattle.uimg_blob.specs.declared.texts.Span.{Span}
+use Rattle.uimg_base.specs.declared.spans.Span.{Span}
 use Rattle.uimg_blob.specs.Roles.{in_image}
 use Rattle.uimg_fit_reading.specs.declared.report.plans.Plan.{Plan}
 use Rattle.uimg_fit_base.specs.Files.{bytes_in}

@@ -8,6 +8,7 @@ use crate::command::Command;
 use clap::error::ErrorKind;
 use clap::{Arg, ArgAction, ArgMatches};
 use complaints::complaint;
+use help_notes::PROGRAM_NOTES;
 pub use mkimage::MakeRequest;
 use std::alloc::{AllocError, Global};
 use thiserror::Error;
@@ -129,6 +130,7 @@ fn without_matches<'a>(alloc: Global, error: clap::Error) -> Result<Request<'a>,
 fn commands<'a>(alloc: Global) -> Result<clap::Command<'a>, AllocError> {
     clap::Command::new(alloc, "uimg")
         .about("Makes, lists, verifies and unpacks U-Boot images")
+        .after_help(PROGRAM_NOTES)
         .version("0.1.0")
         .subcommand_required(true)
         .arg_required_else_help(true)

@@ -3,7 +3,7 @@ use Rattle.uimg_base.specs.Writing.{Writes}
 use Rattle.uimg_tree.specs.Encoding.{word}
 use Rattle.uimg_tree.specs.Pieces.{begin_bytes}
 use Rattle.uimg_tree.proofs.PaddingLaws.{name-padded}
-use Rattle.uimg_tree.proofs.words.put_begin_node.Goals as goal
+use Rattle.uimg_tree.proofs.tokens.put_begin_node.Goals as goal
 
 pub returns : goal.returns
 returns g c =

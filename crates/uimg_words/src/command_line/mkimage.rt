@@ -4,7 +4,7 @@ ghost use Rattle.uimg_words.specs.Commands.{HasFitNames, has_fit_names_prop};
 
 use super::help_notes::MKIMAGE_NOTES;
 use super::{Request, RunRequest, WordsFault, flag, image, value};
-use crate::command::{Action, Command, Form};
+use crate::command::{Action, Command, Format};
 use crate::make_command::MakeCommand;
 use crate::number_words::{decimal, hexadecimal};
 use clap::ArgMatches;
@@ -113,7 +113,7 @@ pub(super) fn request<'a>(
         return Ok(Request::Run(RunRequest {
             command: Command {
                 action: Action::List,
-                form: Form::Guess,
+                format: Format::Guess,
             },
             image,
             outfile: None,

@@ -1,12 +1,12 @@
 use super::help_notes::VERIFY_NOTES;
 use super::{RunRequest, image};
-use crate::command::{Action, Command, Form};
+use crate::command::{Action, Command, Format};
 use clap::ArgMatches;
 use std::alloc::{AllocError, Global};
 
 pub(super) fn command<'a>(alloc: Global) -> Result<clap::Command<'a>, AllocError> {
     clap::Command::new(alloc, "verify")
-        .about("Check every checksum of an image, and report each")
+        .about("Check the checksums and hashes of an image, and report each")
         .after_help(VERIFY_NOTES)
         .arg(image(alloc, "The image"))
 }
@@ -15,7 +15,7 @@ pub(super) fn request<'a>(matches: &ArgMatches<'a>) -> RunRequest<'a> {
     RunRequest {
         command: Command {
             action: Action::Verify,
-            form: Form::Guess,
+            format: Format::Guess,
         },
         image: matches.get_str("image").unwrap_or(""),
         outfile: None,

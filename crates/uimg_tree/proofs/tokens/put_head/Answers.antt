@@ -1,7 +1,7 @@
 use Rattle.std.proofs.Common.{◌≡◌, ◌++◌, is_err, ℕ, List, [], refl, subst}
 use Rattle.uimg_base.specs.Writing.{Writes}
 use Rattle.uimg_tree.specs.Pieces.{head_bytes}
-use Rattle.uimg_tree.proofs.words.put_head.Goals as goal
+use Rattle.uimg_tree.proofs.tokens.put_head.Goals as goal
 
 pub returns : goal.returns
 returns g c =

@@ -1,9 +1,9 @@
 ghost use Rattle.std.specs.Prelude.{◌≡◌};
 ghost use Rattle.uimg_fit_base.specs.Report.{word_text, is_right};
 
-/// What is said of a hash node.
+/// What is said of a hash node, by a word of its line.
 #[derive(Clone, Copy, Debug, PartialEq, Eq)]
-pub enum Word {
+pub enum Verdict {
     /// A value or a name is missing, or the value has another length than a digest.
     Malformed,
     /// The algorithm is unknown.
@@ -15,23 +15,23 @@ pub enum Word {
 }
 
 /// The text of a word.
-pub fn word_text(word: Word) -> &'static str
+pub fn word_text(word: Verdict) -> &'static str
     ensures { result.now ≡ word_text word }
 {
     match word {
-        Word::Malformed => "malformed",
-        Word::Unsupported => "unsupported",
-        Word::Right => "ok",
-        Word::Wrong => "bad",
+        Verdict::Malformed => "malformed",
+        Verdict::Unsupported => "unsupported",
+        Verdict::Right => "ok",
+        Verdict::Wrong => "bad",
     }
 }
 
 /// Whether a word says that a hash is right.
-pub fn is_right(word: Word) -> bool
+pub fn is_right(word: Verdict) -> bool
     ensures { result ≡ is_right word }
 {
     match word {
-        Word::Right => true,
+        Verdict::Right => true,
         _ => false,
     }
 }

@@ -2,7 +2,7 @@ use Rattle.std.proofs.Common.{◌≡◌, ◌++◌, is_err, ℕ, length, take, re
 use Rattle.uimg_base.specs.Writing.{Writes}
 use Rattle.uimg_tree.specs.Pieces.{head_bytes, padding}
 use Rattle.uimg_tree.proofs.PaddingLaws.{zeros-first}
-use Rattle.uimg_tree.proofs.words.put_whole.Goals as goal
+use Rattle.uimg_tree.proofs.tokens.put_whole.Goals as goal
 
 pub returns : goal.returns
 returns g c =

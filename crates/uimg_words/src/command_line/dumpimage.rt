@@ -1,6 +1,6 @@
 use super::help_notes::DUMPIMAGE_NOTES;
 use super::{RunRequest, WordsFault, flag, image, value};
-use crate::command::{Action, Command, Form};
+use crate::command::{Action, Command, Format};
 use crate::number_words::decimal;
 use clap::ArgMatches;
 use std::alloc::{AllocError, Global};
@@ -38,9 +38,9 @@ pub(super) fn request<'a>(matches: &ArgMatches<'a>) -> Result<RunRequest<'a>, Wo
     if !list && outfile.is_none() {
         return Err(WordsFault::NoListOrOutfile);
     }
-    let form = match matches.get_str("type") {
-        Some(name) => form_named(name)?,
-        None => Form::Guess,
+    let format = match matches.get_str("type") {
+        Some(name) => format_named(name)?,
+        None => Format::Guess,
     };
     let action = if list {
         Action::List
@@ -48,17 +48,17 @@ pub(super) fn request<'a>(matches: &ArgMatches<'a>) -> Result<RunRequest<'a>, Wo
         Action::Extract(position(matches.get_str("position"))?)
     };
     Ok(RunRequest {
-        command: Command { action, form },
+        command: Command { action, format },
         image: matches.get_str("image").unwrap_or(""),
         outfile: if list { None } else { outfile },
     })
 }
 
 // The format of an image type's short name.
-fn form_named(name: &str) -> Result<Form, WordsFault> {
+fn format_named(name: &str) -> Result<Format, WordsFault> {
     match kind_code(name.as_bytes()) {
-        Some(FLAT_DT) => Ok(Form::Fit),
-        Some(_) => Ok(Form::Legacy),
+        Some(FLAT_DT) => Ok(Format::Fit),
+        Some(_) => Ok(Format::Legacy),
         None => Err(WordsFault::UnknownName),
     }
 }

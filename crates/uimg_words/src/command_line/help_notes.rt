@@ -1,4 +1,9 @@
-//! What stands below the options in the help of each command.
+//! What stands below the options in the help of the program and of each command.
+
+/// The notes of the program.
+pub(super) const PROGRAM_NOTES: &str = "Examples:
+  uimg dumpimage -l kernel.itb
+  uimg mkimage --help";
 
 /// The notes of mkimage.
 pub(super) const MKIMAGE_NOTES: &str = "Short names:
@@ -22,7 +27,7 @@ Examples:
 Exit status:
   0  The image was made, or listed
   1  The image, a part or the image source is refused
-  2  The command line is wrong
+  2  The command line is wrong, or the image is one of the files it is made of
   3  A file cannot be opened, or a read, a write or memory failed";
 
 /// The notes of dumpimage.
@@ -41,7 +46,7 @@ Examples:
 Exit status:
   0  The image was listed, or the part extracted
   1  The image or the part is refused
-  2  The command line is wrong
+  2  The command line is wrong, or the outfile is the image
   3  A file cannot be opened, or a read, a write or memory failed";
 
 /// The notes of verify.
@@ -50,14 +55,14 @@ pub(super) const VERIFY_NOTES: &str =
 table of sizes of the types multi and script is not checked: dumpimage -l reads
 it. Of a FIT image each hash node of each image is reported on: ok, bad,
 malformed or unsupported. An image without hash nodes is unhashed. Signatures
-are not checked.
+and the hashes of configurations are not checked.
 
 Examples:
   uimg verify uImage
   uimg verify kernel.itb && cp kernel.itb /boot
 
 Exit status:
-  0  All checksums are right
-  1  A checksum is not right, or the image is refused
+  0  Each line ends with ok or unhashed, or there is none
+  1  A line ends with another word, or the image is refused
   2  The command line is wrong
   3  A file cannot be opened, or a read, a write or memory failed";

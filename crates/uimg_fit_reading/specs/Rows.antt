@@ -1,0 +1,84 @@
+-- The lines of images, hash nodes and configurations, as rows of tables.
+use Rattle.std.specs.Prelude.{ℕ, List, [], ◌∷◌, ◌++◌, take, replicate, decimal, Bool, true, Option, Some, None, codes, length}
+use Rattle.std.specs.List.{flat_map}
+use Rattle.std.specs.Option.{option_map_or}
+use Rattle.uimg_base.specs.Outcome.{line}
+use Rattle.uimg_blob.specs.Indexed.{keeps}
+use Rattle.uimg_blob.specs.Keys.{name_of}
+use Rattle.uimg_blob.specs.declared.keys.Key.TheVariants.{Description, Kind, Arch, Os, Compression, Load, Entry, Algo, Value, Kernel, Ramdisk, Fdt, Loadables}
+use Rattle.uimg_blob.specs.Roles.{Level, role_at}
+use Rattle.uimg_blob.specs.Plain.{NamedOf}
+use Rattle.uimg_blob.specs.Spots.{Spot}
+use Rattle.uimg_fit_base.specs.Files.{bytes_of}
+use Rattle.uimg_fit_reading.specs.declared.listing.rows.Facts.{Facts}
+use Rattle.uimg_fit_reading.specs.declared.listing.rows.Row.{Row}
+use Rattle.uimg_fit_reading.specs.declared.listing.rows.Row.TheVariants.{Property, Time, Size}
+use Rattle.uimg_fit_reading.specs.declared.listing.shows.Show.TheVariants.{Text, Name, Address, Hexadecimal, List as AList}
+use Rattle.uimg_fit_reading.specs.declared.listing.shows.Table.TheVariants.{Kinds, Compressions, Architectures, Systems}
+use Rattle.uimg_fit_reading.specs.Shows.{shown, weight, time_line, size_line}
+
+-- a label, padded with blanks to 16 bytes
+abbrev pub label : List ℕ → List ℕ
+label text = take 16 (text ++ replicate 16 32)
+
+-- which property of an image stands under which label, and how it is shown
+abbrev pub image_rows : List Row
+image_rows =
+    Property Description (label (codes "  Description:")) Text
+    ∷ Time (label (codes "  Created:"))
+    ∷ Property Kind (label (codes "  Type:")) (Name Kinds)
+    ∷ Property Compression (label (codes "  Compression:")) (Name Compressions)
+    ∷ Size (label (codes "  Data Size:"))
+    ∷ Property Arch (label (codes "  Architecture:")) (Name Architectures)
+    ∷ Property Os (label (codes "  OS:")) (Name Systems)
+    ∷ Property Load (label (codes "  Load Address:")) Address
+    ∷ Property Entry (label (codes "  Entry Point:")) Address
+    ∷ []
+
+-- the same of a hash node
+abbrev pub hash_rows : List Row
+hash_rows = Property Algo (label (codes "  Hash algo:")) Text ∷ Property Value (label (codes "  Hash value:")) Hexadecimal ∷ []
+
+-- the same of a configuration
+abbrev pub configuration_rows : List Row
+configuration_rows =
+    Property Description (label (codes "  Description:")) Text
+    ∷ Property Kernel (label (codes "  Kernel:")) Text
+    ∷ Property Ramdisk (label (codes "  Init Ramdisk:")) Text
+    ∷ Property Fdt (label (codes "  FDT:")) AList
+    ∷ Property Loadables (label (codes "  Loadables:")) AList
+    ∷ []
+
+-- the lines of a row, for a node of these properties
+abbrev pub row_lines : Facts → List (NamedOf Spot) → Row → List ℕ
+row_lines facts own (Property key label show) = shown show label (bytes_of own (name_of key))
+row_lines facts own (Time label) = time_line label facts.time
+row_lines facts own (Size label) = size_line label facts.size
+
+-- the lines of rows
+unfoldable pub rows_lines : Facts → List (NamedOf Spot) → List Row → List ℕ
+rows_lines facts own rows = flat_map (row_lines facts own) rows
+
+-- a node that shows nothing but its properties
+abbrev pub no_facts : Facts
+no_facts = record { time = None; size = None }
+
+-- ` <Kind> <i> (<name>)`, where what stands before the number is given
+abbrev pub title : List ℕ → ℕ → List ℕ → List ℕ
+title before i name = line (before ++ (decimal i ++ (codes " (" ++ (name ++ codes ")"))))
+
+-- the most bytes of a row's value that are asked for
+abbrev pub row_cost : List (NamedOf Spot) → Row → ℕ
+row_cost own (Property key label show) = weight show (bytes_of own (name_of key))
+row_cost own (Time label) = 0
+row_cost own (Size label) = 0
+
+-- whether the property of a row is kept of a node of a name at a level
+abbrev pub keeps_row : Level → List ℕ → Row → Bool
+keeps_row level name (Property key label show) = keeps (role_at level name) key
+keeps_row level name (Time label) = true
+keeps_row level name (Size label) = true
+
+-- how many bytes a value has, none where it is missing
+abbrev pub size_of : List (NamedOf Spot) → List ℕ → ℕ
+size_of own key = option_map_or (λ v. length v) (bytes_of own key) 0
