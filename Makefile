@@ -5,7 +5,7 @@ PREFIX ?= /usr/local
 IMAGE ?= examples/abc-kernel.img
 export RT
 
-.PHONY: all demo try check test install peers bench clean help
+.PHONY: all demo try check test install deb peers bench clean help
 .NOTPARALLEL:
 
 ## make          proves what the program stands on, and builds bin/uimg
@@ -36,10 +36,17 @@ test:
 	@rm -rf out/lanes
 	@python3 scripts/gate.py
 
-## make install  puts the program and its manual page below PREFIX, which is /usr/local
+## make install  puts the program, its manual page and completions below PREFIX, which is /usr/local
 install: bin/uimg
 	install -D -m 755 bin/uimg $(DESTDIR)$(PREFIX)/bin/uimg
 	install -D -m 644 docs/uimg.1 $(DESTDIR)$(PREFIX)/share/man/man1/uimg.1
+	install -D -m 644 completions/uimg.bash $(DESTDIR)$(PREFIX)/share/bash-completion/completions/uimg
+	install -D -m 644 completions/_uimg $(DESTDIR)$(PREFIX)/share/zsh/site-functions/_uimg
+	install -D -m 644 completions/uimg.fish $(DESTDIR)$(PREFIX)/share/fish/vendor_completions.d/uimg.fish
+
+## make deb      packs the same, with documents and examples, as a Debian package
+deb: bin/uimg
+	@scripts/deb.sh
 
 ## make peers    compares it with the real mkimage, dumpimage and dtc, where they are installed
 peers: bin/uimg bin/uimg_peers

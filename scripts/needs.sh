@@ -4,10 +4,11 @@ for command; do
     case $command in
         rt) what="the Rattle kit: put its bin folder, which has rt, on the PATH" command=${RT:-rt} ;;
         python3) what="python3: install it, for the kit's rt and the scripts of peers and bench" ;;
+        dh | dpkg-buildpackage | lintian) what="$command: apt install debhelper dpkg-dev lintian" ;;
         *) what="$command: install it" ;;
     esac
     command -v "${command%% *}" > /dev/null || {
-        echo "uimg needs $what (see README.md, \"What it needs\")" >&2
+        echo "uimg needs $what (see README.md, \"Install\")" >&2
         exit 1
     }
 done

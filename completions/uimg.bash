@@ -1,0 +1,37 @@
+# Made by scripts/completions.py from the helps of uimg.
+_uimg() {
+    local current=${COMP_WORDS[COMP_CWORD]} previous=${COMP_WORDS[COMP_CWORD - 1]}
+    if test "$COMP_CWORD" = 1; then
+        COMPREPLY=($(compgen -W 'mkimage dumpimage verify --help --version' -- "$current"))
+        return
+    fi
+    case "${COMP_WORDS[1]}" in
+        mkimage)
+            case "$previous" in
+                -A) COMPREPLY=($(compgen -W 'arm x86 mips mips64 ppc powerpc sandbox arm64 x86_64 riscv' -- "$current")); return ;;
+                -O) COMPREPLY=($(compgen -W 'netbsd linux vxworks qnx u-boot rtems plan9 arm-trusted-firmware tee opensbi efi' -- "$current")); return ;;
+                -T) COMPREPLY=($(compgen -W 'standalone kernel ramdisk multi firmware script filesystem flat_dt kernel_noload' -- "$current")); return ;;
+                -C) COMPREPLY=($(compgen -W 'none gzip bzip2 lzma lzo lz4 zstd' -- "$current")); return ;;
+                -a) return ;;
+                -e) return ;;
+                -n) return ;;
+                -p) return ;;
+            esac
+            test "${current#-}" = "$current" || { COMPREPLY=($(compgen -W '-A -O -T -C -a -e -n -d -f -E -p -l -h' -- "$current")); return; }
+            ;;
+        dumpimage)
+            case "$previous" in
+                -T) COMPREPLY=($(compgen -W 'standalone kernel ramdisk multi firmware script filesystem flat_dt kernel_noload' -- "$current")); return ;;
+                -p) return ;;
+            esac
+            test "${current#-}" = "$current" || { COMPREPLY=($(compgen -W '-l -T -p -o -h' -- "$current")); return; }
+            ;;
+        verify)
+            case "$previous" in
+            esac
+            test "${current#-}" = "$current" || { COMPREPLY=($(compgen -W '-h' -- "$current")); return; }
+            ;;
+    esac
+    compopt -o default
+}
+complete -F _uimg uimg

@@ -1,0 +1,18 @@
+#!/bin/sh
+# scripts/deb.sh: packs bin/uimg, its manual page, completions, documents and examples as a Debian package, which it
+# leaves as out/uimg_VERSION_amd64.deb, and looks at it with lintian.
+scripts/needs.sh dpkg-buildpackage dh lintian || exit 1
+room=$(mktemp -d) || exit 1
+trap 'rm -rf "$room"' EXIT
+mkdir "$room/uimg" && cp -r debian bin docs examples completions README.md SECURITY.md CHANGELOG.md "$room/uimg" || exit 1
+log=$PWD/out/deb.log
+mkdir -p out
+(cd "$room/uimg" && dpkg-buildpackage -b -us -uc) > "$log" 2>&1 || {
+    tail -n 12 "$log" >&2
+    echo "uimg: no package was made; the log is out/deb.log" >&2
+    exit 1
+}
+rm -f out/uimg_*.deb
+cp "$room"/uimg_*.deb out/ || exit 1
+lintian --fail-on error out/uimg_*.deb || exit 1
+ls out/uimg_*.deb
