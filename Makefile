@@ -53,10 +53,13 @@ peers: bin/uimg bin/uimg_peers
 	@scripts/needs.sh python3
 	python3 peers/peers.py bin/uimg bin/uimg_peers
 
-## make bench    times the program beside dumpimage, mkimage, cat and cp
+## make bench    times the program beside dumpimage, mkimage, cat and cp; with python3-matplotlib it draws bench/chart.svg
 bench: bin/uimg
 	@scripts/needs.sh python3
-	python3 bench/bench.py bin/uimg
+	@mkdir -p out
+	python3 bench/bench.py bin/uimg | tee out/bench.txt
+	@for python in python3 /usr/bin/python3; do $$python bench/chart.py out/bench.txt bench/chart.svg 2> /dev/null && exit; done; \
+	echo "no chart was drawn: apt install python3-matplotlib"
 
 ## make clean    removes all that was built, and what the prover kept
 clean:
