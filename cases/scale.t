@@ -1,0 +1,84 @@
+Sources and images of some size
+===============================
+
+  $ SOURCE_DATE_EPOCH=0
+  $ export SOURCE_DATE_EPOCH
+  $ repeat() { yes "$2" | head -n "$1" | tr -d '\n'; }
+
+A source's files are looked for in its folder, also above it:
+
+  $ mkdir -p a/b && printf near > a/b/payload.bin && printf above > a/payload.bin && printf here > payload.bin
+  $ cat > a/b/k.its <<'END'
+  > /dts-v1/; / { images {
+  >     near { data = /incbin/("payload.bin"); };
+  >     above { data = /incbin/("../payload.bin"); };
+  >     both { data = /incbin/("payload.bin"), /incbin/("../payload.bin"); };
+  > }; };
+  > END
+  $ uimg mkimage -f a/b/k.its k.itb > listing
+  $ for i in 0 1 2; do uimg dumpimage -p $i -o out k.itb && cat out && echo; done
+  near
+  above
+  nearabove
+
+The format that -T names is the one that is read:
+
+  $ uimg dumpimage -T kernel -o out k.itb
+  uimg: L2 bad magic
+  [1]
+  $ wc -c < out
+  0
+  $ printf abc > abc.bin && uimg mkimage -d abc.bin uImage > listing
+  $ uimg dumpimage -T flat_dt -o out uImage
+  uimg: B2 bad magic at 0
+  [1]
+
+A source of more than 64 KiB, of 300 images; the last has 20 hash nodes and a description of 5000 bytes:
+
+  $ text=$(repeat 500 0123456789)
+  $ { echo '/dts-v1/; / { images {'
+  >   for i in $(seq 0 298); do echo "    image-$i { description = \"$(repeat 20 0123456789)\"; data = \"$i\"; hash { algo = \"sha256\"; }; };"; done
+  >   echo "    last { description = \"$text\"; data = /incbin/(\"abc.bin\");"
+  >   for i in $(seq 20); do echo "        hash-$i { algo = \"sha256\"; };"; done
+  >   echo '}; }; };'; } > large.its
+  $ test $(wc -c < large.its) -gt 65536
+  $ uimg mkimage -f large.its large.itb > listing
+  $ grep -c '^ Image ' listing
+  300
+  $ grep -c "^  Description:  $text\$" listing
+  1
+  $ uimg verify large.itb | sort | uniq -c | sort -rn | head -n 1 | tr -s ' '
+   1 last hash-9 sha256 ok
+  $ uimg verify large.itb | grep -c 'sha256 ok$'
+  319
+  $ uimg dumpimage -p 299 -o out large.itb && cmp out abc.bin
+  $ grep -c "^  Hash value:   $(sha256sum < abc.bin | cut -d ' ' -f 1)\$" listing
+  20
+  $ uimg dumpimage -p 298 -o out large.itb && od -An -c out | tr -d ' '
+  298\0
+
+60 levels of nodes, and a payload whose name has 3000 bytes:
+
+  $ folder=$(repeat 199 f)
+  $ long=$(for i in $(seq 15); do printf %s/ "$folder"; done)
+  $ mkdir -p "$long" && cp abc.bin "$long" && printf %s "${long}abc.bin" | wc -c
+  3007
+  $ { echo "/dts-v1/; / { images { k { data = /incbin/(\"${long}abc.bin\"); hash { algo = \"crc32\"; }; }; };"
+  >   repeat 60 'n { '; repeat 60 '}; '; echo '};'; } > deep.its
+  $ uimg mkimage -f deep.its deep.itb > listing
+  $ uimg verify deep.itb
+  k hash crc32 ok
+  $ uimg dumpimage -o out deep.itb && cmp out abc.bin
+  $ { echo '/dts-v1/; /'; repeat 65 '{ n '; repeat 65 '}; '; } > deeper.its
+  $ uimg mkimage -f deeper.its none.itb
+  uimg: I3 out of profile: depth at line 2
+  [1]
+
+A file of the source that cannot be read to its end is told as one (those of sysfs have fewer bytes than their size):
+
+  $ echo '/dts-v1/; / { images { k { data = "x", /incbin/("/sys/kernel/mm/transparent_hugepage/enabled"); }; }; };' > short.its
+  $ if test -r /sys/kernel/mm/transparent_hugepage/enabled; then uimg mkimage -f short.its none.itb 2>&1; echo "status $?"; else echo 'uimg: I6 read failed at line 1'; echo 'status 3'; fi
+  uimg: I6 read failed at line 1
+  status 3
+  $ test -e none.itb
+  [1]
