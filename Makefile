@@ -39,6 +39,7 @@ test:
 ## make install  puts the program, its manual page and completions below PREFIX, which is /usr/local
 install: bin/uimg
 	install -D -m 755 bin/uimg $(DESTDIR)$(PREFIX)/bin/uimg
+	install -m 755 wrappers/uimg-mkimage wrappers/uimg-dumpimage $(DESTDIR)$(PREFIX)/bin
 	install -D -m 644 docs/uimg.1 $(DESTDIR)$(PREFIX)/share/man/man1/uimg.1
 	install -D -m 644 completions/uimg.bash $(DESTDIR)$(PREFIX)/share/bash-completion/completions/uimg
 	install -D -m 644 completions/_uimg $(DESTDIR)$(PREFIX)/share/zsh/site-functions/_uimg

@@ -4,7 +4,7 @@
 scripts/needs.sh dpkg-buildpackage dh lintian || exit 1
 room=$(mktemp -d) || exit 1
 trap 'rm -rf "$room"' EXIT
-mkdir "$room/uimg" && cp -r debian bin docs examples completions README.md SECURITY.md CHANGELOG.md "$room/uimg" || exit 1
+mkdir "$room/uimg" && cp -r debian bin wrappers docs examples completions README.md SECURITY.md CHANGELOG.md "$room/uimg" || exit 1
 log=$PWD/out/deb.log
 mkdir -p out
 (cd "$room/uimg" && dpkg-buildpackage -b -us -uc) > "$log" 2>&1 || {

@@ -1,3 +1,5 @@
+//! The program: words, streams and the clock of the operating system are handed to `program`.
+
 // The program uimg, which is a function of uimg_tool.
 #![tactic(auto)]
 

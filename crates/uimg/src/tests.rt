@@ -1,3 +1,5 @@
+//! The time of an image: by the clock, or by SOURCE_DATE_EPOCH.
+
 use crate::{epoch, now};
 use std::env::{Env, FillError};
 use std::io;

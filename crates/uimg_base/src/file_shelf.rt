@@ -1,3 +1,5 @@
+//! A shelf that is a file on a disk, which is made at the first write.
+
 ghost use Rattle.std.specs.Prelude.{◌≡◌, [], false, IfSome, IsSome, OnOk};
 ghost use Rattle.std.specs.Io.{WritesAtMost};
 ghost use Rattle.std.specs.Io.Buffered.{writer_buffer, writer_contents};

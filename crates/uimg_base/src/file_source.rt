@@ -1,3 +1,5 @@
+//! A file on a disk as a source.
+
 ghost use Rattle.std.specs.Prelude.{◌^◌, ◌<◌, false, IfOk};
 ghost use Rattle.std.proofs.Common.{rules};
 ghost use Rattle.uimg_base.specs.Device.{IsFresh};

@@ -1,3 +1,5 @@
+//! Files that are opened by their names.
+
 ghost use Rattle.std.specs.Prelude.{◌≡◌, ◌≤◌, ◌+◌, None, OnErr, IfOk, IsTrue, is_err};
 ghost use Rattle.uimg_base.specs.Device.{RisesIf};
 ghost use Rattle.uimg_base.specs.Named.{FileMap, SameFiles, Opens};

@@ -1,3 +1,5 @@
+//! Files that refuse an open, or open a source that fails, for tests.
+
 ghost use Rattle.std.specs.Prelude.{◌≡◌, false};
 
 use crate::files::Files;

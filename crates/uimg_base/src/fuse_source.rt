@@ -1,3 +1,5 @@
+//! A source that fails from some call on, for tests.
+
 ghost use Rattle.std.proofs.Common.{rules};
 ghost use Rattle.std.specs.Prelude.{◌≡◌, ◌-◌, ◌==◌};
 

@@ -1,3 +1,5 @@
+//! A writer that takes so many bytes and then fails, for tests.
+
 ghost use Rattle.std.specs.Prelude.{◌≡◌};
 
 use std::io;

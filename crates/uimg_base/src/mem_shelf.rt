@@ -1,3 +1,5 @@
+//! A shelf in memory.
+
 ghost use Rattle.std.specs.Prelude.{◌≡◌, ◌^◌, ◌<◌, [], true, Some, length, IsOk, IfOk, IfErr, IsTrue};
 ghost use Rattle.std.specs.Io.{WritesAtMost};
 ghost use Rattle.std.specs.Io.KnownBytes.{Keeps, WriteAppends};

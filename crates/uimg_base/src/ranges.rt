@@ -1,3 +1,5 @@
+//! Ranges of a source, copied to an output or fed to a sum, a window at a time.
+
 ghost use Rattle.std.specs.Prelude.{◌≡◌, ℕ, ◌+◌, ◌≤◌, List, ◌++◌, length, IsTrue, OnOk, OnErr, IfOk, is_err};
 ghost use Rattle.uimg_base.specs.Device.{RisesIf, asked_more};
 ghost use Rattle.uimg_texts.specs.Slices.{slice};

@@ -1,3 +1,5 @@
+//! A file is read at any offset, small pieces of it through windows that are read ahead.
+
 ghost use Rattle.std.specs.Prelude.{◌≡◌, ◌≤◌, ◌+◌, length, is_err, true, Some, IfOk, IfSome, IsTrue, OnOk};
 ghost use Rattle.uimg_base.specs.Device.{RisesIf, asked_more};
 ghost use Rattle.uimg_base.specs.Ahead.{AreAhead};

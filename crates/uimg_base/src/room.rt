@@ -1,3 +1,5 @@
+//! All the memory that an engine takes: a window, and a list of entries.
+
 ghost use Rattle.std.specs.Prelude.{◌≡◌, ◌+◌, ◌-◌, ◌^◌, ◌<◌, min, max, [], ◌∷◌, ◌++◌, length, is_ok, is_err, if◌then◌else◌, Some, slice_get, slice_set};
 ghost use Rattle.uimg_base.specs.Device.{RisesIf};
 ghost use Rattle.uimg_base.specs.Held.{held_bytes};

@@ -1,3 +1,5 @@
+//! A file that is read from where it stands, and moved.
+
 ghost use Rattle.std.specs.Prelude.{◌≡◌, pos, None, Some, Option, IfSome, OnOk};
 ghost use Rattle.std.specs.Io.{ReadsAtMost};
 ghost use Rattle.std.specs.Io.Cursor.{cursor_inner, cursor_position};

@@ -1,3 +1,5 @@
+//! What is written to, and then kept as a source.
+
 ghost use Rattle.std.specs.Prelude.{◌≡◌, Bool, false, Some, IsOk, IfOk, IsTrue};
 ghost use Rattle.uimg_base.specs.Device.{IsFresh};
 

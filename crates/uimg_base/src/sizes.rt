@@ -1,3 +1,5 @@
+//! The text of a size, written.
+
 ghost use Rattle.std.specs.Prelude.{is_err};
 ghost use Rattle.uimg_base.specs.Writing.{Writes};
 ghost use Rattle.uimg_texts.specs.Sizes.{size_text};

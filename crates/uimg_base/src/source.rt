@@ -1,3 +1,5 @@
+//! A device with a fixed list of bytes, read at any offset, and a slice as one.
+
 ghost use Rattle.std.specs.Prelude.{◌≡◌, ℕ, ◌+◌, ◌^◌, ◌<◌, ◌≤◌, List, Bool, true, false, length, IsTrue, OnOk, IfOk, is_err};
 ghost use Rattle.std.proofs.Common.{refl};
 ghost use Rattle.uimg_base.specs.Device.{Device, RisesIf, SameDevice, asked_more};

@@ -1,3 +1,5 @@
+//! Where bytes stand in a file.
+
 /// Where some bytes stand in a file.
 #[derive(Clone, Copy, Debug, PartialEq, Eq)]
 pub struct Span {

@@ -1,3 +1,5 @@
+//! How a command ends that is not refused.
+
 /// How a command ended that no fault stopped.
 #[derive(Clone, Copy, Debug, PartialEq, Eq)]
 pub enum Status {

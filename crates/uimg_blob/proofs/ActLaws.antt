@@ -33,6 +33,7 @@ begin_does s more size label old new at added goes = record {
   ahead = λ end stands. (omega (arith, at), omega (arith, at, stands.1));
   room = added;
   no_read = refl;
+  no_making = refl;
 }
 
 -- a node ends
@@ -47,6 +48,7 @@ end_does s more old new at same goes = record {
   ahead = λ end stands. (omega (arith, at), omega (arith, at, stands));
   room = same;
   no_read = refl;
+  no_making = refl;
 }
 
 -- the innermost node has a property
@@ -63,6 +65,7 @@ property_does s more size key old new at same goes = record {
   ahead = λ end stands. (omega (arith, at), omega (arith, at, stands));
   room = same;
   no_read = refl;
+  no_making = refl;
 }
 
 pub was_entered : {X E : Type 0} (r : Result X E) (entry : List ℕ) (old new : Held) → is_ok r ≡ true → Enters (is_ok r) (is_err r) entry old new

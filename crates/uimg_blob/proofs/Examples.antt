@@ -1,16 +1,23 @@
 -- Definitions tried on worked cases.
-use Rattle.std.specs.Prelude.{◌≡◌, ℕ, List, [], ◌∷◌, ◌++◌, refl, Ok, Err, Some, None, map, codes}
+use Rattle.std.proofs.Common.{sym}
+use Rattle.std.specs.Prelude.{◌≡◌, ℕ, List, [], ◌∷◌, ◌++◌, refl, Ok, Err, Some, None, map, replicate, codes}
 use Rattle.uimg_blob.specs.declared.fault.BlobFault.TheVariants.{BadNesting}
+use Rattle.uimg_blob.specs.declared.fault.IndexFault.TheVariants.{Blob}
 use Rattle.uimg_blob.specs.declared.keys.Key.TheVariants as key
 use Rattle.uimg_blob.specs.declared.roles.Role.TheVariants as role
 use Rattle.uimg_texts.specs.Numbers.{be32}
 use Rattle.uimg_texts.specs.Nul.{before_nul}
-use Rattle.uimg_blob.specs.Tokens.{tokens_from, token_at}
+use Rattle.uimg_blob.specs.Tokens.{tokens_from, token_at, begin_node, end_node, prop, last}
 use Rattle.uimg_blob.specs.Grammar.{Siblings, none, node, root, properties, children, without_nops}
 use Rattle.uimg_blob.specs.Blob.{tree, blocks, up_to}
 use Rattle.uimg_blob.specs.Counts.{nodes_met, nops_met, meta, before}
 use Rattle.uimg_blob.specs.Keys.{key_named}
 use Rattle.uimg_blob.specs.Rows.{rows, table}
+use Rattle.uimg_blob.specs.Walk.{opened}
+use Rattle.uimg_blob.specs.Kept.{kept, span_word}
+use Rattle.uimg_blob.specs.SoFar.{so_far, next_level, count}
+use Rattle.uimg_blob.specs.Passes.{inside, IsSoFar}
+use Rattle.uimg_blob.proofs.PhaseLaws.{true_false}
 
 -- a blob of 112 bytes: the root with the properties v and e
 abbrev header : List ℕ
@@ -52,6 +59,20 @@ late = header
 late-tree : tree late ≡ Err (BadNesting, 76)
 unfolding tree blocks tokens_from token_at before_nul root properties children without_nops be32
 late-tree = refl
+
+-- its entries so far: the root has no end yet, its child ends before the node of number 2
+late-entries : IsSoFar (blocks late) (Blob BadNesting 76) ((span_word 60 0 ∷ 0 ∷ 0 ∷ 0 ∷ replicate 12 0) ∷ (span_word 68 1 ∷ 1 ∷ 2 ∷ 6 ∷ replicate 12 0) ∷ [])
+unfolding blocks tokens_from token_at before_nul be32 so_far next_level count kept
+late-entries = record {
+  taken = begin_node 56 (Ok []) ∷ begin_node 64 (Ok (97 ∷ [])) ∷ end_node 72 ∷ [];
+  token = prop 76 (Ok (record { name = 101 ∷ []; place = 88; value = [] }));
+  more = end_node 88 ∷ last 92 ∷ [];
+  all = refl;
+  phase = inside (opened 56 [] [] (node 64 (97 ∷ []) [] none none) ∷ []);
+  reached = refl;
+  entries = refl;
+  refused = ((λ known. refl), (λ refused. absurd (true_false (sym refused))));
+}
 
 -- the same with a token without meaning in the property's place
 abbrev accepted : List ℕ

@@ -1,5 +1,5 @@
 -- One step of a pass, and its end.
-use Rattle.std.proofs.Common.{append_assoc, append-nil, map, ◌++◌, ◌∷◌, ◌≡◌, ◌<◌, ◌≤◌, ◌+◌, ◌-◌, ℕ, zero, suc, List, [], Option, Some, None, Result, Ok, Err, Bool, false, IsTrue, refl, ap, sym, ◌∙◌, subst, length, arith}
+use Rattle.std.proofs.Common.{append_assoc, append-nil, map, ◌++◌, ◌∷◌, ◌≡◌, ◌<◌, ◌≤◌, ◌+◌, ◌-◌, ℕ, zero, suc, List, [], Option, Some, None, Result, Ok, Err, Bool, false, IsTrue, IfErr, refl, ap, sym, ◌∙◌, subst, length, arith}
 use Rattle.uimg_blob.specs.declared.fault.IndexFault.{IndexFault}
 use Rattle.uimg_blob.specs.declared.fault.IndexFault.TheVariants.{Blob, Read}
 use Rattle.uimg_blob.specs.declared.states.State.{State}
@@ -14,7 +14,7 @@ use Rattle.uimg_blob.specs.Tokens.{Token, Blocks, token_at, tokens_from, tokens,
 use Rattle.uimg_blob.specs.Grammar.{Siblings, root, without_nops}
 use Rattle.uimg_blob.specs.Walk.{as_node, begun}
 use Rattle.uimg_blob.specs.SoFar.{so_far}
-use Rattle.uimg_blob.specs.Passes.{Phase, inside, left, Step, stop, step, then_left, Steps, Indexes, Pass}
+use Rattle.uimg_blob.specs.Passes.{Phase, inside, left, Step, on, stop, step, then_left, then_step, in_turn, Steps, Indexes, Pass, StopsAt, IsSoFar}
 use Rattle.std.specs.List.{sum_by}
 use Rattle.uimg_blob.specs.Blob.{met_in, met_from, met}
 use Rattle.uimg_blob.specs.Counts.{weight, begun_by, index_cost, nodes_met}
@@ -76,6 +76,40 @@ prefix_err {X = X} honest b whole s es new (Blob fault at) k base asked pass is 
     ))
 prefix_err {X = X} honest b whole s es new Read k base asked pass is steps sure = subst (λ (q : Result X IndexFault). IsPrefix (tokens b) q new) (sym is) tt
 
+turn_more : (x : Step) (ts : List Token) (t : Token) → in_turn x (ts ++ t ∷ []) ≡ then_step (in_turn x ts) t
+turn_more x [] t = refl
+turn_more x (k ∷ ts) t = turn_more (then_step x k) ts t
+
+-- the pass stops where it is, with a fault
+pub stops_at : (honest : Bool) (b : Blocks) (whole : Result Siblings Fault) (s : State) (es new : List (List ℕ)) (e : IndexFault) (base asked : ℕ) (pass : Pass honest b whole s es base asked)
+    → Steps honest b pass.phase s.at (Err e) es new → IsTrue honest → StopsAt (tokens b) e new
+stops_at honest b whole s es new (Blob fault at) base asked pass steps sure =
+    let r = pass.rest sure in
+    let f = by_fuel b whole pass.phase s.at steps.token (steps.is sure) r.fuel r.enough r.is in
+    record {
+      taken = r.taken;
+      token = steps.token;
+      more = tokens_from f.0 b (next steps.token);
+      all = r.all ∙ ap (λ (ts : List Token). r.taken ++ ts) f.3;
+      phase = pass.phase;
+      reached = r.reached;
+      entries = steps.acts.0 ∙ pass.holds.entries;
+      refused = (steps.acts.1, steps.refuses);
+    }
+stops_at honest b whole s es new Read base asked pass steps sure =
+    let r = pass.rest sure in
+    let f = by_fuel b whole pass.phase s.at steps.token (steps.is sure) r.fuel r.enough r.is in
+    record {
+      taken = r.taken;
+      token = steps.token;
+      more = tokens_from f.0 b (next steps.token);
+      all = r.all ∙ ap (λ (ts : List Token). r.taken ++ ts) f.3;
+      phase = pass.phase;
+      reached = r.reached;
+      entries = steps.acts ∙ pass.holds.entries;
+      refused = tt;
+    }
+
 -- a step goes on
 pub goes_on : (honest : Bool) (b : Blocks) (whole : Result Siblings Fault) (s more : State) (es new : List (List ℕ)) (base asked now : ℕ) (pass : Pass honest b whole s es base asked)
     → Steps honest b pass.phase s.at (Ok (Some more)) es new → s.at + 4 ≤ more.at → more.at < b.structure_end + 4
@@ -93,6 +127,10 @@ goes_on honest b whole s more es new base asked now pass steps ahead near paid =
       record {
         fuel = f.0;
         enough = omega (arith, f.1, ahead, near);
+        taken = r.taken ++ t ∷ [];
+        all = r.all ∙ ap (λ (ts : List Token). r.taken ++ ts) (f.3 ∙ ap (λ (ts : List Token). t ∷ ts) there)
+            ∙ sym (append_assoc r.taken (t ∷ []) (tokens_from f.0 b (Some more.at)));
+        reached = turn_more (on (inside [])) r.taken t ∙ ap (λ (x : Step). then_step x t) r.reached ∙ steps.acts.1;
         is = f.2 ∙ ap (λ (x : Step). then_left x (tokens_from f.0 b (next t))) steps.acts.1 ∙ ap (left steps.acts.0) there;
         costs = omega (
           arith,
@@ -188,6 +226,9 @@ begins honest b at base es empty start = record {
   rest = λ sure. record {
     fuel = suc (b.structure_end - b.structure);
     enough = omega (arith, start);
+    taken = [];
+    all = ap (λ (k : ℕ). tokens_from (suc (b.structure_end - b.structure)) b (Some k)) (sym start);
+    reached = refl;
     is = ap (λ (k : ℕ). begun (tokens_from (suc (b.structure_end - b.structure)) b (Some k))) (sym start);
     costs = omega (arith, ap (λ (k : ℕ). sum_from weight (begun (tokens b)) (tokens_from (suc (b.structure_end - b.structure)) b (Some k))) start);
     places = ap (λ (k : ℕ). begin_places (tokens_from (suc (b.structure_end - b.structure)) b (Some k))) (sym start);
@@ -280,3 +321,34 @@ prefix_header {X = X} ts (Blob fault at) r k es is was none_refused =
     subst (λ (q : Result X IndexFault). IsPrefix ts q es) (sym is)
     (λ refused. absurd (true_false (sym refused ∙ sym (ap is_out_of_memory was) ∙ none_refused)))
 prefix_header {X = X} ts Read r k es is was none_refused = subst (λ (q : Result X IndexFault). IsPrefix ts q es) (sym is) tt
+
+-- no token was taken where a read of the header failed
+none_taken : (h : Result Blocks Fault) (es : List (List ℕ)) → es ≡ [] → IsSoFar h Read es
+unfolding so_far tokens_from
+none_taken (Err e) es empty = empty
+none_taken (Ok b) es empty = record {
+  taken = [];
+  token = token_at b b.structure;
+  more = tokens_from (b.structure_end - b.structure) b (next (token_at b b.structure));
+  all = refl;
+  phase = inside [];
+  reached = refl;
+  entries = empty;
+  refused = tt;
+}
+
+-- a header that is not read leaves no entries
+pub so_far_header : {X : Type 0} (file : List ℕ) (e : IndexFault) (r : Result X IndexFault) (es : List (List ℕ)) → r ≡ Err e → GivesBlocks file (Err e) → es ≡ []
+    → IfErr r (λ f. IsSoFar (blocks file) f es)
+so_far_header {X = X} file (Blob fault at) r es is gives empty =
+    subst (λ (q : Result X IndexFault). IfErr q (λ f. IsSoFar (blocks file) f es)) (sym is) (subst (λ (h : Result Blocks Fault). IsSoFar h (Blob fault at) es) (sym gives) empty)
+so_far_header {X = X} file Read r es is gives empty =
+    subst (λ (q : Result X IndexFault). IfErr q (λ f. IsSoFar (blocks file) f es)) (sym is) (none_taken (blocks file) es empty)
+
+-- a pass that stops leaves the entries so far
+pub so_far_file : {X : Type 0} (d e : Device) (x : Extent) (f : IndexFault) (r : Result X IndexFault) (es : List (List ℕ)) → SameDevice d e
+    → (IsTrue d.honest → GivesBlocks d.bytes (Ok x)) → r ≡ Err f → (IsTrue e.honest → StopsAt (tokens (blocks_of e.bytes x)) f es) → IsTrue d.honest → IfErr r (λ g. IsSoFar (blocks d.bytes) g es)
+so_far_file {X = X} d e x f r es same header is given sure =
+    subst (λ (q : Result X IndexFault). IfErr q (λ g. IsSoFar (blocks d.bytes) g es)) (sym is)
+    (subst (λ (h : Result Blocks Fault). IsSoFar h f es) (sym (header sure).0)
+    (subst (λ (bytes : List ℕ). StopsAt (tokens (blocks_of bytes x)) f es) same.bytes (given (subst (λ (b : Bool). IsTrue b) (sym same.honest) sure))))

@@ -1,5 +1,5 @@
 -- What a pass does at a token, and what it leaves of source and room.
-use Rattle.std.specs.Prelude.{◌≡◌, ◌+◌, ◌*◌, ◌<◌, ◌≤◌, ℕ, List, length, Option, Result, Ok, Err, IfOk, IfSome, Bool, true, false, IsTrue}
+use Rattle.std.specs.Prelude.{◌≡◌, ◌+◌, ◌*◌, ◌<◌, ◌≤◌, ℕ, List, length, Option, Result, Ok, Err, IfOk, IfErr, IfSome, Bool, true, false, IsTrue}
 use Rattle.uimg_base.specs.Device.{Device}
 use Rattle.uimg_base.specs.Held.{Held, AddsOne, Grows}
 use Rattle.uimg_base.specs.Using.{Uses, UsesAtMost}
@@ -8,12 +8,12 @@ use Rattle.uimg_blob.specs.declared.extent.Extent.{Extent}
 use Rattle.uimg_blob.specs.declared.states.State.{State}
 use Rattle.uimg_blob.specs.declared.tokens.ReadToken.{ReadToken}
 use Rattle.uimg_blob.specs.declared.tokens.ReadToken.TheVariants.{BeginNode, BadBeginNode, EndNode, Prop, BadProp, Nop, End, Stray}
-use Rattle.uimg_blob.specs.Faults.{is_read, is_out_of_memory}
+use Rattle.uimg_blob.specs.Faults.{is_read, is_out_of_memory, is_of_making}
 use Rattle.uimg_blob.specs.Extents.{blocks_of}
 use Rattle.uimg_blob.specs.Tokens.{Token, token_at, tokens, next}
 use Rattle.uimg_blob.specs.Walk.{begun}
 use Rattle.uimg_blob.specs.ReadTokens.{IsReadAs, Stands, cost}
-use Rattle.uimg_blob.specs.Passes.{Phase, Holds, step, is_done, Goes, Refuses, Steps, Indexes, Passed, Within, IsPrefix}
+use Rattle.uimg_blob.specs.Passes.{Phase, Holds, step, is_done, Goes, Refuses, Steps, Indexes, Passed, Within, IsPrefix, StopsAt}
 
 -- The innermost node has an entry, and no entry takes fewer than eight bytes of those before the state's place.
 pub record Suits (s : State) (es : List (List ℕ)) : Type 0 where
@@ -45,21 +45,25 @@ pub record Does (token : ReadToken) (s : State) (result : Result State IndexFaul
   pub ahead : (end : ℕ) → Stands end s.at token → IfOk result (λ n. (s.at + 4 ≤ n.at) × (n.at < end + 4))
   pub room : AddsOne (adds_entry token result) (is_out_of_memory result) old new
   pub no_read : is_read result ≡ false
+  pub no_making : is_of_making result ≡ false
 
 -- At most a token's cost was asked for, the room grew by no more than its entries, and the answer is what the token does.
 pub record TakesStep (x : Extent) (s : State) (result : Result (Option State) IndexFault) (d e : Device) (h k : Held) : Type 0 where
   pub uses : UsesAtMost (cost (token_at (blocks_of d.bytes x) s.at)) (is_read result) d e
   pub room : Grows (is_out_of_memory result) h k
   pub steps : (p : Phase) → Holds p s h.entries → Steps d.honest (blocks_of d.bytes x) p s.at result h.entries k.entries
+  pub no_making : is_of_making result ≡ false
   pub ahead : IfOk result (λ r. IfSome r (λ n. (s.at + 4 ≤ n.at) × (n.at < x.structure_end + 4)))
 
 -- The same of all tokens: what was asked for and kept is within their count, and the answer is their tree or first fault. The
--- entries are a tree's, or where memory was refused, those of the nodes before it.
+-- entries are a tree's, or those so far, which where memory was refused are of the nodes before it.
 pub record GoesOver (x : Extent) (result : Result State IndexFault) (d e : Device) (h k : Held) : Type 0 where
   pub uses : Uses (is_read result) d e
   pub room : Grows (is_out_of_memory result) h k
+  pub no_making : is_of_making result ≡ false
   pub few : 8 * length k.entries ≤ x.structure_end + 4
   pub within : IsTrue d.honest → Within (blocks_of d.bytes x) (begun (tokens (blocks_of d.bytes x))) d.asked e.asked k.entries
   pub prefix : IsTrue d.honest → IsPrefix (tokens (blocks_of d.bytes x)) result k.entries
+  pub stops : IsTrue d.honest → IfErr result (λ fault. StopsAt (tokens (blocks_of d.bytes x)) fault k.entries)
   pub passed : IfOk result (λ s. Passed d.honest (blocks_of d.bytes x) s k.entries)
   pub indexes : IsTrue d.honest → Indexes (begun (tokens (blocks_of d.bytes x))) result k.entries

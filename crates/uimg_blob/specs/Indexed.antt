@@ -1,5 +1,5 @@
 -- What an index leaves: a room's entries and a blob that are those of a tree.
-use Rattle.std.specs.Prelude.{◌≡◌, ◌^◌, ◌<◌, ◌≤◌, ◌+◌, ℕ, List, length, map, Option, Some, None, Result, Ok, IsTrue, max, Bool, if◌then◌else◌}
+use Rattle.std.specs.Prelude.{◌≡◌, ◌^◌, ◌<◌, ◌≤◌, ◌+◌, ℕ, List, length, map, Option, Some, None, Result, Ok, IfErr, IsTrue, max, Bool, if◌then◌else◌}
 use Rattle.std.specs.List.{AllByRecursion, slice_get}
 use Rattle.std.specs.Option.{is_some}
 use Rattle.uimg_base.specs.Device.{Device}
@@ -18,7 +18,7 @@ use Rattle.uimg_blob.specs.LookUps.{first}
 use Rattle.uimg_blob.specs.Spots.{Spot, spot_of}
 use Rattle.uimg_blob.specs.Keys.{name_of}
 use Rattle.uimg_blob.specs.Kept.{kept_of, entries, slot, LiesIn}
-use Rattle.uimg_blob.specs.Passes.{Indexes, IsPrefix, tokens_in}
+use Rattle.uimg_blob.specs.Passes.{Indexes, IsPrefix, IsSoFar, tokens_in}
 
 -- The entries are those of a tree, the blob has the numbers of its `images` and `configurations`, and all names and values end
 -- within the blob's total size.
@@ -69,6 +69,10 @@ IndexesTree d result es = IsTrue d.honest → Indexes (tree d.bytes) result es
 -- Over an honest device, where memory was refused, the entries are those of the nodes before the one that is told.
 abbrev pub LeavesPrefix : {X : Type 0} → Device → Result X IndexFault → List (List ℕ) → Type 0
 LeavesPrefix d result es = IsTrue d.honest → IsPrefix (tokens_in (blocks d.bytes)) result es
+
+-- Over an honest device a refusal leaves the entries so far.
+abbrev pub LeavesSoFar : {X : Type 0} → Device → Result X IndexFault → List (List ℕ) → Type 0
+LeavesSoFar d result es = IsTrue d.honest → IfErr result (λ fault. IsSoFar (blocks d.bytes) fault es)
 
 -- where a node's name stands: behind the word that begins the node
 abbrev pub name_span : Row → Span

@@ -97,6 +97,16 @@ step p (nop at) = on p
 step p (last at) = last_in p at
 step p (stray at fault) = stop (Err (fault, at))
 
+-- a step, and then a token's where it goes on
+abbrev pub then_step : Step → Token → Step
+then_step (on p) t = step p t
+then_step (stop r) t = stop r
+
+-- a step, and then some tokens' in turn
+abbrev pub in_turn : Step → List Token → Step
+in_turn x [] = x
+in_turn x (t ∷ ts) = in_turn (then_step x t) ts
+
 -- what a step and the tokens after it give
 abbrev pub then_left : Step → List Token → Result Siblings Fault
 then_left (on p) ts = left p ts
@@ -226,10 +236,14 @@ Indexes whole (Err Read) es = ⊤
 abbrev pub sum_from : (Token → ℕ) → Result Siblings Fault → List Token → ℕ
 sum_from f whole ts = sum_by f (met_in whole ts)
 
--- What the tokens from a place on give is what all give; what was asked for and will be, is what all tokens are counted for.
+-- The tokens before a place were taken, in turn from the beginning. What those from it on give is what all give; what was asked
+-- for and will be, is what all tokens are counted for.
 pub record Rest (b : Blocks) (whole : Result Siblings Fault) (p : Phase) (at base asked nodes : ℕ) : Type 0 where
   pub fuel : ℕ
   pub enough : b.structure_end - at < fuel
+  pub taken : List Token
+  pub all : tokens b ≡ taken ++ tokens_from fuel b (Some at)
+  pub reached : in_turn (on (inside [])) taken ≡ on p
   pub is : whole ≡ left p (tokens_from fuel b (Some at))
   pub costs : asked + 4 * length (stack p) + sum_from weight whole (tokens_from fuel b (Some at)) ≤ base + sum_from weight whole (tokens b)
   pub places : begin_places (tokens b) ≡ map (λ k. k.at) (nodes_at p) ++ begin_places (tokens_from fuel b (Some at))
@@ -258,6 +272,29 @@ IsPrefix ts (Ok x) es = ⊤
 IsPrefix ts (Err (Blob fault at)) es = refuses_memory fault ≡ true
     → (ks : List Kept) × (es ≡ map entry_of ks) × (more : List ℕ) × (begin_places ts ≡ map (λ k. k.at) ks ++ at ∷ more)
 IsPrefix ts (Err Read) es = ⊤
+
+-- A token is refused in a phase: it stops with the fault, or memory was refused for the node that it begins at the fault's
+-- place. A read may fail at any token.
+abbrev pub IsRefused : Phase → Token → IndexFault → Type 0
+IsRefused p t (Blob fault at) = (refuses_memory fault ≡ false → step p t ≡ stop (Err (fault, at)))
+    × (refuses_memory fault ≡ true → begin_place t ≡ at ∷ [])
+IsRefused p t Read = ⊤
+
+-- All tokens before one went on, in turn from the beginning, and the entries are those so far; that one was refused.
+pub record StopsAt (ts : List Token) (fault : IndexFault) (es : List (List ℕ)) : Type 0 where
+  pub taken : List Token
+  pub token : Token
+  pub more : List Token
+  pub all : ts ≡ taken ++ token ∷ more
+  pub phase : Phase
+  pub reached : in_turn (on (inside [])) taken ≡ on phase
+  pub entries : es ≡ entries_at phase
+  pub refused : IsRefused phase token fault
+
+-- A fault leaves the entries so far: none where the header is refused.
+abbrev pub IsSoFar : Result Blocks Fault → IndexFault → List (List ℕ) → Type 0
+IsSoFar (Ok b) fault es = StopsAt (tokens b) fault es
+IsSoFar (Err e) fault es = es ≡ []
 
 -- The entries and numbers are those of a tree within the blocks; over an honest source that is the tree of the tokens.
 pub record Passed (honest : Bool) (b : Blocks) (s : State) (es : List (List ℕ)) : Type 0 where

@@ -10,7 +10,8 @@ use Rattle.uimg_blob.specs.declared.labels.Label.{Label}
 use Rattle.uimg_blob.specs.declared.tokens.ReadToken.{ReadToken}
 use Rattle.uimg_blob.specs.declared.tokens.ReadToken.TheVariants.{BeginNode, BadBeginNode, EndNode, Prop, BadProp, Nop, End, Stray}
 use Rattle.uimg_blob.specs.Keys.{key_named}
-use Rattle.uimg_blob.specs.Faults.{refuses_memory}
+use Rattle.uimg_blob.specs.declared.fault.BlobFault.{BlobFault}
+use Rattle.uimg_blob.specs.Faults.{refuses_memory, is_too_large}
 use Rattle.uimg_blob.specs.Labels.{label_of}
 use Rattle.uimg_blob.specs.Extents.{blocks_of}
 use Rattle.uimg_blob.specs.Tokens.{Token, Property, begin_node, end_node, prop, nop, last, stray, token_at}
@@ -67,16 +68,21 @@ pub record HasName (size : ℕ) (label : Label) : Type 0 where
   pub sized : size ≡ length name
   pub labelled : label ≡ label_of name
 
--- What was found is what some token is found as, whatever the source said; a fault is not want of memory.
+-- The fault of a token is not want of memory, and not one of building a blob.
+pub record IsOfToken (fault : BlobFault) : Type 0 where
+  pub no_memory : refuses_memory fault ≡ false
+  pub no_making : is_too_large fault ≡ false
+
+-- What was found is what some token is found as, whatever the source said; a fault is one of a token.
 abbrev pub IsSound : ReadToken → Type 0
 IsSound (BeginNode size label) = HasName size label
-IsSound (BadBeginNode fault) = refuses_memory fault ≡ false
+IsSound (BadBeginNode fault) = IsOfToken fault
 IsSound EndNode = ⊤
 IsSound (Prop size key) = ⊤
-IsSound (BadProp fault) = refuses_memory fault ≡ false
+IsSound (BadProp fault) = IsOfToken fault
 IsSound Nop = ⊤
 IsSound End = ⊤
-IsSound (Stray fault) = refuses_memory fault ≡ false
+IsSound (Stray fault) = IsOfToken fault
 
 -- At most so many bytes were asked for, and what an honest device answers is so of its bytes.
 pub record Answers {X : Type 0} (most : ℕ) (result : Result X SourceFault) (P : List ℕ → X → Type 0) (d e : Device) : Type 0 where

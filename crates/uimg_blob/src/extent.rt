@@ -2,7 +2,7 @@
 
 ghost use Rattle.std.specs.Prelude.{◌≡◌, ℕ, ◌+◌, ◌≤◌, List, length, false, IsTrue, IfOk};
 ghost use Rattle.uimg_blob.specs.Extents.{IsInside, HeadsFile, GivesBlocks};
-ghost use Rattle.uimg_blob.specs.Faults.{is_read, is_out_of_memory};
+ghost use Rattle.uimg_blob.specs.Faults.{is_read, is_out_of_memory, is_of_making};
 ghost use Rattle.uimg_base.specs.Using.{Asks};
 
 use crate::fault::{BlobFault, IndexFault};
@@ -35,6 +35,7 @@ fn extent_in(bytes: &[u8; 40], size: u64) -> Result<Extent, IndexFault>
     requires { 40 ≤ size }
     ensures no_read { is_read result ≡ false }
     ensures no_memory { is_out_of_memory result ≡ false }
+    ensures no_making { is_of_making result ≡ false }
     ensures gives { (file : List ℕ) → HeadsFile bytes.now file → size ≡ length file →
         GivesBlocks file result }
     ensures inside { IfOk result (λ extent. IsInside extent size) }
@@ -80,6 +81,7 @@ fn extent_in(bytes: &[u8; 40], size: u64) -> Result<Extent, IndexFault>
 pub(crate) fn read_extent<S: Source>(source: &mut S) -> Result<Extent, IndexFault>
     ensures uses { Asks 40 (is_read result) (S.device source.old) (S.device source.new) }
     ensures no_memory { is_out_of_memory result ≡ false }
+    ensures no_making { is_of_making result ≡ false }
     ensures gives { IsTrue (S.device source.old).honest →
         GivesBlocks (S.device source.old).bytes result }
     ensures inside { IfOk result (λ extent. IsInside extent (length (S.device source.old).bytes)) }

@@ -1,13 +1,13 @@
 //! The pass over the tokens that gives each node an entry.
 
-ghost use Rattle.std.specs.Prelude.{◌≡◌, [], ◌+◌, ◌*◌, ◌^◌, ◌<◌, ◌≤◌, max, length, IfOk, IsTrue};
+ghost use Rattle.std.specs.Prelude.{◌≡◌, [], ◌+◌, ◌*◌, ◌^◌, ◌<◌, ◌≤◌, max, length, IfOk, IsTrue, false};
 ghost use Rattle.uimg_base.specs.Device.{RisesIf};
 ghost use Rattle.uimg_base.specs.Using.{Uses};
 ghost use Rattle.uimg_texts.specs.Numbers.{be32};
 ghost use Rattle.uimg_blob.specs.Counts.{index_cost, nodes_met};
 ghost use Rattle.uimg_blob.specs.Extents.{IsInside};
-ghost use Rattle.uimg_blob.specs.Faults.{is_read, is_out_of_memory};
-ghost use Rattle.uimg_blob.specs.Indexed.{Finds, AsksWithin, KeepsWithin, TakesWithin, IndexesTree, LeavesPrefix};
+ghost use Rattle.uimg_blob.specs.Faults.{is_read, is_out_of_memory, is_of_making};
+ghost use Rattle.uimg_blob.specs.Indexed.{Finds, AsksWithin, KeepsWithin, TakesWithin, IndexesTree, LeavesPrefix, LeavesSoFar};
 ghost use Rattle.uimg_blob.specs.Acting.{Suits, TakesStep, GoesOver};
 
 use crate::extent::{Extent, read_extent};
@@ -67,10 +67,14 @@ fn pass<S: Source, A: Allocator>(
 /// The first fault in the order of the bytes is told, with its offset from the file's start: those of
 /// the header (`TooShort`, `BadMagic`, `BadVersion`, `BlockOutside`), and then of the tokens
 /// (`BadToken`, `Truncated`, `BadNodeName`, `BadNesting`, `BadPropertyName`). `OutOfMemory` comes
-/// exactly where the room refused to grow, at the node that it had no entry for; the entries are then
-/// those of the nodes before it. `Read` comes exactly where a read failed. No value is read: an honest
-/// source is asked for at most 44 bytes, 264 for each node that was met, 268 for each property and 4
-/// for each NOP.
+/// exactly where the room refused to grow, at the node that it had no entry for. `Read` comes exactly
+/// where a read failed. `TooLarge`, which is only of building a blob, never comes.
+///
+/// After a refusal the entries are those of the nodes met before it, each with what was met of it; after
+/// a refused header there are none.
+///
+/// No value is read: an honest source is asked for at most 44 bytes, 264 for each node that was met,
+/// 268 for each property and 4 for each NOP.
 pub fn index<S: Source, A: Allocator>(
     source: &mut S,
     room: &mut Room<A>,
@@ -83,6 +87,8 @@ pub fn index<S: Source, A: Allocator>(
     ensures most { room.new.peak ≤ max room.old.peak
         (8320 + 16 * length (S.device source.old).bytes) }
     ensures prefix { LeavesPrefix (S.device source.old) result room.new.entries }
+    ensures so_far { LeavesSoFar (S.device source.old) result room.new.entries }
+    ensures no_making { is_of_making result ≡ false }
     ensures found { IfOk result (λ blob. Finds (S.device source.old) blob room.new.entries) }
     ensures indexes { IndexesTree (S.device source.old) result room.new.entries }
     ensures totalsize { IsTrue (S.device source.old).honest →

@@ -1,3 +1,5 @@
+//! The tables of cases, by what they are about.
+
 mod folders;
 mod growths;
 mod images;

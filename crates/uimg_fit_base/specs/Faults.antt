@@ -5,12 +5,13 @@ use Rattle.uimg_base.specs.declared.status.Status.{Status}
 use Rattle.uimg_base.specs.declared.status.Status.TheVariants.{Done, NotRight}
 use Rattle.uimg_base.specs.declared.ranges.MoveFault.{MoveFault}
 use Rattle.uimg_base.specs.declared.ranges.MoveFault.TheVariants as move
-use Rattle.uimg_blob.specs.Faults.{refuses_memory}
+use Rattle.uimg_blob.specs.Faults.{refuses_memory, is_too_large}
 use Rattle.uimg_blob.specs.declared.fault.IndexFault.{IndexFault}
 use Rattle.uimg_blob.specs.declared.fault.IndexFault.TheVariants as index
 use Rattle.uimg_fit_base.specs.declared.fault.Fault.{Fault}
 use Rattle.uimg_fit_base.specs.declared.fault.Fault.TheVariants.{Blob, Fit, Read, Put}
-use Rattle.uimg_fit_base.specs.declared.fault.FitFault.TheVariants.{NoFile}
+use Rattle.uimg_fit_base.specs.declared.fault.FitFault.{FitFault}
+use Rattle.uimg_fit_base.specs.declared.fault.FitFault.TheVariants.{UnknownAlgo, PositionTooLow, TooLarge, OutOfMemory, NoFile, ReadFailed}
 use Rattle.uimg_tree.specs.declared.fault.TreeFault.{TreeFault}
 use Rattle.uimg_tree.specs.declared.fault.TreeFault.TheVariants as tree
 
@@ -44,6 +45,22 @@ is_put _ = false
 abbrev pub is_out_of_memory : {X : Type 0} → Result X Fault → Bool
 is_out_of_memory (Err (Blob fault at)) = refuses_memory fault
 is_out_of_memory _ = false
+
+-- the fault is of a tree that is filled or built, or of its files
+abbrev pub of_making : FitFault → Bool
+of_making UnknownAlgo = true
+of_making PositionTooLow = true
+of_making TooLarge = true
+of_making OutOfMemory = true
+of_making NoFile = true
+of_making ReadFailed = true
+of_making _ = false
+
+-- the answer is such a fault, or that of a blob that is made
+abbrev pub is_of_making : {X : Type 0} → Result X Fault → Bool
+is_of_making (Err (Blob fault at)) = is_too_large fault
+is_of_making (Err (Fit fault)) = of_making fault
+is_of_making _ = false
 
 -- an end, or none where memory was refused
 abbrev pub unless_memory : Bool → End Fault → Option (End Fault)

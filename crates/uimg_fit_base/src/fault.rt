@@ -1,3 +1,5 @@
+//! What is wrong with a FIT image, and why a command on one stopped.
+
 use thiserror::Error;
 use uimg_base::{MoveFault, PutFault, SourceFault};
 use uimg_blob::{BlobFault, IndexFault};

@@ -1,3 +1,5 @@
+//! A payload is fed to several sums in one pass.
+
 ghost use Rattle.std.specs.Prelude.{◌≡◌, ℕ, ◌+◌, ◌≤◌, List, [], ◌++◌, length, Some, slice_get, IsTrue, OnOk, is_err};
 ghost use Rattle.uimg_sums.specs.Algorithms.{digest_by};
 ghost use Rattle.uimg_sums.specs.AnySum.{padded_digest};

@@ -1,3 +1,5 @@
+//! Where the payloads of an image that is built stand.
+
 /// Where the payloads of a FIT image that is built stand.
 #[derive(Clone, Copy, Debug, PartialEq, Eq)]
 pub enum Placement {

@@ -1,3 +1,5 @@
+//! What a report says of a hash node.
+
 ghost use Rattle.std.specs.Prelude.{◌≡◌};
 ghost use Rattle.uimg_fit_base.specs.Report.{word_text, is_right};
 

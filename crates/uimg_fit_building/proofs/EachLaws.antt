@@ -44,3 +44,19 @@ module _ {X Y : Type 0} (v : X → Y) (f : Y → Y) where
   pub changed-all : (old now : List X) (i : ℕ) → length old ≤ i → length now ≤ i → ChangedTo old now i → map v now ≡ map f (map v old)
   changed-all old now i all_old all_now c =
       ap (map v) (sym (take_all i now all_now)) ∙ c.done ∙ ap (λ (l : List X). map f (map v l)) (take_all i old all_old)
+
+module _ {X Y : Type 0} (v w : X → Y) where
+  -- So many elements of a list are, seen by one function, what those of another are, seen by another.
+  abbrev pub AgreeTo : List X → List X → ℕ → Type 0
+  AgreeTo old now i = map v (take i now) ≡ map w (take i old)
+
+  pub agree-more : (old now : List X) (i : ℕ) (d n : X) → i < length old → i < length now → AgreeTo old now i → v n ≡ w (get_or old i d) → AgreeTo old (set now i n) (i + 1)
+  agree-more old now i d n in_old in_now agree is =
+      ap (map v) (take_more_set now i n in_now) ∙ map-append v (take i now) (n ∷ [])
+      ∙ ap (λ (l : List Y). l ++ v n ∷ []) agree ∙ ap (λ (y : Y). map w (take i old) ++ y ∷ []) is
+      ∙ sym (map-append w (take i old) (get_or old i d ∷ []))
+      ∙ ap (map w) (sym (take_more old i d in_old))
+
+  pub agree-all : (old now : List X) (i : ℕ) → length old ≤ i → length now ≤ i → AgreeTo old now i → map v now ≡ map w old
+  agree-all old now i all_old all_now agree =
+      ap (map v) (sym (take_all i now all_now)) ∙ agree ∙ ap (map w) (take_all i old all_old)

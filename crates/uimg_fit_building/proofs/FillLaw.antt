@@ -15,38 +15,7 @@ use Rattle.uimg_blob.specs.LookUps.{NodeOf, listed, first, images, hashes}
 use Rattle.uimg_fit_building.specs.Filling.{with, external_names, without_external, each, algo_in, hashed, filled_image, filled, IsDigest, IsFilledImage, IsFilled}
 use Rattle.uimg_fit_building.specs.Refusing.{image_fault, first_fault, fault_of, fill_from, fill_of}
 use Rattle.uimg_fit_building.proofs.MovedLaws.{node_in, find-in_first}
-
--- the value that is set is found
-found-step : (b : Bool) (key value : List ℕ) (p : Named) (own moved : List Named) → b ≡ bytes_eq key p.name → first moved key ≡ Some value
-    → first (if b then record { name = key; value = value } ∷ own else p ∷ moved) key ≡ Some value
-found-step true key value p own moved e h = rw ((bytes_eq-Decides key key).1 refl) refl
-found-step false key value p own moved e h = rw (sym e) h
-
-first-set : (key value : List ℕ) (own : List Named) → first (with key value own) key ≡ Some value
-unfolding with
-first-set key value [] = rw ((bytes_eq-Decides key key).1 refl) refl
-first-set key value (p ∷ own) = found-step (bytes_eq key p.name) key value p own (with key value own) refl (first-set key value own)
-
--- another value stays
-value-step : (b : Bool) (p q : Named) (found others : Option Named) → (b ≡ true → p.value ≡ q.value) → option_map (λ (r : Named). r.value) found ≡ option_map (λ (r : Named). r.value) others
-    → option_map (λ (r : Named). r.value) (cond b (Some p) found) ≡ option_map (λ (r : Named). r.value) (cond b (Some q) others)
-value-step true p q found others h k = ap (λ (w : List ℕ). let y : Option (List ℕ) = Some w in y) (h refl)
-value-step false p q found others h k = k
-
-kept-step : (b : Bool) (key other value : List ℕ) (p : Named) (own moved : List Named) → b ≡ bytes_eq key p.name → bytes_eq other key ≡ false → first moved other ≡ first own other
-    → first (if b then record { name = key; value = value } ∷ own else p ∷ moved) other ≡ first (p ∷ own) other
-kept-step true key other value p own moved e apart h =
-    let same : key ≡ p.name = (bytes_eq-Decides key p.name).0 (sym e) in
-    let also : bytes_eq other p.name ≡ false = ap (λ (w : List ℕ). bytes_eq other w) (sym same) ∙ apart in
-    rw (apart, also) refl
-kept-step false key other value p own moved e apart h =
-    value-step (bytes_eq other p.name) p p (find (λ q. bytes_eq other q.name) moved) (find (λ q. bytes_eq other q.name) own) (λ s. refl) h
-
-first-other : (key other value : List ℕ) (own : List Named) → bytes_eq other key ≡ false → first (with key value own) other ≡ first own other
-unfolding with
-first-other key other value [] apart = rw apart refl
-first-other key other value (p ∷ own) apart =
-    kept-step (bytes_eq key p.name) key other value p own (with key value own) refl apart (first-other key other value own apart)
+use Rattle.uimg_fit_building.proofs.WithLaws.{first-set, first-other, value-step}
 
 -- a property with another name stays, one with an external name goes
 filter-kept-step : (b c : Bool) (p : Named) (own more : List Named) (key : List ℕ) → c ≡ bytes_eq key p.name → (c ≡ true → b ≡ true) → first more key ≡ first own key

@@ -31,10 +31,10 @@ use Rattle.uimg_fit_building.proofs.LookUpLaws.{NodeHas, first-has, images-has, 
 abbrev pub before : {A : Type 0} → List (Node A) → ℕ
 before ns = prefix_len (λ n. not (bytes_eq (codes "images") n.name)) ns
 
-abbrev is_images : {A : Type 0} → Node A → Bool
+abbrev pub is_images : {A : Type 0} → Node A → Bool
 is_images n = bytes_eq (codes "images") n.name
 
-abbrev with_children : {A : Type 0} → (Unread → Unread) → Node A → Node A
+abbrev pub with_children : {A : Type 0} → (Unread → Unread) → Node A → Node A
 with_children f n = record n { children = f n.children }
 
 -- nodes, the children of that node by a function

@@ -31,7 +31,7 @@ unfolding listed
 listed-siblings [] = refl
 listed-siblings (n ∷ ns) = ap (λ (l : List (NodeOf Content)). entry n ∷ l) (listed-siblings ns)
 
-abbrev joined : List (NodeOf Content) → Unread
+abbrev pub joined : List (NodeOf Content) → Unread
 joined [] = no_node
 joined (n ∷ ns) = a_node n.name n.own n.below (joined ns)
 

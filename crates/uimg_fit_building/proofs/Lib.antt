@@ -17,6 +17,7 @@ pub mod BuildLaws
 pub mod SendLaws
 pub mod AlgoSetLaws
 pub mod SettingLaws
+pub mod WithLaws
 pub mod FilledHashLaws
 pub mod EachLaws
 pub mod ImageFillLaws
@@ -24,3 +25,4 @@ pub mod ImagesFillLaws
 pub mod InMemoryLaws
 pub mod FillTreeLaws
 pub mod FillOrderLaws
+pub mod DigestBytesLaws

@@ -10,4 +10,5 @@ pub mod Placing
 pub mod BuildSteps
 pub mod PayloadSums
 pub mod ImageFillings
+pub mod DigestBytes
 pub mod FillOrder

@@ -1,3 +1,5 @@
+//! Building: the blob of a filled tree is written, and the payloads that stand behind it.
+
 ghost use Rattle.std.specs.Prelude.{◌≡◌, IsTrue, OnOk, false};
 ghost use Rattle.uimg_base.specs.Device.{RisesIf};
 ghost use Rattle.uimg_tree.specs.Content.{AreKept, in_full};

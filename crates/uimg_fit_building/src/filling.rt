@@ -1,17 +1,22 @@
-ghost use Rattle.std.specs.Prelude.{◌≡◌, codes, not, Some, IsTrue, IfOk, IfErr, false};
+//! Filling: the timestamp and the digests of a tree are set.
+
+ghost use Rattle.std.specs.Prelude.{◌≡◌, codes, not, Some, IsTrue, IfOk, IfErr, OnOk, false};
 ghost use Rattle.std.specs.List.{prefix_len, AllByRecursion};
 ghost use Rattle.std.specs.Option.{IfSome};
 ghost use Rattle.std.specs.Str.{bytes_eq};
 ghost use Rattle.uimg_blob.specs.LookUps.{images, listed};
 ghost use Rattle.uimg_tree.specs.Content.{bytes, AreKept, FilesAtData};
 ghost use Rattle.uimg_tree.specs.Encoding.{word};
-ghost use Rattle.uimg_fit_building.specs.Filling.{with};
+ghost use Rattle.uimg_fit_building.specs.Filling.{with, each, in_first};
 ghost use Rattle.uimg_fit_base.specs.declared.fault.FitFault.TheVariants.{OutOfMemory};
 ghost use Rattle.uimg_tree.specs.Trees.{node_of, siblings};
 ghost use Rattle.uimg_tree.specs.UsingFiles.{UsesFiles};
 ghost use Rattle.uimg_fit_building.specs.FillAnswers.{opens_no_file, fails_to_read, FillsAnswer, OpensKept};
 ghost use Rattle.uimg_fit_building.specs.FillOrder.{FillsInOrder};
-ghost use Rattle.uimg_fit_building.specs.ImageFillings.{IsKeptImage, FillsParent, FillsBelow, images_among};
+ghost use Rattle.uimg_fit_building.specs.ImageFillings.{filled_over, IsKeptImage, FillsParent, FillsBelow, images_among};
+ghost use Rattle.uimg_fit_building.specs.PayloadSums.{no_files};
+ghost use Rattle.uimg_fit_building.specs.UnreadTrees.{filled_unread};
+ghost use Rattle.uimg_fit_building.specs.DigestBytes.{zeroed_parent, zeroed_below, zeroed_tree};
 
 mod filled_hashes;
 mod filled_images;
@@ -59,6 +64,8 @@ fn fill_parent<F: Files, A: Allocator + Copy>(
         parent.old parent.new result }
     ensures order { IsTrue (F.map files.old).honest →
         FillsInOrder (F.map files.old) F.Opened.steady (Some (listed parent.old.children)) result }
+    ensures rest { OnOk result (zeroed_parent parent.new
+        ≡ zeroed_parent (record parent.old { children = each (filled_over no_files) parent.old.children })) }
 {
     let nodes = mem::replace(&mut parent.children, Nodes::of(Vec::new(alloc)));
     let mut images = nodes.into_vec();
@@ -81,6 +88,8 @@ fn fill_below<F: Files, A: Allocator + Copy>(
         (siblings nodes.old) (siblings nodes.new) result }
     ensures order { IsTrue (F.map files.old).honest →
         FillsInOrder (F.map files.old) F.Opened.steady (images_among (siblings nodes.old)) result }
+    ensures rest { OnOk result (zeroed_below (siblings nodes.new)
+        ≡ zeroed_below (in_first (codes "images") (each (filled_over no_files)) (siblings nodes.old))) }
 {
     let at = before_images(nodes);
     if at >= nodes.len() {
@@ -96,7 +105,8 @@ fn fill_below<F: Files, A: Allocator + Copy>(
 ///
 /// The caller sees to it that only properties named `data` are files. An image's file is opened once
 /// if the image has hash nodes, and read once through a window of 8192 bytes for all of them; it
-/// stays a file in the tree.
+/// stays a file in the tree. Whatever the files answer, the tree that is given is the source's with
+/// just that changed.
 ///
 /// The first refusal ends it, and the tree is dropped: `NoImages`; then image by image `NoData`,
 /// `UnknownAlgo` of the first hash node whose `algo` is missing or unknown, `NoFile` exactly where the
@@ -126,6 +136,9 @@ pub fn fill<F: Files, A: Allocator + Copy>(
     // only if the file of that image is missing or has another size, whatever the others are.
     ensures order { IsTrue (F.map files.old).honest →
         FillsInOrder (F.map files.old) F.Opened.steady (images (node_of tree.root)) result }
+    // Whatever the files answer: but for the bytes of its digests, the tree is the source's, filled.
+    ensures rest { IfOk result (λ filled. zeroed_tree (node_of filled.root)
+        ≡ zeroed_tree (filled_unread no_files time (node_of tree.root))) }
 {
     let Tree { root } = tree;
     let Node {

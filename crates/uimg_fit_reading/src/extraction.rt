@@ -1,3 +1,5 @@
+//! Extraction: the payload of one image is written.
+
 ghost use Rattle.std.specs.Prelude.{◌≡◌, ◌+◌, ◌≤◌, false, length, IsTrue, IfOk};
 ghost use Rattle.uimg_texts.specs.Slices.{slice};
 ghost use Rattle.uimg_base.specs.Device.{RisesIf};
@@ -5,7 +7,7 @@ ghost use Rattle.uimg_base.specs.Outcome.{Tells};
 ghost use Rattle.uimg_base.specs.Ranges.{ReadsAhead};
 ghost use Rattle.uimg_base.specs.Using.{UsesAtMost};
 ghost use Rattle.uimg_fit_base.specs.Extraction.{payload_at, extract_of};
-ghost use Rattle.uimg_fit_base.specs.Faults.{is_read, is_put, is_out_of_memory, is_refused, end_of, Gives};
+ghost use Rattle.uimg_fit_base.specs.Faults.{is_read, is_put, is_out_of_memory, is_refused, end_of, Gives, is_of_making};
 ghost use Rattle.uimg_fit_reading.specs.Rooms.{TakesNodes};
 ghost use Rattle.uimg_fit_reading.specs.Work.{list_work, extract_work};
 
@@ -27,6 +29,7 @@ fn locate_payload<S: Source, A: Allocator>(
         (S.device source.old) (S.device source.new) }
     ensures room { TakesNodes (S.device source.old) (is_out_of_memory result) room.old room.new }
     ensures no_put { is_put result ≡ false }
+    ensures no_making { is_of_making result ≡ false }
     ensures inside { IfOk result (λ p. p.place + p.length ≤ length (S.device source.old).bytes) }
     ensures gives { IsTrue (S.device source.old).honest → Gives
         (λ p. slice (S.device source.old).bytes p.place p.length) result
@@ -58,6 +61,7 @@ pub fn extract<S: Source, A: Allocator, W: Write>(
         (extract_of (S.device source.old).bytes position).text }
     ensures untouched { IsTrue (is_refused result) → out.new ≡ out.old }
     ensures faults { RisesIf (is_put result) out.old.faults out.new.faults }
+    ensures no_making { is_of_making result ≡ false }
     ensures told { IsTrue (S.device source.old).honest →
         Tells (end_of result) (extract_of (S.device source.old).bytes position) out.old out.new }
 {

@@ -1,4 +1,7 @@
-ghost use Rattle.std.specs.Prelude.{◌<◌, length, IfOk, IfSome};
+//! The image at a position.
+
+ghost use Rattle.std.specs.Prelude.{◌<◌, length, IfOk, IfSome, ◌≡◌, false, IfErr};
+ghost use Rattle.uimg_fit_base.specs.Faults.{of_making};
 ghost use Rattle.uimg_blob.specs.Grammar.{Siblings};
 ghost use Rattle.uimg_blob.specs.Indexed.{IsIndexed};
 ghost use Rattle.uimg_fit_reading.specs.Nodes.{Indexed, TellsImages, TellsImage};
@@ -15,6 +18,7 @@ pub(crate) fn first_image<A: Allocator>(
 ) -> Result<Option<usize>, FitFault>
     requires { Indexed blob.now room.now.entries }
     ensures within { IfOk result (λ first. IfSome first (λ i. i < length room.now.entries)) }
+    ensures no_making { IfErr result (λ fault. of_making fault ≡ false) }
     ensures told { (t : Siblings) → IsIndexed t blob.now room.now.entries → TellsImages t result }
 {
     match blob.images() {
@@ -31,6 +35,7 @@ pub(crate) fn image_at<A: Allocator>(
 ) -> Result<usize, FitFault>
     requires { Indexed blob.now room.now.entries }
     ensures within { IfOk result (λ i. i < length room.now.entries) }
+    ensures no_making { IfErr result (λ fault. of_making fault ≡ false) }
     ensures told { (t : Siblings) → IsIndexed t blob.now room.now.entries →
         TellsImage t position result }
 {

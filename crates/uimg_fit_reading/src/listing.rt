@@ -1,3 +1,5 @@
+//! The listing of an image.
+
 ghost use Rattle.std.specs.Prelude.{◌≡◌, ◌++◌, List, Some, codes, false, length, is_err, IsTrue};
 ghost use Rattle.uimg_base.specs.Device.{RisesIf};
 ghost use Rattle.uimg_base.specs.Outcome.{Tells};
@@ -7,7 +9,7 @@ ghost use Rattle.uimg_blob.specs.Grammar.{Siblings};
 ghost use Rattle.uimg_blob.specs.LookUps.{NodeOf, images, configurations};
 ghost use Rattle.uimg_blob.specs.Roles.{in_images};
 ghost use Rattle.uimg_blob.specs.Spots.{Spot, spots};
-ghost use Rattle.uimg_fit_base.specs.Faults.{is_read, is_put, is_out_of_memory, end_of};
+ghost use Rattle.uimg_fit_base.specs.Faults.{is_read, is_put, is_out_of_memory, end_of, is_of_making};
 ghost use Rattle.uimg_fit_base.specs.Files.{root_own, cell};
 ghost use Rattle.uimg_fit_reading.specs.Listing.{configurations_lines, image_lines, lists, list_of, numbered};
 ghost use Rattle.uimg_fit_reading.specs.ListingParts.{configurations_allowance, body_allowance, TellsWithin};
@@ -98,6 +100,7 @@ fn list_body<S: Source, A: Allocator, W: Write>(
     ensures leaves { Leaves (is_read result) (is_put result) (S.device source.old)
         (S.device source.new) room.old room.new out.old out.new }
     ensures memory { is_out_of_memory result ≡ false }
+    ensures no_making { is_of_making result ≡ false }
     ensures told { (t : Siblings) → Opened (S.device source.old) blob.now room.old t →
         time ≡ cell (root_own (spots t)) (codes "timestamp") →
         TellsWithin (end_of result) (body_allowance (spots t) (images (spots t)))
@@ -125,6 +128,7 @@ pub fn list<S: Source, A: Allocator, W: Write>(
         (S.device source.old) (S.device source.new) }
     ensures room { TakesNodes (S.device source.old) (is_out_of_memory result) room.old room.new }
     ensures faults { RisesIf (is_put result) out.old.faults out.new.faults }
+    ensures no_making { is_of_making result ≡ false }
     ensures told { IsTrue (S.device source.old).honest →
         Tells (end_of result) (list_of (S.device source.old).bytes) out.old out.new }
 {

@@ -1,10 +1,12 @@
-ghost use Rattle.std.specs.Prelude.{◌≡◌, false, ◌+◌, ◌<◌, ◌≤◌, ◌^◌, length, is_err, IfOk, IfSome, IsTrue};
+//! Where the payload of an image stands.
+
+ghost use Rattle.std.specs.Prelude.{◌≡◌, false, ◌+◌, ◌<◌, ◌≤◌, ◌^◌, length, is_err, IfOk, IfSome, IsTrue, IfErr};
 ghost use Rattle.uimg_base.specs.Using.{Asks};
 ghost use Rattle.uimg_blob.specs.LookUps.{NodeOf};
 ghost use Rattle.uimg_blob.specs.Grammar.{Siblings};
 ghost use Rattle.uimg_blob.specs.Roles.{in_images};
 ghost use Rattle.uimg_blob.specs.Spots.{Spot};
-ghost use Rattle.uimg_fit_base.specs.Faults.{is_read, is_put, is_out_of_memory};
+ghost use Rattle.uimg_fit_base.specs.Faults.{is_read, is_put, is_out_of_memory, of_making, is_of_making};
 ghost use Rattle.uimg_fit_base.specs.Files.{number_in};
 ghost use Rattle.uimg_fit_reading.specs.Nodes.{IsRead, IsNode, HasNode};
 ghost use Rattle.uimg_fit_base.specs.Places.{external, or_else, embedded, place, TellsPlace};
@@ -47,6 +49,7 @@ pub(crate) fn decide(
     requires { base < 2 ^ 40 }
     ensures place { result ≡ or_else (external 0 position size) (external base offset size)
         (embedded payload) }
+    ensures no_making { IfErr result (λ fault. of_making fault ≡ false) }
     ensures small { IfSome payload (λ s. (s.place < 2 ^ 40) × (s.length < 2 ^ 32)) →
         IfOk result (λ p. (p.place < 2 ^ 41) × (p.length < 2 ^ 32)) }
 {
@@ -75,6 +78,7 @@ pub(crate) fn find_place<S: Source, A: Allocator>(
     requires { HasNode (S.device source.old) blob.now room.now image }
     ensures uses { Asks 12 (is_err result) (S.device source.old) (S.device source.new) }
     ensures small { IfOk result (λ found. IfOk found (λ p. (p.place < 2 ^ 41) × (p.length < 2 ^ 32))) }
+    ensures no_making { IfOk result (λ found. IfErr found (λ fault. of_making fault ≡ false)) }
     ensures place { IsTrue (S.device source.old).honest → (t : Siblings) →
         IsRead (S.device source.old).bytes blob.now room.now.entries t → (found : NodeOf Spot) →
         IsNode t in_images image found →
@@ -104,6 +108,7 @@ pub(crate) fn payload_place<S: Source, A: Allocator>(
     ensures uses { Asks 12 (is_read result) (S.device source.old) (S.device source.new) }
     ensures no_put { is_put result ≡ false }
     ensures memory { is_out_of_memory result ≡ false }
+    ensures no_making { is_of_making result ≡ false }
     ensures inside { IfOk result (λ p. p.place + p.length ≤ length (S.device source.old).bytes) }
     ensures told { IsTrue (S.device source.old).honest → (t : Siblings) →
         IsRead (S.device source.old).bytes blob.now room.now.entries t → (found : NodeOf Spot) →

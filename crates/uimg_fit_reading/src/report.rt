@@ -1,8 +1,10 @@
-ghost use Rattle.std.specs.Prelude.{IsTrue};
+//! The report on the hashes of the images.
+
+ghost use Rattle.std.specs.Prelude.{IsTrue, ◌≡◌, false};
 ghost use Rattle.uimg_base.specs.Device.{RisesIf};
 ghost use Rattle.uimg_base.specs.Outcome.{Tells};
 ghost use Rattle.uimg_base.specs.Using.{UsesAtMost};
-ghost use Rattle.uimg_fit_base.specs.Faults.{is_read, is_put, is_out_of_memory, end_of};
+ghost use Rattle.uimg_fit_base.specs.Faults.{is_read, is_put, is_out_of_memory, end_of, is_of_making};
 ghost use Rattle.uimg_fit_base.specs.Report.{verify_of};
 ghost use Rattle.uimg_fit_reading.specs.Rooms.{TakesNodes};
 ghost use Rattle.uimg_fit_reading.specs.Work.{verify_work};
@@ -40,6 +42,7 @@ pub fn verify<S: Source, A: Allocator, W: Write>(
         (S.device source.old) (S.device source.new) }
     ensures room { TakesNodes (S.device source.old) (is_out_of_memory result) room.old room.new }
     ensures faults { RisesIf (is_put result) out.old.faults out.new.faults }
+    ensures no_making { is_of_making result ≡ false }
     ensures told { IsTrue (S.device source.old).honest →
         Tells (end_of result) (verify_of (S.device source.old).bytes) out.old out.new }
 {

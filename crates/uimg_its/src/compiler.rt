@@ -1,3 +1,5 @@
+//! The whole text: `compile`.
+
 ghost use Rattle.std.specs.Prelude.{◌≡◌, ◌<◌, [], List, IfOk, IsTrue, length, false};
 ghost use Rattle.uimg_blob.specs.Plain.{Nodes};
 ghost use Rattle.uimg_tree.specs.Content.{AreKept, FilesAtData, in_full};

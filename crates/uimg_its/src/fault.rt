@@ -1,3 +1,5 @@
+//! Why a text is not compiled.
+
 use thiserror::Error;
 
 /// A construct of devicetree source that this profile leaves out.

@@ -1,3 +1,5 @@
+//! Growths that tell at which word memory was refused.
+
 ghost use Rattle.std.specs.Prelude.{◌≡◌, ◌++◌, ◌∷◌, [], OnOk, IfOk, true, false};
 ghost use Rattle.uimg_its.specs.Strings.{string_bytes};
 ghost use Rattle.uimg_its.specs.Answers.{IsOutside, is_outside, NotInFile, NeverInFile};

@@ -1,3 +1,5 @@
+//! The files that values name, read whole or kept by name and size.
+
 ghost use Rattle.std.specs.Prelude.{◌≡◌, ◌<◌, Some, IfOk, IsTrue, length, codes, false, is_err};
 ghost use Rattle.uimg_base.specs.Device.{RisesIf};
 ghost use Rattle.uimg_tree.specs.UsingFiles.{UsesFiles};
@@ -49,7 +51,9 @@ fn read_whole<S: Source, A: Allocator>(
     }
 }
 
-// The bytes of the file of a name.
+// The bytes of the file of a name. It is not inlined, so that its window and its source are in no frame
+// of a function that calls itself.
+#[inline(never)]
 fn read_file<F: Files, A: Allocator>(
     alloc: A,
     files: &mut F,
@@ -195,6 +199,7 @@ pub(crate) fn lone_file(text: &[u8]) -> Result<LoneFile<'_>, Stop>
 
 /// The value of a property named `data` that is one file: its name and its size. None of its bytes
 /// is asked for.
+#[inline(never)]
 pub(crate) fn kept<F: Files, A: Allocator>(
     files: &mut F,
     name: Vec<u8, A>,

@@ -1,3 +1,5 @@
+//! What stands in a body, up to the word that tells what it is.
+
 ghost use Rattle.std.specs.Prelude.{◌≡◌, ◌<◌, IfOk, length, false};
 ghost use Rattle.std.specs.Option.{option_map};
 ghost use Rattle.uimg_its.specs.Words.{words};

@@ -1,3 +1,5 @@
+//! The words of a text, one after another.
+
 ghost use Rattle.std.specs.Prelude.{◌≡◌, ◌<◌, length, IfSome, IfOk, false, OnErr};
 ghost use Rattle.uimg_its.specs.Words.{words};
 ghost use Rattle.uimg_its.specs.Seen.{word_of, Sees};

@@ -1,3 +1,5 @@
+//! The line that a text is at.
+
 /// The line of the byte of a text from which on so many bytes are left, counted from 1. Where none
 /// is left it is the text's last line, to which a newline at the end belongs.
 pub(crate) fn line_of(text: &[u8], left: usize) -> u64 {

@@ -1,3 +1,5 @@
+//! Lists of cells and of bytes.
+
 ghost use Rattle.std.specs.Prelude.{◌≡◌, ◌<◌, ◌≤◌, ◌++◌, IfOk, length, false};
 ghost use Rattle.std.specs.Option.{option_map};
 ghost use Rattle.uimg_its.specs.Words.{words};

@@ -1,3 +1,5 @@
+//! Nodes and their children, by calls inside one another.
+
 ghost use Rattle.std.specs.Prelude.{◌≡◌, ◌<◌, ◌≤◌, ◌++◌, ◌∷◌, [], false, true, IfSome, IfOk, OnOk, IsTrue, length};
 ghost use Rattle.uimg_base.specs.Named.{FileMap};
 ghost use Rattle.uimg_tree.specs.UsingFiles.{UsesFiles};

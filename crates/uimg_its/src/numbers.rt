@@ -1,3 +1,5 @@
+//! The number of a cell.
+
 ghost use Rattle.std.specs.Prelude.{◌≡◌, ◌≤◌, ◌<◌, ◌+◌, ◌*◌, IfSome};
 ghost use Rattle.uimg_its.specs.Digits.{number, hex_digit, hex_pair};
 ghost use Rattle.uimg_its.specs.Cells.{cell};

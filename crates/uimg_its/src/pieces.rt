@@ -1,3 +1,5 @@
+//! What a text begins with: a gap, a word, or neither.
+
 ghost use Rattle.std.specs.Prelude.{◌≡◌, ◌≤◌, ◌<◌, ◌-◌, length, drop, slice_index, IfSome};
 ghost use Rattle.uimg_its.specs.Strings.{string_end};
 ghost use Rattle.uimg_its.specs.Words.{comment, slash_piece, string_piece, name_word, piece};

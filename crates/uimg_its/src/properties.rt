@@ -1,3 +1,5 @@
+//! Properties with their values.
+
 ghost use Rattle.std.specs.Prelude.{◌≡◌, ◌<◌, ◌≤◌, ◌++◌, ◌∷◌, [], false, IfOk, OnOk, IsTrue, length, map};
 ghost use Rattle.uimg_base.specs.Named.{FileMap};
 ghost use Rattle.uimg_tree.specs.UsingFiles.{UsesFiles};

@@ -1,3 +1,5 @@
+//! Why reading stopped, and where: which fault a word is at its place.
+
 ghost use Rattle.std.specs.Prelude.{◌≡◌, false, true};
 ghost use Rattle.uimg_its.specs.Answers.{is_outside, NotInFile};
 ghost use Rattle.uimg_its.specs.declared.fault.Kind.TheVariants as kinds;

@@ -1,3 +1,5 @@
+//! Strings and their escapes.
+
 ghost use Rattle.std.specs.Prelude.{◌≡◌, ◌≤◌, ◌+◌, ◌++◌, length, IfSome, OnOk, false};
 ghost use Rattle.uimg_its.specs.Strings.{unit, escape, zero_escape, hex_escape, string_end, string_bytes};
 ghost use Rattle.uimg_its.specs.Answers.{is_outside, NotInFile};

@@ -1,3 +1,5 @@
+//! The words of a text, and where each begins.
+
 /// A byte that is a word by itself, a lone slash, or a lone comma.
 #[derive(Clone, Copy, Debug, PartialEq, Eq)]
 pub(crate) enum Mark {

@@ -1,3 +1,5 @@
+//! Values, and which of them stay files.
+
 ghost use Rattle.std.specs.Prelude.{◌≡◌, ◌<◌, ◌≤◌, Some, IfSome, IfOk, IsTrue, length, codes, false};
 ghost use Rattle.uimg_tree.specs.UsingFiles.{UsesFiles};
 ghost use Rattle.uimg_tree.specs.Content.{bytes_in};

@@ -6,6 +6,7 @@ use Rattle.uimg_base.specs.declared.status.Status.TheVariants.{Done, NotRight}
 use Rattle.uimg_base.specs.declared.ranges.MoveFault.{MoveFault}
 use Rattle.uimg_base.specs.declared.ranges.MoveFault.TheVariants as move
 use Rattle.uimg_legacy.specs.declared.fault.LegacyFault.{LegacyFault}
+use Rattle.uimg_legacy.specs.declared.fault.LegacyFault.TheVariants.{EmptyPart, TooLarge}
 use Rattle.uimg_legacy.specs.declared.fault.Fault.{Fault}
 use Rattle.uimg_legacy.specs.declared.fault.Fault.TheVariants.{Legacy, Read, Put}
 
@@ -23,6 +24,17 @@ is_put _ = false
 abbrev pub is_refused : {X : Type 0} → Result X Fault → Bool
 is_refused (Err (Legacy fault)) = true
 is_refused _ = false
+
+-- the fault is of parts that an image is to be built from
+abbrev pub of_making : LegacyFault → Bool
+of_making EmptyPart = true
+of_making TooLarge = true
+of_making _ = false
+
+-- the answer is such a fault
+abbrev pub is_of_making : {X : Type 0} → Result X Fault → Bool
+is_of_making (Err (Legacy fault)) = of_making fault
+is_of_making _ = false
 
 -- the end that an answer tells, where no device failed
 abbrev pub end_of : Result Status Fault → Option (End LegacyFault)

@@ -17,21 +17,24 @@ use Rattle.uimg_legacy.specs.Parts.{has_parts}
 use Rattle.uimg_legacy.specs.Extraction.{part_of_data, part_at}
 use Rattle.uimg_legacy.specs.Listing.{tail_with}
 use Rattle.uimg_legacy.specs.Report.{data_report}
-use Rattle.uimg_legacy.specs.Faults.{is_read, is_put, end_of, Gives}
+use Rattle.uimg_legacy.specs.Faults.{is_read, is_put, is_of_making, end_of, Gives}
 
--- A step that reads. The room stays as it was, and no write failed. Of an honest device the answer is about its bytes.
+-- A step that reads. The room stays as it was, no write failed, and no fault of making is answered. Of an honest device the
+-- answer is about its bytes.
 pub record Reads {X : Type 0} (used : Bool → Device → Device → Type 0) (answers : List ℕ → Result X Fault → Type 0) (result : Result X Fault) (old new : Device) (before after : Held) : Type 0 where
   pub uses : used (is_read result) old new
   pub room : after ≡ before
   pub no_put : is_put result ≡ false
+  pub no_making : is_of_making result ≡ false
   pub answer : IsTrue old.honest → answers old.bytes result
 
--- A step that reads and writes. The room stays as it was, and a fault was counted exactly where a write failed. Of an
--- honest device it told the outcome of its bytes.
+-- A step that reads and writes. The room stays as it was, a fault was counted exactly where a write failed, and no fault of
+-- making is answered. Of an honest device it told the outcome of its bytes.
 pub record Reports (used : Bool → Device → Device → Type 0) (outcome : List ℕ → Outcome LegacyFault) (result : Result Status Fault) (old new : Device) (before after : Held) (from to : Sink) : Type 0 where
   pub uses : used (is_read result) old new
   pub room : after ≡ before
   pub faults : RisesIf (is_put result) from.faults to.faults
+  pub no_making : is_of_making result ≡ false
   pub told : IsTrue old.honest → Tells (end_of result) (outcome old.bytes) from to
 
 -- So many words of the data were asked for, and the room stays as it was. The answer is at most so much, and of an honest

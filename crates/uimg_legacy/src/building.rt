@@ -1,3 +1,5 @@
+//! Building: the image of its parts is written.
+
 ghost use Rattle.std.specs.Prelude.{◌≡◌, ◌≢◌, ℕ, ◌^◌, ◌<◌, List, ◌++◌, length, map, false, IsTrue, OnOk, IfOk, is_err, Ok};
 ghost use Rattle.std.specs.List.{All};
 ghost use Rattle.uimg_sums.specs.Crc.{crc};

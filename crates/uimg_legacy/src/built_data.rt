@@ -1,3 +1,5 @@
+//! The data of an image that is built: summed, and written.
+
 ghost use Rattle.std.specs.Prelude.{◌≡◌, ◌^◌, ◌<◌, length, map, IfOk, is_err};
 ghost use Rattle.std.specs.List.{All};
 ghost use Rattle.uimg_sums.specs.Crc.{crc};

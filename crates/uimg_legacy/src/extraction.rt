@@ -1,4 +1,6 @@
-ghost use Rattle.std.specs.Prelude.{◌≡◌, ◌+◌, ◌≤◌, [], length, IsTrue, IfOk};
+//! Extraction: one part is written.
+
+ghost use Rattle.std.specs.Prelude.{◌≡◌, ◌+◌, ◌≤◌, [], length, IsTrue, IfOk, false};
 ghost use Rattle.uimg_base.specs.Device.{RisesIf};
 ghost use Rattle.uimg_base.specs.Using.{UsesAtMost};
 ghost use Rattle.uimg_base.specs.Outcome.{Tells};
@@ -6,7 +8,7 @@ ghost use Rattle.uimg_base.specs.Ranges.{ReadsAhead};
 ghost use Rattle.uimg_legacy.specs.Extraction.{extract_of};
 ghost use Rattle.uimg_legacy.specs.Work.{list_work, extract_work};
 ghost use Rattle.uimg_legacy.specs.Reading.{Reads, LocatesPart};
-ghost use Rattle.uimg_legacy.specs.Faults.{is_read, is_put, is_refused, end_of};
+ghost use Rattle.uimg_legacy.specs.Faults.{is_read, is_put, is_of_making, is_refused, end_of};
 
 use crate::fault::Fault;
 use crate::image::read_image;
@@ -48,6 +50,7 @@ pub fn extract<S: Source, A: Allocator, W: Write>(
         out.old out.new (extract_of (S.device source.old).bytes position).text }
     ensures untouched { IsTrue (is_refused result) → out.new ≡ out.old }
     ensures faults { RisesIf (is_put result) out.old.faults out.new.faults }
+    ensures no_making { is_of_making result ≡ false }
     ensures told { IsTrue (S.device source.old).honest →
         Tells (end_of result) (extract_of (S.device source.old).bytes position) out.old out.new }
 {

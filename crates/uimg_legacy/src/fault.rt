@@ -1,3 +1,5 @@
+//! What is wrong with an image, and why a command on one stopped.
+
 use std::fmt;
 use thiserror::Error;
 use uimg_base::{MoveFault, PutFault, SourceFault};

@@ -1,8 +1,10 @@
+//! The 64 bytes of a header, read and written.
+
 ghost use Rattle.std.specs.Prelude.{◌≡◌, ◌+◌, ◌≤◌, true, false, take, IsTrue, IfOk, Ok};
 ghost use Rattle.uimg_texts.specs.Numbers.{be32};
 ghost use Rattle.uimg_legacy.specs.Header.{magic, head, has_right_crc, fields, header as header_of, spelled_with, spelled, name_of};
 ghost use Rattle.uimg_base.specs.Using.{Asks, Uses};
-ghost use Rattle.uimg_legacy.specs.Faults.{is_read, is_put, Gives};
+ghost use Rattle.uimg_legacy.specs.Faults.{is_read, is_put, is_of_making, Gives};
 
 use crate::fault::{Fault, LegacyFault};
 use byteorder::{BigEndian, ByteOrder};
@@ -45,6 +47,7 @@ pub struct Header {
 pub(crate) fn read_head<S: Source>(source: &mut S) -> Result<[u8; HEADER_LEN], Fault>
     ensures uses { Asks 64 (is_read result) (S.device source.old) (S.device source.new) }
     ensures no_put { is_put result ≡ false }
+    ensures no_making { is_of_making result ≡ false }
     ensures gives { IsTrue (S.device source.old).honest →
         Gives (λ x. x) result (head (S.device source.old).bytes) }
 {
@@ -97,6 +100,7 @@ pub(crate) fn fields(bytes: &[u8; HEADER_LEN]) -> Header
 pub fn read_header<S: Source>(source: &mut S) -> Result<Header, Fault>
     ensures uses { Asks 64 (is_read result) (S.device source.old) (S.device source.new) }
     ensures no_put { is_put result ≡ false }
+    ensures no_making { is_of_making result ≡ false }
     ensures gives { IsTrue (S.device source.old).honest →
         Gives (λ x. x) result (header_of (S.device source.old).bytes) }
     ensures spelled { IsTrue (S.device source.old).honest →

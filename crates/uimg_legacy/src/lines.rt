@@ -1,3 +1,5 @@
+//! The lines of a listing.
+
 ghost use Rattle.std.specs.Prelude.{◌≡◌, ◌++◌, codes, is_err};
 ghost use Rattle.uimg_base.specs.Outcome.{line};
 ghost use Rattle.uimg_base.specs.Writing.{Writes};

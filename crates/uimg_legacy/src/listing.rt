@@ -1,4 +1,6 @@
-ghost use Rattle.std.specs.Prelude.{◌≡◌, ◌+◌, ◌*◌, ◌≤◌, [], length, IsTrue};
+//! The listing of an image.
+
+ghost use Rattle.std.specs.Prelude.{◌≡◌, ◌+◌, ◌*◌, ◌≤◌, [], length, IsTrue, false};
 ghost use Rattle.uimg_base.specs.Device.{RisesIf};
 ghost use Rattle.uimg_texts.specs.Slices.{slice};
 ghost use Rattle.uimg_base.specs.Using.{Asks, UsesAtMost};
@@ -7,7 +9,7 @@ ghost use Rattle.uimg_legacy.specs.Parts.{sizes};
 ghost use Rattle.uimg_legacy.specs.Listing.{lines_of, list_of};
 ghost use Rattle.uimg_legacy.specs.Work.{table_work, list_work};
 ghost use Rattle.uimg_legacy.specs.Reading.{Reports, tail_of};
-ghost use Rattle.uimg_legacy.specs.Faults.{is_read, is_put, end_of};
+ghost use Rattle.uimg_legacy.specs.Faults.{is_read, is_put, is_of_making, end_of};
 
 use crate::fault::{Fault, LegacyFault};
 use crate::header::Header;
@@ -29,6 +31,7 @@ fn list_parts<S: Source, W: Write>(
     requires table { 4 * (count + 1) ≤ size }
     ensures uses { Asks (4 * count) (is_read result) (S.device source.old) (S.device source.new) }
     ensures faults { RisesIf (is_put result) out.old.faults out.new.faults }
+    ensures no_making { is_of_making result ≡ false }
     ensures told { IsTrue (S.device source.old).honest →
         count ≡ length (sizes (slice (S.device source.old).bytes 64 size)) → Tells (end_of result)
         (lines_of (slice (S.device source.old).bytes 64 size) count) out.old out.new }
@@ -81,6 +84,7 @@ pub fn list<S: Source, A: Allocator, W: Write>(
         (is_read result) (S.device source.old) (S.device source.new) }
     ensures room { room.new ≡ record room.old { entries = [] } }
     ensures faults { RisesIf (is_put result) out.old.faults out.new.faults }
+    ensures no_making { is_of_making result ≡ false }
     ensures told { IsTrue (S.device source.old).honest →
         Tells (end_of result) (list_of (S.device source.old).bytes) out.old out.new }
 {

@@ -1,3 +1,5 @@
+//! How many bytes the parts come to, or why they are refused.
+
 ghost use Rattle.std.specs.Prelude.{◌≡◌, ◌+◌, ◌%◌, ◌&&◌, length, map, false};
 ghost use Rattle.uimg_legacy.specs.Parts.{has_parts};
 ghost use Rattle.uimg_legacy.specs.Building.{joined, data_of, has_empty};

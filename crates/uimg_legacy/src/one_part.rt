@@ -1,3 +1,5 @@
+//! One part of an image that is built: summed, and written.
+
 ghost use Rattle.std.specs.Prelude.{◌≡◌, ℕ, ◌%◌, ◌^◌, ◌<◌, length, map, IfOk};
 ghost use Rattle.std.specs.Int.{to_be_bytes, w32};
 ghost use Rattle.uimg_legacy.specs.Building.{padding};

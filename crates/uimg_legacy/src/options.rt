@@ -1,3 +1,5 @@
+//! What an image is built with, besides its parts.
+
 /// What a legacy image is built with besides its parts: fields of its header (U-Boot's image.h).
 #[derive(Clone, Copy, Debug, PartialEq, Eq)]
 pub struct Options {

@@ -1,3 +1,5 @@
+//! The parts of the types multi and script, and their places.
+
 ghost use Rattle.std.specs.Prelude.{◌≡◌, ◌+◌, ◌*◌, ◌≤◌, length, IsTrue, IfOk, is_err};
 ghost use Rattle.uimg_texts.specs.Slices.{slice};
 ghost use Rattle.uimg_texts.specs.Numbers.{be32};

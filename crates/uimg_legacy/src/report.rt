@@ -1,11 +1,13 @@
-ghost use Rattle.std.specs.Prelude.{◌≡◌, [], IsTrue};
+//! The report on an image's checksums.
+
+ghost use Rattle.std.specs.Prelude.{◌≡◌, [], IsTrue, false};
 ghost use Rattle.uimg_base.specs.Device.{RisesIf};
 ghost use Rattle.uimg_base.specs.Outcome.{Tells};
 ghost use Rattle.uimg_legacy.specs.Report.{verify_of};
 ghost use Rattle.uimg_legacy.specs.Reading.{Reports, report_on};
 ghost use Rattle.uimg_legacy.specs.Work.{data_read, verify_work};
 ghost use Rattle.uimg_base.specs.Using.{Asks, UsesAtMost};
-ghost use Rattle.uimg_legacy.specs.Faults.{is_read, is_put, end_of};
+ghost use Rattle.uimg_legacy.specs.Faults.{is_read, is_put, is_of_making, end_of};
 
 use crate::fault::Fault;
 use crate::header::{Header, fields, has_right_crc, read_head};
@@ -46,6 +48,7 @@ pub fn verify<S: Source, A: Allocator, W: Write>(
         (is_read result) (S.device source.old) (S.device source.new) }
     ensures room { room.new ≡ record room.old { entries = [] } }
     ensures faults { RisesIf (is_put result) out.old.faults out.new.faults }
+    ensures no_making { is_of_making result ≡ false }
     ensures told { IsTrue (S.device source.old).honest →
         Tells (end_of result) (verify_of (S.device source.old).bytes) out.old out.new }
 {

@@ -1,3 +1,5 @@
+//! The table of the parts' sizes, read a window at a time.
+
 ghost use Rattle.std.specs.Prelude.{◌≡◌, ◌+◌, ◌*◌, ◌/◌, ◌^◌, ◌≤◌, length, sum_by};
 ghost use Rattle.uimg_texts.specs.Numbers.{up4};
 ghost use Rattle.uimg_legacy.specs.Words.{words};

@@ -1,3 +1,5 @@
+//! A blob's index as lines, for the comparison with other tools.
+
 use std::io::ErrorKind;
 use std::rt::Files;
 use std::{fs, io};

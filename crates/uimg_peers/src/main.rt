@@ -1,3 +1,5 @@
+//! Two commands that only the comparison with other tools calls.
+
 // What the comparison with other tools calls of the libraries, each as a command: `uimg_peers compile
 // SOURCE` writes the blob of an image-tree source, and `uimg_peers index BLOB` prints how many nodes a
 // blob has.

@@ -1,3 +1,5 @@
+//! An algorithm, by its name.
+
 ghost use Rattle.std.specs.Prelude.{◌≡◌, map};
 ghost use Rattle.uimg_sums.specs.Algorithms.{algo_of_name, algo_row_of, algo_named, digest_size};
 

@@ -1,3 +1,5 @@
+//! A sum by any of the algorithms.
+
 ghost use Rattle.std.specs.Prelude.{◌≡◌, ℕ, List, [], ◌++◌};
 ghost use Rattle.uimg_sums.specs.Algorithms.{digest_by};
 ghost use Rattle.uimg_sums.specs.AnySum.{algo_of, SumHolds, padded_digest};

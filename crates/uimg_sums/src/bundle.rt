@@ -1,3 +1,5 @@
+//! Up to eight sums over the same bytes.
+
 ghost use Rattle.std.specs.Prelude.{◌≡◌, ◌==◌, ◌<◌, ℕ, List, [], ◌∷◌, ◌++◌, length, false, IsTrue, ◌↔◌};
 ghost use Rattle.std.specs.Option.{option_map};
 ghost use Rattle.uimg_sums.specs.AnySum.{algo_of, padded_digest};

@@ -1,3 +1,5 @@
+//! The steps of CRC-32 over one byte, and over sixteen at once.
+
 ghost use Rattle.std.specs.Prelude.{◌≡◌, ◌≤◌, ◌+◌, ◌*◌};
 ghost use Rattle.std.specs.List.{concat, fold};
 ghost use Rattle.uimg_sums.specs.CrcSteps.{bit_steps, byte_step};

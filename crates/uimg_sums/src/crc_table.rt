@@ -1,3 +1,5 @@
+//! The tables of CRC-32, made when the program is compiled.
+
 ghost use Rattle.std.specs.Prelude.{◌≡◌, ◌<◌, ◌+◌, ◌*◌};
 ghost use Rattle.uimg_sums.specs.CrcSteps.{bit_steps};
 

@@ -1,3 +1,5 @@
+//! Hashes by the kit's hashers.
+
 mod md5_sum;
 mod sha1_sum;
 mod sha2_sums;

@@ -1,3 +1,5 @@
+//! What each sum over bytes that come in pieces does.
+
 ghost use Rattle.std.specs.Prelude.{ℕ, ◌≤◌, List, [], ◌++◌};
 ghost use Rattle.uimg_sums.specs.Digest.{PutsDigest};
 

@@ -1,3 +1,5 @@
+//! Tables of codes, and what is looked up in them.
+
 ghost use Rattle.std.specs.Prelude.{◌≡◌, map};
 ghost use Rattle.uimg_texts.specs.Names.{code_of, printed};
 ghost use Rattle.uimg_texts.specs.CodeRows.{row_of};

@@ -1,3 +1,5 @@
+//! Compressions: codes, short names and printed names.
+
 ghost use Rattle.std.specs.Prelude.{◌≡◌, codes};
 ghost use Rattle.uimg_texts.specs.Names.{code_of, printed, comp_table};
 

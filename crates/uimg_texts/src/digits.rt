@@ -1,3 +1,5 @@
+//! Two decimal digits.
+
 ghost use Rattle.std.specs.Prelude.{◌≡◌, ◌<◌};
 ghost use Rattle.uimg_texts.specs.Digits.{two_digits};
 

@@ -1,3 +1,5 @@
+//! Image types: codes, short names and printed names.
+
 ghost use Rattle.std.specs.Prelude.{◌≡◌, codes};
 ghost use Rattle.uimg_texts.specs.Names.{code_of, printed, kind_table};
 

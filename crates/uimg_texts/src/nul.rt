@@ -1,3 +1,5 @@
+//! Texts that a NUL ends.
+
 ghost use Rattle.std.specs.Prelude.{◌≡◌, ◌<◌, length, take, Some, None, IfSome, MatchOption};
 ghost use Rattle.uimg_texts.specs.Nul.{before_nul, text};
 

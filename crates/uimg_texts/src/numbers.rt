@@ -1,3 +1,5 @@
+//! Numbers of 32 bits with the highest byte first, and sizes rounded up to a multiple of 4.
+
 ghost use Rattle.std.specs.Prelude.{◌≡◌, ◌+◌, ◌^◌, ◌<◌, ◌≤◌, length};
 ghost use Rattle.uimg_texts.specs.Numbers.{be32, up4};
 

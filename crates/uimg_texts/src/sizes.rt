@@ -1,3 +1,5 @@
+//! Hundredths of a size, the nearest.
+
 ghost use Rattle.std.specs.Prelude.{◌≡◌, ◌<◌, IsTrue};
 ghost use Rattle.uimg_texts.specs.Sizes.{is_nearest, hundredths};
 

@@ -1,3 +1,5 @@
+//! The text of a time.
+
 ghost use Rattle.std.specs.Prelude.{◌≡◌, ◌*◌, ◌/◌, ◌%◌, ◌<◌, ◌≤◌, pos};
 ghost use Rattle.jiff_core.specs.DateTime.{civil_nanos};
 ghost use Rattle.uimg_texts.specs.Calendar.{civil_date, weekday};

@@ -10,17 +10,19 @@ use Rattle.uimg_base.specs.Sink.{Sink}
 use Rattle.uimg_base.specs.Outcome.{Tells}
 use Rattle.uimg_base.specs.declared.status.Status.{Status}
 use Rattle.uimg_blob.specs.Counts.{nodes_met}
+use Rattle.uimg_fit_base.specs.Faults.{of_making}
 use Rattle.uimg_fit_base.specs.declared.fault.FitFault.{FitFault}
+use Rattle.uimg_fit_base.specs.declared.fault.FitFault.TheVariants as fit_fault
 use Rattle.uimg_tool.specs.declared.fault.Fault.{Fault}
 use Rattle.uimg_tool.specs.declared.fault.Fault.TheVariants.{Legacy, Blob, Fit, Its, Read, Put, NoFile, Keep, OutOfMemory}
 use Rattle.uimg_words.specs.declared.make_command.MakeCommand.{MakeCommand}
 use Rattle.uimg_words.specs.declared.make_command.MakeCommand.TheVariants.{Parts, Tree}
-use Rattle.uimg_tool.specs.Faults.{end_of, is_lost_payload, is_keep, is_of_making, is_no_memory, is_no_payload}
+use Rattle.uimg_tool.specs.Faults.{end_of, is_lost_payload, loses_payload, is_keep, is_of_making, is_no_memory, is_no_payload}
 use Rattle.uimg_tool.specs.Making.{timed, Keeps}
 use Rattle.uimg_tool.specs.MakingTrees.{KeepsTree, only_cleared, for_nodes}
-use Rattle.uimg_tool.specs.Commands.{LacksSource, LacksPayload, LacksFile, OpensToMake, BuildsCommand, MakesCommand, LeavesRoom, HoldsCommand, listing_of, TakesListing}
-use Rattle.uimg_tool.proofs.MakingLaws.{building_stops, keeping, listing_makes, listing_stops, none_lost}
-use Rattle.uimg_tool.proofs.TreeListing.{building_stops_tree, keeping_tree, listing_makes_tree, listing_stops_tree, none_lost_tree, no_memory_built}
+use Rattle.uimg_tool.specs.Commands.{LacksSource, LacksPayload, LacksFile, OpensToBuild, BuildsCommand, MakesCommand, LeavesRoom, HoldsCommand, listing_of, TakesListing}
+use Rattle.uimg_tool.proofs.MakingLaws.{building_stops, keeping, listing_makes, listing_stops}
+use Rattle.uimg_tool.proofs.TreeListing.{building_stops_tree, keeping_tree, listing_makes_tree, listing_stops_tree, no_memory_built}
 
 -- what is kept
 abbrev KeepsCommand : MakeCommand → ℕ → (List ℕ → Option (List ℕ)) → Device → Type 0
@@ -66,21 +68,29 @@ pub listing_stops_command : {K : Type 0} (device : K → Device) (command : Make
 listing_stops_command device (Parts options names) time files kept f s t old new keeps not takes told = listing_stops _ files _ kept f s t keeps not takes.1 told
 listing_stops_command device (Tree source placement) time files kept f s t old new keeps not takes told = listing_stops_tree files source.items time placement kept f s t keeps not told
 
--- the listing of what is kept loses no payload
-no_fit_listed : (command : MakeCommand) (time : ℕ) (files : List ℕ → Option (List ℕ)) (kept : Device) (f : FitFault) (s t : Sink) → KeepsCommand command time files kept → Tells (end_of (Err (Fit f))) (listing_of command kept.bytes) s t → ⊥
-no_fit_listed (Parts options names) time files kept f s t keeps told = none_lost _ files _ kept f s t keeps told
-no_fit_listed (Tree source placement) time files kept f s t keeps told = none_lost_tree files source.items time placement kept f s t keeps told
+-- a listing loses no payload
+no_loss : (f : FitFault) → of_making f ≡ false → loses_payload f ≡ false
+no_loss fit_fault.NoImages is = refl
+no_loss fit_fault.NoData is = refl
+no_loss fit_fault.DataOutside is = refl
+no_loss fit_fault.NoSuchImage is = refl
+no_loss fit_fault.UnknownAlgo is = refl
+no_loss fit_fault.PositionTooLow is = refl
+no_loss fit_fault.TooLarge is = refl
+no_loss fit_fault.OutOfMemory is = refl
+no_loss fit_fault.NoFile is = refl
+no_loss fit_fault.ReadFailed is = absurd (cc)
 
-pub listing_loses_none : (X : Type 0) (command : MakeCommand) (time : ℕ) (files : List ℕ → Option (List ℕ)) (kept : Device) (f : Fault) (s t : Sink) → KeepsCommand command time files kept → Tells (end_of (Err f)) (listing_of command kept.bytes) s t → is_lost_payload {X = X} (Err f) ≡ false
-listing_loses_none X command time files kept (Legacy f) s t keeps told = refl
-listing_loses_none X command time files kept (Blob f at) s t keeps told = refl
-listing_loses_none X command time files kept (Fit f) s t keeps told = absurd (no_fit_listed command time files kept f s t keeps told)
-listing_loses_none X command time files kept (Its f) s t keeps told = refl
-listing_loses_none X command time files kept Read s t keeps told = refl
-listing_loses_none X command time files kept Put s t keeps told = refl
-listing_loses_none X command time files kept (NoFile i) s t keeps told = refl
-listing_loses_none X command time files kept Keep s t keeps told = refl
-listing_loses_none X command time files kept OutOfMemory s t keeps told = refl
+pub listing_loses_none : (X Y : Type 0) (f : Fault) → is_of_making {X = X} (Err f) ≡ false → is_lost_payload {X = Y} (Err f) ≡ false
+listing_loses_none X Y (Legacy f) is = refl
+listing_loses_none X Y (Blob f at) is = refl
+listing_loses_none X Y (Fit f) is = no_loss f is
+listing_loses_none X Y (Its f) is = refl
+listing_loses_none X Y Read is = refl
+listing_loses_none X Y Put is = refl
+listing_loses_none X Y (NoFile i) is = refl
+listing_loses_none X Y Keep is = refl
+listing_loses_none X Y OutOfMemory is = refl
 
 -- the room, where no image is built
 pub room_stays : (X : Type 0) {K : Type 0} (device : K → Device) (honest : Bool) (command : MakeCommand) (time : ℕ) (files : List ℕ → Option (List ℕ)) (f : Fault) (image now : Sink) (old new : Held) → new ≡ record old { entries = [] } → (IsTrue honest → BuildsCommand {X = X} command time files (Err f) image now) → LeavesRoom device honest command (Err f) old new
@@ -134,8 +144,8 @@ payload_again X Y (NoFile i) h = refl
 payload_again X Y Keep h = refl
 payload_again X Y OutOfMemory h = refl
 
-pub lacks_file : {X : Type 0} (sure : Type 0) (command : MakeCommand) (result : Result X Fault) (old new : FileMap) → OpensToMake sure command result old new → sure → IsTrue old.complete → IfErr result (LacksFile command old.bytes)
-lacks_file sure (Parts options names) result old new opens is complete = opens.missing complete
-lacks_file sure (Tree source placement) (Ok x) old new opens is complete = tt
-lacks_file {X = X} sure (Tree source placement) (Err f) old new opens is complete =
-    lacks_by old.bytes source.items f (opens.missing complete) (payload_again X ⊤ f (opens.found is complete))
+pub lacks_file : {X : Type 0} (command : MakeCommand) (result : Result X Fault) (old new : FileMap) → OpensToBuild command result old new → IsTrue old.honest → IsTrue old.complete → IfErr result (LacksFile command old.bytes)
+lacks_file (Parts options names) result old new opens is complete = opens.missing complete
+lacks_file (Tree source placement) (Ok x) old new opens is complete = tt
+lacks_file {X = X} (Tree source placement) (Err f) old new opens is complete =
+    lacks_by old.bytes source.items f (opens.missing complete) (payload_again X ⊤ f (opens.found complete is))

@@ -112,11 +112,6 @@ pub listing_stops : (options : Options) (files : List ℕ → Option (List ℕ))
 listing_stops options files names kept f s t keeps not no_memory told =
     listing_stops_by options files names kept f s t keeps not no_memory (subst (λ (image : List ℕ). Tells (end_of (Err f)) (outcome_as Legacy (list_of image)) s t) keeps.image.bytes told)
 
--- the listing of what was kept loses no payload
-pub none_lost : (options : Options) (files : List ℕ → Option (List ℕ)) (names : List (List ℕ)) (kept : Device) (f : FitFault) (s t : Sink) → Keeps options files names kept → Tells (end_of (Err (Fit f))) (outcome_as Legacy (list_of kept.bytes)) s t → ⊥
-none_lost options files names kept f s t keeps told =
-    not_done _ (Fit f) s t keeps.image.reads_back.listing (subst (λ (image : List ℕ). Tells (end_of (Err (Fit f))) (outcome_as Legacy (list_of image)) s t) keeps.image.bytes told)
-
 -- devices that never fail have no failure at any number
 pub no_failures : {S : Type 0} (device : S → Device) → ((s : S) → (device s).failures ≡ 0) → (sources : List S) (i : ℕ) → failures_of (map device sources) i ≡ 0
 no_failures device never [] i = refl

@@ -122,11 +122,6 @@ pub listing_stops_tree : (files : List ℕ → Option (List ℕ)) (source : List
 listing_stops_tree files source time placement kept f s t keeps not told =
     listing_stops_by files source time placement kept f s t keeps not (told_as_fit kept.bytes _ (Err f) s t keeps.bytes keeps.is_fit told)
 
--- the listing of what was kept loses no payload
-pub none_lost_tree : (files : List ℕ → Option (List ℕ)) (source : List ℕ) (time : ℕ) (placement : Placement) (kept : Device) (f : FitFault) (s t : Sink) → KeepsTree files source time placement kept → Tells (end_of (Err (Fit f))) (outcome_of (record { action = action.List; format = format.Guess }) kept.bytes) s t → ⊥
-none_lost_tree files source time placement kept f s t keeps told =
-    not_done _ (Fit f) s t keeps.done (told_as_fit kept.bytes _ (Err (Fit f)) s t keeps.bytes keeps.is_fit told)
-
 -- why an image is not built, where nothing is listed
 same_stop : (u : Nodes) (placement : Placement) (f : FitFault) (image now s : Sink) → BuildsAnswer {X = ⊤} u placement (Err (fit.Fit f)) image now → BuildsAnswer {X = ⊤} u placement (Err (fit.Fit f)) s s
 same_stop u placement fit_fault.NoImages image now s h = h

@@ -37,23 +37,10 @@ pub record OpensSource {X : Type 0} (source : List ℕ) (result : Result X Fault
   pub missing : IsTrue old.complete → IfErr result (LacksSource old.bytes source)
   pub found : IsTrue old.complete → IsTrue old.honest → is_no_payload result ≡ false
 
--- what a building did to the files
+-- what a building or a making did to the files
 abbrev pub OpensToBuild : {X : Type 0} → MakeCommand → Result X Fault → FileMap → FileMap → Type 0
 OpensToBuild (Parts options files) result old new = OpensNames (map (λ name. name.items) files.items) result old new
 OpensToBuild (Tree source placement) result old new = OpensSource source.items result old new
-
--- What a making did to the files. That no payload was opened may be told of a kept file that is not what was written: then
--- no refusal has to be counted.
-pub record OpensKept {X : Type 0} (sure : Type 0) (source : List ℕ) (result : Result X Fault) (old new : FileMap) : Type 0 where
-  pub same : SameFiles old new
-  pub text : OnFalse (is_no_payload result) (RisesIf (is_no_text result) old.refusals new.refusals)
-  pub payload : sure → IsTrue (is_no_payload result) → Rose old.refusals new.refusals
-  pub missing : IsTrue old.complete → IfErr result (LacksSource old.bytes source)
-  pub found : sure → IsTrue old.complete → is_no_payload result ≡ false
-
-abbrev pub OpensToMake : {X : Type 0} → Type 0 → MakeCommand → Result X Fault → FileMap → FileMap → Type 0
-OpensToMake sure (Parts options files) result old new = OpensNames (map (λ name. name.items) files.items) result old new
-OpensToMake sure (Tree source placement) result old new = OpensKept sure source.items result old new
 
 -- what the answer of a building says of the files, and of what was appended
 abbrev pub BuildsCommand : {X : Type 0} → MakeCommand → ℕ → (List ℕ → Option (List ℕ)) → Result X Fault → Sink → Sink → Type 0

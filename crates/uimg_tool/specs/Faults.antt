@@ -3,12 +3,14 @@ use Rattle.std.specs.Prelude.{Result, Ok, Err, Option, Some, None, Bool, true, f
 use Rattle.uimg_base.specs.Outcome.{End, done, not_right, refused}
 use Rattle.uimg_base.specs.declared.status.Status.{Status}
 use Rattle.uimg_base.specs.declared.status.Status.TheVariants.{Done, NotRight}
-use Rattle.uimg_blob.specs.Faults.{refuses_memory}
+use Rattle.uimg_blob.specs.Faults.{refuses_memory, is_too_large}
+use Rattle.uimg_fit_base.specs.Faults.{of_making as fit_of_making}
 use Rattle.uimg_fit_base.specs.declared.fault.Fault.TheVariants as fit
 use Rattle.uimg_fit_base.specs.declared.fault.Fault.{Fault as FitEngineFault}
 use Rattle.uimg_fit_base.specs.declared.fault.FitFault.{FitFault}
 use Rattle.uimg_fit_base.specs.declared.fault.FitFault.TheVariants as fit_fault
 use Rattle.uimg_its.specs.Answers.{tells_no_file, tells_unread}
+use Rattle.uimg_legacy.specs.Faults.{of_making as legacy_of_making}
 use Rattle.uimg_legacy.specs.declared.fault.Fault.TheVariants as legacy
 use Rattle.uimg_legacy.specs.declared.fault.Fault.{Fault as LegacyEngineFault}
 use Rattle.uimg_tool.specs.declared.fault.Fault.{Fault}
@@ -104,6 +106,9 @@ is_lost_payload _ = false
 
 -- the answer is one that only a making gives: nothing is listed then
 abbrev pub is_of_making : {X : Type 0} → Result X Fault → Bool
+is_of_making (Err (Legacy fault)) = legacy_of_making fault
+is_of_making (Err (Blob fault at)) = is_too_large fault
+is_of_making (Err (Fit fault)) = fit_of_making fault
 is_of_making (Err (Its fault)) = true
 is_of_making (Err (NoFile i)) = true
 is_of_making (Err Keep) = true

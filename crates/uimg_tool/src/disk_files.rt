@@ -1,3 +1,5 @@
+//! The files of a folder.
+
 ghost use Rattle.std.specs.Prelude.{◌≡◌, None, false, IfOk};
 ghost use Rattle.std.specs.Path.{path_buf_bytes, path_join};
 ghost use Rattle.uimg_base.specs.Device.{IsFresh};

@@ -1,3 +1,5 @@
+//! A command on an image, by the engine of its format.
+
 ghost use Rattle.std.specs.Prelude.{◌≡◌, ◌↔◌, ◌+◌, ◌*◌, ◌-◌, ◌^◌, ◌<◌, ◌≤◌, max, [], true, false, length, IsTrue, Err};
 ghost use Rattle.uimg_base.specs.Device.{SameDevice};
 ghost use Rattle.uimg_base.specs.Held.{held_bytes};

@@ -1,3 +1,5 @@
+//! Why a command on an image, or the making of one, stopped.
+
 use std::alloc::AllocError;
 use thiserror::Error;
 use uimg_base::SourceFault;
@@ -78,6 +80,28 @@ impl From<uimg_fit_base::Fault> for Fault {
             uimg_fit_base::Fault::Read => Fault::Read,
             uimg_fit_base::Fault::Put => Fault::Put,
         }
+    }
+}
+
+impl From<ItsFault> for Fault {
+    ghost use Rattle.std.specs.Prelude.{◌≡◌};
+    ghost use Rattle.uimg_tool.specs.declared.fault.Fault.TheVariants.{Its};
+
+    ghost from_gives = { λ f e. e ≡ Its f };
+
+    fn from(fault: ItsFault) -> Fault {
+        Fault::Its(fault)
+    }
+}
+
+impl From<FitFault> for Fault {
+    ghost use Rattle.std.specs.Prelude.{◌≡◌};
+    ghost use Rattle.uimg_tool.specs.declared.fault.Fault.TheVariants.{Fit};
+
+    ghost from_gives = { λ f e. e ≡ Fit f };
+
+    fn from(fault: FitFault) -> Fault {
+        Fault::Fit(fault)
     }
 }
 

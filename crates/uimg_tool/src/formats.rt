@@ -1,3 +1,5 @@
+//! Which format a file is read as.
+
 ghost use Rattle.std.specs.Prelude.{◌≡◌, false, IsTrue, IfOk, is_err};
 ghost use Rattle.uimg_base.specs.Using.{Asks};
 ghost use Rattle.uimg_tool.specs.Headline.{begins_as_blob, is_fit};

@@ -1,9 +1,11 @@
+//! The making of an image.
+
 ghost use Rattle.std.specs.Prelude.{◌≡◌, ◌<◌, ◌^◌, ◌-◌, false, Some, [], IsTrue, IsOk, IfOk, IfErr};
 ghost use Rattle.std.specs.Io.KnownBytes.{Keeps};
 ghost use Rattle.uimg_base.specs.Device.{RisesIf, IsFresh};
 ghost use Rattle.uimg_tool.specs.Faults.{is_unread, is_lost_payload, is_put, is_keep, is_before_building, is_of_making};
 ghost use Rattle.uimg_words.specs.Commands.{HasFitNames};
-ghost use Rattle.uimg_tool.specs.Commands.{KeepsSizes, OpensToBuild, OpensToMake, BuildsCommand, MakesCommand, LeavesRoom, HoldsCommand};
+ghost use Rattle.uimg_tool.specs.Commands.{KeepsSizes, OpensToBuild, BuildsCommand, MakesCommand, LeavesRoom, HoldsCommand};
 
 use crate::fault::Fault;
 use crate::making_lists::list_kept;
@@ -101,11 +103,11 @@ fn keep<H: Shelf>(shelf: H) -> Result<H::Kept, Fault>
 /// or the listing, and `OutOfMemory` of the blob where the memory for the table of a FIT image's nodes
 /// was refused; over honest ones a prefix of the listing was written then. Where a shelf keeps other
 /// bytes than were written, `Fault::Legacy`, `Fault::Blob` and `Fault::Fit` may also be what the listing
-/// says of them, after some of its lines.
+/// says of them, after some of its lines, but none of the faults that only `build_image` answers.
 ///
 /// Where what the files open and what the shelf keeps are steady, `Fault::Read` and `ReadFailed` of
 /// `Its` never come, of a source over honest files, and `ReadFailed` of `Fit` never comes over honest
-/// files and an honest, empty shelf. Over a steady shelf `Fault::Keep` never comes. At `Ok` no read of
+/// files. Over a steady shelf `Fault::Keep` never comes. At `Ok` no read of
 /// what was kept has failed.
 ///
 /// The room takes memory for the listing alone: none for a legacy image, and over honest files and an
@@ -123,8 +125,7 @@ pub fn make<F: Files, H: Shelf, W: Write, A: Allocator + Copy, B: Allocator>(
     requires fit { HasFitNames command.now }
     ensures made { IsTrue (F.map files.old).honest → IsTrue H.honest → H.contents shelf ≡ Some [] →
         MakesCommand H.Kept.device command.now time (F.map files.old).bytes result out.old out.new }
-    ensures files { OpensToMake (IsTrue (F.map files.old).honest × IsTrue H.honest
-        × (H.contents shelf ≡ Some [])) command.now result (F.map files.old) (F.map files.new) }
+    ensures files { OpensToBuild command.now result (F.map files.old) (F.map files.new) }
     ensures quiet { IsTrue (is_of_making result) → out.new ≡ out.old }
     ensures puts { is_put result ≡ false → out.new.faults ≡ out.old.faults }
     ensures put { out.old.faults < 2 ^ 64 - 1 → IsTrue (is_put result) →
@@ -132,7 +133,7 @@ pub fn make<F: Files, H: Shelf, W: Write, A: Allocator + Copy, B: Allocator>(
     ensures steady_reads { IsTrue F.Opened.steady → IsTrue H.Kept.steady →
         KeepsSizes command.now (F.map files.old) → is_unread result ≡ false }
     ensures steady_payloads { IsTrue F.Opened.steady → IsTrue (F.map files.old).honest →
-        IsTrue H.honest → H.contents shelf ≡ Some [] → is_lost_payload result ≡ false }
+        is_lost_payload result ≡ false }
     ensures steady_keeps { IsTrue H.steady → is_keep result ≡ false }
     ensures kept_reads { IfOk result (λ kept. (H.Kept.device kept).failures ≡ 0) }
     ensures room { LeavesRoom H.Kept.device (F.map files.old).honest command.now result

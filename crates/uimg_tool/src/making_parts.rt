@@ -3,7 +3,7 @@ ghost use Rattle.std.specs.Prelude.{◌≡◌, ◌≢◌, false, length, map, Is
 ghost use Rattle.uimg_base.specs.Device.{RisesIf};
 ghost use Rattle.uimg_legacy.specs.Parts.{has_parts};
 ghost use Rattle.uimg_legacy.specs.Devices.{bytes_of, AreHonest};
-ghost use Rattle.uimg_tool.specs.Faults.{is_unread, is_put, is_keep, is_before_building, is_of_making};
+ghost use Rattle.uimg_tool.specs.Faults.{is_unread, is_put, is_keep, is_no_file, is_before_building};
 ghost use Rattle.uimg_words.specs.Commands.{FitNames};
 ghost use Rattle.uimg_tool.specs.Making.{OpensNames, OpensAnswer, BuildsParts, BuildsNames};
 
@@ -53,7 +53,7 @@ fn build_opened<S: Source, W: Write>(
     ensures untouched { IsTrue (is_before_building result) → image.new ≡ image.old }
     ensures reads { IsTrue S.steady → is_unread result ≡ false }
     ensures faults { RisesIf (is_put result) image.old.faults image.new.faults }
-    ensures not_making { is_of_making result ≡ false }
+    ensures only_builds { (is_no_file result ≡ false) × (is_keep result ≡ false) }
 {
     build(options, parts, image)?;
     Ok(())

@@ -17,7 +17,7 @@ use uimg_its::compile;
 use uimg_tree::Tree;
 
 // All the bytes of a source.
-fn read_whole<S: Source, A: Allocator>(alloc: A, source: &mut S) -> Result<Vec<u8, A>, Fault>
+fn whole_text<S: Source, A: Allocator>(alloc: A, source: &mut S) -> Result<Vec<u8, A>, Fault>
     ensures text { IsTrue (S.device source.old).honest →
         ReadsText (λ text. text.items) (Some (S.device source.old).bytes) result }
     ensures steady { IsTrue S.steady → is_unread result ≡ false }
@@ -52,13 +52,13 @@ fn read_text<F: Files, A: Allocator>(
         × (is_lost_payload result ≡ false) }
 {
     match files.open(name) {
-        Ok(mut source) => read_whole(alloc, &mut source),
+        Ok(mut source) => whole_text(alloc, &mut source),
         Err(_) => Err(Fault::NoFile(0)),
     }
 }
 
 // The tree that the source of a name spells, filled at a time.
-fn read_tree<F: Files, A: Allocator + Copy>(
+fn filled_tree<F: Files, A: Allocator + Copy>(
     alloc: A,
     name: &[u8],
     time: u32,
@@ -74,14 +74,9 @@ fn read_tree<F: Files, A: Allocator + Copy>(
     ensures no_keep { is_keep result ≡ false }
 {
     let text = read_text(alloc, name, files)?;
-    let tree = match compile(alloc, &text, files) {
-        Ok(tree) => tree,
-        Err(fault) => return Err(Fault::Its(fault)),
-    };
-    match fill(alloc, tree, time, files) {
-        Ok(tree) => Ok(tree),
-        Err(fault) => Err(Fault::Fit(fault)),
-    }
+    let tree = compile(alloc, &text, files)?;
+    let filled = fill(alloc, tree, time, files)?;
+    Ok(filled)
 }
 
 /// Builds a FIT image from the source of a name: reads it, compiles it, fills its tree at a time, and
@@ -105,9 +100,7 @@ pub(crate) fn build_tree<F: Files, W: Write, A: Allocator + Copy>(
     ensures faults { RisesIf (is_put result) image.old.faults image.new.faults }
     ensures never_keep { is_keep result ≡ false }
 {
-    let tree = read_tree(alloc, name, time, files)?;
-    match build(alloc, &tree, files, placement, image) {
-        Ok(()) => Ok(()),
-        Err(fault) => Err(Fault::from(fault)),
-    }
+    let tree = filled_tree(alloc, name, time, files)?;
+    build(alloc, &tree, files, placement, image)?;
+    Ok(())
 }

@@ -1,3 +1,5 @@
+//! Bytes, as contracts see them: a list.
+
 ghost use Rattle.std.specs.Prelude.{◌≡◌};
 
 use std::alloc::Allocator;

@@ -1,3 +1,5 @@
+//! Names that no blob may have.
+
 ghost use Rattle.std.specs.Prelude.{◌≡◌};
 ghost use Rattle.uimg_tree.specs.Measured.{is_name, bad_property, bad_name, fault_in};
 ghost use Rattle.uimg_tree.specs.Trees.{node_of};

@@ -1,3 +1,5 @@
+//! Copies of nodes, properties and values.
+
 ghost use Rattle.std.specs.Prelude.{◌≡◌, IfOk};
 
 use crate::byte_list::ByteList;

@@ -1,3 +1,5 @@
+//! Why a tree was not written.
+
 use thiserror::Error;
 use uimg_base::{MoveFault, PutFault, SourceFault};
 

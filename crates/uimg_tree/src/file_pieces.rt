@@ -1,3 +1,5 @@
+//! Files that stand in a blob, moved through a window.
+
 ghost use Rattle.std.specs.Prelude.{◌≡◌, ◌∷◌, [], length, IsTrue, OnOk, is_err, false};
 ghost use Rattle.uimg_base.specs.Device.{RisesIf};
 ghost use Rattle.uimg_base.specs.Writing.{Written};
@@ -31,7 +33,9 @@ fn put_source<S: Source, W: Write>(
     Ok(())
 }
 
-// Writes the file of a name, which has so many bytes.
+// Writes the file of a name, which has so many bytes. It is not inlined, so that its window and its
+// source are in no frame of a function that calls itself.
+#[inline(never)]
 pub(crate) fn put_file<F: Files, W: Write>(
     name: &[u8],
     size: u64,

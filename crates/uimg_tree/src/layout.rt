@@ -1,3 +1,5 @@
+//! What measuring finds: the names and the sizes of a blob.
+
 ghost use Rattle.std.specs.Prelude.{◌≡◌};
 ghost use Rattle.uimg_tree.specs.Layouts.{totalsize};
 

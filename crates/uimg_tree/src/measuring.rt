@@ -1,3 +1,5 @@
+//! How large the blob of a tree is.
+
 ghost use Rattle.std.specs.Prelude.{◌≡◌, ◌≢◌, ℕ, List, [], length, Option, Err, OnOk, IfOk};
 ghost use Rattle.uimg_blob.specs.Plain.{AreNamed};
 ghost use Rattle.uimg_tree.specs.Content.{in_full, AreKept};

@@ -1,3 +1,5 @@
+//! Nodes are written, by calls inside one another.
+
 ghost use Rattle.std.specs.Prelude.{◌≡◌, ◌^◌, ◌<◌, length};
 ghost use Rattle.uimg_blob.specs.Plain.{AllValues};
 ghost use Rattle.uimg_tree.specs.Content.{size_of};

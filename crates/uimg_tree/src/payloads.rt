@@ -1,3 +1,5 @@
+//! A value is written, with the zeros behind it.
+
 ghost use Rattle.std.specs.Prelude.{◌≡◌, ◌∷◌, [], length};
 ghost use Rattle.uimg_tree.specs.Content.{bytes, size_of};
 ghost use Rattle.uimg_tree.specs.Pieces.{padding, WritesPieces};

@@ -1,3 +1,5 @@
+//! Properties are written.
+
 ghost use Rattle.std.specs.Prelude.{◌≡◌, ◌^◌, ◌<◌, ◌++◌, ◌∷◌, [], length, is_err};
 ghost use Rattle.std.specs.List.{flat_map, AllByRecursion};
 ghost use Rattle.uimg_base.specs.Writing.{Writes};

@@ -1,3 +1,5 @@
+//! Properties, as contracts see them: a list.
+
 ghost use Rattle.std.specs.Prelude.{◌≡◌, map};
 ghost use Rattle.uimg_tree.specs.Properties.{property};
 

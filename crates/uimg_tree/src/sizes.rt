@@ -1,3 +1,5 @@
+//! How many bytes nodes and properties take.
+
 ghost use Rattle.std.specs.Prelude.{◌≡◌, ◌^◌, min, length};
 ghost use Rattle.uimg_tree.specs.Encoding.{strings};
 ghost use Rattle.uimg_tree.specs.Layouts.{properties_size, nodes_size};

@@ -1,3 +1,5 @@
+//! The tokens of a blob, written.
+
 ghost use Rattle.std.specs.Prelude.{◌≡◌, ◌++◌, ◌-◌, ◌^◌, ◌<◌, length, is_err};
 ghost use Rattle.uimg_base.specs.Writing.{Writes};
 ghost use Rattle.uimg_texts.specs.Numbers.{up4};

@@ -1,3 +1,5 @@
+//! A tree of nodes, in memory.
+
 ghost use Rattle.std.specs.Prelude.{◌≡◌};
 ghost use Rattle.uimg_tree.specs.Trees.{siblings};
 

@@ -1,3 +1,5 @@
+//! The blob of a tree is written.
+
 ghost use Rattle.std.specs.Prelude.{◌≡◌, ◌<◌, ◌^◌, ◌++◌, length, replicate, IsTrue, OnOk, is_err, false};
 ghost use Rattle.uimg_base.specs.Device.{RisesIf};
 ghost use Rattle.uimg_base.specs.Writing.{Writes, Written};

@@ -1,3 +1,5 @@
+//! An action on an image, and the format that it is read as.
+
 /// What is done with an image.
 #[derive(Clone, Copy, Debug, PartialEq, Eq)]
 pub enum Action {

@@ -1,3 +1,5 @@
+//! What the words of a command line ask for.
+
 mod complaints;
 mod dumpimage;
 mod help_notes;

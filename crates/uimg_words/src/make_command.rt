@@ -1,3 +1,5 @@
+//! What an image is made from.
+
 use uimg_fit_base::Placement;
 use uimg_legacy::Options;
 

@@ -1,3 +1,5 @@
+//! The numbers of a command line.
+
 /// The number of one or more decimal digits. `None` for any other text, and for a number of more
 /// than 32 bits.
 pub fn decimal(text: &str) -> Option<u32> {

@@ -1,3 +1,5 @@
+//! The payloads behind the blob: refused, or written one after another.
+
 ghost use Rattle.std.specs.Prelude.{◌≡◌, ◌∷◌, ◌≤◌, ◌^◌, [], replicate, map, is_err, false, Ok, Err};
 ghost use Rattle.std.specs.List.{flat_map};
 ghost use Rattle.uimg_base.specs.Writing.{Writes};

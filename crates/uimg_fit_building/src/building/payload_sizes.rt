@@ -1,3 +1,5 @@
+//! How many bytes the payloads behind the blob take.
+
 ghost use Rattle.std.specs.Prelude.{◌≡◌, ◌^◌, ◌%◌, min, map};
 ghost use Rattle.uimg_fit_building.specs.Behind.{entry, padded_sizes};
 ghost use Rattle.uimg_fit_building.specs.UnreadTrees.{padded_size_of};

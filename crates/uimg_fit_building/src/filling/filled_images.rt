@@ -1,4 +1,6 @@
-ghost use Rattle.std.specs.Prelude.{◌≢◌, [], map, Some, IsTrue, OnOk};
+//! The images of a tree, filled one after another.
+
+ghost use Rattle.std.specs.Prelude.{◌≡◌, ◌≢◌, ℕ, List, [], map, Some, IsTrue, OnOk};
 ghost use Rattle.std.specs.List.{filter, AllByRecursion};
 ghost use Rattle.uimg_blob.specs.LookUps.{listed};
 ghost use Rattle.uimg_blob.specs.Roles.{is_hash};
@@ -7,8 +9,11 @@ ghost use Rattle.uimg_tree.specs.Properties.{content};
 ghost use Rattle.uimg_tree.specs.Trees.{siblings};
 ghost use Rattle.uimg_fit_building.specs.FillAnswers.{OpensKept};
 ghost use Rattle.uimg_fit_building.specs.Behind.{entry};
+ghost use Rattle.uimg_fit_building.specs.Filling.{each};
 ghost use Rattle.uimg_fit_building.specs.FillOrder.{FillsNext, FillsInOrder};
-ghost use Rattle.uimg_fit_building.specs.ImageFillings.{FillsHashes, FillsImage, FillsImages, IsKeptImage};
+ghost use Rattle.uimg_fit_building.specs.ImageFillings.{hashed_in, filled_over, FillsHashes, FillsImage, FillsImages, IsKeptImage};
+ghost use Rattle.uimg_fit_building.specs.PayloadSums.{no_files};
+ghost use Rattle.uimg_fit_building.specs.DigestBytes.{zeroed_child, zeroed_image};
 
 use crate::filling::filled_hashes::{algos_of, fill_children};
 use crate::filling::payload_sums::payload_digests;
@@ -36,6 +41,8 @@ fn fill_hashes<F: Files, A: Allocator + Copy>(
     ensures kept { IsTrue (F.map files.old).honest → OnOk result (
         filter (λ h. is_hash h.name) (listed (siblings nodes.old)) ≢ [] →
         IsKept (F.map files.old).bytes (content payload.now)) }
+    ensures rest { (message : List ℕ) → OnOk result (
+        each zeroed_child (siblings nodes.new) ≡ each zeroed_child (each (hashed_in message) (siblings nodes.old))) }
 {
     let Some(set) = algos_of(nodes) else {
         return Err(FitFault::UnknownAlgo);
@@ -62,6 +69,8 @@ fn fill_image<F: Files, A: Allocator + Copy>(
         FillsImage (F.map files.old).bytes (entry image.old) (entry image.new) result }
     ensures order { IsTrue (F.map files.old).honest →
         FillsNext (F.map files.old) F.Opened.steady (entry image.old) result }
+    ensures rest { OnOk result (
+        zeroed_image (entry image.new) ≡ zeroed_image (filled_over no_files (entry image.old))) }
 {
     let Some(payload) = payload_of(&image.props) else {
         return Err(FitFault::NoData);
@@ -88,6 +97,8 @@ pub(crate) fn fill_images<F: Files, A: Allocator + Copy>(
         (map entry images.old) (map entry images.new) result }
     ensures order { IsTrue (F.map files.old).honest →
         FillsInOrder (F.map files.old) F.Opened.steady (Some (map entry images.old)) result }
+    ensures rest { OnOk result (
+        each zeroed_image (siblings images.new) ≡ each zeroed_image (each (filled_over no_files) (siblings images.old))) }
 {
     for image in images.iter_mut() {
         fill_image(alloc, image, files)?;

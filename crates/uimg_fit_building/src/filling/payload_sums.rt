@@ -1,3 +1,5 @@
+//! A payload is summed once, by the algorithms in use.
+
 ghost use Rattle.std.specs.Prelude.{◌≡◌, [], List, length, IsTrue, IfOk, IfErr, OnOk};
 ghost use Rattle.uimg_sums.specs.declared.algo.Algo.{Algo};
 ghost use Rattle.uimg_sums.specs.Bundle.{Holds};

@@ -1,3 +1,5 @@
+//! Load addresses and entry points, of one cell or two.
+
 ghost use Rattle.std.specs.Prelude.{◌≡◌, ◌+◌, ◌≤◌, ◌++◌, ◌==◌, not, min, length, codes};
 ghost use Rattle.hex.specs.Hex.{encode_lower};
 ghost use Rattle.std.specs.List.{position_or_len};

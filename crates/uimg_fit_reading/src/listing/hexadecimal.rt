@@ -1,3 +1,5 @@
+//! Values as hexadecimal digits.
+
 ghost use Rattle.std.specs.Prelude.{◌+◌, ◌≤◌, ◌++◌, length};
 ghost use Rattle.hex.specs.Hex.{encode_lower};
 ghost use Rattle.uimg_base.specs.Outcome.{line};

@@ -1,3 +1,5 @@
+//! Values of several texts.
+
 ghost use Rattle.std.specs.Prelude.{◌≡◌, ◌+◌, ◌≤◌, ◌<◌, length, take, drop, is_err, IsTrue, IfOk, IfErr};
 ghost use Rattle.uimg_base.specs.Device.{RisesIf};
 ghost use Rattle.uimg_base.specs.Ranges.{is_read, is_put};

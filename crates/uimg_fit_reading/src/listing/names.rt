@@ -1,3 +1,5 @@
+//! Types, architectures, systems and compressions, by the names of U-Boot's tables.
+
 ghost use Rattle.std.specs.Prelude.{◌≡◌, ◌+◌, ◌≤◌, ◌++◌, min, length, codes, is_err, IsTrue, IfOk};
 ghost use Rattle.std.specs.Option.{option_map_or};
 ghost use Rattle.uimg_base.specs.Outcome.{line};

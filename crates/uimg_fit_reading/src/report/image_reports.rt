@@ -3,7 +3,7 @@ ghost use Rattle.std.specs.Prelude.{◌≡◌, ◌+◌, ◌≤◌, length, false
 ghost use Rattle.uimg_texts.specs.Slices.{slice};
 ghost use Rattle.uimg_base.specs.Ranges as moves;
 ghost use Rattle.uimg_blob.specs.Roles.{in_images};
-ghost use Rattle.uimg_fit_base.specs.Faults.{is_read, is_put, is_out_of_memory};
+ghost use Rattle.uimg_fit_base.specs.Faults.{is_read, is_put, is_out_of_memory, is_of_making};
 ghost use Rattle.uimg_fit_reading.specs.ImageReports.{ReportsFound, ReportsImage, ReportsImages, status_of};
 ghost use Rattle.uimg_fit_reading.specs.Nodes.{OfNode, OfNodes, HasNode, HasNodes};
 ghost use Rattle.uimg_fit_reading.specs.Puts.{Leaves};
@@ -56,6 +56,7 @@ fn report_image<S: Source, A: Allocator, W: Write>(
     ensures leaves { Leaves (is_read result) (is_put result) (S.device source.old)
         (S.device source.new) room.old room.new out.old out.new }
     ensures memory { is_out_of_memory result ≡ false }
+    ensures no_making { is_of_making result ≡ false }
     ensures told { OfNode (S.device source.old) blob.now room.old in_images image (λ found.
         ReportsImage (S.device source.old).bytes found (S.device source.old).asked
         (S.device source.new).asked result out.old out.new) }
@@ -87,6 +88,7 @@ pub(crate) fn report_images<S: Source, A: Allocator, W: Write>(
     ensures leaves { Leaves (is_read result) (is_put result) (S.device source.old)
         (S.device source.new) room.old room.new out.old out.new }
     ensures memory { is_out_of_memory result ≡ false }
+    ensures no_making { is_of_making result ≡ false }
     ensures told { OfNodes (S.device source.old) blob.now room.old in_images first (λ found.
         ReportsImages (S.device source.old).bytes found (S.device source.old).asked
         (S.device source.new).asked result out.old out.new) }

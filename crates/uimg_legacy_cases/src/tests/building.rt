@@ -1,3 +1,5 @@
+//! Images that are built, by bytes from outside.
+
 use super::commands::says;
 use super::images::{PLACE, make};
 use std::alloc::Global;

@@ -1,3 +1,5 @@
+//! How a command ends, and what it wrote, over sources and writers that fail.
+
 use super::case_rows::{CASES, DEVICES};
 use super::commands::{ends_as, ran};
 use super::images::{PLACE, make};

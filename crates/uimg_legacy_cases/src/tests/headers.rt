@@ -1,3 +1,5 @@
+//! Headers, read and written.
+
 use uimg_base::MemSource;
 use uimg_legacy::{Header, header_bytes, name_field, read_header};
 use uimg_samples::legacy::ABC_KERNEL;

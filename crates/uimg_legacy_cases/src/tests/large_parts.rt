@@ -1,3 +1,5 @@
+//! Parts that are too large for an image.
+
 use super::building::{ends_as, options_of, try_build};
 use super::zeros::ZeroSource;
 use std::alloc::Global;

@@ -1,3 +1,5 @@
+//! Parts longer than a window.
+
 use super::building::{options_of, try_build};
 use super::commands::ran;
 use std::alloc::Global;

@@ -1,3 +1,5 @@
+//! A table of sizes longer than a window.
+
 use super::commands::ran;
 use std::alloc::Global;
 use uimg_base::Status;

@@ -1,3 +1,5 @@
+//! SHA-1.
+
 ghost use Rattle.std.specs.Prelude.{◌≡◌, ℕ, List, [], ◌++◌};
 ghost use Rattle.sha1.specs.Sha1.{Holds, sha1};
 

@@ -1,3 +1,5 @@
+//! The words of `dumpimage`.
+
 use super::help_notes::DUMPIMAGE_NOTES;
 use super::{RunRequest, WordsFault, flag, image, value};
 use crate::command::{Action, Command, Format};

@@ -1,3 +1,5 @@
+//! The words of `mkimage`.
+
 ghost use Rattle.std.specs.Prelude.{◌≡◌, ◌≢◌, false, length, IfOk};
 ghost use Rattle.uimg_legacy.specs.Parts.{has_parts};
 ghost use Rattle.uimg_words.specs.Commands.{HasFitNames, has_fit_names_prop};

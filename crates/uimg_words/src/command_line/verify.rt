@@ -1,3 +1,5 @@
+//! The words of `verify`.
+
 use super::help_notes::VERIFY_NOTES;
 use super::{RunRequest, image};
 use crate::command::{Action, Command, Format};

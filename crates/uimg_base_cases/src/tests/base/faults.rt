@@ -1,3 +1,5 @@
+//! The lines of faults.
+
 use std::alloc::Global;
 use std::fmt::Display;
 use uimg_base::{MoveFault, PutFault, SourceFault};

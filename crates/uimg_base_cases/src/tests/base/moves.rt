@@ -1,3 +1,5 @@
+//! Ranges that are copied or summed, over devices that fail.
+
 use super::super::counted::counted;
 use std::alloc::Global;
 use uimg_base::{

@@ -1,3 +1,5 @@
+//! Files by their names, whose opens and reads may fail.
+
 use super::steps::reads_at;
 use uimg_base::{Files, FuseFiles, MemFiles, Source};
 

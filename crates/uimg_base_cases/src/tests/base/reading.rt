@@ -1,3 +1,5 @@
+//! Reads through the windows, in any order and size.
+
 use super::files::DigitFile;
 use super::steps::{number, reads_at};
 use std::cell::Cell;

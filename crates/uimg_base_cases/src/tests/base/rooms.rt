@@ -1,3 +1,5 @@
+//! Rooms whose memory is refused.
+
 use super::steps::{cut, number};
 use linked_list_allocator::LocalHeap;
 use std::alloc::Allocator;

@@ -1,3 +1,5 @@
+//! Shelves in memory and on a disk.
+
 use super::steps::{cut, file_step, plays_file, plays_source, spell};
 use linked_list_allocator::LocalHeap;
 use std::io::{ErrorKind, Write};

@@ -1,3 +1,5 @@
+//! Sources: slices, fuses and files.
+
 use super::steps::plays_source;
 use std::io::Cursor;
 use std::process::Abort;

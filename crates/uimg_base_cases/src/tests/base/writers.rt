@@ -1,3 +1,5 @@
+//! Writers that fail, and what was written until then.
+
 use super::super::counted::counted;
 use std::alloc::Global;
 use uimg_base::{FuseWriter, Out};

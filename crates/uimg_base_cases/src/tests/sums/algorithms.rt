@@ -1,3 +1,5 @@
+//! Algorithms by their names.
+
 use uimg_base::{Algo, crc_entry};
 
 // Names, with the length of their digests: no two are of one length. Length 0 is that of a name that no

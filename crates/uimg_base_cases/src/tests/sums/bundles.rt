@@ -1,3 +1,5 @@
+//! Several sums over the same bytes.
+
 use super::super::counted::counted;
 use super::{COUNTED_DIGESTS, is_entry};
 use uimg_base::{Algo, Bundle};

@@ -1,3 +1,5 @@
+//! Digests of published messages.
+
 // Vectors of RFC 1321, section A.5, and of NIST's examples for FIPS 180; those of CRC-32 are zlib's.
 use super::super::counted::counted;
 use super::{COUNTED_DIGESTS, is_entry, is_spelled};

@@ -1,3 +1,5 @@
+//! Codes and their names.
+
 use uimg_base::{
     arch_code, arch_text, comp_code, comp_text, kind_code, kind_text, os_code, os_text,
 };

@@ -1,3 +1,5 @@
+//! Numbers, sizes and times.
+
 use std::alloc::{AllocError, Global};
 use uimg_base::{
     FuseWriter, Out, PutFault, before_nul, first_nul, number_at, size_text, time_text, up4,

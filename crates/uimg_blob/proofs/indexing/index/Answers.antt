@@ -4,7 +4,7 @@ use Rattle.uimg_blob.specs.Blob.{blocks}
 use Rattle.uimg_blob.specs.Counts.{index_cost, nodes_met}
 use Rattle.uimg_blob.specs.Passes.{tokens_in}
 use Rattle.uimg_blob.proofs.KeyLaws.{passed_on}
-use Rattle.uimg_blob.proofs.IndexLaws.{header_err, indexed_err, tree_is, within_cost, prefix_file, prefix_header, finds}
+use Rattle.uimg_blob.proofs.IndexLaws.{header_err, indexed_err, tree_is, within_cost, prefix_file, prefix_header, so_far_header, so_far_file, finds}
 use Rattle.uimg_blob.proofs.indexing.index.Goals as goal
 
 pub returns-in_err-extent-clause-indexes : goal.returns-in_err-extent-clause-indexes
@@ -17,6 +17,11 @@ returns-in_err-extent-clause-prefix g c = λ honest.
     prefix_header (tokens_in (blocks (g.S.Source.device c.args.source.now).bytes)) c.in_err-extent.field-0.0 c.from_residual.result c.read_extent.result c.clear.new.self.entries
     (passed_on _ c.in_err-extent.field-0.0 c.from_residual.ensures.1) c.in_err-extent.was c.read_extent.ensures.no_memory
 
+pub returns-in_err-extent-clause-so_far : goal.returns-in_err-extent-clause-so_far
+returns-in_err-extent-clause-so_far g c = λ honest.
+    so_far_header (g.S.Source.device c.args.source.now).bytes c.in_err-extent.field-0.0 c.from_residual.result c.clear.new.self.entries
+    (passed_on _ c.in_err-extent.field-0.0 c.from_residual.ensures.1) (c.in_err-extent.ensures.gives honest) (ap (λ (h : Held). h.entries) c.clear.ensures)
+
 pub returns-in_err-state-clause-indexes : goal.returns-in_err-state-clause-indexes
 returns-in_err-state-clause-indexes g c =
     indexed_err _ _ c.in_ok-extent.extent c.in_err-state.field-0.0 c.pass.result c.from_residual-in_err-state.result c.pass.new.room.entries c.read_extent.ensures.uses.same c.in_ok-extent.ensures.gives
@@ -26,6 +31,11 @@ pub returns-in_err-state-clause-prefix : goal.returns-in_err-state-clause-prefix
 returns-in_err-state-clause-prefix g c =
     prefix_file _ _ c.in_ok-extent.extent c.in_err-state.field-0.0 c.pass.result c.from_residual-in_err-state.result c.pass.new.room.entries c.read_extent.ensures.uses.same c.in_ok-extent.ensures.gives
     c.in_err-state.was (passed_on _ c.in_err-state.field-0.0 c.from_residual-in_err-state.ensures.1) c.pass.ensures.prefix
+
+pub returns-in_err-state-clause-so_far : goal.returns-in_err-state-clause-so_far
+returns-in_err-state-clause-so_far g c =
+    so_far_file _ _ c.in_ok-extent.extent c.in_err-state.field-0.0 c.from_residual-in_err-state.result c.pass.new.room.entries c.read_extent.ensures.uses.same c.in_ok-extent.ensures.gives
+    (passed_on _ c.in_err-state.field-0.0 c.from_residual-in_err-state.ensures.1) c.in_err-state.ensures.stops
 
 pub returns-in_err-state-clause-asked : goal.returns-in_err-state-clause-asked
 returns-in_err-state-clause-asked g c = λ honest.

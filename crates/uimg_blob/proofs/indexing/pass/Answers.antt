@@ -1,12 +1,13 @@
-use Rattle.std.proofs.Common.{◌∙◌, ap, subst, refl, Option, Ok, Err, Some, None, IfSome, length, ◌≤◌, ◌<◌, ◌+◌, rules, arith}
+use Rattle.std.proofs.Common.{◌∙◌, ap, sym, subst, refl, Result, IfErr, Option, Ok, Err, Some, None, IfSome, length, ◌≤◌, ◌<◌, ◌+◌, rules, arith}
 use Rattle.uimg_blob.proofs.KeyLaws.{passed_on}
+use Rattle.uimg_blob.specs.declared.fault.IndexFault.{IndexFault}
 use Rattle.uimg_blob.specs.declared.states.State.{State}
 use Rattle.uimg_blob.specs.Extents.{blocks_of}
 use Rattle.uimg_blob.specs.Tokens.{tokens}
 use Rattle.uimg_blob.specs.Walk.{begun}
-use Rattle.uimg_blob.specs.Passes.{Steps}
+use Rattle.uimg_blob.specs.Passes.{Steps, StopsAt}
 use Rattle.uimg_blob.proofs.PhaseLaws.{holds_within}
-use Rattle.uimg_blob.proofs.IndexLaws.{begins, goes_on, ends_ok, ends_passed, ends_err, steps_same, paid_same, last_paid, stay_err, prefix_err}
+use Rattle.uimg_blob.proofs.IndexLaws.{begins, goes_on, ends_ok, ends_passed, ends_err, steps_same, paid_same, last_paid, stay_err, prefix_err, stops_at}
 use Rattle.uimg_blob.proofs.indexing.pass.Goals as goal
 
 pub loop-next-init : goal.loop-next-init
@@ -64,10 +65,13 @@ returns-in_err-next g c =
     record {
       uses = search rules;
       room = search rules;
+      no_making = search rules;
       few = omega (arith, pass.holds.few, now.invariant.near, ap length stay);
       within = last_paid d.honest b (begun (tokens b)) now.state now.room.entries new d.asked e.asked (g.S.Source.device c.step.new.source).asked pass
           (paid_same d e c.args.extent now.state.at (g.S.Source.device c.step.new.source).asked now.invariant.same c.step.ensures.uses.asked) stay;
       prefix = prefix_err d.honest b (begun (tokens b)) now.state now.room.entries new fault c.from_residual.result d.asked e.asked pass is steps;
+      stops = λ honest. subst (λ (r : Result State IndexFault). IfErr r (λ f. StopsAt (tokens b) f new)) (sym is)
+          (stops_at d.honest b (begun (tokens b)) now.state now.room.entries new fault d.asked e.asked pass steps honest);
       passed = search rules;
       indexes = ends_err d.honest b (begun (tokens b)) now.state now.room.entries new fault c.from_residual.result d.asked e.asked pass is steps;
     }
@@ -86,10 +90,12 @@ returns g c =
     record {
       uses = search rules;
       room = search rules;
+      no_making = search rules;
       few = omega (arith, pass.holds.few, now.invariant.near, ap length stay);
       within = last_paid d.honest b (begun (tokens b)) now.state now.room.entries new d.asked e.asked (g.S.Source.device c.step.new.source).asked pass
           (paid_same d e c.args.extent now.state.at (g.S.Source.device c.step.new.source).asked now.invariant.same c.step.ensures.uses.asked) stay;
       prefix = λ honest. tt;
+      stops = λ honest. tt;
       passed = ends_passed d.honest b now.state now.room.entries new d.asked e.asked pass steps;
       indexes = ends_ok d.honest b (begun (tokens b)) now.state now.room.entries new now.state d.asked e.asked pass steps;
     }

@@ -25,6 +25,7 @@ returns-in_err-token g c =
         refuses = refuses_read t c.from_residual.result is;
         lies = on_err _ c.from_residual.result Read is;
       };
+      no_making = search rules;
       ahead = search rules;
     }
 
@@ -39,6 +40,7 @@ returns-then-is_done g c =
       room = search rules;
       steps = λ p h. step_ends d.honest b p s c.in_ok-token.token c.args.room.now c.read_token.new.room f c.read_token.ensures.room
           (λ now. sym (c.is_done.ensures p f.token_is now f.read) ∙ c.if-is_done.true) h;
+      no_making = search rules;
       ahead = search rules;
     }
 
@@ -56,6 +58,7 @@ returns-in_err-next g c =
       steps = λ p h. subst (λ (r : Result (Option State) IndexFault). Steps d.honest b p s.at r c.args.room.now.entries c.act.new.room.entries) (sym is)
           (step_goes d.honest b p s c.in_ok-token.token _ c.args.room.now c.read_token.new.room c.act.new.room f c.read_token.ensures.room
           (λ now. sym (c.is_done.ensures p f.token_is now f.read) ∙ c.if-is_done.false) c.in_err-next.ensures h);
+      no_making = search rules;
       ahead = search rules;
     }
 
@@ -70,5 +73,6 @@ returns g c =
       room = adds_grows _ _ c.args.room.now c.read_token.new.room c.act.new.room c.read_token.ensures.room c.in_ok-next.ensures.room;
       steps = λ p h. step_goes d.honest b p s c.in_ok-token.token _ c.args.room.now c.read_token.new.room c.act.new.room f c.read_token.ensures.room
           (λ now. sym (c.is_done.ensures p f.token_is now f.read) ∙ c.if-is_done.false) c.in_ok-next.ensures h;
+      no_making = search rules;
       ahead = c.in_ok-next.ensures.ahead c.args.extent.structure_end c.in_ok-token.ensures.stands;
     }

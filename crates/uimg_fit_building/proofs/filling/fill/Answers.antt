@@ -3,14 +3,18 @@ use Rattle.std.specs.List.{AllByRecursion}
 use Rattle.std.specs.Option.{IfSome, IsSomeAnd}
 use Rattle.std.specs.Bool.{⊤}
 use Rattle.uimg_blob.specs.LookUps.{images}
-use Rattle.uimg_tree.specs.Content.{Unread}
+use Rattle.uimg_blob.specs.Plain.{NamedOf, no_node, a_node}
+use Rattle.uimg_tree.specs.Content.{Content, Unread, bytes}
+use Rattle.uimg_tree.specs.Encoding.{word}
 use Rattle.uimg_tree.specs.Trees.{siblings, node_of}
 use Rattle.uimg_tree.specs.declared.tree.Node.{Node}
 use Rattle.uimg_tree.specs.declared.tree.Tree.{Tree}
 use Rattle.uimg_fit_building.specs.FillAnswers.{opens_no_file, fails_to_read, FillsAnswer}
 use Rattle.uimg_fit_building.specs.FillOrder.{IsPassed, FillsInOrder}
 use Rattle.uimg_fit_building.specs.ImageFillings.{IsKeptImage, images_among, FillsBelow, fault_among, filled_over}
-use Rattle.uimg_fit_building.specs.Filling.{in_first, each}
+use Rattle.uimg_fit_building.specs.Filling.{with, in_first, each}
+use Rattle.uimg_fit_building.specs.PayloadSums.{no_files}
+use Rattle.uimg_fit_building.specs.DigestBytes.{zeroed_below}
 use Rattle.uimg_fit_building.proofs.EachLaws.{written-back}
 use Rattle.uimg_fit_building.proofs.FillOrderLaws.{by-refusal, order-passed}
 use Rattle.uimg_fit_building.proofs.FillTreeLaws.{kept-below, told-filled, told-refused}
@@ -74,3 +78,15 @@ returns-clause-order g c = λ honest.
     let files = (g.F.Files.map c.args.files.now).bytes in
     let below : siblings c.as_mut_slice.result.now ≡ root.children = ap siblings c.as_mut_slice.ensures.value ∙ c.into_vec-nodes.ensures in
     subst (λ (t : Unread). IsSomeAnd (images_among t) (AllByRecursion (IsPassed files))) below (c.in_ok-fill_below.ensures.order honest)
+
+pub returns-clause-rest : goal.returns-clause-rest
+returns-clause-rest g c =
+    let root = c.args.tree.root in
+    let below : siblings c.as_mut_slice.result.now ≡ root.children = ap siblings c.as_mut_slice.ensures.value ∙ c.into_vec-nodes.ensures in
+    let slots = c.as_mut_slice.ensures in
+    let long : length c.into_vec-nodes.result.items ≡ c.into_vec-nodes.result.len = ap (λ (l : List (Node _)). length l) (sym slots.value) ∙ slots.len in
+    let back = written-back c.into_vec-nodes.result.len c.fill_below.new.nodes c.into_vec-nodes.result.items (omega (arith, long, slots.len, c.fill_below.auto.nodes)) long (omega (arith, slots.len, c.fill_below.auto.nodes)) in
+    let told = ap zeroed_below (c.of-children.ensures ∙ ap siblings back) ∙ c.in_ok-fill_below.ensures.rest
+    ∙ ap (λ (t : Unread). zeroed_below (in_first (codes "images") (each (filled_over no_files)) t)) below in
+    ap (λ (l : List (NamedOf Content)). a_node root.name l (zeroed_below c.of-children.result) no_node) c.in_ok-props.ensures.set
+    ∙ ap (λ (t : Unread). a_node root.name (with (codes "timestamp") (bytes (word c.args.time)) root.props) t no_node) told

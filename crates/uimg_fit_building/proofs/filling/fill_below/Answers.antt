@@ -1,4 +1,4 @@
-use Rattle.std.proofs.Common.{rules, ◌≡◌, ◌<◌, ◌≤◌, ℕ, List, Option, Some, length, get_or, set, ap, sym, subst, arith}
+use Rattle.std.proofs.Common.{rules, ◌≡◌, ◌∙◌, ◌<◌, ◌≤◌, ℕ, List, Option, Some, length, get_or, set, ap, sym, subst, arith}
 use Rattle.std.specs.List.{AllByRecursion}
 use Rattle.std.specs.Bool.{⊤}
 use Rattle.uimg_blob.specs.LookUps.{NodeOf, listed}
@@ -6,8 +6,13 @@ use Rattle.uimg_tree.specs.Content.{Content}
 use Rattle.uimg_tree.specs.Trees.{siblings}
 use Rattle.uimg_tree.specs.declared.tree.Node.{Node}
 use Rattle.uimg_fit_building.specs.FillOrder.{FillsInOrder}
-use Rattle.uimg_fit_building.specs.ImageFillings.{IsKeptImage, FillsParent, FillsBelow}
-use Rattle.uimg_fit_building.proofs.FillTreeLaws.{before, none-among, no-images, among-found, root-told, images-kept}
+use Rattle.uimg_fit_building.specs.Filling.{each}
+use Rattle.uimg_fit_building.specs.ImageFillings.{filled_over, IsKeptImage, FillsParent, FillsBelow}
+use Rattle.uimg_fit_building.specs.PayloadSums.{no_files}
+use Rattle.uimg_fit_building.specs.DigestBytes.{zeroed_parent, zeroed_below}
+use Rattle.uimg_fit_building.proofs.FilledHashLaws.{on-ok}
+use Rattle.uimg_fit_building.proofs.DigestBytesLaws.{below-zeroed}
+use Rattle.uimg_fit_building.proofs.FillTreeLaws.{before, with_children, none-among, no-images, among-found, root-told, images-kept}
 use Rattle.uimg_fit_building.proofs.filling.fill_below.Goals as goal
 
 pub returns-then-at-nodes-clause-filled : goal.returns-then-at-nodes-clause-filled
@@ -58,3 +63,15 @@ returns-clause-order g c = λ honest.
     let is : get_or ns c.before_images-at.result d ≡ get_or ns (before ns) d = ap (λ (k : ℕ). get_or ns k d) c.before_images-at.ensures in
     let told = subst (λ (n : Node _). FillsInOrder files g.F.Opened.Source.steady (Some (listed n.children)) c.fill_parent.result) is (c.fill_parent.ensures.order honest) in
     subst (λ (o : Option (List (NodeOf Content))). FillsInOrder files g.F.Opened.Source.steady o c.fill_parent.result) (sym (among-found ns d within)) told
+
+pub returns-clause-rest : goal.returns-clause-rest
+returns-clause-rest g c =
+    let ns = c.args.nodes.now in
+    let d = c.index-nodes-at.result in
+    let new = c.fill_parent.new.parent in
+    let within : before ns < length ns = omega (arith, c.if-at-nodes.false, c.before_images-at.ensures) in
+    let is : get_or ns c.before_images-at.result d ≡ get_or ns (before ns) d = ap (λ (k : ℕ). get_or ns k d) c.before_images-at.ensures in
+    on-ok c.fill_parent.result
+    (λ same. ap (λ (k : ℕ). zeroed_below (siblings (set ns k new))) c.before_images-at.ensures
+    ∙ below-zeroed (each (filled_over no_files)) ns d new within (same ∙ ap (λ (n : Node _). zeroed_parent (with_children (each (filled_over no_files)) n)) is))
+    c.fill_parent.ensures.rest

@@ -9,7 +9,10 @@ use Rattle.uimg_fit_building.specs.Behind.{entry}
 use Rattle.uimg_fit_building.specs.Filling.{each}
 use Rattle.uimg_fit_building.specs.FillOrder.{FillsInOrder}
 use Rattle.uimg_fit_building.specs.ImageFillings.{filled_over, IsKeptImage}
+use Rattle.uimg_fit_building.specs.PayloadSums.{no_files}
+use Rattle.uimg_fit_building.specs.DigestBytes.{zeroed_image}
 use Rattle.uimg_fit_building.proofs.EachLaws.{written-back}
+use Rattle.uimg_fit_building.proofs.FilledHashLaws.{on-ok}
 use Rattle.uimg_fit_building.proofs.ImageFillLaws.{listed-siblings, siblings-each}
 use Rattle.uimg_fit_building.proofs.FillTreeLaws.{parent-told}
 use Rattle.uimg_fit_building.proofs.filling.fill_parent.Goals as goal
@@ -48,3 +51,16 @@ returns-clause-order g c = λ honest.
     let below : siblings c.as_mut_slice.result.now ≡ c.args.parent.now.children = ap siblings c.as_mut_slice.ensures.value ∙ c.into_vec-images.ensures ∙ c.replace-nodes.ensures.value in
     let are : map entry c.as_mut_slice.result.now ≡ listed c.args.parent.now.children = sym (listed-siblings c.as_mut_slice.result.now) ∙ ap (λ (t : Unread). listed t) below in
     subst (λ (l : List (NodeOf Content)). FillsInOrder (g.F.Files.map c.args.files.now) g.F.Opened.Source.steady (Some l) c.fill_images-answer.result) are (c.fill_images-answer.ensures.order honest)
+
+pub returns-clause-rest : goal.returns-clause-rest
+returns-clause-rest g c =
+    let parent = c.args.parent.now in
+    let now = c.fill_images-answer.new.images in
+    let below : siblings c.as_mut_slice.result.now ≡ parent.children = ap siblings c.as_mut_slice.ensures.value ∙ c.into_vec-images.ensures ∙ c.replace-nodes.ensures.value in
+    let slots = c.as_mut_slice.ensures in
+    let long : length c.into_vec-images.result.items ≡ c.into_vec-images.result.len = ap (λ (l : List (Node _)). length l) (sym slots.value) ∙ slots.len in
+    let back = written-back c.into_vec-images.result.len now c.into_vec-images.result.items (omega (arith, long, slots.len, c.fill_images-answer.auto.images)) long (omega (arith, slots.len, c.fill_images-answer.auto.images)) in
+    let made = λ (t : Unread). let n : Node g.row.A.Denot = record { name = parent.name; props = parent.props; children = t } in n in
+    on-ok c.fill_images-answer.result
+    (λ same. ap made (ap (each zeroed_image) (c.of-2.ensures ∙ ap siblings back) ∙ same ∙ ap (λ (t : Unread). each zeroed_image (each (filled_over no_files) t)) below))
+    c.fill_images-answer.ensures.rest

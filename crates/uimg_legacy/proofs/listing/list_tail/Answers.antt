@@ -10,12 +10,12 @@ pub returns-in_err-put_all : goal.returns-in_err-put_all
 returns-in_err-put_all g c =
     let has : has_parts c.args.header.now.kind ≡ true = sym c.has_parts.ensures ∙ c.if-not-has_parts.false in
     let failed = err_from_is_err_and c.from_residual-in_err-put_all.result c.from_residual-in_err-put_all.ensures.1 in
-    reports_by (rw has (search rules)) (search rules) (search rules) (λ honest. rw (failed.1, failed.2, has, (c.in_ok-count.ensures.reads.answer honest).0) (prefix_first _ _ _ _ c.in_err-put_all.ensures.writes.prefix))
+    reports_by (rw has (search rules)) (search rules) (search rules) (search rules) (λ honest. rw (failed.1, failed.2, has, (c.in_ok-count.ensures.reads.answer honest).0) (prefix_first _ _ _ _ c.in_err-put_all.ensures.writes.prefix))
 
 pub returns : goal.returns
 returns g c =
     let has : has_parts c.args.header.now.kind ≡ true = sym c.has_parts.ensures ∙ c.if-not-has_parts.false in
-    reports_by (rw has (search rules)) (search rules) (search rules) (λ honest.
+    reports_by (rw has (search rules)) (search rules) (search rules) (search rules) (λ honest.
     let same = c.count_sizes.ensures.reads.uses.same in
     let counts = c.in_ok-count.ensures.reads.answer honest in
     let lines = rw same.bytes at c.list_parts.ensures.told (honest_still same honest) in

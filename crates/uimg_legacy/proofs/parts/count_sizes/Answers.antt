@@ -7,7 +7,7 @@ use Rattle.uimg_legacy.proofs.ChunkLaws.{sizes_window}
 use Rattle.uimg_legacy.proofs.parts.count_sizes.Goals as goal
 
 pub returns-then-found-next-clause-reads : goal.returns-then-found-next-clause-reads
-returns-then-found-next-clause-reads g c = reads_by (search rules) (search rules) (search rules) (λ honest.
+returns-then-found-next-clause-reads g c = reads_by (search rules) (search rules) (search rules) (search rules) (λ honest.
     let image = (g.S.Source.device c.args.source.now).bytes in
     let d = slice image 64 c.args.size in
     let inv = c.loop-counted.invariant in
@@ -32,7 +32,7 @@ loop-counted-preserved g c =
     }
 
 pub returns-clause-reads : goal.returns-clause-reads
-returns-clause-reads g c = reads_by (search rules) (search rules) (search rules) (λ honest.
+returns-clause-reads g c = reads_by (search rules) (search rules) (search rules) (search rules) (λ honest.
     let image = (g.S.Source.device c.args.source.now).bytes in
     let d = slice image 64 c.args.size in
     parts_none d (omega (arith, (length-words d).0, c.loop-counted.invariant.sizes honest, length-slice image 64 c.args.size c.requires)))

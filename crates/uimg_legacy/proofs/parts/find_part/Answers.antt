@@ -8,14 +8,14 @@ use Rattle.uimg_legacy.proofs.parts.find_part.Goals as goal
 pub returns-then-position-count-clause-reads : goal.returns-then-position-count-clause-reads
 returns-then-position-count-clause-reads g c =
     let has : has_parts c.args.header.now.kind ≡ true = sym c.has_parts.ensures ∙ c.if-not-has_parts.false in
-    reads_by (rw has (search rules)) (search rules) (search rules) (λ honest.
+    reads_by (rw has (search rules)) (search rules) (search rules) (search rules) (λ honest.
     let counts = c.in_ok-count.ensures.reads.answer honest in
     rw (has, counts.0) (part_missing _ _ c.args.position (omega (arith, counts.1))))
 
 pub returns-then-start-len-clause-reads : goal.returns-then-start-len-clause-reads
 returns-then-start-len-clause-reads g c =
     let has : has_parts c.args.header.now.kind ≡ true = sym c.has_parts.ensures ∙ c.if-not-has_parts.false in
-    reads_by (rw has (search rules)) (search rules) (search rules) (λ honest.
+    reads_by (rw has (search rules)) (search rules) (search rules) (search rules) (λ honest.
     let size = c.args.header.now.size in
     let counts = c.in_ok-count.ensures.reads.answer honest in
     let first = c.count_sizes.ensures.reads.uses.same in
@@ -26,7 +26,7 @@ returns-then-start-len-clause-reads g c =
 pub returns-clause-reads : goal.returns-clause-reads
 returns-clause-reads g c =
     let has : has_parts c.args.header.now.kind ≡ true = sym c.has_parts.ensures ∙ c.if-not-has_parts.false in
-    reads_by (rw has (search rules)) (search rules) (search rules) (λ honest.
+    reads_by (rw has (search rules)) (search rules) (search rules) (search rules) (λ honest.
     let size = c.args.header.now.size in
     let counts = c.in_ok-count.ensures.reads.answer honest in
     let first = c.count_sizes.ensures.reads.uses.same in

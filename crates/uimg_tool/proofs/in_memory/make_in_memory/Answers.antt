@@ -12,4 +12,4 @@ pub returns-clause-missing : goal.returns-clause-missing
 returns-clause-missing g c =
     subst (λ (files : List ℕ → Option (List ℕ)). IfErr c.make.result (LacksFile c.args.command.now files))
     (ap (λ (m : FileMap). m.bytes) c.new.ensures)
-    (lacks_file _ c.args.command.now c.make.result _ _ c.make.ensures.files (search rules, refl, search rules) (search rules))
+    (lacks_file c.args.command.now c.make.result _ _ c.make.ensures.files (search rules) (search rules))

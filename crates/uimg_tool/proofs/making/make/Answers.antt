@@ -1,6 +1,7 @@
 use Rattle.std.proofs.Common.{rules, ◌≡◌, Some, []}
 use Rattle.std.specs.Bool.{⊤}
 use Rattle.std.proofs.lemmas.Result.{err_from_is_err_and}
+use Rattle.uimg_base.specs.declared.status.Status.{Status}
 use Rattle.uimg_tool.proofs.CommandLaws.{building_stops_command, keeping_command, listing_makes_command, listing_stops_command, listing_loses_none, room_stays, holds_nothing, holds_listed}
 use Rattle.uimg_tool.proofs.making.make.Goals as goal
 
@@ -31,12 +32,9 @@ returns-clause-made g c = λ files shelf empty.
     listing_makes_command g.H.Kept.Source.device _ c.args.command.now c.args.time _ _ c.in_ok-list_kept.field-0 _ _ keeps c.list_kept.ensures.same (c.in_ok-list_kept.ensures.told kept.1)
 
 pub returns-in_err-list_kept-clause-steady_payloads : goal.returns-in_err-list_kept-clause-steady_payloads
-returns-in_err-list_kept-clause-steady_payloads g c = λ steady files shelf empty.
+returns-in_err-list_kept-clause-steady_payloads g c = λ steady files.
     let p = err_from_is_err_and c.from_residual-in_err-list_kept.result c.from_residual-in_err-list_kept.ensures.1 in
-    let kept = c.in_ok-kept.ensures.kept shelf in
-    let none : c.new-image.result.contents ≡ Some [] = search rules in
-    let keeps = keeping_command c.args.command.now c.args.time _ _ _ _ _ (g.H.Kept.Source.device c.in_ok-kept.kept) (c.in_ok-build_image.ensures.built files) none c.in_ok-shelf.ensures.written kept.0 kept.1 in
-    rw (p.1, p.2) (listing_loses_none ⊤ c.args.command.now c.args.time _ _ c.in_err-list_kept.field-0.0 _ _ keeps (c.in_err-list_kept.ensures.told kept.1))
+    rw (p.1, p.2) (listing_loses_none Status ⊤ c.in_err-list_kept.field-0.0 c.in_err-list_kept.ensures.not_making)
 
 pub returns-in_err-build_image-clause-peak : goal.returns-in_err-build_image-clause-peak
 returns-in_err-build_image-clause-peak g c = λ files shelf empty.

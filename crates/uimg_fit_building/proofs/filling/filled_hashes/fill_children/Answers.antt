@@ -6,8 +6,10 @@ use Rattle.uimg_fit_building.specs.Behind.{entry}
 use Rattle.uimg_fit_building.specs.ImageFillings.{hashed_in}
 use Rattle.uimg_fit_base.specs.AlgoSets.{set_of}
 use Rattle.uimg_fit_building.specs.PayloadSums.{IsCovered}
-use Rattle.uimg_fit_building.proofs.EachLaws.{same-at, changed-more, changed-all}
+use Rattle.uimg_fit_building.specs.DigestBytes.{zeroed_child}
+use Rattle.uimg_fit_building.proofs.EachLaws.{same-at, rest-more, changed-more, changed-all, agree-more, agree-all}
 use Rattle.uimg_fit_building.proofs.FilledHashLaws.{covered-at}
+use Rattle.uimg_fit_building.proofs.DigestBytesLaws.{each-agrees}
 use Rattle.uimg_fit_building.proofs.filling.filled_hashes.fill_children.Goals as goal
 
 pub loop-node-preserved : goal.loop-node-preserved
@@ -29,8 +31,21 @@ loop-node-preserved g c =
           λ is. subst (λ (n : Node _). IsCovered set (entry n)) (sym here) (covered-at set old i d in_old covered (subst (λ (n : Node _). is_hash n.name ≡ true) here is)) in
           changed-more entry (hashed_in message) old now i d c.fill_child.new.node in_old in_now was
           (c.in_ok-fill_child.ensures.filled message all covers ∙ ap (λ (n : Node _). hashed_in message (entry n)) here);
+      rest = rest-more old now i d c.fill_child.new.node in_old in_now c.loop-node.invariant.rest;
+      zeroed = λ message.
+          let here : child ≡ get_or old i d = same-at entry (hashed_in message) old now i d in_old in_now c.loop-node.invariant.rest in
+          agree-more (λ (n : Node _). zeroed_child (entry n)) (λ (n : Node _). zeroed_child (hashed_in message (entry n))) old now i d c.fill_child.new.node in_old in_now
+          (c.loop-node.invariant.zeroed message) (c.in_ok-fill_child.ensures.rest message ∙ ap (λ (n : Node _). zeroed_child (hashed_in message (entry n))) here);
     }
 
 pub returns-clause-filled : goal.returns-clause-filled
 returns-clause-filled g c = λ message all covered.
     changed-all entry (hashed_in message) c.args.nodes.now c.loop-node.nodes c.loop-node.node-index (omega (arith, c.loop-node.invariant.long)) (omega (arith)) (c.loop-node.invariant.changed message all covered)
+
+pub returns-clause-rest : goal.returns-clause-rest
+returns-clause-rest g c = λ message.
+    let old = c.args.nodes.now in
+    let now = c.loop-node.nodes in
+    each-agrees zeroed_child (hashed_in message) old now
+    (agree-all (λ (n : Node _). zeroed_child (entry n)) (λ (n : Node _). zeroed_child (hashed_in message (entry n))) old now c.loop-node.node-index
+    (omega (arith, c.loop-node.invariant.long)) (omega (arith)) (c.loop-node.invariant.zeroed message))

@@ -8,6 +8,8 @@ use Rattle.uimg_fit_base.specs.declared.algo_sets.AlgoSet.{AlgoSet}
 use Rattle.uimg_tree.specs.Content.{bytes_in}
 use Rattle.uimg_tree.specs.Properties.{content}
 use Rattle.uimg_tree.specs.Trees.{siblings}
+use Rattle.uimg_fit_building.specs.Filling.{each}
+use Rattle.uimg_fit_building.specs.DigestBytes.{zeroed_child}
 use Rattle.uimg_fit_building.proofs.FillOrderLaws.{always}
 use Rattle.uimg_fit_building.proofs.ImageFillLaws.{not-known, all-known, all-covered, none-found, none-hashed, some-hashed, stops-at, children-filled}
 use Rattle.uimg_fit_base.proofs.AlgoSetLaws.{empty-is, some-are}
@@ -51,3 +53,9 @@ returns-then-is_empty-clause-kept g c = λ honest hashed.
 
 pub returns-in-Ok-clause-kept : goal.returns-in-Ok-clause-kept
 returns-in-Ok-clause-kept g c = λ honest. always c.fill_children.result (λ hashed. c.in-Ok.ensures.kept honest)
+
+pub returns-then-is_empty-clause-rest : goal.returns-then-is_empty-clause-rest
+returns-then-is_empty-clause-rest g c = λ message.
+    let is = sym c.algos_of.ensures ∙ c.in-Some.is in
+    let empty = empty-is c.in-Some.set (sym c.is_empty.ensures ∙ c.if-is_empty.true) in
+    ap (each zeroed_child) (none-hashed c.args.nodes.now _ refl message (is ∙ ap (λ (s : AlgoSet). let o : Option AlgoSet = Some s in o) empty))

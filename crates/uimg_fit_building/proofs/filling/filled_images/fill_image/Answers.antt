@@ -8,12 +8,16 @@ use Rattle.uimg_tree.specs.Content.{Content, Unread, IsKept}
 use Rattle.uimg_tree.specs.Properties.{content}
 use Rattle.uimg_tree.specs.Trees.{siblings}
 use Rattle.uimg_tree.specs.declared.tree.Node.{Node}
-use Rattle.uimg_fit_building.specs.Filling.{without_external}
+use Rattle.uimg_fit_building.specs.Filling.{without_external, each}
 use Rattle.uimg_fit_building.specs.Behind.{entry}
-use Rattle.uimg_fit_building.specs.ImageFillings.{FillsHashes, FillsImage}
+use Rattle.uimg_fit_building.specs.ImageFillings.{hashed_in, filled_over, FillsHashes, FillsImage}
+use Rattle.uimg_fit_building.specs.PayloadSums.{no_files, in_memory}
+use Rattle.uimg_fit_building.specs.DigestBytes.{zeroed_child, zeroed_image}
 use Rattle.uimg_fit_building.proofs.EachLaws.{written-back}
+use Rattle.uimg_fit_building.proofs.FilledHashLaws.{on-ok}
 use Rattle.uimg_fit_building.proofs.FillOrderLaws.{next-is}
 use Rattle.uimg_fit_building.proofs.ImageFillLaws.{no-data, image-told, content-none, content-some}
+use Rattle.uimg_fit_building.proofs.DigestBytesLaws.{image-zeroed}
 use Rattle.uimg_fit_building.proofs.filling.filled_images.fill_image.Goals as goal
 
 pub returns-in_default-clause-filled : goal.returns-in_default-clause-filled
@@ -53,3 +57,23 @@ returns-clause-order g c = λ honest.
     (subst (λ (t : Unread). FillsHashes (λ u. siblings now) files.bytes payload t answer) below (c.fill_hashes-answer.ensures.filled honest))
     (subst (λ (t : Unread). OnOk answer (filter (λ h. is_hash h.name) (listed t) ≢ [] → IsKept files.bytes payload)) below (c.fill_hashes-answer.ensures.kept honest))
     c.fill_hashes-answer.ensures.opens.found (λ steady kept. c.fill_hashes-answer.ensures.opens.steady steady honest kept)
+
+pub returns-clause-rest : goal.returns-clause-rest
+returns-clause-rest g c =
+    let image = c.args.image.now in
+    let now = c.fill_hashes-answer.new.nodes in
+    let payload = content c.in-Some.payload.now in
+    let answer = c.fill_hashes-answer.result in
+    let there = sym c.payload_of.ensures ∙ content-some _ c.payload_of.result c.in-Some.payload c.in-Some.is in
+    let below : siblings c.as_mut_slice.result.now ≡ image.children = ap siblings c.as_mut_slice.ensures.value ∙ c.into_vec-list.ensures ∙ c.replace-nodes.ensures.value in
+    let slots = c.as_mut_slice.ensures in
+    let long : length c.into_vec-list.result.items ≡ c.into_vec-list.result.len = ap (λ (l : List (Node _)). length l) (sym slots.value) ∙ slots.len in
+    let back = written-back c.into_vec-list.result.len now c.into_vec-list.result.items (omega (arith, long, slots.len, c.fill_hashes-answer.auto.nodes)) long (omega (arith, slots.len, c.fill_hashes-answer.auto.nodes)) in
+    let own = c.without_external.ensures ∙ ap (λ (l : List (NamedOf Content)). without_external l) c.replace-props.ensures.value in
+    let children = c.of-2.ensures ∙ ap siblings back in
+    let filled = zeroed_image (filled_over no_files (entry image)) in
+    let told : OnOk answer (zeroed_image (record { name = image.name; own = without_external image.props; below = siblings now }) ≡ filled) =
+    on-ok answer (λ same. image-zeroed (entry image) payload (siblings now) there same)
+    (subst (λ (t : Unread). OnOk answer (each zeroed_child (siblings now) ≡ each zeroed_child (each (hashed_in (in_memory payload)) t))) below (c.fill_hashes-answer.ensures.rest (in_memory payload))) in
+    subst (λ (l : List (NamedOf Content)). OnOk answer (zeroed_image (record { name = image.name; own = l; below = c.of-2.result }) ≡ filled)) (sym own)
+    (subst (λ (t : Unread). OnOk answer (zeroed_image (record { name = image.name; own = without_external image.props; below = t }) ≡ filled)) (sym children) told)

@@ -6,7 +6,10 @@ use Rattle.uimg_fit_building.specs.Behind.{entry}
 use Rattle.uimg_fit_building.specs.FillAnswers.{opens_no_file, fails_to_read}
 use Rattle.uimg_fit_building.specs.FillOrder.{IsPassed, IsRefused, FillsInOrder}
 use Rattle.uimg_fit_building.specs.ImageFillings.{filled_over, fault_in_memory, FillsImage, FillsImages, IsKeptImage}
-use Rattle.uimg_fit_building.proofs.EachLaws.{same-at, rest-more, changed-more}
+use Rattle.uimg_fit_building.specs.PayloadSums.{no_files}
+use Rattle.uimg_fit_building.specs.DigestBytes.{zeroed_image}
+use Rattle.uimg_fit_building.proofs.EachLaws.{same-at, rest-more, changed-more, agree-more, agree-all}
+use Rattle.uimg_fit_building.proofs.DigestBytesLaws.{each-agrees}
 use Rattle.uimg_fit_building.proofs.FillOrderLaws.{by-refusal, all-more, all-of, refused-before, order-refused}
 use Rattle.uimg_fit_building.proofs.ImagesFillLaws.{images-refused, sound-more, entry-at, none-sound}
 use Rattle.uimg_fit_building.proofs.filling.filled_images.fill_images.Goals as goal
@@ -19,6 +22,7 @@ loop-image-init g c = record {
   rest = refl;
   filled = λ honest. record { rest = refl; done = refl };
   sound = λ honest. none-sound;
+  zeroed = refl;
   passed = λ honest. tt;
 }
 
@@ -117,6 +121,8 @@ loop-image-preserved g c =
       sound = λ honest.
           let told = c.in_ok-fill_image.ensures.filled (subst (λ (b : Bool). IsTrue b) (sym s.same.honest) honest) in
           sound-more old i d in_old (s.sound honest) (subst (λ (n : Node _). fault_in_memory (entry n) ≡ None) here told.0);
+      zeroed = agree-more (λ (n : Node _). zeroed_image (entry n)) (λ (n : Node _). zeroed_image (filled_over no_files (entry n))) old now i d new in_old in_now s.zeroed
+          (c.in_ok-fill_image.ensures.rest ∙ ap (λ (n : Node _). zeroed_image (filled_over no_files (entry n))) here);
       passed = λ honest.
           let told = c.in_ok-fill_image.ensures.order (subst (λ (b : Bool). IsTrue b) (sym s.same.honest) honest) in
           let same = subst (λ (b : List ℕ → Option (List ℕ)). IsPassed b (entry (get_or now i d))) s.same.bytes told in
@@ -127,3 +133,12 @@ pub returns-clause-order : goal.returns-clause-order
 returns-clause-order g c = λ honest.
     let s = c.loop-image.invariant in
     all-of (IsPassed (g.F.Files.map c.args.files.now).bytes) c.args.images.now c.loop-image.image-index (omega (arith, s.long)) (s.passed honest)
+
+pub returns-clause-rest : goal.returns-clause-rest
+returns-clause-rest g c =
+    let old = c.args.images.now in
+    let now = c.loop-image.images in
+    let s = c.loop-image.invariant in
+    each-agrees zeroed_image (filled_over no_files) old now
+    (agree-all (λ (n : Node _). zeroed_image (entry n)) (λ (n : Node _). zeroed_image (filled_over no_files (entry n))) old now c.loop-image.image-index
+    (omega (arith, s.long)) (omega arith) s.zeroed)

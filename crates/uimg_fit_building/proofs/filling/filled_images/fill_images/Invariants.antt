@@ -4,10 +4,12 @@ use Rattle.uimg_base.specs.Named.{SameFiles}
 use Rattle.uimg_fit_building.specs.Behind.{entry}
 use Rattle.uimg_fit_building.specs.FillOrder.{IsPassed}
 use Rattle.uimg_fit_building.specs.ImageFillings.{filled_over, first_in_memory}
-use Rattle.uimg_fit_building.proofs.EachLaws.{ChangedTo}
+use Rattle.uimg_fit_building.specs.PayloadSums.{no_files}
+use Rattle.uimg_fit_building.specs.DigestBytes.{zeroed_image}
+use Rattle.uimg_fit_building.proofs.EachLaws.{ChangedTo, AgreeTo}
 use Rattle.uimg_fit_building.proofs.filling.filled_images.fill_images.Given as goal
 
--- the images before the index are filled, none of them is refused, and the others are as they were
+-- the images before the index are filled, over any files but for their digests, none of them is refused, and the others are as they were
 abbrev pub invariant-loop-image : goal.invariant-loop-image
 invariant-loop-image g l =
     let files = g.F.Files.map l.fn.files in
@@ -18,5 +20,6 @@ invariant-loop-image g l =
       rest : drop l.image-index l.images ≡ drop l.image-index l.fn.images;
       filled : IsTrue files.honest → ChangedTo entry (filled_over files.bytes) l.fn.images l.images l.image-index;
       sound : IsTrue files.honest → first_in_memory (map entry (take l.image-index l.fn.images)) ≡ None;
+      zeroed : AgreeTo (λ n. zeroed_image (entry n)) (λ n. zeroed_image (filled_over no_files (entry n))) l.fn.images l.images l.image-index;
       passed : IsTrue files.honest → AllByRecursion (IsPassed files.bytes) (map entry (take l.image-index l.fn.images));
     }
