@@ -14,7 +14,7 @@ use Rattle.uimg_blob.specs.Tokens.{Token, Blocks, token_at, tokens_from, tokens,
 use Rattle.uimg_blob.specs.Grammar.{Siblings, root, without_nops}
 use Rattle.uimg_blob.specs.Walk.{as_node, begun}
 use Rattle.uimg_blob.specs.SoFar.{so_far}
-use Rattle.uimg_blob.specs.Passes.{Phase, inside, left, Step, on, stop, step, then_left, then_step, in_turn, Steps, Indexes, Pass, StopsAt, IsSoFar}
+use Rattle.uimg_blob.specs.Passes.{Phase, inside, left, Step, on, stop, step, then_left, then_step, in_turn, Steps, Indexes, Pass, IsRefused, StopsAt, IsSoFar}
 use Rattle.std.specs.List.{sum_by}
 use Rattle.uimg_blob.specs.Blob.{met_in, met_from, met}
 use Rattle.uimg_blob.specs.Counts.{weight, begun_by, index_cost, nodes_met}
@@ -76,39 +76,10 @@ prefix_err {X = X} honest b whole s es new (Blob fault at) k base asked pass is 
     ))
 prefix_err {X = X} honest b whole s es new Read k base asked pass is steps sure = subst (λ (q : Result X IndexFault). IsPrefix (tokens b) q new) (sym is) tt
 
+-- a token more, in turn
 turn_more : (x : Step) (ts : List Token) (t : Token) → in_turn x (ts ++ t ∷ []) ≡ then_step (in_turn x ts) t
 turn_more x [] t = refl
 turn_more x (k ∷ ts) t = turn_more (then_step x k) ts t
-
--- the pass stops where it is, with a fault
-pub stops_at : (honest : Bool) (b : Blocks) (whole : Result Siblings Fault) (s : State) (es new : List (List ℕ)) (e : IndexFault) (base asked : ℕ) (pass : Pass honest b whole s es base asked)
-    → Steps honest b pass.phase s.at (Err e) es new → IsTrue honest → StopsAt (tokens b) e new
-stops_at honest b whole s es new (Blob fault at) base asked pass steps sure =
-    let r = pass.rest sure in
-    let f = by_fuel b whole pass.phase s.at steps.token (steps.is sure) r.fuel r.enough r.is in
-    record {
-      taken = r.taken;
-      token = steps.token;
-      more = tokens_from f.0 b (next steps.token);
-      all = r.all ∙ ap (λ (ts : List Token). r.taken ++ ts) f.3;
-      phase = pass.phase;
-      reached = r.reached;
-      entries = steps.acts.0 ∙ pass.holds.entries;
-      refused = (steps.acts.1, steps.refuses);
-    }
-stops_at honest b whole s es new Read base asked pass steps sure =
-    let r = pass.rest sure in
-    let f = by_fuel b whole pass.phase s.at steps.token (steps.is sure) r.fuel r.enough r.is in
-    record {
-      taken = r.taken;
-      token = steps.token;
-      more = tokens_from f.0 b (next steps.token);
-      all = r.all ∙ ap (λ (ts : List Token). r.taken ++ ts) f.3;
-      phase = pass.phase;
-      reached = r.reached;
-      entries = steps.acts ∙ pass.holds.entries;
-      refused = tt;
-    }
 
 -- a step goes on
 pub goes_on : (honest : Bool) (b : Blocks) (whole : Result Siblings Fault) (s more : State) (es new : List (List ℕ)) (base asked now : ℕ) (pass : Pass honest b whole s es base asked)
@@ -186,6 +157,27 @@ last_paid honest b whole s es new base asked now pass paid same sure =
 pub stay_err : (honest : Bool) (b : Blocks) (p : Phase) (at : ℕ) (e : IndexFault) (old new : List (List ℕ)) → Steps honest b p at (Err e) old new → new ≡ old
 stay_err honest b p at (Blob fault place) old new steps = steps.acts.0
 stay_err honest b p at Read old new steps = steps.acts
+
+refused_err : (honest : Bool) (b : Blocks) (p : Phase) (at : ℕ) (e : IndexFault) (old new : List (List ℕ)) (steps : Steps honest b p at (Err e) old new) → IsRefused p steps.token e
+refused_err honest b p at (Blob fault place) old new steps = (steps.acts.1, steps.refuses)
+refused_err honest b p at Read old new steps = tt
+
+-- a fault leaves the entries so far
+pub stops_at : (honest : Bool) (b : Blocks) (whole : Result Siblings Fault) (s : State) (es new : List (List ℕ)) (e : IndexFault) (base asked : ℕ) (pass : Pass honest b whole s es base asked)
+    → Steps honest b pass.phase s.at (Err e) es new → IsTrue honest → StopsAt (tokens b) e new
+stops_at honest b whole s es new e base asked pass steps sure =
+    let r = pass.rest sure in
+    let f = by_fuel b whole pass.phase s.at steps.token (steps.is sure) r.fuel r.enough r.is in
+    record {
+      taken = r.taken;
+      token = steps.token;
+      more = tokens_from f.0 b (next steps.token);
+      all = r.all ∙ ap (λ (ts : List Token). r.taken ++ ts) f.3;
+      phase = pass.phase;
+      reached = r.reached;
+      entries = stay_err honest b pass.phase s.at e es new steps ∙ pass.holds.entries;
+      refused = refused_err honest b pass.phase s.at e es new steps;
+    }
 
 -- the tree ends
 pub ends_ok : {X : Type 0} (honest : Bool) (b : Blocks) (whole : Result Siblings Fault) (s : State) (es new : List (List ℕ)) (x : X) (base asked : ℕ) (pass : Pass honest b whole s es base asked)
