@@ -153,6 +153,10 @@ Trees: no images, an image without data, a hash node without an algorithm, and o
 
 The file would have more than 4294967295 bytes:
 
+  $ truncate -s 4294967296 huge
+  $ refused '/dts-v1/; / { images { a { data = /incbin/("huge"); }; }; };'
+  uimg: F7 too large
+  [1]
   $ truncate -s 4294967200 large
   $ refused '/dts-v1/; / { images { a { data = /incbin/("large"); }; }; };'
   uimg: F7 too large

@@ -9,36 +9,41 @@ use uimg_base::{FuseSource, MemSource, Room, Source};
 use uimg_blob::{BlobFault, IndexFault, index};
 use uimg_samples::fit::set_cell;
 
-// What is answered over a source that lets so many calls through: 0 where the blob is indexed, 1 where
-// the read failed, was counted, and left no more than 9 entries, and 2 for all else.
+// What is answered over a source that lets so many calls through: `.` where the blob is indexed; where the
+// read failed and was counted, how many entries are left; and `?` for all else.
 fn answer(room: &mut Room<Global>, bytes: &[u8], calls: u64) -> u8 {
     let mut source = FuseSource::new(MemSource::new(bytes), calls);
-    match index(&mut source, room) {
-        Ok(_) if source.failures() == 0 => 0,
-        Err(IndexFault::Read) if source.failures() == 1 && room.count() <= 9 => 1,
-        _ => 2,
+    let found = index(&mut source, room);
+    match found {
+        Ok(_) if source.failures() == 0 => b'.',
+        Err(IndexFault::Read) if source.failures() == 1 => {
+            *b"0123456789".get(room.count()).unwrap_or(&b'?')
+        }
+        _ => b'?',
     }
 }
 
-// A blob, and how many calls it needs: two for the header, two to begin a node, three for a property,
-// and one for each other token.
-const READ_ROWS: [(&str, u64); 4] = [
-    ("mixed", 12),
-    ("late 76=00000004 80=00000002 84=00000009", 10),
-    ("demo", 96),
-    (".,+,.,-,.", 9),
+// A blob, and what each call leaves that fails: the nodes that were begun before the token that it reads.
+// Two calls are for the header, two begin a node, three are for a property, and one for each other token.
+const READ_ROWS: [(&str, &str); 4] = [
+    ("mixed", "000011111111."),
+    ("late 76=00000004 80=00000002 84=00000009", "0000112222."),
+    (
+        "demo",
+        "000011111111111223333333333333333333333333344444444455555555566666666677777777777888889999999999.",
+    ),
+    (".,+,.,-,.", "000001111."),
 ];
 
-// Each read that fails is told.
+// Each read that fails is told, and leaves the entries so far.
 #[test]
 fn reads_fail_in_turn(rt: HostRuntime) -> Result<(), Fail> {
     let mut room = Room::new(rt.alloc());
-    for (blob, needed) in &READ_ROWS {
+    for (blob, answers) in &READ_ROWS {
         let bytes = made(rt.alloc(), blob)?;
-        for calls in 0..*needed {
-            assert_eq!(rt; answer(&mut room, &bytes, calls), 1, "{blob}: {calls}");
+        for (calls, expected) in answers.bytes().enumerate() {
+            assert_eq!(rt; answer(&mut room, &bytes, calls as u64), expected, "{blob}: {calls}");
         }
-        assert_eq!(rt; answer(&mut room, &bytes, *needed), 0, "{blob}");
     }
     Ok(())
 }
