@@ -69,6 +69,7 @@ A source of more than 64 KiB, of 300 images; the last has 20 hash nodes and a de
   $ uimg verify deep.itb
   k hash crc32 ok
   $ uimg dumpimage -o out deep.itb && cmp out abc.bin
+  $ (ulimit -s 256; uimg mkimage -f deep.its small-stack.itb > listing) && cmp deep.itb small-stack.itb
   $ { echo '/dts-v1/; /'; repeat 65 '{ n '; repeat 65 '}; '; } > deeper.its
   $ uimg mkimage -f deeper.its none.itb
   uimg: I3 out of profile: depth at line 2
