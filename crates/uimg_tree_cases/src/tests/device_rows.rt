@@ -42,7 +42,11 @@ fn reads_fail_in_turn(rt: HostRuntime) -> Result<(), Fail> {
     for (blob, answers) in &READ_ROWS {
         let bytes = made(rt.alloc(), blob)?;
         for (calls, expected) in answers.bytes().enumerate() {
-            assert_eq!(rt; answer(&mut room, &bytes, calls as u64), expected, "{blob}: {calls}");
+            assert_eq!(rt;
+                answer(&mut room, &bytes, calls as u64),
+                expected,
+                "{blob}: {calls}"
+            );
         }
     }
     Ok(())
