@@ -92,7 +92,19 @@ A file that is read is not written, by whatever path; nothing is touched:
   /dts-v1/; / { images { k { data = /incbin/("abc.bin"); }; }; };
   $ cat abc.bin
   abc (no-eol)
-  $ rm own.img link.img hard.img part.bin own.its
+  $ ln -s abc.bin link.bin && ln abc.bin hard.bin
+  $ for out in link.bin ./hard.bin "$PWD/abc.bin"; do uimg mkimage -d abc.bin "$out" 2> /dev/null || echo $?; done
+  2
+  2
+  2
+  $ mkdir sources && printf abc > sources/name && echo '/dts-v1/; / { images { k { data = /incbin/("name"); }; }; };' > sources/s.its
+  $ for out in sources/name sources/s.its "$PWD/sources/name"; do uimg mkimage -f sources/s.its "$out" 2> /dev/null || echo $?; done
+  2
+  2
+  2
+  $ cat sources/name abc.bin
+  abcabc (no-eol)
+  $ rm own.img link.img hard.img part.bin own.its link.bin hard.bin
 
 A file that has fewer bytes than its size, as those of sysfs have:
 
@@ -228,6 +240,9 @@ Images that cannot be written:
 
 An outfile that does not keep the image is told:
 
+  $ uimg mkimage -f sources/s.its /dev/null
+  uimg: L1 too short
+  [1]
   $ uimg mkimage -d abc.bin /dev/null
   uimg: L1 too short
   [1]

@@ -161,3 +161,17 @@ A line for each of 200 parts:
   $ uimg mkimage -T multi -d "$word" many.img > many
   $ seq 0 199 | sed 's/.*/   Image &: 1 Bytes = 0.00 KiB = 0.00 MiB/' > wanted
   $ tail -n +8 many | cmp - wanted
+
+No part is lost of 300, and a part's number is taken whole:
+
+  $ word=x$(printf '%0299d' 0 | sed 's/0/:x/g')
+  $ uimg mkimage -T multi -d "$word" many.img | tail -n 1
+     Image 299: 1 Bytes = 0.00 KiB = 0.00 MiB
+  $ uimg mkimage -T multi -d "$word:none" many.img
+  uimg: cannot read none
+  [3]
+  $ uimg dumpimage -p 65536 -o out many.img
+  uimg: L8 no such part
+  [1]
+  $ uimg dumpimage -p 00000000000 -o out many.img && cat out
+  x (no-eol)

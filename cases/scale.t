@@ -75,6 +75,31 @@ A source of more than 64 KiB, of 300 images; the last has 20 hash nodes and a de
   uimg: I3 out of profile: depth at line 2
   [1]
 
+2000 images outside of the blob, and an image of 1500 hash nodes:
+
+  $ { echo '/dts-v1/; / { images {'
+  >   for i in $(seq 0 1999); do echo "i$i { data = \"$i\"; hash { algo = \"crc32\"; }; };"; done
+  >   echo '}; };'; } > many.its
+  $ for place in '' -E '-E -p 40000'; do uimg mkimage -f many.its $place many.itb > listing; uimg verify many.itb | grep -c 'crc32 ok$'; done
+  2000
+  2000
+  2000
+  $ { echo '/dts-v1/; / { images { k { data = /incbin/("abc.bin");'
+  >   for i in $(seq 1500); do echo "hash-$i { algo = \"md5\"; };"; done
+  >   echo '}; }; };'; } > hashed.its
+  $ uimg mkimage -f hashed.its hashed.itb > listing
+  $ uimg verify hashed.itb | grep -c 'md5 ok$'
+  1500
+
+A source of more than 4 MiB, and a payload of 32 MiB inside of the blob:
+
+  $ head -c 33554432 /dev/zero > zeros
+  $ { echo '/dts-v1/; / { images { k { data = /incbin/("zeros"); hash { algo = "crc32"; }; }; }; };'; yes '/* nothing */' | head -c 4300000; } > long.its
+  $ { echo; echo '*/'; } >> long.its
+  $ uimg mkimage -f long.its long.itb > listing
+  $ uimg verify long.itb
+  k hash crc32 ok
+
 A value of 18 MiB in memory, on a node with 300 names of properties, and a fault on a line beyond 65536:
 
   $ head -c 9437184 /dev/zero > zeros

@@ -1,11 +1,13 @@
 //! The making of an image.
 
-ghost use Rattle.std.specs.Prelude.{◌≡◌, ◌<◌, ◌^◌, ◌-◌, false, Some, [], IsTrue, IsOk, IfOk, IfErr};
+ghost use Rattle.std.specs.Prelude.{Ok, ◌≡◌, ◌<◌, ◌^◌, ◌-◌, false, Some, [], IsTrue, IsOk, IfOk, IfErr};
 ghost use Rattle.std.specs.Io.KnownBytes.{Keeps};
 ghost use Rattle.uimg_base.specs.Device.{RisesIf, IsFresh};
-ghost use Rattle.uimg_tool.specs.Faults.{is_unread, is_lost_payload, is_put, is_keep, is_before_building, is_of_making};
+ghost use Rattle.uimg_base.specs.Outcome.{Tells};
+ghost use Rattle.uimg_base.specs.declared.status.Status.{Status};
+ghost use Rattle.uimg_tool.specs.Faults.{end_of, is_unread, is_lost_payload, is_put, is_keep, is_before_building, is_of_making};
 ghost use Rattle.uimg_words.specs.Commands.{HasFitNames};
-ghost use Rattle.uimg_tool.specs.Commands.{KeepsSizes, OpensToBuild, BuildsCommand, MakesCommand, LeavesRoom, HoldsCommand};
+ghost use Rattle.uimg_tool.specs.Commands.{KeepsSizes, OpensToBuild, BuildsCommand, MakesCommand, LeavesRoom, HoldsCommand, listing_of};
 
 use crate::fault::Fault;
 use crate::making_lists::list_kept;
@@ -107,8 +109,9 @@ fn keep<H: Shelf>(shelf: H) -> Result<H::Kept, Fault>
 ///
 /// Where what the files open and what the shelf keeps are steady, `Fault::Read` and `ReadFailed` of
 /// `Its` never come, of a source over honest files, and `ReadFailed` of `Fit` never comes over honest
-/// files. Over a steady shelf `Fault::Keep` never comes. At `Ok` no read of
-/// what was kept has failed.
+/// files. Over a steady shelf `Fault::Keep` never comes. Whatever the files and the shelf, at `Ok` no
+/// read of what was kept has failed, and, if that answers its bytes, exactly its listing was written
+/// and nothing in it is refused.
 ///
 /// The room takes memory for the listing alone: none for a legacy image, and over honest files and an
 /// honest, empty shelf at most 128 bytes for each node of the FIT image. Where nothing is listed its
@@ -135,6 +138,9 @@ pub fn make<F: Files, H: Shelf, W: Write, A: Allocator + Copy, B: Allocator>(
     ensures steady_payloads { IsTrue F.Opened.steady → IsTrue (F.map files.old).honest →
         is_lost_payload result ≡ false }
     ensures steady_keeps { IsTrue H.steady → is_keep result ≡ false }
+    ensures listed { IfOk result (λ kept. IsTrue (H.Kept.device kept).honest → (status : Status)
+        × Tells (end_of (Ok status)) (listing_of command.now (H.Kept.device kept).bytes)
+        out.old out.new) }
     ensures kept_reads { IfOk result (λ kept. (H.Kept.device kept).failures ≡ 0) }
     ensures room { LeavesRoom H.Kept.device (F.map files.old).honest command.now result
         room.old room.new }

@@ -1,4 +1,7 @@
-use Rattle.std.proofs.Common.{rules, ◌≡◌, Some, []}
+use Rattle.std.proofs.Common.{rules, ◌≡◌, Some, [], ℕ, List, Ok, Bool, IsTrue, subst, sym}
+use Rattle.uimg_base.specs.Outcome.{Tells}
+use Rattle.uimg_tool.specs.Faults.{end_of}
+use Rattle.uimg_tool.specs.Commands.{listing_of}
 use Rattle.std.specs.Bool.{⊤}
 use Rattle.std.proofs.lemmas.Result.{err_from_is_err_and}
 use Rattle.uimg_base.specs.declared.status.Status.{Status}
@@ -53,3 +56,10 @@ returns-clause-peak g c = λ files shelf empty.
     let none : c.new-image.result.contents ≡ Some [] = search rules in
     let keeps = keeping_command c.args.command.now c.args.time _ _ _ _ _ (g.H.Kept.Source.device c.in_ok-kept.kept) (c.in_ok-build_image.ensures.built files) none c.in_ok-shelf.ensures.written kept.0 kept.1 in
     holds_listed c.args.command.now c.args.time _ _ _ _ _ _ c.clear.ensures keeps c.in_ok-list_kept.ensures.room
+
+pub returns-clause-listed : goal.returns-clause-listed
+returns-clause-listed g c = λ honest. (
+  c.in_ok-list_kept.field-0,
+  subst (λ (b : List ℕ). Tells (end_of (Ok c.in_ok-list_kept.field-0)) (listing_of c.args.command.now b) c.args.out.now c.list_kept.new.out)
+      (sym c.list_kept.ensures.same.bytes) (c.in_ok-list_kept.ensures.told (subst (λ (b : Bool). IsTrue b) c.list_kept.ensures.same.honest honest)),
+)
