@@ -57,6 +57,18 @@ A source of more than 64 KiB, of 300 images; the last has 20 hash nodes and a de
   $ uimg dumpimage -p 298 -o out large.itb && od -An -c out | tr -d ' '
   298\0
 
+A part by a path of 405 bytes, a source by a name of 244, and an address with many zeros before it:
+
+  $ repeat 240 s > name && source=$(cat name).its
+  $ mkdir -p "$(repeat 200 d)/$(repeat 200 e)" && cp abc.bin "$(repeat 200 d)/$(repeat 200 e)/abc"
+  $ uimg mkimage -a 0x000000000000000080000 -d "$(repeat 200 d)/$(repeat 200 e)/abc" by-path.img | tail -n 1
+  Entry Point:  00080000
+  $ echo '/dts-v1/; / { images { k { data = "abc"; }; }; };' > "$source" && uimg mkimage -f "$source" by-name.itb > listing
+  $ uimg verify by-name.itb
+  k - none unhashed
+  $ for type in standalone kernel ramdisk multi firmware script filesystem kernel_noload; do uimg dumpimage -T $type -l by-name.itb 2>&1; done | sort | uniq -c | tr -s ' '
+   8 uimg: L2 bad magic
+
 60 levels of nodes, and a payload whose name has 3000 bytes:
 
   $ folder=$(repeat 199 f)
