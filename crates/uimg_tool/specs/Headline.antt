@@ -106,6 +106,13 @@ KeepsOutput action.Verify is_refused old new = ⊤
 KeepsOutput (action.Extract position) true old new = new ≡ old
 KeepsOutput (action.Extract position) false old new = ⊤
 
+-- what an extraction that is refused has written, from nothing at all; of other actions and answers this says nothing
+abbrev pub WritesNone : Action → Bool → List ℕ → Type 0
+WritesNone action.List is_refused text = ⊤
+WritesNone action.Verify is_refused text = ⊤
+WritesNone (action.Extract position) true text = text ≡ []
+WritesNone (action.Extract position) false text = ⊤
+
 -- a counter was below its greatest value, and did not rise
 abbrev pub Stays : ℕ → ℕ → Type 0
 Stays old new = (old < 2 ^ 64 - 1) × (new ≡ old)

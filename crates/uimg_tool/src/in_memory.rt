@@ -1,10 +1,12 @@
 //! `run` and `make` over memory alone, where nothing but memory can fail.
-ghost use Rattle.std.specs.Prelude.{◌≡◌, false, Some, IfErr};
+ghost use Rattle.std.specs.Prelude.{◌≡◌, ◌↔◌, ◌<◌, ◌≤◌, ◌^◌, ◌-◌, max, [], true, false, Some, IsTrue, IfErr};
+ghost use Rattle.std.specs.Io.{StartsWith};
+ghost use Rattle.uimg_base.specs.Held.{held_bytes};
 ghost use Rattle.uimg_base.specs.Named.{bytes_named};
-ghost use Rattle.uimg_tool.specs.Faults.{is_read, is_unread, is_lost_payload, is_put, is_no_memory, is_keep, end_of};
-ghost use Rattle.uimg_tool.specs.Headline.{outcome_of, is_fit};
+ghost use Rattle.uimg_tool.specs.Faults.{is_read, is_unread, is_lost_payload, is_put, is_no_memory, is_refused, is_of_making, is_keep, end_of};
+ghost use Rattle.uimg_tool.specs.Headline.{outcome_of, nodes_of, is_fit, WritesNone};
 ghost use Rattle.uimg_words.specs.Commands.{HasFitNames};
-ghost use Rattle.uimg_tool.specs.Commands.{LacksFile, MakesCommand};
+ghost use Rattle.uimg_tool.specs.Commands.{LacksFile, MakesCommand, LeavesRoom, HoldsCommand};
 
 use crate::engine::run_by_format;
 use crate::fault::Fault;
@@ -17,8 +19,11 @@ use uimg_words::{Command, MakeCommand};
 /// Carries out a command on the bytes of an image: the answer of `run`, and all that was written.
 ///
 /// The answer and the text are exactly the outcome of the command, unless memory was refused: it is
-/// `Fault::Put` where that for the text was, and `OutOfMemory` of the blob where that for the table of
-/// a FIT image's nodes was, which a legacy image does not have. `Fault::Read` never comes.
+/// `Fault::Put` where that for the text was, and `OutOfMemory` of the blob exactly where that for the
+/// table of a FIT image's nodes was, which a legacy image does not have. What was written then is a
+/// prefix of that text. `Fault::Read` never comes, nor do the faults that only `make` answers. An
+/// extraction that is refused has written nothing. The room takes at most 128 bytes for each node of a
+/// FIT image that is met, and for a legacy image none.
 pub fn run_in_memory<A: Allocator, B: Allocator>(
     alloc: B,
     command: &Command,
@@ -30,7 +35,16 @@ pub fn run_in_memory<A: Allocator, B: Allocator>(
     ensures end { is_put result.0 ≡ false → is_no_memory result.0 ≡ false →
         end_of result.0 ≡ Some (outcome_of command.now image.now).end }
     ensures read { is_read result.0 ≡ false }
+    ensures prefix { StartsWith (outcome_of command.now image.now).text result.1.items }
+    ensures untouched { WritesNone command.now.action (is_refused result.0) result.1.items }
+    ensures not_making { is_of_making result.0 ≡ false }
+    ensures no_memory { room.old.refused < 2 ^ 64 - 1 →
+        (is_no_memory result.0 ≡ true) ↔ (room.old.refused < room.new.refused) }
+    ensures peak { room.new.peak ≤ max room.old.peak
+        (held_bytes (nodes_of command.now image.now)) }
     ensures legacy { is_fit command.now.format image.now ≡ false → is_no_memory result.0 ≡ false }
+    ensures no_table { is_fit command.now.format image.now ≡ false →
+        room.new ≡ record room.old { entries = [] } }
 {
     let mut source = MemSource::new(image);
     let mut out = Out::new(Vec::new(alloc));
@@ -47,7 +61,11 @@ pub fn run_in_memory<A: Allocator, B: Allocator>(
 /// `Fault::OutOfMemory` comes where the memory for the opened files or for the text was refused,
 /// `OutOfMemory` of `Its`, `Fit` and `Blob` where that for the tree, or for the table of the
 /// image's nodes, was, and `Fault::Put` where a write of the listing failed, or the memory for the
-/// image was refused.
+/// image was refused: where no write failed, nothing was listed then, as at each fault that no listing
+/// gives.
+///
+/// The room takes memory for the listing alone: none for a legacy image, and at most 128 bytes for
+/// each node of the FIT image. Where nothing is listed its entries are dropped and no more.
 pub fn make_in_memory<W: Write, A: Allocator + Copy, B: Allocator, H: Allocator>(
     alloc: A,
     command: &MakeCommand,
@@ -64,6 +82,14 @@ pub fn make_in_memory<W: Write, A: Allocator + Copy, B: Allocator, H: Allocator>
     ensures read { is_unread result ≡ false }
     ensures payloads { is_lost_payload result ≡ false }
     ensures keep { is_keep result ≡ false }
+    ensures quiet { IsTrue (is_of_making result) → out.new ≡ out.old }
+    ensures puts { is_put result ≡ false → out.new.faults ≡ out.old.faults }
+    ensures put { out.old.faults < 2 ^ 64 - 1 → IsTrue (is_put result) →
+        out.new.faults ≡ out.old.faults → out.new ≡ out.old }
+    ensures room { LeavesRoom (⟦<MemKept<H> as Source>⟧.device) true command.now result
+        room.old room.new }
+    ensures peak { HoldsCommand command.now time (λ name. bytes_named name files.now)
+        room.old room.new }
 {
     make(
         alloc,

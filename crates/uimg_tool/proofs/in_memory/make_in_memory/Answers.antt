@@ -1,6 +1,6 @@
 use Rattle.std.proofs.Common.{rules, ℕ, List, Option, IfErr, ap, subst, refl}
 use Rattle.uimg_base.specs.Named.{FileMap}
-use Rattle.uimg_tool.specs.Commands.{LacksFile}
+use Rattle.uimg_tool.specs.Commands.{LacksFile, HoldsCommand}
 use Rattle.uimg_tool.proofs.CommandLaws.{made_of_same, lacks_file}
 use Rattle.uimg_tool.proofs.in_memory.make_in_memory.Goals as goal
 
@@ -13,3 +13,8 @@ returns-clause-missing g c =
     subst (λ (files : List ℕ → Option (List ℕ)). IfErr c.make.result (LacksFile c.args.command.now files))
     (ap (λ (m : FileMap). m.bytes) c.new.ensures)
     (lacks_file c.args.command.now c.make.result _ _ c.make.ensures.files (search rules) (search rules))
+
+pub returns-clause-peak : goal.returns-clause-peak
+returns-clause-peak g c =
+    subst (λ (files : List ℕ → Option (List ℕ)). HoldsCommand c.args.command.now c.args.time files c.args.room.now c.make.new.room)
+    (ap (λ (m : FileMap). m.bytes) c.new.ensures) (c.make.ensures.peak (search rules) refl (search rules))
