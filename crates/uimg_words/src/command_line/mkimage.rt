@@ -1,8 +1,8 @@
 //! The words of `mkimage`.
 
-ghost use Rattle.std.specs.Prelude.{◌≡◌, ◌≢◌, false, length, IfOk};
-ghost use Rattle.uimg_legacy.specs.Parts.{has_parts};
+ghost use Rattle.std.specs.Prelude.{◌≡◌, map, IfOk};
 ghost use Rattle.uimg_words.specs.Commands.{HasFitNames, has_fit_names_prop};
+ghost use Rattle.uimg_words.specs.Names.{between_colons, names_of};
 
 use super::help_notes::MKIMAGE_NOTES;
 use super::{Request, RunRequest, WordsFault, flag, image, value};
@@ -138,6 +138,7 @@ pub(super) fn request<'a>(
 }
 
 // The making of an image from the files of the word of -d.
+#[tactic(auto, using(crate::proofs::NameLaws::names_fit))]
 fn parts_request<'a>(
     alloc: Global,
     options: Options,
@@ -192,33 +193,28 @@ fn placement(matches: &ArgMatches<'_>) -> Result<Placement, WordsFault> {
     }
 }
 
-// The names that the word of -d has for an image type.
-fn file_names(alloc: Global, kind: u8, data: &str) -> Result<Vec<Vec<u8>>, AllocError>
-    ensures some { IfOk result (λ names. length names.items ≢ 0) }
-    ensures single { IfOk result (λ names. has_parts kind ≡ false → length names.items ≡ 1) }
+// The names that the word of -d has for an image type: those between its colons for one of several
+// parts, and else the word itself.
+fn file_names(alloc: Global, kind: u8, word: &str) -> Result<Vec<Vec<u8>>, AllocError>
+    ensures { IfOk result (λ names. map (λ name. name.items) names.items ≡ names_of kind word.now) }
 {
     if has_parts(kind) {
-        cut_at_colons(alloc, data)
+        cut_at_colons(alloc, word)
     } else {
         let mut names = Vec::new(alloc);
-        names.push(Vec::from_slice(alloc, data.as_bytes())?)?;
+        names.push(Vec::from_slice(alloc, word.as_bytes())?)?;
         Ok(names)
     }
 }
 
 // The names between the colons of a word.
-fn cut_at_colons(alloc: Global, data: &str) -> Result<Vec<Vec<u8>>, AllocError>
-    ensures { IfOk result (λ names. length names.items ≢ 0) }
+fn cut_at_colons(alloc: Global, word: &str) -> Result<Vec<Vec<u8>>, AllocError>
+    ensures { IfOk result (λ names. map (λ name. name.items) names.items ≡ between_colons word.now) }
 {
     let mut names = Vec::new(alloc);
-    let mut last = data;
-    if let Some((before, after)) = data.rsplit_once(':') {
-        for name in before.split(':') {
-            names.push(Vec::from_slice(alloc, name.as_bytes())?)?;
-        }
-        last = after;
+    for name in word.split(':') {
+        names.push(Vec::from_slice(alloc, name.as_bytes())?)?;
     }
-    names.push(Vec::from_slice(alloc, last.as_bytes())?)?;
     Ok(names)
 }
 
