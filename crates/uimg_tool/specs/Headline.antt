@@ -106,7 +106,7 @@ KeepsOutput action.Verify is_refused old new = ⊤
 KeepsOutput (action.Extract position) true old new = new ≡ old
 KeepsOutput (action.Extract position) false old new = ⊤
 
--- what an extraction that is refused has written, from nothing at all; of other actions and answers this says nothing
+-- An extraction that is refused has written nothing to a text that was empty. Of other actions and answers this says nothing.
 abbrev pub WritesNone : Action → Bool → List ℕ → Type 0
 WritesNone action.List is_refused text = ⊤
 WritesNone action.Verify is_refused text = ⊤

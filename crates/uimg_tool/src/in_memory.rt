@@ -1,6 +1,7 @@
 //! `run` and `make` over memory alone, where nothing but memory can fail.
-ghost use Rattle.std.specs.Prelude.{◌≡◌, ◌↔◌, ◌<◌, ◌≤◌, ◌^◌, ◌-◌, max, [], true, false, Some, IsTrue, IfErr};
+ghost use Rattle.std.specs.Prelude.{◌≡◌, ◌<◌, ◌≤◌, ◌^◌, ◌-◌, max, [], true, false, Some, IsTrue, IfErr};
 ghost use Rattle.std.specs.Io.{StartsWith};
+ghost use Rattle.uimg_base.specs.Device.{RisesIf};
 ghost use Rattle.uimg_base.specs.Held.{held_bytes};
 ghost use Rattle.uimg_base.specs.Named.{bytes_named};
 ghost use Rattle.uimg_tool.specs.Faults.{is_read, is_unread, is_lost_payload, is_put, is_no_memory, is_refused, is_of_making, is_keep, end_of};
@@ -38,8 +39,7 @@ pub fn run_in_memory<A: Allocator, B: Allocator>(
     ensures prefix { StartsWith (outcome_of command.now image.now).text result.1.items }
     ensures untouched { WritesNone command.now.action (is_refused result.0) result.1.items }
     ensures not_making { is_of_making result.0 ≡ false }
-    ensures no_memory { room.old.refused < 2 ^ 64 - 1 →
-        (is_no_memory result.0 ≡ true) ↔ (room.old.refused < room.new.refused) }
+    ensures no_memory { RisesIf (is_no_memory result.0) room.old.refused room.new.refused }
     ensures peak { room.new.peak ≤ max room.old.peak
         (held_bytes (nodes_of command.now image.now)) }
     ensures legacy { is_fit command.now.format image.now ≡ false → is_no_memory result.0 ≡ false }
@@ -65,7 +65,7 @@ pub fn run_in_memory<A: Allocator, B: Allocator>(
 /// gives.
 ///
 /// The room takes memory for the listing alone: none for a legacy image, and at most 128 bytes for
-/// each node of the FIT image. Where nothing is listed its entries are dropped and no more.
+/// each node of the FIT image. After a fault that no listing gives its entries are dropped and no more.
 pub fn make_in_memory<W: Write, A: Allocator + Copy, B: Allocator, H: Allocator>(
     alloc: A,
     command: &MakeCommand,

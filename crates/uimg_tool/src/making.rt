@@ -114,8 +114,8 @@ fn keep<H: Shelf>(shelf: H) -> Result<H::Kept, Fault>
 /// and nothing in it is refused.
 ///
 /// The room takes memory for the listing alone: none for a legacy image, and over honest files and an
-/// honest, empty shelf at most 128 bytes for each node of the FIT image. Where nothing is listed its
-/// entries are dropped and no more.
+/// honest, empty shelf at most 128 bytes for each node of the FIT image. After a fault that no listing
+/// gives its entries are dropped and no more.
 pub fn make<F: Files, H: Shelf, W: Write, A: Allocator + Copy, B: Allocator>(
     alloc: A,
     command: &MakeCommand,

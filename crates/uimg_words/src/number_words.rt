@@ -25,7 +25,7 @@ pub fn hexadecimal(text: &str) -> Option<u32>
     }
 }
 
-// The number of digits of a base. The standard library takes a plus before them, too.
+// The number that digits of a base write. The standard library takes a plus before them, too.
 fn number(text: &str, base: u32) -> Option<u32>
     requires least { 2 ≤ base }
     requires most { base ≤ 36 }
