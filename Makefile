@@ -36,11 +36,15 @@ test:
 	@rm -rf out/lanes
 	@python3 scripts/gate.py
 
-## make install  puts the program, its manual page and completions below PREFIX, which is /usr/local
+## make install  puts the program, its manual pages and completions below PREFIX, which is /usr/local, and with
+##               OLD_NAMES=1 the names mkimage and dumpimage too
 install: bin/uimg
 	install -D -m 755 bin/uimg $(DESTDIR)$(PREFIX)/bin/uimg
-	install -m 755 wrappers/uimg-mkimage wrappers/uimg-dumpimage $(DESTDIR)$(PREFIX)/bin
-	install -D -m 644 docs/uimg.1 $(DESTDIR)$(PREFIX)/share/man/man1/uimg.1
+	for name in uimg-mkimage uimg-dumpimage $(if $(OLD_NAMES),mkimage dumpimage); do \
+		ln -sf uimg $(DESTDIR)$(PREFIX)/bin/$$name || exit; \
+	done
+	install -d $(DESTDIR)$(PREFIX)/share/man/man1
+	install -m 644 docs/uimg.1 docs/uimg-mkimage.1 docs/uimg-dumpimage.1 $(DESTDIR)$(PREFIX)/share/man/man1
 	install -D -m 644 completions/uimg.bash $(DESTDIR)$(PREFIX)/share/bash-completion/completions/uimg
 	install -D -m 644 completions/_uimg $(DESTDIR)$(PREFIX)/share/zsh/site-functions/_uimg
 	install -D -m 644 completions/uimg.fish $(DESTDIR)$(PREFIX)/share/fish/vendor_completions.d/uimg.fish

@@ -9,7 +9,8 @@ mkimage, which needs it, and shows that uimg lists them alike, finds every hash 
 payloads, and finds the hashes wrong of a payload that was changed; it builds the same FIT images from
 their sources with both, and shows that the trees are the same, that every hash is that of the digest
 tools, and that the real tools list and unpack what uimg built; and it compares the compiling of
-image-tree source with dtc. It prints tables of what was compared, and every difference; it installs
+image-tree source with dtc; and it runs command lines of mkimage and dumpimage under both
+by their names. It prints tables of what was compared, and every difference; it installs
 nothing.
 """
 
@@ -23,6 +24,7 @@ import tempfile
 import fit
 import fit_builds
 import its
+import old_names
 from counting import Count, output
 
 SINGLE = ["standalone", "kernel", "ramdisk", "firmware", "filesystem", "kernel_noload"]
@@ -282,6 +284,15 @@ def print_fits(uimg):
     return differences
 
 
+def print_lines(uimg):
+    """The table of command lines by the old names."""
+    count, known = old_names.compare(uimg)
+    print("\n| Command lines by the old names | Differences | Otherwise, for a reason that is told |")
+    print("|---|---|---|")
+    print(f"| {count.images} | {len(count.differences)} | {known} |", flush=True)
+    return count.differences
+
+
 def main():
     uimg, own = (os.path.abspath(path) for path in sys.argv[1:3])
     if shutil.which("mkimage") is None:
@@ -297,6 +308,7 @@ def main():
         differences += read.differences + made.differences
     differences += print_fits(uimg)
     differences += print_sources(own)
+    differences += print_lines(uimg)
     for what, here, there in differences[:10]:
         print(f"\n{what}\n  uimg: {str(here)[:400]}\n  peer: {str(there)[:400]}")
     sys.exit(1 if differences else 0)

@@ -1,10 +1,10 @@
 #!/bin/sh
-# scripts/deb.sh: packs bin/uimg, its manual page, completions, documents and examples as a Debian package, which it
+# scripts/deb.sh: packs bin/uimg, its manual pages, completions, documents and examples as a Debian package, which it
 # leaves as out/uimg_VERSION_amd64.deb, and looks at it with lintian.
 scripts/needs.sh dpkg-buildpackage dh lintian || exit 1
 room=$(mktemp -d) || exit 1
 trap 'rm -rf "$room"' EXIT
-mkdir "$room/uimg" && cp -r debian bin wrappers docs examples completions README.md SECURITY.md CHANGELOG.md "$room/uimg" || exit 1
+mkdir "$room/uimg" && cp -r debian bin docs examples completions README.md SECURITY.md CHANGELOG.md "$room/uimg" || exit 1
 log=$PWD/out/deb.log
 mkdir -p out
 (cd "$room/uimg" && dpkg-buildpackage -b -us -uc) > "$log" 2>&1 || {

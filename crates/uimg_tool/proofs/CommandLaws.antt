@@ -15,8 +15,8 @@ use Rattle.uimg_fit_base.specs.declared.fault.FitFault.{FitFault}
 use Rattle.uimg_fit_base.specs.declared.fault.FitFault.TheVariants as fit_fault
 use Rattle.uimg_tool.specs.declared.fault.Fault.{Fault}
 use Rattle.uimg_tool.specs.declared.fault.Fault.TheVariants.{Legacy, Blob, Fit, Its, Read, Put, NoFile, Keep, OutOfMemory}
-use Rattle.uimg_words.specs.declared.make_command.MakeCommand.{MakeCommand}
-use Rattle.uimg_words.specs.declared.make_command.MakeCommand.TheVariants.{Parts, Tree}
+use Rattle.uimg_requests.specs.declared.make_command.MakeCommand.{MakeCommand}
+use Rattle.uimg_requests.specs.declared.make_command.MakeCommand.TheVariants.{Parts, Tree}
 use Rattle.uimg_tool.specs.Faults.{end_of, is_lost_payload, loses_payload, is_keep, is_of_making, is_no_memory, is_no_payload}
 use Rattle.uimg_tool.specs.Making.{timed, Keeps}
 use Rattle.uimg_tool.specs.MakingTrees.{KeepsTree, only_cleared, for_nodes}

@@ -28,8 +28,8 @@ use Rattle.uimg_fit_building.specs.Building.{built}
 use Rattle.uimg_fit_base.specs.Files.{tree_of, root_own, listed_or}
 use Rattle.uimg_fit_reading.specs.Listing.{head_lines, lists, list_of}
 use Rattle.uimg_fit_base.specs.Report.{report, verify_of}
-use Rattle.uimg_words.specs.declared.command.Action.TheVariants as action
-use Rattle.uimg_words.specs.declared.command.Format.TheVariants as format
+use Rattle.uimg_requests.specs.declared.command.Action.TheVariants as action
+use Rattle.uimg_requests.specs.declared.command.Format.TheVariants as format
 use Rattle.uimg_tool.specs.declared.fault.Fault.{Fault}
 use Rattle.uimg_tool.specs.declared.fault.Fault.TheVariants.{Legacy, Blob, Fit, Its, Read, Put, NoFile, Keep, OutOfMemory}
 use Rattle.uimg_tool.specs.Faults.{end_of, unless_memory, of_fit, is_of_making, is_no_memory}

@@ -9,10 +9,10 @@ use Rattle.uimg_base.specs.Sink.{Sink}
 use Rattle.uimg_fit_reading.specs.Rooms.{TakesNodes}
 use Rattle.uimg_tool.specs.declared.fault.Fault.{Fault}
 use Rattle.uimg_tool.specs.declared.fault.Fault.TheVariants.{NoFile, Fit}
-use Rattle.uimg_words.specs.declared.command.Action.TheVariants as Action
-use Rattle.uimg_words.specs.declared.command.Format.TheVariants as Format
-use Rattle.uimg_words.specs.declared.make_command.MakeCommand.{MakeCommand}
-use Rattle.uimg_words.specs.declared.make_command.MakeCommand.TheVariants.{Parts, Tree}
+use Rattle.uimg_requests.specs.declared.command.Action.TheVariants as Action
+use Rattle.uimg_requests.specs.declared.command.Format.TheVariants as Format
+use Rattle.uimg_requests.specs.declared.make_command.MakeCommand.{MakeCommand}
+use Rattle.uimg_requests.specs.declared.make_command.MakeCommand.TheVariants.{Parts, Tree}
 use Rattle.uimg_tool.specs.Faults.{is_no_memory, is_of_making, is_no_text, is_no_payload, refuses_payload}
 use Rattle.uimg_tool.specs.Headline.{outcome_in, outcome_of, Takes}
 use Rattle.uimg_tool.specs.Making.{timed, OpensNames, Lacks, BuildsNames, MakesAnswer}

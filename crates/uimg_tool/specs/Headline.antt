@@ -22,11 +22,11 @@ use Rattle.uimg_legacy.specs.Extraction as legacy_extraction
 use Rattle.uimg_legacy.specs.Work as legacy
 use Rattle.uimg_tool.specs.declared.fault.Fault.{Fault}
 use Rattle.uimg_tool.specs.declared.fault.Fault.TheVariants.{Legacy}
-use Rattle.uimg_words.specs.declared.command.Action.{Action}
-use Rattle.uimg_words.specs.declared.command.Action.TheVariants as action
-use Rattle.uimg_words.specs.declared.command.Command.{Command}
-use Rattle.uimg_words.specs.declared.command.Format.{Format}
-use Rattle.uimg_words.specs.declared.command.Format.TheVariants as format
+use Rattle.uimg_requests.specs.declared.command.Action.{Action}
+use Rattle.uimg_requests.specs.declared.command.Action.TheVariants as action
+use Rattle.uimg_requests.specs.declared.command.Command.{Command}
+use Rattle.uimg_requests.specs.declared.command.Format.{Format}
+use Rattle.uimg_requests.specs.declared.command.Format.TheVariants as format
 use Rattle.uimg_tool.specs.Faults.{end_of, of_fit, is_read, is_put, is_no_memory, is_refused, is_of_making}
 
 -- the file begins with the magic number of a devicetree blob (Devicetree Specification, section 5.2)

@@ -12,7 +12,7 @@ use crate::formats::is_fit;
 use std::alloc::Allocator;
 use std::io::Write;
 use uimg_base::{Out, Room, Source, Status};
-use uimg_words::{Action, Command};
+use uimg_requests::{Action, Command};
 
 // The action by the engine of legacy images.
 pub(crate) fn run_legacy<S: Source, A: Allocator, W: Write>(

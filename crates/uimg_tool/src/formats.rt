@@ -6,7 +6,7 @@ ghost use Rattle.uimg_tool.specs.Headline.{begins_as_blob, is_fit};
 
 use uimg_base::{Source, SourceFault, number_at};
 use uimg_blob::BLOB_MAGIC;
-use uimg_words::Format;
+use uimg_requests::Format;
 
 // Whether a file begins as a blob does.
 #[tactic(auto, unfolding(crate::specs::Headline::begins_as_blob, uimg_texts::specs::Numbers::be32))]

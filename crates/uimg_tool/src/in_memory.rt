@@ -6,7 +6,7 @@ ghost use Rattle.uimg_base.specs.Held.{held_bytes};
 ghost use Rattle.uimg_base.specs.Named.{bytes_named};
 ghost use Rattle.uimg_tool.specs.Faults.{is_read, is_unread, is_lost_payload, is_put, is_no_memory, is_refused, is_of_making, is_keep, end_of};
 ghost use Rattle.uimg_tool.specs.Headline.{outcome_of, nodes_of, is_fit, WritesNone};
-ghost use Rattle.uimg_words.specs.Commands.{HasFitNames};
+ghost use Rattle.uimg_requests.specs.Commands.{HasFitNames};
 ghost use Rattle.uimg_tool.specs.Commands.{LacksFile, MakesCommand, LeavesRoom, HoldsCommand};
 
 use crate::engine::run_by_format;
@@ -15,7 +15,7 @@ use crate::making::make;
 use std::alloc::Allocator;
 use std::io::Write;
 use uimg_base::{MemFiles, MemKept, MemShelf, MemSource, Out, Room, Source, Status};
-use uimg_words::{Command, MakeCommand};
+use uimg_requests::{Command, MakeCommand};
 
 /// Carries out a command on the bytes of an image: the answer of `run`, and all that was written.
 ///

@@ -11,6 +11,9 @@ mod making;
 mod making_lists;
 mod making_parts;
 mod making_trees;
+mod old_program;
+mod old_tools;
+mod safe_path;
 mod same_files;
 
 pub use disk_files::DiskFiles;
@@ -19,4 +22,4 @@ pub use fault::Fault;
 pub use in_memory::{make_in_memory, run_in_memory};
 pub use main_program::program;
 pub use making::{build_image, make};
-pub use uimg_words::{Action, Command, Format, MakeCommand};
+pub use uimg_requests::{Action, Command, Format, MakeCommand};

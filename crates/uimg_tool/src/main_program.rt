@@ -4,6 +4,8 @@ use crate::disk_files::DiskFiles;
 use crate::engine::run;
 use crate::fault::Fault;
 use crate::making::make;
+use crate::old_program::program_by_old_name;
+use crate::old_tools::Tool;
 use crate::same_files::is_same_file;
 use std::fmt::Display;
 use std::fs;
@@ -14,23 +16,24 @@ use uimg_base::{FileShelf, FileSource, Out, Room, Status};
 use uimg_blob::BlobFault;
 use uimg_fit_base::FitFault;
 use uimg_its::Kind;
-use uimg_words::{MakeCommand, MakeRequest, Request, RunRequest, WordsFault, read_words};
+use uimg_requests::{MakeCommand, MakeRequest, RunRequest};
+use uimg_words::{Request, WordsFault, read_words};
 
 /// All is done.
-const DONE: u8 = 0;
+pub(crate) const DONE: u8 = 0;
 
 /// The image is refused, or a checksum is not right.
-const REFUSED: u8 = 1;
+pub(crate) const REFUSED: u8 = 1;
 
 /// The command line is wrong.
-const WRONG_LINE: u8 = 2;
+pub(crate) const WRONG_LINE: u8 = 2;
 
 /// A file could not be opened, or a read, a write or memory failed.
-const FAILED: u8 = 3;
+pub(crate) const FAILED: u8 = 3;
 
 // Why a request was not carried out. Its text is the line after `uimg: `.
 #[derive(Debug, Drop, Error)]
-enum RequestFault<'a> {
+pub(crate) enum RequestFault<'a> {
     #[error("cannot read {0}")]
     CannotRead(&'a str),
 
@@ -54,7 +57,8 @@ impl<'a> From<Fault> for RequestFault<'a> {
 }
 
 /// The program: it carries out the words of a command line, the program's name first, and answers
-/// the exit status.
+/// the exit status. A program whose name, behind its last slash, is `mkimage`, `dumpimage`,
+/// `uimg-mkimage` or `uimg-dumpimage` takes the words of U-Boot 2023.01's tool of that name.
 ///
 /// `epoch` is the text of SOURCE_DATE_EPOCH where it is set, and `now` the clock's moment in seconds
 /// since 1970: the time of an image that is made. Listings, reports and help go to `out`. They are
@@ -68,6 +72,9 @@ pub fn program<R: Files + AllocGlobal, W: Write, V: Write>(
     out: &mut W,
     err: &mut V,
 ) -> u8 {
+    if let Some(tool) = words.first().and_then(|word| Tool::of_path(word)) {
+        return program_by_old_name(rt, tool, words, epoch, now, out, err);
+    }
     match read_words(rt.alloc(), words, epoch, now) {
         Ok(request) => tell_end(&carry_out(rt, &request, out), err),
         Err(fault) => tell_words_fault(&fault, err),
@@ -99,7 +106,8 @@ fn tell<V: Write, D: Display>(err: &mut V, fault: &D, status: u8) -> u8 {
     status
 }
 
-fn status_of(fault: &RequestFault<'_>) -> u8 {
+/// The exit status of a request that was not carried out.
+pub(crate) fn status_of(fault: &RequestFault<'_>) -> u8 {
     match fault {
         RequestFault::WritesWhatIsRead(_) => WRONG_LINE,
         RequestFault::Stopped(Fault::Legacy(_)) => REFUSED,
@@ -124,9 +132,9 @@ fn status_of_source(kind: Kind) -> u8 {
     }
 }
 
-// Carries out a request. What it prints is gathered, and the rest of it written at the end. A failure
-// there comes before any other end, since the text stands before what ended the request.
-fn carry_out<'a, R: Files + AllocGlobal, W: Write>(
+/// Carries out a request. What it prints is gathered, and the rest of it written at the end. A failure
+/// there comes before any other end, since the text stands before what ended the request.
+pub(crate) fn carry_out<'a, R: Files + AllocGlobal, W: Write>(
     rt: &'a R,
     request: &'a Request<'a>,
     out: &mut W,
@@ -198,7 +206,7 @@ fn make_image<'a, R: Files + AllocGlobal, W: Write>(
         &request.command,
         request.time,
         &mut files,
-        FileShelf::new(rt, request.outfile),
+        FileShelf::new(rt, request.written),
         &mut Room::new(rt.alloc()),
         &mut Out::new(&mut *out),
     );

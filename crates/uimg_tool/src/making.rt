@@ -6,7 +6,7 @@ ghost use Rattle.uimg_base.specs.Device.{RisesIf, IsFresh};
 ghost use Rattle.uimg_base.specs.Outcome.{Tells};
 ghost use Rattle.uimg_base.specs.declared.status.Status.{Status};
 ghost use Rattle.uimg_tool.specs.Faults.{end_of, is_unread, is_lost_payload, is_put, is_keep, is_before_building, is_of_making};
-ghost use Rattle.uimg_words.specs.Commands.{HasFitNames};
+ghost use Rattle.uimg_requests.specs.Commands.{HasFitNames};
 ghost use Rattle.uimg_tool.specs.Commands.{KeepsSizes, OpensToBuild, BuildsCommand, MakesCommand, LeavesRoom, HoldsCommand, listing_of};
 
 use crate::fault::Fault;
@@ -17,7 +17,7 @@ use std::alloc::Allocator;
 use std::io::Write;
 use uimg_base::{Files, Out, Room, Shelf, Source};
 use uimg_legacy::Options;
-use uimg_words::MakeCommand;
+use uimg_requests::MakeCommand;
 
 /// Builds the image of a command at a time, in seconds since 1970, and appends it to `image`.
 ///

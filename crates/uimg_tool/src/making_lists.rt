@@ -10,7 +10,7 @@ use crate::fault::Fault;
 use std::alloc::Allocator;
 use std::io::Write;
 use uimg_base::{Out, Room, Source, Status};
-use uimg_words::{Action, Command, Format, MakeCommand};
+use uimg_requests::{Action, Command, Format, MakeCommand};
 
 /// Writes the listing of what was kept: of a legacy image, or of the format that its first bytes tell.
 pub(crate) fn list_kept<S: Source, A: Allocator, W: Write>(

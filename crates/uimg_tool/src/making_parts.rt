@@ -4,7 +4,7 @@ ghost use Rattle.uimg_base.specs.Device.{RisesIf};
 ghost use Rattle.uimg_legacy.specs.Parts.{has_parts};
 ghost use Rattle.uimg_legacy.specs.Devices.{bytes_of, AreHonest};
 ghost use Rattle.uimg_tool.specs.Faults.{is_unread, is_put, is_keep, is_no_file, is_before_building};
-ghost use Rattle.uimg_words.specs.Commands.{FitNames};
+ghost use Rattle.uimg_requests.specs.Commands.{FitNames};
 ghost use Rattle.uimg_tool.specs.Making.{OpensNames, OpensAnswer, BuildsParts, BuildsNames};
 
 use crate::fault::Fault;

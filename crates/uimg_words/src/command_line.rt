@@ -6,14 +6,13 @@ mod help_notes;
 mod mkimage;
 mod verify;
 
-use crate::command::Command;
 use clap::error::ErrorKind;
 use clap::{Arg, ArgAction, ArgMatches};
 use complaints::complaint;
 use help_notes::PROGRAM_NOTES;
-pub use mkimage::MakeRequest;
 use std::alloc::{AllocError, Global};
 use thiserror::Error;
+use uimg_requests::{MakeRequest, RunRequest, VERSION};
 
 /// What the words of a command line ask for.
 #[derive(Drop)]
@@ -26,19 +25,6 @@ pub enum Request<'a> {
 
     /// Help or the version, which is this text.
     Show(clap::Error),
-}
-
-/// A command on an image.
-#[derive(Clone, Copy, Debug, PartialEq, Eq)]
-pub struct RunRequest<'a> {
-    /// What is done with the image.
-    pub command: Command,
-
-    /// The path of the image.
-    pub image: &'a str,
-
-    /// The path of the file that an extraction writes.
-    pub outfile: Option<&'a str>,
 }
 
 /// Why the words of a command line ask for nothing.
@@ -133,7 +119,7 @@ fn commands<'a>(alloc: Global) -> Result<clap::Command<'a>, AllocError> {
     clap::Command::new(alloc, "uimg")
         .about("Makes, lists, verifies and unpacks U-Boot images")
         .after_help(PROGRAM_NOTES)
-        .version("0.1.0")
+        .version(VERSION)
         .subcommand_required(true)
         .arg_required_else_help(true)
         .disable_help_subcommand(true)

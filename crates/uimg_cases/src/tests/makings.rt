@@ -1,7 +1,7 @@
 //! What the making of an image leaves, where opens, reads, the shelf or memory fail.
 ghost use Rattle.std.specs.Prelude.{◌≡◌, ◌≢◌, false, length, IfOk};
 ghost use Rattle.uimg_legacy.specs.Parts.{has_parts};
-ghost use Rattle.uimg_words.specs.Commands.{HasFitNames};
+ghost use Rattle.uimg_requests.specs.Commands.{HasFitNames};
 
 use super::images::image_named;
 use std::alloc::{AllocError, Allocator, Global};

@@ -1,12 +1,11 @@
 //! The words of `dumpimage`.
 
 use super::help_notes::DUMPIMAGE_NOTES;
-use super::{RunRequest, WordsFault, flag, image, value};
-use crate::command::{Action, Command, Format};
-use crate::number_words::decimal;
+use super::{WordsFault, flag, image, value};
 use clap::ArgMatches;
 use std::alloc::{AllocError, Global};
 use uimg_base::{FLAT_DT, kind_code};
+use uimg_requests::{Action, Command, Format, RunRequest, decimal};
 
 pub(super) fn command<'a>(alloc: Global) -> Result<clap::Command<'a>, AllocError> {
     clap::Command::new(alloc, "dumpimage")

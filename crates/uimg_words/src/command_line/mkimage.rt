@@ -1,40 +1,13 @@
 //! The words of `mkimage`.
 
-ghost use Rattle.std.specs.Prelude.{◌≡◌, map, IfOk};
-ghost use Rattle.uimg_words.specs.Commands.{HasFitNames, has_fit_names_prop};
-ghost use Rattle.uimg_words.specs.Names.{between_colons, names_of};
-
 use super::help_notes::MKIMAGE_NOTES;
-use super::{Request, RunRequest, WordsFault, flag, image, value};
-use crate::command::{Action, Command, Format};
-use crate::make_command::MakeCommand;
-use crate::number_words::{decimal, hexadecimal};
+use super::{Request, WordsFault, flag, image, value};
 use clap::ArgMatches;
 use std::alloc::{AllocError, Global};
 use uimg_base::{FLAT_DT, arch_code, comp_code, kind_code, os_code};
 use uimg_fit_base::Placement;
-use uimg_legacy::{Options, has_parts, name_field};
-
-/// The making of an image.
-#[derive(Drop)]
-pub struct MakeRequest<'a> {
-    /// What it is made from. The names of its files are such as `make` takes.
-    pub command: MakeCommand,
-
-    /// The time of the making, in seconds since 1970.
-    pub time: u32,
-
-    /// The path of the image source, or an empty text where it is made from data.
-    pub source: &'a str,
-
-    /// The folder of the files, the current one where it is empty.
-    pub folder: &'a str,
-
-    /// The path of the image.
-    pub outfile: &'a str,
-
-    ghost fits: { HasFitNames command } by { has_fit_names_prop command },
-}
+use uimg_legacy::{Options, name_field};
+use uimg_requests::{Action, Command, Format, MakeRequest, RunRequest, decimal, hexadecimal};
 
 pub(super) fn command<'a>(alloc: Global) -> Result<clap::Command<'a>, AllocError> {
     let command = clap::Command::new(alloc, "mkimage")
@@ -127,59 +100,13 @@ pub(super) fn request<'a>(
         (None, Some(source)) => {
             let placement = placement(matches)?;
             let time = time(epoch, now)?;
-            Ok(Request::Make(tree_request(alloc, source, placement, time, image)?))
+            Ok(Request::Make(MakeRequest::of_source(alloc, source, placement, time, image)?))
         }
         (Some(data), None) => {
             let options = options(matches)?;
             let time = time(epoch, now)?;
-            Ok(Request::Make(parts_request(alloc, options, data, time, image)?))
+            Ok(Request::Make(MakeRequest::of_parts(alloc, options, data, time, image)?))
         }
-    }
-}
-
-// The making of an image from the files of the word of -d.
-#[tactic(auto, using(crate::proofs::NameLaws::names_fit))]
-fn parts_request<'a>(
-    alloc: Global,
-    options: Options,
-    data: &str,
-    time: u32,
-    outfile: &'a str,
-) -> Result<MakeRequest<'a>, AllocError> {
-    let files = file_names(alloc, options.kind, data)?;
-    Ok(MakeRequest {
-        command: MakeCommand::Parts { options, files },
-        time,
-        source: "",
-        folder: "",
-        outfile,
-    })
-}
-
-// The making of an image from the source of the word of -f, whose folder is that of its files.
-fn tree_request<'a>(
-    alloc: Global,
-    path: &'a str,
-    placement: Placement,
-    time: u32,
-    outfile: &'a str,
-) -> Result<MakeRequest<'a>, AllocError> {
-    let (folder, name) = cut_behind_folder(path);
-    let source = Vec::from_slice(alloc, name.as_bytes())?;
-    Ok(MakeRequest {
-        command: MakeCommand::Tree { source, placement },
-        time,
-        source: path,
-        folder,
-        outfile,
-    })
-}
-
-// A path, cut behind its last slash.
-fn cut_behind_folder(path: &str) -> (&str, &str) {
-    match path.rfind('/') {
-        Some(slash) => path.split_at(slash + 1),
-        None => ("", path),
     }
 }
 
@@ -191,31 +118,6 @@ fn placement(matches: &ArgMatches<'_>) -> Result<Placement, WordsFault> {
         (true, 0) => Ok(Placement::After),
         (true, _) => Ok(Placement::At(position)),
     }
-}
-
-// The names that the word of -d has for an image type: those between its colons for one of several
-// parts, and else the word itself.
-fn file_names(alloc: Global, kind: u8, word: &str) -> Result<Vec<Vec<u8>>, AllocError>
-    ensures { IfOk result (λ names. map (λ name. name.items) names.items ≡ names_of kind word.now) }
-{
-    if has_parts(kind) {
-        cut_at_colons(alloc, word)
-    } else {
-        let mut names = Vec::new(alloc);
-        names.push(Vec::from_slice(alloc, word.as_bytes())?)?;
-        Ok(names)
-    }
-}
-
-// The names between the colons of a word.
-fn cut_at_colons(alloc: Global, word: &str) -> Result<Vec<Vec<u8>>, AllocError>
-    ensures { IfOk result (λ names. map (λ name. name.items) names.items ≡ between_colons word.now) }
-{
-    let mut names = Vec::new(alloc);
-    for name in word.split(':') {
-        names.push(Vec::from_slice(alloc, name.as_bytes())?)?;
-    }
-    Ok(names)
 }
 
 // The fields of the header that the options give. All names are looked at before any number.

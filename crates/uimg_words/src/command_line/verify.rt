@@ -1,10 +1,10 @@
 //! The words of `verify`.
 
 use super::help_notes::VERIFY_NOTES;
-use super::{RunRequest, image};
-use crate::command::{Action, Command, Format};
+use super::image;
 use clap::ArgMatches;
 use std::alloc::{AllocError, Global};
+use uimg_requests::{Action, Command, Format, RunRequest};
 
 pub(super) fn command<'a>(alloc: Global) -> Result<clap::Command<'a>, AllocError> {
     clap::Command::new(alloc, "verify")

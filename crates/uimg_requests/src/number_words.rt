@@ -1,7 +1,7 @@
 //! The numbers of a command line.
 
 ghost use Rattle.std.specs.Prelude.{◌≡◌, ◌≢◌, ◌≤◌, ◌∷◌, ℕ, List};
-ghost use Rattle.uimg_words.specs.Numbers.{IsNumberOf};
+ghost use Rattle.uimg_requests.specs.Numbers.{IsNumberOf};
 
 /// The number of one or more decimal digits. `None` for any other text, and for a number of more
 /// than 32 bits.

@@ -3,8 +3,8 @@ use Rattle.std.specs.Prelude.{◌≡◌, ◌≢◌, ℕ, List, length, map, fals
 use Rattle.std.proofs.Props.{props}
 use Rattle.uimg_legacy.specs.Parts.{has_parts}
 use Rattle.uimg_legacy.specs.declared.options.Options.{Options}
-use Rattle.uimg_words.specs.declared.make_command.MakeCommand.{MakeCommand}
-use Rattle.uimg_words.specs.declared.make_command.MakeCommand.TheVariants.{Parts, Tree}
+use Rattle.uimg_requests.specs.declared.make_command.MakeCommand.{MakeCommand}
+use Rattle.uimg_requests.specs.declared.make_command.MakeCommand.TheVariants.{Parts, Tree}
 
 -- There is a name, and no second one unless the type is multi or script.
 pub record FitNames (options : Options) (names : List (List ℕ)) : Type 0 where

@@ -2,8 +2,8 @@ use Rattle.std.proofs.Common.{rules, ◌∙◌, ap, lit<}
 use Rattle.std.proofs.lemmas.Iterator.Consumers.{YieldsList-end}
 use Rattle.std.proofs.lemmas.Iterator.Splits.{YieldsList-from_str_split}
 use Rattle.std.specs.Str.Iter.{split_text, split_has_more, split_pattern}
-use Rattle.uimg_words.proofs.NameLaws.{map_one_more}
-use Rattle.uimg_words.proofs.command_line.mkimage.cut_at_colons.Goals as goal
+use Rattle.uimg_requests.proofs.NameLaws.{map_one_more}
+use Rattle.uimg_requests.proofs.names.cut_at_colons.Goals as goal
 
 pub loop-name-preserved : goal.loop-name-preserved
 loop-name-preserved c =

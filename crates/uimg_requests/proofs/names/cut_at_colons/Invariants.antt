@@ -1,5 +1,5 @@
 use Rattle.std.proofs.Common.{◌≡◌, map}
-use Rattle.uimg_words.proofs.command_line.mkimage.cut_at_colons.Given as goal
+use Rattle.uimg_requests.proofs.names.cut_at_colons.Given as goal
 
 -- the names so far are the parts that have come
 abbrev pub invariant-loop-name : goal.invariant-loop-name

@@ -1,0 +1,23 @@
+//! The command lines of mkimage and dumpimage 2023.01: what their words ask for.
+#![tactic(auto)]
+
+mod c_numbers;
+mod dtc_words;
+mod dumpimage;
+mod fault;
+mod getopt;
+mod helps;
+mod mkimage;
+mod mkimage_options;
+mod name_tables;
+mod names;
+mod nearest;
+mod request;
+
+pub use c_numbers::{long_prefix, low_half, unsigned_long};
+pub use dumpimage::read_dumpimage;
+pub use fault::OldFault;
+pub use getopt::{Given, Misuse, OptionRow, Words};
+pub use mkimage::read_mkimage;
+pub use name_tables::{Field, NameRow};
+pub use request::{OldRequest, Show};

@@ -1,0 +1,275 @@
+//! The words of mkimage.
+
+use crate::c_numbers::{long_prefix, low_half, unsigned_long};
+use crate::dtc_words::change_nothing;
+use crate::fault::OldFault;
+use crate::getopt::{Given, Words};
+use crate::helps::MKIMAGE_HELP;
+use crate::mkimage_options::MKIMAGE_OPTIONS;
+use crate::name_tables::Field;
+use crate::names::{Named, format_of, name_of};
+use crate::request::{OldRequest, Show};
+use std::alloc::Global;
+use uimg_base::FLAT_DT;
+use uimg_fit_base::Placement;
+use uimg_legacy::{Options, name_field};
+use uimg_requests::{Action, Command, MakeRequest, RunRequest};
+
+/// The path whose file has no data, of which an image is made where none is to be copied.
+const NO_DATA: &str = "/dev/null";
+
+/// What the options of a command line say so far. Each may be given again, and the last counts.
+#[derive(Clone, Copy, Debug)]
+struct Settings<'a> {
+    arch: u8,
+    os: u8,
+    kind: Option<u8>,
+    comp: u8,
+    load: u32,
+    entry: Option<u32>,
+    name: &'a str,
+    data: Option<&'a str>,
+    source: Option<&'a str>,
+    image: Option<&'a str>,
+    position: u32,
+    is_external: bool,
+    is_list: bool,
+    is_quiet: bool,
+    has_no_data: bool,
+}
+
+/// Reads the words behind mkimage's name. `epoch` is SOURCE_DATE_EPOCH where it is set, and `now` the
+/// clock's moment.
+pub fn read_mkimage<'a>(
+    alloc: Global,
+    words: &'a [&'a str],
+    epoch: Option<&str>,
+    now: u32,
+) -> Result<OldRequest<'a>, OldFault<'a>> {
+    let mut settings = Settings {
+        arch: 7,
+        os: 5,
+        kind: None,
+        comp: 1,
+        load: 0,
+        entry: None,
+        name: "",
+        data: None,
+        source: None,
+        image: None,
+        position: 0,
+        is_external: false,
+        is_list: false,
+        is_quiet: false,
+        has_no_data: false,
+    };
+    let mut words = Words::new(words);
+    while let Some(given) = words.take(&MKIMAGE_OPTIONS)? {
+        if let Some(show) = settings.take(alloc, given)? {
+            return Ok(OldRequest::Show(show));
+        }
+    }
+    settings.request(alloc, epoch, now)
+}
+
+impl<'a> Settings<'a> {
+    // Takes what a command line gives next, or tells the text that it asks for.
+    fn take(&mut self, alloc: Global, given: Given<'a>) -> Result<Option<Show>, OldFault<'a>> {
+        match given {
+            Given::Operand(word) => {
+                if self.image.is_none() {
+                    self.image = Some(word);
+                }
+                Ok(None)
+            }
+            Given::Flag(option) => self.take_flag(option),
+            Given::Value(option, value) => self.take_value(alloc, option, value),
+        }
+    }
+
+    fn take_flag(&mut self, option: char) -> Result<Option<Show>, OldFault<'a>> {
+        match option {
+            'h' => return Ok(Some(Show::Help(MKIMAGE_HELP))),
+            'V' => return Ok(Some(Show::Version)),
+            'E' => self.is_external = true,
+            'l' => self.is_list = true,
+            'q' => self.is_quiet = true,
+            's' => self.has_no_data = true,
+            'F' | 'r' => return Err(OldFault::Signs(option)),
+            'x' => {
+                return Err(OldFault::NotDone {
+                    letter: 'x',
+                    what: "makes no image that is run in its place",
+                });
+            }
+            _ => {}
+        }
+        Ok(None)
+    }
+
+    fn take_value(
+        &mut self,
+        alloc: Global,
+        option: char,
+        value: &'a str,
+    ) -> Result<Option<Show>, OldFault<'a>> {
+        match option {
+            'A' => return self.take_name(alloc, Field::Architecture, value),
+            'O' => return self.take_name(alloc, Field::System, value),
+            'T' => return self.take_name(alloc, Field::Type, value),
+            'C' => return self.take_name(alloc, Field::Compression, value),
+            'a' => self.load = address('a', value)?,
+            'e' => self.entry = Some(address('e', value)?),
+            'p' => self.position = address('p', value)?,
+            'n' => self.name = value,
+            'd' => self.data = Some(value),
+            'f' if value != "auto" => self.source = Some(value),
+            'f' => return Err(makes_no_source('f')),
+            'b' => return Err(makes_no_source('b')),
+            'i' => return Err(makes_no_source('i')),
+            'B' => check_alignment(value)?,
+            'D' => check_dtc_words(value)?,
+            'g' | 'G' | 'k' | 'K' | 'N' | 'o' => return Err(OldFault::Signs(option)),
+            _ => {}
+        }
+        Ok(None)
+    }
+
+    fn take_name(
+        &mut self,
+        alloc: Global,
+        field: Field,
+        word: &'a str,
+    ) -> Result<Option<Show>, OldFault<'a>> {
+        let code = match name_of(alloc, field, word)? {
+            Named::List => return Ok(Some(Show::Names(field))),
+            Named::Code(code) => code,
+        };
+        match field {
+            Field::Architecture => self.arch = code,
+            Field::System => self.os = code,
+            Field::Type => self.kind = Some(code),
+            Field::Compression => self.comp = code,
+        }
+        Ok(None)
+    }
+
+    // What is asked for, once all words are taken.
+    fn request(
+        self,
+        alloc: Global,
+        epoch: Option<&str>,
+        now: u32,
+    ) -> Result<OldRequest<'a>, OldFault<'a>> {
+        let Some(image) = self.image else {
+            return Err(OldFault::NoImage);
+        };
+        if self.is_list {
+            return Ok(OldRequest::Run {
+                request: RunRequest {
+                    command: Command {
+                        action: Action::List,
+                        format: format_of(self.kind),
+                    },
+                    image,
+                    outfile: None,
+                },
+                is_quiet: self.is_quiet,
+            });
+        }
+        let time = match epoch {
+            Some(text) => long_prefix(text).ok_or(OldFault::BadEpoch)?,
+            None => now,
+        };
+        let is_quiet = self.is_quiet;
+        let request = self.making(alloc, image, time)?;
+        Ok(OldRequest::Make { request, is_quiet })
+    }
+
+    fn making(
+        self,
+        alloc: Global,
+        image: &'a str,
+        time: u32,
+    ) -> Result<MakeRequest<'a>, OldFault<'a>> {
+        match (self.data, self.source) {
+            (None, None) => Err(OldFault::NothingToMake),
+            (Some(_), Some(_)) => Err(OldFault::DataWithSource),
+            (None, Some(source)) => {
+                let placement = self.placement();
+                Ok(MakeRequest::of_source(alloc, source, placement, time, image)?)
+            }
+            (Some(_), None) if self.kind == Some(FLAT_DT) => Err(OldFault::NoSource),
+            (Some(data), None) => {
+                let data = if self.has_no_data { NO_DATA } else { data };
+                Ok(MakeRequest::of_parts(alloc, self.options(), data, time, image)?)
+            }
+        }
+    }
+
+    fn placement(&self) -> Placement {
+        match (self.is_external, self.position) {
+            (false, _) => Placement::Inside,
+            (true, 0) => Placement::After,
+            (true, position) => Placement::At(position),
+        }
+    }
+
+    // The fields of the header. The type `invalid` is as none.
+    fn options(&self) -> Options {
+        let kind = match self.kind {
+            None | Some(0) => 2,
+            Some(kind) => kind,
+        };
+        Options {
+            time: 0,
+            load: self.load,
+            ep: self.entry.unwrap_or(self.load),
+            os: self.os,
+            arch: self.arch,
+            kind,
+            comp: self.comp,
+            name: name_field(self.name.as_bytes()),
+        }
+    }
+}
+
+// The low 32 bits of a hexadecimal number.
+fn address(letter: char, word: &str) -> Result<u32, OldFault<'_>> {
+    match unsigned_long(word, 16) {
+        Some(number) => Ok(low_half(number)),
+        None => Err(OldFault::NoNumber {
+            letter,
+            title: "hexadecimal",
+            word,
+        }),
+    }
+}
+
+// Payloads stand at multiples of four bytes.
+fn check_alignment(word: &str) -> Result<(), OldFault<'_>> {
+    match address('B', word)? {
+        0 | 4 => Ok(()),
+        _ => Err(OldFault::NotDone {
+            letter: 'B',
+            what: "places payloads at multiples of 4 alone",
+        }),
+    }
+}
+
+fn check_dtc_words(words: &str) -> Result<(), OldFault<'_>> {
+    if change_nothing(words) {
+        return Ok(());
+    }
+    Err(OldFault::NotDone {
+        letter: 'D',
+        what: "takes no words for dtc but -I dts, -O dtb, -q and -p with a number",
+    })
+}
+
+fn makes_no_source(letter: char) -> OldFault<'static> {
+    OldFault::NotDone {
+        letter,
+        what: "makes no image source",
+    }
+}

@@ -1,0 +1,32 @@
+//! The names of the files that an image is made from.
+
+ghost use Rattle.std.specs.Prelude.{◌≡◌, map, IfOk};
+ghost use Rattle.uimg_requests.specs.Names.{between_colons, names_of};
+
+use std::alloc::{AllocError, Global};
+use uimg_legacy::has_parts;
+
+/// The names that the word of -d has for an image type: those between its colons for one of several
+/// parts, and else the word itself.
+pub fn file_names(alloc: Global, kind: u8, word: &str) -> Result<Vec<Vec<u8>>, AllocError>
+    ensures { IfOk result (λ names. map (λ name. name.items) names.items ≡ names_of kind word.now) }
+{
+    if has_parts(kind) {
+        cut_at_colons(alloc, word)
+    } else {
+        let mut names = Vec::new(alloc);
+        names.push(Vec::from_slice(alloc, word.as_bytes())?)?;
+        Ok(names)
+    }
+}
+
+// The names between the colons of a word.
+fn cut_at_colons(alloc: Global, word: &str) -> Result<Vec<Vec<u8>>, AllocError>
+    ensures { IfOk result (λ names. map (λ name. name.items) names.items ≡ between_colons word.now) }
+{
+    let mut names = Vec::new(alloc);
+    for name in word.split(':') {
+        names.push(Vec::from_slice(alloc, name.as_bytes())?)?;
+    }
+    Ok(names)
+}

@@ -1,0 +1,99 @@
+//! What a command line asks for, with the paths that it names.
+
+ghost use Rattle.uimg_requests.specs.Commands.{HasFitNames, has_fit_names_prop};
+
+use crate::command::Command;
+use crate::make_command::MakeCommand;
+use crate::names::file_names;
+use std::alloc::{AllocError, Global};
+use uimg_fit_base::Placement;
+use uimg_legacy::Options;
+
+/// A command on an image.
+#[derive(Clone, Copy, Debug, PartialEq, Eq)]
+pub struct RunRequest<'a> {
+    /// What is done with the image.
+    pub command: Command,
+
+    /// The path of the image.
+    pub image: &'a str,
+
+    /// The path of the file that an extraction writes.
+    pub outfile: Option<&'a str>,
+}
+
+/// The making of an image.
+#[derive(Drop)]
+pub struct MakeRequest<'a> {
+    /// What it is made from. The names of its files are such as `make` takes.
+    pub command: MakeCommand,
+
+    /// The time of the making, in seconds since 1970.
+    pub time: u32,
+
+    /// The path of the image source, or an empty text where it is made from data.
+    pub source: &'a str,
+
+    /// The folder of the files, the current one where it is empty.
+    pub folder: &'a str,
+
+    /// The path of the image.
+    pub outfile: &'a str,
+
+    /// The path that is written: that of the image, or one that gets its name at the end.
+    pub written: &'a str,
+
+    ghost fits: { HasFitNames command } by { has_fit_names_prop command },
+}
+
+impl<'a> MakeRequest<'a> {
+    /// The making of a legacy image from the files of the word of -d. Memory for their names may be
+    /// refused.
+    #[tactic(auto, using(crate::proofs::NameLaws::names_fit))]
+    pub fn of_parts(
+        alloc: Global,
+        options: Options,
+        data: &str,
+        time: u32,
+        outfile: &'a str,
+    ) -> Result<MakeRequest<'a>, AllocError> {
+        let files = file_names(alloc, options.kind, data)?;
+        Ok(MakeRequest {
+            command: MakeCommand::Parts { options, files },
+            time,
+            source: "",
+            folder: "",
+            outfile,
+            written: outfile,
+        })
+    }
+
+    /// The making of a FIT image from the source at a path, whose folder is that of its files. Memory
+    /// for its name may be refused.
+    pub fn of_source(
+        alloc: Global,
+        path: &'a str,
+        placement: Placement,
+        time: u32,
+        outfile: &'a str,
+    ) -> Result<MakeRequest<'a>, AllocError> {
+        let (folder, name) = cut_behind_folder(path);
+        let source = Vec::from_slice(alloc, name.as_bytes())?;
+        Ok(MakeRequest {
+            command: MakeCommand::Tree { source, placement },
+            time,
+            source: path,
+            folder,
+            outfile,
+            written: outfile,
+        })
+    }
+}
+
+// A path, cut behind its last slash.
+fn cut_behind_folder(path: &str) -> (&str, &str) {
+    match path.rfind('/') {
+        Some(slash) => path.split_at(slash + 1),
+        None => ("", path),
+    }
+}

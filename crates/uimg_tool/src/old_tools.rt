@@ -1,0 +1,31 @@
+//! The tools whose names the program may have.
+
+/// A tool of U-Boot whose command line the program takes where it has the tool's name.
+#[derive(Clone, Copy, Debug, PartialEq, Eq)]
+pub(crate) enum Tool {
+    Mkimage,
+    Dumpimage,
+}
+
+impl Tool {
+    /// The tool that a program's path names behind its last slash.
+    pub(crate) fn of_path(path: &str) -> Option<Tool> {
+        let name = match path.rsplit_once('/') {
+            Some((_, name)) => name,
+            None => path,
+        };
+        match name.strip_prefix("uimg-").unwrap_or(name) {
+            "mkimage" => Some(Tool::Mkimage),
+            "dumpimage" => Some(Tool::Dumpimage),
+            _ => None,
+        }
+    }
+
+    /// The tool's own name, which begins each line of a fault.
+    pub(crate) fn name(self) -> &'static str {
+        match self {
+            Tool::Mkimage => "mkimage",
+            Tool::Dumpimage => "dumpimage",
+        }
+    }
+}
