@@ -24,11 +24,12 @@ The manual page and the package are of the program's version:
   $ head -n 1 "$top/debian/changelog" | sed "s/^uimg (${version#uimg }) .*/the same/"
   the same
 
-The commands by names that scripts can be given:
+The manual pages of the names that builds can be given are of that version too, and tell each option of mkimage's help:
 
-  $ mkdir names && ln -s "$(command -v uimg)" names/uimg && cp "$top"/wrappers/uimg-* names
-  $ names/uimg-dumpimage -l "$top/examples/abc-kernel.img" | head -n 1
-  Image Name:   01234567890123456789012345678901
-  $ printf abc > part && SOURCE_DATE_EPOCH=1700000000 names/uimg-mkimage -A arm -n "by another name" -d part out | head -n 2
-  Image Name:   by another name
-  Created:      Tue Nov 14 22:13:20 2023
+  $ for name in mkimage dumpimage; do head -n 1 "$top/docs/uimg-$name.1" | cut -d '"' -f 2 | sed "s/^$version$/the same/"; done
+  the same
+  the same
+  $ ln -s "$(command -v uimg)" mkimage
+  $ ./mkimage -h | grep -o -e '--[a-z-]*' | while read -r option; do
+  >   sed 's/\\//g' "$top/docs/uimg-mkimage.1" | grep -q -e "$option" || echo "$option"
+  > done

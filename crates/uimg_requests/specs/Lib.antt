@@ -1,3 +1,4 @@
 pub mod Commands
 pub mod Names
 pub mod Numbers
+pub mod Requests

@@ -1,5 +1,8 @@
 //! What a command line asks for, with the paths that it names.
 
+ghost use Rattle.std.specs.Prelude.{◌≡◌, ◌++◌, IfOk};
+ghost use Rattle.uimg_requests.specs.Names.{names_of};
+ghost use Rattle.uimg_requests.specs.Requests.{AsksParts, AsksSource};
 ghost use Rattle.uimg_requests.specs.Commands.{HasFitNames, has_fit_names_prop};
 
 use crate::command::Command;
@@ -56,7 +59,12 @@ impl<'a> MakeRequest<'a> {
         data: &str,
         time: u32,
         outfile: &'a str,
-    ) -> Result<MakeRequest<'a>, AllocError> {
+    ) -> Result<MakeRequest<'a>, AllocError>
+        ensures asks { IfOk result (λ request. AsksParts request.command options
+            (names_of options.kind data.now)) }
+        ensures time { IfOk result (λ request. request.time ≡ time) }
+        ensures written { IfOk result (λ request. request.written.now ≡ outfile.entry.now) }
+    {
         let files = file_names(alloc, options.kind, data)?;
         Ok(MakeRequest {
             command: MakeCommand::Parts { options, files },
@@ -76,7 +84,12 @@ impl<'a> MakeRequest<'a> {
         placement: Placement,
         time: u32,
         outfile: &'a str,
-    ) -> Result<MakeRequest<'a>, AllocError> {
+    ) -> Result<MakeRequest<'a>, AllocError>
+        ensures asks { IfOk result (λ request. AsksSource request.command request.folder.now
+            path.entry.now placement) }
+        ensures time { IfOk result (λ request. request.time ≡ time) }
+        ensures written { IfOk result (λ request. request.written.now ≡ outfile.entry.now) }
+    {
         let (folder, name) = cut_behind_folder(path);
         let source = Vec::from_slice(alloc, name.as_bytes())?;
         Ok(MakeRequest {
@@ -91,7 +104,9 @@ impl<'a> MakeRequest<'a> {
 }
 
 // A path, cut behind its last slash.
-fn cut_behind_folder(path: &str) -> (&str, &str) {
+fn cut_behind_folder(path: &str) -> (&str, &str)
+    ensures { result.0.now ++ result.1.now ≡ path.now }
+{
     match path.rfind('/') {
         Some(slash) => path.split_at(slash + 1),
         None => ("", path),
