@@ -140,7 +140,7 @@ const TYPES: [NameRow; 41] = [
     ("imx8image", "NXP i.MX8 Boot Image", None),
     ("imx8mimage", "NXP i.MX8M Boot Image", None),
     ("imximage", "Freescale i.MX Boot Image", None),
-    ("invalid", "Invalid Image", None),
+    ("invalid", "Invalid Image", Some(0)),
     ("kernel", "Kernel Image", Some(2)),
     ("kernel_noload", "Kernel Image (no loading done)", Some(14)),
     ("kwbimage", "Kirkwood Boot Image", None),

@@ -55,10 +55,10 @@ fn unknown_name<'a>(
     })
 }
 
-/// The format of the images of a type.
+/// The format of the images of a type. The type `invalid` is as none.
 pub(crate) fn format_of(kind: Option<u8>) -> Format {
     match kind {
-        None => Format::Guess,
+        None | Some(0) => Format::Guess,
         Some(FLAT_DT) => Format::Fit,
         Some(_) => Format::Legacy,
     }
