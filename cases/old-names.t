@@ -122,6 +122,10 @@ Listing and unpacking:
   $ dumpimage -T kernel -p 7 -o part wanted
   dumpimage: wanted: L8 no such part
   [1]
+  $ cmp part d && ls part* && dumpimage -o wanted wanted
+  part
+  dumpimage: wanted would be written while it is read
+  [2]
   $ mkimage -l d
   mkimage: d: L1 too short
   [1]
@@ -238,6 +242,12 @@ The outfile gets its name when it is whole, by a link too, and what stood there 
   $ (ulimit -f 1; trap '' XFSZ; mkimage -q -A arm -d "$(command -v uimg)" out 2>&1); cat out; ls out*
   mkimage: out: write failed
   beforeout
+  outside
+  $ cp d out.uimg-new1 && ln -s nothing out.uimg-new2 && mkimage -q -A arm -a 1000 -n name -d out.uimg-new1 out
+  $ cmp out wanted && cmp out.uimg-new1 d && ls out*
+  out
+  out.uimg-new1
+  out.uimg-new2
   outside
   $ cp d own && mkimage -q -A arm -d own own
   mkimage: own would be written while it is read

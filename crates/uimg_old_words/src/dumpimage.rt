@@ -82,6 +82,7 @@ impl<'a> Settings<'a> {
             (false, Some(_)) => Action::Extract(self.position),
             (false, None) => return Err(OldFault::NoOutfile),
         };
+        let outfile = if self.is_list { None } else { self.outfile };
         Ok(OldRequest::Run {
             request: RunRequest {
                 command: Command {
@@ -89,7 +90,8 @@ impl<'a> Settings<'a> {
                     format: format_of(self.kind),
                 },
                 image,
-                outfile: if self.is_list { None } else { self.outfile },
+                outfile,
+                written: outfile,
             },
             is_quiet: false,
         })

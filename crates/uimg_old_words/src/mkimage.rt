@@ -173,6 +173,7 @@ impl<'a> Settings<'a> {
                     },
                     image,
                     outfile: None,
+                    written: None,
                 },
                 is_quiet: self.is_quiet,
             });

@@ -21,8 +21,11 @@ pub struct RunRequest<'a> {
     /// The path of the image.
     pub image: &'a str,
 
-    /// The path of the file that an extraction writes.
+    /// The path of the file of an extraction.
     pub outfile: Option<&'a str>,
+
+    /// The path that an extraction writes: that of its file, or one that gets its name at the end.
+    pub written: Option<&'a str>,
 }
 
 /// The making of an image.

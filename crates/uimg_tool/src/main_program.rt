@@ -180,7 +180,7 @@ fn run_command<'a, R: Files + AllocGlobal, W: Write>(
             if is_same_file(rt, path, request.image) {
                 return Err(RequestFault::WritesWhatIsRead(path));
             }
-            let Ok(outfile) = fs::create(rt, path) else {
+            let Ok(outfile) = fs::create(rt, request.written.unwrap_or(path)) else {
                 return Err(RequestFault::CannotWrite(path));
             };
             run(

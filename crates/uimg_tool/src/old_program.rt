@@ -3,7 +3,7 @@
 use crate::fault::Fault;
 use crate::main_program::{DONE, FAILED, REFUSED, RequestFault, WRONG_LINE, carry_out, status_of};
 use crate::old_tools::Tool;
-use crate::safe_path::{SafePath, safe_path};
+use crate::safe_path::{SafePath, Writing, writing_of};
 use std::fmt::Display;
 use std::io::Write;
 use std::rt::Files;
@@ -44,8 +44,28 @@ pub(crate) fn program_by_old_name<R: Files + AllocGlobal, W: Write, V: Write>(
     }
 }
 
-// Runs a command on an image.
+// Runs a command on an image. What is extracted is written beside its name, which it gets when it is
+// whole.
 fn run_command<R: Files + AllocGlobal, W: Write, V: Write>(
+    rt: &R,
+    tool: Tool,
+    request: RunRequest<'_>,
+    is_quiet: bool,
+    out: &mut W,
+    err: &mut V,
+) -> u8 {
+    let Some(outfile) = request.outfile else {
+        return run_in_place(rt, tool, request, is_quiet, out, err);
+    };
+    match writing_of(rt, outfile) {
+        Ok(Writing::InPlace) => run_in_place(rt, tool, request, is_quiet, out, err),
+        Ok(Writing::Beside(path)) => run_beside(rt, tool, request, &path, out, err),
+        Ok(Writing::Nowhere) => tell(tool, err, &RequestFault::CannotWrite(outfile), FAILED),
+        Err(_) => tell(tool, err, &OldFault::OutOfMemory, FAILED),
+    }
+}
+
+fn run_in_place<R: Files + AllocGlobal, W: Write, V: Write>(
     rt: &R,
     tool: Tool,
     request: RunRequest<'_>,
@@ -59,7 +79,22 @@ fn run_command<R: Files + AllocGlobal, W: Write, V: Write>(
     tell_end(tool, &end, image, err)
 }
 
-// Makes an image under a name of its own, which is renamed when it is whole and removed where it isn't.
+fn run_beside<'a, R: Files + AllocGlobal, W: Write, V: Write>(
+    rt: &'a R,
+    tool: Tool,
+    mut request: RunRequest<'a>,
+    path: &'a SafePath,
+    out: &mut W,
+    err: &mut V,
+) -> u8 {
+    let image = request.image;
+    request.written = Some(path.new.as_str());
+    let request = Request::Run(request);
+    let end = carry_out(rt, &request, out);
+    tell_written(rt, tool, path, &end, image, err)
+}
+
+// Makes an image beside its name, which it gets when it is whole.
 fn make_image<R: Files + AllocGlobal, W: Write, V: Write>(
     rt: &R,
     tool: Tool,
@@ -68,19 +103,27 @@ fn make_image<R: Files + AllocGlobal, W: Write, V: Write>(
     out: &mut W,
     err: &mut V,
 ) -> u8 {
-    match safe_path(rt, request.outfile) {
-        Ok(None) => {
+    match writing_of(rt, request.outfile) {
+        Ok(Writing::InPlace) => {
             let outfile = request.outfile;
             let request = Request::Make(request);
             let end = carry_out_by(rt, &request, is_quiet, out);
             tell_end(tool, &end, outfile, err)
         }
-        Ok(Some(path)) => make_safely(rt, tool, request, &path, is_quiet, out, err),
+        Ok(Writing::Beside(path)) => make_beside(rt, tool, request, &path, is_quiet, out, err),
+        Ok(Writing::Nowhere) => {
+            tell(
+                tool,
+                err,
+                &RequestFault::CannotWrite(request.outfile),
+                FAILED,
+            )
+        }
         Err(_) => tell(tool, err, &OldFault::OutOfMemory, FAILED),
     }
 }
 
-fn make_safely<'a, R: Files + AllocGlobal, W: Write, V: Write>(
+fn make_beside<'a, R: Files + AllocGlobal, W: Write, V: Write>(
     rt: &'a R,
     tool: Tool,
     mut request: MakeRequest<'a>,
@@ -89,17 +132,36 @@ fn make_safely<'a, R: Files + AllocGlobal, W: Write, V: Write>(
     out: &mut W,
     err: &mut V,
 ) -> u8 {
-    let outfile = request.outfile;
+    let (source, outfile) = (request.source, request.outfile);
     request.written = path.new.as_str();
     let request = Request::Make(request);
     let end = carry_out_by(rt, &request, is_quiet, out);
-    if end.is_err() {
-        let _ = fs::remove_file(rt, path.new.as_str());
-    } else if fs::rename(rt, path.new.as_str(), path.whole.as_str()).is_err() {
-        let _ = fs::remove_file(rt, path.new.as_str());
-        return tell_end(tool, &Err(RequestFault::CannotWrite(outfile)), outfile, err);
+    let about = match &end {
+        Err(RequestFault::Stopped(Fault::Its(_))) => source,
+        _ => outfile,
+    };
+    tell_written(rt, tool, path, &end, about, err)
+}
+
+// Gives what was written its name, or removes it, and tells the end, with the path that it is about.
+fn tell_written<R: Files, V: Write>(
+    rt: &R,
+    tool: Tool,
+    path: &SafePath,
+    end: &Result<Status, RequestFault<'_>>,
+    about: &str,
+    err: &mut V,
+) -> u8 {
+    let is_whole = end.is_ok();
+    if is_whole && fs::rename(rt, path.new.as_str(), path.whole.as_str()).is_ok() {
+        return tell_end(tool, end, about, err);
     }
-    tell_end(tool, &end, outfile, err)
+    let _ = fs::remove_file(rt, path.new.as_str());
+    if is_whole {
+        let whole = path.whole.as_str();
+        return tell(tool, err, &RequestFault::CannotWrite(whole), FAILED);
+    }
+    tell_end(tool, end, about, err)
 }
 
 // Carries out a request, of which a quiet one prints nothing.

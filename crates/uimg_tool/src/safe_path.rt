@@ -1,34 +1,61 @@
 //! Where a file is written before it gets its name.
 
-use std::alloc::{AllocError, Global};
+use std::alloc::AllocError;
 use std::fs;
-use std::path::PathBuf;
 use std::rt::Files;
 
-/// The paths of a file that is made.
+/// How many names are tried beside a path.
+const TRIED: u32 = 100;
+
+/// Where what is to stand at a path is written.
+#[derive(Drop)]
+pub(crate) enum Writing {
+    /// At the path, where something is that is no regular file, as a device.
+    InPlace,
+
+    /// Beside the file that the path leads to, by links too.
+    Beside(SafePath),
+
+    /// Nowhere: all the names beside it are taken.
+    Nowhere,
+}
+
+/// The paths of a file that is written beside its name.
 #[derive(Drop)]
 pub(crate) struct SafePath {
-    /// What is written.
+    /// What is written. There was no file yet.
     pub(crate) new: String,
 
     /// The name that it gets when it is whole.
     pub(crate) whole: String,
 }
 
-/// Where what is to stand at a path is written first: beside the file that the path leads to, by links
-/// too. `None` where that is there and is no regular file, as a device: it is written as it is.
-pub(crate) fn safe_path<R: Files + AllocGlobal>(
+/// Where what is to stand at a path is written. Memory for the paths may be refused.
+pub(crate) fn writing_of<R: Files + AllocGlobal>(
     rt: &R,
     path: &str,
-) -> Result<Option<SafePath>, AllocError> {
+) -> Result<Writing, AllocError> {
     let whole = match fs::metadata(rt, path) {
-        Ok(found) if !found.is_file() => return Ok(None),
+        Ok(found) if !found.is_file() => return Ok(Writing::InPlace),
         Ok(_) => match fs::canonicalize(rt, path) {
             Ok(canonical) => String::from_str(rt.alloc(), canonical.as_str())?,
             Err(_) => String::from_str(rt.alloc(), path)?,
         },
         Err(_) => String::from_str(rt.alloc(), path)?,
     };
-    let new = format!(in rt.alloc(); "{whole}.uimg-new")?;
-    Ok(Some(SafePath { new, whole }))
+    match unused_beside(rt, whole.as_str())? {
+        Some(new) => Ok(Writing::Beside(SafePath { new, whole })),
+        None => Ok(Writing::Nowhere),
+    }
+}
+
+// A path beside another at which nothing is.
+fn unused_beside<R: Files + AllocGlobal>(rt: &R, path: &str) -> Result<Option<String>, AllocError> {
+    for number in 1..=TRIED {
+        let beside = format!(in rt.alloc(); "{path}.uimg-new{number}")?;
+        if fs::symlink_metadata(rt, beside.as_str()).is_err() {
+            return Ok(Some(beside));
+        }
+    }
+    Ok(None)
 }

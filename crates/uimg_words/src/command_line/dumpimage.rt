@@ -48,10 +48,12 @@ pub(super) fn request<'a>(matches: &ArgMatches<'a>) -> Result<RunRequest<'a>, Wo
     } else {
         Action::Extract(position(matches.get_str("position"))?)
     };
+    let outfile = if list { None } else { outfile };
     Ok(RunRequest {
         command: Command { action, format },
         image: matches.get_str("image").unwrap_or(""),
-        outfile: if list { None } else { outfile },
+        outfile,
+        written: outfile,
     })
 }
 

@@ -92,6 +92,7 @@ pub(super) fn request<'a>(
             },
             image,
             outfile: None,
+            written: None,
         }));
     }
     match (matches.get_str("data"), matches.get_str("source")) {

@@ -21,5 +21,6 @@ pub(super) fn request<'a>(matches: &ArgMatches<'a>) -> RunRequest<'a> {
         },
         image: matches.get_str("image").unwrap_or(""),
         outfile: None,
+        written: None,
     }
 }
