@@ -26,7 +26,9 @@ use Rattle.uimg_fit_base.specs.Report.{compared, report, verify_of}
 use Rattle.uimg_fit_base.specs.Extraction.{extract_of}
 use Rattle.uimg_fit_reading.specs.Values.{address_text, pieces}
 use Rattle.uimg_fit_reading.specs.Rows.{rows_lines}
-use Rattle.uimg_fit_reading.specs.Shows.{value_lines, named}
+use Rattle.uimg_names.specs.declared.naming.Naming.TheVariants.{Profile}
+use Rattle.uimg_names.specs.Naming.{name_text, code_text}
+use Rattle.uimg_fit_reading.specs.Shows.{value_lines}
 use Rattle.uimg_fit_reading.specs.Listing.{image_fields, list_of, time_of}
 
 abbrev set : List ℕ → List ℕ → Named
@@ -113,13 +115,13 @@ unfolding with_names with_names_in name_offset property_bytes nodes_bytes blob t
 changed-payload = refl
 
 -- no images: two lines of a listing, and no line of a report
-no-images : (list_of (encode (a_node [] [] no_node no_node)) ≡ told (line (codes "FIT description: unavailable") ++ line (codes "Created:         unavailable")) (refused (Fit NoImages)))
+no-images : (list_of Profile (encode (a_node [] [] no_node no_node)) ≡ told (line (codes "FIT description: unavailable") ++ line (codes "Created:         unavailable")) (refused (Fit NoImages)))
     × (verify_of (encode (a_node [] [] no_node no_node)) ≡ told [] (refused (Fit NoImages)))
 unfolding with_names with_names_in name_offset property_bytes nodes_bytes blob tree blocks tokens_from token_at before_nul root properties children without_nops be32 listed spots number
 no-images = (refl, refl)
 
 abbrev first_fields : List ℕ → Result (NodesOf Spot) Fault → Option (List (NodeOf Spot)) → List ℕ
-first_fields file (Ok t) (Some (image ∷ more)) = image_fields file (time_of (root_own t)) image
+first_fields file (Ok t) (Some (image ∷ more)) = image_fields Profile file (time_of (root_own t)) image
 first_fields file (Ok t) (Some []) = []
 first_fields file (Ok t) None = []
 first_fields file (Err e) o = []
@@ -156,7 +158,7 @@ bare-fields : first_fields (encode bare) (tree_of (encode bare)) (images_in (tre
     ++ line (codes "  Hash value:   a9993e364706816aba3e25717850c26c9cd0d89d")
     ++ line (codes "  Hash algo:    sha256")
     ++ line (codes "  Hash value:   ba7816bf8f01cfea414140de5dae2223b00361a396177a9cb410ff61f20015ad")
-unfolding with_names with_names_in name_offset property_bytes nodes_bytes blob tree blocks tokens_from token_at before_nul root properties children without_nops be32 listed spots number text encode_with time_text civil_date address_text rows_lines value_lines named
+unfolding with_names with_names_in name_offset property_bytes nodes_bytes blob tree blocks tokens_from token_at before_nul root properties children without_nops be32 listed spots number text encode_with time_text civil_date address_text rows_lines value_lines name_text code_text
 bare-fields = refl
 
 -- two cells of an address, and the texts of a list

@@ -1,6 +1,7 @@
 -- What is written is the listing.
 use Rattle.std.proofs.Common.{◌≡◌, ℕ, List, ◌++◌, Option, Ok, Result, codes, refl, ap, sym}
 use Rattle.uimg_base.specs.Outcome.{after, unless_refused}
+use Rattle.uimg_names.specs.declared.naming.Naming.{Naming}
 use Rattle.uimg_blob.specs.Blob.{tree}
 use Rattle.uimg_blob.specs.Grammar.{Siblings}
 use Rattle.uimg_blob.specs.Reading.{Fault as BlobFaultAt}
@@ -17,10 +18,10 @@ pub head_is : (root : List (NamedOf Spot)) (time : Option ℕ) (description : Op
 head_is root time description is are = rw (sym are, is) refl
 
 -- what stands after the head lines
-pub body_is : (file : List ℕ) (t : NodesOf Spot) (time : Option ℕ) (found : List (NodeOf Spot)) → time ≡ cell (root_own t) (codes "timestamp")
-    → numbered (image_lines file time) 0 found ++ configurations_lines (configurations t) ≡ numbered (image_lines file (time_of (root_own t))) 0 found ++ configurations_lines (configurations t)
-body_is file t time found is = ap (λ (o : Option ℕ). numbered (image_lines file o) 0 found ++ configurations_lines (configurations t)) is
+pub body_is : (naming : Naming) (file : List ℕ) (t : NodesOf Spot) (time : Option ℕ) (found : List (NodeOf Spot)) → time ≡ cell (root_own t) (codes "timestamp")
+    → numbered (image_lines naming file time) 0 found ++ configurations_lines (configurations t) ≡ numbered (image_lines naming file (time_of (root_own t))) 0 found ++ configurations_lines (configurations t)
+body_is naming file t time found is = ap (λ (o : Option ℕ). numbered (image_lines naming file o) 0 found ++ configurations_lines (configurations t)) is
 
 -- the listing of a file whose tree is known
-pub list_is : (file : List ℕ) (t : Siblings) → tree file ≡ Ok t → list_of file ≡ after (head_lines (root_own (spots t))) (lists file (spots t) (images (spots t)))
-list_is file t is = ap (λ (r : Result Siblings BlobFaultAt). unless_refused (spots_in r) (λ (n : NodesOf Spot). after (head_lines (root_own n)) (lists file n (images n)))) is
+pub list_is : (naming : Naming) (file : List ℕ) (t : Siblings) → tree file ≡ Ok t → list_of naming file ≡ after (head_lines (root_own (spots t))) (lists naming file (spots t) (images (spots t)))
+list_is naming file t is = ap (λ (r : Result Siblings BlobFaultAt). unless_refused (spots_in r) (λ (n : NodesOf Spot). after (head_lines (root_own n)) (lists naming file n (images n)))) is

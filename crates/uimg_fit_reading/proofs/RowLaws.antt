@@ -21,7 +21,8 @@ use Rattle.uimg_blob.specs.Spots.{Spot}
 use Rattle.uimg_fit_base.specs.Files.{bytes_of, bytes_in}
 use Rattle.uimg_fit_reading.specs.declared.listing.shows.Show.{Show}
 use Rattle.uimg_fit_reading.specs.declared.listing.shows.Show.TheVariants.{Name, Address}
-use Rattle.uimg_fit_reading.specs.declared.listing.shows.Table.{Table}
+use Rattle.uimg_names.specs.declared.field.Field.{Field}
+use Rattle.uimg_names.specs.declared.naming.Naming.{Naming}
 use Rattle.uimg_fit_reading.specs.Rows.{hash_rows, keeps_row}
 use Rattle.uimg_fit_reading.specs.Shows.{shown, value_cost, weight}
 use Rattle.uimg_fit_reading.specs.Telling.{Lists}
@@ -41,9 +42,9 @@ property_told failed d f s u file own key label how v is are asked told = record
   written = subst (λ (o : Option (List ℕ)). Written failed s u (shown how label o)) (sym are) told;
 }
 
-pub name_cost : (table : Table) (value : Option (List ℕ)) → weight (Name table) value ≤ 32
-name_cost table None = omega arith
-name_cost table (Some v) = omega arith
+pub name_cost : (naming : Naming) (field : Field) (value : Option (List ℕ)) → weight (Name naming field) value ≤ 32
+name_cost naming field None = omega arith
+name_cost naming field (Some v) = omega arith
 
 pub address_cost : (value : Option (List ℕ)) → weight Address value ≤ 8
 address_cost None = omega arith

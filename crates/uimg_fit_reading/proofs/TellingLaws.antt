@@ -91,5 +91,5 @@ none_after None count size le within = refl
 none_after (Some j) count size le within = absurd (omega (arith, le, within.0, within.1))
 
 pub same_level : (kind : Kind) (name : List ℕ) → level_after (level_of kind) name ≡ level_of kind
-same_level (Image time) name = refl
+same_level (Image naming time) name = refl
 same_level Configuration name = refl

@@ -5,6 +5,7 @@ use Rattle.uimg_base.specs.Outcome.{Outcome, done, refused, told, after, unless_
 use Rattle.uimg_blob.specs.Plain.{NamedOf, NodesOf}
 use Rattle.uimg_blob.specs.LookUps.{NodeOf, listed, images, configurations, hashes}
 use Rattle.uimg_blob.specs.Spots.{Spot}
+use Rattle.uimg_names.specs.declared.naming.Naming.{Naming}
 use Rattle.uimg_fit_base.specs.declared.fault.Fault.{Fault}
 use Rattle.uimg_fit_base.specs.declared.fault.Fault.TheVariants.{Fit}
 use Rattle.uimg_fit_base.specs.declared.fault.FitFault.{FitFault}
@@ -33,12 +34,12 @@ abbrev pub hash_lines : NodeOf Spot → List ℕ
 hash_lines hash = rows_lines no_facts hash.own hash_rows
 
 -- the lines of an image, below its title
-abbrev pub image_fields : List ℕ → Option ℕ → NodeOf Spot → List ℕ
-image_fields file time image =
-    rows_lines (record { time = time; size = size_in (place file image) }) image.own image_rows ++ flat_map hash_lines (hashes image)
+abbrev pub image_fields : Naming → List ℕ → Option ℕ → NodeOf Spot → List ℕ
+image_fields naming file time image =
+    rows_lines (record { time = time; size = size_in (place file image) }) image.own (image_rows naming) ++ flat_map hash_lines (hashes image)
 
-abbrev pub image_lines : List ℕ → Option ℕ → ℕ → NodeOf Spot → List ℕ
-image_lines file time i image = title (codes " Image ") i image.name ++ image_fields file time image
+abbrev pub image_lines : Naming → List ℕ → Option ℕ → ℕ → NodeOf Spot → List ℕ
+image_lines naming file time i image = title (codes " Image ") i image.name ++ image_fields naming file time image
 
 abbrev pub configuration_lines : ℕ → NodeOf Spot → List ℕ
 configuration_lines i configuration =
@@ -55,11 +56,11 @@ configurations_lines None = []
 configurations_lines (Some c) = default_line (bytes_of c.own (codes "default")) ++ numbered configuration_lines 0 (listed c.below)
 
 -- what stands after the head lines: images and configurations, or the refusal where there are no images
-abbrev pub lists : List ℕ → NodesOf Spot → Option (List (NodeOf Spot)) → Outcome Fault
-lists file t (Some found) =
-    told (numbered (image_lines file (time_of (root_own t))) 0 found ++ configurations_lines (configurations t)) done
-lists file t None = told [] (refused (Fit NoImages))
+abbrev pub lists : Naming → List ℕ → NodesOf Spot → Option (List (NodeOf Spot)) → Outcome Fault
+lists naming file t (Some found) =
+    told (numbered (image_lines naming file (time_of (root_own t))) 0 found ++ configurations_lines (configurations t)) done
+lists naming file t None = told [] (refused (Fit NoImages))
 
--- the listing of a file; one whose blob is faulty has no line
-abbrev pub list_of : List ℕ → Outcome Fault
-list_of file = unless_refused (tree_of file) (λ t. after (head_lines (root_own t)) (lists file t (images t)))
+-- the listing of a file by a set of names; one whose blob is faulty has no line
+abbrev pub list_of : Naming → List ℕ → Outcome Fault
+list_of naming file = unless_refused (tree_of file) (λ t. after (head_lines (root_own t)) (lists naming file t (images t)))

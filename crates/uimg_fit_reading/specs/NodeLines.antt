@@ -9,10 +9,10 @@ use Rattle.uimg_fit_reading.specs.Listing.{image_lines, configuration_lines}
 
 -- where nodes of a kind stand
 abbrev pub level_of : Kind → Level
-level_of (Image time) = in_images
+level_of (Image naming time) = in_images
 level_of Configuration = in_configurations
 
 -- the lines of a node of a kind
 abbrev pub node_lines : List ℕ → Kind → ℕ → NodeOf Spot → List ℕ
-node_lines file (Image time) = image_lines file time
+node_lines file (Image naming time) = image_lines naming file time
 node_lines file Configuration = configuration_lines

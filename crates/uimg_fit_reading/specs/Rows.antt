@@ -9,28 +9,29 @@ use Rattle.uimg_blob.specs.declared.keys.Key.TheVariants.{Description, Kind, Arc
 use Rattle.uimg_blob.specs.Roles.{Level, role_at}
 use Rattle.uimg_blob.specs.Plain.{NamedOf}
 use Rattle.uimg_blob.specs.Spots.{Spot}
+use Rattle.uimg_names.specs.declared.field.Field.TheVariants as field
+use Rattle.uimg_names.specs.declared.naming.Naming.{Naming}
 use Rattle.uimg_fit_base.specs.Files.{bytes_of}
 use Rattle.uimg_fit_reading.specs.declared.listing.rows.Facts.{Facts}
 use Rattle.uimg_fit_reading.specs.declared.listing.rows.Row.{Row}
 use Rattle.uimg_fit_reading.specs.declared.listing.rows.Row.TheVariants.{Property, Time, Size}
 use Rattle.uimg_fit_reading.specs.declared.listing.shows.Show.TheVariants.{Text, Name, Address, Hexadecimal, List as AList}
-use Rattle.uimg_fit_reading.specs.declared.listing.shows.Table.TheVariants.{Kinds, Compressions, Architectures, Systems}
 use Rattle.uimg_fit_reading.specs.Shows.{shown, weight, time_line, size_line}
 
 -- a label, padded with blanks to 16 bytes
 abbrev pub label : List ℕ → List ℕ
 label text = take 16 (text ++ replicate 16 32)
 
--- which property of an image stands under which label, and how it is shown
-abbrev pub image_rows : List Row
-image_rows =
+-- which property of an image stands under which label, and how it is shown by a set of names
+abbrev pub image_rows : Naming → List Row
+image_rows naming =
     Property Description (label (codes "  Description:")) Text
     ∷ Time (label (codes "  Created:"))
-    ∷ Property Kind (label (codes "  Type:")) (Name Kinds)
-    ∷ Property Compression (label (codes "  Compression:")) (Name Compressions)
+    ∷ Property Kind (label (codes "  Type:")) (Name naming field.Kind)
+    ∷ Property Compression (label (codes "  Compression:")) (Name naming field.Compression)
     ∷ Size (label (codes "  Data Size:"))
-    ∷ Property Arch (label (codes "  Architecture:")) (Name Architectures)
-    ∷ Property Os (label (codes "  OS:")) (Name Systems)
+    ∷ Property Arch (label (codes "  Architecture:")) (Name naming field.Architecture)
+    ∷ Property Os (label (codes "  OS:")) (Name naming field.System)
     ∷ Property Load (label (codes "  Load Address:")) Address
     ∷ Property Entry (label (codes "  Entry Point:")) Address
     ∷ []

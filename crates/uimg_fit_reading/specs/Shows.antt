@@ -3,38 +3,20 @@ use Rattle.std.specs.Prelude.{ℕ, min, List, [], ◌∷◌, ◌++◌, length, r
 use Rattle.std.specs.List.{flat_map}
 use Rattle.std.specs.Option.{option_map_or}
 use Rattle.hex.specs.Hex.{encode_lower}
-use Rattle.uimg_texts.specs.Names.{Row, os_table, arch_table, kind_table, comp_table, code_of, printed}
 use Rattle.uimg_texts.specs.Nul.{text}
 use Rattle.uimg_texts.specs.Sizes.{size_text}
 use Rattle.uimg_texts.specs.Times.{time_text}
 use Rattle.uimg_base.specs.Outcome.{line}
-use Rattle.uimg_fit_reading.specs.declared.listing.shows.Table.{Table}
-use Rattle.uimg_fit_reading.specs.declared.listing.shows.Table.TheVariants.{Kinds, Compressions, Architectures, Systems}
+use Rattle.uimg_names.specs.declared.field.Field.{Field}
+use Rattle.uimg_names.specs.declared.naming.Naming.{Naming}
+use Rattle.uimg_names.specs.Naming.{name_text}
 use Rattle.uimg_fit_reading.specs.declared.listing.shows.Show.{Show}
 use Rattle.uimg_fit_reading.specs.declared.listing.shows.Show.TheVariants as show
 use Rattle.uimg_fit_reading.specs.Values.{address_text, pieces}
 
--- the rows of a table
-abbrev pub rows_of : Table → List Row
-rows_of Kinds = kind_table
-rows_of Compressions = comp_table
-rows_of Architectures = arch_table
-rows_of Systems = os_table
-
--- what is printed where a table has no such name
-abbrev pub unknown : Table → List ℕ
-unknown Kinds = codes "Unknown Image"
-unknown Compressions = codes "Unknown Compression"
-unknown Architectures = codes "Unknown Architecture"
-unknown Systems = codes "Unknown OS"
-
--- the printed name of what a table names so
-unfoldable pub named : Table → List ℕ → List ℕ
-named table name = option_map_or (printed (rows_of table) (unknown table)) (code_of (rows_of table) name) (unknown table)
-
--- the same of a value's text
-abbrev pub name_in : Table → List ℕ → List ℕ
-name_in table value = named table (text value)
+-- what the code is called whose name is a value's text
+abbrev pub name_in : Naming → Field → List ℕ → List ℕ
+name_in naming field value = name_text naming field (text value)
 
 -- a line for each text, the first with the label, the others with as many blanks
 abbrev pub lines_of : List ℕ → List (List ℕ) → List ℕ
@@ -44,7 +26,7 @@ lines_of label (t ∷ ts) = line (label ++ t) ++ flat_map (λ more. line (replic
 -- the lines of a value
 unfoldable pub value_lines : Show → List ℕ → List ℕ → List ℕ
 value_lines show.Text label value = line (label ++ text value)
-value_lines (show.Name table) label value = line (label ++ name_in table value)
+value_lines (show.Name naming field) label value = line (label ++ name_in naming field value)
 value_lines show.Address label value = line (label ++ address_text value)
 value_lines show.Hexadecimal label value = line (label ++ encode_lower value)
 value_lines show.List label value = lines_of label (pieces value)
@@ -64,7 +46,7 @@ size_line label size = line (label ++ option_map_or size_text size (codes "unava
 -- the most bytes of a value that are asked for
 abbrev pub value_cost : Show → ℕ → ℕ
 value_cost show.Text n = n
-value_cost (show.Name table) n = min 32 n
+value_cost (show.Name naming field) n = min 32 n
 value_cost show.Address n = min 8 n
 value_cost show.Hexadecimal n = n
 value_cost show.List n = n

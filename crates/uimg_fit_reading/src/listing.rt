@@ -41,6 +41,7 @@ use std::io::Write;
 use uimg_base::{MoveFault, Out, Room, Source, Status};
 use uimg_blob::{Blob, Key};
 use uimg_fit_base::Fault;
+use uimg_names::Naming;
 
 // The lines of the configurations, if there are any.
 fn put_configurations<S: Source, A: Allocator, W: Write>(
@@ -70,6 +71,7 @@ fn put_body<S: Source, A: Allocator, W: Write>(
     source: &mut S,
     blob: &Blob,
     room: &mut Room<A>,
+    naming: Naming,
     time: Option<u32>,
     first: Option<usize>,
     out: &mut Out<W>,
@@ -81,10 +83,10 @@ fn put_body<S: Source, A: Allocator, W: Write>(
         (found : List (NodeOf Spot)) → AreFrom t in_images first found →
         Lists (is_err result) (body_allowance (spots t) (Some found))
         (S.device source.old) (S.device source.new) out.old out.new
-        (numbered (image_lines (S.device source.old).bytes time) 0 found
+        (numbered (image_lines naming (S.device source.old).bytes time) 0 found
         ++ configurations_lines (configurations (spots t))) }
 {
-    put_listed_nodes(source, blob, room, Kind::Image(time), first, out)?;
+    put_listed_nodes(source, blob, room, Kind::Image(naming, time), first, out)?;
     put_configurations(source, blob, room, out)
 }
 
@@ -93,6 +95,7 @@ fn list_body<S: Source, A: Allocator, W: Write>(
     source: &mut S,
     blob: &Blob,
     room: &mut Room<A>,
+    naming: Naming,
     time: Option<u32>,
     out: &mut Out<W>,
 ) -> Result<Status, Fault>
@@ -105,14 +108,14 @@ fn list_body<S: Source, A: Allocator, W: Write>(
         time ≡ cell (root_own (spots t)) (codes "timestamp") →
         TellsWithin (end_of result) (body_allowance (spots t) (images (spots t)))
         (S.device source.old) (S.device source.new) out.old out.new
-        (lists (S.device source.old).bytes (spots t) (images (spots t))) }
+        (lists naming (S.device source.old).bytes (spots t) (images (spots t))) }
 {
     let first = first_image(blob, room)?;
-    put_body(source, blob, room, time, first, out)?;
+    put_body(source, blob, room, naming, time, first, out)?;
     Ok(Status::Done)
 }
 
-/// Writes the listing of the image.
+/// Writes the listing of the image, by a set of names.
 ///
 /// Two head lines come first, then the lines of each image with those of its hash nodes, the default
 /// configuration, and the lines of each configuration. Refusals of the blob come before the first line,
@@ -122,6 +125,7 @@ fn list_body<S: Source, A: Allocator, W: Write>(
 pub fn list<S: Source, A: Allocator, W: Write>(
     source: &mut S,
     room: &mut Room<A>,
+    naming: Naming,
     out: &mut Out<W>,
 ) -> Result<Status, Fault>
     ensures uses { UsesAtMost (list_work (S.device source.old).bytes) (is_read result)
@@ -130,11 +134,11 @@ pub fn list<S: Source, A: Allocator, W: Write>(
     ensures faults { RisesIf (is_put result) out.old.faults out.new.faults }
     ensures no_making { is_of_making result ≡ false }
     ensures told { IsTrue (S.device source.old).honest →
-        Tells (end_of result) (list_of (S.device source.old).bytes) out.old out.new }
+        Tells (end_of result) (list_of naming (S.device source.old).bytes) out.old out.new }
 {
     let blob = read_tree(source, room)?;
     let time = cell(source, root_value(&blob, room, Key::Timestamp))?;
     let description = root_value(&blob, room, Key::Description);
     put_head(source, room, description, time, out)?;
-    list_body(source, &blob, room, time, out)
+    list_body(source, &blob, room, naming, time, out)
 }

@@ -16,6 +16,8 @@ use Rattle.uimg_legacy.specs.Parts.{has_parts, sizes, part_sizes, start, is_outs
 use Rattle.uimg_legacy.specs.Report.{verify_of}
 use Rattle.uimg_legacy.specs.Extraction.{listed_part, single, extract_of}
 use Rattle.uimg_legacy.specs.Building.{joined, size_table, has_empty, data_to_build, legacy_built}
+use Rattle.uimg_names.specs.declared.naming.Naming.TheVariants.{Profile, All}
+use Rattle.uimg_names.specs.Naming.{code_text}
 use Rattle.uimg_legacy.specs.Listing.{name_line, time_line, type_line, load_line, entry_line, head_text, part_line, part_lines, list_of}
 
 -- parts of 3, 4 and 5 bytes, each but the last padded to a multiple of 4
@@ -63,17 +65,17 @@ kernel_positions = (refl, refl)
 abbrev outside_image : List ℕ
 outside_image = 39 ∷ 5 ∷ 25 ∷ 86 ∷ 70 ∷ 56 ∷ 204 ∷ 175 ∷ 0 ∷ 0 ∷ 0 ∷ 0 ∷ 0 ∷ 0 ∷ 0 ∷ 17 ∷ 0 ∷ 0 ∷ 0 ∷ 0 ∷ 0 ∷ 0 ∷ 0 ∷ 0 ∷ 88 ∷ 177 ∷ 193 ∷ 33 ∷ 5 ∷ 7 ∷ 4 ∷ 1 ∷ 0 ∷ 0 ∷ 0 ∷ 0 ∷ 0 ∷ 0 ∷ 0 ∷ 0 ∷ 0 ∷ 0 ∷ 0 ∷ 0 ∷ 0 ∷ 0 ∷ 0 ∷ 0 ∷ 0 ∷ 0 ∷ 0 ∷ 0 ∷ 0 ∷ 0 ∷ 0 ∷ 0 ∷ 0 ∷ 0 ∷ 0 ∷ 0 ∷ 0 ∷ 0 ∷ 0 ∷ 0 ∷ 0 ∷ 0 ∷ 0 ∷ 3 ∷ 0 ∷ 0 ∷ 0 ∷ 100 ∷ 0 ∷ 0 ∷ 0 ∷ 0 ∷ 97 ∷ 98 ∷ 99 ∷ 0 ∷ 100 ∷ []
 
-pub outside_listing : list_of outside_image ≡ after (head_text (fields outside_image)) (after (line (codes "Contents:")) (after (part_line 0 3) (told [] (refused PartOutside))))
+pub outside_listing : list_of Profile outside_image ≡ after (head_text Profile (fields outside_image)) (after (line (codes "Contents:")) (after (part_line 0 3) (told [] (refused PartOutside))))
 unfolding head has_right_crc has_right_data has_parts part_sizes sizes words be32 start is_outside part_lines crc bits number_of xor_bits polynomial rem_by rem dividend invert_prefix
 outside_listing = refl
 
 -- lines of the kernel, and of an image of the first second of 1970
 pub known_lines : (name_line (fields kernel) ≡ line (codes "Image Name:   01234567890123456789012345678901"))
     × (time_line (fields outside_image) ≡ line (codes "Created:      Thu Jan  1 00:00:00 1970"))
-    × (type_line (fields kernel) ≡ line (codes "Image Type:   AArch64 Linux Kernel Image (uncompressed)"))
+    × (type_line Profile (fields kernel) ≡ line (codes "Image Type:   AArch64 Linux Kernel Image (uncompressed)"))
     × (load_line (fields kernel) ≡ line (codes "Load Address: 00080000"))
     × (entry_line (fields outside_image) ≡ line (codes "Entry Point:  00000000"))
-unfolding before_nul text name_line time_line type_line load_line entry_line be32 time_text civil_date encode_with
+unfolding before_nul text name_line time_line type_line code_text load_line entry_line be32 time_text civil_date encode_with
 known_lines = (refl, refl, refl, refl, refl)
 
 -- the data of three parts, and of one that is empty

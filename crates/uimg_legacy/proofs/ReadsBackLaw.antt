@@ -116,6 +116,6 @@ reads_back options ps body built read len one =
     let small : length (data_of (has_parts options.kind) ps) ≤ 4294967295 = rw f.2 f.1 in
     record {
       report = verify-image h body read len refl refl;
-      listing = rw (whole, ← f.2) (tail-done (has_parts options.kind) ps f.0 small);
+      listing = λ naming. rw (whole, ← f.2) (tail-done (has_parts options.kind) ps f.0 small);
       extraction = λ i inside. rw (whole, ← f.2, sub-slice (has_parts options.kind) ps i f.0 small one inside) refl;
     }

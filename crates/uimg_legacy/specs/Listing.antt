@@ -4,9 +4,11 @@ use Rattle.std.specs.Int.{to_be_bytes, w32}
 use Rattle.hex.specs.Hex.{encode_lower}
 use Rattle.uimg_base.specs.Outcome.{Outcome, done, refused, told, after, unless_refused, line}
 use Rattle.uimg_texts.specs.Nul.{text}
-use Rattle.uimg_texts.specs.Names.{printed, os_table, arch_table, kind_table, comp_table}
 use Rattle.uimg_texts.specs.Sizes.{size_text}
 use Rattle.uimg_texts.specs.Times.{time_text}
+use Rattle.uimg_names.specs.declared.field.Field.TheVariants.{Architecture, System, Kind, Compression}
+use Rattle.uimg_names.specs.declared.naming.Naming.{Naming}
+use Rattle.uimg_names.specs.Naming.{code_text}
 use Rattle.uimg_legacy.specs.declared.header.Header.{Header}
 use Rattle.uimg_legacy.specs.declared.fault.LegacyFault.{LegacyFault}
 use Rattle.uimg_legacy.specs.declared.fault.LegacyFault.TheVariants.{PartOutside}
@@ -33,11 +35,11 @@ name_line h = labelled (codes "Image Name:") (text h.name)
 unfoldable pub time_line : Header → List ℕ
 time_line h = labelled (codes "Created:") (time_text h.time)
 
-unfoldable pub type_line : Header → List ℕ
-type_line h =
+unfoldable pub type_line : Naming → Header → List ℕ
+type_line naming h =
     labelled (codes "Image Type:") (type_text
-    (printed arch_table (codes "Unknown Architecture") h.arch) (printed os_table (codes "Unknown OS") h.os)
-    (printed kind_table (codes "Unknown Image") h.kind) (printed comp_table (codes "Unknown Compression") h.comp))
+    (code_text naming Architecture h.arch) (code_text naming System h.os)
+    (code_text naming Kind h.kind) (code_text naming Compression h.comp))
 
 unfoldable pub size_line : Header → List ℕ
 size_line h = labelled (codes "Data Size:") (size_text h.size)
@@ -49,8 +51,8 @@ unfoldable pub entry_line : Header → List ℕ
 entry_line h = labelled (codes "Entry Point:") (address_text h.ep)
 
 -- the six lines of each image
-abbrev pub head_text : Header → List ℕ
-head_text h = name_line h ++ time_line h ++ type_line h ++ size_line h ++ load_line h ++ entry_line h
+abbrev pub head_text : Naming → Header → List ℕ
+head_text naming h = name_line h ++ time_line h ++ type_line naming h ++ size_line h ++ load_line h ++ entry_line h
 
 -- the line of a part
 unfoldable pub part_line : ℕ → ℕ → List ℕ
@@ -81,5 +83,5 @@ tail_with true payload = contents payload
 tail_with false payload = told [] done
 
 -- the six lines of an image and what stands after them; one that is refused has no line
-abbrev pub list_of : List ℕ → Outcome LegacyFault
-list_of image = unless_refused (legacy image) (λ it. after (head_text it.header) (tail_with (has_parts it.header.kind) it.payload))
+abbrev pub list_of : Naming → List ℕ → Outcome LegacyFault
+list_of naming image = unless_refused (legacy image) (λ it. after (head_text naming it.header) (tail_with (has_parts it.header.kind) it.payload))

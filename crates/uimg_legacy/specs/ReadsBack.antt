@@ -2,6 +2,7 @@
 use Rattle.std.specs.Prelude.{◌≡◌, ℕ, ◌<◌, List, ◌++◌, length, slice_index_or, codes, []}
 use Rattle.uimg_base.specs.Outcome.{Outcome, done, told, line}
 use Rattle.uimg_legacy.specs.declared.fault.LegacyFault.{LegacyFault}
+use Rattle.uimg_names.specs.declared.naming.Naming.{Naming}
 use Rattle.uimg_legacy.specs.Report.{verify_of}
 use Rattle.uimg_legacy.specs.Listing.{list_of}
 use Rattle.uimg_legacy.specs.Extraction.{extract_of}
@@ -14,6 +15,6 @@ right_report = told (line (codes "header crc32 ok") ++ line (codes "data crc32 o
 -- built from.
 pub record ReadsBack (image : List ℕ) (parts : List (List ℕ)) : Type 0 where
   pub report : verify_of image ≡ right_report
-  pub listing : (list_of image).end ≡ done
+  pub listing : (naming : Naming) → (list_of naming image).end ≡ done
   pub extraction : (position : ℕ) → position < length parts →
       extract_of image position ≡ told (slice_index_or parts position []) done

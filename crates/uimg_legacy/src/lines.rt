@@ -9,9 +9,8 @@ ghost use Rattle.uimg_legacy.specs.Listing.{labelled, type_text, address_text, n
 use crate::header::Header;
 use itoa::Buffer;
 use std::io::Write;
-use uimg_base::{
-    Out, PutFault, arch_text, before_nul, comp_text, kind_text, os_text, size_text, time_text,
-};
+use uimg_base::{Out, PutFault, before_nul, size_text, time_text};
+use uimg_names::{Field, Naming};
 
 // Eight lower-case hexadecimal digits.
 fn address_text(address: u32) -> [u8; 8]
@@ -67,13 +66,13 @@ fn put_type_names<W: Write>(
 
 // The line of the type, by the header's codes.
 #[tactic(auto, unfolding(crate::specs::Listing::type_line))]
-fn put_type<W: Write>(header: &Header, out: &mut Out<W>) -> Result<(), PutFault>
-    ensures { Writes (is_err result) out.old out.new (type_line header.now) }
+fn put_type<W: Write>(header: &Header, naming: Naming, out: &mut Out<W>) -> Result<(), PutFault>
+    ensures { Writes (is_err result) out.old out.new (type_line naming header.now) }
 {
-    let arch = arch_text(header.arch);
-    let os = os_text(header.os);
-    let kind = kind_text(header.kind);
-    let comp = comp_text(header.comp);
+    let arch = naming.code_text(Field::Architecture, header.arch);
+    let os = naming.code_text(Field::System, header.os);
+    let kind = naming.code_text(Field::Kind, header.kind);
+    let comp = naming.code_text(Field::Compression, header.comp);
     put_type_names(arch, os, kind, comp, out)
 }
 
@@ -128,12 +127,16 @@ pub(crate) fn put_part_line<W: Write>(i: u32, size: u32, out: &mut Out<W>) -> Re
 
 // The six lines of each image.
 #[tactic(auto, using(uimg_base::proofs::WritingLaws::writing))]
-pub(crate) fn put_head<W: Write>(header: &Header, out: &mut Out<W>) -> Result<(), PutFault>
-    ensures { Writes (is_err result) out.old out.new (head_text header.now) }
+pub(crate) fn put_head<W: Write>(
+    header: &Header,
+    naming: Naming,
+    out: &mut Out<W>,
+) -> Result<(), PutFault>
+    ensures { Writes (is_err result) out.old out.new (head_text naming header.now) }
 {
     put_name(header, out)?;
     put_time(header, out)?;
-    put_type(header, out)?;
+    put_type(header, naming, out)?;
     put_data_size(header, out)?;
     put_load(header, out)?;
     put_entry(header, out)

@@ -19,6 +19,7 @@ use crate::parts::{count_sizes, has_parts, size_at};
 use std::alloc::Allocator;
 use std::io::Write;
 use uimg_base::{Out, Room, Source, Status, up4};
+use uimg_names::Naming;
 
 // The lines of the parts, up to the first that ends after the data.
 fn list_parts<S: Source, W: Write>(
@@ -70,14 +71,15 @@ fn list_tail<S: Source, A: Allocator, W: Write>(
     list_parts(source, header.size, count, out)
 }
 
-/// Writes the listing of the image: six lines, and for type multi and script `Contents:` and a line
-/// for each part. Refusals of the header and the data come before the first line:
+/// Writes the listing of the image, by a set of names: six lines, and for type multi and script
+/// `Contents:` and a line for each part. Refusals of the header and the data come before the first line:
 /// `TooShort`, `BadMagic`, `BadHeaderCrc`, `Truncated`, `BadDataCrc`, in this order. `NoTableEnd`
 /// comes after six lines, `PartOutside` before the line of its part. Over an honest source a
 /// prefix of the listing was written after `Read` or `Put`.
 pub fn list<S: Source, A: Allocator, W: Write>(
     source: &mut S,
     room: &mut Room<A>,
+    naming: Naming,
     out: &mut Out<W>,
 ) -> Result<Status, Fault>
     ensures uses { UsesAtMost (list_work (S.device source.old).bytes)
@@ -86,10 +88,10 @@ pub fn list<S: Source, A: Allocator, W: Write>(
     ensures faults { RisesIf (is_put result) out.old.faults out.new.faults }
     ensures no_making { is_of_making result ≡ false }
     ensures told { IsTrue (S.device source.old).honest →
-        Tells (end_of result) (list_of (S.device source.old).bytes) out.old out.new }
+        Tells (end_of result) (list_of naming (S.device source.old).bytes) out.old out.new }
 {
     room.clear();
     let header = read_image(source, room)?;
-    put_head(&header, out)?;
+    put_head(&header, naming, out)?;
     list_tail(source, room, &header, out)
 }

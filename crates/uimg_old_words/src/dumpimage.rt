@@ -4,10 +4,10 @@ use crate::c_numbers::{low_half, unsigned_long};
 use crate::fault::OldFault;
 use crate::getopt::{Given, OptionRow, Words};
 use crate::helps::DUMPIMAGE_HELP;
-use crate::name_tables::Field;
 use crate::names::{Named, format_of, name_of};
 use crate::request::{OldRequest, Show};
 use std::alloc::Global;
+use uimg_names::{Field, Naming};
 use uimg_requests::{Action, Command, RunRequest};
 
 /// The options, by their letters. There are no long names.
@@ -62,8 +62,8 @@ impl<'a> Settings<'a> {
             Given::Value('o', path) => self.outfile = Some(path),
             Given::Value('p', word) => self.position = position(word)?,
             Given::Value('T', word) => {
-                match name_of(alloc, Field::Type, word)? {
-                    Named::List => return Ok(Some(Show::Names(Field::Type))),
+                match name_of(alloc, Field::Kind, word)? {
+                    Named::List => return Ok(Some(Show::Names(Field::Kind))),
                     Named::Code(code) => self.kind = Some(code),
                 }
             }
@@ -78,7 +78,7 @@ impl<'a> Settings<'a> {
             return Err(OldFault::NoImage);
         };
         let action = match (self.is_list, self.outfile) {
-            (true, _) => Action::List,
+            (true, _) => Action::List(Naming::All),
             (false, Some(_)) => Action::Extract(self.position),
             (false, None) => return Err(OldFault::NoOutfile),
         };

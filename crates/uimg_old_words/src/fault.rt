@@ -62,7 +62,7 @@ pub enum OldFault<'a> {
 
     /// Images of this type are neither legacy ones nor FITs.
     #[error("-T {0}: uimg has no such images; see mkimage of u-boot-tools")]
-    OtherImages(&'static str),
+    OtherImages(&'a str),
 
     /// The option is for signing.
     #[error("-{0}: uimg signs nothing; see mkimage -F of u-boot-tools, which signs an image that is made")]

@@ -6,13 +6,13 @@ use crate::fault::OldFault;
 use crate::getopt::{Given, Words};
 use crate::helps::MKIMAGE_HELP;
 use crate::mkimage_options::MKIMAGE_OPTIONS;
-use crate::name_tables::Field;
 use crate::names::{Named, format_of, name_of};
 use crate::request::{OldRequest, Show};
 use std::alloc::Global;
 use uimg_base::FLAT_DT;
 use uimg_fit_base::Placement;
 use uimg_legacy::{Options, name_field};
+use uimg_names::{Field, Naming};
 use uimg_requests::{Action, Command, MakeRequest, RunRequest};
 
 /// The path whose file has no data, of which an image is made where none is to be copied.
@@ -116,7 +116,7 @@ impl<'a> Settings<'a> {
         match option {
             'A' => return self.take_name(alloc, Field::Architecture, value),
             'O' => return self.take_name(alloc, Field::System, value),
-            'T' => return self.take_name(alloc, Field::Type, value),
+            'T' => return self.take_name(alloc, Field::Kind, value),
             'C' => return self.take_name(alloc, Field::Compression, value),
             'a' => self.load = address('a', value)?,
             'e' => self.entry = Some(address('e', value)?),
@@ -148,7 +148,7 @@ impl<'a> Settings<'a> {
         match field {
             Field::Architecture => self.arch = code,
             Field::System => self.os = code,
-            Field::Type => self.kind = Some(code),
+            Field::Kind => self.kind = Some(code),
             Field::Compression => self.comp = code,
         }
         Ok(None)
@@ -168,7 +168,7 @@ impl<'a> Settings<'a> {
             return Ok(OldRequest::Run {
                 request: RunRequest {
                     command: Command {
-                        action: Action::List,
+                        action: Action::List(Naming::All),
                         format: format_of(self.kind),
                     },
                     image,
@@ -183,7 +183,8 @@ impl<'a> Settings<'a> {
             None => now,
         };
         let is_quiet = self.is_quiet;
-        let request = self.making(alloc, image, time)?;
+        let mut request = self.making(alloc, image, time)?;
+        request.naming = Naming::All;
         Ok(OldRequest::Make { request, is_quiet })
     }
 

@@ -1,11 +1,34 @@
 //! The names that the words of -A, -O, -T and -C are.
 
 use crate::fault::OldFault;
-use crate::name_tables::Field;
 use crate::nearest::nearest;
 use std::alloc::Global;
 use uimg_base::FLAT_DT;
+use uimg_names::{Field, Naming};
 use uimg_requests::Format;
+
+/// The type of a kernel that runs where it stands (`IH_TYPE_KERNEL_NOLOAD`).
+const KERNEL_NOLOAD: u8 = 14;
+
+/// The letter of the option that has a name of a field.
+pub(crate) fn letter_of(field: Field) -> char {
+    match field {
+        Field::Architecture => 'A',
+        Field::System => 'O',
+        Field::Kind => 'T',
+        Field::Compression => 'C',
+    }
+}
+
+/// What a field is called.
+pub fn title_of(field: Field) -> &'static str {
+    match field {
+        Field::Architecture => "architecture",
+        Field::System => "operating system",
+        Field::Kind => "image type",
+        Field::Compression => "compression",
+    }
+}
 
 /// What a name stands for.
 #[derive(Clone, Copy, Debug, PartialEq, Eq)]
@@ -26,9 +49,9 @@ pub(crate) fn name_of<'a>(
     if word == "list" {
         return Ok(Named::List);
     }
-    match field.row(word) {
-        Some((_, _, Some(code))) => Ok(Named::Code(code)),
-        Some((name, _, None)) => Err(OldFault::OtherImages(name)),
+    match Naming::All.code_named(field, word.as_bytes()) {
+        Some(code) if field == Field::Kind && !is_made(code) => Err(OldFault::OtherImages(word)),
+        Some(code) => Ok(Named::Code(code)),
         None => Err(unknown_name(alloc, field, word)?),
     }
 }
@@ -38,8 +61,8 @@ fn unknown_name<'a>(
     field: Field,
     word: &'a str,
 ) -> Result<OldFault<'a>, OldFault<'a>> {
-    let letter = field.letter();
-    let title = field.title();
+    let letter = letter_of(field);
+    let title = title_of(field);
     Ok(match nearest(alloc, field, word)? {
         Some(nearest) => OldFault::NearName {
             letter,
@@ -53,6 +76,11 @@ fn unknown_name<'a>(
             word,
         },
     })
+}
+
+// Whether images of a type are legacy ones or FITs.
+fn is_made(kind: u8) -> bool {
+    kind <= FLAT_DT || kind == KERNEL_NOLOAD
 }
 
 /// The format of the images of a type. The type `invalid` is as none.

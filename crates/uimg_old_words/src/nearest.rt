@@ -1,8 +1,8 @@
 //! The name that a mistaken one is near to.
 
-use crate::name_tables::Field;
 use std::alloc::{AllocError, Global};
 use strsim::levenshtein;
+use uimg_names::Field;
 
 /// The short name of a field that has the fewest edits to a word, at most two.
 pub(crate) fn nearest(

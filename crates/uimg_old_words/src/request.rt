@@ -1,6 +1,6 @@
 //! What a command line asks for.
 
-use crate::name_tables::Field;
+use uimg_names::Field;
 use uimg_requests::{MakeRequest, RunRequest};
 
 /// What the words of a command line ask for.

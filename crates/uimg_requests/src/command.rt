@@ -1,10 +1,12 @@
 //! An action on an image, and the format that it is read as.
 
+use uimg_names::Naming;
+
 /// What is done with an image.
 #[derive(Clone, Copy, Debug, PartialEq, Eq)]
 pub enum Action {
-    /// Its listing is written.
-    List,
+    /// Its listing is written, by a set of names.
+    List(Naming),
 
     /// Its verification report is written.
     Verify,

@@ -11,6 +11,7 @@ use crate::names::file_names;
 use std::alloc::{AllocError, Global};
 use uimg_fit_base::Placement;
 use uimg_legacy::Options;
+use uimg_names::Naming;
 
 /// A command on an image.
 #[derive(Clone, Copy, Debug, PartialEq, Eq)]
@@ -37,6 +38,9 @@ pub struct MakeRequest<'a> {
     /// The time of the making, in seconds since 1970.
     pub time: u32,
 
+    /// The names that the listing of the image is written by.
+    pub naming: Naming,
+
     /// The path of the image source, or an empty text where it is made from data.
     pub source: &'a str,
 
@@ -53,7 +57,8 @@ pub struct MakeRequest<'a> {
 }
 
 impl<'a> MakeRequest<'a> {
-    /// The making of a legacy image from the files of the word of -d. Memory for their names may be
+    /// The making of a legacy image from the files of the word of -d, listed by the names of the
+    /// profile. Memory for their names may be
     /// refused.
     #[tactic(auto, using(crate::proofs::NameLaws::names_fit))]
     pub fn of_parts(
@@ -72,6 +77,7 @@ impl<'a> MakeRequest<'a> {
         Ok(MakeRequest {
             command: MakeCommand::Parts { options, files },
             time,
+            naming: Naming::Profile,
             source: "",
             folder: "",
             outfile,
@@ -79,7 +85,8 @@ impl<'a> MakeRequest<'a> {
         })
     }
 
-    /// The making of a FIT image from the source at a path, whose folder is that of its files. Memory
+    /// The making of a FIT image from the source at a path, whose folder is that of its files, listed by
+    /// the names of the profile. Memory
     /// for its name may be refused.
     pub fn of_source(
         alloc: Global,
@@ -98,6 +105,7 @@ impl<'a> MakeRequest<'a> {
         Ok(MakeRequest {
             command: MakeCommand::Tree { source, placement },
             time,
+            naming: Naming::Profile,
             source: path,
             folder,
             outfile,

@@ -13,6 +13,7 @@ use Rattle.uimg_blob.specs.Counts.{nodes_met}
 use Rattle.uimg_fit_base.specs.Faults.{of_making}
 use Rattle.uimg_fit_base.specs.declared.fault.FitFault.{FitFault}
 use Rattle.uimg_fit_base.specs.declared.fault.FitFault.TheVariants as fit_fault
+use Rattle.uimg_names.specs.declared.naming.Naming.{Naming}
 use Rattle.uimg_tool.specs.declared.fault.Fault.{Fault}
 use Rattle.uimg_tool.specs.declared.fault.Fault.TheVariants.{Legacy, Blob, Fit, Its, Read, Put, NoFile, Keep, OutOfMemory}
 use Rattle.uimg_requests.specs.declared.make_command.MakeCommand.{MakeCommand}
@@ -30,9 +31,9 @@ KeepsCommand (Parts options names) time files kept = Keeps (timed options time) 
 KeepsCommand (Tree source placement) time files kept = KeepsTree files source.items time placement kept
 
 -- why an image is not built, where nothing is listed
-pub building_stops_command : (X : Type 0) {K : Type 0} (device : K → Device) (command : MakeCommand) (time : ℕ) (files : List ℕ → Option (List ℕ)) (f : Fault) (image now s : Sink) → is_keep {X = X} (Err f) ≡ false → BuildsCommand {X = X} command time files (Err f) image now → MakesCommand device command time files (Err f) s s
-building_stops_command X device (Parts options names) time files f image now s never stop = building_stops X _ files _ f image now s never stop
-building_stops_command X device (Tree source placement) time files f image now s never stop = building_stops_tree X files source.items time placement f image now s stop
+pub building_stops_command : (X : Type 0) {K : Type 0} (device : K → Device) (naming : Naming) (command : MakeCommand) (time : ℕ) (files : List ℕ → Option (List ℕ)) (f : Fault) (image now s : Sink) → is_keep {X = X} (Err f) ≡ false → BuildsCommand {X = X} command time files (Err f) image now → MakesCommand device naming command time files (Err f) s s
+building_stops_command X device naming (Parts options names) time files f image now s never stop = building_stops X naming _ files _ f image now s never stop
+building_stops_command X device naming (Tree source placement) time files f image now s never stop = building_stops_tree X naming files source.items time placement f image now s stop
 
 -- an image that was built on an empty shelf, and kept
 keeping_written : {X : Type 0} (command : MakeCommand) (time : ℕ) (files : List ℕ → Option (List ℕ)) (x : X) (image now : Sink) (kept : Device) → BuildsCommand command time files (Ok x) image now → image.contents ≡ Some [] → now.contents ≡ Some kept.bytes → IsTrue kept.honest → KeepsCommand command time files kept
@@ -59,14 +60,14 @@ keeping_command command time files x image now held kept builds empty out whole 
     keeping_written command time files x image now kept builds empty (written_out now.contents held kept.bytes (known_built command time files x image now builds empty) out whole) honest
 
 -- what is kept, and then listed
-pub listing_makes_command : {K : Type 0} (device : K → Device) (k : K) (command : MakeCommand) (time : ℕ) (files : List ℕ → Option (List ℕ)) (kept : Device) (status : Status) (s t : Sink) → KeepsCommand command time files kept → SameDevice kept (device k) → Tells (end_of (Ok status)) (listing_of command kept.bytes) s t → MakesCommand device command time files (Ok k) s t
-listing_makes_command device k (Parts options names) time files kept status s t keeps same told = listing_makes _ files _ kept (device k) status s t keeps same told
-listing_makes_command device k (Tree source placement) time files kept status s t keeps same told = listing_makes_tree files source.items time placement kept (device k) status s t keeps same told
+pub listing_makes_command : {K : Type 0} (device : K → Device) (k : K) (naming : Naming) (command : MakeCommand) (time : ℕ) (files : List ℕ → Option (List ℕ)) (kept : Device) (status : Status) (s t : Sink) → KeepsCommand command time files kept → SameDevice kept (device k) → Tells (end_of (Ok status)) (listing_of naming command kept.bytes) s t → MakesCommand device naming command time files (Ok k) s t
+listing_makes_command device k naming (Parts options names) time files kept status s t keeps same told = listing_makes naming _ files _ kept (device k) status s t keeps same told
+listing_makes_command device k naming (Tree source placement) time files kept status s t keeps same told = listing_makes_tree naming files source.items time placement kept (device k) status s t keeps same told
 
 -- why the listing stops
-pub listing_stops_command : {K : Type 0} (device : K → Device) (command : MakeCommand) (time : ℕ) (files : List ℕ → Option (List ℕ)) (kept : Device) (f : Fault) (s t : Sink) (old new : Held) → KeepsCommand command time files kept → is_of_making {X = Status} (Err f) ≡ false → TakesListing command kept (is_no_memory {X = Status} (Err f)) old new → Tells (end_of (Err f)) (listing_of command kept.bytes) s t → MakesCommand device command time files (Err f) s t
-listing_stops_command device (Parts options names) time files kept f s t old new keeps not takes told = listing_stops _ files _ kept f s t keeps not takes.1 told
-listing_stops_command device (Tree source placement) time files kept f s t old new keeps not takes told = listing_stops_tree files source.items time placement kept f s t keeps not told
+pub listing_stops_command : {K : Type 0} (device : K → Device) (naming : Naming) (command : MakeCommand) (time : ℕ) (files : List ℕ → Option (List ℕ)) (kept : Device) (f : Fault) (s t : Sink) (old new : Held) → KeepsCommand command time files kept → is_of_making {X = Status} (Err f) ≡ false → TakesListing command kept (is_no_memory {X = Status} (Err f)) old new → Tells (end_of (Err f)) (listing_of naming command kept.bytes) s t → MakesCommand device naming command time files (Err f) s t
+listing_stops_command device naming (Parts options names) time files kept f s t old new keeps not takes told = listing_stops naming _ files _ kept f s t keeps not takes.1 told
+listing_stops_command device naming (Tree source placement) time files kept f s t old new keeps not takes told = listing_stops_tree naming files source.items time placement kept f s t keeps not told
 
 -- a listing loses no payload
 no_loss : (f : FitFault) → of_making f ≡ false → loses_payload f ≡ false
@@ -118,8 +119,8 @@ holds_listed (Tree source placement) time files kept no_memory old now new clear
     })
 
 -- an answer over files is one over the same files
-pub made_of_same : {K : Type 0} (device : K → Device) (command : MakeCommand) (time : ℕ) (a b : List ℕ → Option (List ℕ)) (result : Result K Fault) (s t : Sink) → a ≡ b → MakesCommand device command time a result s t → MakesCommand device command time b result s t
-made_of_same device command time a b result s t same made = subst (λ (files : List ℕ → Option (List ℕ)). MakesCommand device command time files result s t) same made
+pub made_of_same : {K : Type 0} (device : K → Device) (naming : Naming) (command : MakeCommand) (time : ℕ) (a b : List ℕ → Option (List ℕ)) (result : Result K Fault) (s t : Sink) → a ≡ b → MakesCommand device naming command time a result s t → MakesCommand device naming command time b result s t
+made_of_same device naming command time a b result s t same made = subst (λ (files : List ℕ → Option (List ℕ)). MakesCommand device naming command time files result s t) same made
 
 -- what files that are complete and honest lack
 lacks_by : (files : List ℕ → Option (List ℕ)) (source : List ℕ) (f : Fault) → LacksSource files source f → is_no_payload {X = ⊤} (Err f) ≡ false → LacksPayload files source f

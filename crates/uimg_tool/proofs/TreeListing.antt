@@ -30,6 +30,7 @@ use Rattle.uimg_fit_reading.specs.Listing.{head_lines, lists, list_of}
 use Rattle.uimg_fit_base.specs.Report.{report, verify_of}
 use Rattle.uimg_requests.specs.declared.command.Action.TheVariants as action
 use Rattle.uimg_requests.specs.declared.command.Format.TheVariants as format
+use Rattle.uimg_names.specs.declared.naming.Naming.{Naming}
 use Rattle.uimg_tool.specs.declared.fault.Fault.{Fault}
 use Rattle.uimg_tool.specs.declared.fault.Fault.TheVariants.{Legacy, Blob, Fit, Its, Read, Put, NoFile, Keep, OutOfMemory}
 use Rattle.uimg_tool.specs.Faults.{end_of, unless_memory, of_fit, is_of_making, is_no_memory}
@@ -48,17 +49,17 @@ built_is_fit : (u : Nodes) (placement : Placement) → begins_as_blob (built u p
 unfolding blob
 built_is_fit u placement = begins _
 
-lists_done : (file : List ℕ) (t : NodesOf Spot) (found : Option (List (NodeOf Spot))) → (unless_refused (listed_or found) (report file)).end ≡ done → (after (head_lines (root_own t)) (lists file t found)).end ≡ done
-lists_done file t (Some found) h = refl
-lists_done file t None h = absurd (cc)
+lists_done : (naming : Naming) (file : List ℕ) (t : NodesOf Spot) (found : Option (List (NodeOf Spot))) → (unless_refused (listed_or found) (report file)).end ≡ done → (after (head_lines (root_own t)) (lists naming file t found)).end ≡ done
+lists_done naming file t (Some found) h = refl
+lists_done naming file t None h = absurd (cc)
 
-list_done_by : (file : List ℕ) (r : Result (NodesOf Spot) FitEngineFault) → (unless_refused (r >>= (λ t. listed_or (images t))) (report file)).end ≡ done → (unless_refused r (λ t. after (head_lines (root_own t)) (lists file t (images t)))).end ≡ done
-list_done_by file (Ok t) h = lists_done file t (images t) h
-list_done_by file (Err f) h = absurd (cc)
+list_done_by : (naming : Naming) (file : List ℕ) (r : Result (NodesOf Spot) FitEngineFault) → (unless_refused (r >>= (λ t. listed_or (images t))) (report file)).end ≡ done → (unless_refused r (λ t. after (head_lines (root_own t)) (lists naming file t (images t)))).end ≡ done
+list_done_by naming file (Ok t) h = lists_done naming file t (images t) h
+list_done_by naming file (Err f) h = absurd (cc)
 
 -- The listing of what verifies ends well.
-list_done : (file : List ℕ) → (verify_of file).end ≡ done → (list_of file).end ≡ done
-list_done file h = list_done_by file (tree_of file) h
+list_done : (naming : Naming) (file : List ℕ) → (verify_of file).end ≡ done → (list_of naming file).end ≡ done
+list_done naming file h = list_done_by naming file (tree_of file) h
 
 -- an image that was built on an empty shelf, and kept
 pub keeping_tree : (files : List ℕ → Option (List ℕ)) (source : List ℕ) (time : ℕ) (placement : Placement) (image now : Sink) (kept : Device) → BuildsTree files source time placement image now → image.contents ≡ Some [] → now.contents ≡ Some kept.bytes → IsTrue kept.honest → KeepsTree files source time placement kept
@@ -70,18 +71,18 @@ keeping_tree files source time placement image now kept builds empty whole hones
       honest = honest;
       reads_back = builds.reads_back;
       is_fit = built_is_fit builds.tree placement;
-      done = list_done _ builds.reads_back.report;
+      done = λ naming. list_done naming _ builds.reads_back.report;
     }
 
 -- what was kept is listed as a FIT image
-told_as_fit : (file image : List ℕ) (r : Result Status Fault) (s t : Sink) → file ≡ image → begins_as_blob image ≡ true → Tells (end_of r) (outcome_of (record { action = action.List; format = format.Guess }) file) s t → Tells (end_of r) (outcome_as of_fit (list_of image)) s t
-told_as_fit file image r s t same begins told =
-    subst (λ (is_fit : Bool). Tells (end_of r) (outcome_in is_fit action.List image) s t) begins
-    (subst (λ (bytes : List ℕ). Tells (end_of r) (outcome_of (record { action = action.List; format = format.Guess }) bytes) s t) same told)
+told_as_fit : (naming : Naming) (file image : List ℕ) (r : Result Status Fault) (s t : Sink) → file ≡ image → begins_as_blob image ≡ true → Tells (end_of r) (outcome_of (record { action = action.List naming; format = format.Guess }) file) s t → Tells (end_of r) (outcome_as of_fit (list_of naming image)) s t
+told_as_fit naming file image r s t same begins told =
+    subst (λ (is_fit : Bool). Tells (end_of r) (outcome_in is_fit (action.List naming) image) s t) begins
+    (subst (λ (bytes : List ℕ). Tells (end_of r) (outcome_of (record { action = action.List naming; format = format.Guess }) bytes) s t) same told)
 
 -- what is kept, and then listed
-pub listing_makes_tree : (files : List ℕ → Option (List ℕ)) (source : List ℕ) (time : ℕ) (placement : Placement) (kept now : Device) (status : Status) (s t : Sink) → KeepsTree files source time placement kept → SameDevice kept now → Tells (end_of (Ok status)) (outcome_of (record { action = action.List; format = format.Guess }) kept.bytes) s t → MakesTree files source time placement now s t
-listing_makes_tree files source time placement kept now status s t keeps same told =
+pub listing_makes_tree : (naming : Naming) (files : List ℕ → Option (List ℕ)) (source : List ℕ) (time : ℕ) (placement : Placement) (kept now : Device) (status : Status) (s t : Sink) → KeepsTree files source time placement kept → SameDevice kept now → Tells (end_of (Ok status)) (outcome_of (record { action = action.List naming; format = format.Guess }) kept.bytes) s t → MakesTree naming files source time placement now s t
+listing_makes_tree naming files source time placement kept now status s t keeps same told =
     record {
       keeps = record {
         tree = keeps.tree;
@@ -92,35 +93,35 @@ listing_makes_tree files source time placement kept now status s t keeps same to
         is_fit = keeps.is_fit;
         done = keeps.done;
       };
-      listed = all_told status (outcome_as of_fit (list_of (built keeps.tree placement))) s t (told_as_fit kept.bytes _ (Ok status) s t keeps.bytes keeps.is_fit told);
+      listed = all_told status (outcome_as of_fit (list_of naming (built keeps.tree placement))) s t (told_as_fit naming kept.bytes _ (Ok status) s t keeps.bytes keeps.is_fit told);
     }
 
 -- a listing that ends well is not refused
 not_done : (o : Outcome FitEngineFault) (f : Fault) (s t : Sink) → o.end ≡ done → Tells (Some (refused f)) (outcome_as of_fit o) s t → ⊥
 not_done o f s t ends told = let e : refused f ≡ done = sym told.0 ∙ ap (end_as of_fit) ends in absurd (cc)
 
-broken : (files : List ℕ → Option (List ℕ)) (source : List ℕ) (time : ℕ) (placement : Placement) (kept : Device) (s t : Sink) (keeps : KeepsTree files source time placement kept) → AppendsPrefix s t (list_of (built keeps.tree placement)).text → BreaksTree files source time placement s t
-broken files source time placement kept s t keeps prefix = record { tree = keeps.tree; accepts = keeps.accepts; prefix = prefix }
+broken : (naming : Naming) (files : List ℕ → Option (List ℕ)) (source : List ℕ) (time : ℕ) (placement : Placement) (kept : Device) (s t : Sink) (keeps : KeepsTree files source time placement kept) → AppendsPrefix s t (list_of naming (built keeps.tree placement)).text → BreaksTree naming files source time placement s t
+broken naming files source time placement kept s t keeps prefix = record { tree = keeps.tree; accepts = keeps.accepts; prefix = prefix }
 
-table_refused : (b : Bool) (files : List ℕ → Option (List ℕ)) (source : List ℕ) (time : ℕ) (placement : Placement) (kept : Device) (f : BlobFault) (at : ℕ) (s t : Sink) → b ≡ refuses_memory f → (keeps : KeepsTree files source time placement kept) → Tells (unless_memory b (refused (Blob f at))) (outcome_as of_fit (list_of (built keeps.tree placement))) s t → StopsAtBlob files source time placement f at s t
-table_refused true files source time placement kept f at s t is keeps told = no_table (sym is) (broken files source time placement kept s t keeps told)
-table_refused false files source time placement kept f at s t is keeps told = absurd (not_done _ _ s t keeps.done told)
+table_refused : (naming : Naming) (b : Bool) (files : List ℕ → Option (List ℕ)) (source : List ℕ) (time : ℕ) (placement : Placement) (kept : Device) (f : BlobFault) (at : ℕ) (s t : Sink) → b ≡ refuses_memory f → (keeps : KeepsTree files source time placement kept) → Tells (unless_memory b (refused (Blob f at))) (outcome_as of_fit (list_of naming (built keeps.tree placement))) s t → StopsAtBlob naming files source time placement f at s t
+table_refused naming true files source time placement kept f at s t is keeps told = no_table (sym is) (broken naming files source time placement kept s t keeps told)
+table_refused naming false files source time placement kept f at s t is keeps told = absurd (not_done _ _ s t (keeps.done naming) told)
 
 -- why the listing of what was kept stops
-listing_stops_by : (files : List ℕ → Option (List ℕ)) (source : List ℕ) (time : ℕ) (placement : Placement) (kept : Device) (f : Fault) (s t : Sink) (keeps : KeepsTree files source time placement kept) → is_of_making {X = Status} (Err f) ≡ false → Tells (end_of (Err f)) (outcome_as of_fit (list_of (built keeps.tree placement))) s t → StopsSource files source time placement f s t
-listing_stops_by files source time placement kept (Legacy f) s t keeps not told = absurd (not_done _ _ s t keeps.done told)
-listing_stops_by files source time placement kept (Blob f at) s t keeps not told = table_refused (refuses_memory f) files source time placement kept f at s t refl keeps told
-listing_stops_by files source time placement kept (Fit f) s t keeps not told = absurd (not_done _ _ s t keeps.done told)
-listing_stops_by files source time placement kept (Its f) s t keeps not told = absurd (not_done _ _ s t keeps.done told)
-listing_stops_by files source time placement kept Read s t keeps not told = unlisted (broken files source time placement kept s t keeps told)
-listing_stops_by files source time placement kept Put s t keeps not told = broken files source time placement kept s t keeps told
-listing_stops_by files source time placement kept (NoFile i) s t keeps not told = absurd (not_done _ _ s t keeps.done told)
-listing_stops_by files source time placement kept Keep s t keeps not told = absurd (not_done _ _ s t keeps.done told)
-listing_stops_by files source time placement kept OutOfMemory s t keeps not told = absurd (not_done _ _ s t keeps.done told)
+listing_stops_by : (naming : Naming) (files : List ℕ → Option (List ℕ)) (source : List ℕ) (time : ℕ) (placement : Placement) (kept : Device) (f : Fault) (s t : Sink) (keeps : KeepsTree files source time placement kept) → is_of_making {X = Status} (Err f) ≡ false → Tells (end_of (Err f)) (outcome_as of_fit (list_of naming (built keeps.tree placement))) s t → StopsSource naming files source time placement f s t
+listing_stops_by naming files source time placement kept (Legacy f) s t keeps not told = absurd (not_done _ _ s t (keeps.done naming) told)
+listing_stops_by naming files source time placement kept (Blob f at) s t keeps not told = table_refused naming (refuses_memory f) files source time placement kept f at s t refl keeps told
+listing_stops_by naming files source time placement kept (Fit f) s t keeps not told = absurd (not_done _ _ s t (keeps.done naming) told)
+listing_stops_by naming files source time placement kept (Its f) s t keeps not told = absurd (not_done _ _ s t (keeps.done naming) told)
+listing_stops_by naming files source time placement kept Read s t keeps not told = unlisted (broken naming files source time placement kept s t keeps told)
+listing_stops_by naming files source time placement kept Put s t keeps not told = broken naming files source time placement kept s t keeps told
+listing_stops_by naming files source time placement kept (NoFile i) s t keeps not told = absurd (not_done _ _ s t (keeps.done naming) told)
+listing_stops_by naming files source time placement kept Keep s t keeps not told = absurd (not_done _ _ s t (keeps.done naming) told)
+listing_stops_by naming files source time placement kept OutOfMemory s t keeps not told = absurd (not_done _ _ s t (keeps.done naming) told)
 
-pub listing_stops_tree : (files : List ℕ → Option (List ℕ)) (source : List ℕ) (time : ℕ) (placement : Placement) (kept : Device) (f : Fault) (s t : Sink) → KeepsTree files source time placement kept → is_of_making {X = Status} (Err f) ≡ false → Tells (end_of (Err f)) (outcome_of (record { action = action.List; format = format.Guess }) kept.bytes) s t → StopsSource files source time placement f s t
-listing_stops_tree files source time placement kept f s t keeps not told =
-    listing_stops_by files source time placement kept f s t keeps not (told_as_fit kept.bytes _ (Err f) s t keeps.bytes keeps.is_fit told)
+pub listing_stops_tree : (naming : Naming) (files : List ℕ → Option (List ℕ)) (source : List ℕ) (time : ℕ) (placement : Placement) (kept : Device) (f : Fault) (s t : Sink) → KeepsTree files source time placement kept → is_of_making {X = Status} (Err f) ≡ false → Tells (end_of (Err f)) (outcome_of (record { action = action.List naming; format = format.Guess }) kept.bytes) s t → StopsSource naming files source time placement f s t
+listing_stops_tree naming files source time placement kept f s t keeps not told =
+    listing_stops_by naming files source time placement kept f s t keeps not (told_as_fit naming kept.bytes _ (Err f) s t keeps.bytes keeps.is_fit told)
 
 -- why an image is not built, where nothing is listed
 same_stop : (u : Nodes) (placement : Placement) (f : FitFault) (image now s : Sink) → BuildsAnswer {X = ⊤} u placement (Err (fit.Fit f)) image now → BuildsAnswer {X = ⊤} u placement (Err (fit.Fit f)) s s
@@ -139,22 +140,22 @@ stops_at_images : (files : List ℕ → Option (List ℕ)) (source : List ℕ) (
 stops_at_images files source time placement f image now s (unfilled u e) = unfilled u refl
 stops_at_images files source time placement f image now s (unbuilt b) = unbuilt (record { tree = b.tree; fills = b.fills; builds = same_stop b.tree placement f image now s b.builds })
 
-stops_reading : (files : List ℕ → Option (List ℕ)) (source : List ℕ) (time : ℕ) (placement : Placement) (image now s : Sink) → StopsAtRead files source time placement image now → StopsReading files source time placement s s
-stops_reading files source time placement image now s (before there e) = unread there refl
-stops_reading files source time placement image now s (unwritten b) =
+stops_reading : (naming : Naming) (files : List ℕ → Option (List ℕ)) (source : List ℕ) (time : ℕ) (placement : Placement) (image now s : Sink) → StopsAtRead files source time placement image now → StopsReading naming files source time placement s s
+stops_reading naming files source time placement image now s (before there e) = unread there refl
+stops_reading naming files source time placement image now s (unwritten b) =
     unlisted (record { tree = b.tree; accepts = record { fills = b.fills; accepted = b.builds.0 }; prefix = prefix_none s _ })
 
-pub building_stops_tree : (X : Type 0) (files : List ℕ → Option (List ℕ)) (source : List ℕ) (time : ℕ) (placement : Placement) (f : Fault) (image now s : Sink) → BuildsSource {X = X} files source time placement (Err f) image now → StopsSource files source time placement f s s
-building_stops_tree X files source time placement (Legacy f) image now s stop = absurd stop
-building_stops_tree X files source time placement (Blob f at) image now s stop = unnamed (record { tree = stop.tree; fills = stop.fills; builds = stop.builds }) refl
-building_stops_tree X files source time placement (Fit f) image now s stop = (stops_at_images files source time placement f image now s stop, refl)
-building_stops_tree X files source time placement (Its f) image now s stop = (stop, refl)
-building_stops_tree X files source time placement Read image now s stop = stops_reading files source time placement image now s stop
-building_stops_tree X files source time placement Put image now s stop =
+pub building_stops_tree : (X : Type 0) (naming : Naming) (files : List ℕ → Option (List ℕ)) (source : List ℕ) (time : ℕ) (placement : Placement) (f : Fault) (image now s : Sink) → BuildsSource {X = X} files source time placement (Err f) image now → StopsSource naming files source time placement f s s
+building_stops_tree X naming files source time placement (Legacy f) image now s stop = absurd stop
+building_stops_tree X naming files source time placement (Blob f at) image now s stop = unnamed (record { tree = stop.tree; fills = stop.fills; builds = stop.builds }) refl
+building_stops_tree X naming files source time placement (Fit f) image now s stop = (stops_at_images files source time placement f image now s stop, refl)
+building_stops_tree X naming files source time placement (Its f) image now s stop = (stop, refl)
+building_stops_tree X naming files source time placement Read image now s stop = stops_reading naming files source time placement image now s stop
+building_stops_tree X naming files source time placement Put image now s stop =
     record { tree = stop.tree; accepts = record { fills = stop.fills; accepted = stop.builds.0 }; prefix = prefix_none s _ }
-building_stops_tree X files source time placement (NoFile i) image now s stop = (stop, refl)
-building_stops_tree X files source time placement Keep image now s stop = absurd stop
-building_stops_tree X files source time placement OutOfMemory image now s stop = refl
+building_stops_tree X naming files source time placement (NoFile i) image now s stop = (stop, refl)
+building_stops_tree X naming files source time placement Keep image now s stop = absurd stop
+building_stops_tree X naming files source time placement OutOfMemory image now s stop = refl
 
 -- A bad name is no want of memory.
 good_or : (a b : Option BlobFault) → IfSome a (λ f. refuses_memory f ≡ false) → IfSome b (λ f. refuses_memory f ≡ false) → IfSome (option_or a b) (λ f. refuses_memory f ≡ false)

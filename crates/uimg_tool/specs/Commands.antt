@@ -7,6 +7,7 @@ use Rattle.uimg_base.specs.Named.{FileMap, SameFiles}
 use Rattle.uimg_base.specs.Outcome.{Outcome}
 use Rattle.uimg_base.specs.Sink.{Sink}
 use Rattle.uimg_fit_reading.specs.Rooms.{TakesNodes}
+use Rattle.uimg_names.specs.declared.naming.Naming.{Naming}
 use Rattle.uimg_tool.specs.declared.fault.Fault.{Fault}
 use Rattle.uimg_tool.specs.declared.fault.Fault.TheVariants.{NoFile, Fit}
 use Rattle.uimg_requests.specs.declared.command.Action.TheVariants as Action
@@ -48,9 +49,9 @@ BuildsCommand (Parts options names) time files result s t = BuildsNames (timed o
 BuildsCommand (Tree source placement) time files result s t = BuildsSource files source.items time placement result s t
 
 -- what the answer of a making says of the files, and of what was listed
-abbrev pub MakesCommand : {K : Type 0} → (K → Device) → MakeCommand → ℕ → (List ℕ → Option (List ℕ)) → Result K Fault → Sink → Sink → Type 0
-MakesCommand device (Parts options names) time files result s t = MakesAnswer device (timed options time) files (map (λ name. name.items) names.items) result s t
-MakesCommand device (Tree source placement) time files result s t = MakesSource device files source.items time placement result s t
+abbrev pub MakesCommand : {K : Type 0} → (K → Device) → Naming → MakeCommand → ℕ → (List ℕ → Option (List ℕ)) → Result K Fault → Sink → Sink → Type 0
+MakesCommand device naming (Parts options names) time files result s t = MakesAnswer device naming (timed options time) files (map (λ name. name.items) names.items) result s t
+MakesCommand device naming (Tree source placement) time files result s t = MakesSource device naming files source.items time placement result s t
 
 -- Files that are complete and honest lack what a fault says: a name, or the source. They lack no payload.
 abbrev pub LacksPayload : (List ℕ → Option (List ℕ)) → List ℕ → Fault → Type 0
@@ -81,10 +82,10 @@ abbrev pub HoldsCommand : MakeCommand → ℕ → (List ℕ → Option (List ℕ
 HoldsCommand (Parts options names) time files old new = new ≡ record old { entries = [] }
 HoldsCommand (Tree source placement) time files old new = HoldsSource files source.items time placement old new
 
--- the listing of an image that was made
-abbrev pub listing_of : MakeCommand → List ℕ → Outcome Fault
-listing_of (Parts options files) file = outcome_in false Action.List file
-listing_of (Tree source placement) file = outcome_of (record { action = Action.List; format = Format.Guess }) file
+-- the listing of an image that was made, by a set of names
+abbrev pub listing_of : Naming → MakeCommand → List ℕ → Outcome Fault
+listing_of naming (Parts options files) file = outcome_in false (Action.List naming) file
+listing_of naming (Tree source placement) file = outcome_of (record { action = Action.List naming; format = Format.Guess }) file
 
 -- what that listing did to a room
 abbrev pub TakesListing : MakeCommand → Device → Bool → (old new : Held) → Type 0

@@ -22,6 +22,7 @@ use Rattle.uimg_legacy.specs.Extraction as legacy_extraction
 use Rattle.uimg_legacy.specs.Work as legacy
 use Rattle.uimg_tool.specs.declared.fault.Fault.{Fault}
 use Rattle.uimg_tool.specs.declared.fault.Fault.TheVariants.{Legacy}
+use Rattle.uimg_names.specs.declared.naming.Naming.TheVariants.{Profile}
 use Rattle.uimg_requests.specs.declared.command.Action.{Action}
 use Rattle.uimg_requests.specs.declared.command.Action.TheVariants as action
 use Rattle.uimg_requests.specs.declared.command.Command.{Command}
@@ -48,15 +49,15 @@ end_as name (refused fault) = refused (name fault)
 abbrev pub outcome_as : {F : Type 0} → (F → Fault) → Outcome F → Outcome Fault
 outcome_as name o = record { text = o.text; end = end_as name o.end }
 
--- the outcome of an action on a legacy image: its listing, its report, or its part at a position
+-- the outcome of an action on a legacy image: its listing by a set of names, its report, or its part at a position
 abbrev pub legacy_outcome : Action → List ℕ → Outcome LegacyFault
-legacy_outcome action.List file = legacy_listing.list_of file
+legacy_outcome (action.List naming) file = legacy_listing.list_of naming file
 legacy_outcome action.Verify file = legacy_report.verify_of file
 legacy_outcome (action.Extract position) file = legacy_extraction.extract_of file position
 
--- the outcome of an action on a FIT image: its listing, its report, or the payload of its image at a position
+-- the outcome of an action on a FIT image: its listing by a set of names, its report, or the payload of its image at a position
 abbrev pub fit_outcome : Action → List ℕ → Outcome FitEngineFault
-fit_outcome action.List file = fit_listing.list_of file
+fit_outcome (action.List naming) file = fit_listing.list_of naming file
 fit_outcome action.Verify file = fit_report.verify_of file
 fit_outcome (action.Extract position) file = fit_extraction.extract_of file position
 
@@ -71,14 +72,14 @@ outcome_of command file = outcome_in (is_fit command.format file) command.action
 
 -- the most bytes that the engine of a format asks for
 abbrev pub work_in : Bool → Action → List ℕ → ℕ
-work_in true action.List file = fit.list_work file
+work_in true (action.List naming) file = fit.list_work file
 work_in true action.Verify file = fit.verify_work file
 work_in true (action.Extract position) file = fit.extract_work file position
-work_in false action.List file = legacy.list_work file
+work_in false (action.List naming) file = legacy.list_work file
 work_in false action.Verify file = legacy.verify_work file
 work_in false (action.Extract position) file = legacy.extract_work file position
 
--- The most bytes that a command asks for: the four that tell the format, and what the format's engine asks for. Beside payloads
+-- The most bytes that a command asks for, a listing by whatever names: the four that tell the format, and what the format's engine asks for. Beside payloads
 -- that is `64 + 1024 * (nodes + properties) + 4 * (bytes of texts + NOPs)` for a FIT image, each counted as it is met, and
 -- `64 + 16 * (sizes + 1)` for a legacy image.
 abbrev pub work : Command → List ℕ → ℕ
@@ -95,20 +96,20 @@ nodes_of command file = nodes_in (is_fit command.format file) file
 -- An extraction asked for at most its work without the payload, the bytes that it wrote, and a window of 8192 more.
 -- Of other actions this says nothing.
 abbrev pub ExtractsAhead : ℕ → Action → Outcome Fault → (old new : Device) → Sink → Sink → Type 0
-ExtractsAhead most action.List o old new s t = ⊤
+ExtractsAhead most (action.List naming) o old new s t = ⊤
 ExtractsAhead most action.Verify o old new s t = ⊤
 ExtractsAhead most (action.Extract position) o old new s t = ReadsAhead most old new s t o.text
 
 -- An extraction that is refused has written nothing. Of other actions and answers this says nothing.
 abbrev pub KeepsOutput : Action → Bool → (old new : Sink) → Type 0
-KeepsOutput action.List is_refused old new = ⊤
+KeepsOutput (action.List naming) is_refused old new = ⊤
 KeepsOutput action.Verify is_refused old new = ⊤
 KeepsOutput (action.Extract position) true old new = new ≡ old
 KeepsOutput (action.Extract position) false old new = ⊤
 
 -- An extraction that is refused has written nothing to a text that was empty. Of other actions and answers this says nothing.
 abbrev pub WritesNone : Action → Bool → List ℕ → Type 0
-WritesNone action.List is_refused text = ⊤
+WritesNone (action.List naming) is_refused text = ⊤
 WritesNone action.Verify is_refused text = ⊤
 WritesNone (action.Extract position) true text = text ≡ []
 WritesNone (action.Extract position) false text = ⊤
@@ -137,7 +138,7 @@ Takes false source no_memory old new = (new ≡ record old { entries = [] }) × 
 pub record CarriesOut (fit : Bool) (what : Action) (result : Result Status Fault) (d e : Device) (old new : Held) (s t : Sink) : Type 0 where
   pub uses : UsesAtMost (work_in fit what d.bytes) (is_read result) d e
   pub room : Takes fit d (is_no_memory result) old new
-  pub ahead : IsTrue d.honest → ExtractsAhead (work_in fit action.List d.bytes) what (outcome_in fit what d.bytes) d e s t
+  pub ahead : IsTrue d.honest → ExtractsAhead (work_in fit (action.List Profile) d.bytes) what (outcome_in fit what d.bytes) d e s t
   pub untouched : KeepsOutput what (is_refused result) s t
   pub faults : RisesIf (is_put result) s.faults t.faults
   pub not_making : is_of_making result ≡ false
@@ -148,7 +149,7 @@ pub record Runs (command : Command) (result : Result Status Fault) (d e : Device
   pub uses : UsesAtMost (work command d.bytes) (is_read result) d e
   pub room : TakesNodes d (is_no_memory result) old new
   pub legacy : IsLegacy command.format d → Takes false d (is_no_memory result) old new
-  pub ahead : IsTrue d.honest → ExtractsAhead (work (record command { action = action.List }) d.bytes) command.action (outcome_of command d.bytes) d e s t
+  pub ahead : IsTrue d.honest → ExtractsAhead (work (record command { action = action.List Profile }) d.bytes) command.action (outcome_of command d.bytes) d e s t
   pub untouched : KeepsOutput command.action (is_refused result) s t
   pub faults : RisesIf (is_put result) s.faults t.faults
   pub not_making : is_of_making result ≡ false

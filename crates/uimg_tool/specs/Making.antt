@@ -11,6 +11,7 @@ use Rattle.uimg_legacy.specs.Listing.{list_of}
 use Rattle.uimg_legacy.specs.Building.{data_of, data_to_build, legacy_built, build_of}
 use Rattle.uimg_legacy.specs.Devices.{bytes_of, AreHonest}
 use Rattle.uimg_legacy.specs.ReadsBack.{ReadsBack}
+use Rattle.uimg_names.specs.declared.naming.Naming.{Naming}
 use Rattle.uimg_tool.specs.declared.fault.Fault.{Fault}
 use Rattle.uimg_tool.specs.declared.fault.Fault.TheVariants.{Legacy, Blob, Fit, Its, Read, Put, NoFile, Keep, OutOfMemory}
 use Rattle.uimg_tool.specs.Faults.{is_no_file}
@@ -60,16 +61,16 @@ pub record Keeps (options : Options) (files : List ℕ → Option (List ℕ)) (n
   pub image : KeepsImage options parts kept
 
 -- The image of the names' parts is kept, its whole listing was appended, and the listing is not refused.
-pub record Makes (options : Options) (files : List ℕ → Option (List ℕ)) (names : List (List ℕ)) (kept : Device) (s t : Sink) : Type 0 where
+pub record Makes (naming : Naming) (options : Options) (files : List ℕ → Option (List ℕ)) (names : List (List ℕ)) (kept : Device) (s t : Sink) : Type 0 where
   pub keeps : Keeps options files names kept
-  pub listed : AppendsAll s t (list_of (legacy_built options keeps.parts)).text
-  pub done : (list_of (legacy_built options keeps.parts)).end ≡ done
+  pub listed : AppendsAll s t (list_of naming (legacy_built options keeps.parts)).text
+  pub done : (list_of naming (legacy_built options keeps.parts)).end ≡ done
 
 -- A prefix of the listing of the image of the names' parts was appended.
-pub record Breaks (options : Options) (files : List ℕ → Option (List ℕ)) (names : List (List ℕ)) (s t : Sink) : Type 0 where
+pub record Breaks (naming : Naming) (options : Options) (files : List ℕ → Option (List ℕ)) (names : List (List ℕ)) (s t : Sink) : Type 0 where
   pub parts : List (List ℕ)
   pub have : HaveParts files names parts
-  pub prefix : AppendsPrefix s t (list_of (legacy_built options parts)).text
+  pub prefix : AppendsPrefix s t (list_of naming (legacy_built options parts)).text
 
 -- why the files of the names are not opened
 abbrev pub StopsOpening : (List ℕ → Option (List ℕ)) → List (List ℕ) → Fault → Type 0
@@ -105,21 +106,21 @@ BuildsNames options files names (Err OutOfMemory) s t = ⊤
 BuildsNames options files names result s t = BuildsThese options files names result s t
 
 -- what the fault of a making says of what was appended
-abbrev pub StopsMaking : Options → (List ℕ → Option (List ℕ)) → List (List ℕ) → Fault → Sink → Sink → Type 0
-StopsMaking options files names (Legacy fault) s t = Refuses options files names fault × (t ≡ s)
-StopsMaking options files names (Blob fault at) s t = ⊥
-StopsMaking options files names (Fit fault) s t = ⊥
-StopsMaking options files names (Its fault) s t = ⊥
-StopsMaking options files names Read s t = Breaks options files names s t
-StopsMaking options files names Put s t = Accepts options files names × Breaks options files names s t
-StopsMaking options files names (NoFile i) s t = Misses files names i × (t ≡ s)
-StopsMaking options files names Keep s t = Accepts options files names × (t ≡ s)
-StopsMaking options files names OutOfMemory s t = t ≡ s
+abbrev pub StopsMaking : Naming → Options → (List ℕ → Option (List ℕ)) → List (List ℕ) → Fault → Sink → Sink → Type 0
+StopsMaking naming options files names (Legacy fault) s t = Refuses options files names fault × (t ≡ s)
+StopsMaking naming options files names (Blob fault at) s t = ⊥
+StopsMaking naming options files names (Fit fault) s t = ⊥
+StopsMaking naming options files names (Its fault) s t = ⊥
+StopsMaking naming options files names Read s t = Breaks naming options files names s t
+StopsMaking naming options files names Put s t = Accepts options files names × Breaks naming options files names s t
+StopsMaking naming options files names (NoFile i) s t = Misses files names i × (t ≡ s)
+StopsMaking naming options files names Keep s t = Accepts options files names × (t ≡ s)
+StopsMaking naming options files names OutOfMemory s t = t ≡ s
 
 -- An answer is the kept image with its listing appended, or the fault of a making.
-abbrev pub MakesAnswer : {K : Type 0} → (K → Device) → Options → (List ℕ → Option (List ℕ)) → List (List ℕ) → Result K Fault → Sink → Sink → Type 0
-MakesAnswer device options files names (Ok kept) s t = Makes options files names (device kept) s t
-MakesAnswer device options files names (Err fault) s t = StopsMaking options files names fault s t
+abbrev pub MakesAnswer : {K : Type 0} → (K → Device) → Naming → Options → (List ℕ → Option (List ℕ)) → List (List ℕ) → Result K Fault → Sink → Sink → Type 0
+MakesAnswer device naming options files names (Ok kept) s t = Makes naming options files names (device kept) s t
+MakesAnswer device naming options files names (Err fault) s t = StopsMaking naming options files names fault s t
 
 -- a name whose open was refused has no bytes; of other faults this says nothing
 abbrev pub Lacks : (List ℕ → Option (List ℕ)) → List (List ℕ) → Fault → Type 0

@@ -25,6 +25,7 @@ use Rattle.uimg_fit_base.specs.declared.fault.Fault.{Fault as FitEngineFault}
 use Rattle.uimg_fit_base.specs.declared.fault.Fault.TheVariants as fit
 use Rattle.uimg_fit_base.specs.declared.fault.FitFault.{FitFault}
 use Rattle.uimg_fit_base.specs.declared.placement.Placement.{Placement}
+use Rattle.uimg_names.specs.declared.naming.Naming.{Naming}
 use Rattle.uimg_tool.specs.declared.fault.Fault.{Fault}
 use Rattle.uimg_tool.specs.declared.fault.Fault.TheVariants.{Legacy, Blob, Fit, Its, Read, Put, NoFile, Keep, OutOfMemory}
 use Rattle.uimg_tool.specs.Headline.{begins_as_blob}
@@ -129,45 +130,45 @@ pub record KeepsTree (files : List ℕ → Option (List ℕ)) (source : List ℕ
   pub honest : IsTrue kept.honest
   pub reads_back : ReadsBack (built tree placement) tree
   pub is_fit : begins_as_blob (built tree placement) ≡ true
-  pub done : (list_of (built tree placement)).end ≡ done
+  pub done : (naming : Naming) → (list_of naming (built tree placement)).end ≡ done
 
 -- The image of the filled tree is kept, and its whole listing was appended.
-pub record MakesTree (files : List ℕ → Option (List ℕ)) (source : List ℕ) (time : ℕ) (placement : Placement) (kept : Device) (s t : Sink) : Type 0 where
+pub record MakesTree (naming : Naming) (files : List ℕ → Option (List ℕ)) (source : List ℕ) (time : ℕ) (placement : Placement) (kept : Device) (s t : Sink) : Type 0 where
   pub keeps : KeepsTree files source time placement kept
-  pub listed : AppendsAll s t (list_of (built keeps.tree placement)).text
+  pub listed : AppendsAll s t (list_of naming (built keeps.tree placement)).text
 
 -- A prefix of the listing of the image of the filled tree was appended.
-pub record BreaksTree (files : List ℕ → Option (List ℕ)) (source : List ℕ) (time : ℕ) (placement : Placement) (s t : Sink) : Type 0 where
+pub record BreaksTree (naming : Naming) (files : List ℕ → Option (List ℕ)) (source : List ℕ) (time : ℕ) (placement : Placement) (s t : Sink) : Type 0 where
   pub tree : Nodes
   pub accepts : AcceptsTree files source time placement tree
-  pub prefix : AppendsPrefix s t (list_of (built tree placement)).text
+  pub prefix : AppendsPrefix s t (list_of naming (built tree placement)).text
 
 -- Why a blob is refused: a name of the filled tree is bad, or memory for the table of the nodes was refused in the listing.
-pub data StopsAtBlob (files : List ℕ → Option (List ℕ)) (source : List ℕ) (time : ℕ) (placement : Placement) (fault : BlobFault) (at : ℕ) (s t : Sink) : Type 0 where
-  unnamed : BuildsFilled {X = ⊤} files source time placement (Err (fit.Blob fault at)) s t → t ≡ s → StopsAtBlob files source time placement fault at s t
-  no_table : IsTrue (refuses_memory fault) → BreaksTree files source time placement s t → StopsAtBlob files source time placement fault at s t
+pub data StopsAtBlob (naming : Naming) (files : List ℕ → Option (List ℕ)) (source : List ℕ) (time : ℕ) (placement : Placement) (fault : BlobFault) (at : ℕ) (s t : Sink) : Type 0 where
+  unnamed : BuildsFilled {X = ⊤} files source time placement (Err (fit.Blob fault at)) s t → t ≡ s → StopsAtBlob naming files source time placement fault at s t
+  no_table : IsTrue (refuses_memory fault) → BreaksTree naming files source time placement s t → StopsAtBlob naming files source time placement fault at s t
 
 -- Why a read failed in a making: the text isn't read, and nothing was listed, or a file, or what was kept in the listing.
-pub data StopsReading (files : List ℕ → Option (List ℕ)) (source : List ℕ) (time : ℕ) (placement : Placement) (s t : Sink) : Type 0 where
-  unread : IsSome (files source) → t ≡ s → StopsReading files source time placement s t
-  unlisted : BreaksTree files source time placement s t → StopsReading files source time placement s t
+pub data StopsReading (naming : Naming) (files : List ℕ → Option (List ℕ)) (source : List ℕ) (time : ℕ) (placement : Placement) (s t : Sink) : Type 0 where
+  unread : IsSome (files source) → t ≡ s → StopsReading naming files source time placement s t
+  unlisted : BreaksTree naming files source time placement s t → StopsReading naming files source time placement s t
 
 -- what the fault of a making says of the source, and of what was listed
-abbrev pub StopsSource : (List ℕ → Option (List ℕ)) → List ℕ → ℕ → Placement → Fault → Sink → Sink → Type 0
-StopsSource files source time placement (Legacy fault) s t = ⊥
-StopsSource files source time placement (Blob fault at) s t = StopsAtBlob files source time placement fault at s t
-StopsSource files source time placement (Fit fault) s t = StopsAtImages files source time placement fault s t × (t ≡ s)
-StopsSource files source time placement (Its fault) s t = RefusesText files source fault.kind × (t ≡ s)
-StopsSource files source time placement Read s t = StopsReading files source time placement s t
-StopsSource files source time placement Put s t = BreaksTree files source time placement s t
-StopsSource files source time placement (NoFile i) s t = (i ≡ 0) × (t ≡ s)
-StopsSource files source time placement Keep s t = ((tree : Nodes) × AcceptsTree files source time placement tree) × (t ≡ s)
-StopsSource files source time placement OutOfMemory s t = t ≡ s
+abbrev pub StopsSource : Naming → (List ℕ → Option (List ℕ)) → List ℕ → ℕ → Placement → Fault → Sink → Sink → Type 0
+StopsSource naming files source time placement (Legacy fault) s t = ⊥
+StopsSource naming files source time placement (Blob fault at) s t = StopsAtBlob naming files source time placement fault at s t
+StopsSource naming files source time placement (Fit fault) s t = StopsAtImages files source time placement fault s t × (t ≡ s)
+StopsSource naming files source time placement (Its fault) s t = RefusesText files source fault.kind × (t ≡ s)
+StopsSource naming files source time placement Read s t = StopsReading naming files source time placement s t
+StopsSource naming files source time placement Put s t = BreaksTree naming files source time placement s t
+StopsSource naming files source time placement (NoFile i) s t = (i ≡ 0) × (t ≡ s)
+StopsSource naming files source time placement Keep s t = ((tree : Nodes) × AcceptsTree files source time placement tree) × (t ≡ s)
+StopsSource naming files source time placement OutOfMemory s t = t ≡ s
 
 -- An answer is the kept image with its listing appended, or the fault of a making.
-abbrev pub MakesSource : {K : Type 0} → (K → Device) → (List ℕ → Option (List ℕ)) → List ℕ → ℕ → Placement → Result K Fault → Sink → Sink → Type 0
-MakesSource device files source time placement (Ok kept) s t = MakesTree files source time placement (device kept) s t
-MakesSource device files source time placement (Err fault) s t = StopsSource files source time placement fault s t
+abbrev pub MakesSource : {K : Type 0} → (K → Device) → Naming → (List ℕ → Option (List ℕ)) → List ℕ → ℕ → Placement → Result K Fault → Sink → Sink → Type 0
+MakesSource device naming files source time placement (Ok kept) s t = MakesTree naming files source time placement (device kept) s t
+MakesSource device naming files source time placement (Err fault) s t = StopsSource naming files source time placement fault s t
 
 -- A room took no more memory than for the nodes of the image of the filled tree.
 pub record HoldsNodes (files : List ℕ → Option (List ℕ)) (source : List ℕ) (time : ℕ) (placement : Placement) (old new : Held) : Type 0 where

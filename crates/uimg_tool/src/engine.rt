@@ -4,6 +4,7 @@ ghost use Rattle.std.specs.Prelude.{◌≡◌, ◌↔◌, ◌+◌, ◌*◌, ◌-
 ghost use Rattle.uimg_base.specs.Device.{SameDevice};
 ghost use Rattle.uimg_base.specs.Held.{held_bytes};
 ghost use Rattle.uimg_base.specs.Sink.{AppendsPrefix};
+ghost use Rattle.uimg_names.specs.declared.naming.Naming.TheVariants.{Profile};
 ghost use Rattle.uimg_tool.specs.Faults.{is_no_memory, is_refused, is_of_making};
 ghost use Rattle.uimg_tool.specs.Headline.{outcome_of, work, nodes_of, is_fit, CarriesOut, Runs, ExtractsAhead, KeepsOutput, Stays, GrowthsSucceed, IsLegacy, Meets};
 
@@ -25,7 +26,7 @@ pub(crate) fn run_legacy<S: Source, A: Allocator, W: Write>(
         room.old room.new out.old out.new }
 {
     let status = match action {
-        Action::List => uimg_legacy::list(source, room, out)?,
+        Action::List(naming) => uimg_legacy::list(source, room, naming, out)?,
         Action::Verify => uimg_legacy::verify(source, room, out)?,
         Action::Extract(position) => uimg_legacy::extract(position, source, room, out)?,
     };
@@ -43,7 +44,7 @@ fn run_fit<S: Source, A: Allocator, W: Write>(
         room.old room.new out.old out.new }
 {
     let status = match action {
-        Action::List => uimg_fit_reading::list(source, room, out)?,
+        Action::List(naming) => uimg_fit_reading::list(source, room, naming, out)?,
         Action::Verify => uimg_fit_reading::verify(source, room, out)?,
         Action::Extract(position) => uimg_fit_reading::extract(position, source, room, out)?,
     };
@@ -105,7 +106,7 @@ pub fn run<S: Source, A: Allocator, W: Write>(
         (S.device source.new).asked ≤ (S.device source.old).asked + work command.now
         (S.device source.old).bytes }
     ensures ahead { IsTrue (S.device source.old).honest →
-        ExtractsAhead (work (record command.now { action = Action.List })
+        ExtractsAhead (work (record command.now { action = Action.List Profile })
         (S.device source.old).bytes) command.now.action
         (outcome_of command.now (S.device source.old).bytes)
         (S.device source.old) (S.device source.new) out.old out.new }

@@ -15,6 +15,7 @@ use crate::making::make;
 use std::alloc::Allocator;
 use std::io::Write;
 use uimg_base::{MemFiles, MemKept, MemShelf, MemSource, Out, Room, Source, Status};
+use uimg_names::Naming;
 use uimg_requests::{Command, MakeCommand};
 
 /// Carries out a command on the bytes of an image: the answer of `run`, and all that was written.
@@ -70,13 +71,14 @@ pub fn make_in_memory<W: Write, A: Allocator + Copy, B: Allocator, H: Allocator>
     alloc: A,
     command: &MakeCommand,
     time: u32,
+    naming: Naming,
     files: &[(&[u8], &[u8])],
     shelf: H,
     room: &mut Room<B>,
     out: &mut Out<W>,
 ) -> Result<MemKept<H>, Fault>
     requires fit { HasFitNames command.now }
-    ensures made { MakesCommand (⟦<MemKept<H> as Source>⟧.device) command.now time
+    ensures made { MakesCommand (⟦<MemKept<H> as Source>⟧.device) naming command.now time
         (λ name. bytes_named name files.now) result out.old out.new }
     ensures missing { IfErr result (LacksFile command.now (λ name. bytes_named name files.now)) }
     ensures read { is_unread result ≡ false }
@@ -95,6 +97,7 @@ pub fn make_in_memory<W: Write, A: Allocator + Copy, B: Allocator, H: Allocator>
         alloc,
         command,
         time,
+        naming,
         &mut MemFiles::new(files),
         MemShelf::new(shelf),
         room,

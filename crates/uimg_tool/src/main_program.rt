@@ -205,6 +205,7 @@ fn make_image<'a, R: Files + AllocGlobal, W: Write>(
         rt.alloc(),
         &request.command,
         request.time,
+        request.naming,
         &mut files,
         FileShelf::new(rt, request.written),
         &mut Room::new(rt.alloc()),

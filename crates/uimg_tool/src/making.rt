@@ -17,6 +17,7 @@ use std::alloc::Allocator;
 use std::io::Write;
 use uimg_base::{Files, Out, Room, Shelf, Source};
 use uimg_legacy::Options;
+use uimg_names::Naming;
 use uimg_requests::MakeCommand;
 
 /// Builds the image of a command at a time, in seconds since 1970, and appends it to `image`.
@@ -96,7 +97,8 @@ fn keep<H: Shelf>(shelf: H) -> Result<H::Kept, Fault>
 }
 
 /// Makes an image at a time, in seconds since 1970: it builds the image of the command on the shelf,
-/// keeps it, and writes the listing of what was kept to `out`. It gives what was kept.
+/// keeps it, and writes the listing of what was kept to `out`, by a set of names. It gives what was
+/// kept.
 ///
 /// Over honest files and an honest, empty shelf, what was kept is the image that `build_image` tells,
 /// which reads back, and exactly its listing was written. Refusals come in the order of the work: those
@@ -120,6 +122,7 @@ pub fn make<F: Files, H: Shelf, W: Write, A: Allocator + Copy, B: Allocator>(
     alloc: A,
     command: &MakeCommand,
     time: u32,
+    naming: Naming,
     files: &mut F,
     shelf: H,
     room: &mut Room<B>,
@@ -127,7 +130,7 @@ pub fn make<F: Files, H: Shelf, W: Write, A: Allocator + Copy, B: Allocator>(
 ) -> Result<H::Kept, Fault>
     requires fit { HasFitNames command.now }
     ensures made { IsTrue (F.map files.old).honest → IsTrue H.honest → H.contents shelf ≡ Some [] →
-        MakesCommand H.Kept.device command.now time (F.map files.old).bytes result out.old out.new }
+        MakesCommand H.Kept.device naming command.now time (F.map files.old).bytes result out.old out.new }
     ensures files { OpensToBuild command.now result (F.map files.old) (F.map files.new) }
     ensures quiet { IsTrue (is_of_making result) → out.new ≡ out.old }
     ensures puts { is_put result ≡ false → out.new.faults ≡ out.old.faults }
@@ -139,7 +142,7 @@ pub fn make<F: Files, H: Shelf, W: Write, A: Allocator + Copy, B: Allocator>(
         is_lost_payload result ≡ false }
     ensures steady_keeps { IsTrue H.steady → is_keep result ≡ false }
     ensures listed { IfOk result (λ kept. IsTrue (H.Kept.device kept).honest → (status : Status)
-        × Tells (end_of (Ok status)) (listing_of command.now (H.Kept.device kept).bytes)
+        × Tells (end_of (Ok status)) (listing_of naming command.now (H.Kept.device kept).bytes)
         out.old out.new) }
     ensures kept_reads { IfOk result (λ kept. (H.Kept.device kept).failures ≡ 0) }
     ensures room { LeavesRoom H.Kept.device (F.map files.old).honest command.now result
@@ -152,6 +155,6 @@ pub fn make<F: Files, H: Shelf, W: Write, A: Allocator + Copy, B: Allocator>(
     build_image(alloc, command, time, files, &mut image)?;
     let shelf = write_out(image)?;
     let mut kept = keep(shelf)?;
-    list_kept(command, &mut kept, room, out)?;
+    list_kept(naming, command, &mut kept, room, out)?;
     Ok(kept)
 }

@@ -10,10 +10,12 @@ use crate::fault::Fault;
 use std::alloc::Allocator;
 use std::io::Write;
 use uimg_base::{Out, Room, Source, Status};
+use uimg_names::Naming;
 use uimg_requests::{Action, Command, Format, MakeCommand};
 
-/// Writes the listing of what was kept: of a legacy image, or of the format that its first bytes tell.
+/// Writes the listing of what was kept, by a set of names: of a legacy image, or of the format that its first bytes tell.
 pub(crate) fn list_kept<S: Source, A: Allocator, W: Write>(
+    naming: Naming,
     command: &MakeCommand,
     kept: &mut S,
     room: &mut Room<A>,
@@ -27,14 +29,14 @@ pub(crate) fn list_kept<S: Source, A: Allocator, W: Write>(
     ensures faults { RisesIf (is_put result) out.old.faults out.new.faults }
     ensures not_making { is_of_making result ≡ false }
     ensures told { IsTrue (S.device kept.old).honest →
-        Tells (end_of result) (listing_of command.now (S.device kept.old).bytes)
+        Tells (end_of result) (listing_of naming command.now (S.device kept.old).bytes)
         out.old out.new }
 {
     match command {
-        MakeCommand::Parts { .. } => run_legacy(Action::List, kept, room, out),
+        MakeCommand::Parts { .. } => run_legacy(Action::List(naming), kept, room, out),
         MakeCommand::Tree { .. } => {
             let command = Command {
-                action: Action::List,
+                action: Action::List(naming),
                 format: Format::Guess,
             };
             run_by_format(&command, kept, room, out)

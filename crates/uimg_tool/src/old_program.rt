@@ -9,7 +9,8 @@ use std::io::Write;
 use std::rt::Files;
 use std::{fs, io};
 use uimg_base::Status;
-use uimg_old_words::{Field, OldFault, OldRequest, Show, read_dumpimage, read_mkimage};
+use uimg_names::Field;
+use uimg_old_words::{OldFault, OldRequest, Show, read_dumpimage, read_mkimage, title_of};
 use uimg_requests::{MakeRequest, RunRequest, VERSION};
 use uimg_words::Request;
 
@@ -211,16 +212,19 @@ fn show_text<W: Write, V: Write>(tool: Tool, show: Show, out: &mut W, err: &mut 
     };
     match (written, show) {
         (Err(_), _) => tell(tool, err, &Fault::Put, FAILED),
-        (Ok(()), Show::Names(field)) if field != Field::Type => WRONG_LINE,
+        (Ok(()), Show::Names(field)) if field != Field::Kind => WRONG_LINE,
         (Ok(()), _) => DONE,
     }
 }
 
-// The names of a field's codes, a line each.
+// The names of a field's codes, a line each. The originals leave out `ppc`, which is another name of
+// `powerpc`.
 fn put_names<V: Write>(field: Field, err: &mut V) -> io::Result<()> {
-    writeln!(err, "\nInvalid {}, supported are:", field.title())?;
-    for (name, long, _) in field.rows() {
-        writeln!(err, "\t{name:<15}  {long}")?;
+    writeln!(err, "\nInvalid {}, supported are:", title_of(field))?;
+    for (name, _, long) in field.rows() {
+        if *name != "ppc" {
+            writeln!(err, "\t{name:<15}  {long}")?;
+        }
     }
     writeln!(err)
 }

@@ -12,6 +12,7 @@ use uimg_base::{
 };
 use uimg_fit_base::Placement;
 use uimg_legacy::{Options, has_parts, name_field};
+use uimg_names::Naming;
 use uimg_tool::{Fault, MakeCommand, make};
 
 /// The files that images are made from.
@@ -210,7 +211,8 @@ fn built<R: AllocGlobal, A: Allocator + Copy, B: Allocator, F: Files + Drop, H: 
     };
     let mut room = Room::new(heap);
     let mut out = Out::new(Vec::new(rt.alloc()));
-    let end = match make(alloc, command, time, &mut files, shelf, &mut room, &mut out) {
+    let naming = Naming::Profile;
+    let end = match make(alloc, command, time, naming, &mut files, shelf, &mut room, &mut out) {
         Ok(_) => Ok(Status::Done),
         Err(fault) => Err(fault),
     };

@@ -6,6 +6,7 @@ use super::runs::{action_named, shown, told};
 use std::process::Abort;
 use std::test::Fail;
 use uimg_base::{Out, Room, Source};
+use uimg_names::Naming;
 use uimg_tool::{Command, Format, make_in_memory, run_in_memory};
 
 // The image, the action, its end, and what is written.
@@ -61,6 +62,7 @@ fn makes<R: AllocGlobal + Abort>(rt: &R, name: &str) -> Result<(), Fail> {
         rt.alloc(),
         &command,
         time_of(name),
+        Naming::Profile,
         &FILES,
         rt.alloc(),
         &mut room,

@@ -2,6 +2,7 @@
 use std::alloc::Global;
 use std::io::Write;
 use uimg_base::{FuseSource, FuseWriter, MemSource, Out, Room, Source, Status};
+use uimg_names::Naming;
 use uimg_tool::{Action, Command, Fault, Format, run};
 
 /// As many calls, or bytes, as there are.
@@ -21,7 +22,7 @@ pub(super) struct Left {
 /// The action of a word: `list`, `verify`, or the position of what is extracted, `0` or `1`.
 pub(super) fn action_named(word: &str) -> Action {
     match word {
-        "list" => Action::List,
+        "list" => Action::List(Naming::Profile),
         "verify" => Action::Verify,
         "1" => Action::Extract(1),
         _ => Action::Extract(0),

@@ -4,6 +4,7 @@ use std::alloc::{AllocError, Global};
 use std::test::Fail;
 use uimg_base::{MemSource, Out, Room, Status, crc_of};
 use uimg_fit::{Fault, extract, list, verify};
+use uimg_names::Naming;
 
 // An end in words.
 fn told(alloc: Global, end: Result<Status, Fault>) -> Result<String, AllocError> {
@@ -14,14 +15,15 @@ fn told(alloc: Global, end: Result<Status, Fault>) -> Result<String, AllocError>
     }
 }
 
-// What is answered for an image, and what is written: by `list`, by `verify`, or by `extract` at the
+// What is answered for an image, and what is written: by `list` of either set of names, by `verify`, or by `extract` at the
 // position that a digit tells.
 fn read(alloc: Global, fit: &[u8], call: &str) -> (Result<Status, Fault>, Vec<u8>) {
     let mut source = MemSource::new(fit);
     let mut room = Room::new(alloc);
     let mut out = Out::new(Vec::new(alloc));
     let end = match call {
-        "list" => list(&mut source, &mut room, &mut out),
+        "list" => list(&mut source, &mut room, Naming::Profile, &mut out),
+        "list by all names" => list(&mut source, &mut room, Naming::All, &mut out),
         "verify" => verify(&mut source, &mut room, &mut out),
         _ => extract(call.parse().unwrap_or(9), &mut source, &mut room, &mut out),
     };
@@ -138,8 +140,9 @@ b - none unhashed
 ";
 
 // An image, the place of a cell, its number, the call, what is answered, and what is written.
-const ROWS: [(&str, usize, u32, &str, &str, &str); 29] = [
+const ROWS: [(&str, usize, u32, &str, &str, &str); 30] = [
     ("four-hash-fit", 0, 0, "list", "done", KERNEL),
+    ("four-hash-fit", 0, 0, "list by all names", "done", KERNEL),
     ("external-fit", 0, 0, "list", "done", KERNEL),
     ("position-fit", 0, 0, "list", "done", KERNEL),
     ("two-cells", 0, 0, "list", "done", TWO_CELLS),

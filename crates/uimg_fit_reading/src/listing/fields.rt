@@ -63,7 +63,7 @@ fn put_value<S: Source, A: Allocator, W: Write>(
 {
     match show {
         Show::Text => put_text_line(source, room, label, span, out),
-        Show::Name(table) => put_name_line(source, label, table, span, out),
+        Show::Name(naming, field) => put_name_line(source, label, naming, field, span, out),
         Show::Address => put_address_line(source, label, span, out),
         Show::Hexadecimal => put_hexadecimal_line(source, label, span, out),
         Show::List => put_list_lines(source, room, label, span, out),

@@ -13,7 +13,7 @@ ghost use Rattle.uimg_fit_reading.specs.Telling.{Lists};
 ghost use Rattle.uimg_fit_reading.specs.Puts.{Leaves};
 
 use crate::listing::fields::put_rows;
-use crate::listing::rows::{CONFIGURATION, Facts, HASH, IMAGE, NO_FACTS};
+use crate::listing::rows::{CONFIGURATION, Facts, HASH, NO_FACTS, image_rows};
 use crate::listing::titles::put_node;
 use crate::nodes::{first_hash, next_hash, next_of};
 use crate::places::find_place;
@@ -22,12 +22,13 @@ use std::io::Write;
 use uimg_base::{MoveFault, Out, Room, Source, Span};
 use uimg_blob::Blob;
 use uimg_fit_base::FitFault;
+use uimg_names::Naming;
 
 /// What a listed node is.
 #[derive(Clone, Copy, Debug, PartialEq, Eq)]
 pub(crate) enum Kind {
-    /// An image, and the root's time, if it has one.
-    Image(Option<u32>),
+    /// An image, listed by a set of names, and the root's time, if it has one.
+    Image(Naming, Option<u32>),
     /// A configuration.
     Configuration,
 }
@@ -90,6 +91,7 @@ fn put_known_image<S: Source, A: Allocator, W: Write>(
     source: &mut S,
     blob: &Blob,
     room: &mut Room<A>,
+    naming: Naming,
     facts: Facts,
     number: usize,
     image: usize,
@@ -103,10 +105,11 @@ fn put_known_image<S: Source, A: Allocator, W: Write>(
         (748 + 4 * text_sizes found.own + sum_by node_allowance (hashes found))
         (S.device source.old) (S.device source.new) out.old out.new
         (title (codes " Image ") number found.name
-        ++ (rows_lines facts found.own image_rows ++ flat_map hash_lines (hashes found)))) }
+        ++ (rows_lines facts found.own (image_rows naming) ++ flat_map hash_lines (hashes found)))) }
 {
+    let rows = image_rows(naming);
     put_node(
-        source, blob, room, b" Image ", number, image, facts, &IMAGE, out,
+        source, blob, room, b" Image ", number, image, facts, &rows, out,
     )?;
     put_hashes(source, blob, room, first_hash(blob, room, image), out)
 }
@@ -116,6 +119,7 @@ fn put_image<S: Source, A: Allocator, W: Write>(
     source: &mut S,
     blob: &Blob,
     room: &mut Room<A>,
+    naming: Naming,
     time: Option<u32>,
     number: usize,
     image: usize,
@@ -126,12 +130,13 @@ fn put_image<S: Source, A: Allocator, W: Write>(
         (S.device source.new) room.old room.new out.old out.new }
     ensures told { OfNode (S.device source.old) blob.now room.old in_images image (λ found.
         Lists (is_err result) (node_allowance found) (S.device source.old) (S.device source.new)
-        out.old out.new (node_lines (S.device source.old).bytes (Kind.Image time) number found)) }
+        out.old out.new (node_lines (S.device source.old).bytes (Kind.Image naming time) number found)) }
 {
     match find_place(source, blob, room, image) {
         Ok(place) => {
             let size = size_in(place);
-            put_known_image(source, blob, room, Facts { time, size }, number, image, out)
+            let facts = Facts { time, size };
+            put_known_image(source, blob, room, naming, facts, number, image, out)
         }
         Err(_) => Err(MoveFault::Read),
     }
@@ -186,7 +191,9 @@ fn put_listed<S: Source, A: Allocator, W: Write>(
         out.old out.new (node_lines (S.device source.old).bytes kind number found)) }
 {
     match kind {
-        Kind::Image(time) => put_image(source, blob, room, time, number, node, out),
+        Kind::Image(naming, time) => {
+            put_image(source, blob, room, naming, time, number, node, out)
+        }
         Kind::Configuration => put_configuration(source, blob, room, number, node, out),
     }
 }

@@ -1,9 +1,12 @@
 //! The lines of images, hash nodes and configurations, as rows of tables.
 
+ghost use Rattle.std.specs.Prelude.{◌≡◌};
+ghost use Rattle.uimg_fit_reading.specs.Rows.{image_rows};
+
 use crate::listing::shows::Show;
 use crate::listing::shows::Show::{Address, Hexadecimal, List, Name, Text};
-use crate::listing::shows::Table::{Architectures, Compressions, Kinds, Systems};
 use uimg_blob::Key;
+use uimg_names::{Field, Naming};
 
 /// A line of a listing. Its label is padded with blanks.
 #[derive(Clone, Copy, Debug, PartialEq, Eq)]
@@ -31,18 +34,22 @@ pub(crate) const NO_FACTS: Facts = Facts {
     size: None,
 };
 
-/// The rows of an image.
-pub(crate) const IMAGE: [Row; 9] = [
-    Row::Property(Key::Description, *b"  Description:  ", Text),
-    Row::Time(*b"  Created:      "),
-    Row::Property(Key::Kind, *b"  Type:         ", Name(Kinds)),
-    Row::Property(Key::Compression, *b"  Compression:  ", Name(Compressions)),
-    Row::Size(*b"  Data Size:    "),
-    Row::Property(Key::Arch, *b"  Architecture: ", Name(Architectures)),
-    Row::Property(Key::Os, *b"  OS:           ", Name(Systems)),
-    Row::Property(Key::Load, *b"  Load Address: ", Address),
-    Row::Property(Key::Entry, *b"  Entry Point:  ", Address),
-];
+/// The rows of an image, by a set of names.
+pub(crate) fn image_rows(naming: Naming) -> [Row; 9]
+    ensures { result ≡ image_rows naming }
+{
+    [
+        Row::Property(Key::Description, *b"  Description:  ", Text),
+        Row::Time(*b"  Created:      "),
+        Row::Property(Key::Kind, *b"  Type:         ", Name(naming, Field::Kind)),
+        Row::Property(Key::Compression, *b"  Compression:  ", Name(naming, Field::Compression)),
+        Row::Size(*b"  Data Size:    "),
+        Row::Property(Key::Arch, *b"  Architecture: ", Name(naming, Field::Architecture)),
+        Row::Property(Key::Os, *b"  OS:           ", Name(naming, Field::System)),
+        Row::Property(Key::Load, *b"  Load Address: ", Address),
+        Row::Property(Key::Entry, *b"  Entry Point:  ", Address),
+    ]
+}
 
 /// The rows of a hash node.
 pub(crate) const HASH: [Row; 2] = [

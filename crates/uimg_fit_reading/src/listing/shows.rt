@@ -1,25 +1,14 @@
 //! What values are printed as.
 
-/// A table of names that texts are looked up in.
-#[derive(Clone, Copy, Debug, PartialEq, Eq)]
-pub(crate) enum Table {
-    /// Image types.
-    Kinds,
-    /// Compressions.
-    Compressions,
-    /// Architectures.
-    Architectures,
-    /// Operating systems.
-    Systems,
-}
+use uimg_names::{Field, Naming};
 
 /// What the value of a property is printed as.
 #[derive(Clone, Copy, Debug, PartialEq, Eq)]
 pub(crate) enum Show {
     /// Its text.
     Text,
-    /// The printed name of what its text names.
-    Name(Table),
+    /// What the code of a field is called whose name is its text.
+    Name(Naming, Field),
     /// An address of one or two cells.
     Address,
     /// All its bytes in hexadecimal.

@@ -3,6 +3,7 @@ use std::alloc::{Allocator, Global};
 use std::io::Write;
 use uimg_base::{FuseSource, FuseWriter, MemSource, Out, Room, Source, Status};
 use uimg_legacy::{Fault, extract, list, verify};
+use uimg_names::Naming;
 
 /// What a command leaves.
 #[derive(Drop)]
@@ -25,7 +26,7 @@ fn position_of(command: &str) -> u32 {
     position
 }
 
-// Runs `list`, `verify` or `extract` of a position.
+// Runs `list` by the names of the profile or by all, `verify` or `extract` of a position.
 fn run<S: Source, A: Allocator, W: Write>(
     command: &str,
     source: &mut S,
@@ -33,7 +34,8 @@ fn run<S: Source, A: Allocator, W: Write>(
     out: &mut Out<W>,
 ) -> Result<Status, Fault> {
     match command {
-        "list" => list(source, room, out),
+        "list" => list(source, room, Naming::Profile, out),
+        "list by all names" => list(source, room, Naming::All, out),
         "verify" => verify(source, room, out),
         _ => extract(position_of(command), source, room, out),
     }

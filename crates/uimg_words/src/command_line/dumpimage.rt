@@ -5,6 +5,7 @@ use super::{WordsFault, flag, image, value};
 use clap::ArgMatches;
 use std::alloc::{AllocError, Global};
 use uimg_base::{FLAT_DT, kind_code};
+use uimg_names::Naming;
 use uimg_requests::{Action, Command, Format, RunRequest, decimal};
 
 pub(super) fn command<'a>(alloc: Global) -> Result<clap::Command<'a>, AllocError> {
@@ -44,7 +45,7 @@ pub(super) fn request<'a>(matches: &ArgMatches<'a>) -> Result<RunRequest<'a>, Wo
         None => Format::Guess,
     };
     let action = if list {
-        Action::List
+        Action::List(Naming::Profile)
     } else {
         Action::Extract(position(matches.get_str("position"))?)
     };

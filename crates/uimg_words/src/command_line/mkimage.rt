@@ -7,6 +7,7 @@ use std::alloc::{AllocError, Global};
 use uimg_base::{FLAT_DT, arch_code, comp_code, kind_code, os_code};
 use uimg_fit_base::Placement;
 use uimg_legacy::{Options, name_field};
+use uimg_names::Naming;
 use uimg_requests::{Action, Command, Format, MakeRequest, RunRequest, decimal, hexadecimal};
 
 pub(super) fn command<'a>(alloc: Global) -> Result<clap::Command<'a>, AllocError> {
@@ -87,7 +88,7 @@ pub(super) fn request<'a>(
     if matches.get_flag("list") {
         return Ok(Request::Run(RunRequest {
             command: Command {
-                action: Action::List,
+                action: Action::List(Naming::Profile),
                 format: Format::Guess,
             },
             image,

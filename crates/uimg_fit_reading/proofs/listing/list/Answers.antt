@@ -55,9 +55,9 @@ returns-in_err-put_head-clause-told g c = λ honest.
     let ends = no_end c.from_residual-in_err-put_head.result p.0 _ p.1 p.2 in
     let same = ap (λ (w : List ℕ). description_line (bytes_in w c.root_value-description.result) ++ created_line c.in_ok-time.time) after_cell ∙ head_is own c.in_ok-time.time (bytes_in file c.root_value-description.result) time text in
     let prefix = subst (λ (w : List ℕ). AppendsPrefix c.args.out.now c.put_head.new.out w) same (c.in_err-put_head.ensures.told honest_then).prefix in
-    subst (λ (e : Option (End Fault)). Tells e (list_of file) c.args.out.now c.put_head.new.out) (sym ends)
-    (subst (λ (o : Outcome Fault). AppendsPrefix c.args.out.now c.put_head.new.out o.text) (sym (list_is file t h.read.is))
-    (prefix_first c.args.out.now c.put_head.new.out (head_lines own) (lists file (spots t) (images (spots t))).text prefix))
+    subst (λ (e : Option (End Fault)). Tells e (list_of c.args.naming file) c.args.out.now c.put_head.new.out) (sym ends)
+    (subst (λ (o : Outcome Fault). AppendsPrefix c.args.out.now c.put_head.new.out o.text) (sym (list_is c.args.naming file t h.read.is))
+    (prefix_first c.args.out.now c.put_head.new.out (head_lines own) (lists c.args.naming file (spots t) (images (spots t))).text prefix))
 
 pub returns-clause-uses : goal.returns-clause-uses
 returns-clause-uses g c = record {
@@ -111,6 +111,6 @@ returns-clause-told g c = λ honest.
     let body = c.list_body.ensures.told t (record { honest = honest_last; read = read }) time in
     let same = ap (λ (w : List ℕ). description_line (bytes_in w c.root_value-description.result) ++ created_line c.in_ok-time.time) after_cell ∙ head_is own c.in_ok-time.time (bytes_in file c.root_value-description.result) time text in
     let all = subst (λ (w : List ℕ). AppendsAll c.args.out.now c.put_head.new.out w) same (c.in_ok-put_head.ensures.told honest_then).all in
-    let rest = subst (λ (w : List ℕ). Tells e (lists w (spots t) (images (spots t))) c.put_head.new.out c.list_body.new.out) after_head body.told in
-    subst (λ (o : Outcome Fault). Tells e o c.args.out.now c.list_body.new.out) (sym (list_is file t h.read.is))
-    (Tells-after e (lists file (spots t) (images (spots t))) c.args.out.now c.put_head.new.out c.list_body.new.out (head_lines own) all rest)
+    let rest = subst (λ (w : List ℕ). Tells e (lists c.args.naming w (spots t) (images (spots t))) c.put_head.new.out c.list_body.new.out) after_head body.told in
+    subst (λ (o : Outcome Fault). Tells e o c.args.out.now c.list_body.new.out) (sym (list_is c.args.naming file t h.read.is))
+    (Tells-after e (lists c.args.naming file (spots t) (images (spots t))) c.args.out.now c.put_head.new.out c.list_body.new.out (head_lines own) all rest)

@@ -17,7 +17,7 @@ returns-in_err-put_listed_nodes-clause-told g c = λ t o found at.
     let d = g.S.Source.device c.args.source.now in
     let m = g.S.Source.device c.put_listed_nodes.new.source in
     rw failed (cut_lists (sum_by node_allowance found) (configurations_allowance (configurations (spots t))) d m c.args.out.now c.put_listed_nodes.new.out
-    (numbered (image_lines d.bytes c.args.time) 0 found) (configurations_lines (configurations (spots t))) (c.in_err-put_listed_nodes.ensures.told t o found at))
+    (numbered (image_lines c.args.naming d.bytes c.args.time) 0 found) (configurations_lines (configurations (spots t))) (c.in_err-put_listed_nodes.ensures.told t o found at))
 
 pub returns-clause-told : goal.returns-clause-told
 returns-clause-told g c = λ t o found at.
@@ -29,4 +29,4 @@ returns-clause-told g c = λ t o found at.
     let here = still same c.put_listed_nodes.ensures.leaves.room o in
     let tail = c.put_configurations.ensures.told t here in
     then_lists e (sum_by node_allowance found) (configurations_allowance (configurations (spots t))) d m f c.args.out.now c.put_listed_nodes.new.out c.put_configurations.new.out
-    (numbered (image_lines d.bytes c.args.time) 0 found) (configurations_lines (configurations (spots t))) (c.in_ok-put_listed_nodes.ensures.told t o found at) tail
+    (numbered (image_lines c.args.naming d.bytes c.args.time) 0 found) (configurations_lines (configurations (spots t))) (c.in_ok-put_listed_nodes.ensures.told t o found at) tail

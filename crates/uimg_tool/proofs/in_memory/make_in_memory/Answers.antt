@@ -6,7 +6,7 @@ use Rattle.uimg_tool.proofs.in_memory.make_in_memory.Goals as goal
 
 pub returns-clause-made : goal.returns-clause-made
 returns-clause-made g c =
-    made_of_same _ _ _ _ _ c.make.result _ _ (ap (λ (m : FileMap). m.bytes) c.new.ensures) (c.make.ensures.made (search rules) refl (search rules))
+    made_of_same _ _ _ _ _ _ c.make.result _ _ (ap (λ (m : FileMap). m.bytes) c.new.ensures) (c.make.ensures.made (search rules) refl (search rules))
 
 pub returns-clause-missing : goal.returns-clause-missing
 returns-clause-missing g c =

@@ -1,13 +1,14 @@
-use Rattle.std.proofs.Common.{rules, ◌≡◌, ◌≤◌, ◌+◌, ◌*◌, ◌++◌, ℕ, List, true, false, refl, is_err, sym, subst, arith, append_assoc, codes}
-use Rattle.std.specs.List.{flat_map, sum_by}
+use Rattle.std.proofs.Common.{rules, ◌≡◌, ◌≤◌, ◌+◌, ◌*◌, ◌++◌, ℕ, List, true, false, refl, ap, is_err, sym, subst, arith, append_assoc, codes}
+use Rattle.std.specs.List.{flat_map, list_all, sum_by}
 use Rattle.uimg_blob.specs.Roles.{in_images}
 use Rattle.uimg_blob.specs.LookUps.{NodeOf, hashes}
 use Rattle.uimg_blob.specs.Spots.{Spot}
-use Rattle.uimg_fit_reading.specs.declared.listing.shows.Table.TheVariants.{Kinds, Compressions, Architectures, Systems}
+use Rattle.uimg_names.specs.declared.field.Field.TheVariants.{Architecture, System, Kind, Compression}
+use Rattle.uimg_names.specs.declared.naming.Naming.{Naming}
 use Rattle.uimg_fit_base.specs.Files.{bytes_of}
 use Rattle.uimg_fit_reading.specs.Allowances.{text_sizes, node_allowance}
 use Rattle.uimg_fit_reading.specs.Listing.{hash_lines}
-use Rattle.uimg_fit_reading.specs.Rows.{image_rows, row_cost, rows_lines, title}
+use Rattle.uimg_fit_reading.specs.Rows.{image_rows, keeps_row, row_cost, rows_lines, title}
 use Rattle.uimg_fit_reading.specs.Telling.{Lists}
 use Rattle.uimg_fit_reading.proofs.OpenedLaws.{still}
 use Rattle.uimg_fit_reading.proofs.RowLaws.{name_cost, address_cost}
@@ -16,13 +17,13 @@ use Rattle.uimg_fit_reading.proofs.TellingLaws.{then_lists, cut_lists, more_list
 use Rattle.uimg_fit_reading.proofs.listing.listed_nodes.put_known_image.Goals as goal
 
 -- an image's own lines ask for its description, and for 144 bytes at most of the rest
-image_paid : (found : NodeOf Spot) → 255 + sum_by (row_cost found.own) image_rows ≤ 748 + 4 * text_sizes found.own
-image_paid found =
+image_paid : (naming : Naming) (found : NodeOf Spot) → 255 + sum_by (row_cost found.own) (image_rows naming) ≤ 748 + 4 * text_sizes found.own
+image_paid naming found =
     let own = found.own in
-    let k1 = name_cost Kinds (bytes_of own (codes "type")) in
-    let k2 = name_cost Compressions (bytes_of own (codes "compression")) in
-    let k3 = name_cost Architectures (bytes_of own (codes "arch")) in
-    let k4 = name_cost Systems (bytes_of own (codes "os")) in
+    let k1 = name_cost naming Kind (bytes_of own (codes "type")) in
+    let k2 = name_cost naming Compression (bytes_of own (codes "compression")) in
+    let k3 = name_cost naming Architecture (bytes_of own (codes "arch")) in
+    let k4 = name_cost naming System (bytes_of own (codes "os")) in
     let k5 = address_cost (bytes_of own (codes "load")) in
     let k6 = address_cost (bytes_of own (codes "entry")) in
     omega (arith, one_text own (codes "description") refl, k1, k2, k3, k4, k5, k6)
@@ -30,21 +31,23 @@ image_paid found =
 pub returns-in_err-put_node-clause-told : goal.returns-in_err-put_node-clause-told
 returns-in_err-put_node-clause-told g c = λ t o found n.
     let failed : is_err c.from_residual.result ≡ true = search rules in
+    let known = c.image_rows-rows.ensures in
     let d = g.S.Source.device c.args.source.now in
     let m = g.S.Source.device c.put_node.new.source in
-    let head = more_lists true _ (748 + 4 * text_sizes found.own) d m c.args.out.now c.put_node.new.out _ (image_paid found) (c.in_err-put_node.ensures.told t o in_images found n refl) in
+    let head = more_lists true _ (748 + 4 * text_sizes found.own) d m c.args.out.now c.put_node.new.out _ (image_paid c.args.naming found) (rw known at (c.in_err-put_node.ensures.told t o in_images found n (ap (list_all (keeps_row in_images found.name)) known))) in
     rw failed (subst (λ (w : List ℕ). Lists true (748 + 4 * text_sizes found.own + sum_by node_allowance (hashes found)) d m c.args.out.now c.put_node.new.out w)
-    (append_assoc (title (codes " Image ") c.args.number found.name) (rows_lines c.args.facts found.own image_rows) (flat_map hash_lines (hashes found)))
+    (append_assoc (title (codes " Image ") c.args.number found.name) (rows_lines c.args.facts found.own (image_rows c.args.naming)) (flat_map hash_lines (hashes found)))
     (cut_lists _ _ _ _ _ _ _ (flat_map hash_lines (hashes found)) head))
 
 pub returns-clause-told : goal.returns-clause-told
 returns-clause-told g c = λ t o found n.
+    let known = c.image_rows-rows.ensures in
     let d = g.S.Source.device c.args.source.now in
     let m = g.S.Source.device c.put_node.new.source in
     let f = g.S.Source.device c.put_hashes.new.source in
     let here = still c.put_node.ensures.leaves.uses.same c.put_node.ensures.leaves.room o in
-    let head = more_lists false _ (748 + 4 * text_sizes found.own) d m c.args.out.now c.put_node.new.out _ (image_paid found) (c.in_ok-put_node.ensures.told t o in_images found n refl) in
+    let head = more_lists false _ (748 + 4 * text_sizes found.own) d m c.args.out.now c.put_node.new.out _ (image_paid c.args.naming found) (rw known at (c.in_ok-put_node.ensures.told t o in_images found n (ap (list_all (keeps_row in_images found.name)) known))) in
     let tail = c.put_hashes.ensures.told t here (hashes found) (c.first_hash.ensures.hashes t here.read.indexed found n) in
     subst (λ (w : List ℕ). Lists (is_err c.put_hashes.result) (748 + 4 * text_sizes found.own + sum_by node_allowance (hashes found)) d f c.args.out.now c.put_hashes.new.out w)
-    (append_assoc (title (codes " Image ") c.args.number found.name) (rows_lines c.args.facts found.own image_rows) (flat_map hash_lines (hashes found)))
+    (append_assoc (title (codes " Image ") c.args.number found.name) (rows_lines c.args.facts found.own (image_rows c.args.naming)) (flat_map hash_lines (hashes found)))
     (then_lists (is_err c.put_hashes.result) _ _ _ _ _ _ _ _ _ _ head tail)

@@ -2,11 +2,11 @@ use Rattle.std.proofs.Common.{ℕ, Option, sym, ◌∙◌, subst}
 use Rattle.uimg_texts.specs.Nul.{text}
 use Rattle.uimg_texts.specs.Slices.{slice}
 use Rattle.uimg_blob.specs.Texts.{GivesShort}
-use Rattle.uimg_fit_reading.proofs.ShowLaws.{longer_unknown}
+use Rattle.uimg_names.proofs.LengthLaws.{longer_unknown}
 use Rattle.uimg_fit_reading.proofs.listing.names.long_name.Goals as goal
 
 pub returns-in-None-clause-name : goal.returns-in-None-clause-name
 returns-in-None-clause-name g c = λ honest.
     let value = text (slice (g.S.Source.device c.args.source.now).bytes c.args.span.place c.args.span.length) in
     let long = subst (λ (o : Option ℕ). GivesShort value o c.short_text.new.to) c.in-None.is (c.in_ok-length.ensures.text honest) in
-    c.unknown_name.ensures ∙ sym (longer_unknown c.args.table value long)
+    c.unknown.ensures ∙ sym (longer_unknown c.args.naming c.args.field value long)

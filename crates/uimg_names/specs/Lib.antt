@@ -1,0 +1,2 @@
+pub mod AllNames
+pub mod Naming
