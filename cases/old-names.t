@@ -130,7 +130,7 @@ Listing and unpacking:
   mkimage: d: L1 too short
   [1]
   $ dumpimage -l nothing
-  dumpimage: cannot read nothing
+  dumpimage: cannot read nothing: No such file or directory (os error 2)
   [3]
 
 What is asked for in vain:
@@ -150,8 +150,8 @@ What is asked for in vain:
   $ mkimage -F inside
   mkimage: -F: uimg signs nothing; see mkimage -F of u-boot-tools, which signs an image that is made
   [2]
-  $ mkimage -f auto -d d out
-  mkimage: -f: uimg makes no image source; see mkimage of u-boot-tools
+  $ mkimage -f auto out
+  mkimage: -f auto: no data is named; see -d
   [2]
   $ mkimage -x -d d out
   mkimage: -x: uimg makes no image that is run in its place; see mkimage of u-boot-tools
@@ -228,7 +228,7 @@ The outfile gets its name when it is whole, by a link too, and what stood there 
   mkimage: out: L9 empty part
   [1]
   $ cat out; mkimage -q -A arm -d nothing out
-  beforemkimage: cannot read nothing
+  beforemkimage: cannot read nothing: No such file or directory (os error 2)
   [3]
   $ cat out; ls out*
   beforeout

@@ -4,7 +4,7 @@ use crate::c_numbers::{low_half, unsigned_long};
 use crate::fault::OldFault;
 use crate::getopt::{Given, OptionRow, Words};
 use crate::helps::DUMPIMAGE_HELP;
-use crate::names::{Named, format_of, name_of};
+use crate::names::{Named, check_kind, format_of, name_of};
 use crate::request::{OldRequest, Show};
 use std::alloc::Global;
 use uimg_names::{Field, Naming};
@@ -64,7 +64,10 @@ impl<'a> Settings<'a> {
             Given::Value('T', word) => {
                 match name_of(alloc, Field::Kind, word)? {
                     Named::List => return Ok(Some(Show::Names(Field::Kind))),
-                    Named::Code(code) => self.kind = Some(code),
+                    Named::Code(code) => {
+                        check_kind(code, word)?;
+                        self.kind = Some(code);
+                    }
                 }
             }
             _ => {}

@@ -56,6 +56,10 @@ pub enum OldFault<'a> {
     #[error("-d is given with -f")]
     DataWithSource,
 
+    /// A source is to be made of no data.
+    #[error("-f auto: no data is named; see -d")]
+    NoData,
+
     /// flat_dt is asked for without a source.
     #[error("-T flat_dt: a FIT image is made by -f")]
     NoSource,

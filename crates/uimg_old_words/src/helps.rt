@@ -7,6 +7,7 @@ Usage: mkimage -l [-T type] image
        mkimage -d file[:file...] [-A arch] [-O os] [-T type] [-C comp]
                [-a address] [-e address] [-n name] image
        mkimage -f source.its [-E] [-p position] image
+       mkimage -f auto -d file [-b tree].. [-i ramdisk] [as above] image
 
   -l  --list            list the image, and make none
   -d  --image           the data's file; for multi and script several
@@ -18,7 +19,10 @@ Usage: mkimage -l [-T type] image
   -e  --entry-point     the entry point, hexadecimal [the load address]
   -n  --config          the image's name
   -s  --no-copy         make the image without data
-  -f  --fit             the image source of a FIT image
+  -f  --fit             the image source of a FIT image; auto is one of the file of
+                        -d, with -A to -n, and of the files of -b and -i
+  -b  --device-tree     with -f auto: a device tree; there may be several
+  -i  --initramfs       with -f auto: the RAM disk
   -E  --external        with -f: place the data after the tree
   -p  --position        with -E: place the data at this position, hexadecimal
   -q  --quiet           print no listing
@@ -26,9 +30,9 @@ Usage: mkimage -l [-T type] image
   -V  --version         print the version
 
 Taken without effect: -v, -t, -c comment, -R name, -B 4, and -D with words that
-change nothing. Refused: -x, -f auto with -b and -i, another -B, and what signs
-(-F -g -G -k -K -N -o -r). The image is written under a name of its own, and
-gets its name when it is whole. See uimg-mkimage(1).
+change nothing. Refused: -x, another -B, and what signs (-F -g -G -k -K -N -o
+-r). The image is written under a name of its own, and gets its name when it is
+whole. See uimg-mkimage(1).
 ";
 
 /// The help of dumpimage.

@@ -1,6 +1,7 @@
 //! The command lines of mkimage and dumpimage 2023.01: what their words ask for.
 #![tactic(auto)]
 
+mod auto_source;
 mod c_numbers;
 mod dtc_words;
 mod dumpimage;
@@ -11,12 +12,14 @@ mod mkimage;
 mod mkimage_options;
 mod names;
 mod nearest;
+mod quoted;
 mod request;
 
+pub use auto_source::{AutoSource, TreePaths};
 pub use c_numbers::{long_prefix, low_half, unsigned_long};
 pub use dumpimage::read_dumpimage;
 pub use fault::OldFault;
 pub use getopt::{Given, Misuse, OptionRow, Words};
 pub use mkimage::read_mkimage;
 pub use names::title_of;
-pub use request::{OldRequest, Show};
+pub use request::{AutoRequest, OldRequest, Show};

@@ -1,19 +1,23 @@
 //! The words of mkimage.
 
+use crate::auto_source::AutoSource;
 use crate::c_numbers::{long_prefix, low_half, unsigned_long};
 use crate::dtc_words::change_nothing;
 use crate::fault::OldFault;
 use crate::getopt::{Given, Words};
 use crate::helps::MKIMAGE_HELP;
 use crate::mkimage_options::MKIMAGE_OPTIONS;
-use crate::names::{Named, format_of, name_of};
-use crate::request::{OldRequest, Show};
+use crate::names::{Named, check_kind, format_of, name_of};
+use crate::request::{AutoRequest, OldRequest, Show};
 use std::alloc::Global;
 use uimg_base::FLAT_DT;
 use uimg_fit_base::Placement;
 use uimg_legacy::{Options, name_field};
 use uimg_names::{Field, Naming};
 use uimg_requests::{Action, Command, MakeRequest, RunRequest};
+
+/// The word of -f for a source that mkimage makes itself.
+const AUTO: &str = "auto";
 
 /// The path whose file has no data, of which an image is made where none is to be copied.
 const NO_DATA: &str = "/dev/null";
@@ -24,12 +28,14 @@ struct Settings<'a> {
     arch: u8,
     os: u8,
     kind: Option<u8>,
+    kind_name: &'a str,
     comp: u8,
     load: u32,
     entry: Option<u32>,
     name: &'a str,
     data: Option<&'a str>,
     source: Option<&'a str>,
+    ramdisk: Option<&'a str>,
     image: Option<&'a str>,
     position: u32,
     is_external: bool,
@@ -50,12 +56,14 @@ pub fn read_mkimage<'a>(
         arch: 7,
         os: 5,
         kind: None,
+        kind_name: "",
         comp: 1,
         load: 0,
         entry: None,
         name: "",
         data: None,
         source: None,
+        ramdisk: None,
         image: None,
         position: 0,
         is_external: false,
@@ -63,13 +71,13 @@ pub fn read_mkimage<'a>(
         is_quiet: false,
         has_no_data: false,
     };
-    let mut words = Words::new(words);
-    while let Some(given) = words.take(&MKIMAGE_OPTIONS)? {
+    let mut unread = Words::new(words);
+    while let Some(given) = unread.take(&MKIMAGE_OPTIONS)? {
         if let Some(show) = settings.take(alloc, given)? {
             return Ok(OldRequest::Show(show));
         }
     }
-    settings.request(alloc, epoch, now)
+    settings.request(alloc, words, epoch, now)
 }
 
 impl<'a> Settings<'a> {
@@ -123,10 +131,8 @@ impl<'a> Settings<'a> {
             'p' => self.position = address('p', value)?,
             'n' => self.name = value,
             'd' => self.data = Some(value),
-            'f' if value != "auto" => self.source = Some(value),
-            'f' => return Err(makes_no_source('f')),
-            'b' => return Err(makes_no_source('b')),
-            'i' => return Err(makes_no_source('i')),
+            'f' => self.source = Some(value),
+            'i' => self.ramdisk = Some(value),
             'B' => check_alignment(value)?,
             'D' => check_dtc_words(value)?,
             'g' | 'G' | 'k' | 'K' | 'N' | 'o' => return Err(OldFault::Signs(option)),
@@ -148,7 +154,10 @@ impl<'a> Settings<'a> {
         match field {
             Field::Architecture => self.arch = code,
             Field::System => self.os = code,
-            Field::Kind => self.kind = Some(code),
+            Field::Kind => {
+                self.kind = Some(code);
+                self.kind_name = word;
+            }
             Field::Compression => self.comp = code,
         }
         Ok(None)
@@ -158,6 +167,7 @@ impl<'a> Settings<'a> {
     fn request(
         self,
         alloc: Global,
+        words: &'a [&'a str],
         epoch: Option<&str>,
         now: u32,
     ) -> Result<OldRequest<'a>, OldFault<'a>> {
@@ -165,27 +175,43 @@ impl<'a> Settings<'a> {
             return Err(OldFault::NoImage);
         };
         if self.is_list {
-            return Ok(OldRequest::Run {
-                request: RunRequest {
-                    command: Command {
-                        action: Action::List(Naming::All),
-                        format: format_of(self.kind),
-                    },
-                    image,
-                    outfile: None,
-                    written: None,
-                },
-                is_quiet: self.is_quiet,
-            });
+            return self.listing(image);
         }
         let time = match epoch {
             Some(text) => long_prefix(text).ok_or(OldFault::BadEpoch)?,
             None => now,
         };
         let is_quiet = self.is_quiet;
+        if self.source == Some(AUTO) {
+            return Ok(OldRequest::MakeAuto(AutoRequest {
+                source: self.auto_source(words)?,
+                placement: self.placement(),
+                time,
+                outfile: image,
+                is_quiet,
+            }));
+        }
+        check_kind(self.kind.unwrap_or(0), self.kind_name)?;
         let mut request = self.making(alloc, image, time)?;
         request.naming = Naming::All;
         Ok(OldRequest::Make { request, is_quiet })
+    }
+
+    fn listing(self, image: &'a str) -> Result<OldRequest<'a>, OldFault<'a>> {
+        check_kind(self.kind.unwrap_or(0), self.kind_name)?;
+        let command = Command {
+            action: Action::List(Naming::All),
+            format: format_of(self.kind),
+        };
+        Ok(OldRequest::Run {
+            request: RunRequest {
+                command,
+                image,
+                outfile: None,
+                written: None,
+            },
+            is_quiet: self.is_quiet,
+        })
     }
 
     fn making(
@@ -207,6 +233,19 @@ impl<'a> Settings<'a> {
                 Ok(MakeRequest::of_parts(alloc, self.options(), data, time, image)?)
             }
         }
+    }
+
+    fn auto_source(&self, words: &'a [&'a str]) -> Result<AutoSource<'a>, OldFault<'a>> {
+        let Some(data) = self.data else {
+            return Err(OldFault::NoData);
+        };
+        Ok(AutoSource {
+            options: self.options(),
+            name: self.name,
+            data,
+            ramdisk: self.ramdisk,
+            words,
+        })
     }
 
     fn placement(&self) -> Placement {
@@ -267,11 +306,4 @@ fn check_dtc_words(words: &str) -> Result<(), OldFault<'_>> {
         letter: 'D',
         what: "takes no words for dtc but -I dts, -O dtb, -q and -p with a number",
     })
-}
-
-fn makes_no_source(letter: char) -> OldFault<'static> {
-    OldFault::NotDone {
-        letter,
-        what: "makes no image source",
-    }
 }

@@ -50,7 +50,6 @@ pub(crate) fn name_of<'a>(
         return Ok(Named::List);
     }
     match Naming::All.code_named(field, word.as_bytes()) {
-        Some(code) if field == Field::Kind && !is_made(code) => Err(OldFault::OtherImages(word)),
         Some(code) => Ok(Named::Code(code)),
         None => Err(unknown_name(alloc, field, word)?),
     }
@@ -78,9 +77,12 @@ fn unknown_name<'a>(
     })
 }
 
-// Whether images of a type are legacy ones or FITs.
-fn is_made(kind: u8) -> bool {
-    kind <= FLAT_DT || kind == KERNEL_NOLOAD
+/// Refuses a type, by its name, whose images are neither legacy ones nor FITs.
+pub(crate) fn check_kind(kind: u8, name: &str) -> Result<(), OldFault<'_>> {
+    if kind <= FLAT_DT || kind == KERNEL_NOLOAD {
+        return Ok(());
+    }
+    Err(OldFault::OtherImages(name))
 }
 
 /// The format of the images of a type. The type `invalid` is as none.

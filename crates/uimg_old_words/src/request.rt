@@ -1,5 +1,7 @@
 //! What a command line asks for.
 
+use crate::auto_source::AutoSource;
+use uimg_fit_base::Placement;
 use uimg_names::Field;
 use uimg_requests::{MakeRequest, RunRequest};
 
@@ -18,8 +20,30 @@ pub enum OldRequest<'a> {
         is_quiet: bool,
     },
 
+    /// The making of a FIT image of the source that mkimage makes itself.
+    MakeAuto(AutoRequest<'a>),
+
     /// A text.
     Show(Show),
+}
+
+/// The making of a FIT image of the source that mkimage makes itself.
+#[derive(Clone, Copy, Debug)]
+pub struct AutoRequest<'a> {
+    /// The source.
+    pub source: AutoSource<'a>,
+
+    /// Where the payloads stand.
+    pub placement: Placement,
+
+    /// The time of the making, in seconds since 1970.
+    pub time: u32,
+
+    /// The path of the image.
+    pub outfile: &'a str,
+
+    /// Whether no listing is printed.
+    pub is_quiet: bool,
 }
 
 /// A text that is asked for.

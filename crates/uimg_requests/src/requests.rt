@@ -1,6 +1,6 @@
 //! What a command line asks for, with the paths that it names.
 
-ghost use Rattle.std.specs.Prelude.{◌≡◌, ◌++◌, IfOk};
+ghost use Rattle.std.specs.Prelude.{◌≡◌, ◌++◌, [], IfOk};
 ghost use Rattle.uimg_requests.specs.Names.{names_of};
 ghost use Rattle.uimg_requests.specs.Requests.{AsksParts, AsksSource};
 ghost use Rattle.uimg_requests.specs.Commands.{HasFitNames, has_fit_names_prop};
@@ -64,16 +64,16 @@ impl<'a> MakeRequest<'a> {
     pub fn of_parts(
         alloc: Global,
         options: Options,
-        data: &str,
+        word: &str,
         time: u32,
         outfile: &'a str,
     ) -> Result<MakeRequest<'a>, AllocError>
         ensures asks { IfOk result (λ request. AsksParts request.command options
-            (names_of options.kind data.now)) }
+            (names_of options.kind word.now)) }
         ensures time { IfOk result (λ request. request.time ≡ time) }
         ensures written { IfOk result (λ request. request.written.now ≡ outfile.entry.now) }
     {
-        let files = file_names(alloc, options.kind, data)?;
+        let files = file_names(alloc, options.kind, word)?;
         Ok(MakeRequest {
             command: MakeCommand::Parts { options, files },
             time,
@@ -108,6 +108,32 @@ impl<'a> MakeRequest<'a> {
             naming: Naming::Profile,
             source: path,
             folder,
+            outfile,
+            written: outfile,
+        })
+    }
+
+    /// The same, but the folder of its files is the current one, wherever the source is.
+    pub fn of_source_here(
+        alloc: Global,
+        path: &'a str,
+        placement: Placement,
+        time: u32,
+        outfile: &'a str,
+    ) -> Result<MakeRequest<'a>, AllocError>
+        ensures asks { IfOk result (λ request. AsksSource request.command request.folder.now
+            path.entry.now placement) }
+        ensures folder { IfOk result (λ request. request.folder.now ≡ []) }
+        ensures time { IfOk result (λ request. request.time ≡ time) }
+        ensures written { IfOk result (λ request. request.written.now ≡ outfile.entry.now) }
+    {
+        let source = Vec::from_slice(alloc, path.as_bytes())?;
+        Ok(MakeRequest {
+            command: MakeCommand::Tree { source, placement },
+            time,
+            naming: Naming::Profile,
+            source: path,
+            folder: "",
             outfile,
             written: outfile,
         })

@@ -1,6 +1,7 @@
 //! The program uimg as a function of words, streams and files.
 #![tactic(auto)]
 
+mod auto_program;
 mod disk_files;
 mod engine;
 mod fault;

@@ -1,5 +1,6 @@
 //! The program by the names of mkimage and dumpimage.
 
+use crate::auto_program::make_auto;
 use crate::fault::Fault;
 use crate::main_program::{DONE, FAILED, REFUSED, RequestFault, WRONG_LINE, carry_out, status_of};
 use crate::old_tools::Tool;
@@ -39,6 +40,7 @@ pub(crate) fn program_by_old_name<R: Files + AllocGlobal, W: Write, V: Write>(
         Ok(OldRequest::Make { request, is_quiet }) => {
             make_image(rt, tool, request, is_quiet, out, err)
         }
+        Ok(OldRequest::MakeAuto(request)) => make_auto(rt, tool, &request, out, err),
         Ok(OldRequest::Show(show)) => show_text(tool, show, out, err),
         Err(OldFault::OutOfMemory) => tell(tool, err, &OldFault::OutOfMemory, FAILED),
         Err(fault) => tell(tool, err, &fault, WRONG_LINE),
@@ -77,7 +79,7 @@ fn run_in_place<R: Files + AllocGlobal, W: Write, V: Write>(
     let image = request.image;
     let request = Request::Run(request);
     let end = carry_out_by(rt, &request, is_quiet, out);
-    tell_end(tool, &end, image, err)
+    tell_end(rt, tool, &end, image, err)
 }
 
 fn run_beside<'a, R: Files + AllocGlobal, W: Write, V: Write>(
@@ -95,8 +97,8 @@ fn run_beside<'a, R: Files + AllocGlobal, W: Write, V: Write>(
     tell_written(rt, tool, path, &end, image, err)
 }
 
-// Makes an image beside its name, which it gets when it is whole.
-fn make_image<R: Files + AllocGlobal, W: Write, V: Write>(
+/// Makes an image beside its name, which it gets when it is whole.
+pub(crate) fn make_image<R: Files + AllocGlobal, W: Write, V: Write>(
     rt: &R,
     tool: Tool,
     request: MakeRequest<'_>,
@@ -109,7 +111,7 @@ fn make_image<R: Files + AllocGlobal, W: Write, V: Write>(
             let outfile = request.outfile;
             let request = Request::Make(request);
             let end = carry_out_by(rt, &request, is_quiet, out);
-            tell_end(tool, &end, outfile, err)
+            tell_end(rt, tool, &end, outfile, err)
         }
         Ok(Writing::Beside(path)) => make_beside(rt, tool, request, &path, is_quiet, out, err),
         Ok(Writing::Nowhere) => {
@@ -155,14 +157,14 @@ fn tell_written<R: Files, V: Write>(
 ) -> u8 {
     let is_whole = end.is_ok();
     if is_whole && fs::rename(rt, path.new.as_str(), path.whole.as_str()).is_ok() {
-        return tell_end(tool, end, about, err);
+        return tell_end(rt, tool, end, about, err);
     }
     let _ = fs::remove_file(rt, path.new.as_str());
     if is_whole {
         let whole = path.whole.as_str();
         return tell(tool, err, &RequestFault::CannotWrite(whole), FAILED);
     }
-    tell_end(tool, end, about, err)
+    tell_end(rt, tool, end, about, err)
 }
 
 // Carries out a request, of which a quiet one prints nothing.
@@ -180,7 +182,8 @@ fn carry_out_by<'a, R: Files + AllocGlobal, W: Write>(
 }
 
 // The status of an end, whose fault is told with the path that it is about.
-fn tell_end<V: Write>(
+fn tell_end<R: Files, V: Write>(
+    rt: &R,
     tool: Tool,
     end: &Result<Status, RequestFault<'_>>,
     path: &str,
@@ -193,12 +196,25 @@ fn tell_end<V: Write>(
             let _ = writeln!(err, "{}: {path}: {fault}", tool.name());
             status_of(&RequestFault::Stopped(*fault))
         }
+        Err(RequestFault::CannotRead(path)) => tell_unread(rt, tool, path, err),
         Err(fault) => tell(tool, err, fault, status_of(fault)),
     }
 }
 
-// The line of a fault. It answers the status; a failed write changes nothing.
-fn tell<V: Write, D: Display>(tool: Tool, err: &mut V, fault: &D, status: u8) -> u8 {
+/// The line of a file that could not be opened to be read, with the reason that the operating system
+/// gives when it is opened once more.
+pub(crate) fn tell_unread<R: Files, V: Write>(rt: &R, tool: Tool, path: &str, err: &mut V) -> u8 {
+    match fs::open(rt, path) {
+        Ok(_) => tell(tool, err, &RequestFault::CannotRead(path), FAILED),
+        Err(reason) => {
+            let _ = writeln!(err, "{}: cannot read {path}: {reason}", tool.name());
+            FAILED
+        }
+    }
+}
+
+/// The line of a fault. It answers the status; a failed write changes nothing.
+pub(crate) fn tell<V: Write, D: Display>(tool: Tool, err: &mut V, fault: &D, status: u8) -> u8 {
     let _ = writeln!(err, "{}: {fault}", tool.name());
     status
 }

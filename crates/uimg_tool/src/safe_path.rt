@@ -49,8 +49,8 @@ pub(crate) fn writing_of<R: Files + AllocGlobal>(
     }
 }
 
-// A path beside another at which nothing is.
-fn unused_beside<R: Files + AllocGlobal>(rt: &R, path: &str) -> Result<Option<String>, AllocError> {
+/// A path beside another at which nothing is. Memory for it may be refused.
+pub(crate) fn unused_beside<R: Files + AllocGlobal>(rt: &R, path: &str) -> Result<Option<String>, AllocError> {
     for number in 1..=TRIED {
         let beside = format!(in rt.alloc(); "{path}.uimg-new{number}")?;
         if fs::symlink_metadata(rt, beside.as_str()).is_err() {

@@ -1,0 +1,98 @@
+//! The making of a FIT image of the source that mkimage makes itself.
+
+use crate::main_program::{FAILED, RequestFault};
+use crate::old_program::{make_image, tell, tell_unread};
+use crate::old_tools::Tool;
+use crate::safe_path::unused_beside;
+use std::fs;
+use std::io::{BufWriter, Write};
+use std::rt::Files;
+use uimg_base::FileSource;
+use uimg_names::Naming;
+use uimg_old_words::{AutoRequest, AutoSource, OldFault};
+use uimg_requests::MakeRequest;
+
+/// Makes the image of a request. The text of its source stands beside the image while that is made.
+pub(crate) fn make_auto<R: Files + AllocGlobal, W: Write, V: Write>(
+    rt: &R,
+    tool: Tool,
+    request: &AutoRequest<'_>,
+    out: &mut W,
+    err: &mut V,
+) -> u8 {
+    if let Some(path) = unread_file(rt, &request.source) {
+        return tell_unread(rt, tool, path, err);
+    }
+    match unused_beside(rt, request.outfile) {
+        Ok(Some(path)) => {
+            let status = make_of_text(rt, tool, request, path.as_str(), out, err);
+            let _ = fs::remove_file(rt, path.as_str());
+            status
+        }
+        Ok(None) => {
+            let path = request.outfile;
+            tell(tool, err, &RequestFault::CannotWrite(path), FAILED)
+        }
+        Err(_) => tell(tool, err, &OldFault::OutOfMemory, FAILED),
+    }
+}
+
+// Makes the image of a source whose text is written at a path.
+fn make_of_text<R: Files + AllocGlobal, W: Write, V: Write>(
+    rt: &R,
+    tool: Tool,
+    request: &AutoRequest<'_>,
+    path: &str,
+    out: &mut W,
+    err: &mut V,
+) -> u8 {
+    if !has_written(rt, path, &request.source) {
+        return tell(tool, err, &RequestFault::CannotWrite(path), FAILED);
+    }
+    let made = MakeRequest::of_source_here(
+        rt.alloc(),
+        path,
+        request.placement,
+        request.time,
+        request.outfile,
+    );
+    match made {
+        Ok(mut making) => {
+            making.naming = Naming::All;
+            make_image(rt, tool, making, request.is_quiet, out, err)
+        }
+        Err(_) => tell(tool, err, &OldFault::OutOfMemory, FAILED),
+    }
+}
+
+// The first path that a source names whose file cannot be opened: the data, a device tree or the RAM
+// disk.
+fn unread_file<'a, R: Files + AllocGlobal>(rt: &R, source: &AutoSource<'a>) -> Option<&'a str> {
+    if FileSource::open(rt, source.data).is_err() {
+        return Some(source.data);
+    }
+    let mut trees = source.trees();
+    while let Some(path) = trees.take() {
+        if FileSource::open(rt, path).is_err() {
+            return Some(path);
+        }
+    }
+    match source.ramdisk {
+        Some(path) if FileSource::open(rt, path).is_err() => Some(path),
+        _ => None,
+    }
+}
+
+// Writes the text of a source as the file at a path. Whether it is whole.
+fn has_written<R: Files + AllocGlobal>(rt: &R, path: &str, source: &AutoSource<'_>) -> bool {
+    let Ok(mut file) = fs::File::create_new(rt, path) else {
+        return false;
+    };
+    let Ok(mut gathered) = BufWriter::new(rt.alloc(), &mut file) else {
+        return false;
+    };
+    let is_whole = write!(gathered, "{source}").is_ok() && gathered.flush().is_ok();
+    // A failed write leaves text in it, and its drop would try once more to write that.
+    let (_, _) = gathered.into_parts();
+    is_whole
+}
