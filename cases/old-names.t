@@ -63,6 +63,9 @@ Names and codes that the profile leaves out:
    04 07 02 04
   $ codes -A powerpc -O invalid -T script
    00 07 06 01
+  $ mkimage -l out | grep Type; uimg mkimage -l out | grep Type
+  Image Type:   PowerPC Invalid OS Script (gzip compressed)
+  Image Type:   PowerPC Unknown OS Script (gzip compressed)
 
 Addresses at their ends, an image without data, and an image of several parts:
 
@@ -112,6 +115,70 @@ FIT images:
   $ mkimage -qEfkernel.its out && cmp out outside
   $ mkimage -q -f kernel.its -E -p 1000 out && dumpimage -p0 -o part out && cmp part abc.bin
   $ dumpimage -T flat_dt -o part out && cmp part abc.bin && dumpimage -lT FLAT_DT inside | cmp - listing
+
+The source that mkimage makes itself, by a file and by the image that is made of it:
+
+  $ printf tree > my.board.dtb && printf ram > ram
+  $ cat > auto.its <<'END'
+  > /dts-v1/;
+  > / {
+  >     description = "Firmware image with one or more FDT blobs";
+  >     creator = "U-Boot mkimage 2023.01";
+  >     #address-cells = <1>;
+  >     images {
+  >         firmware-1 {
+  >             description = "U-Boot \"2023.01\"";
+  >             type = "firmware"; arch = "arm"; os = "u-boot"; compression = "none";
+  >             load = <0x87800000>; entry = <0x87800000>;
+  >             data = /incbin/("d");
+  >             hash-1 { algo = "crc32"; };
+  >         };
+  >         fdt-1 {
+  >             description = "my.board"; data = /incbin/("my.board.dtb");
+  >             type = "flat_dt"; arch = "arm"; compression = "none";
+  >             hash-1 { algo = "crc32"; };
+  >         };
+  >         fdt-2 {
+  >             description = "abc"; data = /incbin/("abc.bin");
+  >             type = "flat_dt"; arch = "arm"; compression = "none";
+  >             hash-1 { algo = "crc32"; };
+  >         };
+  >         ramdisk-1 {
+  >             type = "ramdisk"; os = "u-boot"; arch = "arm"; data = /incbin/("ram");
+  >             hash-1 { algo = "crc32"; };
+  >         };
+  >     };
+  >     configurations {
+  >         default = "conf-1";
+  >         conf-1 {
+  >             description = "my.board"; firmware = "firmware-1"; loadables = "firmware-1";
+  >             ramdisk = "ramdisk-1"; fdt = "fdt-1";
+  >         };
+  >         conf-2 {
+  >             description = "abc"; firmware = "firmware-1"; loadables = "firmware-1";
+  >             ramdisk = "ramdisk-1"; fdt = "fdt-2";
+  >         };
+  >     };
+  > };
+  > END
+  $ uimg mkimage -f auto.its -E by-hand > listing
+  $ auto() { mkimage -f auto -A arm -T firmware -C none -O u-boot -a 87800000 -n 'U-Boot "2023.01"' "$@"; }
+  $ mkdir made && auto -E -b ./my.board.dtb -b abc.bin -i ram -d d made/out | cmp - listing && cmp made/out by-hand; ls made
+  out
+  $ auto -q -d nothing made/out
+  mkimage: cannot read nothing: No such file or directory (os error 2)
+  [3]
+  $ auto -q -d d -b nothing made/out
+  mkimage: cannot read nothing: No such file or directory (os error 2)
+  [3]
+  $ auto -q -d made/out made/out
+  mkimage: made/out would be written while it is read
+  [2]
+  $ auto -q -d d none/out
+  mkimage: cannot write none/out.uimg-new1
+  [3]
+  $ cmp made/out by-hand; ls made
+  out
 
 Listing and unpacking:
 

@@ -11,7 +11,7 @@ use std::fmt::{Display, Formatter, Write};
 use uimg_legacy::Options;
 use uimg_names::{Field, Naming};
 
-/// The most letters of a device tree's description.
+/// The most bytes of a device tree's description.
 const LONGEST: usize = 99;
 
 /// The image source that mkimage 2023.01 makes of a file, of device trees and of a RAM disk. What it
@@ -59,19 +59,33 @@ impl<'a> AutoSource<'a> {
         let arch = short_name(Field::Architecture, options.arch);
         let os = short_name(Field::System, options.os);
         let comp = short_name(Field::Compression, options.comp);
-        let (name, data) = (Quoted(self.name), Quoted(self.data));
+        let name = Quoted(self.name.as_bytes());
+        let data = Quoted(self.data.as_bytes());
         let (load, entry) = (options.load, options.ep);
         write!(f, "{kind}-1 {{ description = {name}; type = \"{kind}\"; ")?;
-        write!(f, "arch = \"{arch}\"; os = \"{os}\"; compression = \"{comp}\";\n")?;
-        write!(f, "load = <{load}>; entry = <{entry}>; data = /incbin/({data});\n")?;
+        write!(
+            f,
+            "arch = \"{arch}\"; os = \"{os}\"; compression = \"{comp}\";\n"
+        )?;
+        write!(
+            f,
+            "load = <{load}>; entry = <{entry}>; data = /incbin/({data});\n"
+        )?;
         f.write_str("hash-1 { algo = \"crc32\"; }; };\n")
     }
 
     fn put_tree<W: Write>(&self, number: u32, path: &str, f: &mut Formatter<W>) -> fmt::Result {
         let arch = short_name(Field::Architecture, self.options.arch);
-        let (name, data) = (Quoted(base_name(path)), Quoted(path));
-        write!(f, "fdt-{number} {{ description = {name}; data = /incbin/({data});\n")?;
-        write!(f, "type = \"flat_dt\"; arch = \"{arch}\"; compression = \"none\";\n")?;
+        let name = Quoted(base_name(path));
+        let data = Quoted(path.as_bytes());
+        write!(
+            f,
+            "fdt-{number} {{ description = {name}; data = /incbin/({data});\n"
+        )?;
+        write!(
+            f,
+            "type = \"flat_dt\"; arch = \"{arch}\"; compression = \"none\";\n"
+        )?;
         f.write_str("hash-1 { algo = \"crc32\"; }; };\n")
     }
 
@@ -88,19 +102,23 @@ impl<'a> AutoSource<'a> {
     fn put_ramdisk<W: Write>(&self, path: &str, f: &mut Formatter<W>) -> fmt::Result {
         let arch = short_name(Field::Architecture, self.options.arch);
         let os = short_name(Field::System, self.options.os);
-        let data = Quoted(path);
-        write!(f, "ramdisk-1 {{ type = \"ramdisk\"; os = \"{os}\"; arch = \"{arch}\";\n")?;
-        write!(f, "data = /incbin/({data}); hash-1 {{ algo = \"crc32\"; }}; }};\n")
+        let data = Quoted(path.as_bytes());
+        write!(
+            f,
+            "ramdisk-1 {{ type = \"ramdisk\"; os = \"{os}\"; arch = \"{arch}\";\n"
+        )?;
+        write!(
+            f,
+            "data = /incbin/({data}); hash-1 {{ algo = \"crc32\"; }}; }};\n"
+        )
     }
 
-    // What each configuration names: the file and the RAM disk.
-    fn put_named<W: Write>(&self, f: &mut Formatter<W>) -> fmt::Result {
-        let kind = self.kind();
-        write!(f, "{kind} = \"{kind}-1\"; ")?;
-        if self.ramdisk.is_some() {
-            f.write_str("ramdisk = \"ramdisk-1\"; ")?;
+    // The RAM disk, as each configuration names it.
+    fn put_ramdisk_name<W: Write>(&self, f: &mut Formatter<W>) -> fmt::Result {
+        match self.ramdisk {
+            Some(_) => f.write_str("ramdisk = \"ramdisk-1\"; "),
+            None => Ok(()),
         }
-        Ok(())
     }
 
     // A configuration for each device tree, or one without.
@@ -112,8 +130,9 @@ impl<'a> AutoSource<'a> {
             self.put_configuration(number, path, f)?;
         }
         if number == 0 {
-            f.write_str("conf-1 { ")?;
-            self.put_named(f)?;
+            let kind = self.kind();
+            write!(f, "conf-1 {{ {kind} = \"{kind}-1\"; ")?;
+            self.put_ramdisk_name(f)?;
             f.write_str("};\n")?;
         }
         Ok(())
@@ -127,8 +146,12 @@ impl<'a> AutoSource<'a> {
     ) -> fmt::Result {
         let kind = self.kind();
         let name = Quoted(base_name(path));
-        write!(f, "conf-{number} {{ description = {name}; loadables = \"{kind}-1\"; ")?;
-        self.put_named(f)?;
+        write!(
+            f,
+            "conf-{number} {{ description = {name}; {kind} = \"{kind}-1\"; "
+        )?;
+        write!(f, "loadables = \"{kind}-1\"; ")?;
+        self.put_ramdisk_name(f)?;
         write!(f, "fdt = \"fdt-{number}\"; }};\n")
     }
 }
@@ -136,7 +159,10 @@ impl<'a> AutoSource<'a> {
 impl<'a> Display for AutoSource<'a> {
     fn fmt<W: Write>(&self, f: &mut Formatter<W>) -> fmt::Result {
         let kind = Naming::All.code_text(Field::Kind, self.options.kind);
-        write!(f, "/dts-v1/;\n/ {{\ndescription = \"{kind} image with one or more FDT blobs\";\n")?;
+        write!(
+            f,
+            "/dts-v1/;\n/ {{\ndescription = \"{kind} image with one or more FDT blobs\";\n"
+        )?;
         f.write_str("creator = \"U-Boot mkimage 2023.01\"; #address-cells = <1>;\nimages {\n")?;
         self.put_file(f)?;
         self.put_trees(f)?;
@@ -174,7 +200,7 @@ fn short_name(field: Field, code: u8) -> &'static str {
 }
 
 // The name of the file at a path, without what stands behind its last dot.
-fn base_name(path: &str) -> &str {
+fn base_name(path: &str) -> &[u8] {
     let name = match path.rsplit_once('/') {
         Some((_, name)) => name,
         None => path,
@@ -183,8 +209,6 @@ fn base_name(path: &str) -> &str {
         Some((before, _)) => before,
         None => name,
     };
-    match name.split_at_checked(LONGEST) {
-        Some((first, _)) => first,
-        None => name,
-    }
+    let bytes = name.as_bytes();
+    bytes.get(..LONGEST).unwrap_or(bytes)
 }

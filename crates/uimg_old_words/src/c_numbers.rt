@@ -2,6 +2,12 @@
 
 ghost use Rattle.std.specs.Prelude.{◌≡◌, ◌≤◌, ◌^◌, ◌%◌};
 
+/// The most seconds after 1970 that gmtime has a year for, the last of 2147485547.
+const MOST_AFTER: u64 = 67_768_036_191_676_799;
+
+/// The most seconds before 1970 that gmtime has a year for.
+const MOST_BEFORE: u64 = 67_768_040_609_740_800;
+
 /// The number of a text as strtoull reads it in a base, where that reads it to its end: blanks, a sign,
 /// for base 16 `0x` or `0X`, and digits, and 0 for an empty text. A number of more than 64 bits is
 /// 2^64 - 1, and a minus gives what is missing to 2^64. `None` where something is left.
@@ -25,7 +31,8 @@ pub fn unsigned_long(text: &str, base: u32) -> Option<u64>
 }
 
 /// The low 32 bits of the number that a text begins with, as strtol reads it in base 10: blanks, a sign
-/// and digits, and 0 where there is no digit. `None` for a number of more than 63 bits.
+/// and digits, and 0 where there is no digit. `None` for seconds since 1970 that are in no year of gmtime,
+/// which has years of 32 bits.
 pub fn long_prefix(text: &str) -> Option<u32> {
     let signed = text.trim_start_matches(is_blank);
     let unsigned = without_sign(signed);
@@ -35,7 +42,12 @@ pub fn long_prefix(text: &str) -> Option<u32> {
         return Some(0);
     }
     let value = digits.parse::<u64>().ok()?;
-    if value > i64::MAX as u64 {
+    let most = if signed.starts_with('-') {
+        MOST_BEFORE
+    } else {
+        MOST_AFTER
+    };
+    if value > most {
         return None;
     }
     let low = low_half(value);

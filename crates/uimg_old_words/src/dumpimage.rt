@@ -4,7 +4,7 @@ use crate::c_numbers::{low_half, unsigned_long};
 use crate::fault::OldFault;
 use crate::getopt::{Given, OptionRow, Words};
 use crate::helps::DUMPIMAGE_HELP;
-use crate::names::{Named, check_kind, format_of, name_of};
+use crate::names::{Named, format_of, name_of};
 use crate::request::{OldRequest, Show};
 use std::alloc::Global;
 use uimg_names::{Field, Naming};
@@ -24,6 +24,7 @@ const DUMPIMAGE_OPTIONS: [OptionRow; 6] = [
 #[derive(Clone, Copy, Debug)]
 struct Settings<'a> {
     kind: Option<u8>,
+    kind_name: &'a str,
     position: u32,
     outfile: Option<&'a str>,
     image: Option<&'a str>,
@@ -37,6 +38,7 @@ pub fn read_dumpimage<'a>(
 ) -> Result<OldRequest<'a>, OldFault<'a>> {
     let mut settings = Settings {
         kind: None,
+        kind_name: "",
         position: 0,
         outfile: None,
         image: None,
@@ -65,8 +67,8 @@ impl<'a> Settings<'a> {
                 match name_of(alloc, Field::Kind, word)? {
                     Named::List => return Ok(Some(Show::Names(Field::Kind))),
                     Named::Code(code) => {
-                        check_kind(code, word)?;
                         self.kind = Some(code);
+                        self.kind_name = word;
                     }
                 }
             }
@@ -86,12 +88,10 @@ impl<'a> Settings<'a> {
             (false, None) => return Err(OldFault::NoOutfile),
         };
         let outfile = if self.is_list { None } else { self.outfile };
+        let format = format_of(self.kind, self.kind_name)?;
         Ok(OldRequest::Run {
             request: RunRequest {
-                command: Command {
-                    action,
-                    format: format_of(self.kind),
-                },
+                command: Command { action, format },
                 image,
                 outfile,
                 written: outfile,

@@ -36,7 +36,7 @@ pub enum OldFault<'a> {
         word: &'a str,
     },
 
-    /// SOURCE_DATE_EPOCH has more than 63 bits.
+    /// SOURCE_DATE_EPOCH is in no year that the C library has.
     #[error("SOURCE_DATE_EPOCH is too large")]
     BadEpoch,
 
@@ -55,6 +55,18 @@ pub enum OldFault<'a> {
     /// There are data and a source.
     #[error("-d is given with -f")]
     DataWithSource,
+
+    /// An image is to be listed and made.
+    #[error("-l is given with -f")]
+    ListWithSource,
+
+    /// All the names that an image could be written by are taken.
+    #[error("cannot write {0}: a file is at each of {0}.uimg-new1 to {0}.uimg-new100")]
+    NamesTaken(&'a str),
+
+    /// An image is to be made as a pipe, from which it could not be read back.
+    #[error("cannot write {0}: an image is not made as a pipe")]
+    MadeAsPipe(&'a str),
 
     /// A source is to be made of no data.
     #[error("-f auto: no data is named; see -d")]

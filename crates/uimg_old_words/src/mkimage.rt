@@ -7,7 +7,7 @@ use crate::fault::OldFault;
 use crate::getopt::{Given, Words};
 use crate::helps::MKIMAGE_HELP;
 use crate::mkimage_options::MKIMAGE_OPTIONS;
-use crate::names::{Named, check_kind, format_of, name_of};
+use crate::names::{Named, check_made, format_of, name_of};
 use crate::request::{AutoRequest, OldRequest, Show};
 use std::alloc::Global;
 use uimg_base::FLAT_DT;
@@ -191,17 +191,18 @@ impl<'a> Settings<'a> {
                 is_quiet,
             }));
         }
-        check_kind(self.kind.unwrap_or(0), self.kind_name)?;
         let mut request = self.making(alloc, image, time)?;
         request.naming = Naming::All;
         Ok(OldRequest::Make { request, is_quiet })
     }
 
     fn listing(self, image: &'a str) -> Result<OldRequest<'a>, OldFault<'a>> {
-        check_kind(self.kind.unwrap_or(0), self.kind_name)?;
+        if self.source.is_some() {
+            return Err(OldFault::ListWithSource);
+        }
         let command = Command {
             action: Action::List(Naming::All),
-            format: format_of(self.kind),
+            format: format_of(self.kind, self.kind_name)?,
         };
         Ok(OldRequest::Run {
             request: RunRequest {
@@ -229,6 +230,7 @@ impl<'a> Settings<'a> {
             }
             (Some(_), None) if self.kind == Some(FLAT_DT) => Err(OldFault::NoSource),
             (Some(data), None) => {
+                check_made(self.kind.unwrap_or(0), self.kind_name)?;
                 let data = if self.has_no_data { NO_DATA } else { data };
                 Ok(MakeRequest::of_parts(alloc, self.options(), data, time, image)?)
             }

@@ -10,6 +10,13 @@ use uimg_requests::Format;
 /// The type of a kernel that runs where it stands (`IH_TYPE_KERNEL_NOLOAD`).
 const KERNEL_NOLOAD: u8 = 14;
 
+/// The type of firmware with what HABv4 wants (`IH_TYPE_FIRMWARE_IVT`): a legacy image and more.
+const FIRMWARE_IVT: u8 = 32;
+
+/// The types that say nothing of a format, by which mkimage lists an image of any: gpimage, x86_setup,
+/// fpga, tee, pmmc and copro.
+const ANY_FORMAT: [u8; 6] = [17, 20, 29, 31, 33, 39];
+
 /// The letter of the option that has a name of a field.
 pub(crate) fn letter_of(field: Field) -> char {
     match field {
@@ -77,19 +84,27 @@ fn unknown_name<'a>(
     })
 }
 
-/// Refuses a type, by its name, whose images are neither legacy ones nor FITs.
-pub(crate) fn check_kind(kind: u8, name: &str) -> Result<(), OldFault<'_>> {
-    if kind <= FLAT_DT || kind == KERNEL_NOLOAD {
+/// Refuses a type, by its name, of which no image is made of data.
+pub(crate) fn check_made(kind: u8, name: &str) -> Result<(), OldFault<'_>> {
+    if is_made(kind) {
         return Ok(());
     }
     Err(OldFault::OtherImages(name))
 }
 
-/// The format of the images of a type. The type `invalid` is as none.
-pub(crate) fn format_of(kind: Option<u8>) -> Format {
+/// The format of the images of a type, by its name. The type `invalid` is as none. A type of other
+/// images is refused.
+pub(crate) fn format_of(kind: Option<u8>, name: &str) -> Result<Format, OldFault<'_>> {
     match kind {
-        None | Some(0) => Format::Guess,
-        Some(FLAT_DT) => Format::Fit,
-        Some(_) => Format::Legacy,
+        None | Some(0) => Ok(Format::Guess),
+        Some(FLAT_DT) => Ok(Format::Fit),
+        Some(code) if is_made(code) || code == FIRMWARE_IVT => Ok(Format::Legacy),
+        Some(code) if ANY_FORMAT.contains(&code) => Ok(Format::Guess),
+        Some(_) => Err(OldFault::OtherImages(name)),
     }
+}
+
+// Whether images of a type are legacy ones or FITs.
+fn is_made(kind: u8) -> bool {
+    kind <= FLAT_DT || kind == KERNEL_NOLOAD
 }

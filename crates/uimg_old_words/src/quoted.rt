@@ -6,13 +6,13 @@ use std::fmt::{Display, Formatter, Write};
 /// A text between quotes, as image-tree source has it: what is no printable letter of ASCII, a quote
 /// or a backslash stands as `\xNN`, byte by byte.
 #[derive(Clone, Copy, Debug)]
-pub(crate) struct Quoted<'a>(pub(crate) &'a str);
+pub(crate) struct Quoted<'a>(pub(crate) &'a [u8]);
 
 impl<'a> Display for Quoted<'a> {
     fn fmt<W: Write>(&self, f: &mut Formatter<W>) -> fmt::Result {
         f.write_str("\"")?;
-        for byte in self.0.bytes() {
-            put_byte(byte, f)?;
+        for byte in self.0 {
+            put_byte(*byte, f)?;
         }
         f.write_str("\"")
     }

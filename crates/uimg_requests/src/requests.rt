@@ -58,8 +58,7 @@ pub struct MakeRequest<'a> {
 
 impl<'a> MakeRequest<'a> {
     /// The making of a legacy image from the files of the word of -d, listed by the names of the
-    /// profile. Memory for their names may be
-    /// refused.
+    /// profile. Memory for their names may be refused.
     #[tactic(auto, using(crate::proofs::NameLaws::names_fit))]
     pub fn of_parts(
         alloc: Global,
@@ -71,6 +70,8 @@ impl<'a> MakeRequest<'a> {
         ensures asks { IfOk result (λ request. AsksParts request.command options
             (names_of options.kind word.now)) }
         ensures time { IfOk result (λ request. request.time ≡ time) }
+        ensures naming { IfOk result (λ request. request.naming ≡ Naming.Profile) }
+        ensures outfile { IfOk result (λ request. request.outfile.now ≡ outfile.entry.now) }
         ensures written { IfOk result (λ request. request.written.now ≡ outfile.entry.now) }
     {
         let files = file_names(alloc, options.kind, word)?;
@@ -86,8 +87,7 @@ impl<'a> MakeRequest<'a> {
     }
 
     /// The making of a FIT image from the source at a path, whose folder is that of its files, listed by
-    /// the names of the profile. Memory
-    /// for its name may be refused.
+    /// the names of the profile. Memory for its name may be refused.
     pub fn of_source(
         alloc: Global,
         path: &'a str,
@@ -98,19 +98,12 @@ impl<'a> MakeRequest<'a> {
         ensures asks { IfOk result (λ request. AsksSource request.command request.folder.now
             path.entry.now placement) }
         ensures time { IfOk result (λ request. request.time ≡ time) }
+        ensures naming { IfOk result (λ request. request.naming ≡ Naming.Profile) }
+        ensures outfile { IfOk result (λ request. request.outfile.now ≡ outfile.entry.now) }
         ensures written { IfOk result (λ request. request.written.now ≡ outfile.entry.now) }
     {
         let (folder, name) = cut_behind_folder(path);
-        let source = Vec::from_slice(alloc, name.as_bytes())?;
-        Ok(MakeRequest {
-            command: MakeCommand::Tree { source, placement },
-            time,
-            naming: Naming::Profile,
-            source: path,
-            folder,
-            outfile,
-            written: outfile,
-        })
+        MakeRequest::of_name(alloc, path, folder, name, placement, time, outfile)
     }
 
     /// The same, but the folder of its files is the current one, wherever the source is.
@@ -125,15 +118,38 @@ impl<'a> MakeRequest<'a> {
             path.entry.now placement) }
         ensures folder { IfOk result (λ request. request.folder.now ≡ []) }
         ensures time { IfOk result (λ request. request.time ≡ time) }
+        ensures naming { IfOk result (λ request. request.naming ≡ Naming.Profile) }
+        ensures outfile { IfOk result (λ request. request.outfile.now ≡ outfile.entry.now) }
         ensures written { IfOk result (λ request. request.written.now ≡ outfile.entry.now) }
     {
-        let source = Vec::from_slice(alloc, path.as_bytes())?;
+        MakeRequest::of_name(alloc, path, "", path, placement, time, outfile)
+    }
+
+    // The making of a FIT image from the source at a path, which has a name in a folder.
+    fn of_name(
+        alloc: Global,
+        path: &'a str,
+        folder: &'a str,
+        name: &'a str,
+        placement: Placement,
+        time: u32,
+        outfile: &'a str,
+    ) -> Result<MakeRequest<'a>, AllocError>
+        ensures asks { IfOk result (λ request. AsksSource request.command request.folder.now
+            (folder.entry.now ++ name.entry.now) placement) }
+        ensures folder { IfOk result (λ request. request.folder.now ≡ folder.entry.now) }
+        ensures time { IfOk result (λ request. request.time ≡ time) }
+        ensures naming { IfOk result (λ request. request.naming ≡ Naming.Profile) }
+        ensures outfile { IfOk result (λ request. request.outfile.now ≡ outfile.entry.now) }
+        ensures written { IfOk result (λ request. request.written.now ≡ outfile.entry.now) }
+    {
+        let source = Vec::from_slice(alloc, name.as_bytes())?;
         Ok(MakeRequest {
             command: MakeCommand::Tree { source, placement },
             time,
             naming: Naming::Profile,
             source: path,
-            folder: "",
+            folder,
             outfile,
             written: outfile,
         })

@@ -29,10 +29,7 @@ pub(crate) fn make_auto<R: Files + AllocGlobal, W: Write, V: Write>(
             let _ = fs::remove_file(rt, path.as_str());
             status
         }
-        Ok(None) => {
-            let path = request.outfile;
-            tell(tool, err, &RequestFault::CannotWrite(path), FAILED)
-        }
+        Ok(None) => tell(tool, err, &OldFault::NamesTaken(request.outfile), FAILED),
         Err(_) => tell(tool, err, &OldFault::OutOfMemory, FAILED),
     }
 }
@@ -47,7 +44,12 @@ fn make_of_text<R: Files + AllocGlobal, W: Write, V: Write>(
     err: &mut V,
 ) -> u8 {
     if !has_written(rt, path, &request.source) {
-        return tell(tool, err, &RequestFault::CannotWrite(path), FAILED);
+        return tell(
+            tool,
+            err,
+            &RequestFault::CannotWrite(request.outfile),
+            FAILED,
+        );
     }
     let made = MakeRequest::of_source_here(
         rt.alloc(),

@@ -139,8 +139,21 @@ pub(crate) fn carry_out<'a, R: Files + AllocGlobal, W: Write>(
     request: &'a Request<'a>,
     out: &mut W,
 ) -> Result<Status, RequestFault<'a>> {
+    match carry_out_apart(rt, request, out) {
+        (end, true) => end,
+        (_, false) => Err(RequestFault::Stopped(Fault::Put)),
+    }
+}
+
+/// Carries out a request, and tells apart how it ended and whether the rest of what it printed was
+/// written.
+pub(crate) fn carry_out_apart<'a, R: Files + AllocGlobal, W: Write>(
+    rt: &'a R,
+    request: &'a Request<'a>,
+    out: &mut W,
+) -> (Result<Status, RequestFault<'a>>, bool) {
     let Ok(mut gathered) = BufWriter::new(rt.alloc(), out) else {
-        return Err(RequestFault::OutOfMemory);
+        return (Err(RequestFault::OutOfMemory), true);
     };
     let end = match request {
         Request::Run(request) => run_command(rt, request, &mut gathered),
@@ -150,10 +163,7 @@ pub(crate) fn carry_out<'a, R: Files + AllocGlobal, W: Write>(
     let written = gathered.flush();
     // A failed write leaves text in it, and its drop would try once more to write that.
     let (_, _) = gathered.into_parts();
-    match written {
-        Ok(()) => end,
-        Err(_) => Err(RequestFault::Stopped(Fault::Put)),
-    }
+    (end, written.is_ok())
 }
 
 // Prints help or the version.

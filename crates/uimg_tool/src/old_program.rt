@@ -2,7 +2,9 @@
 
 use crate::auto_program::make_auto;
 use crate::fault::Fault;
-use crate::main_program::{DONE, FAILED, REFUSED, RequestFault, WRONG_LINE, carry_out, status_of};
+use crate::main_program::{
+    DONE, FAILED, REFUSED, RequestFault, WRONG_LINE, carry_out, carry_out_apart, status_of,
+};
 use crate::old_tools::Tool;
 use crate::safe_path::{SafePath, Writing, writing_of};
 use std::fmt::Display;
@@ -61,9 +63,11 @@ fn run_command<R: Files + AllocGlobal, W: Write, V: Write>(
         return run_in_place(rt, tool, request, is_quiet, out, err);
     };
     match writing_of(rt, outfile) {
-        Ok(Writing::InPlace) => run_in_place(rt, tool, request, is_quiet, out, err),
+        Ok(Writing::InPlace | Writing::Pipe) => {
+            run_in_place(rt, tool, request, is_quiet, out, err)
+        }
         Ok(Writing::Beside(path)) => run_beside(rt, tool, request, &path, out, err),
-        Ok(Writing::Nowhere) => tell(tool, err, &RequestFault::CannotWrite(outfile), FAILED),
+        Ok(Writing::Nowhere) => tell(tool, err, &OldFault::NamesTaken(outfile), FAILED),
         Err(_) => tell(tool, err, &OldFault::OutOfMemory, FAILED),
     }
 }
@@ -114,18 +118,13 @@ pub(crate) fn make_image<R: Files + AllocGlobal, W: Write, V: Write>(
             tell_end(rt, tool, &end, outfile, err)
         }
         Ok(Writing::Beside(path)) => make_beside(rt, tool, request, &path, is_quiet, out, err),
-        Ok(Writing::Nowhere) => {
-            tell(
-                tool,
-                err,
-                &RequestFault::CannotWrite(request.outfile),
-                FAILED,
-            )
-        }
+        Ok(Writing::Pipe) => tell(tool, err, &OldFault::MadeAsPipe(request.outfile), FAILED),
+        Ok(Writing::Nowhere) => tell(tool, err, &OldFault::NamesTaken(request.outfile), FAILED),
         Err(_) => tell(tool, err, &OldFault::OutOfMemory, FAILED),
     }
 }
 
+// Makes an image at one path that gets another. It is kept where its listing could not be printed.
 fn make_beside<'a, R: Files + AllocGlobal, W: Write, V: Write>(
     rt: &'a R,
     tool: Tool,
@@ -138,12 +137,19 @@ fn make_beside<'a, R: Files + AllocGlobal, W: Write, V: Write>(
     let (source, outfile) = (request.source, request.outfile);
     request.written = path.new.as_str();
     let request = Request::Make(request);
-    let end = carry_out_by(rt, &request, is_quiet, out);
+    let (end, is_printed) = if is_quiet {
+        carry_out_apart(rt, &request, &mut io::sink())
+    } else {
+        carry_out_apart(rt, &request, out)
+    };
     let about = match &end {
         Err(RequestFault::Stopped(Fault::Its(_))) => source,
         _ => outfile,
     };
-    tell_written(rt, tool, path, &end, about, err)
+    match tell_written(rt, tool, path, &end, about, err) {
+        DONE if !is_printed => tell(tool, err, &Fault::Put, FAILED),
+        status => status,
+    }
 }
 
 // Gives what was written its name, or removes it, and tells the end, with the path that it is about.
@@ -202,14 +208,19 @@ fn tell_end<R: Files, V: Write>(
 }
 
 /// The line of a file that could not be opened to be read, with the reason that the operating system
-/// gives when it is opened once more.
+/// gives when it is looked at once more. Only a regular file is opened, since a pipe would wait.
 pub(crate) fn tell_unread<R: Files, V: Write>(rt: &R, tool: Tool, path: &str, err: &mut V) -> u8 {
-    match fs::open(rt, path) {
-        Ok(_) => tell(tool, err, &RequestFault::CannotRead(path), FAILED),
-        Err(reason) => {
+    let reason = match fs::metadata(rt, path) {
+        Ok(found) if found.is_file() => fs::open(rt, path).err(),
+        Ok(_) => None,
+        Err(reason) => Some(reason),
+    };
+    match reason {
+        Some(reason) => {
             let _ = writeln!(err, "{}: cannot read {path}: {reason}", tool.name());
             FAILED
         }
+        None => tell(tool, err, &RequestFault::CannotRead(path), FAILED),
     }
 }
 

@@ -212,7 +212,9 @@ fn built<R: AllocGlobal, A: Allocator + Copy, B: Allocator, F: Files + Drop, H: 
     let mut room = Room::new(heap);
     let mut out = Out::new(Vec::new(rt.alloc()));
     let naming = Naming::Profile;
-    let end = match make(alloc, command, time, naming, &mut files, shelf, &mut room, &mut out) {
+    let end = match make(
+        alloc, command, time, naming, &mut files, shelf, &mut room, &mut out,
+    ) {
         Ok(_) => Ok(Status::Done),
         Err(fault) => Err(fault),
     };

@@ -30,7 +30,14 @@ Entry Point:  00000000
 /// The name, the image, the command, how it ends, what is written, and how many bytes are asked for at most.
 pub(super) const CASES: [(&str, &str, &str, &str, &str, u64); 43] = [
     ("abc-kernel", "abc-kernel", "list", "done", ABC_LISTING, 83),
-    ("abc-kernel", "abc-kernel", "list by all names", "done", ABC_LISTING, 83),
+    (
+        "abc-kernel",
+        "abc-kernel",
+        "list by all names",
+        "done",
+        ABC_LISTING,
+        83,
+    ),
     (
         "abc-kernel",
         "abc-kernel",

@@ -23,7 +23,12 @@ const ROWS: [(Field, &str, Option<u8>, &str); 14] = [
 
 // A field, a code, and what it is called in the profile and among all names.
 const CODES: [(Field, u8, &str, &str); 6] = [
-    (Architecture, 13, "Unknown Architecture", "Unknown Architecture"),
+    (
+        Architecture,
+        13,
+        "Unknown Architecture",
+        "Unknown Architecture",
+    ),
     (Architecture, 14, "Unknown Architecture", "MicroBlaze"),
     (System, 0, "Unknown OS", "Invalid OS"),
     (Kind, 22, "Unknown Image", "Unknown Image"),
@@ -34,14 +39,32 @@ const CODES: [(Field, u8, &str, &str); 6] = [
 #[test]
 fn all_names(rt: HostRuntime) {
     for (field, name, code, text) in &ROWS {
-        assert_eq!(rt; Naming::All.code_named(*field, name.as_bytes()), *code, "{name}");
-        assert_eq!(rt; Naming::All.name_text(*field, name.as_bytes()), *text, "{name}");
+        assert_eq!(rt;
+            Naming::All.code_named(*field, name.as_bytes()),
+            *code,
+            "{name}"
+        );
+        assert_eq!(rt;
+            Naming::All.name_text(*field, name.as_bytes()),
+            *text,
+            "{name}"
+        );
     }
     for (field, code, profile, all) in &CODES {
-        assert_eq!(rt; Naming::Profile.code_text(*field, *code), *profile, "{code}");
+        assert_eq!(rt;
+            Naming::Profile.code_text(*field, *code),
+            *profile,
+            "{code}"
+        );
         assert_eq!(rt; Naming::All.code_text(*field, *code), *all, "{code}");
     }
     assert_eq!(rt; Naming::Profile.code_named(Field::System, b"Linux"), None);
-    assert_eq!(rt; Naming::Profile.code_named(Field::System, b"linux"), Some(5));
-    assert_eq!(rt; Naming::Profile.name_text(Field::System, b"Linux"), "Unknown OS");
+    assert_eq!(rt;
+        Naming::Profile.code_named(Field::System, b"linux"),
+        Some(5)
+    );
+    assert_eq!(rt;
+        Naming::Profile.name_text(Field::System, b"Linux"),
+        "Unknown OS"
+    );
 }
