@@ -46,6 +46,7 @@ An image by each way to write its options, which is the one that uimg makes:
   $ made -A ARM -O Linux -T KERNEL -C GZip -a 1000 -n name -d d out
   $ made -A arm -a 1000 -n name -d d out and what is behind it
   $ made -t -R second -c comment -B 4 -A arm -a 1000 -n name -d d out
+  $ made -D '-Idts -O dtb -p2000 -p 0x1000' -A arm -a 1000 -n name -d d out
   $ made -D '-I dts -O dtb -p 500 -q' -A arm -a 1000 -n name -d d out
   $ made -A arm -a ffffffff00001000 -n name -d d out
   $ made -A arm -a -fffff000 -n name -d d out
@@ -103,6 +104,11 @@ SOURCE_DATE_EPOCH is the number that its text begins with:
    00 00 00 07
   $ time_of -5
    ff ff ff fb
+  $ time_of 67768036191676799
+   7c 54 a9 7f
+  $ time_of 67768036191676800
+  mkimage: SOURCE_DATE_EPOCH is too large
+  [2]
   $ time_of 99999999999999999999
   mkimage: SOURCE_DATE_EPOCH is too large
   [2]
@@ -182,6 +188,8 @@ The source that mkimage makes itself, by a file and by the image that is made of
 
 Listing and unpacking:
 
+  $ mkimage -l -T fpga wanted | head -n 1 && dumpimage -T firmware_ivt -o part wanted && cmp part d
+  Image Name:   name
   $ dumpimage -l wanted | head -n 1 && mkimage -lT kernel wanted | head -n 1 && mkimage -q -l wanted
   Image Name:   name
   Image Name:   name
@@ -234,6 +242,9 @@ What is asked for in vain:
   [2]
   $ mkimage -T flat_dt -d d out
   mkimage: -T flat_dt: a FIT image is made by -f
+  [2]
+  $ mkimage -l -f kernel.its out
+  mkimage: -l is given with -f
   [2]
   $ mkimage -f kernel.its -d d out
   mkimage: -d is given with -f
@@ -303,6 +314,14 @@ The outfile gets its name when it is whole, by a link too, and what stood there 
   $ mkdir folder && ln -s folder/real link && printf x > folder/real && mkimage -q -A arm -a 1000 -n name -d d link
   $ cmp folder/real wanted && test -h link && ls folder
   real
+  $ rm link && ln -s folder/new link && mkimage -q -A arm -a 1000 -n name -d d link && cmp folder/new wanted && test -h link
+  $ rm -f out && mkimage -A arm -a 1000 -n name -d d out > /dev/full; cmp out wanted; ls out*
+  mkimage: write failed
+  out
+  outside
+  $ mkfifo pipe && mkimage -q -A arm -d d pipe
+  mkimage: cannot write pipe: an image is not made as a pipe
+  [3]
   $ mkimage -q -A arm -d d folder/none/out
   mkimage: folder/none/out: write failed
   [3]

@@ -11,6 +11,7 @@ crate is out/CRATE.log. The status is 0 where all are proved."""
 import os
 import re
 import shutil
+import signal
 import subprocess
 import sys
 import threading
@@ -203,6 +204,12 @@ def prove(names, quiet):
     return 0
 
 
+def interrupted(number, frame):
+    """A job that is ended from outside ends its proofs, as one that is interrupted does."""
+    raise KeyboardInterrupt
+
+
 if __name__ == "__main__":
+    signal.signal(signal.SIGTERM, interrupted)
     words = sys.argv[1:]
     sys.exit(prove([it for it in words if it != "-q"], "-q" in words))
