@@ -181,7 +181,7 @@ The source that mkimage makes itself, by a file and by the image that is made of
   mkimage: made/out would be written while it is read
   [2]
   $ auto -q -d d none/out
-  mkimage: cannot write none/out.uimg-new1
+  mkimage: cannot write none/out
   [3]
   $ cmp made/out by-hand; ls made
   out
@@ -315,10 +315,9 @@ The outfile gets its name when it is whole, by a link too, and what stood there 
   $ cmp folder/real wanted && test -h link && ls folder
   real
   $ rm link && ln -s folder/new link && mkimage -q -A arm -a 1000 -n name -d d link && cmp folder/new wanted && test -h link
-  $ rm -f out && mkimage -A arm -a 1000 -n name -d d out > /dev/full; cmp out wanted; ls out*
+  $ mkimage -A arm -a 1000 -n name -d d kept > /dev/full; cmp kept wanted; ls kept*
   mkimage: write failed
-  out
-  outside
+  kept
   $ mkfifo pipe && mkimage -q -A arm -d d pipe
   mkimage: cannot write pipe: an image is not made as a pipe
   [3]
