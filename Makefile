@@ -5,7 +5,7 @@ PREFIX ?= /usr/local
 IMAGE ?= examples/abc-kernel.img
 export RT
 
-.PHONY: all demo try check test install deb peers bench clean help
+.PHONY: all demo try check test lib lib-test install deb peers bench clean help
 .NOTPARALLEL:
 
 ## make          proves what the program stands on, and builds bin/uimg
@@ -36,8 +36,20 @@ test:
 	@rm -rf out/lanes
 	@python3 scripts/gate.py
 
+## make lib      proves the library for C, and leaves libuimg.a, libuimg_block.a and libuimg.so in lib/
+lib: lib/libuimg.a
+	@echo "lib/ is up to date"
+
+lib/libuimg.a: $(shell scripts/sources.sh uimg_c) $(wildcard library/* include/*)
+	@scripts/lib.sh
+
+## make lib-test tests the library as C, C++, Python and Go call it, with valgrind where it is there, beside the program
+lib-test: lib/libuimg.a bin/uimg
+	@scripts/needs.sh python3 cc
+	@python3 scripts/lib_test.py bin/uimg lib
+
 ## make install  puts the program, its manual pages and completions below PREFIX, which is /usr/local, and with
-##               OLD_NAMES=1 the names mkimage and dumpimage too
+##               OLD_NAMES=1 the names mkimage and dumpimage too; the library too, if make lib built it
 install: bin/uimg
 	install -D -m 755 bin/uimg $(DESTDIR)$(PREFIX)/bin/uimg
 	for name in uimg-mkimage uimg-dumpimage $(if $(OLD_NAMES),mkimage dumpimage); do \
@@ -48,9 +60,10 @@ install: bin/uimg
 	install -D -m 644 completions/uimg.bash $(DESTDIR)$(PREFIX)/share/bash-completion/completions/uimg
 	install -D -m 644 completions/_uimg $(DESTDIR)$(PREFIX)/share/zsh/site-functions/_uimg
 	install -D -m 644 completions/uimg.fish $(DESTDIR)$(PREFIX)/share/fish/vendor_completions.d/uimg.fish
+	test ! -f lib/libuimg.a || scripts/install_lib.sh "$(DESTDIR)" "$(PREFIX)"
 
-## make deb      packs the same, with documents and examples, as a Debian package
-deb: bin/uimg
+## make deb      packs both, with documents and examples, as Debian packages
+deb: bin/uimg lib/libuimg.a
 	@scripts/deb.sh
 
 ## make peers    compares it with the real mkimage, dumpimage and dtc, where they are installed
@@ -68,7 +81,7 @@ bench: bin/uimg
 
 ## make clean    removes all that was built, and what the prover kept
 clean:
-	rm -rf bin out crates/*/out
+	rm -rf bin lib out crates/*/out
 
 ## make help     lists the targets
 help:

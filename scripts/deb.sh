@@ -1,10 +1,10 @@
 #!/bin/sh
-# scripts/deb.sh: packs bin/uimg, its manual pages, completions, documents and examples as a Debian package, which it
-# leaves as out/uimg_VERSION_amd64.deb, and looks at it with lintian.
+# scripts/deb.sh: packs bin/uimg, its manual pages, completions, documents and examples, and the library in lib/, as Debian
+# packages, which it leaves in out/, and looks at them with lintian.
 scripts/needs.sh dpkg-buildpackage dh lintian || exit 1
 room=$(mktemp -d) || exit 1
 trap 'rm -rf "$room"' EXIT
-mkdir "$room/uimg" && cp -r debian bin docs examples completions README.md SECURITY.md CHANGELOG.md "$room/uimg" || exit 1
+mkdir "$room/uimg" && cp -r debian bin lib include library docs examples completions README.md SECURITY.md CHANGELOG.md "$room/uimg" || exit 1
 log=$PWD/out/deb.log
 mkdir -p out
 (cd "$room/uimg" && dpkg-buildpackage -b -us -uc) > "$log" 2>&1 || {
@@ -12,7 +12,7 @@ mkdir -p out
     echo "uimg: no package was made; the log is out/deb.log" >&2
     exit 1
 }
-rm -f out/uimg_*.deb
-cp "$room"/uimg_*.deb out/ || exit 1
-lintian --fail-on error out/uimg_*.deb || exit 1
-ls out/uimg_*.deb
+rm -f out/*.deb
+cp "$room"/uimg_*.deb "$room"/libuimg*.deb out/ || exit 1
+lintian --fail-on error out/*.deb || exit 1
+ls out/*.deb

@@ -1,4 +1,4 @@
-//! Extraction: the payload of one image is written.
+//! Extraction: the payload of one image is found, and written.
 
 ghost use Rattle.std.specs.Prelude.{◌≡◌, ◌+◌, ◌≤◌, false, length, IsTrue, IfOk};
 ghost use Rattle.uimg_texts.specs.Slices.{slice};
@@ -19,11 +19,13 @@ use std::io::Write;
 use uimg_base::{Out, Room, Source, Span, Status, copy_range};
 use uimg_fit_base::Fault;
 
-// The place of the payload of the image at a position.
-fn locate_payload<S: Source, A: Allocator>(
+/// Where the payload of the image at a position stands, counted from 0: just the bytes that `extract`
+/// writes, none of which is read. Refusals are those of `extract`, in their order, and `OutOfMemory`
+/// comes exactly where the room refused to grow.
+pub fn locate<S: Source, A: Allocator>(
+    position: u32,
     source: &mut S,
     room: &mut Room<A>,
-    position: u32,
 ) -> Result<Span, Fault>
     ensures uses { UsesAtMost (list_work (S.device source.old).bytes) (is_read result)
         (S.device source.old) (S.device source.new) }
@@ -65,7 +67,7 @@ pub fn extract<S: Source, A: Allocator, W: Write>(
     ensures told { IsTrue (S.device source.old).honest →
         Tells (end_of result) (extract_of (S.device source.old).bytes position) out.old out.new }
 {
-    let span = locate_payload(source, room, position)?;
+    let span = locate(position, source, room)?;
     copy_range(source, room, span.place, span.length, out)?;
     Ok(Status::Done)
 }

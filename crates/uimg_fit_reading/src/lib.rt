@@ -10,6 +10,6 @@ mod puts;
 mod report;
 mod tree;
 
-pub use extraction::extract;
+pub use extraction::{extract, locate};
 pub use listing::list;
 pub use report::verify;

@@ -1,4 +1,4 @@
-//! Extraction: one part is written.
+//! Extraction: one part is found, and written.
 
 ghost use Rattle.std.specs.Prelude.{◌≡◌, ◌+◌, ◌≤◌, [], length, IsTrue, IfOk, false};
 ghost use Rattle.uimg_base.specs.Device.{RisesIf};
@@ -29,6 +29,27 @@ fn locate_part<S: Source, A: Allocator>(
 {
     let header = read_image(source, room)?;
     find_part(source, room, &header, position)
+}
+
+/// Where the part of the image at a position stands, counted from 0: a part of type multi or script, or
+/// the data of any other type at position 0; just the bytes that `extract` writes. Refusals are those of
+/// `extract`, in their order, after which as much of the image was read as for its listing.
+pub fn locate<S: Source, A: Allocator>(
+    position: u32,
+    source: &mut S,
+    room: &mut Room<A>,
+) -> Result<Span, Fault>
+    ensures uses { UsesAtMost (list_work (S.device source.old).bytes) (is_read result)
+        (S.device source.old) (S.device source.new) }
+    ensures room { room.new ≡ record room.old { entries = [] } }
+    ensures no_put { is_put result ≡ false }
+    ensures no_making { is_of_making result ≡ false }
+    ensures inside { IfOk result (λ span. span.place + span.length ≤ length (S.device source.old).bytes) }
+    ensures told { IsTrue (S.device source.old).honest →
+        LocatesPart position (S.device source.old).bytes result }
+{
+    room.clear();
+    locate_part(source, room, position)
 }
 
 /// Writes the part of the image at a position, counted from 0: a part of type multi or

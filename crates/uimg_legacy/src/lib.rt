@@ -17,7 +17,7 @@ mod report;
 mod table;
 
 pub use building::build;
-pub use extraction::extract;
+pub use extraction::{extract, locate};
 pub use fault::{Fault, LegacyFault};
 pub use header::{HEADER_LEN, Header, header_bytes, name_field, read_header};
 pub use listing::list;

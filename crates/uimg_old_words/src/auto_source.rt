@@ -1,13 +1,13 @@
 //! The image source that mkimage makes itself, by -f auto.
 
 ghost use Rattle.std.specs.Prelude.{◌<◌, IfSome};
-ghost use Rattle.uimg_old_words.specs.Getopt.{left};
+ghost use Rattle.uimg_getopt.specs.Getopt.{left};
 
-use crate::getopt::{Given, Words};
 use crate::mkimage_options::MKIMAGE_OPTIONS;
 use crate::quoted::Quoted;
 use std::fmt;
 use std::fmt::{Display, Formatter, Write};
+use uimg_getopt::{Given, Words};
 use uimg_legacy::Options;
 use uimg_names::{Field, Naming};
 

@@ -1,12 +1,11 @@
 //! The words of dumpimage.
 
-use crate::c_numbers::{low_half, unsigned_long};
 use crate::fault::OldFault;
-use crate::getopt::{Given, OptionRow, Words};
 use crate::helps::DUMPIMAGE_HELP;
 use crate::names::{Named, format_of, name_of};
 use crate::request::{OldRequest, Show};
 use std::alloc::Global;
+use uimg_getopt::{Given, OptionRow, Words, low_half, unsigned_long};
 use uimg_names::{Field, Naming};
 use uimg_requests::{Action, Command, RunRequest};
 

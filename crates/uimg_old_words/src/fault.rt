@@ -1,8 +1,8 @@
 //! Why the words of a command line ask for nothing.
 
-use crate::getopt::Misuse;
 use std::alloc::AllocError;
 use thiserror::Error;
+use uimg_getopt::Misuse;
 
 /// Why the words of a command line ask for nothing. Its text is the line behind the name of the tool.
 #[derive(Clone, Copy, Debug, Error)]

@@ -2,11 +2,9 @@
 #![tactic(auto)]
 
 mod auto_source;
-mod c_numbers;
 mod dtc_words;
 mod dumpimage;
 mod fault;
-mod getopt;
 mod helps;
 mod mkimage;
 mod mkimage_options;
@@ -16,10 +14,8 @@ mod quoted;
 mod request;
 
 pub use auto_source::{AutoSource, TreePaths};
-pub use c_numbers::{long_prefix, low_half, unsigned_long};
 pub use dumpimage::read_dumpimage;
 pub use fault::OldFault;
-pub use getopt::{Given, Misuse, OptionRow, Words};
 pub use mkimage::read_mkimage;
 pub use names::title_of;
 pub use request::{AutoRequest, OldRequest, Show};

@@ -1,10 +1,8 @@
 //! The words of mkimage.
 
 use crate::auto_source::AutoSource;
-use crate::c_numbers::{long_prefix, low_half, unsigned_long};
 use crate::dtc_words::change_nothing;
 use crate::fault::OldFault;
-use crate::getopt::{Given, Words};
 use crate::helps::MKIMAGE_HELP;
 use crate::mkimage_options::MKIMAGE_OPTIONS;
 use crate::names::{Named, check_made, format_of, name_of};
@@ -12,6 +10,7 @@ use crate::request::{AutoRequest, OldRequest, Show};
 use std::alloc::Global;
 use uimg_base::FLAT_DT;
 use uimg_fit_base::Placement;
+use uimg_getopt::{Given, Words, long_prefix, low_half, unsigned_long};
 use uimg_legacy::{Options, name_field};
 use uimg_names::{Field, Naming};
 use uimg_requests::{Action, Command, MakeRequest, RunRequest};

@@ -1,6 +1,6 @@
 //! The options of mkimage 2023.01.
 
-use crate::getopt::OptionRow;
+use uimg_getopt::OptionRow;
 
 /// The options, by their letters and long names.
 pub(crate) const MKIMAGE_OPTIONS: [OptionRow; 33] = [

@@ -5,8 +5,8 @@ use std::rt::Files;
 use std::{fs, io};
 use uimg_base::{Out, Room, Source};
 use uimg_blob::index;
+use uimg_engine::DiskFiles;
 use uimg_its::compile;
-use uimg_tool::DiskFiles;
 use uimg_tree::{measure, write_tree};
 
 // Writes the blob of a source to standard output. The files that it names lie in its folder.

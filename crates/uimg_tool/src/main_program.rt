@@ -1,12 +1,7 @@
 //! The function `program`, the whole program: it opens the files that a command line names, has its
 //! request carried out, and turns the end into a line and an exit status.
-use crate::disk_files::DiskFiles;
-use crate::engine::run;
-use crate::fault::Fault;
-use crate::making::make;
 use crate::old_program::program_by_old_name;
 use crate::old_tools::Tool;
-use crate::same_files::is_same_file;
 use std::fmt::Display;
 use std::fs;
 use std::io::{BufWriter, Write};
@@ -14,6 +9,7 @@ use std::rt::Files;
 use thiserror::Error;
 use uimg_base::{FileShelf, FileSource, Out, Room, Status};
 use uimg_blob::BlobFault;
+use uimg_engine::{DiskFiles, Fault, is_same_file, make, run};
 use uimg_fit_base::FitFault;
 use uimg_its::Kind;
 use uimg_requests::{MakeCommand, MakeRequest, RunRequest};

@@ -1,7 +1,6 @@
 //! The program by the names of mkimage and dumpimage.
 
 use crate::auto_program::make_auto;
-use crate::fault::Fault;
 use crate::main_program::{
     DONE, FAILED, REFUSED, RequestFault, WRONG_LINE, carry_out, carry_out_apart, status_of,
 };
@@ -12,6 +11,7 @@ use std::io::Write;
 use std::rt::Files;
 use std::{fs, io};
 use uimg_base::Status;
+use uimg_engine::Fault;
 use uimg_names::Field;
 use uimg_old_words::{OldFault, OldRequest, Show, read_dumpimage, read_mkimage, title_of};
 use uimg_requests::{MakeRequest, RunRequest, VERSION};

@@ -3,7 +3,7 @@ use std::process::Abort;
 use std::test::Fail;
 use std::{fs, rt};
 use uimg_base::{Files, Source};
-use uimg_tool::DiskFiles;
+use uimg_engine::DiskFiles;
 
 // The folder, the name, and the three bytes of the file that is opened; no text where none is, and
 // `-` where its bytes are not looked at. A name that begins with a slash is not looked for in the folder.

@@ -7,9 +7,9 @@ use std::process::Abort;
 use std::rt::Files;
 use std::test::Fail;
 use uimg_base::Status;
+use uimg_engine::Fault;
 use uimg_fit_base::FitFault;
 use uimg_its::Kind;
-use uimg_tool::Fault;
 
 const NO_FUSE: Fuses = Fuses {
     from: u64::MAX,

@@ -7,7 +7,7 @@ use std::process::Abort;
 use std::rt::Files;
 use std::test::Fail;
 use uimg_base::Status;
-use uimg_tool::Fault;
+use uimg_engine::Fault;
 
 const ALL: u64 = u64::MAX;
 

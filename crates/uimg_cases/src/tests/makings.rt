@@ -10,10 +10,10 @@ use std::{fs, io, rt};
 use uimg_base::{
     FileShelf, Files, FuseFiles, FuseWriter, MemFiles, Out, Room, Shelf, SourceFault, Status,
 };
+use uimg_engine::{Fault, MakeCommand, make};
 use uimg_fit_base::Placement;
 use uimg_legacy::{Options, has_parts, name_field};
 use uimg_names::Naming;
-use uimg_tool::{Fault, MakeCommand, make};
 
 /// The files that images are made from.
 pub(super) const FILES: [(&[u8], &[u8]); 5] = [

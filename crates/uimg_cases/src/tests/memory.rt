@@ -6,8 +6,8 @@ use super::runs::{action_named, shown, told};
 use std::process::Abort;
 use std::test::Fail;
 use uimg_base::{Out, Room, Source};
+use uimg_engine::{Command, Format, make_in_memory, run_in_memory};
 use uimg_names::Naming;
-use uimg_tool::{Command, Format, make_in_memory, run_in_memory};
 
 // The image, the action, its end, and what is written.
 const ROWS: [(&str, &str, &str, &str); 6] = [

@@ -6,8 +6,8 @@ use std::alloc::Global;
 use std::process::Abort;
 use std::test::Fail;
 use uimg_base::{MemSource, Out, Room};
+use uimg_engine::{Command, Fault, Format, run};
 use uimg_samples::fit::set_cell;
-use uimg_tool::{Command, Fault, Format, run};
 
 const ACTIONS: [&str; 3] = ["list", "verify", "0"];
 

@@ -2,8 +2,8 @@
 use std::alloc::Global;
 use std::io::Write;
 use uimg_base::{FuseSource, FuseWriter, MemSource, Out, Room, Source, Status};
+use uimg_engine::{Action, Command, Fault, Format, run};
 use uimg_names::Naming;
-use uimg_tool::{Action, Command, Fault, Format, run};
 
 /// As many calls, or bytes, as there are.
 pub(super) const ALL: u64 = u64::MAX;

@@ -1,4 +1,4 @@
-use Rattle.uimg_old_words.specs.Getopt.{left}
+use Rattle.uimg_getopt.specs.Getopt.{left}
 use Rattle.uimg_old_words.proofs.mkimage.read_mkimage.Given as goal
 
 -- each option and each operand takes something of the words

@@ -1,4 +1,4 @@
-use Rattle.uimg_old_words.specs.Getopt.{left}
+use Rattle.uimg_getopt.specs.Getopt.{left}
 use Rattle.uimg_old_words.proofs.auto_source.AutoSource.put_trees.Given as goal
 
 -- each path takes something of the words

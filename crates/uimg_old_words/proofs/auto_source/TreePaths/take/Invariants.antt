@@ -1,5 +1,5 @@
 use Rattle.std.proofs.Common.{◌≤◌}
-use Rattle.uimg_old_words.specs.Getopt.{left}
+use Rattle.uimg_getopt.specs.Getopt.{left}
 use Rattle.uimg_old_words.proofs.auto_source.TreePaths.take.Given as goal
 
 -- nothing is put back

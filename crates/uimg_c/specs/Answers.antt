@@ -1,0 +1,21 @@
+-- What the exports tell of the outcome of a command.
+use Rattle.std.specs.Prelude.{◌≡◌, ℕ, ◌+◌, ◌≤◌, min, List, ◌++◌, length, take, drop, Some}
+use Rattle.uimg_texts.specs.Slices.{slice}
+use Rattle.uimg_base.specs.Outcome.{Outcome}
+use Rattle.uimg_engine.specs.declared.fault.Fault.{Fault}
+use Rattle.uimg_c.specs.declared.reports.UimgReport.{UimgReport}
+use Rattle.uimg_c.specs.declared.reports.UimgPayload.{UimgPayload}
+use Rattle.uimg_c.specs.Codes.{code_of}
+
+-- A report tells how an outcome ends, and its text, or as much of it as there is place for, stands at the front of the
+-- caller's memory; the rest of that stays.
+pub record Reports (o : Outcome Fault) (old new : List ℕ) (report : UimgReport) : Type 0 where
+  pub code : code_of o.end ≡ Some (record { status = report.status; fault = report.fault; place = report.place })
+  pub needed : report.needed ≡ length o.text
+  pub written : report.written ≡ min (length o.text) (length old)
+  pub text : new ≡ take report.written o.text ++ drop report.written old
+
+-- A payload tells how the outcome of an extraction ends, and where the bytes that it writes stand in the image.
+pub record Finds (o : Outcome Fault) (image : List ℕ) (payload : UimgPayload) : Type 0 where
+  pub code : code_of o.end ≡ Some (record { status = payload.status; fault = payload.fault; place = payload.place })
+  pub bytes : payload.status ≡ 0 → o.text ≡ slice image payload.start payload.size

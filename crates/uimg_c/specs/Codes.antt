@@ -1,0 +1,79 @@
+-- The numbers that tell callers in C how a command ended.
+use Rattle.std.specs.Prelude.{ℕ, ◌+◌, ◌*◌, Option, Some, None, Result, Ok, Err}
+use Rattle.uimg_base.specs.Outcome.{End, done, not_right, refused}
+use Rattle.uimg_base.specs.declared.status.Status.{Status}
+use Rattle.uimg_base.specs.declared.status.Status.TheVariants.{Done, NotRight}
+use Rattle.uimg_blob.specs.declared.fault.BlobFault.{BlobFault}
+use Rattle.uimg_blob.specs.declared.fault.BlobFault.TheVariants as blob
+use Rattle.uimg_fit_base.specs.declared.fault.FitFault.{FitFault}
+use Rattle.uimg_fit_base.specs.declared.fault.FitFault.TheVariants as fit
+use Rattle.uimg_legacy.specs.declared.fault.LegacyFault.{LegacyFault}
+use Rattle.uimg_legacy.specs.declared.fault.LegacyFault.TheVariants as legacy
+use Rattle.uimg_engine.specs.declared.fault.Fault.{Fault}
+use Rattle.uimg_engine.specs.declared.fault.Fault.TheVariants.{Legacy, Blob, Fit}
+use Rattle.uimg_c.specs.declared.codes.Code.{Code}
+
+-- L1 to L10
+abbrev pub legacy_number : LegacyFault → ℕ
+legacy_number legacy.TooShort = 1
+legacy_number legacy.BadMagic = 2
+legacy_number legacy.BadHeaderCrc = 3
+legacy_number legacy.Truncated = 4
+legacy_number legacy.BadDataCrc = 5
+legacy_number legacy.NoTableEnd = 6
+legacy_number legacy.PartOutside = 7
+legacy_number legacy.NoSuchPart = 8
+legacy_number legacy.EmptyPart = 9
+legacy_number legacy.TooLarge = 10
+
+-- B1 to B11
+abbrev pub blob_number : BlobFault → ℕ
+blob_number blob.TooShort = 1
+blob_number blob.BadMagic = 2
+blob_number blob.BadVersion = 3
+blob_number blob.BlockOutside = 4
+blob_number blob.BadToken = 5
+blob_number blob.Truncated = 6
+blob_number blob.BadNodeName = 7
+blob_number blob.BadNesting = 8
+blob_number blob.BadPropertyName = 9
+blob_number blob.TooLarge = 10
+blob_number blob.OutOfMemory = 11
+
+-- F1 to F10
+abbrev pub fit_number : FitFault → ℕ
+fit_number fit.NoImages = 1
+fit_number fit.NoData = 2
+fit_number fit.DataOutside = 3
+fit_number fit.NoSuchImage = 4
+fit_number fit.UnknownAlgo = 5
+fit_number fit.PositionTooLow = 6
+fit_number fit.TooLarge = 7
+fit_number fit.OutOfMemory = 8
+fit_number fit.NoFile = 9
+fit_number fit.ReadFailed = 10
+
+-- A refusal: the status 1, the letter of the fault as its ASCII code times 256 with its number, and its place, which only a
+-- blob's fault has.
+abbrev pub refusal : ℕ → ℕ → ℕ → Code
+refusal letter number place = record { status = 1; fault = 256 * letter + number; place = place }
+
+-- the numbers for a fault of an image; none where memory was refused, a device failed, or only a making has the fault
+abbrev pub code_of_fault : Fault → Option Code
+code_of_fault (Legacy f) = Some (refusal 76 (legacy_number f) 0)
+code_of_fault (Blob blob.OutOfMemory place) = None
+code_of_fault (Blob f place) = Some (refusal 66 (blob_number f) place)
+code_of_fault (Fit f) = Some (refusal 70 (fit_number f) 0)
+code_of_fault _ = None
+
+-- the numbers for an answer: the status 0 where all is done, 1 where something is not right or the image is refused
+abbrev pub code_of_answer : Result Status Fault → Option Code
+code_of_answer (Ok Done) = Some (record { status = 0; fault = 0; place = 0 })
+code_of_answer (Ok NotRight) = Some (record { status = 1; fault = 0; place = 0 })
+code_of_answer (Err fault) = code_of_fault fault
+
+-- the numbers for the end of an outcome
+abbrev pub code_of : End Fault → Option Code
+code_of done = code_of_answer (Ok Done)
+code_of not_right = code_of_answer (Ok NotRight)
+code_of (refused fault) = code_of_fault fault

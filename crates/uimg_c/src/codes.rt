@@ -1,0 +1,125 @@
+//! The numbers that tell how a command ended.
+
+ghost use Rattle.std.specs.Prelude.{◌≡◌, ◌+◌, ◌*◌, ◌<◌};
+ghost use Rattle.uimg_c.specs.Codes.{legacy_number, blob_number, fit_number, code_of_fault, code_of_answer};
+
+use uimg_base::Status;
+use uimg_blob::BlobFault;
+use uimg_engine::Fault;
+use uimg_fit_base::FitFault;
+use uimg_legacy::LegacyFault;
+
+/// All is done.
+pub(crate) const DONE: u32 = 0;
+
+/// A checksum is not right, or the image is refused.
+pub(crate) const NOT_RIGHT: u32 = 1;
+
+/// Memory was refused.
+pub(crate) const NO_MEMORY: u32 = 3;
+
+/// The numbers that tell how a command ended: a status, the fault, and its place.
+#[derive(Clone, Copy, Debug, PartialEq, Eq)]
+pub struct Code {
+    pub status: u32,
+    pub fault: u32,
+    pub place: u64,
+}
+
+fn number_of_legacy(fault: LegacyFault) -> u32
+    ensures { result ≡ legacy_number fault }
+{
+    match fault {
+        LegacyFault::TooShort => 1,
+        LegacyFault::BadMagic => 2,
+        LegacyFault::BadHeaderCrc => 3,
+        LegacyFault::Truncated => 4,
+        LegacyFault::BadDataCrc => 5,
+        LegacyFault::NoTableEnd => 6,
+        LegacyFault::PartOutside => 7,
+        LegacyFault::NoSuchPart => 8,
+        LegacyFault::EmptyPart => 9,
+        LegacyFault::TooLarge => 10,
+    }
+}
+
+fn number_of_blob(fault: BlobFault) -> u32
+    ensures { result ≡ blob_number fault }
+{
+    match fault {
+        BlobFault::TooShort => 1,
+        BlobFault::BadMagic => 2,
+        BlobFault::BadVersion => 3,
+        BlobFault::BlockOutside => 4,
+        BlobFault::BadToken => 5,
+        BlobFault::Truncated => 6,
+        BlobFault::BadNodeName => 7,
+        BlobFault::BadNesting => 8,
+        BlobFault::BadPropertyName => 9,
+        BlobFault::TooLarge => 10,
+        BlobFault::OutOfMemory => 11,
+    }
+}
+
+fn number_of_fit(fault: FitFault) -> u32
+    ensures { result ≡ fit_number fault }
+{
+    match fault {
+        FitFault::NoImages => 1,
+        FitFault::NoData => 2,
+        FitFault::DataOutside => 3,
+        FitFault::NoSuchImage => 4,
+        FitFault::UnknownAlgo => 5,
+        FitFault::PositionTooLow => 6,
+        FitFault::TooLarge => 7,
+        FitFault::OutOfMemory => 8,
+        FitFault::NoFile => 9,
+        FitFault::ReadFailed => 10,
+    }
+}
+
+// A refusal by the fault of a letter and a number.
+fn refusal(letter: u32, number: u32, place: u64) -> Code
+    requires letter { letter < 128 }
+    requires number { number < 256 }
+    ensures { result ≡ record { status = 1; fault = 256 * letter + number; place = place } }
+{
+    Code {
+        status: NOT_RIGHT,
+        fault: 256 * letter + number,
+        place,
+    }
+}
+
+// The numbers for a fault of an image; none where a device failed, or memory was refused, or for a fault
+// that only a making has.
+pub(crate) fn fault_code(fault: Fault) -> Option<Code>
+    ensures { result ≡ code_of_fault fault }
+{
+    match fault {
+        Fault::Legacy(own) => Some(refusal(b'L' as u32, number_of_legacy(own), 0)),
+        Fault::Blob(BlobFault::OutOfMemory, _) => None,
+        Fault::Blob(own, place) => Some(refusal(b'B' as u32, number_of_blob(own), place)),
+        Fault::Fit(own) => Some(refusal(b'F' as u32, number_of_fit(own), 0)),
+        _ => None,
+    }
+}
+
+/// The numbers for an answer, or `None` where memory was refused.
+pub(crate) fn answer_code(end: Result<Status, Fault>) -> Option<Code>
+    ensures { result ≡ code_of_answer end }
+{
+    match end {
+        Ok(Status::Done) => Some(Code {
+            status: DONE,
+            fault: 0,
+            place: 0,
+        }),
+        Ok(Status::NotRight) => Some(Code {
+            status: NOT_RIGHT,
+            fault: 0,
+            place: 0,
+        }),
+        Err(fault) => fault_code(fault),
+    }
+}

@@ -1,0 +1,94 @@
+//! The functions that a caller in C calls.
+
+ghost use Rattle.std.specs.Prelude.{◌≡◌, ◌≢◌, ◌+◌, ◌≤◌, length};
+ghost use Rattle.uimg_names.specs.declared.naming.Naming.TheVariants as naming;
+ghost use Rattle.uimg_requests.specs.declared.command.Action.TheVariants as action;
+ghost use Rattle.uimg_requests.specs.declared.command.Format.TheVariants as format;
+ghost use Rattle.uimg_engine.specs.Headline.{outcome_of};
+ghost use Rattle.uimg_c.specs.Answers.{Finds, Reports};
+
+use crate::fault_lines::put_fault_line;
+use crate::fronts::copy_front;
+use crate::payloads::payload_at;
+use crate::reports::{UimgPayload, UimgReport};
+use crate::running::report_on;
+use std::alloc::Global;
+use uimg_names::Naming;
+use uimg_requests::{Action, Command, Format, VERSION};
+
+/// Lists an image: the listing of `uimg dumpimage -l` is put to the front of `text`.
+#[unsafe(no_mangle)]
+pub extern "C" fn uimg_list(
+    alloc: Global,
+    image: &[u8],
+    text: &mut [u8],
+    report: &mut UimgReport,
+) -> u32
+    ensures told { result ≢ 3 → Reports (outcome_of (record {
+      action = action.List naming.Profile;
+      format = format.Guess;
+    }) image.now) text.old text.new report.new }
+    ensures status { result ≡ report.new.status }
+    ensures untouched { result ≡ 3 → text.new ≡ text.old }
+{
+    let command = Command {
+        action: Action::List(Naming::Profile),
+        format: Format::Guess,
+    };
+    report_on(alloc, &command, image, text, report)
+}
+
+/// Verifies an image: the report of `uimg verify` is put to the front of `text`.
+#[unsafe(no_mangle)]
+pub extern "C" fn uimg_verify(
+    alloc: Global,
+    image: &[u8],
+    text: &mut [u8],
+    report: &mut UimgReport,
+) -> u32
+    ensures told { result ≢ 3 → Reports (outcome_of (record {
+      action = action.Verify;
+      format = format.Guess;
+    }) image.now) text.old text.new report.new }
+    ensures status { result ≡ report.new.status }
+    ensures untouched { result ≡ 3 → text.new ≡ text.old }
+{
+    let command = Command {
+        action: Action::Verify,
+        format: Format::Guess,
+    };
+    report_on(alloc, &command, image, text, report)
+}
+
+/// Finds the part of a legacy image, or the payload of a FIT image's image, at a position, counted from 0:
+/// the bytes that `uimg dumpimage -p` writes.
+#[unsafe(no_mangle)]
+pub extern "C" fn uimg_payload_at(
+    alloc: Global,
+    image: &[u8],
+    position: u32,
+    payload: &mut UimgPayload,
+) -> u32
+    ensures told { result ≢ 3 → Finds (outcome_of (record {
+      action = action.Extract position;
+      format = format.Guess;
+    }) image.now) image.now payload.new }
+    ensures status { result ≡ payload.new.status }
+    ensures inside { payload.new.start + payload.new.size ≤ length image.now }
+{
+    payload_at(alloc, image, position, payload)
+}
+
+/// Puts the line of a fault, as `L8 no such part`, to the front of `text`, and says how many bytes the
+/// whole line has: 0 for a number that is no fault's.
+#[unsafe(no_mangle)]
+pub extern "C" fn uimg_fault_line(fault: u32, text: &mut [u8]) -> usize {
+    put_fault_line(fault, text)
+}
+
+/// Puts the version of the library to the front of `text`, and says how many bytes it has.
+#[unsafe(no_mangle)]
+pub extern "C" fn uimg_version(text: &mut [u8]) -> usize {
+    copy_front(VERSION.as_bytes(), text);
+    VERSION.len()
+}

@@ -1,0 +1,78 @@
+//! Where a payload stands in an image in memory.
+
+ghost use Rattle.std.specs.Prelude.{◌≡◌, ◌≢◌, ◌+◌, ◌≤◌, length, Some};
+ghost use Rattle.uimg_requests.specs.declared.command.Action.TheVariants as action;
+ghost use Rattle.uimg_requests.specs.declared.command.Format.TheVariants as format;
+ghost use Rattle.uimg_engine.specs.Headline.{outcome_of};
+ghost use Rattle.uimg_c.specs.Answers.{Finds};
+ghost use Rattle.uimg_c.specs.Codes.{code_of_fault};
+
+use crate::codes::{DONE, NO_MEMORY, fault_code};
+use crate::reports::UimgPayload;
+use std::alloc::Global;
+use uimg_base::{Room, Span};
+use uimg_engine::{Fault, locate_in_memory};
+use uimg_requests::Format;
+
+// What is told of a payload that was not found.
+fn unfound(fault: Fault) -> UimgPayload
+    ensures code { result.status ≢ 3 → code_of_fault fault ≡ Some (record {
+      status = result.status;
+      fault = result.fault;
+      place = result.place;
+    }) }
+    ensures not_found { result.status ≢ 0 }
+    ensures nowhere { (result.start ≡ 0) × (result.size ≡ 0) }
+{
+    match fault_code(fault) {
+        Some(code) => UimgPayload {
+            status: code.status,
+            fault: code.fault,
+            place: code.place,
+            start: 0,
+            size: 0,
+        },
+        None => UimgPayload {
+            status: NO_MEMORY,
+            fault: 0,
+            place: 0,
+            start: 0,
+            size: 0,
+        },
+    }
+}
+
+// What is told of a payload at a span.
+fn found(span: Span) -> UimgPayload
+    ensures { result ≡ record { status = 0; fault = 0; place = 0; start = span.place; size = span.length } }
+{
+    UimgPayload {
+        status: DONE,
+        fault: 0,
+        place: 0,
+        start: span.place as usize,
+        size: span.length as usize,
+    }
+}
+
+/// Where the part or the payload at a position stands in the bytes of an image.
+pub(crate) fn payload_at(
+    alloc: Global,
+    image: &[u8],
+    position: u32,
+    payload: &mut UimgPayload,
+) -> u32
+    ensures told { result ≢ 3 → Finds (outcome_of (record {
+      action = action.Extract position;
+      format = format.Guess;
+    }) image.now) image.now payload.new }
+    ensures status { result ≡ payload.new.status }
+    ensures inside { payload.new.start + payload.new.size ≤ length image.now }
+{
+    let mut room = Room::new(alloc);
+    *payload = match locate_in_memory(Format::Guess, position, image, &mut room) {
+        Ok(span) => found(span),
+        Err(fault) => unfound(fault),
+    };
+    payload.status
+}

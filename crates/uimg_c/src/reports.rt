@@ -1,0 +1,41 @@
+//! What the exports tell, for C.
+
+/// What a command on an image found, and how much of its text there is.
+#[repr(C)]
+#[derive(Drop)]
+pub struct UimgReport {
+    /// How the command ended: 0 done, 1 not right or refused, 3 out of memory.
+    pub status: u32,
+
+    /// The fault's letter, as its ASCII code times 256, and its number; 0 where there is no fault.
+    pub fault: u32,
+
+    /// The place of a blob's fault in the image, and 0 for any other.
+    pub place: u64,
+
+    /// How many bytes the whole text has.
+    pub needed: usize,
+
+    /// How many of them stand at the front of the caller's memory.
+    pub written: usize,
+}
+
+/// Where a payload stands in an image.
+#[repr(C)]
+#[derive(Drop)]
+pub struct UimgPayload {
+    /// How the search ended: 0 found, 1 refused, 3 out of memory.
+    pub status: u32,
+
+    /// The fault's letter, as its ASCII code times 256, and its number; 0 where there is no fault.
+    pub fault: u32,
+
+    /// The place of a blob's fault in the image, and 0 for any other.
+    pub place: u64,
+
+    /// Where the payload begins in the image; 0 where none was found.
+    pub start: usize,
+
+    /// How many bytes the payload has; 0 where none was found.
+    pub size: usize,
+}

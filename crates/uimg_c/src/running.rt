@@ -1,0 +1,48 @@
+//! A command on an image in memory, whose text goes to the caller's memory.
+
+ghost use Rattle.std.specs.Prelude.{◌≡◌, ◌≢◌};
+ghost use Rattle.uimg_engine.specs.Headline.{outcome_of};
+ghost use Rattle.uimg_c.specs.Answers.{Reports};
+
+use crate::codes::{NO_MEMORY, answer_code};
+use crate::fronts::copy_front;
+use crate::reports::UimgReport;
+use std::alloc::Global;
+use uimg_base::Room;
+use uimg_engine::run_in_memory;
+use uimg_requests::Command;
+
+/// Carries out a command on the bytes of an image, and copies its text to the front of `text`.
+pub(crate) fn report_on(
+    alloc: Global,
+    command: &Command,
+    image: &[u8],
+    text: &mut [u8],
+    report: &mut UimgReport,
+) -> u32
+    ensures told { result ≢ 3 → Reports (outcome_of command.now image.now) text.old text.new report.new }
+    ensures status { result ≡ report.new.status }
+    ensures untouched { result ≡ 3 → text.new ≡ text.old }
+{
+    let mut room = Room::new(alloc);
+    let (end, whole) = run_in_memory(alloc, command, image, &mut room);
+    let Some(code) = answer_code(end) else {
+        *report = UimgReport {
+            status: NO_MEMORY,
+            fault: 0,
+            place: 0,
+            needed: 0,
+            written: 0,
+        };
+        return NO_MEMORY;
+    };
+    let written = copy_front(whole.as_slice(), text);
+    *report = UimgReport {
+        status: code.status,
+        fault: code.fault,
+        place: code.place,
+        needed: whole.len(),
+        written,
+    };
+    code.status
+}

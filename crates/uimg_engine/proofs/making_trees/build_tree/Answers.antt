@@ -1,0 +1,33 @@
+use Rattle.std.specs.Bool.{⊤}
+use Rattle.std.proofs.lemmas.Result.{err_from_is_err_and}
+use Rattle.uimg_tree.specs.Trees.{node_of}
+use Rattle.uimg_engine.proofs.TreeLaws.{still_honest, still_complete, kept_by, built_source, unbuilt_source, payload_of_building, text_of_building, lacks_of_building, read_of_building, lost_of_building, opens_last}
+use Rattle.uimg_engine.proofs.making_trees.build_tree.Goals as goal
+
+pub returns-clause-built : goal.returns-clause-built
+returns-clause-built g c = λ honest.
+    built_source _ _ c.args.name.now c.args.time c.args.placement (node_of c.in_ok-tree.tree.root) _ _ c.in_ok-tree.ensures.files.same honest (c.in_ok-tree.ensures.tree honest) c.in_ok-build.ensures.built c.in_ok-build.ensures.reads_back
+
+pub returns-in_err-build-clause-built : goal.returns-in_err-build-clause-built
+returns-in_err-build-clause-built g c = λ honest.
+    let p = err_from_is_err_and c.from_residual-in_err-build.result c.from_residual-in_err-build.ensures.1 in
+    rw (p.1, p.2) (unbuilt_source _ _ c.args.name.now c.args.time c.args.placement (node_of c.in_ok-tree.tree.root) c.in_err-build.field-0.0 _ _ c.in_ok-tree.ensures.files.same honest (c.in_ok-tree.ensures.tree honest) c.in_err-build.ensures.built)
+
+pub returns-in_err-build-clause-files : goal.returns-in_err-build-clause-files
+returns-in_err-build-clause-files g c =
+    let p = err_from_is_err_and c.from_residual-in_err-build.result c.from_residual-in_err-build.ensures.1 in
+    let same = c.in_ok-tree.ensures.files.same in
+    rw (p.1, p.2) (opens_last c.args.name.now _ _ _ _ _ (payload_of_building ⊤ ⊤ c.in_err-build.field-0.0) (text_of_building ⊤ c.in_err-build.field-0.0) (lacks_of_building (g.F.Files.map c.args.files.now).bytes c.args.name.now c.in_err-build.field-0.0) same c.in_ok-tree.ensures.files.text c.in_err-build.ensures.files
+    (λ complete honest. c.in_err-build.ensures.found (still_complete same complete) (kept_by (node_of c.in_ok-tree.tree.root) same (c.in_ok-tree.ensures.tree honest).kept)))
+
+pub returns-in_err-build-clause-reads : goal.returns-in_err-build-clause-reads
+returns-in_err-build-clause-reads g c = λ steady honest.
+    let p = err_from_is_err_and c.from_residual-in_err-build.result c.from_residual-in_err-build.ensures.1 in
+    let same = c.in_ok-tree.ensures.files.same in
+    rw (p.1, p.2) (read_of_building ⊤ ⊤ c.in_err-build.field-0.0 (c.in_err-build.ensures.steady steady (still_honest same honest) (kept_by (node_of c.in_ok-tree.tree.root) same (c.in_ok-tree.ensures.tree honest).kept)))
+
+pub returns-in_err-build-clause-payloads : goal.returns-in_err-build-clause-payloads
+returns-in_err-build-clause-payloads g c = λ steady honest.
+    let p = err_from_is_err_and c.from_residual-in_err-build.result c.from_residual-in_err-build.ensures.1 in
+    let same = c.in_ok-tree.ensures.files.same in
+    rw (p.1, p.2) (lost_of_building ⊤ _ c.args.placement c.in_err-build.field-0.0 _ _ (c.in_err-build.ensures.built (still_honest same honest) (kept_by (node_of c.in_ok-tree.tree.root) same (c.in_ok-tree.ensures.tree honest).kept)))

@@ -1,0 +1,93 @@
+-- What the making of an image gives, by its command.
+use Rattle.std.specs.Prelude.{◌≡◌, ℕ, List, [], map, Option, None, Result, Ok, Err, IsTrue, IfErr, Bool, false, ⊤}
+use Rattle.std.specs.Bool.{OnFalse}
+use Rattle.uimg_base.specs.Device.{Device, Rose, RisesIf}
+use Rattle.uimg_base.specs.Held.{Held}
+use Rattle.uimg_base.specs.Named.{FileMap, SameFiles}
+use Rattle.uimg_base.specs.Outcome.{Outcome}
+use Rattle.uimg_base.specs.Sink.{Sink}
+use Rattle.uimg_fit_reading.specs.Rooms.{TakesNodes}
+use Rattle.uimg_names.specs.declared.naming.Naming.{Naming}
+use Rattle.uimg_engine.specs.declared.fault.Fault.{Fault}
+use Rattle.uimg_engine.specs.declared.fault.Fault.TheVariants.{NoFile, Fit}
+use Rattle.uimg_requests.specs.declared.command.Action.TheVariants as Action
+use Rattle.uimg_requests.specs.declared.command.Format.TheVariants as Format
+use Rattle.uimg_requests.specs.declared.make_command.MakeCommand.{MakeCommand}
+use Rattle.uimg_requests.specs.declared.make_command.MakeCommand.TheVariants.{Parts, Tree}
+use Rattle.uimg_engine.specs.Faults.{is_no_memory, is_of_making, is_no_text, is_no_payload, refuses_payload}
+use Rattle.uimg_engine.specs.Headline.{outcome_in, outcome_of, Takes}
+use Rattle.uimg_engine.specs.Making.{timed, OpensNames, Lacks, BuildsNames, MakesAnswer}
+use Rattle.uimg_engine.specs.MakingTrees.{BuildsSource, MakesSource, HoldsSource}
+
+-- Files have the sizes that a command keeps of them: those of a tree do where the files are honest, and parts keep none.
+abbrev pub KeepsSizes : MakeCommand → FileMap → Type 0
+KeepsSizes (Parts options files) map = ⊤
+KeepsSizes (Tree source placement) map = IsTrue map.honest
+
+-- a source whose open was refused has no bytes; of other faults this says nothing
+abbrev pub LacksSource : (List ℕ → Option (List ℕ)) → List ℕ → Fault → Type 0
+LacksSource files source (NoFile i) = files source ≡ None
+LacksSource files source _ = ⊤
+
+-- The files are what they were, a refusal was counted exactly where the answer is that the source or a file of it could not
+-- be opened, and complete files refuse only a source that has no bytes, and no payload where they are honest.
+pub record OpensSource {X : Type 0} (source : List ℕ) (result : Result X Fault) (old new : FileMap) : Type 0 where
+  pub same : SameFiles old new
+  pub text : OnFalse (is_no_payload result) (RisesIf (is_no_text result) old.refusals new.refusals)
+  pub payload : IsTrue (is_no_payload result) → Rose old.refusals new.refusals
+  pub missing : IsTrue old.complete → IfErr result (LacksSource old.bytes source)
+  pub found : IsTrue old.complete → IsTrue old.honest → is_no_payload result ≡ false
+
+-- what a building or a making did to the files
+abbrev pub OpensToBuild : {X : Type 0} → MakeCommand → Result X Fault → FileMap → FileMap → Type 0
+OpensToBuild (Parts options files) result old new = OpensNames (map (λ name. name.items) files.items) result old new
+OpensToBuild (Tree source placement) result old new = OpensSource source.items result old new
+
+-- what the answer of a building says of the files, and of what was appended
+abbrev pub BuildsCommand : {X : Type 0} → MakeCommand → ℕ → (List ℕ → Option (List ℕ)) → Result X Fault → Sink → Sink → Type 0
+BuildsCommand (Parts options names) time files result s t = BuildsNames (timed options time) files (map (λ name. name.items) names.items) result s t
+BuildsCommand (Tree source placement) time files result s t = BuildsSource files source.items time placement result s t
+
+-- what the answer of a making says of the files, and of what was listed
+abbrev pub MakesCommand : {K : Type 0} → (K → Device) → Naming → MakeCommand → ℕ → (List ℕ → Option (List ℕ)) → Result K Fault → Sink → Sink → Type 0
+MakesCommand device naming (Parts options names) time files result s t = MakesAnswer device naming (timed options time) files (map (λ name. name.items) names.items) result s t
+MakesCommand device naming (Tree source placement) time files result s t = MakesSource device naming files source.items time placement result s t
+
+-- Files that are complete and honest lack what a fault says: a name, or the source. They lack no payload.
+abbrev pub LacksPayload : (List ℕ → Option (List ℕ)) → List ℕ → Fault → Type 0
+LacksPayload files source (Fit fault) = refuses_payload fault ≡ false
+LacksPayload files source fault = LacksSource files source fault
+
+abbrev pub LacksFile : MakeCommand → (List ℕ → Option (List ℕ)) → Fault → Type 0
+LacksFile (Parts options names) files fault = Lacks files (map (λ name. name.items) names.items) fault
+LacksFile (Tree source placement) files fault = LacksPayload files source.items fault
+
+-- What a making from a source that is refused did to a room: where a fault comes that no listing gives, it cleared the room
+-- and did nothing else. A refusal was counted exactly where the memory for the nodes was refused, if the files are honest.
+pub record LeavesRefused (honest of_making no_memory : Bool) (old new : Held) : Type 0 where
+  pub cleared : IsTrue of_making → new ≡ record old { entries = [] }
+  pub refused : IsTrue honest → RisesIf no_memory old.refused new.refused
+
+-- What a making that lists a FIT image did to a room: it took memory for the nodes of what is kept, or it is refused.
+abbrev pub TakesKept : {K : Type 0} → (K → Device) → Bool → Result K Fault → (old new : Held) → Type 0
+TakesKept device honest (Ok kept) old new = TakesNodes (device kept) false old new
+TakesKept device honest (Err fault) old new = LeavesRefused honest (is_of_making {X = ⊤} (Err fault)) (is_no_memory {X = ⊤} (Err fault)) old new
+
+abbrev pub LeavesRoom : {K : Type 0} → (K → Device) → Bool → MakeCommand → Result K Fault → (old new : Held) → Type 0
+LeavesRoom device honest (Parts options files) result old new = new ≡ record old { entries = [] }
+LeavesRoom device honest (Tree source placement) result old new = TakesKept device honest result old new
+
+-- What a making did to a room, whatever its answer: to list parts takes no memory, and to list a FIT image that for its nodes.
+abbrev pub HoldsCommand : MakeCommand → ℕ → (List ℕ → Option (List ℕ)) → (old new : Held) → Type 0
+HoldsCommand (Parts options names) time files old new = new ≡ record old { entries = [] }
+HoldsCommand (Tree source placement) time files old new = HoldsSource files source.items time placement old new
+
+-- the listing of an image that was made, by a set of names
+abbrev pub listing_of : Naming → MakeCommand → List ℕ → Outcome Fault
+listing_of naming (Parts options files) file = outcome_in false (Action.List naming) file
+listing_of naming (Tree source placement) file = outcome_of (record { action = Action.List naming; format = Format.Guess }) file
+
+-- what that listing did to a room
+abbrev pub TakesListing : MakeCommand → Device → Bool → (old new : Held) → Type 0
+TakesListing (Parts options files) kept no_memory old new = Takes false kept no_memory old new
+TakesListing (Tree source placement) kept no_memory old new = TakesNodes kept no_memory old new

@@ -1,0 +1,160 @@
+-- What a command on an image has to write, how it has to end, how much it may ask for, and what memory it may take.
+use Rattle.std.specs.Prelude.{◌≡◌, ℕ, ◌+◌, ◌-◌, ◌^◌, ◌<◌, List, [], length, nat_lt, ◌==◌, if◌then◌else◌, Result, Some, ⊤, Bool, true, false, IsTrue}
+use Rattle.uimg_base.specs.Device.{Device, RisesIf}
+use Rattle.uimg_base.specs.Held.{Held}
+use Rattle.uimg_base.specs.Ranges.{ReadsAhead}
+use Rattle.uimg_base.specs.Sink.{Sink, AppendsAll}
+use Rattle.uimg_base.specs.Outcome.{End, Outcome, done, not_right, refused, Tells}
+use Rattle.uimg_base.specs.Using.{UsesAtMost}
+use Rattle.uimg_base.specs.declared.status.Status.{Status}
+use Rattle.uimg_texts.specs.Numbers.{be32}
+use Rattle.uimg_blob.specs.Counts.{nodes_met}
+use Rattle.uimg_fit_base.specs.declared.fault.Fault.{Fault as FitEngineFault}
+use Rattle.uimg_fit_reading.specs.Rooms.{TakesNodes}
+use Rattle.uimg_fit_reading.specs.Listing as fit_listing
+use Rattle.uimg_fit_base.specs.Report as fit_report
+use Rattle.uimg_fit_base.specs.Extraction as fit_extraction
+use Rattle.uimg_fit_reading.specs.Work as fit
+use Rattle.uimg_legacy.specs.declared.fault.LegacyFault.{LegacyFault}
+use Rattle.uimg_legacy.specs.Listing as legacy_listing
+use Rattle.uimg_legacy.specs.Report as legacy_report
+use Rattle.uimg_legacy.specs.Extraction as legacy_extraction
+use Rattle.uimg_legacy.specs.Work as legacy
+use Rattle.uimg_engine.specs.declared.fault.Fault.{Fault}
+use Rattle.uimg_engine.specs.declared.fault.Fault.TheVariants.{Legacy}
+use Rattle.uimg_names.specs.declared.naming.Naming.TheVariants.{Profile}
+use Rattle.uimg_requests.specs.declared.command.Action.{Action}
+use Rattle.uimg_requests.specs.declared.command.Action.TheVariants as action
+use Rattle.uimg_requests.specs.declared.command.Command.{Command}
+use Rattle.uimg_requests.specs.declared.command.Format.{Format}
+use Rattle.uimg_requests.specs.declared.command.Format.TheVariants as format
+use Rattle.uimg_engine.specs.Faults.{end_of, of_fit, is_read, is_put, is_no_memory, is_refused, is_of_making}
+
+-- the file begins with the magic number of a devicetree blob (Devicetree Specification, section 5.2)
+unfoldable pub begins_as_blob : List ℕ → Bool
+begins_as_blob file = if nat_lt (length file) 4 then false else be32 file 0 == 0xd00dfeed
+
+-- The file is read as a FIT image: that is asked for, or its first bytes tell it. Any other file is read as a legacy image.
+abbrev pub is_fit : Format → List ℕ → Bool
+is_fit format.Guess file = begins_as_blob file
+is_fit format.Legacy file = false
+is_fit format.Fit file = true
+
+-- an outcome whose fault is told in another way
+abbrev pub end_as : {F : Type 0} → (F → Fault) → End F → End Fault
+end_as name done = done
+end_as name not_right = not_right
+end_as name (refused fault) = refused (name fault)
+
+abbrev pub outcome_as : {F : Type 0} → (F → Fault) → Outcome F → Outcome Fault
+outcome_as name o = record { text = o.text; end = end_as name o.end }
+
+-- the outcome of an action on a legacy image: its listing by a set of names, its report, or its part at a position
+abbrev pub legacy_outcome : Action → List ℕ → Outcome LegacyFault
+legacy_outcome (action.List naming) file = legacy_listing.list_of naming file
+legacy_outcome action.Verify file = legacy_report.verify_of file
+legacy_outcome (action.Extract position) file = legacy_extraction.extract_of file position
+
+-- the outcome of an action on a FIT image: its listing by a set of names, its report, or the payload of its image at a position
+abbrev pub fit_outcome : Action → List ℕ → Outcome FitEngineFault
+fit_outcome (action.List naming) file = fit_listing.list_of naming file
+fit_outcome action.Verify file = fit_report.verify_of file
+fit_outcome (action.Extract position) file = fit_extraction.extract_of file position
+
+-- the outcome of an action on a file that is read as a FIT image, or as a legacy image
+abbrev pub outcome_in : Bool → Action → List ℕ → Outcome Fault
+outcome_in true action file = outcome_as of_fit (fit_outcome action file)
+outcome_in false action file = outcome_as Legacy (legacy_outcome action file)
+
+-- the outcome of a command on a file
+abbrev pub outcome_of : Command → List ℕ → Outcome Fault
+outcome_of command file = outcome_in (is_fit command.format file) command.action file
+
+-- the most bytes that the engine of a format asks for
+abbrev pub work_in : Bool → Action → List ℕ → ℕ
+work_in true (action.List naming) file = fit.list_work file
+work_in true action.Verify file = fit.verify_work file
+work_in true (action.Extract position) file = fit.extract_work file position
+work_in false (action.List naming) file = legacy.list_work file
+work_in false action.Verify file = legacy.verify_work file
+work_in false (action.Extract position) file = legacy.extract_work file position
+
+-- The most bytes that a command asks for, a listing by whatever names: the four that tell the format, and what the format's engine asks for. Beside payloads
+-- that is `64 + 1024 * (nodes + properties) + 4 * (bytes of texts + NOPs)` for a FIT image, each counted as it is met, and
+-- `64 + 16 * (sizes + 1)` for a legacy image.
+abbrev pub work : Command → List ℕ → ℕ
+work command file = 4 + work_in (is_fit command.format file) command.action file
+
+-- how many entries a command's table has at most: one for each node of a FIT image, none for a legacy image
+abbrev pub nodes_in : Bool → List ℕ → ℕ
+nodes_in true file = nodes_met file
+nodes_in false file = 0
+
+abbrev pub nodes_of : Command → List ℕ → ℕ
+nodes_of command file = nodes_in (is_fit command.format file) file
+
+-- An extraction asked for at most its work without the payload, the bytes that it wrote, and a window of 8192 more.
+-- Of other actions this says nothing.
+abbrev pub ExtractsAhead : ℕ → Action → Outcome Fault → (old new : Device) → Sink → Sink → Type 0
+ExtractsAhead most (action.List naming) o old new s t = ⊤
+ExtractsAhead most action.Verify o old new s t = ⊤
+ExtractsAhead most (action.Extract position) o old new s t = ReadsAhead most old new s t o.text
+
+-- An extraction that is refused has written nothing. Of other actions and answers this says nothing.
+abbrev pub KeepsOutput : Action → Bool → (old new : Sink) → Type 0
+KeepsOutput (action.List naming) is_refused old new = ⊤
+KeepsOutput action.Verify is_refused old new = ⊤
+KeepsOutput (action.Extract position) true old new = new ≡ old
+KeepsOutput (action.Extract position) false old new = ⊤
+
+-- An extraction that is refused has written nothing to a text that was empty. Of other actions and answers this says nothing.
+abbrev pub WritesNone : Action → Bool → List ℕ → Type 0
+WritesNone (action.List naming) is_refused text = ⊤
+WritesNone action.Verify is_refused text = ⊤
+WritesNone (action.Extract position) true text = text ≡ []
+WritesNone (action.Extract position) false text = ⊤
+
+-- a counter was below its greatest value, and did not rise
+abbrev pub Stays : ℕ → ℕ → Type 0
+Stays old new = (old < 2 ^ 64 - 1) × (new ≡ old)
+
+-- no growth of the table of a FIT image was refused; a legacy image has no table
+abbrev pub GrowthsSucceed : Bool → (old new : Held) → Type 0
+GrowthsSucceed true old new = Stays old.refused new.refused
+GrowthsSucceed false old new = ⊤
+
+-- The file is surely read as a legacy image: that is asked for, or the bytes of an honest source tell it.
+abbrev pub IsLegacy : Format → Device → Type 0
+IsLegacy format.Guess source = IsTrue source.honest × (begins_as_blob source.bytes ≡ false)
+IsLegacy format.Legacy source = ⊤
+IsLegacy format.Fit source = ⊥
+
+-- What a command does to a room: it takes memory for a table of nodes, or none.
+abbrev pub Takes : Bool → Device → Bool → (old new : Held) → Type 0
+Takes true source no_memory old new = TakesNodes source no_memory old new
+Takes false source no_memory old new = (new ≡ record old { entries = [] }) × (no_memory ≡ false)
+
+-- What the engine of a format did at any exit: what it asked for and took, what it wrote of the outcome, and which failures it counted.
+pub record CarriesOut (fit : Bool) (what : Action) (result : Result Status Fault) (d e : Device) (old new : Held) (s t : Sink) : Type 0 where
+  pub uses : UsesAtMost (work_in fit what d.bytes) (is_read result) d e
+  pub room : Takes fit d (is_no_memory result) old new
+  pub ahead : IsTrue d.honest → ExtractsAhead (work_in fit (action.List Profile) d.bytes) what (outcome_in fit what d.bytes) d e s t
+  pub untouched : KeepsOutput what (is_refused result) s t
+  pub faults : RisesIf (is_put result) s.faults t.faults
+  pub not_making : is_of_making result ≡ false
+  pub told : IsTrue d.honest → Tells (end_of result) (outcome_in fit what d.bytes) s t
+
+-- The same of a command, whose format it names or the file's first bytes tell.
+pub record Runs (command : Command) (result : Result Status Fault) (d e : Device) (old new : Held) (s t : Sink) : Type 0 where
+  pub uses : UsesAtMost (work command d.bytes) (is_read result) d e
+  pub room : TakesNodes d (is_no_memory result) old new
+  pub legacy : IsLegacy command.format d → Takes false d (is_no_memory result) old new
+  pub ahead : IsTrue d.honest → ExtractsAhead (work (record command { action = action.List Profile }) d.bytes) command.action (outcome_of command d.bytes) d e s t
+  pub untouched : KeepsOutput command.action (is_refused result) s t
+  pub faults : RisesIf (is_put result) s.faults t.faults
+  pub not_making : is_of_making result ≡ false
+  pub told : IsTrue d.honest → Tells (end_of result) (outcome_of command d.bytes) s t
+
+-- the answer is the outcome's end, and exactly its text was appended
+abbrev pub Meets : Result Status Fault → Outcome Fault → Sink → Sink → Type 0
+Meets result o s t = (end_of result ≡ Some o.end) × AppendsAll s t o.text

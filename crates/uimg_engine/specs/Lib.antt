@@ -1,0 +1,6 @@
+pub mod Faults
+pub mod Headline
+pub mod Locating
+pub mod Making
+pub mod MakingTrees
+pub mod Commands

@@ -1,0 +1,32 @@
+-- Where a part of a legacy image, or the payload of a FIT image's image, stands.
+use Rattle.std.specs.Prelude.{◌≡◌, ℕ, ◌+◌, ◌≤◌, List, length, Result, Ok, Err, Option, Some, Bool, false, IsTrue, IfOk, IfSome}
+use Rattle.uimg_texts.specs.Slices.{slice}
+use Rattle.uimg_base.specs.Device.{Device}
+use Rattle.uimg_base.specs.Held.{Held}
+use Rattle.uimg_base.specs.Outcome.{End, Outcome, done}
+use Rattle.uimg_base.specs.Using.{UsesAtMost}
+use Rattle.uimg_base.specs.declared.spans.Span.{Span}
+use Rattle.uimg_names.specs.declared.naming.Naming.TheVariants.{Profile}
+use Rattle.uimg_requests.specs.declared.command.Action.TheVariants as action
+use Rattle.uimg_engine.specs.declared.fault.Fault.{Fault}
+use Rattle.uimg_engine.specs.Faults.{is_read, is_put, is_no_memory, is_of_making, end_of}
+use Rattle.uimg_engine.specs.Headline.{outcome_in, work_in, Takes}
+
+-- the end of an extraction that an answer tells, where no device failed and no memory was refused
+abbrev pub ends : Result Span Fault → Option (End Fault)
+ends (Ok span) = Some done
+ends (Err fault) = end_of (Err fault)
+
+-- An extraction with this outcome writes just the bytes at the span that is answered, or it ends by just the fault that is.
+pub record TellsSpan (file : List ℕ) (o : Outcome Fault) (result : Result Span Fault) : Type 0 where
+  pub end : IfSome (ends result) (λ e. o.end ≡ e)
+  pub text : IfOk result (λ span. o.text ≡ slice file span.place span.length)
+
+-- What the engine of a format did at any exit: it asked for no more than for a listing, and wrote nothing.
+pub record Locates (fit : Bool) (position : ℕ) (result : Result Span Fault) (d e : Device) (old new : Held) : Type 0 where
+  pub uses : UsesAtMost (work_in fit (action.List Profile) d.bytes) (is_read result) d e
+  pub room : Takes fit d (is_no_memory result) old new
+  pub no_put : is_put result ≡ false
+  pub not_making : is_of_making result ≡ false
+  pub inside : IfOk result (λ span. span.place + span.length ≤ length d.bytes)
+  pub told : IsTrue d.honest → TellsSpan d.bytes (outcome_in fit (action.Extract position) d.bytes) result

@@ -1,0 +1,135 @@
+-- What the making of an image gives.
+use Rattle.std.specs.Prelude.{◌≡◌, ◌≢◌, ℕ, ⊤, ◌<◌, List, length, map, take, Result, Ok, Err, Option, Some, IsSome, IsTrue, IfErr, All, false, slice_index_or, [], None}
+use Rattle.uimg_base.specs.Device.{Device, RisesIf}
+use Rattle.uimg_base.specs.Named.{FileMap, SameFiles}
+use Rattle.uimg_base.specs.Sink.{Sink, AppendsAll, AppendsPrefix}
+use Rattle.uimg_base.specs.Outcome.{done}
+use Rattle.uimg_legacy.specs.declared.fault.LegacyFault.{LegacyFault}
+use Rattle.uimg_legacy.specs.declared.options.Options.{Options}
+use Rattle.uimg_legacy.specs.Parts.{has_parts}
+use Rattle.uimg_legacy.specs.Listing.{list_of}
+use Rattle.uimg_legacy.specs.Building.{data_of, data_to_build, legacy_built, build_of}
+use Rattle.uimg_legacy.specs.Devices.{bytes_of, AreHonest}
+use Rattle.uimg_legacy.specs.ReadsBack.{ReadsBack}
+use Rattle.uimg_names.specs.declared.naming.Naming.{Naming}
+use Rattle.uimg_engine.specs.declared.fault.Fault.{Fault}
+use Rattle.uimg_engine.specs.declared.fault.Fault.TheVariants.{Legacy, Blob, Fit, Its, Read, Put, NoFile, Keep, OutOfMemory}
+use Rattle.uimg_engine.specs.Faults.{is_no_file}
+
+-- the options at the time of the making
+abbrev pub timed : Options → ℕ → Options
+timed options time = record options { time = time }
+
+-- the names have these parts, in order
+abbrev pub HaveParts : (List ℕ → Option (List ℕ)) → List (List ℕ) → List (List ℕ) → Type 0
+HaveParts files names parts = map files names ≡ map Some parts
+
+-- There is a name of number i, and the names before it have bytes.
+pub record Misses (files : List ℕ → Option (List ℕ)) (names : List (List ℕ)) (i : ℕ) : Type 0 where
+  pub within : i < length names
+  pub before : All (λ name. IsSome (files name)) (take i names)
+
+-- The parts of the names are refused.
+pub record Refuses (options : Options) (files : List ℕ → Option (List ℕ)) (names : List (List ℕ)) (fault : LegacyFault) : Type 0 where
+  pub parts : List (List ℕ)
+  pub have : HaveParts files names parts
+  pub refused : data_to_build options.kind parts ≡ Err fault
+
+-- The names have parts that an image is built from.
+pub record Accepts (options : Options) (files : List ℕ → Option (List ℕ)) (names : List (List ℕ)) : Type 0 where
+  pub parts : List (List ℕ)
+  pub have : HaveParts files names parts
+  pub accepted : data_to_build options.kind parts ≡ Ok (data_of (has_parts options.kind) parts)
+
+-- The image of parts was appended, and reads back as such.
+pub record BuildsImage (options : Options) (parts : List (List ℕ)) (s t : Sink) : Type 0 where
+  pub accepted : data_to_build options.kind parts ≡ Ok (data_of (has_parts options.kind) parts)
+  pub written : AppendsAll s t (legacy_built options parts)
+  pub reads_back : ReadsBack (legacy_built options parts) parts
+
+-- What is kept is the image of parts, and reads back as such.
+pub record KeepsImage (options : Options) (parts : List (List ℕ)) (kept : Device) : Type 0 where
+  pub accepted : data_to_build options.kind parts ≡ Ok (data_of (has_parts options.kind) parts)
+  pub bytes : kept.bytes ≡ legacy_built options parts
+  pub honest : IsTrue kept.honest
+  pub reads_back : ReadsBack (legacy_built options parts) parts
+
+-- What is kept is the image of the names' parts, and reads back as such.
+pub record Keeps (options : Options) (files : List ℕ → Option (List ℕ)) (names : List (List ℕ)) (kept : Device) : Type 0 where
+  pub parts : List (List ℕ)
+  pub have : HaveParts files names parts
+  pub image : KeepsImage options parts kept
+
+-- The image of the names' parts is kept, its whole listing was appended, and the listing is not refused.
+pub record Makes (naming : Naming) (options : Options) (files : List ℕ → Option (List ℕ)) (names : List (List ℕ)) (kept : Device) (s t : Sink) : Type 0 where
+  pub keeps : Keeps options files names kept
+  pub listed : AppendsAll s t (list_of naming (legacy_built options keeps.parts)).text
+  pub done : (list_of naming (legacy_built options keeps.parts)).end ≡ done
+
+-- A prefix of the listing of the image of the names' parts was appended.
+pub record Breaks (naming : Naming) (options : Options) (files : List ℕ → Option (List ℕ)) (names : List (List ℕ)) (s t : Sink) : Type 0 where
+  pub parts : List (List ℕ)
+  pub have : HaveParts files names parts
+  pub prefix : AppendsPrefix s t (list_of naming (legacy_built options parts)).text
+
+-- why the files of the names are not opened
+abbrev pub StopsOpening : (List ℕ → Option (List ℕ)) → List (List ℕ) → Fault → Type 0
+StopsOpening files names (NoFile i) = Misses files names i
+StopsOpening files names OutOfMemory = ⊤
+StopsOpening files names _ = ⊥
+
+-- An answer is the opened files, honest sources of the names' bytes, or why they are not all opened.
+abbrev pub OpensAnswer : {V : Type 0} → (V → List Device) → (List ℕ → Option (List ℕ)) → List (List ℕ) → Result V Fault → Type 0
+OpensAnswer devices files names (Ok opened) = HaveParts files names (bytes_of (devices opened)) × AreHonest (devices opened)
+OpensAnswer devices files names (Err fault) = StopsOpening files names fault
+
+-- What the answer of a building says of the parts, and of what was appended: the image, or why not; where a read or a
+-- write failed, a prefix of it.
+abbrev pub BuildsParts : {X : Type 0} → Options → List (List ℕ) → Result X Fault → Sink → Sink → Type 0
+BuildsParts options parts (Ok x) s t = BuildsImage options parts s t
+BuildsParts options parts (Err (Legacy fault)) s t = data_to_build options.kind parts ≡ Err fault
+BuildsParts options parts (Err Read) s t = AppendsPrefix s t (build_of options parts).text
+BuildsParts options parts (Err Put) s t =
+    (data_to_build options.kind parts ≡ Ok (data_of (has_parts options.kind) parts)) × AppendsPrefix s t (build_of options parts).text
+BuildsParts options parts (Err _) s t = ⊥
+
+-- The names have parts, of which the answer of a building says what it says.
+pub record BuildsThese {X : Type 0} (options : Options) (files : List ℕ → Option (List ℕ)) (names : List (List ℕ)) (result : Result X Fault) (s t : Sink) : Type 0 where
+  pub parts : List (List ℕ)
+  pub have : HaveParts files names parts
+  pub builds : BuildsParts options parts result s t
+
+-- What the answer of a building says of the files of the names, and of what was appended.
+abbrev pub BuildsNames : {X : Type 0} → Options → (List ℕ → Option (List ℕ)) → List (List ℕ) → Result X Fault → Sink → Sink → Type 0
+BuildsNames options files names (Err (NoFile i)) s t = Misses files names i
+BuildsNames options files names (Err OutOfMemory) s t = ⊤
+BuildsNames options files names result s t = BuildsThese options files names result s t
+
+-- what the fault of a making says of what was appended
+abbrev pub StopsMaking : Naming → Options → (List ℕ → Option (List ℕ)) → List (List ℕ) → Fault → Sink → Sink → Type 0
+StopsMaking naming options files names (Legacy fault) s t = Refuses options files names fault × (t ≡ s)
+StopsMaking naming options files names (Blob fault at) s t = ⊥
+StopsMaking naming options files names (Fit fault) s t = ⊥
+StopsMaking naming options files names (Its fault) s t = ⊥
+StopsMaking naming options files names Read s t = Breaks naming options files names s t
+StopsMaking naming options files names Put s t = Accepts options files names × Breaks naming options files names s t
+StopsMaking naming options files names (NoFile i) s t = Misses files names i × (t ≡ s)
+StopsMaking naming options files names Keep s t = Accepts options files names × (t ≡ s)
+StopsMaking naming options files names OutOfMemory s t = t ≡ s
+
+-- An answer is the kept image with its listing appended, or the fault of a making.
+abbrev pub MakesAnswer : {K : Type 0} → (K → Device) → Naming → Options → (List ℕ → Option (List ℕ)) → List (List ℕ) → Result K Fault → Sink → Sink → Type 0
+MakesAnswer device naming options files names (Ok kept) s t = Makes naming options files names (device kept) s t
+MakesAnswer device naming options files names (Err fault) s t = StopsMaking naming options files names fault s t
+
+-- a name whose open was refused has no bytes; of other faults this says nothing
+abbrev pub Lacks : (List ℕ → Option (List ℕ)) → List (List ℕ) → Fault → Type 0
+Lacks files names (NoFile i) = files (slice_index_or names i []) ≡ None
+Lacks files names _ = ⊤
+
+-- The files are what they were, a refusal was counted exactly where the answer is that a file could not be opened, and
+-- complete files refuse only a name that has no bytes.
+pub record OpensNames {X : Type 0} (names : List (List ℕ)) (result : Result X Fault) (old new : FileMap) : Type 0 where
+  pub same : SameFiles old new
+  pub refusals : RisesIf (is_no_file result) old.refusals new.refusals
+  pub missing : IsTrue old.complete → IfErr result (Lacks old.bytes names)

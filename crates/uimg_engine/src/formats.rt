@@ -1,0 +1,38 @@
+//! Which format a file is read as.
+
+ghost use Rattle.std.specs.Prelude.{◌≡◌, false, IsTrue, IfOk, is_err};
+ghost use Rattle.uimg_base.specs.Using.{Asks};
+ghost use Rattle.uimg_engine.specs.Headline.{begins_as_blob, is_fit};
+
+use uimg_base::{Source, SourceFault, number_at};
+use uimg_blob::BLOB_MAGIC;
+use uimg_requests::Format;
+
+// Whether a file begins as a blob does.
+#[tactic(auto, unfolding(crate::specs::Headline::begins_as_blob, uimg_texts::specs::Numbers::be32))]
+fn begins_as_blob<S: Source>(source: &mut S) -> Result<bool, SourceFault>
+    ensures uses { Asks 4 (is_err result) (S.device source.old) (S.device source.new) }
+    ensures told { IsTrue (S.device source.old).honest →
+        IfOk result (λ begins. begins ≡ begins_as_blob (S.device source.old).bytes) }
+{
+    if source.size()? < 4 {
+        return Ok(false);
+    }
+    let mut magic = [0; 4];
+    source.fill_at(0, &mut magic)?;
+    Ok(number_at(&magic, 0) == BLOB_MAGIC)
+}
+
+// Whether a file is read as a FIT image: where that is asked for, or its first bytes tell it.
+pub(crate) fn is_fit<S: Source>(format: Format, source: &mut S) -> Result<bool, SourceFault>
+    ensures uses { Asks 4 (is_err result) (S.device source.old) (S.device source.new) }
+    ensures asked_for { format ≡ Format.Legacy → IfOk result (λ fit. fit ≡ false) }
+    ensures told { IsTrue (S.device source.old).honest →
+        IfOk result (λ fit. fit ≡ is_fit format (S.device source.old).bytes) }
+{
+    match format {
+        Format::Guess => begins_as_blob(source),
+        Format::Legacy => Ok(false),
+        Format::Fit => Ok(true),
+    }
+}

@@ -1,0 +1,139 @@
+//! `run`, `locate` and `make` over memory alone, where nothing but memory can fail.
+ghost use Rattle.std.specs.Prelude.{◌≡◌, ◌+◌, ◌<◌, ◌≤◌, ◌^◌, ◌-◌, max, [], length, true, false, Some, IsTrue, IfOk, IfErr};
+ghost use Rattle.std.specs.Io.{StartsWith};
+ghost use Rattle.uimg_base.specs.Device.{RisesIf};
+ghost use Rattle.uimg_base.specs.Held.{held_bytes};
+ghost use Rattle.uimg_base.specs.Named.{bytes_named};
+ghost use Rattle.uimg_engine.specs.Faults.{is_read, is_unread, is_lost_payload, is_put, is_no_memory, is_refused, is_of_making, is_keep, end_of};
+ghost use Rattle.uimg_requests.specs.declared.command.Action.TheVariants as action;
+ghost use Rattle.uimg_engine.specs.Headline.{outcome_of, nodes_of, nodes_in, is_fit, WritesNone};
+ghost use Rattle.uimg_engine.specs.Locating.{TellsSpan};
+ghost use Rattle.uimg_requests.specs.Commands.{HasFitNames};
+ghost use Rattle.uimg_engine.specs.Commands.{LacksFile, MakesCommand, LeavesRoom, HoldsCommand};
+
+use crate::engine::run_by_format;
+use crate::fault::Fault;
+use crate::locating::locate;
+use crate::making::make;
+use std::alloc::Allocator;
+use std::io::Write;
+use uimg_base::{MemFiles, MemKept, MemShelf, MemSource, Out, Room, Source, Span, Status};
+use uimg_names::Naming;
+use uimg_requests::{Command, Format, MakeCommand};
+
+/// Carries out a command on the bytes of an image: the answer of `run`, and all that was written.
+///
+/// The answer and the text are exactly the outcome of the command, unless memory was refused: it is
+/// `Fault::Put` where that for the text was, and `OutOfMemory` of the blob exactly where that for the
+/// table of a FIT image's nodes was, which a legacy image does not have. What was written then is a
+/// prefix of that text. `Fault::Read` never comes, nor do the faults that only `make` answers. An
+/// extraction that is refused has written nothing. The room takes at most 128 bytes for each node of a
+/// FIT image that is met, and for a legacy image none.
+pub fn run_in_memory<A: Allocator, B: Allocator>(
+    alloc: B,
+    command: &Command,
+    image: &[u8],
+    room: &mut Room<A>,
+) -> (Result<Status, Fault>, Vec<u8, B>)
+    ensures text { is_put result.0 ≡ false → is_no_memory result.0 ≡ false →
+        result.1.items ≡ (outcome_of command.now image.now).text }
+    ensures end { is_put result.0 ≡ false → is_no_memory result.0 ≡ false →
+        end_of result.0 ≡ Some (outcome_of command.now image.now).end }
+    ensures read { is_read result.0 ≡ false }
+    ensures prefix { StartsWith (outcome_of command.now image.now).text result.1.items }
+    ensures untouched { WritesNone command.now.action (is_refused result.0) result.1.items }
+    ensures not_making { is_of_making result.0 ≡ false }
+    ensures no_memory { RisesIf (is_no_memory result.0) room.old.refused room.new.refused }
+    ensures peak { room.new.peak ≤ max room.old.peak
+        (held_bytes (nodes_of command.now image.now)) }
+    ensures legacy { is_fit command.now.format image.now ≡ false → is_no_memory result.0 ≡ false }
+    ensures no_table { is_fit command.now.format image.now ≡ false →
+        room.new ≡ record room.old { entries = [] } }
+{
+    let mut source = MemSource::new(image);
+    let mut out = Out::new(Vec::new(alloc));
+    let end = run_by_format(command, &mut source, room, &mut out);
+    (end, out.into_inner())
+}
+
+/// Where the part or the payload at a position stands in the bytes of an image: the answer of `locate`.
+///
+/// It is that place, or the fault by which an extraction from there is refused, unless the memory for
+/// the table of a FIT image's nodes was refused: then it is `OutOfMemory` of the blob, which a legacy
+/// image never gives. `Fault::Read` and `Fault::Put` never come, nor do the faults that only `make`
+/// answers. The room takes at most 128 bytes for each node of a FIT image that is met, and for a legacy
+/// image none.
+pub fn locate_in_memory<A: Allocator>(
+    format: Format,
+    position: u32,
+    image: &[u8],
+    room: &mut Room<A>,
+) -> Result<Span, Fault>
+    ensures told { TellsSpan image.now (outcome_of (record {
+      action = action.Extract position;
+      format = format;
+    }) image.now) result }
+    ensures inside { IfOk result (λ span. span.place + span.length ≤ length image.now) }
+    ensures read { is_read result ≡ false }
+    ensures no_put { is_put result ≡ false }
+    ensures not_making { is_of_making result ≡ false }
+    ensures no_memory { RisesIf (is_no_memory result) room.old.refused room.new.refused }
+    ensures peak { room.new.peak ≤ max room.old.peak (held_bytes (nodes_in (is_fit format image.now) image.now)) }
+    ensures legacy { is_fit format image.now ≡ false → (is_no_memory result ≡ false) × (room.new
+        ≡ record room.old { entries = [] }) }
+{
+    let mut source = MemSource::new(image);
+    locate(format, position, &mut source, room)
+}
+
+/// Makes an image at a time, in seconds since 1970, from files in memory, pairs of a name and its
+/// bytes, and gives it as a source: what `make` does over these.
+///
+/// It is the image of the files' bytes, which reads back, and exactly its listing was written.
+/// `Fault::NoFile` comes only for a name that no file has. Neither `Fault::Read` nor `Fault::Keep`
+/// ever comes, and neither `ReadFailed` of `Its` nor `ReadFailed` or `NoFile` of `Fit`.
+/// `Fault::OutOfMemory` comes where the memory for the opened files or for the text was refused,
+/// `OutOfMemory` of `Its`, `Fit` and `Blob` where that for the tree, or for the table of the
+/// image's nodes, was, and `Fault::Put` where a write of the listing failed, or the memory for the
+/// image was refused: where no write failed, nothing was listed then, as at each fault that no listing
+/// gives.
+///
+/// The room takes memory for the listing alone: none for a legacy image, and at most 128 bytes for
+/// each node of the FIT image. After a fault that no listing gives its entries are dropped and no more.
+pub fn make_in_memory<W: Write, A: Allocator + Copy, B: Allocator, H: Allocator>(
+    alloc: A,
+    command: &MakeCommand,
+    time: u32,
+    naming: Naming,
+    files: &[(&[u8], &[u8])],
+    shelf: H,
+    room: &mut Room<B>,
+    out: &mut Out<W>,
+) -> Result<MemKept<H>, Fault>
+    requires fit { HasFitNames command.now }
+    ensures made { MakesCommand (⟦<MemKept<H> as Source>⟧.device) naming command.now time
+        (λ name. bytes_named name files.now) result out.old out.new }
+    ensures missing { IfErr result (LacksFile command.now (λ name. bytes_named name files.now)) }
+    ensures read { is_unread result ≡ false }
+    ensures payloads { is_lost_payload result ≡ false }
+    ensures keep { is_keep result ≡ false }
+    ensures quiet { IsTrue (is_of_making result) → out.new ≡ out.old }
+    ensures puts { is_put result ≡ false → out.new.faults ≡ out.old.faults }
+    ensures put { out.old.faults < 2 ^ 64 - 1 → IsTrue (is_put result) →
+        out.new.faults ≡ out.old.faults → out.new ≡ out.old }
+    ensures room { LeavesRoom (⟦<MemKept<H> as Source>⟧.device) true command.now result
+        room.old room.new }
+    ensures peak { HoldsCommand command.now time (λ name. bytes_named name files.now)
+        room.old room.new }
+{
+    make(
+        alloc,
+        command,
+        time,
+        naming,
+        &mut MemFiles::new(files),
+        MemShelf::new(shelf),
+        room,
+        out,
+    )
+}

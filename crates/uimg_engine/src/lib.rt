@@ -1,0 +1,24 @@
+//! Commands on images of both formats, over any source and any files: reading and making, in memory and
+//! on a disk.
+#![tactic(auto)]
+
+mod disk_files;
+mod engine;
+mod fault;
+mod formats;
+mod in_memory;
+mod locating;
+mod making;
+mod making_lists;
+mod making_parts;
+mod making_trees;
+mod same_files;
+
+pub use disk_files::DiskFiles;
+pub use engine::run;
+pub use fault::Fault;
+pub use in_memory::{locate_in_memory, make_in_memory, run_in_memory};
+pub use locating::locate;
+pub use making::{build_image, make};
+pub use same_files::is_same_file;
+pub use uimg_requests::{Action, Command, Format, MakeCommand};

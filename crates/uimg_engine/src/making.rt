@@ -1,0 +1,160 @@
+//! The making of an image.
+
+ghost use Rattle.std.specs.Prelude.{Ok, ◌≡◌, ◌<◌, ◌^◌, ◌-◌, false, Some, [], IsTrue, IsOk, IfOk, IfErr};
+ghost use Rattle.std.specs.Io.KnownBytes.{Keeps};
+ghost use Rattle.uimg_base.specs.Device.{RisesIf, IsFresh};
+ghost use Rattle.uimg_base.specs.Outcome.{Tells};
+ghost use Rattle.uimg_base.specs.declared.status.Status.{Status};
+ghost use Rattle.uimg_engine.specs.Faults.{end_of, is_unread, is_lost_payload, is_put, is_keep, is_before_building, is_of_making};
+ghost use Rattle.uimg_requests.specs.Commands.{HasFitNames};
+ghost use Rattle.uimg_engine.specs.Commands.{KeepsSizes, OpensToBuild, BuildsCommand, MakesCommand, LeavesRoom, HoldsCommand, listing_of};
+
+use crate::fault::Fault;
+use crate::making_lists::list_kept;
+use crate::making_parts::build_parts;
+use crate::making_trees::build_tree;
+use std::alloc::Allocator;
+use std::io::Write;
+use uimg_base::{Files, Out, Room, Shelf, Source};
+use uimg_legacy::Options;
+use uimg_names::Naming;
+use uimg_requests::MakeCommand;
+
+/// Builds the image of a command at a time, in seconds since 1970, and appends it to `image`.
+///
+/// A legacy image: the files of the command are opened in order. Over honest files what is appended is
+/// the image of their bytes, and it reads back: its checksums are right, and each part is found in it.
+/// A FIT image: the source is opened and read, compiled, filled at the time and built. Over honest
+/// files what is appended is the image of the filled tree that the source spells, and it reads back:
+/// its hashes are right, and each payload is found in it.
+///
+/// The first refusal in the order of the work is answered. `Fault::OutOfMemory`, the memory for the
+/// opened files or for the text; `Fault::NoFile`, a file or the source could not be opened;
+/// `Fault::Legacy`, the parts are refused, as `uimg_legacy::build` says; `Fault::Its`, `Fault::Fit` and
+/// `Fault::Blob`, the source or its tree are, as `uimg_its::compile`, `uimg_fit::fill` and
+/// `uimg_fit::build` say. All these come before the first byte, but for a payload's file that cannot be
+/// opened. Then, and at `Fault::Read` and `Fault::Put`, which come where a read or a write failed, a
+/// prefix of the image was appended over honest files. Where what the files open is steady, no read
+/// fails: `Fault::Read` and `ReadFailed` of `Its` never come, of a source over honest files, and
+/// `ReadFailed` of `Fit` never comes over honest ones.
+pub fn build_image<F: Files, W: Write, A: Allocator + Copy>(
+    alloc: A,
+    command: &MakeCommand,
+    time: u32,
+    files: &mut F,
+    image: &mut Out<W>,
+) -> Result<(), Fault>
+    requires fit { HasFitNames command.now }
+    ensures built { IsTrue (F.map files.old).honest →
+        BuildsCommand command.now time (F.map files.old).bytes result image.old image.new }
+    ensures files { OpensToBuild command.now result (F.map files.old) (F.map files.new) }
+    ensures untouched { IsTrue (is_before_building result) → image.new ≡ image.old }
+    ensures reads { IsTrue F.Opened.steady → KeepsSizes command.now (F.map files.old) →
+        is_unread result ≡ false }
+    ensures payloads { IsTrue F.Opened.steady → IsTrue (F.map files.old).honest →
+        is_lost_payload result ≡ false }
+    ensures faults { RisesIf (is_put result) image.old.faults image.new.faults }
+    ensures never_keep { is_keep result ≡ false }
+{
+    match command {
+        MakeCommand::Parts {
+            options,
+            files: names,
+        } => {
+            let options = Options { time, ..*options };
+            build_parts(alloc, &options, names, files, image)
+        }
+        MakeCommand::Tree { source, placement } => {
+            build_tree(alloc, source, *placement, time, files, image)
+        }
+    }
+}
+
+// The shelf, once all that was written to it is written out.
+fn write_out<H: Shelf>(image: Out<H>) -> Result<H, Fault>
+    ensures written { IfOk result (λ shelf. Keeps image.contents (H.contents shelf)) }
+    ensures fault { IfErr result (λ fault. fault ≡ Fault.Put) }
+{
+    let mut shelf = image.into_inner();
+    match shelf.flush() {
+        Ok(()) => Ok(shelf),
+        Err(_) => Err(Fault::Put),
+    }
+}
+
+// Keeps what was written to a shelf.
+fn keep<H: Shelf>(shelf: H) -> Result<H::Kept, Fault>
+    ensures kept { IsTrue H.honest → IfOk result (λ kept.
+        (H.contents shelf ≡ Some (H.Kept.device kept).bytes) × IsTrue (H.Kept.device kept).honest) }
+    ensures fault { IfErr result (λ fault. fault ≡ Fault.Keep) }
+    ensures steady { IsTrue H.steady → IsOk result }
+    ensures fresh { IfOk result (λ kept. IsFresh (H.Kept.device kept)) }
+{
+    match shelf.keep() {
+        Ok(kept) => Ok(kept),
+        Err(_) => Err(Fault::Keep),
+    }
+}
+
+/// Makes an image at a time, in seconds since 1970: it builds the image of the command on the shelf,
+/// keeps it, and writes the listing of what was kept to `out`, by a set of names. It gives what was
+/// kept.
+///
+/// Over honest files and an honest, empty shelf, what was kept is the image that `build_image` tells,
+/// which reads back, and exactly its listing was written. Refusals come in the order of the work: those
+/// of `build_image`, and `Fault::Keep`, what was written could not be read. With these nothing is
+/// listed. `Fault::Read` and `Fault::Put` come where a read or a write failed, of the files, the shelf
+/// or the listing, and `OutOfMemory` of the blob where the memory for the table of a FIT image's nodes
+/// was refused; over honest ones a prefix of the listing was written then. Where a shelf keeps other
+/// bytes than were written, `Fault::Legacy`, `Fault::Blob` and `Fault::Fit` may also be what the listing
+/// says of them, after some of its lines, but none of the faults that only `build_image` answers.
+///
+/// Where what the files open and what the shelf keeps are steady, `Fault::Read` and `ReadFailed` of
+/// `Its` never come, of a source over honest files, and `ReadFailed` of `Fit` never comes over honest
+/// files. Over a steady shelf `Fault::Keep` never comes. Whatever the files and the shelf, at `Ok` no
+/// read of what was kept has failed, and, if that answers its bytes, exactly its listing was written
+/// and nothing in it is refused.
+///
+/// The room takes memory for the listing alone: none for a legacy image, and over honest files and an
+/// honest, empty shelf at most 128 bytes for each node of the FIT image. After a fault that no listing
+/// gives its entries are dropped and no more.
+pub fn make<F: Files, H: Shelf, W: Write, A: Allocator + Copy, B: Allocator>(
+    alloc: A,
+    command: &MakeCommand,
+    time: u32,
+    naming: Naming,
+    files: &mut F,
+    shelf: H,
+    room: &mut Room<B>,
+    out: &mut Out<W>,
+) -> Result<H::Kept, Fault>
+    requires fit { HasFitNames command.now }
+    ensures made { IsTrue (F.map files.old).honest → IsTrue H.honest → H.contents shelf ≡ Some [] →
+        MakesCommand H.Kept.device naming command.now time (F.map files.old).bytes result out.old out.new }
+    ensures files { OpensToBuild command.now result (F.map files.old) (F.map files.new) }
+    ensures quiet { IsTrue (is_of_making result) → out.new ≡ out.old }
+    ensures puts { is_put result ≡ false → out.new.faults ≡ out.old.faults }
+    ensures put { out.old.faults < 2 ^ 64 - 1 → IsTrue (is_put result) →
+        out.new.faults ≡ out.old.faults → out.new ≡ out.old }
+    ensures steady_reads { IsTrue F.Opened.steady → IsTrue H.Kept.steady →
+        KeepsSizes command.now (F.map files.old) → is_unread result ≡ false }
+    ensures steady_payloads { IsTrue F.Opened.steady → IsTrue (F.map files.old).honest →
+        is_lost_payload result ≡ false }
+    ensures steady_keeps { IsTrue H.steady → is_keep result ≡ false }
+    ensures listed { IfOk result (λ kept. IsTrue (H.Kept.device kept).honest → (status : Status)
+        × Tells (end_of (Ok status)) (listing_of naming command.now (H.Kept.device kept).bytes)
+        out.old out.new) }
+    ensures kept_reads { IfOk result (λ kept. (H.Kept.device kept).failures ≡ 0) }
+    ensures room { LeavesRoom H.Kept.device (F.map files.old).honest command.now result
+        room.old room.new }
+    ensures peak { IsTrue (F.map files.old).honest → IsTrue H.honest → H.contents shelf ≡ Some [] →
+        HoldsCommand command.now time (F.map files.old).bytes room.old room.new }
+{
+    room.clear();
+    let mut image = Out::new(shelf);
+    build_image(alloc, command, time, files, &mut image)?;
+    let shelf = write_out(image)?;
+    let mut kept = keep(shelf)?;
+    list_kept(naming, command, &mut kept, room, out)?;
+    Ok(kept)
+}

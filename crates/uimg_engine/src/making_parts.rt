@@ -1,0 +1,83 @@
+//! Legacy images, made from files.
+ghost use Rattle.std.specs.Prelude.{◌≡◌, ◌≢◌, false, length, map, IsTrue, IfOk};
+ghost use Rattle.uimg_base.specs.Device.{RisesIf};
+ghost use Rattle.uimg_legacy.specs.Parts.{has_parts};
+ghost use Rattle.uimg_legacy.specs.Devices.{bytes_of, AreHonest};
+ghost use Rattle.uimg_engine.specs.Faults.{is_unread, is_put, is_keep, is_no_file, is_before_building};
+ghost use Rattle.uimg_requests.specs.Commands.{FitNames};
+ghost use Rattle.uimg_engine.specs.Making.{OpensNames, OpensAnswer, BuildsParts, BuildsNames};
+
+use crate::fault::Fault;
+use std::alloc::Allocator;
+use std::io::Write;
+use uimg_base::{Files, Out, Source};
+use uimg_legacy::{Options, build};
+
+// Opens the files of the names, in order. The memory for all of them is taken first.
+fn open_all<F: Files, A: Allocator>(
+    alloc: A,
+    names: &[Vec<u8>],
+    files: &mut F,
+) -> Result<Vec<F::Opened, A>, Fault>
+    ensures files { OpensNames (map (λ name. name.items) names.now) result (F.map files.old)
+        (F.map files.new) }
+    ensures count { IfOk result (λ opened. length opened.items ≡ length names.now) }
+    ensures only_opens { (is_unread result ≡ false) × (is_put result ≡ false)
+        × (is_keep result ≡ false) }
+    ensures opened { IsTrue (F.map files.old).honest →
+        OpensAnswer (λ opened. map F.Opened.device opened.items)
+        (F.map files.old).bytes (map (λ name. name.items) names.now) result }
+{
+    let mut opened = Vec::with_capacity(alloc, names.len())?;
+    for i in 0..names.len() {
+        let Ok(source) = files.open(&names[i]) else {
+            return Err(Fault::NoFile(i as u64));
+        };
+        if opened.push(source).is_err() {
+            return Err(Fault::OutOfMemory);
+        }
+    }
+    Ok(opened)
+}
+
+// Builds a legacy image from its parts.
+fn build_opened<S: Source, W: Write>(
+    options: &Options,
+    parts: &mut [S],
+    image: &mut Out<W>,
+) -> Result<(), Fault>
+    requires some { length parts.old ≢ 0 }
+    requires single { has_parts options.now.kind ≡ false → length parts.old ≡ 1 }
+    ensures built { AreHonest (map S.device parts.old) → BuildsParts options.now
+        (bytes_of (map S.device parts.old)) result image.old image.new }
+    ensures untouched { IsTrue (is_before_building result) → image.new ≡ image.old }
+    ensures reads { IsTrue S.steady → is_unread result ≡ false }
+    ensures faults { RisesIf (is_put result) image.old.faults image.new.faults }
+    ensures only_builds { (is_no_file result ≡ false) × (is_keep result ≡ false) }
+{
+    build(options, parts, image)?;
+    Ok(())
+}
+
+/// Builds a legacy image from the files of the names: opens them in order, and appends the image.
+pub(crate) fn build_parts<F: Files, W: Write, A: Allocator>(
+    alloc: A,
+    options: &Options,
+    names: &[Vec<u8>],
+    files: &mut F,
+    image: &mut Out<W>,
+) -> Result<(), Fault>
+    requires fit { FitNames options.now (map (λ name. name.items) names.now) }
+    ensures built { IsTrue (F.map files.old).honest →
+        BuildsNames options.now (F.map files.old).bytes
+        (map (λ name. name.items) names.now) result image.old image.new }
+    ensures files { OpensNames (map (λ name. name.items) names.now) result
+        (F.map files.old) (F.map files.new) }
+    ensures untouched { IsTrue (is_before_building result) → image.new ≡ image.old }
+    ensures reads { IsTrue F.Opened.steady → is_unread result ≡ false }
+    ensures faults { RisesIf (is_put result) image.old.faults image.new.faults }
+    ensures never_keep { is_keep result ≡ false }
+{
+    let mut parts = open_all(alloc, names, files)?;
+    build_opened(options, &mut parts, image)
+}

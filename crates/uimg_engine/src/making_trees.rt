@@ -1,0 +1,106 @@
+//! FIT images, made from image-tree source.
+ghost use Rattle.std.specs.Prelude.{◌≡◌, false, Some, IsTrue, IsSome, IfErr};
+ghost use Rattle.uimg_base.specs.Device.{RisesIf};
+ghost use Rattle.uimg_tree.specs.Trees.{node_of};
+ghost use Rattle.uimg_tree.specs.UsingFiles.{UsesFiles};
+ghost use Rattle.uimg_engine.specs.Faults.{is_unread, is_lost_payload, is_put, is_keep, is_no_file, is_no_text, is_no_payload, is_before_building};
+ghost use Rattle.uimg_engine.specs.Commands.{LacksSource, OpensSource};
+ghost use Rattle.uimg_engine.specs.MakingTrees.{ReadsText, ReadsTree, BuildsSource};
+
+use crate::fault::Fault;
+use std::alloc::Allocator;
+use std::io::Write;
+use uimg_base::{Files, MoveFault, Out, Source, WINDOW, copy_through};
+use uimg_fit_base::Placement;
+use uimg_fit_building::{build, fill};
+use uimg_its::compile;
+use uimg_tree::Tree;
+
+// All the bytes of a source.
+fn whole_text<S: Source, A: Allocator>(alloc: A, source: &mut S) -> Result<Vec<u8, A>, Fault>
+    ensures text { IsTrue (S.device source.old).honest →
+        ReadsText (λ text. text.items) (Some (S.device source.old).bytes) result }
+    ensures steady { IsTrue S.steady → is_unread result ≡ false }
+    ensures only_reads { (is_put result ≡ false) × (is_keep result ≡ false)
+        × (is_no_file result ≡ false) × (is_no_text result ≡ false)
+        × (is_no_payload result ≡ false) × (is_lost_payload result ≡ false) }
+{
+    let size = source.size()?;
+    let mut window = [0; WINDOW];
+    let mut text = Out::new(Vec::new(alloc));
+    match copy_through(source, &mut window, 0, size, &mut text) {
+        Ok(()) => Ok(text.into_inner()),
+        Err(MoveFault::Read) => Err(Fault::Read),
+        Err(MoveFault::Put) => Err(Fault::OutOfMemory),
+    }
+}
+
+// Opens the source of a name, and reads it whole.
+fn read_text<F: Files, A: Allocator>(
+    alloc: A,
+    name: &[u8],
+    files: &mut F,
+) -> Result<Vec<u8, A>, Fault>
+    ensures files { UsesFiles (is_no_file result) (F.map files.old) (F.map files.new) }
+    ensures missing { IsTrue (F.map files.old).complete →
+        IfErr result (LacksSource (F.map files.old).bytes name.now) }
+    ensures text { IsTrue (F.map files.old).honest →
+        ReadsText (λ text. text.items) ((F.map files.old).bytes name.now) result }
+    ensures steady { IsTrue F.Opened.steady → is_unread result ≡ false }
+    ensures only_opens { (is_put result ≡ false) × (is_keep result ≡ false)
+        × (is_no_text result ≡ is_no_file result) × (is_no_payload result ≡ false)
+        × (is_lost_payload result ≡ false) }
+{
+    match files.open(name) {
+        Ok(mut source) => whole_text(alloc, &mut source),
+        Err(_) => Err(Fault::NoFile(0)),
+    }
+}
+
+// The tree that the source of a name spells, filled at a time.
+fn filled_tree<F: Files, A: Allocator + Copy>(
+    alloc: A,
+    name: &[u8],
+    time: u32,
+    files: &mut F,
+) -> Result<Tree<A>, Fault>
+    ensures files { OpensSource name.now result (F.map files.old) (F.map files.new) }
+    ensures tree { IsTrue (F.map files.old).honest →
+        ReadsTree (λ tree. node_of tree.root) (F.map files.old).bytes name.now time result }
+    ensures steady { IsTrue F.Opened.steady → is_unread result ≡ false }
+    ensures payloads { IsTrue F.Opened.steady → IsTrue (F.map files.old).honest →
+        is_lost_payload result ≡ false }
+    ensures no_put { is_put result ≡ false }
+    ensures no_keep { is_keep result ≡ false }
+{
+    let text = read_text(alloc, name, files)?;
+    let tree = compile(alloc, &text, files)?;
+    let filled = fill(alloc, tree, time, files)?;
+    Ok(filled)
+}
+
+/// Builds a FIT image from the source of a name: reads it, compiles it, fills its tree at a time, and
+/// appends the image.
+pub(crate) fn build_tree<F: Files, W: Write, A: Allocator + Copy>(
+    alloc: A,
+    name: &[u8],
+    placement: Placement,
+    time: u32,
+    files: &mut F,
+    image: &mut Out<W>,
+) -> Result<(), Fault>
+    ensures built { IsTrue (F.map files.old).honest →
+        BuildsSource (F.map files.old).bytes name.now time placement result image.old image.new }
+    ensures files { OpensSource name.now result (F.map files.old) (F.map files.new) }
+    ensures untouched { IsTrue (is_before_building result) → image.new ≡ image.old }
+    ensures reads { IsTrue F.Opened.steady → IsTrue (F.map files.old).honest →
+        is_unread result ≡ false }
+    ensures payloads { IsTrue F.Opened.steady → IsTrue (F.map files.old).honest →
+        is_lost_payload result ≡ false }
+    ensures faults { RisesIf (is_put result) image.old.faults image.new.faults }
+    ensures never_keep { is_keep result ≡ false }
+{
+    let tree = filled_tree(alloc, name, time, files)?;
+    build(alloc, &tree, files, placement, image)?;
+    Ok(())
+}

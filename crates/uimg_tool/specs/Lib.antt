@@ -1,5 +1,0 @@
-pub mod Faults
-pub mod Headline
-pub mod Making
-pub mod MakingTrees
-pub mod Commands

@@ -1,0 +1,85 @@
+/* unpack.c: verifies an image, and writes the payload at a position to standard output.
+
+       cc -o unpack unpack.c -luimg          (or libuimg.a in place of -luimg)
+       ./unpack kernel.itb 0 > payload
+
+   The exit status is that of the program uimg: 0 done, 1 refused or not right, 2 a wrong command line, 3 a file, a
+   write or memory failed. */
+#include <uimg.h>
+
+#include <fcntl.h>
+#include <stdio.h>
+#include <stdlib.h>
+#include <sys/mman.h>
+#include <sys/stat.h>
+#include <unistd.h>
+
+/* Tells why an image is refused, as the program does. */
+static void tell(uint32_t fault, uint64_t place)
+{
+    uint8_t line[64] = {0};
+    size_t length = uimg_fault_line(fault, line, sizeof line);
+
+    fprintf(stderr, "unpack: %.*s", (int)length, (char *)line);
+    if (fault / 256 == 'B')
+        fprintf(stderr, " at %llu", (unsigned long long)place);
+    fputc('\n', stderr);
+}
+
+/* Whether each checksum of an image is right; where not, its report goes to standard error. */
+static uint32_t verify(const uint8_t *image, size_t size)
+{
+    uint8_t text[4096] = {0};
+    uimg_report report = {0};
+    uint32_t status = uimg_verify(image, size, text, sizeof text, &report);
+
+    if (status != UIMG_DONE)
+        fprintf(stderr, "%.*s", (int)report.written, (char *)text);
+    if (report.fault)
+        tell(report.fault, report.place);
+    return status;
+}
+
+static uint32_t unpack(const uint8_t *image, size_t size, uint32_t position)
+{
+    uimg_payload payload = {0};
+    uint32_t status = verify(image, size);
+
+    if (status != UIMG_DONE)
+        return status;
+    status = uimg_payload_at(image, size, position, &payload);
+    if (payload.fault)
+        tell(payload.fault, payload.place);
+    if (status != UIMG_DONE)
+        return status;
+    if (fwrite(image + payload.start, 1, payload.size, stdout) != payload.size || fflush(stdout))
+        return 3;
+    return UIMG_DONE;
+}
+
+int main(int count, char **words)
+{
+    struct stat about;
+    int file;
+    void *image;
+    /* A file of no bytes cannot be mapped. */
+    static const uint8_t nothing[1];
+
+    if (count != 3) {
+        fprintf(stderr, "usage: unpack IMAGE POSITION\n");
+        return 2;
+    }
+    file = open(words[1], O_RDONLY);
+    if (file < 0 || fstat(file, &about)) {
+        perror(words[1]);
+        return 3;
+    }
+    if (about.st_size == 0)
+        return (int)unpack(nothing, 0, (uint32_t)strtoul(words[2], NULL, 10));
+    image = mmap(NULL, (size_t)about.st_size, PROT_READ, MAP_PRIVATE, file, 0);
+    if (image == MAP_FAILED) {
+        perror(words[1]);
+        return 3;
+    }
+    return (int)unpack(image, (size_t)about.st_size, (uint32_t)strtoul(words[2], NULL, 10));
+}

@@ -1,0 +1,91 @@
+// unpack.go does what examples/c/unpack.c does: it verifies an image, and writes the payload at a position to standard
+// output. CGO_LDFLAGS names the library, if it is not where the linker looks: go run unpack.go kernel.itb 0 > payload
+package main
+
+/*
+#cgo LDFLAGS: -luimg
+#include <uimg.h>
+*/
+import "C"
+
+import (
+	"fmt"
+	"os"
+	"strconv"
+	"unsafe"
+)
+
+const (
+	done      = 0
+	wrongLine = 2
+	failed    = 3
+)
+
+// pointer is a pointer to the first of some bytes, and never null.
+func pointer(bytes []byte) *C.uint8_t {
+	if len(bytes) == 0 {
+		return (*C.uint8_t)(unsafe.Pointer(new(byte)))
+	}
+	return (*C.uint8_t)(unsafe.Pointer(&bytes[0]))
+}
+
+// tell says why an image is refused, as the program does.
+func tell(fault C.uint32_t, place C.uint64_t) {
+	line := make([]byte, 64)
+	length := C.uimg_fault_line(fault, pointer(line), C.size_t(len(line)))
+	fmt.Fprintf(os.Stderr, "unpack: %s", line[:length])
+	if fault/256 == 'B' {
+		fmt.Fprintf(os.Stderr, " at %d", place)
+	}
+	fmt.Fprintln(os.Stderr)
+}
+
+// verify answers whether each checksum of an image is right; where not, its report goes to standard error.
+func verify(image []byte) int {
+	text := make([]byte, 4096)
+	var report C.uimg_report
+	status := C.uimg_verify(pointer(image), C.size_t(len(image)), pointer(text), C.size_t(len(text)), &report)
+	if status != done {
+		os.Stderr.Write(text[:report.written])
+	}
+	if report.fault != 0 {
+		tell(report.fault, report.place)
+	}
+	return int(status)
+}
+
+func unpack(image []byte, position uint64) int {
+	if status := verify(image); status != done {
+		return status
+	}
+	var payload C.uimg_payload
+	status := C.uimg_payload_at(pointer(image), C.size_t(len(image)), C.uint32_t(position), &payload)
+	if payload.fault != 0 {
+		tell(payload.fault, payload.place)
+	}
+	if status != done {
+		return int(status)
+	}
+	if _, err := os.Stdout.Write(image[payload.start : payload.start+payload.size]); err != nil {
+		return failed
+	}
+	return done
+}
+
+func main() {
+	if len(os.Args) != 3 {
+		fmt.Fprintln(os.Stderr, "usage: unpack IMAGE POSITION")
+		os.Exit(wrongLine)
+	}
+	position, err := strconv.ParseUint(os.Args[2], 10, 32)
+	if err != nil {
+		fmt.Fprintln(os.Stderr, "unpack:", err)
+		os.Exit(wrongLine)
+	}
+	image, err := os.ReadFile(os.Args[1])
+	if err != nil {
+		fmt.Fprintln(os.Stderr, "unpack:", err)
+		os.Exit(failed)
+	}
+	os.Exit(unpack(image, position))
+}

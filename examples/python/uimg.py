@@ -1,0 +1,187 @@
+"""Images for U-Boot in memory, by libuimg: listed, verified, and their payloads found.
+
+    import mmap, uimg
+    with open("kernel.itb", "rb") as file:
+        image = mmap.mmap(file.fileno(), 0, access=mmap.ACCESS_READ)
+    report = uimg.verify(image)
+    if report.status == uimg.DONE:
+        payload = uimg.payload(image, 0)
+
+An image is bytes, or anything else with a buffer. As a program it does what examples/c/unpack.c does:
+`python3 uimg.py kernel.itb 0 > payload`. LIBUIMG names another library than libuimg.so.0."""
+import ctypes
+import mmap
+import os
+import sys
+from typing import NamedTuple
+
+DONE, NOT_RIGHT, WRONG_LINE, FAILED = range(4)
+
+
+class _Report(ctypes.Structure):
+    _fields_ = [
+        ("status", ctypes.c_uint32),
+        ("fault", ctypes.c_uint32),
+        ("place", ctypes.c_uint64),
+        ("needed", ctypes.c_size_t),
+        ("written", ctypes.c_size_t),
+    ]
+
+
+class _Payload(ctypes.Structure):
+    _fields_ = [
+        ("status", ctypes.c_uint32),
+        ("fault", ctypes.c_uint32),
+        ("place", ctypes.c_uint64),
+        ("start", ctypes.c_size_t),
+        ("size", ctypes.c_size_t),
+    ]
+
+
+_library = ctypes.CDLL(os.environ.get("LIBUIMG", "libuimg.so.0"))
+_bytes, _size = ctypes.POINTER(ctypes.c_uint8), ctypes.c_size_t
+for _name in ("uimg_list", "uimg_verify"):
+    getattr(_library, _name).argtypes = [_bytes, _size, _bytes, _size, ctypes.POINTER(_Report)]
+_library.uimg_payload_at.argtypes = [_bytes, _size, ctypes.c_uint32, ctypes.POINTER(_Payload)]
+_library.uimg_fault_line.argtypes = [ctypes.c_uint32, _bytes, _size]
+_library.uimg_fault_line.restype = _size
+_library.uimg_version.argtypes = [_bytes, _size]
+_library.uimg_version.restype = _size
+
+
+class Report(NamedTuple):
+    """What a listing or a verification found: a status, the line of the fault or "", and the text."""
+
+    status: int
+    fault: str
+    text: bytes
+
+
+class Refused(Exception):
+    """A payload was not found: the line of the fault is its text, and status is 1, or 3 for want of memory."""
+
+    def __init__(self, status, line):
+        super().__init__(line)
+        self.status = status
+
+
+def _passed(image):
+    """Returns a pointer to an image's bytes, how many there are, and what keeps them."""
+    view = memoryview(image).cast("B")
+    if not len(view):
+        return (ctypes.c_uint8 * 1)(), 0, None
+    if not view.readonly:
+        array = (ctypes.c_uint8 * len(view)).from_buffer(view)
+        return ctypes.cast(array, _bytes), len(view), array
+    # ctypes lends no read-only buffer: the Python buffer call gives its address.
+    lent = _Buffer()
+    ctypes.pythonapi.PyObject_GetBuffer(ctypes.py_object(view), ctypes.byref(lent), 0)
+    return ctypes.cast(lent.buf, _bytes), len(view), _Lent(lent)
+
+
+class _Buffer(ctypes.Structure):
+    _fields_ = [
+        ("buf", ctypes.c_void_p),
+        ("obj", ctypes.py_object),
+        ("len", ctypes.c_ssize_t),
+        ("itemsize", ctypes.c_ssize_t),
+        ("readonly", ctypes.c_int),
+        ("ndim", ctypes.c_int),
+        ("format", ctypes.c_char_p),
+        ("shape", ctypes.c_void_p),
+        ("strides", ctypes.c_void_p),
+        ("suboffsets", ctypes.c_void_p),
+        ("internal", ctypes.c_void_p),
+    ]
+
+
+class _Lent:
+    """A buffer that is given back when nothing needs it any more."""
+
+    def __init__(self, lent):
+        self.lent = lent
+
+    def __del__(self):
+        ctypes.pythonapi.PyBuffer_Release(ctypes.byref(self.lent))
+
+
+def _text(call, *words):
+    """Returns what a call puts to the front of a text."""
+    text = (ctypes.c_uint8 * 64)()
+    return bytes(text[: call(*words, text, len(text))]).decode()
+
+
+def _line(found):
+    """Returns the line of a fault, as the program prints it behind `uimg: `; "" for none."""
+    line = _text(_library.uimg_fault_line, found.fault)
+    return f"{line} at {found.place}" if found.fault >> 8 == ord("B") else line
+
+
+def _report(call, image):
+    pointer, size, _keep = _passed(image)
+    room = 4096
+    while True:
+        text, report = (ctypes.c_uint8 * room)(), _Report()
+        call(pointer, size, text, room, ctypes.byref(report))
+        if report.written == report.needed:
+            return Report(report.status, _line(report), bytes(text[: report.written]))
+        room = report.needed
+
+
+def listing(image):
+    """Lists an image, as `uimg dumpimage -l`."""
+    return _report(_library.uimg_list, image)
+
+
+def verify(image):
+    """Verifies an image, as `uimg verify`. The status is DONE only where each line ends with ok or unhashed."""
+    return _report(_library.uimg_verify, image)
+
+
+def place(image, position=0):
+    """Returns where the payload at a position begins in the image, and its size. Raises Refused."""
+    pointer, size, _keep = _passed(image)
+    found = _Payload()
+    _library.uimg_payload_at(pointer, size, position, ctypes.byref(found))
+    if found.status != DONE:
+        raise Refused(found.status, _line(found) or "out of memory")
+    return found.start, found.size
+
+
+def payload(image, position=0):
+    """Returns the bytes of the payload at a position. Raises Refused."""
+    start, size = place(image, position)
+    return bytes(memoryview(image)[start : start + size])
+
+
+def version():
+    return _text(_library.uimg_version)
+
+
+def main(words):
+    if len(words) != 3:
+        print("usage: uimg.py IMAGE POSITION", file=sys.stderr)
+        return WRONG_LINE
+    try:
+        with open(words[1], "rb") as file:
+            whole = os.fstat(file.fileno()).st_size
+            image = mmap.mmap(file.fileno(), 0, access=mmap.ACCESS_READ) if whole else b""
+    except OSError as fault:
+        print(f"uimg.py: {fault}", file=sys.stderr)
+        return FAILED
+    report = verify(image)
+    if report.status != DONE:
+        sys.stderr.write(report.text.decode(errors="replace"))
+        if report.fault:
+            print(f"uimg.py: {report.fault}", file=sys.stderr)
+        return report.status
+    try:
+        sys.stdout.buffer.write(payload(image, int(words[2])))
+    except Refused as fault:
+        print(f"uimg.py: {fault}", file=sys.stderr)
+        return fault.status
+    return DONE
+
+
+if __name__ == "__main__":
+    sys.exit(main(sys.argv))

@@ -1,0 +1,81 @@
+/* uimg.h: images for U-Boot in memory, legacy ones and FIT images, are listed and verified, and their payloads
+   are found. Link libuimg.a or libuimg.so; what it prints is what the program uimg prints, byte for byte.
+
+   For every list of bytes, well formed or not, a call returns, reads nothing beyond the image, writes nothing
+   beyond the memory that it is given, and tells just what the definition says of these bytes, or that memory
+   was refused. Each function of the library is proved to do so (docs/LIBRARY.md). No call looks at signatures:
+   that all hashes are right says that the image is whole, and not who made it.
+
+   What a caller sees to:
+   - No pointer is null, not one beside a size of 0 either, and so many bytes as its size says are there.
+   - The memory for a text, and the report or payload, overlap neither one another nor the image, and have values
+     before the call (as by calloc or = {0}). Nobody else writes the image (a mapped file too), and nobody else
+     reads or writes the rest, while the call runs.
+   - Calls may run at once in several threads, each over its own memory. None is made from a signal handler. */
+#ifndef UIMG_H
+#define UIMG_H
+
+#include <stddef.h>
+#include <stdint.h>
+
+#ifdef __cplusplus
+extern "C" {
+#endif
+
+/* The status of a call: as the program's exit status. */
+enum uimg_status {
+    UIMG_DONE = 0,      /* done; of a verification: each hash that is there is right */
+    UIMG_NOT_RIGHT = 1, /* a checksum is not right, or, where fault is not 0, the image is refused */
+    UIMG_NO_MEMORY = 3  /* memory was refused: nothing is known of the image, and no text was written */
+};
+
+/* A fault is its letter and its number: UIMG_FAULT('L', 8) is L8, no such part; 0 is none. Legacy images have
+   the letter L, the blobs of FIT images B, and the images in them F. */
+#define UIMG_FAULT(letter, number) ((uint32_t)(letter) * 256u + (uint32_t)(number))
+
+/* What a listing or a verification found, and its text. */
+typedef struct uimg_report {
+    uint32_t status; /* UIMG_DONE, UIMG_NOT_RIGHT or UIMG_NO_MEMORY */
+    uint32_t fault;  /* why the image is refused, or 0 */
+    uint64_t place;  /* where in the image a fault of the letter B is, else 0 */
+    size_t needed;   /* how many bytes the whole text has */
+    size_t written;  /* how many of them stand at the front of the caller's memory: the lesser of needed and its
+                        size */
+} uimg_report;
+
+/* Where a payload stands in an image: image[start] to image[start + size - 1], always inside the image. */
+typedef struct uimg_payload {
+    uint32_t status; /* UIMG_DONE where it was found, else UIMG_NOT_RIGHT or UIMG_NO_MEMORY */
+    uint32_t fault;  /* why not, or 0 */
+    uint64_t place;  /* where in the image a fault of the letter B is, else 0 */
+    size_t start;    /* 0 where none was found, as size */
+    size_t size;
+} uimg_payload;
+
+/* The listing of an image, as of `uimg dumpimage -l`. The answer is report->status. The front of text is written,
+   as much as there is place for; what stands behind it stays, and where memory was refused all of it. */
+uint32_t uimg_list(const uint8_t *image, size_t image_size, uint8_t *text, size_t text_size, uimg_report *report);
+
+/* The report on an image's checksums, as of `uimg verify`: a line for the header and the data of a legacy image,
+   and for each hash node of each image of a FIT. The answer is report->status: 0 only where each line ends with
+   ok, or with unhashed, which the line of an image without hash nodes does. */
+uint32_t uimg_verify(const uint8_t *image, size_t image_size, uint8_t *text, size_t text_size, uimg_report *report);
+
+/* Where the part of a legacy image, or the payload of a FIT image's image, at a position stands, counted from 0.
+   Of a legacy image the checksums have to be right; of a FIT nothing of the payload is read: verify it before. The
+   answer is payload->status. Positions end where it is UIMG_NOT_RIGHT with the fault L8 or F4. */
+uint32_t uimg_payload_at(const uint8_t *image, size_t image_size, uint32_t position, uimg_payload *payload);
+
+/* The line of a fault, as "L8 no such part", is put to the front of text, without a NUL. The answer is how many bytes
+   the whole line has: 0 for a number that is no fault's. Of a fault of the letter B the program prints its place
+   behind the line, as " at 40". */
+size_t uimg_fault_line(uint32_t fault, uint8_t *text, size_t text_size);
+
+/* The version, as "0.1.0", is put to the front of text, without a NUL. The answer is how many bytes it has. */
+size_t uimg_version(uint8_t *text, size_t text_size);
+
+#ifdef __cplusplus
+}
+#endif
+
+#endif

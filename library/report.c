@@ -1,0 +1,98 @@
+/* report.c: all that the library tells of images, a few lines for each file: for comparisons, and for valgrind.
+   report [-b BYTES] FILE..: with -b over a block of so many bytes, where it is linked with libuimg_block.a. */
+#include <uimg.h>
+#ifdef OVER_A_BLOCK
+#include <uimg_block.h>
+#endif
+
+#include <stdio.h>
+#include <stdlib.h>
+#include <string.h>
+
+enum { ROOM = 1 << 16, POSITIONS = 4 };
+
+typedef uint32_t command(const uint8_t *, size_t, uint8_t *, size_t, uimg_report *);
+
+static size_t block_size = 1 << 20;
+
+/* Before each call over a block the block is given anew. */
+static void prepare(void)
+{
+#ifdef OVER_A_BLOCK
+    static uint8_t block[1 << 20];
+
+    uimg_use_block(block, block_size);
+#endif
+}
+
+/* Memory of just so many bytes, so that a byte too far is seen. */
+static void *exactly(size_t size)
+{
+    void *memory = malloc(size ? size : 1);
+
+    if (!memory)
+        exit(3);
+    memset(memory, 0, size);
+    return memory;
+}
+
+static void tell(const char *name, command *run, const uint8_t *image, size_t size, size_t room)
+{
+    uint8_t *text = exactly(room);
+    uimg_report report = {0};
+    uint32_t status;
+
+    prepare();
+    status = run(image, size, text, room, &report);
+    printf("%s: %u %u %u %llu %zu %zu\n%.*s\n", name, status, report.status, report.fault,
+           (unsigned long long)report.place, report.needed, report.written, (int)report.written, (char *)text);
+    free(text);
+}
+
+static void tell_payload(const uint8_t *image, size_t size, uint32_t position)
+{
+    uimg_payload payload = {0};
+    uint32_t status;
+
+    prepare();
+    status = uimg_payload_at(image, size, position, &payload);
+    printf("%u: %u %u %u %llu %zu %zu\n", position, status, payload.status, payload.fault,
+           (unsigned long long)payload.place, payload.start, payload.size);
+    if (payload.start > size || payload.size > size - payload.start)
+        exit(4);
+}
+
+static void report(const char *path)
+{
+    FILE *file = fopen(path, "rb");
+    long size;
+    uint8_t *image;
+
+    if (!file || fseek(file, 0, SEEK_END) || (size = ftell(file)) < 0)
+        exit(3);
+    rewind(file);
+    image = exactly((size_t)size);
+    if (fread(image, 1, (size_t)size, file) != (size_t)size)
+        exit(3);
+    fclose(file);
+    tell("list", uimg_list, image, (size_t)size, ROOM);
+    tell("front", uimg_list, image, (size_t)size, 30);
+    tell("verify", uimg_verify, image, (size_t)size, ROOM);
+    tell("nothing", uimg_verify, image, (size_t)size, 0);
+    for (uint32_t position = 0; position < POSITIONS; position++)
+        tell_payload(image, (size_t)size, position);
+    free(image);
+}
+
+int main(int count, char **words)
+{
+    int first = 1;
+
+    if (count > 2 && !strcmp(words[1], "-b")) {
+        block_size = (size_t)strtoul(words[2], NULL, 10);
+        first = 3;
+    }
+    for (int i = first; i < count; i++)
+        report(words[i]);
+    return 0;
+}

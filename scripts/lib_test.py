@@ -1,0 +1,187 @@
+#!/usr/bin/env python3
+"""lib_test.py PROGRAM FOLDER: tests libuimg in FOLDER, as callers in C and Python use it, beside the program. What it
+compares: symbols and headers; the example programs; listings, reports and payloads of the example images and of
+1000 broken ones; the library over a block; and, where they are there, valgrind and Go. The last line counts."""
+import os
+import random
+import re
+import shutil
+import subprocess
+import sys
+import tempfile
+
+PROGRAM, LIBRARY = (os.path.abspath(it) for it in sys.argv[1:3])
+IMAGES = ["abc-kernel.img", "three-part.img", "kernel.itb"]
+BROKEN = 1000
+CC = os.environ.get("CC", "cc")
+os.environ["LIBUIMG"] = f"{LIBRARY}/libuimg.so.0"
+sys.path.insert(0, "examples/python")
+sys.dont_write_bytecode = True
+import uimg
+
+passed, failed = 0, []
+
+
+def case(name, is_right, told=""):
+    """Counts a case, and tells one that is not right."""
+    global passed
+    if is_right:
+        passed += 1
+    elif len(failed) < 20:
+        failed.append(name)
+        print(f"{name}: {told or 'not as it should be'}", flush=True)
+
+
+def ran(*words):
+    return subprocess.run(words, capture_output=True)
+
+
+def symbols(*words):
+    found = ran("nm", *words).stdout.decode()
+    return sorted({it[1] for it in re.finditer(r" T (\w+)(?:@.*)?$", found, re.M)})
+
+
+def compiled(name, *words, compiler=CC, standard="c99"):
+    """Compiles a program of the work folder, and counts a warning as a failure."""
+    made = ran(compiler, f"-std={standard}", "-Wall", "-Wextra", "-Werror", "-Iinclude", "-o", f"{WORK}/{name}", *words)
+    case(f"{name} compiles", made.returncode == 0, made.stderr.decode())
+    return f"{WORK}/{name}"
+
+
+def check_symbols():
+    with open("library/symbols", encoding="ascii") as file:
+        wanted = file.read().split()
+    case("symbols of libuimg.so", symbols("-D", f"{LIBRARY}/libuimg.so.0") == wanted)
+    case("symbols of libuimg.a", symbols(f"{LIBRARY}/libuimg.a") == wanted)
+    block = sorted([*wanted, "uimg_block_most", "uimg_use_block"])
+    case("symbols of libuimg_block.a", symbols(f"{LIBRARY}/libuimg_block.a") == block)
+    needed = re.findall(r" U (\w+)", ran("nm", f"{LIBRARY}/libuimg_block.a").stdout.decode())
+    case("libuimg_block.a needs no malloc", set(needed) <= {"memcpy", "memmove", "memset"}, str(needed))
+
+
+def check_headers():
+    for standard, compiler in (("c99", CC), ("c++11", os.environ.get("CXX", "c++"))):
+        if shutil.which(compiler):
+            path = f"{WORK}/header.{'cc' if '++' in standard else 'c'}"
+            with open(path, "w", encoding="ascii") as file:
+                file.write("#include <uimg.h>\n#include <uimg_block.h>\nint main(void) { return 0; }\n")
+            compiled(f"header as {standard}", path, "-pedantic", compiler=compiler, standard=standard)
+
+
+def broken_images(count):
+    """Returns bytes of images: the examples, and such that are cut or have a few bits that are flipped."""
+    chance = random.Random(1)
+    whole = [open(f"examples/{it}", "rb").read() for it in IMAGES]
+    images = [*whole, b"", b"\xd0\x0d\xfe\xed"]
+    while len(images) < count:
+        image = bytearray(chance.choice(whole))
+        if chance.random() < 0.2:
+            image = image[: chance.randrange(len(image))]
+        else:
+            for _ in range(chance.choice((1, 1, 2, 5))):
+                image[chance.randrange(len(image))] ^= 1 << chance.randrange(8)
+        images.append(bytes(image))
+    return images
+
+
+def by_program(*words):
+    """Returns what the program answers: status, output, and the fault's line."""
+    told = ran(PROGRAM, *words)
+    return told.returncode, told.stdout, told.stderr.decode().removeprefix("uimg: ").rstrip("\n")
+
+
+def payload_by_program(path, position):
+    out = f"{WORK}/payload"
+    if os.path.exists(out):
+        os.remove(out)
+    status, _, line = by_program("dumpimage", "-p", str(position), "-o", out, path)
+    return (open(out, "rb").read() if status == 0 else b""), line
+
+
+def payload(image, position):
+    try:
+        return uimg.payload(image, position), ""
+    except uimg.Refused as refused:
+        return b"", str(refused)
+
+
+def compare(images):
+    path = f"{WORK}/image"
+    for number, image in enumerate(images):
+        with open(path, "wb") as file:
+            file.write(image)
+        found = uimg.listing(image)
+        wanted = by_program("dumpimage", "-l", path)
+        case(f"listing of image {number}", (found.status, found.text, found.fault) == wanted, f"{found} and {wanted}")
+        found = uimg.verify(image)
+        wanted = by_program("verify", path)
+        case(f"report on image {number}", (found.status, found.text, found.fault) == wanted, f"{found} and {wanted}")
+        for position in range(4):
+            found, wanted = payload(image, position), payload_by_program(path, position)
+            case(f"payload {position} of image {number}", found == wanted, f"{found} and {wanted}")
+
+
+def check_faults():
+    """Each fault has the line that the manual page has."""
+    page = open("docs/uimg.1", encoding="utf-8").read().replace("\\-", "-")
+    for letter, count in (("L", 10), ("B", 11), ("F", 10)):
+        for number in range(count + 2):
+            line = uimg._text(uimg._library.uimg_fault_line, ord(letter) * 256 + number)
+            is_one = 1 <= number <= count
+            # (B10 is of making alone, where the program tells it otherwise)
+            is_known = line in page or line == "B10 too large"
+            case(f"line of {letter}{number}", is_known and line.startswith(f"{letter}{number} ") if is_one else not line, line)
+    case("no fault", uimg._text(uimg._library.uimg_fault_line, 0) == "")
+
+
+def check_programs(files):
+    """The example programs, and the library over a block, beside the library over malloc."""
+    image = "examples/kernel.itb"
+    unpack = compiled("unpack", "examples/c/unpack.c", f"{LIBRARY}/libuimg.a", standard="gnu99")
+    compiled("unpack with libuimg.so", "examples/c/unpack.c", f"-L{LIBRARY}", "-luimg", standard="gnu99")
+    for words in ([unpack], [sys.executable, "examples/python/uimg.py"]):
+        told = ran(*words, image, "0")
+        case(f"{words[-1]} unpacks", (told.returncode, told.stdout) == (0, b"abc"), str(told))
+        told = ran(*words, image, "1")
+        case(f"{words[-1]} refuses", (told.returncode, told.stdout) == (1, b"") and b"F4 no such image" in told.stderr, str(told))
+    report = compiled("report", "library/report.c", f"{LIBRARY}/libuimg.a")
+    block = compiled("report over a block", "-DOVER_A_BLOCK", "library/report.c", f"{LIBRARY}/libuimg_block.a")
+    wanted = ran(report, *files)
+    case("a report on each image", wanted.returncode == 0 and wanted.stdout != b"", str(wanted.returncode))
+    case("the same over a block", ran(block, *files).stdout == wanted.stdout)
+    for size in (0, 10, 64, 512, 2048):
+        told = ran(block, "-b", str(size), *files)
+        # Where the block does not do, the status is 3, and no text is written.
+        lines = [it for it in told.stdout.decode(errors="replace").split("\n") if re.match(r"\w+: 3 ", it)]
+        case(f"a block of {size}", told.returncode == 0 and lines and all(it.endswith(": 3 3 0 0 0 0") for it in lines), str(lines[:3]))
+    if shutil.which("valgrind"):
+        told = ran("valgrind", "-q", "--leak-check=full", "--error-exitcode=9", report, *files[:200])
+        case("valgrind", told.returncode == 0 and not told.stderr, told.stderr.decode())
+    else:
+        print("valgrind is not installed, so nothing was run under it")
+    if shutil.which("go"):
+        environment = {**os.environ, "CGO_CFLAGS": f"-I{os.getcwd()}/include", "CGO_LDFLAGS": f"-L{LIBRARY} -Wl,-rpath,{LIBRARY}", "GOCACHE": f"{WORK}/go"}
+        told = subprocess.run(["go", "run", "examples/go/unpack.go", image, "0"], env=environment, capture_output=True)
+        case("unpack.go", (told.returncode, told.stdout) == (0, b"abc"), told.stderr.decode())
+    else:
+        print("Go is not installed, so its example was not run")
+
+
+def main():
+    images = broken_images(BROKEN)
+    files = []
+    for number, image in enumerate(images):
+        files.append(f"{WORK}/{number}.img")
+        with open(files[-1], "wb") as file:
+            file.write(image)
+    check_symbols()
+    check_headers()
+    check_faults()
+    check_programs(files)
+    compare(images)
+    print(f"{passed} passed, {len(failed)} failed")
+    return 1 if failed else 0
+
+
+with tempfile.TemporaryDirectory() as WORK:
+    sys.exit(main())
