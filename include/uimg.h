@@ -66,6 +66,12 @@ uint32_t uimg_verify(const uint8_t *image, size_t image_size, uint8_t *text, siz
    answer is payload->status. Positions end where it is UIMG_NOT_RIGHT with the fault L8 or F4. */
 uint32_t uimg_payload_at(const uint8_t *image, size_t image_size, uint32_t position, uimg_payload *payload);
 
+/* Where the payload of the first image of a name stands in a FIT image; the name has no NUL behind it. A legacy image,
+   whose parts have no names, is refused with the fault B2. The image's table is read once, so of many images, too, this
+   is quick. The answer is payload->status; F4 is the fault where no image has the name. */
+uint32_t uimg_payload_named(const uint8_t *image, size_t image_size, const uint8_t *name, size_t name_size,
+                            uimg_payload *payload);
+
 /* The line of a fault, as "L8 no such part", is put to the front of text, without a NUL. The answer is how many bytes
    the whole line has: 0 for a number that is no fault's. Of a fault of the letter B the program prints its place
    behind the line, as " at 40". */

@@ -62,6 +62,19 @@ static void tell_payload(const uint8_t *image, size_t size, uint32_t position)
         exit(4);
 }
 
+static void tell_named(const uint8_t *image, size_t size, const char *name)
+{
+    uimg_payload payload = {0};
+    uint32_t status;
+
+    prepare();
+    status = uimg_payload_named(image, size, (const uint8_t *)name, strlen(name), &payload);
+    printf("%s: %u %u %u %llu %zu %zu\n", name, status, payload.status, payload.fault,
+           (unsigned long long)payload.place, payload.start, payload.size);
+    if (payload.start > size || payload.size > size - payload.start)
+        exit(4);
+}
+
 static void report(const char *path)
 {
     FILE *file = fopen(path, "rb");
@@ -81,6 +94,7 @@ static void report(const char *path)
     tell("nothing", uimg_verify, image, (size_t)size, 0);
     for (uint32_t position = 0; position < POSITIONS; position++)
         tell_payload(image, (size_t)size, position);
+    tell_named(image, (size_t)size, "kernel");
     free(image);
 }
 

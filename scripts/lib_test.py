@@ -121,6 +121,18 @@ def compare(images):
             case(f"payload {position} of image {number}", found == wanted, f"{found} and {wanted}")
 
 
+def check_names():
+    """A payload by its image's name is the one at the position of the first image of that name."""
+    image = open("examples/kernel.itb", "rb").read()
+    two = image.replace(b"kernel\0\0", b"KERNEL\0\0")
+    case("the payload of kernel", uimg.place(image, "kernel") == uimg.place(image, 0))
+    for name, wanted in (("kerne", "F4 no such image"), ("kernel2", "F4 no such image"), ("", "F4 no such image"), (b"KERNEL", "F4 no such image")):
+        case(f"no image {name!r}", payload(image, name) == (b"", wanted), str(payload(image, name)))
+    case("another name", two != image and payload(two, "KERNEL")[0] == b"abc" and payload(two, "kernel")[1] == "F4 no such image")
+    legacy = open("examples/abc-kernel.img", "rb").read()
+    case("a legacy image has no names", payload(legacy, "kernel") == (b"", "B2 bad magic at 0"), str(payload(legacy, "kernel")))
+
+
 def check_faults():
     """Each fault has the line that the manual page has."""
     page = open("docs/uimg.1", encoding="utf-8").read().replace("\\-", "-")
@@ -177,6 +189,7 @@ def main():
     check_symbols()
     check_headers()
     check_faults()
+    check_names()
     check_programs(files)
     compare(images)
     print(f"{passed} passed, {len(failed)} failed")

@@ -43,6 +43,7 @@ _bytes, _size = ctypes.POINTER(ctypes.c_uint8), ctypes.c_size_t
 for _name in ("uimg_list", "uimg_verify"):
     getattr(_library, _name).argtypes = [_bytes, _size, _bytes, _size, ctypes.POINTER(_Report)]
 _library.uimg_payload_at.argtypes = [_bytes, _size, ctypes.c_uint32, ctypes.POINTER(_Payload)]
+_library.uimg_payload_named.argtypes = [_bytes, _size, _bytes, _size, ctypes.POINTER(_Payload)]
 _library.uimg_fault_line.argtypes = [ctypes.c_uint32, _bytes, _size]
 _library.uimg_fault_line.restype = _size
 _library.uimg_version.argtypes = [_bytes, _size]
@@ -138,19 +139,26 @@ def verify(image):
     return _report(_library.uimg_verify, image)
 
 
-def place(image, position=0):
-    """Returns where the payload at a position begins in the image, and its size. Raises Refused."""
+def place(image, which=0):
+    """Returns where a payload begins in the image, and its size: that at a position, counted from 0, or, of a FIT
+    image, that of the first image of a name. Raises Refused."""
     pointer, size, _keep = _passed(image)
     found = _Payload()
-    _library.uimg_payload_at(pointer, size, position, ctypes.byref(found))
+    if isinstance(which, int):
+        if not 0 <= which < 2**32:
+            raise ValueError("a position is from 0 to 4294967295")
+        _library.uimg_payload_at(pointer, size, which, ctypes.byref(found))
+    else:
+        name, length, _kept = _passed(which.encode() if isinstance(which, str) else which)
+        _library.uimg_payload_named(pointer, size, name, length, ctypes.byref(found))
     if found.status != DONE:
         raise Refused(found.status, _line(found) or "out of memory")
     return found.start, found.size
 
 
-def payload(image, position=0):
-    """Returns the bytes of the payload at a position. Raises Refused."""
-    start, size = place(image, position)
+def payload(image, which=0):
+    """Returns the bytes of a payload, which is told as for place. Raises Refused."""
+    start, size = place(image, which)
     return bytes(memoryview(image)[start : start + size])
 
 

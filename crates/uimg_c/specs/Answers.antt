@@ -1,11 +1,12 @@
 -- What the exports tell of the outcome of a command.
-use Rattle.std.specs.Prelude.{◌≡◌, ℕ, ◌+◌, ◌≤◌, min, List, ◌++◌, length, take, drop, Some}
+use Rattle.std.specs.Prelude.{◌≡◌, ℕ, min, List, ◌++◌, length, take, drop, Some, Result, Ok}
 use Rattle.uimg_texts.specs.Slices.{slice}
 use Rattle.uimg_base.specs.Outcome.{Outcome}
 use Rattle.uimg_engine.specs.declared.fault.Fault.{Fault}
 use Rattle.uimg_c.specs.declared.reports.UimgReport.{UimgReport}
 use Rattle.uimg_c.specs.declared.reports.UimgPayload.{UimgPayload}
-use Rattle.uimg_c.specs.Codes.{code_of}
+use Rattle.uimg_fit_base.specs.declared.fault.Fault.{Fault as FitEngineFault}
+use Rattle.uimg_c.specs.Codes.{code_of, code_of_found}
 
 -- A report tells how an outcome ends, and its text, or as much of it as there is place for, stands at the front of the
 -- caller's memory; the rest of that stays.
@@ -19,3 +20,8 @@ pub record Reports (o : Outcome Fault) (old new : List ℕ) (report : UimgReport
 pub record Finds (o : Outcome Fault) (image : List ℕ) (payload : UimgPayload) : Type 0 where
   pub code : code_of o.end ≡ Some (record { status = payload.status; fault = payload.fault; place = payload.place })
   pub bytes : payload.status ≡ 0 → o.text ≡ slice image payload.start payload.size
+
+-- The same of a payload that is looked for in a FIT image, where it is just these bytes, or refused.
+pub record FindsNamed (found : Result (List ℕ) FitEngineFault) (image : List ℕ) (payload : UimgPayload) : Type 0 where
+  pub code : code_of_found found ≡ Some (record { status = payload.status; fault = payload.fault; place = payload.place })
+  pub bytes : payload.status ≡ 0 → found ≡ Ok (slice image payload.start payload.size)

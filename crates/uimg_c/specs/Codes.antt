@@ -9,6 +9,8 @@ use Rattle.uimg_fit_base.specs.declared.fault.FitFault.{FitFault}
 use Rattle.uimg_fit_base.specs.declared.fault.FitFault.TheVariants as fit
 use Rattle.uimg_legacy.specs.declared.fault.LegacyFault.{LegacyFault}
 use Rattle.uimg_legacy.specs.declared.fault.LegacyFault.TheVariants as legacy
+use Rattle.uimg_fit_base.specs.declared.fault.Fault.{Fault as FitEngineFault}
+use Rattle.uimg_engine.specs.Faults.{of_fit}
 use Rattle.uimg_engine.specs.declared.fault.Fault.{Fault}
 use Rattle.uimg_engine.specs.declared.fault.Fault.TheVariants.{Legacy, Blob, Fit}
 use Rattle.uimg_c.specs.declared.codes.Code.{Code}
@@ -71,6 +73,11 @@ abbrev pub code_of_answer : Result Status Fault → Option Code
 code_of_answer (Ok Done) = Some (record { status = 0; fault = 0; place = 0 })
 code_of_answer (Ok NotRight) = Some (record { status = 1; fault = 0; place = 0 })
 code_of_answer (Err fault) = code_of_fault fault
+
+-- the numbers for what is found in a FIT image, or for the fault that refuses it
+abbrev pub code_of_found : {X : Type 0} → Result X FitEngineFault → Option Code
+code_of_found (Ok x) = code_of_answer (Ok Done)
+code_of_found (Err fault) = code_of_fault (of_fit fault)
 
 -- the numbers for the end of an outcome
 abbrev pub code_of : End Fault → Option Code

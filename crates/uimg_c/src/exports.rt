@@ -5,11 +5,12 @@ ghost use Rattle.uimg_names.specs.declared.naming.Naming.TheVariants as naming;
 ghost use Rattle.uimg_requests.specs.declared.command.Action.TheVariants as action;
 ghost use Rattle.uimg_requests.specs.declared.command.Format.TheVariants as format;
 ghost use Rattle.uimg_engine.specs.Headline.{outcome_of};
-ghost use Rattle.uimg_c.specs.Answers.{Finds, Reports};
+ghost use Rattle.uimg_fit_reading.specs.Named.{payload_named};
+ghost use Rattle.uimg_c.specs.Answers.{Finds, FindsNamed, Reports};
 
 use crate::fault_lines::put_fault_line;
 use crate::fronts::copy_front;
-use crate::payloads::payload_at;
+use crate::payloads::{payload_at, payload_named};
 use crate::reports::{UimgPayload, UimgReport};
 use crate::running::report_on;
 use std::alloc::Global;
@@ -77,6 +78,21 @@ pub extern "C" fn uimg_payload_at(
     ensures inside { payload.new.start + payload.new.size ≤ length image.now }
 {
     payload_at(alloc, image, position, payload)
+}
+
+/// Finds the payload of the first image of a name in a FIT image.
+#[unsafe(no_mangle)]
+pub extern "C" fn uimg_payload_named(
+    alloc: Global,
+    image: &[u8],
+    name: &[u8],
+    payload: &mut UimgPayload,
+) -> u32
+    ensures told { result ≢ 3 → FindsNamed (payload_named image.now name.now) image.now payload.new }
+    ensures status { result ≡ payload.new.status }
+    ensures inside { payload.new.start + payload.new.size ≤ length image.now }
+{
+    payload_named(alloc, image, name, payload)
 }
 
 /// Puts the line of a fault, as `L8 no such part`, to the front of `text`, and says how many bytes the

@@ -4,7 +4,8 @@ ghost use Rattle.std.specs.Prelude.{◌≡◌, ◌≢◌, ◌+◌, ◌≤◌, le
 ghost use Rattle.uimg_requests.specs.declared.command.Action.TheVariants as action;
 ghost use Rattle.uimg_requests.specs.declared.command.Format.TheVariants as format;
 ghost use Rattle.uimg_engine.specs.Headline.{outcome_of};
-ghost use Rattle.uimg_c.specs.Answers.{Finds};
+ghost use Rattle.uimg_fit_reading.specs.Named.{payload_named};
+ghost use Rattle.uimg_c.specs.Answers.{Finds, FindsNamed};
 ghost use Rattle.uimg_c.specs.Codes.{code_of_fault};
 
 use crate::codes::{DONE, NO_MEMORY, fault_code};
@@ -12,6 +13,7 @@ use crate::reports::UimgPayload;
 use std::alloc::Global;
 use uimg_base::{Room, Span};
 use uimg_engine::{Fault, locate_in_memory};
+use uimg_fit_reading::locate_named;
 use uimg_requests::Format;
 
 // What is told of a payload that was not found.
@@ -73,6 +75,25 @@ pub(crate) fn payload_at(
     *payload = match locate_in_memory(Format::Guess, position, image, &mut room) {
         Ok(span) => found(span),
         Err(fault) => unfound(fault),
+    };
+    payload.status
+}
+
+/// Where the payload of the first image of a name stands in the bytes of a FIT image.
+pub(crate) fn payload_named(
+    alloc: Global,
+    image: &[u8],
+    name: &[u8],
+    payload: &mut UimgPayload,
+) -> u32
+    ensures told { result ≢ 3 → FindsNamed (payload_named image.now name.now) image.now payload.new }
+    ensures status { result ≡ payload.new.status }
+    ensures inside { payload.new.start + payload.new.size ≤ length image.now }
+{
+    let mut room = Room::new(alloc);
+    *payload = match locate_named(name, image, &mut room) {
+        Ok(span) => found(span),
+        Err(fault) => unfound(Fault::from(fault)),
     };
     payload.status
 }

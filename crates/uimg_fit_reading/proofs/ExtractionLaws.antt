@@ -26,7 +26,7 @@ payload_is file t position number is h =
     ap (λ (r : Result (List (NodeOf Spot)) Fault). r >>= (λ found. of_images (payload_of file (slice_get found position)))) (images_are file t (Some h.found) is h.is)
     ∙ ap (λ (o : Option (NodeOf Spot)). of_images (payload_of file o)) h.has
 
-by_answer : (file : List ℕ) (image : NodeOf Spot) (result : Result Span Fault) → TellsPlace file image result → Gives (λ (p : Span). slice file p.place p.length) result (of_images (payload file image))
+pub by_answer : (file : List ℕ) (image : NodeOf Spot) (result : Result Span Fault) → TellsPlace file image result → Gives (λ (p : Span). slice file p.place p.length) result (of_images (payload file image))
 by_answer file image (Ok p) tells = ap of_images tells
 by_answer file image (Err (Fit fault)) tells = ap of_images tells
 by_answer file image (Err (OfBlob fault at)) tells = absurd tells

@@ -11,6 +11,7 @@ pub mod OpenedLaws
 pub mod CompareLaws
 pub mod PlaceLaws
 pub mod ExtractionLaws
+pub mod NamedLaws
 pub mod LineLaws
 pub mod AllowanceLaws
 pub mod SharesLaws

@@ -6,6 +6,7 @@ pub mod Values
 pub mod Listing
 pub mod Work
 pub mod Nodes
+pub mod Named
 pub mod Rooms
 pub mod Shows
 pub mod Lists

@@ -4,6 +4,7 @@
 mod extraction;
 mod images;
 mod listing;
+mod named;
 mod nodes;
 mod places;
 mod puts;
@@ -12,4 +13,5 @@ mod tree;
 
 pub use extraction::{extract, locate};
 pub use listing::list;
+pub use named::locate_named;
 pub use report::verify;

@@ -1,0 +1,46 @@
+-- The payload of an image by its name.
+use Rattle.std.specs.Prelude.{◌≡◌, ℕ, List, [], ◌∷◌, Option, Some, None, Result, Ok, Err, if◌then◌else◌}
+use Rattle.std.specs.Str.{bytes_eq}
+use Rattle.uimg_base.specs.Results.{◌>>=◌}
+use Rattle.uimg_blob.specs.Grammar.{Siblings}
+use Rattle.uimg_blob.specs.LookUps.{NodeOf, images}
+use Rattle.uimg_blob.specs.Roles.{in_images}
+use Rattle.uimg_blob.specs.Spots.{Spot, spots}
+use Rattle.uimg_fit_base.specs.declared.fault.Fault.{Fault}
+use Rattle.uimg_fit_base.specs.declared.fault.FitFault.{FitFault}
+use Rattle.uimg_fit_base.specs.declared.fault.FitFault.TheVariants.{NoImages, NoSuchImage}
+use Rattle.uimg_fit_base.specs.Extraction.{of_images, payload_of}
+use Rattle.uimg_fit_base.specs.Files.{images_of}
+use Rattle.uimg_fit_reading.specs.Nodes.{IsNode}
+
+-- the first image of a name
+unfoldable pub named : List ℕ → List (NodeOf Spot) → Option (NodeOf Spot)
+named name [] = None
+named name (image ∷ more) = if bytes_eq name image.name then Some image else named name more
+
+-- the payload of the first image of a name, or the first fault
+abbrev pub payload_named : List ℕ → List ℕ → Result (List ℕ) Fault
+payload_named file name = do
+  found ← images_of file
+  of_images (payload_of file (named name found))
+
+-- The first image of a name has a number.
+pub record HasNamed (t : Siblings) (name : List ℕ) (number : ℕ) : Type 0 where
+  pub found : List (NodeOf Spot)
+  pub image : NodeOf Spot
+  pub is : images (spots t) ≡ Some found
+  pub has : named name found ≡ Some image
+  pub node : IsNode t in_images number image
+
+-- The tree has images, and none of a name.
+pub record LacksNamed (t : Siblings) (name : List ℕ) : Type 0 where
+  pub found : List (NodeOf Spot)
+  pub is : images (spots t) ≡ Some found
+  pub lacks : named name found ≡ None
+
+-- what is said of the first image of a name
+abbrev pub TellsNamed : Siblings → List ℕ → Result ℕ FitFault → Type 0
+TellsNamed t name (Ok number) = HasNamed t name number
+TellsNamed t name (Err NoImages) = images (spots t) ≡ None
+TellsNamed t name (Err NoSuchImage) = LacksNamed t name
+TellsNamed t name (Err _) = ⊥
