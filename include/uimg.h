@@ -3,14 +3,17 @@
 
    For every list of bytes, well formed or not, a call returns, reads nothing beyond the image, writes nothing
    beyond the memory that it is given, and tells just what the definition says of these bytes, or that memory
-   was refused. Each function of the library is proved to do so (docs/LIBRARY.md). No call looks at signatures:
-   that all hashes are right says that the image is whole, and not who made it.
+   was refused: each function of the library is proved to do so (docs/LIBRARY.md; that memory is told to be
+   refused only where it was is tested). No call looks at signatures: that all hashes are right says that the
+   image is whole, and not who made it.
+
+   It is compiled for x86-64-v2, a processor with SSE4.2, whose SSE registers are in use.
 
    What a caller sees to:
    - No pointer is null, not one beside a size of 0 either, and so many bytes as its size says are there.
    - The memory for a text, and the report or payload, overlap neither one another nor the image, and have values
-     before the call (as by calloc or = {0}). Nobody else writes the image (a mapped file too), and nobody else
-     reads or writes the rest, while the call runs.
+     before the call (as by calloc or = {0}). Nobody else writes the image (a mapped file is not written or cut
+     short either), and nobody else reads or writes the rest, while the call runs.
    - Calls may run at once in several threads, each over its own memory. None is made from a signal handler. */
 #ifndef UIMG_H
 #define UIMG_H
@@ -58,12 +61,14 @@ uint32_t uimg_list(const uint8_t *image, size_t image_size, uint8_t *text, size_
 
 /* The report on an image's checksums, as of `uimg verify`: a line for the header and the data of a legacy image,
    and for each hash node of each image of a FIT. The answer is report->status: 0 only where each line ends with
-   ok, or with unhashed, which the line of an image without hash nodes does. */
+   ok, or with unhashed, which the line of an image without hash nodes does. A FIT without an image has no line, and
+   0 too. */
 uint32_t uimg_verify(const uint8_t *image, size_t image_size, uint8_t *text, size_t text_size, uimg_report *report);
 
 /* Where the part of a legacy image, or the payload of a FIT image's image, at a position stands, counted from 0.
    Of a legacy image the checksums have to be right; of a FIT nothing of the payload is read: verify it before. The
-   answer is payload->status. Positions end where it is UIMG_NOT_RIGHT with the fault L8 or F4. */
+   answer is payload->status, never UIMG_NO_MEMORY of a legacy image. Behind the last position the fault is L8 or F4; F2,
+   F3 and L7 are of this position alone, and any other fault is the image's, at every position. */
 uint32_t uimg_payload_at(const uint8_t *image, size_t image_size, uint32_t position, uimg_payload *payload);
 
 /* Where the payload of the first image of a name stands in a FIT image; the name has no NUL behind it. A legacy image,
@@ -73,7 +78,7 @@ uint32_t uimg_payload_named(const uint8_t *image, size_t image_size, const uint8
                             uimg_payload *payload);
 
 /* The line of a fault, as "L8 no such part", is put to the front of text, without a NUL. The answer is how many bytes
-   the whole line has: 0 for a number that is no fault's. Of a fault of the letter B the program prints its place
+   the whole line has, at most 64: 0 for a number that is no fault's. Of a fault of the letter B the program prints its place
    behind the line, as " at 40". */
 size_t uimg_fault_line(uint32_t fault, uint8_t *text, size_t text_size);
 

@@ -18,6 +18,9 @@ enum { UNIT = 16 };
 static uint8_t *block;
 static size_t given, taken, most;
 
+/* A place that nothing is written to, for an answer without memory. */
+static max_align_t nowhere;
+
 void uimg_use_block(void *start, size_t size)
 {
     size_t skipped = (UNIT - (uintptr_t)start % UNIT) % UNIT;
@@ -60,12 +63,13 @@ static int is_last(void *start)
 struct memory rattle_alloc(size_t size, size_t alignment)
 {
     size_t left = given - taken;
-    uint8_t *start = block + taken + UNIT;
+    uint8_t *start;
 
     (void)alignment;
     if (left < UNIT || size > left - UNIT || whole_units(size) > left - UNIT)
-        return (struct memory){0, block};
+        return (struct memory){0, &nowhere};
     size = whole_units(size);
+    start = block + taken + UNIT;
     memcpy(start - UNIT, &size, sizeof size);
     take(taken + UNIT + size);
     return (struct memory){1, start};

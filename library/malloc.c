@@ -17,8 +17,7 @@ static struct memory answer(void *start)
     return start ? (struct memory){1, start} : (struct memory){0, &nowhere};
 }
 
-/* No memory of 0 bytes is taken: its place is a multiple of its alignment. The library asks for alignments of at
-   most 16, which malloc gives. */
+/* For 0 bytes as many as the alignment are taken. The library asks for alignments of at most 16, which malloc gives. */
 struct memory rattle_alloc(size_t size, size_t alignment)
 {
     return answer(malloc(size ? size : alignment));

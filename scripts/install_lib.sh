@@ -6,4 +6,6 @@ install -d "$to/lib/pkgconfig" "$to/include" &&
     install -m 644 include/uimg.h include/uimg_block.h "$to/include" &&
     install -m 644 lib/libuimg.a lib/libuimg_block.a lib/libuimg.so.0 "$to/lib" &&
     ln -sf libuimg.so.0 "$to/lib/libuimg.so" &&
-    sed "s#@PREFIX@#$2#; s#@LIBDIR@#$2/lib#; s#@VERSION@#$version#" library/libuimg.pc.in > "$to/lib/pkgconfig/libuimg.pc"
+    sed "s#@PREFIX@#$2#; s#@LIBDIR@#$2/lib#; s#@VERSION@#$version#" library/libuimg.pc.in > "$to/lib/pkgconfig/libuimg.pc" || exit 1
+# Programs find the shared library once the linker's cache has it.
+test -n "$1" || test "$(id -u)" != 0 || ldconfig

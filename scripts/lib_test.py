@@ -2,6 +2,8 @@
 """lib_test.py PROGRAM FOLDER: tests libuimg in FOLDER, as callers in C and Python use it, beside the program. What it
 compares: symbols and headers; the example programs; listings, reports and payloads of the example images and of
 1000 broken ones; the library over a block; and, where they are there, valgrind and Go. The last line counts."""
+import array
+import ctypes
 import os
 import random
 import re
@@ -105,6 +107,14 @@ def payload(image, position):
         return b"", str(refused)
 
 
+def front(image, room):
+    """Returns the front of a listing that fits into a room, and how long the whole is."""
+    pointer, size, _keep = uimg._passed(image)
+    text, report = (ctypes.c_uint8 * room)(), uimg._Report()
+    uimg._library.uimg_list(pointer, size, text, room, ctypes.byref(report))
+    return bytes(text[: report.written]), report.needed
+
+
 def compare(images):
     path = f"{WORK}/image"
     for number, image in enumerate(images):
@@ -113,6 +123,7 @@ def compare(images):
         found = uimg.listing(image)
         wanted = by_program("dumpimage", "-l", path)
         case(f"listing of image {number}", (found.status, found.text, found.fault) == wanted, f"{found} and {wanted}")
+        case(f"front of image {number}", front(image, 30) == (wanted[1][:30], len(wanted[1])))
         found = uimg.verify(image)
         wanted = by_program("verify", path)
         case(f"report on image {number}", (found.status, found.text, found.fault) == wanted, f"{found} and {wanted}")
@@ -146,16 +157,47 @@ def check_faults():
     case("no fault", uimg._text(uimg._library.uimg_fault_line, 0) == "")
 
 
+def check_example(*words):
+    """An example program unpacks, refuses, and tells a wrong line and a write that fails by its status."""
+    image = "examples/kernel.itb"
+    told = ran(*words, image, "0")
+    case(f"{words[-1]} unpacks", (told.returncode, told.stdout) == (0, b"abc"), str(told))
+    told = ran(*words, image, "1")
+    case(f"{words[-1]} refuses", (told.returncode, told.stdout) == (1, b"") and b"F4 no such image" in told.stderr, str(told))
+    for position in ("", "abc", "1x", "-1", "4294967296"):
+        told = ran(*words, image, position)
+        case(f"{words[-1]} at {position!r}", (told.returncode, told.stdout) == (2, b""), str(told))
+    case(f"{words[-1]} of no file", ran(*words, f"{WORK}/none", "0").returncode == 3)
+    with open("/dev/full", "wb") as full:
+        told = subprocess.run([*words, image, "0"], stdout=full, stderr=subprocess.PIPE)
+    case(f"{words[-1]} to a full device", told.returncode == 3 and b"Traceback" not in told.stderr, str(told))
+
+
+def check_calls():
+    """The version, and images in other buffers than bytes."""
+    case("version", uimg.version() == by_program("--version")[1].decode().split()[1], uimg.version())
+    image = open("examples/kernel.itb", "rb").read()
+    numbers = array.array("I", image + bytes(-len(image) % 4))
+    for other in (bytearray(image), memoryview(image), numbers, memoryview(numbers)):
+        case(f"a payload of a {type(other).__name__}", uimg.payload(other) == b"abc")
+    for position in (-1, 2**32):
+        try:
+            case(f"position {position}", uimg.place(image, position) is None)
+        except ValueError:
+            case(f"position {position}", True)
+
+
+def statuses(told):
+    return re.findall(r"^\w+: (\d) (.*)$", told.stdout.decode(errors="replace"), re.M)
+
+
 def check_programs(files):
     """The example programs, and the library over a block, beside the library over malloc."""
     image = "examples/kernel.itb"
-    unpack = compiled("unpack", "examples/c/unpack.c", f"{LIBRARY}/libuimg.a", standard="gnu99")
-    compiled("unpack with libuimg.so", "examples/c/unpack.c", f"-L{LIBRARY}", "-luimg", standard="gnu99")
-    for words in ([unpack], [sys.executable, "examples/python/uimg.py"]):
-        told = ran(*words, image, "0")
-        case(f"{words[-1]} unpacks", (told.returncode, told.stdout) == (0, b"abc"), str(told))
-        told = ran(*words, image, "1")
-        case(f"{words[-1]} refuses", (told.returncode, told.stdout) == (1, b"") and b"F4 no such image" in told.stderr, str(told))
+    check_example(compiled("unpack", "examples/c/unpack.c", f"{LIBRARY}/libuimg.a", standard="gnu99"))
+    way = f"-Wl,-rpath,{LIBRARY}"
+    check_example(compiled("unpack with libuimg.so", "examples/c/unpack.c", f"-L{LIBRARY}", way, "-luimg", standard="gnu99"))
+    check_example(sys.executable, "examples/python/uimg.py")
     report = compiled("report", "library/report.c", f"{LIBRARY}/libuimg.a")
     block = compiled("report over a block", "-DOVER_A_BLOCK", "library/report.c", f"{LIBRARY}/libuimg_block.a")
     wanted = ran(report, *files)
@@ -164,8 +206,9 @@ def check_programs(files):
     for size in (0, 10, 64, 512, 2048):
         told = ran(block, "-b", str(size), *files)
         # Where the block does not do, the status is 3, and no text is written.
-        lines = [it for it in told.stdout.decode(errors="replace").split("\n") if re.match(r"\w+: 3 ", it)]
-        case(f"a block of {size}", told.returncode == 0 and lines and all(it.endswith(": 3 3 0 0 0 0") for it in lines), str(lines[:3]))
+        pairs = list(zip(statuses(told), statuses(wanted)))
+        is_right = all(one in (other, ("3", "3 0 0 0 0")) for one, other in pairs)
+        case(f"a block of {size}", told.returncode == 0 and len(pairs) == len(statuses(wanted)) and is_right)
     if shutil.which("valgrind"):
         told = ran("valgrind", "-q", "--leak-check=full", "--error-exitcode=9", report, *files[:200])
         case("valgrind", told.returncode == 0 and not told.stderr, told.stderr.decode())
@@ -190,6 +233,7 @@ def main():
     check_headers()
     check_faults()
     check_names()
+    check_calls()
     check_programs(files)
     compare(images)
     print(f"{passed} passed, {len(failed)} failed")

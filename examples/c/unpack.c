@@ -9,7 +9,6 @@
 
 #include <fcntl.h>
 #include <stdio.h>
-#include <stdlib.h>
 #include <sys/mman.h>
 #include <sys/stat.h>
 #include <unistd.h>
@@ -37,6 +36,8 @@ static uint32_t verify(const uint8_t *image, size_t size)
         fprintf(stderr, "%.*s", (int)report.written, (char *)text);
     if (report.fault)
         tell(report.fault, report.place);
+    else if (status != UIMG_DONE)
+        fprintf(stderr, "unpack: %s\n", status == UIMG_NO_MEMORY ? "out of memory" : "not right");
     return status;
 }
 
@@ -50,6 +51,8 @@ static uint32_t unpack(const uint8_t *image, size_t size, uint32_t position)
     status = uimg_payload_at(image, size, position, &payload);
     if (payload.fault)
         tell(payload.fault, payload.place);
+    else if (status != UIMG_DONE)
+        fprintf(stderr, "unpack: out of memory\n");
     if (status != UIMG_DONE)
         return status;
     if (fwrite(image + payload.start, 1, payload.size, stdout) != payload.size || fflush(stdout))
@@ -57,15 +60,34 @@ static uint32_t unpack(const uint8_t *image, size_t size, uint32_t position)
     return UIMG_DONE;
 }
 
+/* Whether a word is a position: digits alone, of a number of 32 bits. */
+static int read_position(const char *word, uint32_t *position)
+{
+    unsigned long long number = 0;
+
+    if (!*word)
+        return 0;
+    for (; *word; word++) {
+        if (*word < '0' || *word > '9')
+            return 0;
+        number = 10 * number + (unsigned)(*word - '0');
+        if (number > UINT32_MAX)
+            return 0;
+    }
+    *position = (uint32_t)number;
+    return 1;
+}
+
 int main(int count, char **words)
 {
     struct stat about;
     int file;
+    uint32_t position;
     void *image;
     /* A file of no bytes cannot be mapped. */
     static const uint8_t nothing[1];
 
-    if (count != 3) {
+    if (count != 3 || !read_position(words[2], &position)) {
         fprintf(stderr, "usage: unpack IMAGE POSITION\n");
         return 2;
     }
@@ -74,12 +96,16 @@ int main(int count, char **words)
         perror(words[1]);
         return 3;
     }
+    if (!S_ISREG(about.st_mode)) {
+        fprintf(stderr, "unpack: %s is no regular file\n", words[1]);
+        return 3;
+    }
     if (about.st_size == 0)
-        return (int)unpack(nothing, 0, (uint32_t)strtoul(words[2], NULL, 10));
+        return (int)unpack(nothing, 0, position);
     image = mmap(NULL, (size_t)about.st_size, PROT_READ, MAP_PRIVATE, file, 0);
     if (image == MAP_FAILED) {
         perror(words[1]);
         return 3;
     }
-    return (int)unpack(image, (size_t)about.st_size, (uint32_t)strtoul(words[2], NULL, 10));
+    return (int)unpack(image, (size_t)about.st_size, position);
 }

@@ -50,6 +50,10 @@ func verify(image []byte) int {
 	}
 	if report.fault != 0 {
 		tell(report.fault, report.place)
+	} else if status == failed {
+		fmt.Fprintln(os.Stderr, "unpack: out of memory")
+	} else if status != done {
+		fmt.Fprintln(os.Stderr, "unpack: not right")
 	}
 	return int(status)
 }
@@ -62,6 +66,8 @@ func unpack(image []byte, position uint64) int {
 	status := C.uimg_payload_at(pointer(image), C.size_t(len(image)), C.uint32_t(position), &payload)
 	if payload.fault != 0 {
 		tell(payload.fault, payload.place)
+	} else if status != done {
+		fmt.Fprintln(os.Stderr, "unpack: out of memory")
 	}
 	if status != done {
 		return int(status)

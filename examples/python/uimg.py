@@ -7,11 +7,12 @@
     if report.status == uimg.DONE:
         payload = uimg.payload(image, 0)
 
-An image is bytes, or anything else with a buffer. As a program it does what examples/c/unpack.c does:
+An image is bytes, or anything else with a contiguous buffer. As a program it does what examples/c/unpack.c does:
 `python3 uimg.py kernel.itb 0 > payload`. LIBUIMG names another library than libuimg.so.0."""
 import ctypes
 import mmap
 import os
+import stat
 import sys
 from typing import NamedTuple
 
@@ -159,36 +160,52 @@ def place(image, which=0):
 def payload(image, which=0):
     """Returns the bytes of a payload, which is told as for place. Raises Refused."""
     start, size = place(image, which)
-    return bytes(memoryview(image)[start : start + size])
+    return bytes(memoryview(image).cast("B")[start : start + size])
 
 
 def version():
     return _text(_library.uimg_version)
 
 
-def main(words):
-    if len(words) != 3:
-        print("usage: uimg.py IMAGE POSITION", file=sys.stderr)
-        return WRONG_LINE
-    try:
-        with open(words[1], "rb") as file:
-            whole = os.fstat(file.fileno()).st_size
-            image = mmap.mmap(file.fileno(), 0, access=mmap.ACCESS_READ) if whole else b""
-    except OSError as fault:
-        print(f"uimg.py: {fault}", file=sys.stderr)
-        return FAILED
+def _mapped(path):
+    """Returns a file's bytes, mapped. A file of no bytes cannot be mapped, and of a pipe the size is not known."""
+    with open(path, "rb") as file:
+        about = os.fstat(file.fileno())
+        if not stat.S_ISREG(about.st_mode):
+            raise OSError(f"{path} is no regular file")
+        return mmap.mmap(file.fileno(), 0, access=mmap.ACCESS_READ) if about.st_size else b""
+
+
+def _unpack(path, position):
+    image = _mapped(path)
     report = verify(image)
     if report.status != DONE:
         sys.stderr.write(report.text.decode(errors="replace"))
-        if report.fault:
-            print(f"uimg.py: {report.fault}", file=sys.stderr)
+        print(f"uimg.py: {report.fault or ('out of memory' if report.status == FAILED else 'not right')}", file=sys.stderr)
         return report.status
     try:
-        sys.stdout.buffer.write(payload(image, int(words[2])))
+        found = payload(image, position)
     except Refused as fault:
         print(f"uimg.py: {fault}", file=sys.stderr)
         return fault.status
+    if sys.stdout is None:
+        raise OSError("standard output is closed")
+    sys.stdout.buffer.write(found)
+    sys.stdout.buffer.flush()
     return DONE
+
+
+def main(words):
+    if len(words) != 3 or not words[2].isascii() or not words[2].isdigit() or int(words[2]) >= 2**32:
+        print("usage: uimg.py IMAGE POSITION", file=sys.stderr)
+        return WRONG_LINE
+    try:
+        return _unpack(words[1], int(words[2]))
+    except OSError as fault:
+        print(f"uimg.py: {fault}", file=sys.stderr)
+        # What could not be written is not tried again at the end.
+        sys.stdout = None
+        return FAILED
 
 
 if __name__ == "__main__":

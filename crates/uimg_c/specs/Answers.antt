@@ -16,6 +16,10 @@ pub record Reports (o : Outcome Fault) (old new : List ℕ) (report : UimgReport
   pub written : report.written ≡ min (length o.text) (length old)
   pub text : new ≡ take report.written o.text ++ drop report.written old
 
+-- the report where memory was refused
+abbrev pub no_report : UimgReport
+no_report = record { status = 3; fault = 0; place = 0; needed = 0; written = 0 }
+
 -- A payload tells how the outcome of an extraction ends, and where the bytes that it writes stand in the image.
 pub record Finds (o : Outcome Fault) (image : List ℕ) (payload : UimgPayload) : Type 0 where
   pub code : code_of o.end ≡ Some (record { status = payload.status; fault = payload.fault; place = payload.place })

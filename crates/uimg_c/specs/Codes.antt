@@ -60,7 +60,8 @@ fit_number fit.ReadFailed = 10
 abbrev pub refusal : ℕ → ℕ → ℕ → Code
 refusal letter number place = record { status = 1; fault = 256 * letter + number; place = place }
 
--- the numbers for a fault of an image; none where memory was refused, a device failed, or only a making has the fault
+-- The numbers for a fault of an image or its blob; none where the memory for the table of nodes was refused, a device
+-- failed, or a making's files are at fault. What no reading answers (L9, L10, B10, F5 to F10) has numbers too.
 abbrev pub code_of_fault : Fault → Option Code
 code_of_fault (Legacy f) = Some (refusal 76 (legacy_number f) 0)
 code_of_fault (Blob blob.OutOfMemory place) = None

@@ -91,8 +91,8 @@ fn refusal(letter: u32, number: u32, place: u64) -> Code
     }
 }
 
-// The numbers for a fault of an image; none where a device failed, or memory was refused, or for a fault
-// that only a making has.
+// The numbers for a fault of an image or its blob; none where the memory for the table of nodes was
+// refused, a device failed, or a making's files are at fault.
 pub(crate) fn fault_code(fault: Fault) -> Option<Code>
     ensures { result ≡ code_of_fault fault }
 {

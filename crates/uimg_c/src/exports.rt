@@ -1,12 +1,12 @@
 //! The functions that a caller in C calls.
 
-ghost use Rattle.std.specs.Prelude.{◌≡◌, ◌≢◌, ◌+◌, ◌≤◌, length};
+ghost use Rattle.std.specs.Prelude.{◌≡◌, ◌≢◌, ◌+◌, ◌≤◌, length, false};
 ghost use Rattle.uimg_names.specs.declared.naming.Naming.TheVariants as naming;
 ghost use Rattle.uimg_requests.specs.declared.command.Action.TheVariants as action;
 ghost use Rattle.uimg_requests.specs.declared.command.Format.TheVariants as format;
-ghost use Rattle.uimg_engine.specs.Headline.{outcome_of};
+ghost use Rattle.uimg_engine.specs.Headline.{outcome_of, is_fit};
 ghost use Rattle.uimg_fit_reading.specs.Named.{payload_named};
-ghost use Rattle.uimg_c.specs.Answers.{Finds, FindsNamed, Reports};
+ghost use Rattle.uimg_c.specs.Answers.{Finds, FindsNamed, Reports, no_report};
 
 use crate::fault_lines::put_fault_line;
 use crate::fronts::copy_front;
@@ -30,6 +30,8 @@ pub extern "C" fn uimg_list(
       format = format.Guess;
     }) image.now) text.old text.new report.new }
     ensures status { result ≡ report.new.status }
+    ensures within { report.new.written ≤ length text.old }
+    ensures nothing { result ≡ 3 → report.new ≡ no_report }
     ensures untouched { result ≡ 3 → text.new ≡ text.old }
 {
     let command = Command {
@@ -52,6 +54,8 @@ pub extern "C" fn uimg_verify(
       format = format.Guess;
     }) image.now) text.old text.new report.new }
     ensures status { result ≡ report.new.status }
+    ensures within { report.new.written ≤ length text.old }
+    ensures nothing { result ≡ 3 → report.new ≡ no_report }
     ensures untouched { result ≡ 3 → text.new ≡ text.old }
 {
     let command = Command {
@@ -76,6 +80,8 @@ pub extern "C" fn uimg_payload_at(
     }) image.now) image.now payload.new }
     ensures status { result ≡ payload.new.status }
     ensures inside { payload.new.start + payload.new.size ≤ length image.now }
+    ensures nowhere { result ≢ 0 → (payload.new.start ≡ 0) × (payload.new.size ≡ 0) }
+    ensures legacy { is_fit format.Guess image.now ≡ false → result ≢ 3 }
 {
     payload_at(alloc, image, position, payload)
 }
@@ -91,6 +97,7 @@ pub extern "C" fn uimg_payload_named(
     ensures told { result ≢ 3 → FindsNamed (payload_named image.now name.now) image.now payload.new }
     ensures status { result ≡ payload.new.status }
     ensures inside { payload.new.start + payload.new.size ≤ length image.now }
+    ensures nowhere { result ≢ 0 → (payload.new.start ≡ 0) × (payload.new.size ≡ 0) }
 {
     payload_named(alloc, image, name, payload)
 }
@@ -98,7 +105,9 @@ pub extern "C" fn uimg_payload_named(
 /// Puts the line of a fault, as `L8 no such part`, to the front of `text`, and says how many bytes the
 /// whole line has: 0 for a number that is no fault's.
 #[unsafe(no_mangle)]
-pub extern "C" fn uimg_fault_line(fault: u32, text: &mut [u8]) -> usize {
+pub extern "C" fn uimg_fault_line(fault: u32, text: &mut [u8]) -> usize
+    ensures { result ≤ 64 }
+{
     put_fault_line(fault, text)
 }
 

@@ -75,7 +75,9 @@ impl Write for Line {
 }
 
 // The line of a fault, if it is one.
-fn put_line<F: Display>(fault: Option<&F>, text: &mut [u8]) -> usize {
+fn put_line<F: Display>(fault: Option<&F>, text: &mut [u8]) -> usize
+    ensures { result ≤ 64 }
+{
     let Some(fault) = fault else {
         return 0;
     };
@@ -92,7 +94,9 @@ fn put_line<F: Display>(fault: Option<&F>, text: &mut [u8]) -> usize {
 
 /// Puts the line of a fault, by its letter and number, to the front of `text`, and says how many bytes
 /// the whole line has.
-pub(crate) fn put_fault_line(fault: u32, text: &mut [u8]) -> usize {
+pub(crate) fn put_fault_line(fault: u32, text: &mut [u8]) -> usize
+    ensures { result ≤ 64 }
+{
     let number = (fault % 256) as usize;
     let letter = fault / 256;
     if number == 0 {

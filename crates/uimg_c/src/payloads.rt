@@ -1,9 +1,9 @@
 //! Where a payload stands in an image in memory.
 
-ghost use Rattle.std.specs.Prelude.{◌≡◌, ◌≢◌, ◌+◌, ◌≤◌, length, Some};
+ghost use Rattle.std.specs.Prelude.{◌≡◌, ◌≢◌, ◌+◌, ◌≤◌, length, false, Some, None};
 ghost use Rattle.uimg_requests.specs.declared.command.Action.TheVariants as action;
 ghost use Rattle.uimg_requests.specs.declared.command.Format.TheVariants as format;
-ghost use Rattle.uimg_engine.specs.Headline.{outcome_of};
+ghost use Rattle.uimg_engine.specs.Headline.{outcome_of, is_fit};
 ghost use Rattle.uimg_fit_reading.specs.Named.{payload_named};
 ghost use Rattle.uimg_c.specs.Answers.{Finds, FindsNamed};
 ghost use Rattle.uimg_c.specs.Codes.{code_of_fault};
@@ -23,6 +23,7 @@ fn unfound(fault: Fault) -> UimgPayload
       fault = result.fault;
       place = result.place;
     }) }
+    ensures memory { result.status ≡ 3 → code_of_fault fault ≡ None }
     ensures not_found { result.status ≢ 0 }
     ensures nowhere { (result.start ≡ 0) × (result.size ≡ 0) }
 {
@@ -70,6 +71,8 @@ pub(crate) fn payload_at(
     }) image.now) image.now payload.new }
     ensures status { result ≡ payload.new.status }
     ensures inside { payload.new.start + payload.new.size ≤ length image.now }
+    ensures nowhere { result ≢ 0 → (payload.new.start ≡ 0) × (payload.new.size ≡ 0) }
+    ensures legacy { is_fit format.Guess image.now ≡ false → result ≢ 3 }
 {
     let mut room = Room::new(alloc);
     *payload = match locate_in_memory(Format::Guess, position, image, &mut room) {
@@ -89,6 +92,7 @@ pub(crate) fn payload_named(
     ensures told { result ≢ 3 → FindsNamed (payload_named image.now name.now) image.now payload.new }
     ensures status { result ≡ payload.new.status }
     ensures inside { payload.new.start + payload.new.size ≤ length image.now }
+    ensures nowhere { result ≢ 0 → (payload.new.start ≡ 0) × (payload.new.size ≡ 0) }
 {
     let mut room = Room::new(alloc);
     *payload = match locate_named(name, image, &mut room) {

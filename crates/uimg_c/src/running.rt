@@ -1,8 +1,8 @@
 //! A command on an image in memory, whose text goes to the caller's memory.
 
-ghost use Rattle.std.specs.Prelude.{◌≡◌, ◌≢◌};
+ghost use Rattle.std.specs.Prelude.{◌≡◌, ◌≢◌, ◌≤◌, length};
 ghost use Rattle.uimg_engine.specs.Headline.{outcome_of};
-ghost use Rattle.uimg_c.specs.Answers.{Reports};
+ghost use Rattle.uimg_c.specs.Answers.{Reports, no_report};
 
 use crate::codes::{NO_MEMORY, answer_code};
 use crate::fronts::copy_front;
@@ -22,6 +22,8 @@ pub(crate) fn report_on(
 ) -> u32
     ensures told { result ≢ 3 → Reports (outcome_of command.now image.now) text.old text.new report.new }
     ensures status { result ≡ report.new.status }
+    ensures within { report.new.written ≤ length text.old }
+    ensures nothing { result ≡ 3 → report.new ≡ no_report }
     ensures untouched { result ≡ 3 → text.new ≡ text.old }
 {
     let mut room = Room::new(alloc);
