@@ -62,8 +62,24 @@ uint32_t uimg_list(const uint8_t *image, size_t image_size, uint8_t *text, size_
 /* The report on an image's checksums, as of `uimg verify`: a line for the header and the data of a legacy image,
    and for each hash node of each image of a FIT. The answer is report->status: 0 only where each line ends with
    ok, or with unhashed, which the line of an image without hash nodes does. A FIT without an image has no line, and
-   0 too. */
+   0 too: uimg_check asks for more. */
 uint32_t uimg_verify(const uint8_t *image, size_t image_size, uint8_t *text, size_t text_size, uimg_report *report);
+
+/* What a check needs at least: an algorithm, in the order of strength. CRC-32, MD5 and SHA-1 tell damage, and withstand
+   nobody who wants to deceive. */
+enum uimg_need {
+    UIMG_CRC32 = 1,
+    UIMG_MD5 = 2,
+    UIMG_SHA1 = 3,
+    UIMG_SHA256 = 4,
+    UIMG_SHA384 = 5,
+    UIMG_SHA512 = 6
+};
+
+/* A strict check, without a text (needed and written are 0): as uimg_verify, but 0 only where the FIT has an image, and
+   each of its images has a hash node that is compared by the needed algorithm or a stronger one. A legacy image has
+   CRC-32 alone. Another number than those above is met by nothing. The answer is report->status. */
+uint32_t uimg_check(const uint8_t *image, size_t image_size, uint32_t need, uimg_report *report);
 
 /* Where the part of a legacy image, or the payload of a FIT image's image, at a position stands, counted from 0.
    Of a legacy image the checksums have to be right; of a FIT nothing of the payload is read: verify it before. The

@@ -144,6 +144,46 @@ def check_names():
     case("a legacy image has no names", payload(legacy, "kernel") == (b"", "B2 bad magic at 0"), str(payload(legacy, "kernel")))
 
 
+STRENGTHS = ("crc32", "md5", "sha1", "sha256", "sha384", "sha512")
+
+
+def is_vouched(image, need):
+    """Returns whether a check has to end well, by the report: its lines have the algorithms."""
+    report = uimg.verify(image)
+    if report.status != uimg.DONE or not image.startswith(b"\xd0\x0d\xfe\xed"):
+        return report.status == uimg.DONE and need == "crc32"
+    strongest = {}
+    for line in report.text.decode("latin-1").splitlines():
+        name, _, algo, word = line.rsplit(" ", 3)
+        strength = STRENGTHS.index(algo) if word == "ok" else -1
+        strongest[name] = max(strength, strongest.get(name, -1))
+    return bool(strongest) and min(strongest.values()) >= STRENGTHS.index(need)
+
+
+def made(source):
+    with open(f"{WORK}/k.its", "w", encoding="ascii") as file:
+        file.write(source)
+    case("an image is made", ran(PROGRAM, "mkimage", "-f", f"{WORK}/k.its", f"{WORK}/k.itb").returncode == 0)
+    with open(f"{WORK}/k.itb", "rb") as file:
+        return file.read()
+
+
+def check_checks(images):
+    """A check ends well where the report does and each image has a hash of the strength; the images are of each kind."""
+    one = '/dts-v1/; / { description = "d"; images { %s }; };'
+    image = 'k%d { description = "k"; data = "abc"; %s };'
+    hashed = 'hash-1 { algo = "%s"; };'
+    sources = [one % "", one % image % (1, ""), one % (image % (1, hashed % "sha256") + image % (2, ""))]
+    sources += [one % (image % (1, hashed % "sha512") + image % (2, hashed % algo)) for algo in STRENGTHS]
+    of_each = [made(it) for it in sources]
+    case("an image that is not hashed", uimg.verify(of_each[1]).status == 0 and uimg.check(of_each[1], "crc32").status == 1)
+    case("no image at all", uimg.verify(of_each[0]).status == 0 and uimg.check(of_each[0], "crc32").status == 1)
+    for number, it in enumerate([*images, *of_each]):
+        for need in STRENGTHS:
+            found, verified = uimg.check(it, need), uimg.verify(it)
+            case(f"check of image {number} for {need}", (found.status == 0) == is_vouched(it, need) and found.fault == verified.fault, str(found))
+
+
 def check_faults():
     """Each fault has the line that the manual page has."""
     page = open("docs/uimg.1", encoding="utf-8").read().replace("\\-", "-")
@@ -236,6 +276,7 @@ def main():
     check_calls()
     check_programs(files)
     compare(images)
+    check_checks(images)
     print(f"{passed} passed, {len(failed)} failed")
     return 1 if failed else 0
 

@@ -3,9 +3,8 @@
     import mmap, uimg
     with open("kernel.itb", "rb") as file:
         image = mmap.mmap(file.fileno(), 0, access=mmap.ACCESS_READ)
-    report = uimg.verify(image)
-    if report.status == uimg.DONE:
-        payload = uimg.payload(image, 0)
+    if uimg.check(image, "sha256").status == uimg.DONE:
+        payload = uimg.payload(image, "kernel")
 
 An image is bytes, or anything else with a contiguous buffer. As a program it does what examples/c/unpack.c does:
 `python3 uimg.py kernel.itb 0 > payload`. LIBUIMG names another library than libuimg.so.0."""
@@ -17,6 +16,7 @@ import sys
 from typing import NamedTuple
 
 DONE, NOT_RIGHT, WRONG_LINE, FAILED = range(4)
+_STRENGTHS = ("crc32", "md5", "sha1", "sha256", "sha384", "sha512")
 
 
 class _Report(ctypes.Structure):
@@ -43,6 +43,7 @@ _library = ctypes.CDLL(os.environ.get("LIBUIMG", "libuimg.so.0"))
 _bytes, _size = ctypes.POINTER(ctypes.c_uint8), ctypes.c_size_t
 for _name in ("uimg_list", "uimg_verify"):
     getattr(_library, _name).argtypes = [_bytes, _size, _bytes, _size, ctypes.POINTER(_Report)]
+_library.uimg_check.argtypes = [_bytes, _size, ctypes.c_uint32, ctypes.POINTER(_Report)]
 _library.uimg_payload_at.argtypes = [_bytes, _size, ctypes.c_uint32, ctypes.POINTER(_Payload)]
 _library.uimg_payload_named.argtypes = [_bytes, _size, _bytes, _size, ctypes.POINTER(_Payload)]
 _library.uimg_fault_line.argtypes = [ctypes.c_uint32, _bytes, _size]
@@ -138,6 +139,15 @@ def listing(image):
 def verify(image):
     """Verifies an image, as `uimg verify`. The status is DONE only where each line ends with ok or unhashed."""
     return _report(_library.uimg_verify, image)
+
+
+def check(image, need="sha256"):
+    """Checks an image strictly: as verify, but DONE only where there is an image, and each has a hash node that is compared
+    by this algorithm or a stronger one, of crc32, md5, sha1, sha256, sha384 and sha512. There is no text."""
+    pointer, size, _keep = _passed(image)
+    report = _Report()
+    _library.uimg_check(pointer, size, _STRENGTHS.index(need) + 1, ctypes.byref(report))
+    return Report(report.status, _line(report), b"")
 
 
 def place(image, which=0):

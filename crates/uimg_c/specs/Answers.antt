@@ -1,12 +1,14 @@
 -- What the exports tell of the outcome of a command.
-use Rattle.std.specs.Prelude.{◌≡◌, ℕ, min, List, ◌++◌, length, take, drop, Some, Result, Ok}
+use Rattle.std.specs.Prelude.{◌≡◌, ℕ, min, List, ◌++◌, length, take, drop, Option, Some, None, Result, Ok}
+use Rattle.uimg_sums.specs.declared.algo.Algo.{Algo}
 use Rattle.uimg_texts.specs.Slices.{slice}
-use Rattle.uimg_base.specs.Outcome.{Outcome}
+use Rattle.uimg_base.specs.Outcome.{Outcome, End, not_right}
 use Rattle.uimg_engine.specs.declared.fault.Fault.{Fault}
 use Rattle.uimg_c.specs.declared.reports.UimgReport.{UimgReport}
 use Rattle.uimg_c.specs.declared.reports.UimgPayload.{UimgPayload}
 use Rattle.uimg_fit_base.specs.declared.fault.Fault.{Fault as FitEngineFault}
-use Rattle.uimg_c.specs.Codes.{code_of, code_of_found}
+use Rattle.uimg_engine.specs.Checking.{check_of}
+use Rattle.uimg_c.specs.Codes.{code_of, code_of_found, strength}
 
 -- A report tells how an outcome ends, and its text, or as much of it as there is place for, stands at the front of the
 -- caller's memory; the rest of that stays.
@@ -29,3 +31,13 @@ pub record Finds (o : Outcome Fault) (image : List ℕ) (payload : UimgPayload) 
 pub record FindsNamed (found : Result (List ℕ) FitEngineFault) (image : List ℕ) (payload : UimgPayload) : Type 0 where
   pub code : code_of_found found ≡ Some (record { status = payload.status; fault = payload.fault; place = payload.place })
   pub bytes : payload.status ≡ 0 → found ≡ Ok (slice image payload.start payload.size)
+
+-- how a check ends; nothing vouches by an algorithm that there is not
+abbrev pub check_by : Option Algo → List ℕ → End Fault
+check_by None image = not_right
+check_by (Some need) image = check_of need image
+
+-- A report without a text tells how a check ends.
+pub record Checks (need : ℕ) (image : List ℕ) (report : UimgReport) : Type 0 where
+  pub code : code_of (check_by (strength need) image) ≡ Some (record { status = report.status; fault = report.fault; place = report.place })
+  pub no_text : (report.needed ≡ 0) × (report.written ≡ 0)

@@ -6,8 +6,9 @@ ghost use Rattle.uimg_requests.specs.declared.command.Action.TheVariants as acti
 ghost use Rattle.uimg_requests.specs.declared.command.Format.TheVariants as format;
 ghost use Rattle.uimg_engine.specs.Headline.{outcome_of, is_fit};
 ghost use Rattle.uimg_fit_reading.specs.Named.{payload_named};
-ghost use Rattle.uimg_c.specs.Answers.{Finds, FindsNamed, Reports, no_report};
+ghost use Rattle.uimg_c.specs.Answers.{Checks, Finds, FindsNamed, Reports, no_report};
 
+use crate::checks::check;
 use crate::fault_lines::put_fault_line;
 use crate::fronts::copy_front;
 use crate::payloads::{payload_at, payload_named};
@@ -63,6 +64,17 @@ pub extern "C" fn uimg_verify(
         format: Format::Guess,
     };
     report_on(alloc, &command, image, text, report)
+}
+
+/// Checks an image strictly: it is whole, it has images, and each of them has a hash node of at least a
+/// strength, from 1, CRC-32, to 6, SHA-512; a legacy image has CRC-32. No text is told.
+#[unsafe(no_mangle)]
+pub extern "C" fn uimg_check(alloc: Global, image: &[u8], need: u32, report: &mut UimgReport) -> u32
+    ensures told { result ≢ 3 → Checks need image.now report.new }
+    ensures status { result ≡ report.new.status }
+    ensures nothing { result ≡ 3 → report.new ≡ no_report }
+{
+    check(alloc, image, need, report)
 }
 
 /// Finds the part of a legacy image, or the payload of a FIT image's image, at a position, counted from 0:

@@ -4,6 +4,7 @@
 //! what a caller in C has to see to.
 #![tactic(auto)]
 
+mod checks;
 mod codes;
 mod exports;
 mod fault_lines;

@@ -1,6 +1,7 @@
 pub mod Faults
 pub mod Headline
 pub mod Locating
+pub mod Checking
 pub mod Making
 pub mod MakingTrees
 pub mod Commands

@@ -2,6 +2,7 @@
 //! on a disk.
 #![tactic(auto)]
 
+mod checking;
 mod disk_files;
 mod engine;
 mod fault;
@@ -14,6 +15,7 @@ mod making_parts;
 mod making_trees;
 mod same_files;
 
+pub use checking::check_in_memory;
 pub use disk_files::DiskFiles;
 pub use engine::run;
 pub use fault::Fault;

@@ -14,4 +14,4 @@ mod tree;
 pub use extraction::{extract, locate};
 pub use listing::list;
 pub use named::locate_named;
-pub use report::verify;
+pub use report::{is_vouched, verify};

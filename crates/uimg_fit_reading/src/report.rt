@@ -15,6 +15,7 @@ mod hash_reports;
 mod image_reports;
 mod judging;
 mod plans;
+mod vouching;
 
 use crate::images::first_image;
 use crate::report::image_reports::report_images;
@@ -23,6 +24,7 @@ use std::alloc::Allocator;
 use std::io::Write;
 use uimg_base::{Out, Room, Source, Status};
 use uimg_fit_base::Fault;
+pub use vouching::is_vouched;
 
 /// Writes the report on the hashes of the images: for each hash node of each image a line
 /// `<image> <hash> <algo> <word>`, the word being `malformed`, `unsupported`, `ok` or `bad`, and

@@ -25,7 +25,7 @@ fn with_plan(set: AlgoSet, plan: Plan) -> AlgoSet
 }
 
 // The algorithms that the hash nodes from one on are compared by.
-fn compared_algos<S: Source, A: Allocator>(
+pub(crate) fn compared_algos<S: Source, A: Allocator>(
     source: &mut S,
     blob: &Blob,
     room: &Room<A>,

@@ -1,0 +1,69 @@
+//! Whether an image in memory is whole, and vouched for.
+
+ghost use Rattle.std.specs.Prelude.{◌≡◌, ◌≢◌, Some};
+ghost use Rattle.uimg_c.specs.Answers.{Checks, no_report};
+ghost use Rattle.uimg_c.specs.Codes.{code_of_answer, strength};
+
+use crate::codes::{NO_MEMORY, answer_code};
+use crate::reports::UimgReport;
+use std::alloc::Global;
+use uimg_base::{Algo, Room, Status};
+use uimg_engine::{Fault, check_in_memory};
+
+// The algorithm of a strength.
+fn strength(need: u32) -> Option<Algo>
+    ensures { result ≡ strength need }
+{
+    match need {
+        1 => Some(Algo::Crc32),
+        2 => Some(Algo::Md5),
+        3 => Some(Algo::Sha1),
+        4 => Some(Algo::Sha256),
+        5 => Some(Algo::Sha384),
+        6 => Some(Algo::Sha512),
+        _ => None,
+    }
+}
+
+// The report without a text on an answer.
+fn report_of(end: Result<Status, Fault>) -> UimgReport
+    ensures code { result.status ≢ 3 → code_of_answer end ≡ Some (record {
+      status = result.status;
+      fault = result.fault;
+      place = result.place;
+    }) }
+    ensures memory { result.status ≡ 3 → result ≡ no_report }
+    ensures no_text { (result.needed ≡ 0) × (result.written ≡ 0) }
+{
+    match answer_code(end) {
+        Some(code) => UimgReport {
+            status: code.status,
+            fault: code.fault,
+            place: code.place,
+            needed: 0,
+            written: 0,
+        },
+        None => UimgReport {
+            status: NO_MEMORY,
+            fault: 0,
+            place: 0,
+            needed: 0,
+            written: 0,
+        },
+    }
+}
+
+/// Checks the bytes of an image, which need an algorithm of a strength.
+pub(crate) fn check(alloc: Global, image: &[u8], need: u32, report: &mut UimgReport) -> u32
+    ensures told { result ≢ 3 → Checks need image.now report.new }
+    ensures status { result ≡ report.new.status }
+    ensures nothing { result ≡ 3 → report.new ≡ no_report }
+{
+    let mut room = Room::new(alloc);
+    let end = match strength(need) {
+        Some(algo) => check_in_memory(alloc, algo, image, &mut room),
+        None => Ok(Status::NotRight),
+    };
+    *report = report_of(end);
+    report.status
+}

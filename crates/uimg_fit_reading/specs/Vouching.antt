@@ -1,0 +1,41 @@
+-- Which images their hash nodes vouch for.
+use Rattle.std.specs.Prelude.{List, ℕ, [], ◌∷◌, Bool, false, Result, Ok}
+use Rattle.std.specs.List.{list_all, list_any}
+use Rattle.uimg_sums.specs.declared.algo.Algo.{Algo}
+use Rattle.uimg_sums.specs.declared.algo.Algo.TheVariants.{Crc32, Md5, Sha1, Sha256, Sha384, Sha512}
+use Rattle.uimg_base.specs.Results.{◌>>=◌}
+use Rattle.uimg_blob.specs.LookUps.{NodeOf, hashes}
+use Rattle.uimg_blob.specs.Spots.{Spot}
+use Rattle.uimg_fit_base.specs.declared.algo_sets.AlgoSet.{AlgoSet}
+use Rattle.uimg_fit_base.specs.declared.fault.Fault.{Fault}
+use Rattle.uimg_fit_base.specs.AlgoSets.{has, no_algos}
+use Rattle.uimg_fit_base.specs.Files.{images_of}
+use Rattle.uimg_fit_reading.specs.Plans.{with_all}
+
+-- the algorithms that are at least as strong as one
+abbrev pub from : Algo → List Algo
+from Crc32 = Crc32 ∷ Md5 ∷ Sha1 ∷ Sha256 ∷ Sha384 ∷ Sha512 ∷ []
+from Md5 = Md5 ∷ Sha1 ∷ Sha256 ∷ Sha384 ∷ Sha512 ∷ []
+from Sha1 = Sha1 ∷ Sha256 ∷ Sha384 ∷ Sha512 ∷ []
+from Sha256 = Sha256 ∷ Sha384 ∷ Sha512 ∷ []
+from Sha384 = Sha384 ∷ Sha512 ∷ []
+from Sha512 = Sha512 ∷ []
+
+-- a set has one of them
+abbrev pub has_from : AlgoSet → Algo → Bool
+has_from set need = list_any (has set) (from need)
+
+-- A hash node of an image is compared with its payload by an algorithm that is at least so strong.
+abbrev pub is_vouched : Algo → NodeOf Spot → Bool
+is_vouched need image = has_from (with_all no_algos (hashes image)) need
+
+-- there are images, and each of them is vouched for
+abbrev pub are_vouched : Algo → List (NodeOf Spot) → Bool
+are_vouched need [] = false
+are_vouched need (image ∷ more) = list_all (is_vouched need) (image ∷ more)
+
+-- the same of the images of a file, or its first fault
+abbrev pub vouched_in : Algo → List ℕ → Result Bool Fault
+vouched_in need file = do
+  found ← images_of file
+  Ok (are_vouched need found)
