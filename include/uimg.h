@@ -55,6 +55,14 @@ typedef struct uimg_payload {
     size_t size;
 } uimg_payload;
 
+/* How many images a FIT image has. */
+typedef struct uimg_count {
+    uint32_t status; /* UIMG_DONE where they were counted, else UIMG_NOT_RIGHT or UIMG_NO_MEMORY */
+    uint32_t fault;  /* why not, or 0 */
+    uint64_t place;  /* where in the image a fault of the letter B is, else 0 */
+    size_t count;    /* 0 where they were not */
+} uimg_count;
+
 /* The listing of an image, as of `uimg dumpimage -l`. The answer is report->status. The front of text is written,
    as much as there is place for; what stands behind it stays, and where memory was refused all of it. */
 uint32_t uimg_list(const uint8_t *image, size_t image_size, uint8_t *text, size_t text_size, uimg_report *report);
@@ -92,6 +100,13 @@ uint32_t uimg_payload_at(const uint8_t *image, size_t image_size, uint32_t posit
    is quick. The answer is payload->status; F4 is the fault where no image has the name. */
 uint32_t uimg_payload_named(const uint8_t *image, size_t image_size, const uint8_t *name, size_t name_size,
                             uimg_payload *payload);
+
+/* Where the name of the image at a position, counted from 0, stands in a FIT image: payload->start and payload->size are
+   of the name, which has no NUL behind it in this count. The answer is payload->status. */
+uint32_t uimg_payload_name(const uint8_t *image, size_t image_size, uint32_t position, uimg_payload *payload);
+
+/* How many images a FIT image has. The answer is count->status. */
+uint32_t uimg_payload_count(const uint8_t *image, size_t image_size, uimg_count *count);
 
 /* The line of a fault, as "L8 no such part", is put to the front of text, without a NUL. The answer is how many bytes
    the whole line has, at most 64: 0 for a number that is no fault's. Of a fault of the letter B the program prints its place

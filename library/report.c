@@ -86,6 +86,20 @@ static void tell_named(const uint8_t *image, size_t size, const char *name)
         exit(4);
 }
 
+static void tell_names(const uint8_t *image, size_t size)
+{
+    uimg_count count = {0};
+    uimg_payload name = {0};
+
+    prepare();
+    uimg_payload_count(image, size, &count);
+    printf("count: %u %u %llu %zu\n", count.status, count.fault, (unsigned long long)count.place, count.count);
+    prepare();
+    uimg_payload_name(image, size, 0, &name);
+    printf("name: %u %u %llu %.*s\n", name.status, name.fault, (unsigned long long)name.place, (int)name.size,
+           (const char *)image + name.start);
+}
+
 static void report(const char *path)
 {
     FILE *file = fopen(path, "rb");
@@ -108,6 +122,7 @@ static void report(const char *path)
     for (uint32_t position = 0; position < POSITIONS; position++)
         tell_payload(image, (size_t)size, position);
     tell_named(image, (size_t)size, "kernel");
+    tell_names(image, (size_t)size);
     free(image);
 }
 

@@ -15,6 +15,9 @@ import tempfile
 PROGRAM, LIBRARY = (os.path.abspath(it) for it in sys.argv[1:3])
 IMAGES = ["abc-kernel.img", "three-part.img", "kernel.itb"]
 BROKEN = 1000
+ONE = '/dts-v1/; / { description = "d"; images { %s }; };'
+IMAGE = 'k%d { description = "k"; data = "abc"; %s };'
+HASHED = 'hash-1 { algo = "%s"; };'
 CC = os.environ.get("CC", "cc")
 os.environ["LIBUIMG"] = f"{LIBRARY}/libuimg.so.0"
 sys.path.insert(0, "examples/python")
@@ -141,6 +144,15 @@ def check_names():
         case(f"no image {name!r}", payload(image, name) == (b"", wanted), str(payload(image, name)))
     case("another name", two != image and payload(two, "KERNEL")[0] == b"abc" and payload(two, "kernel")[1] == "F4 no such image")
     legacy = open("examples/abc-kernel.img", "rb").read()
+    case("a name", uimg.name(image, 0) == b"kernel" and uimg.count(image) == 1)
+    three = made(ONE % "".join(IMAGE % (number, "") for number in (1, 2, 3)))
+    case("three names", [uimg.name(three, it) for it in range(uimg.count(three))] == [b"k1", b"k2", b"k3"])
+    case("no images", uimg.count(made(ONE % "")) == 0)
+    for call in (lambda: uimg.name(three, 3), lambda: uimg.count(b""), lambda: uimg.name(b"", 0)):
+        try:
+            case("a refusal", call() is None)
+        except uimg.Refused as refused:
+            case("a refusal", str(refused) in ("F4 no such image", "B1 too short at 0"), str(refused))
     case("a legacy image has no names", payload(legacy, "kernel") == (b"", "B2 bad magic at 0"), str(payload(legacy, "kernel")))
 
 
@@ -170,11 +182,8 @@ def made(source):
 
 def check_checks(images):
     """A check ends well where the report does and each image has a hash of the strength; the images are of each kind."""
-    one = '/dts-v1/; / { description = "d"; images { %s }; };'
-    image = 'k%d { description = "k"; data = "abc"; %s };'
-    hashed = 'hash-1 { algo = "%s"; };'
-    sources = [one % "", one % image % (1, ""), one % (image % (1, hashed % "sha256") + image % (2, ""))]
-    sources += [one % (image % (1, hashed % "sha512") + image % (2, hashed % algo)) for algo in STRENGTHS]
+    sources = [ONE % "", ONE % IMAGE % (1, ""), ONE % (IMAGE % (1, HASHED % "sha256") + IMAGE % (2, ""))]
+    sources += [ONE % (IMAGE % (1, HASHED % "sha512") + IMAGE % (2, HASHED % algo)) for algo in STRENGTHS]
     of_each = [made(it) for it in sources]
     case("an image that is not hashed", uimg.verify(of_each[1]).status == 0 and uimg.check(of_each[1], "crc32").status == 1)
     case("no image at all", uimg.verify(of_each[0]).status == 0 and uimg.check(of_each[0], "crc32").status == 1)
@@ -228,7 +237,7 @@ def check_calls():
 
 
 def statuses(told):
-    return re.findall(r"^\w+: (\d) (.*)$", told.stdout.decode(errors="replace"), re.M)
+    return re.findall(r"^(?!count|name)\w+: (\d) (.*)$", told.stdout.decode(errors="replace"), re.M)
 
 
 def check_programs(files):

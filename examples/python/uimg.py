@@ -39,12 +39,23 @@ class _Payload(ctypes.Structure):
     ]
 
 
+class _Count(ctypes.Structure):
+    _fields_ = [
+        ("status", ctypes.c_uint32),
+        ("fault", ctypes.c_uint32),
+        ("place", ctypes.c_uint64),
+        ("count", ctypes.c_size_t),
+    ]
+
+
 _library = ctypes.CDLL(os.environ.get("LIBUIMG", "libuimg.so.0"))
 _bytes, _size = ctypes.POINTER(ctypes.c_uint8), ctypes.c_size_t
 for _name in ("uimg_list", "uimg_verify"):
     getattr(_library, _name).argtypes = [_bytes, _size, _bytes, _size, ctypes.POINTER(_Report)]
 _library.uimg_check.argtypes = [_bytes, _size, ctypes.c_uint32, ctypes.POINTER(_Report)]
-_library.uimg_payload_at.argtypes = [_bytes, _size, ctypes.c_uint32, ctypes.POINTER(_Payload)]
+for _name in ("uimg_payload_at", "uimg_payload_name"):
+    getattr(_library, _name).argtypes = [_bytes, _size, ctypes.c_uint32, ctypes.POINTER(_Payload)]
+_library.uimg_payload_count.argtypes = [_bytes, _size, ctypes.POINTER(_Count)]
 _library.uimg_payload_named.argtypes = [_bytes, _size, _bytes, _size, ctypes.POINTER(_Payload)]
 _library.uimg_fault_line.argtypes = [ctypes.c_uint32, _bytes, _size]
 _library.uimg_fault_line.restype = _size
@@ -162,9 +173,31 @@ def place(image, which=0):
     else:
         name, length, _kept = _passed(which.encode() if isinstance(which, str) else which)
         _library.uimg_payload_named(pointer, size, name, length, ctypes.byref(found))
+    _done(found)
+    return found.start, found.size
+
+
+def _done(found):
     if found.status != DONE:
         raise Refused(found.status, _line(found) or "out of memory")
-    return found.start, found.size
+
+
+def count(image):
+    """Returns how many images a FIT image has. Raises Refused."""
+    pointer, size, _keep = _passed(image)
+    found = _Count()
+    _library.uimg_payload_count(pointer, size, ctypes.byref(found))
+    _done(found)
+    return found.count
+
+
+def name(image, position):
+    """Returns the name of the image at a position of a FIT image, as bytes. Raises Refused."""
+    pointer, size, _keep = _passed(image)
+    found = _Payload()
+    _library.uimg_payload_name(pointer, size, position, ctypes.byref(found))
+    _done(found)
+    return bytes(memoryview(image).cast("B")[found.start : found.start + found.size])
 
 
 def payload(image, which=0):

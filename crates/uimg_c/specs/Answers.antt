@@ -6,6 +6,7 @@ use Rattle.uimg_base.specs.Outcome.{Outcome, End, not_right}
 use Rattle.uimg_engine.specs.declared.fault.Fault.{Fault}
 use Rattle.uimg_c.specs.declared.reports.UimgReport.{UimgReport}
 use Rattle.uimg_c.specs.declared.reports.UimgPayload.{UimgPayload}
+use Rattle.uimg_c.specs.declared.reports.UimgCount.{UimgCount}
 use Rattle.uimg_fit_base.specs.declared.fault.Fault.{Fault as FitEngineFault}
 use Rattle.uimg_engine.specs.Checking.{check_of}
 use Rattle.uimg_c.specs.Codes.{code_of, code_of_found, strength}
@@ -27,7 +28,7 @@ pub record Finds (o : Outcome Fault) (image : List ℕ) (payload : UimgPayload) 
   pub code : code_of o.end ≡ Some (record { status = payload.status; fault = payload.fault; place = payload.place })
   pub bytes : payload.status ≡ 0 → o.text ≡ slice image payload.start payload.size
 
--- The same of a payload that is looked for in a FIT image, where it is just these bytes, or refused.
+-- The same of what is looked for in a FIT image, where it is just these bytes, or refused.
 pub record FindsNamed (found : Result (List ℕ) FitEngineFault) (image : List ℕ) (payload : UimgPayload) : Type 0 where
   pub code : code_of_found found ≡ Some (record { status = payload.status; fault = payload.fault; place = payload.place })
   pub bytes : payload.status ≡ 0 → found ≡ Ok (slice image payload.start payload.size)
@@ -41,3 +42,8 @@ check_by (Some need) image = check_of need image
 pub record Checks (need : ℕ) (image : List ℕ) (report : UimgReport) : Type 0 where
   pub code : code_of (check_by (strength need) image) ≡ Some (record { status = report.status; fault = report.fault; place = report.place })
   pub no_text : (report.needed ≡ 0) × (report.written ≡ 0)
+
+-- A count tells how many there are, or why they can't be counted.
+pub record Counts (counted : Result ℕ FitEngineFault) (count : UimgCount) : Type 0 where
+  pub code : code_of_found counted ≡ Some (record { status = count.status; fault = count.fault; place = count.place })
+  pub is : count.status ≡ 0 → counted ≡ Ok count.count

@@ -5,14 +5,16 @@ ghost use Rattle.uimg_names.specs.declared.naming.Naming.TheVariants as naming;
 ghost use Rattle.uimg_requests.specs.declared.command.Action.TheVariants as action;
 ghost use Rattle.uimg_requests.specs.declared.command.Format.TheVariants as format;
 ghost use Rattle.uimg_engine.specs.Headline.{outcome_of, is_fit};
-ghost use Rattle.uimg_fit_reading.specs.Named.{payload_named};
-ghost use Rattle.uimg_c.specs.Answers.{Checks, Finds, FindsNamed, Reports, no_report};
+ghost use Rattle.uimg_fit_reading.specs.Counting.{count_of};
+ghost use Rattle.uimg_fit_reading.specs.Named.{name_at, payload_named};
+ghost use Rattle.uimg_c.specs.Answers.{Checks, Counts, Finds, FindsNamed, Reports, no_report};
 
 use crate::checks::check;
+use crate::counts::payload_count;
 use crate::fault_lines::put_fault_line;
 use crate::fronts::copy_front;
-use crate::payloads::{payload_at, payload_named};
-use crate::reports::{UimgPayload, UimgReport};
+use crate::payloads::{payload_at, payload_name, payload_named};
+use crate::reports::{UimgCount, UimgPayload, UimgReport};
 use crate::running::report_on;
 use std::alloc::Global;
 use uimg_names::Naming;
@@ -112,6 +114,32 @@ pub extern "C" fn uimg_payload_named(
     ensures nowhere { result ≢ 0 → (payload.new.start ≡ 0) × (payload.new.size ≡ 0) }
 {
     payload_named(alloc, image, name, payload)
+}
+
+/// Finds the name of the image at a position, counted from 0, of a FIT image.
+#[unsafe(no_mangle)]
+pub extern "C" fn uimg_payload_name(
+    alloc: Global,
+    image: &[u8],
+    position: u32,
+    name: &mut UimgPayload,
+) -> u32
+    ensures told { result ≢ 3 → FindsNamed (name_at image.now position) image.now name.new }
+    ensures status { result ≡ name.new.status }
+    ensures inside { name.new.start + name.new.size ≤ length image.now }
+    ensures nowhere { result ≢ 0 → (name.new.start ≡ 0) × (name.new.size ≡ 0) }
+{
+    payload_name(alloc, image, position, name)
+}
+
+/// Counts the images of a FIT image.
+#[unsafe(no_mangle)]
+pub extern "C" fn uimg_payload_count(alloc: Global, image: &[u8], count: &mut UimgCount) -> u32
+    ensures told { result ≢ 3 → Counts (count_of image.now) count.new }
+    ensures status { result ≡ count.new.status }
+    ensures nothing { result ≢ 0 → count.new.count ≡ 0 }
+{
+    payload_count(alloc, image, count)
 }
 
 /// Puts the line of a fault, as `L8 no such part`, to the front of `text`, and says how many bytes the

@@ -6,6 +6,7 @@
 
 mod checks;
 mod codes;
+mod counts;
 mod exports;
 mod fault_lines;
 mod fronts;

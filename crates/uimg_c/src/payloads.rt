@@ -4,7 +4,7 @@ ghost use Rattle.std.specs.Prelude.{◌≡◌, ◌≢◌, ◌+◌, ◌≤◌, le
 ghost use Rattle.uimg_requests.specs.declared.command.Action.TheVariants as action;
 ghost use Rattle.uimg_requests.specs.declared.command.Format.TheVariants as format;
 ghost use Rattle.uimg_engine.specs.Headline.{outcome_of, is_fit};
-ghost use Rattle.uimg_fit_reading.specs.Named.{payload_named};
+ghost use Rattle.uimg_fit_reading.specs.Named.{name_at, payload_named};
 ghost use Rattle.uimg_c.specs.Answers.{Finds, FindsNamed};
 ghost use Rattle.uimg_c.specs.Codes.{code_of_fault};
 
@@ -13,7 +13,7 @@ use crate::reports::UimgPayload;
 use std::alloc::Global;
 use uimg_base::{Room, Span};
 use uimg_engine::{Fault, locate_in_memory};
-use uimg_fit_reading::locate_named;
+use uimg_fit_reading::{locate_name, locate_named};
 use uimg_requests::Format;
 
 // What is told of a payload that was not found.
@@ -100,4 +100,24 @@ pub(crate) fn payload_named(
         Err(fault) => unfound(Fault::from(fault)),
     };
     payload.status
+}
+
+/// Where the name of the image at a position stands in the bytes of a FIT image.
+pub(crate) fn payload_name(
+    alloc: Global,
+    image: &[u8],
+    position: u32,
+    name: &mut UimgPayload,
+) -> u32
+    ensures told { result ≢ 3 → FindsNamed (name_at image.now position) image.now name.new }
+    ensures status { result ≡ name.new.status }
+    ensures inside { name.new.start + name.new.size ≤ length image.now }
+    ensures nowhere { result ≢ 0 → (name.new.start ≡ 0) × (name.new.size ≡ 0) }
+{
+    let mut room = Room::new(alloc);
+    *name = match locate_name(position, image, &mut room) {
+        Ok(span) => found(span),
+        Err(fault) => unfound(Fault::from(fault)),
+    };
+    name.status
 }

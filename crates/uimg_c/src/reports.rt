@@ -39,3 +39,20 @@ pub struct UimgPayload {
     /// How many bytes the payload has; 0 where none was found.
     pub size: usize,
 }
+
+/// How many images there are.
+#[repr(C)]
+#[derive(Drop)]
+pub struct UimgCount {
+    /// How the count ended: 0 counted, 1 refused, 3 out of memory.
+    pub status: u32,
+
+    /// The fault's letter, as its ASCII code times 256, and its number; 0 where there is no fault.
+    pub fault: u32,
+
+    /// The place of a blob's fault in the image, and 0 for any other.
+    pub place: u64,
+
+    /// How many; 0 where they were not counted.
+    pub count: usize,
+}

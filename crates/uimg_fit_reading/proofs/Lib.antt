@@ -12,6 +12,7 @@ pub mod CompareLaws
 pub mod PlaceLaws
 pub mod ExtractionLaws
 pub mod NamedLaws
+pub mod CountingLaws
 pub mod VouchingLaws
 pub mod LineLaws
 pub mod AllowanceLaws

@@ -1,5 +1,6 @@
 -- The first image of a name, among those that are left.
 use Rattle.std.proofs.Common.{◌≡◌, ℕ, List, [], ◌∷◌, Option, Some, None, Bool, true, false, Result, Ok, Err, ap, sym, ◌∙◌, subst, refl}
+use Rattle.std.specs.List.{slice_get}
 use Rattle.std.specs.Str.{bytes_eq}
 use Rattle.uimg_texts.specs.Slices.{slice}
 use Rattle.uimg_base.specs.Results.{◌>>=◌}
@@ -15,8 +16,8 @@ use Rattle.uimg_fit_base.specs.Faults.{Gives}
 use Rattle.uimg_fit_base.specs.Files.{images_of}
 use Rattle.uimg_fit_base.specs.Places.{payload, TellsPlace}
 use Rattle.uimg_fit_base.proofs.FileLaws.{images_are}
-use Rattle.uimg_fit_reading.specs.Named.{named, payload_named, HasNamed, LacksNamed}
-use Rattle.uimg_fit_reading.specs.Nodes.{IsNode, AreFrom, HasImages}
+use Rattle.uimg_fit_reading.specs.Named.{named, payload_named, name_of, name_at, HasNamed, LacksNamed}
+use Rattle.uimg_fit_reading.specs.Nodes.{IsNode, AreFrom, HasImages, HasImage}
 use Rattle.uimg_fit_reading.proofs.ExtractionLaws.{by_answer}
 use Rattle.uimg_fit_reading.proofs.ImageLaws.{Front, front, none_left}
 
@@ -80,3 +81,13 @@ pub gives_named : (file : List ℕ) (t : Siblings) (name : List ℕ) (number : �
     → ((found : NodeOf Spot) → IsNode t in_images number found → TellsPlace file found result) → Gives (λ (p : Span). slice file p.place p.length) result (payload_named file name)
 gives_named file t name number result is h tells =
     subst (λ (r : Result (List ℕ) Fault). Gives (λ (p : Span). slice file p.place p.length) result r) (sym (payload_is file t name number is h)) (by_answer file h.image result (tells h.image h.node))
+
+-- the name of the image at a position
+name_is : (file : List ℕ) (t : Siblings) (position number : ℕ) → tree file ≡ Ok t → (h : HasImage t position number) → name_at file position ≡ Ok h.image.name
+name_is file t position number is h =
+    ap (λ (r : Result (List (NodeOf Spot)) Fault). r >>= (λ found. of_images (name_of (slice_get found position)))) (images_are file t (Some h.found) is h.is)
+    ∙ ap (λ (o : Option (NodeOf Spot)). of_images (name_of o)) h.has
+
+pub gives_name : (file : List ℕ) (t : Siblings) (position number : ℕ) (bytes : List ℕ) → tree file ≡ Ok t → HasImage t position number
+    → ((found : NodeOf Spot) → IsNode t in_images number found → bytes ≡ found.name) → name_at file position ≡ Ok bytes
+gives_name file t position number bytes is h named = name_is file t position number is h ∙ sym (ap (λ (name : List ℕ). Ok name) (named h.image h.node))

@@ -7,6 +7,7 @@ pub mod Listing
 pub mod Work
 pub mod Nodes
 pub mod Named
+pub mod Counting
 pub mod Vouching
 pub mod Rooms
 pub mod Shows

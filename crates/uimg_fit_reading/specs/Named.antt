@@ -1,5 +1,6 @@
 -- The payload of an image by its name.
 use Rattle.std.specs.Prelude.{◌≡◌, ℕ, List, [], ◌∷◌, Option, Some, None, Result, Ok, Err, if◌then◌else◌}
+use Rattle.std.specs.List.{slice_get}
 use Rattle.std.specs.Str.{bytes_eq}
 use Rattle.uimg_base.specs.Results.{◌>>=◌}
 use Rattle.uimg_blob.specs.Grammar.{Siblings}
@@ -23,6 +24,17 @@ abbrev pub payload_named : List ℕ → List ℕ → Result (List ℕ) Fault
 payload_named file name = do
   found ← images_of file
   of_images (payload_of file (named name found))
+
+-- the name of an image, if there is one
+abbrev pub name_of : Option (NodeOf Spot) → Result (List ℕ) FitFault
+name_of (Some image) = Ok image.name
+name_of None = Err NoSuchImage
+
+-- the name of the image at a position, or the first fault
+abbrev pub name_at : List ℕ → ℕ → Result (List ℕ) Fault
+name_at file position = do
+  found ← images_of file
+  of_images (name_of (slice_get found position))
 
 -- The first image of a name has a number.
 pub record HasNamed (t : Siblings) (name : List ℕ) (number : ℕ) : Type 0 where

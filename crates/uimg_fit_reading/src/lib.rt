@@ -1,6 +1,7 @@
 //! FIT images are read: listing, verification and extraction.
 #![tactic(auto)]
 
+mod counting;
 mod extraction;
 mod images;
 mod listing;
@@ -11,7 +12,8 @@ mod puts;
 mod report;
 mod tree;
 
+pub use counting::count_images;
 pub use extraction::{extract, locate};
 pub use listing::list;
-pub use named::locate_named;
+pub use named::{locate_name, locate_named};
 pub use report::{is_vouched, verify};

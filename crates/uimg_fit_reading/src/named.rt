@@ -1,4 +1,4 @@
-//! The payload of an image by its name, in memory.
+//! The payload of an image by its name, and the name of an image, in memory.
 
 ghost use Rattle.std.specs.Prelude.{◌≡◌, ◌+◌, ◌<◌, ◌≤◌, max, false, length, IsTrue, IfErr, IfOk};
 ghost use Rattle.std.specs.Str.{bytes_eq};
@@ -12,11 +12,11 @@ ghost use Rattle.uimg_base.specs.Device.{RisesIf};
 ghost use Rattle.uimg_base.specs.Using.{Uses};
 ghost use Rattle.uimg_blob.specs.Counts.{nodes_met};
 ghost use Rattle.uimg_fit_base.specs.Faults.{is_read, is_put, is_out_of_memory, is_of_making, of_making, Gives};
-ghost use Rattle.uimg_fit_reading.specs.Named.{TellsNamed, payload_named};
+ghost use Rattle.uimg_fit_reading.specs.Named.{TellsNamed, name_at, payload_named};
 ghost use Rattle.uimg_fit_reading.specs.Nodes.{InFile, IsNode, IsRead};
 ghost use Rattle.uimg_fit_reading.specs.Rooms.{TakesNodes};
 
-use crate::images::first_image;
+use crate::images::{first_image, image_at};
 use crate::nodes::{name_of, next_of};
 use crate::places::payload_place;
 use crate::tree::read_tree;
@@ -117,4 +117,45 @@ pub fn locate_named<A: Allocator>(
 {
     let mut source = MemSource::new(file);
     locate_in(name, file, &mut source, room)
+}
+
+// The place of the name of the image at a position.
+fn name_in<S: Source, A: Allocator>(
+    position: u32,
+    source: &mut S,
+    room: &mut Room<A>,
+) -> Result<Span, Fault>
+    ensures uses { Uses (is_read result) (S.device source.old) (S.device source.new) }
+    ensures room { TakesNodes (S.device source.old) (is_out_of_memory result) room.old room.new }
+    ensures no_put { is_put result ≡ false }
+    ensures no_making { is_of_making result ≡ false }
+    ensures inside { IfOk result (λ p. p.place + p.length ≤ length (S.device source.old).bytes) }
+    ensures told { IsTrue (S.device source.old).honest → Gives
+        (λ p. slice (S.device source.old).bytes p.place p.length) result
+        (name_at (S.device source.old).bytes position) }
+{
+    let blob = read_tree(source, room)?;
+    let image = image_at(&blob, room, position)?;
+    Ok(name_of(&blob, room, image))
+}
+
+/// Where the name of the image at a position, counted from 0, stands in the bytes of a FIT image.
+///
+/// Refusals are those of the blob, then `NoImages` and `NoSuchImage`. `OutOfMemory` comes exactly where
+/// the room refused to grow, and `Read` never.
+pub fn locate_name<A: Allocator>(
+    position: u32,
+    file: &[u8],
+    room: &mut Room<A>,
+) -> Result<Span, Fault>
+    ensures refused { RisesIf (is_out_of_memory result) room.old.refused room.new.refused }
+    ensures peak { room.new.peak ≤ max room.old.peak (held_bytes (nodes_met file.now)) }
+    ensures no_read { is_read result ≡ false }
+    ensures no_put { is_put result ≡ false }
+    ensures no_making { is_of_making result ≡ false }
+    ensures inside { IfOk result (λ p. p.place + p.length ≤ length file.now) }
+    ensures told { Gives (λ p. slice file.now p.place p.length) result (name_at file.now position) }
+{
+    let mut source = MemSource::new(file);
+    name_in(position, &mut source, room)
 }
