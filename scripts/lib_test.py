@@ -264,7 +264,7 @@ def check_programs(files):
     else:
         print("valgrind is not installed, so nothing was run under it")
     if shutil.which("go"):
-        environment = {**os.environ, "CGO_CFLAGS": f"-I{os.getcwd()}/include", "CGO_LDFLAGS": f"-L{LIBRARY} -Wl,-rpath,{LIBRARY}", "GOCACHE": f"{WORK}/go"}
+        environment = {**os.environ, "CGO_CFLAGS": f"-I{os.getcwd()}/include", "CGO_LDFLAGS": f"-L{LIBRARY} -Wl,-rpath,{LIBRARY}", "GOCACHE": f"{WORK}/go", "GOPATH": f"{WORK}/gopath"}
         told = subprocess.run(["go", "run", "examples/go/unpack.go", image, "0"], env=environment, capture_output=True)
         case("unpack.go", (told.returncode, told.stdout) == (0, b"abc"), told.stderr.decode())
     else:
