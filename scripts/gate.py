@@ -1,17 +1,24 @@
 #!/usr/bin/env python3
-"""gate.py: the gate. It runs `rt ci`, which proves every crate from nothing, tries the wrong bodies and runs
-the tests, and then plays the transcripts of cases/ and the examples of README.md and of the manual page
-against the program that `rt ci` built. Where there is a C compiler it links the library for C and tests it too,
-which counts as one. Its last line, 'N passed, M failed', counts all, and its status is 0 where nothing failed.
+"""gate.py: the gate. It runs `rt ci`, which proves every crate from nothing and runs the tests, tries the wrong
+bodies of each crate once it is proved, and then plays the transcripts of cases/ and the examples of README.md and
+of the manual page against the program that `rt ci` built. Where there is a C compiler it links the library for C
+and tests it too, which counts as one. Its last line, 'N passed, M failed', counts all, and its status is 0 where
+nothing failed.
+
+It works on a copy of the tree, of which the wrong bodies stand aside: `rt ci` would try them one at a time, and
+wrong_bodies.py tries several at once, in about half the time.
 
 `rt ci` works side by side by an estimate of memory that is three times what a proof takes. Unless RT_JOBS is
-set, it is set to the number of processors that may be used, fewer where there is too little memory."""
+set, it is set to the number of processors that may be used, fewer where there is too little memory. As many wrong
+bodies are tried beside it, with what it leaves of the processors."""
+import concurrent.futures
 import glob
 import os
 import re
 import shutil
 import subprocess
 import sys
+import tempfile
 import time
 
 import prove
@@ -20,19 +27,66 @@ RT = os.environ.get("RT", "rt")
 # What the dearest proof takes, in bytes, with what is to spare.
 MEMORY = 5_000_000_000
 PROGRAM = "crates/uimg/out/uimg"
-# A line that tells the end of a proof, or that a crate's wrong bodies are tried.
-STEP = re.compile(r"rt: \w+(: its tests are)? (NOT )?(PROVED|proved)|rt: \w+: trying")
+# What is built is not copied, and the wrong bodies go to a folder of their own.
+LEFT_OUT = shutil.ignore_patterns(".git", "out", "bin", "lib", "__pycache__", "must-fail")
+ASIDE = "wrong-bodies"
+# A line that tells the end of a proof.
+STEP = re.compile(r"rt: \w+(: its tests are)? (NOT )?(PROVED|proved)")
+PROVED = re.compile(r"rt: (\w+) proved\n")
 
 
 def lanes():
     return str(max(1, min(prove.processors(), prove.free_memory() // MEMORY)))
 
 
-def counted(words, environment):
-    """Runs a command, printing what it prints but for its count. Returns how many passed and failed."""
+def copy_to(room):
+    """Copies the tree, and the wrong bodies of each crate aside."""
+    shutil.copytree(".", room, ignore=LEFT_OUT, dirs_exist_ok=True)
+    for folder in sorted(glob.glob("crates/*/must-fail")):
+        shutil.copytree(folder, f"{room}/{ASIDE}/{folder.split('/')[1]}")
+
+
+class WrongBodies:
+    """The wrong bodies of crates, each crate's tried in turn, and crates side by side."""
+
+    def __init__(self, at_once):
+        self.pool, self.tried = concurrent.futures.ThreadPoolExecutor(at_once), {}
+
+    def begin(self, line):
+        """Begins with those of a crate where a line tells that it is proved."""
+        proved = PROVED.fullmatch(line)
+        if proved and os.path.isdir(f"{ASIDE}/{proved[1]}"):
+            self.tried[proved[1]] = self.pool.submit(self.try_those_of, proved[1])
+
+    @staticmethod
+    def try_those_of(name):
+        words = ["nice", sys.executable, "scripts/wrong_bodies.py", name, f"{ASIDE}/{name}"]
+        begun = time.monotonic()
+        ran = subprocess.run(words, stdout=subprocess.PIPE, stderr=subprocess.STDOUT, text=True, errors="replace")
+        return time.monotonic() - begun, ran.stdout
+
+    def end(self):
+        """Prints what became of them. Returns how many passed and failed: of a crate that is not proved none was tried."""
+        passed = failed = 0
+        for name, future in self.tried.items():
+            seconds, said = future.result()
+            lines = said.rstrip("\n").split("\n")
+            count = re.fullmatch(r"(\d+) passed, (\d+) failed", lines[-1])
+            passed, failed = passed + int(count[1] if count else 0), failed + int(count[2] if count else 1)
+            print("\n".join(lines if not count else lines[:-1]), flush=True)
+            print(f"{name}: its wrong bodies took {prove.in_words(seconds)}", flush=True)
+        print(f"wrong bodies: {passed} passed, {failed} failed\n", flush=True)
+        return passed, failed
+
+
+def counted(words, environment, told=None):
+    """Runs a command, printing what it prints but for its count, and telling each line. Returns how many passed and
+    failed."""
     passed, failed, begun = 0, 1, time.monotonic()
     with subprocess.Popen(words, env=environment, stdout=subprocess.PIPE, text=True, errors="replace") as running:
         for line in running.stdout:
+            if told:
+                told(line)
             count = re.fullmatch(r"(\d+) passed, (\d+) failed\n?", line)
             if count:
                 passed, failed = int(count[1]), int(count[2])
@@ -64,12 +118,14 @@ def is_library_right():
     return True
 
 
-def main():
+def gate():
+    """Carries it out in the folder that it is in. Returns how many passed and failed."""
     environment = {"RT_JOBS": lanes(), **os.environ}
     print(f"the gate works on {environment['RT_JOBS']} crates at a time", flush=True)
-    if os.path.isfile(PROGRAM):
-        os.remove(PROGRAM)
-    passed, failed = counted([RT, "ci"], environment)
+    wrong_bodies = WrongBodies(int(environment["RT_JOBS"]))
+    passed, failed = counted([RT, "ci"], environment, wrong_bodies.begin)
+    more, bad = wrong_bodies.end()
+    passed, failed = passed + more, failed + bad
     if os.path.isfile(PROGRAM):
         played = [*sorted(glob.glob("cases/*.t")), "README.md", "docs/uimg.1"]
         more, bad = counted(["scripts/play.py", PROGRAM, *played], environment)
@@ -83,6 +139,16 @@ def main():
     elif not failed:
         print("uimg: the gate built no program to play the cases against", flush=True)
         failed = 1
+    return passed, failed
+
+
+def main():
+    with tempfile.TemporaryDirectory(prefix="uimg-gate-") as room:
+        os.chmod(room, 0o755)
+        copy_to(room)
+        os.chdir(room)
+        passed, failed = gate()
+        os.chdir("/")
     print(f"{passed} passed, {failed} failed")
     return 1 if failed else 0
 
