@@ -26,9 +26,12 @@ KIT = os.path.dirname(BIN)
 PARTS = ("src", "specs", "proofs")
 # The first line of an item. A function's body ends where the next item begins.
 ITEM = re.compile(r"^[ \t]*(?:pub(?:\([a-z]+\))? )?(?:(?:const |unsafe )*(fn) (\w+)|(const|static|struct|enum|trait|impl|mod|use|type)\b)", re.M)
-# What a check says of a function that is refused for its own sake: its answers do not hold, or a goal without one does not.
-OWN = re.compile(r"^fn (\S+): (?:not proved|no proof: expected answers in (\S+)/Answers\.antt)")
-CALLS = re.compile(r"^not proved; it calls [^;]*$")
+# What a check says of a function that is refused, and why: an answer of its own is wrong, or no search proves a goal of its own.
+REFUSED = re.compile(r"fn (\S+): (not proved|no proof: expected answers in )")
+# An error in a proof: in the answers of a function, or in lemmas that several may cite.
+ERROR = re.compile(r"(?:\./)?proofs/(\S+?)(?:/(?:Answers|Invariants|Proof))?\.antt:\d+:\d+: error")
+# What the prover says of a text that it cannot read.
+UNREAD = re.compile(r"(?:\./)?(?:src|specs)/\S+:\d+:\d+: error: .*(is not in scope|has no field|is no name|operand is missing|expected the end|cannot continue)")
 
 
 class Edit:
@@ -48,8 +51,12 @@ class Edit:
                     old = None
         with open(f"{folder}/{self.file}", encoding="utf-8") as file:
             text = file.read()
-        self.module = self.file[len("src/") : -len(".rt")].replace("/", "::")
-        self.functions = {function_at(text, text.find(old)) for old, _ in self.pairs}
+        module = self.file[len("src/") : -len(".rt")].replace("/", "::")
+        self.module = "" if module == "lib" else f"{module}::"
+        self.functions = set()
+        for old, new in self.pairs:
+            self.functions.add(function_at(text, text.find(old)))
+            text = text.replace(old, new)
         # The functions of a cycle of calls have one proof.
         if "#[cycle(" in text:
             self.functions = {""}
@@ -166,19 +173,32 @@ class Trials:
         status, said = self.check(texts, kept)
         shutil.rmtree(kept)
         lines = said.rstrip("\n").split("\n")
-        if status != 1 or not lines[-1].startswith("logic=not-proved"):
+        if status != 1 or not lines[-1].startswith("logic=not-proved") or any(UNREAD.match(it) for it in lines):
             return None
-        return {found[1]: line for line in lines for found in [OWN.match(line)] if found and is_own(line)}
+        return refused_in(lines, len(edits) > 1)
 
 
-def is_own(line):
-    """Whether a function is refused for its own sake, and not only since it calls one that is."""
-    return not CALLS.match(line.partition(": ")[2])
+def refused_in(lines, is_group):
+    """Returns what the lines of a check say of each function that is refused for its own sake, and not only since it
+    calls one that is, by its name; of a group none, where a lemma is refused, on which any function may stand."""
+    errors = {found[1] for it in lines for found in [ERROR.match(it)] if found}
+    refused = {}
+    for line in lines:
+        found = REFUSED.match(line)
+        if found and (found[2] != "not proved" or not is_group or answers_of(found[1]) in errors):
+            refused[found[1]] = line
+    own = {answers_of(it) for it in refused} | {it for it in errors if "+" in it}
+    return refused if errors <= own or not is_group else {}
+
+
+def answers_of(function):
+    """Returns the folder below proofs/ that has a function's answers."""
+    return "/".join(function.split("::")[1:])
 
 
 def standing(refused, name, edit):
     """Returns the functions that are refused among those that a wrong body stands in."""
-    module = f"{name}::{edit.module}::"
+    module = f"{name}::{edit.module}"
     inside = [it for it in refused if it.startswith(module)]
     return [it for it in inside if edit.functions & {"", *it[len(module) :].split("::")}]
 
