@@ -66,8 +66,13 @@ class WrongBodies:
         return time.monotonic() - begun, ran.stdout
 
     def end(self):
-        """Prints what became of them. Returns how many passed and failed: of a crate that is not proved none was tried."""
+        """Prints what became of them. Returns how many passed and failed: what was not tried, since its crate is not
+        proved, failed."""
         passed = failed = 0
+        for folder in sorted(glob.glob(f"{ASIDE}/*")):
+            if os.path.basename(folder) not in self.tried:
+                failed += len(glob.glob(f"{folder}/*.edit"))
+                print(f"{os.path.basename(folder)}: its wrong bodies were not tried", flush=True)
         for name, future in self.tried.items():
             seconds, said = future.result()
             lines = said.rstrip("\n").split("\n")
