@@ -19,6 +19,7 @@ import shutil
 import subprocess
 import sys
 import tempfile
+import threading
 import time
 
 import prove
@@ -50,36 +51,45 @@ class WrongBodies:
     """The wrong bodies of crates, each crate's tried in turn, and crates side by side."""
 
     def __init__(self, at_once):
-        self.pool, self.tried = concurrent.futures.ThreadPoolExecutor(at_once), {}
+        self.pool, self.waiting, self.tried = concurrent.futures.ThreadPoolExecutor(at_once), [], []
+        self.uses, self.lock = prove.crates(), threading.Lock()
 
     def begin(self, line):
         """Begins with those of a crate where a line tells that it is proved."""
         proved = PROVED.fullmatch(line)
         if proved and os.path.isdir(f"{ASIDE}/{proved[1]}"):
-            self.tried[proved[1]] = self.pool.submit(self.try_those_of, proved[1])
+            self.waiting.append(proved[1])
+            self.tried.append(self.pool.submit(self.try_dearest))
 
-    @staticmethod
-    def try_those_of(name):
+    def cost(self, name):
+        """How long a crate's wrong bodies take beside another's: each loads the crates below."""
+        return len(os.listdir(f"{ASIDE}/{name}")) * len(prove.below(self.uses, name))
+
+    def try_dearest(self):
+        """Tries those of the crate that waits and takes the longest, so that none is left alone at the end."""
+        with self.lock:
+            name = max(self.waiting, key=self.cost)
+            self.waiting.remove(name)
         words = ["nice", sys.executable, "scripts/wrong_bodies.py", name, f"{ASIDE}/{name}"]
         begun = time.monotonic()
         ran = subprocess.run(words, stdout=subprocess.PIPE, stderr=subprocess.STDOUT, text=True, errors="replace")
-        return time.monotonic() - begun, ran.stdout
+        return name, time.monotonic() - begun, ran.stdout
 
     def end(self):
         """Prints what became of them. Returns how many passed and failed: what was not tried, since its crate is not
         proved, failed."""
         passed = failed = 0
-        for folder in sorted(glob.glob(f"{ASIDE}/*")):
-            if os.path.basename(folder) not in self.tried:
-                failed += len(glob.glob(f"{folder}/*.edit"))
-                print(f"{os.path.basename(folder)}: its wrong bodies were not tried", flush=True)
-        for name, future in self.tried.items():
-            seconds, said = future.result()
+        left = set(os.listdir(ASIDE))
+        for name, seconds, said in [it.result() for it in self.tried]:
+            left.discard(name)
             lines = said.rstrip("\n").split("\n")
             count = re.fullmatch(r"(\d+) passed, (\d+) failed", lines[-1])
             passed, failed = passed + int(count[1] if count else 0), failed + int(count[2] if count else 1)
             print("\n".join(lines if not count else lines[:-1]), flush=True)
             print(f"{name}: its wrong bodies took {prove.in_words(seconds)}", flush=True)
+        for name in sorted(left):
+            failed += len(os.listdir(f"{ASIDE}/{name}"))
+            print(f"{name}: its wrong bodies were not tried", flush=True)
         print(f"wrong bodies: {passed} passed, {failed} failed\n", flush=True)
         return passed, failed
 
