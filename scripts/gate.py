@@ -6,7 +6,7 @@ and tests it too, which counts as one. Its last line, 'N passed, M failed', coun
 nothing failed.
 
 It works on a copy of the tree, of which the wrong bodies stand aside: `rt ci` would try them one at a time, and
-wrong_bodies.py tries several at once, in about half the time.
+wrong_bodies.py tries several at once, which in two crates took little more than half the time.
 
 `rt ci` works side by side by an estimate of memory that is three times what a proof takes. Unless RT_JOBS is
 set, it is set to the number of processors that may be used, fewer where there is too little memory. As many wrong
