@@ -1,12 +1,12 @@
 #!/usr/bin/env python3
 """gate.py: the gate. It runs `rt ci`, which proves every crate from nothing and runs the tests, tries the wrong
-bodies of each crate once it is proved, and then plays the transcripts of cases/ and the examples of README.md and
+bodies of each crate once those below it are proved, and then plays the transcripts of cases/ and the examples of README.md and
 of the manual page against the program that `rt ci` built. Where there is a C compiler it links the library for C
 and tests it too, which counts as one. Its last line, 'N passed, M failed', counts all, and its status is 0 where
 nothing failed.
 
-It works on a copy of the tree, of which the wrong bodies stand aside: `rt ci` would try them one at a time, and
-wrong_bodies.py tries several at once, which in two crates took little more than half the time.
+It works on a copy of the tree, of which the wrong bodies stand aside: `rt ci` would try each by a check of the whole
+crate, and wrong_bodies.py proves just the functions that they stand in, several at once.
 
 `rt ci` works side by side by an estimate of memory that is three times what a proof takes. Unless RT_JOBS is
 set, it is set to the number of processors that may be used, fewer where there is too little memory. As many wrong
@@ -33,7 +33,8 @@ LEFT_OUT = shutil.ignore_patterns(".git", "out", "bin", "lib", "__pycache__", "m
 ASIDE = "wrong-bodies"
 # A line that tells the end of a proof.
 STEP = re.compile(r"rt: \w+(: its tests are)? (NOT )?(PROVED|proved)")
-PROVED = re.compile(r"rt: (\w+) proved\n")
+# A crate was proved, in this run or by an earlier one on this machine over the same files.
+PROVED = re.compile(r"rt: (\w+) (?:proved|is kept: .*)\n")
 
 
 def lanes():
@@ -53,13 +54,23 @@ class WrongBodies:
     def __init__(self, at_once):
         self.pool, self.waiting, self.tried = concurrent.futures.ThreadPoolExecutor(at_once), [], []
         self.uses, self.lock = prove.crates(), threading.Lock()
+        self.proved, self.left = set(), set(os.listdir(ASIDE))
+        self.begin_ready()
 
     def begin(self, line):
-        """Begins with those of a crate where a line tells that it is proved."""
-        proved = PROVED.fullmatch(line)
-        if proved and os.path.isdir(f"{ASIDE}/{proved[1]}"):
-            self.waiting.append(proved[1])
-            self.tried.append(self.pool.submit(self.try_dearest))
+        """Begins with those of crates that wait for no other where a line tells that one is proved."""
+        found = PROVED.fullmatch(line)
+        if found:
+            self.proved.add(found[1])
+            self.begin_ready()
+
+    def begin_ready(self):
+        for name in sorted(self.left):
+            if self.proved >= set(prove.below(self.uses, name)) - {name}:
+                self.left.remove(name)
+                with self.lock:
+                    self.waiting.append(name)
+                self.tried.append(self.pool.submit(self.try_dearest))
 
     def cost(self, name):
         """How long a crate's wrong bodies take beside another's: each loads the crates below."""
@@ -76,18 +87,16 @@ class WrongBodies:
         return name, time.monotonic() - begun, ran.stdout
 
     def end(self):
-        """Prints what became of them. Returns how many passed and failed: what was not tried, since its crate is not
-        proved, failed."""
+        """Prints what became of them. Returns how many passed and failed: what was not tried, since a crate below its
+        own is not proved, failed."""
         passed = failed = 0
-        left = set(os.listdir(ASIDE))
         for name, seconds, said in [it.result() for it in self.tried]:
-            left.discard(name)
             lines = said.rstrip("\n").split("\n")
             count = re.fullmatch(r"(\d+) passed, (\d+) failed", lines[-1])
             passed, failed = passed + int(count[1] if count else 0), failed + int(count[2] if count else 1)
             print("\n".join(lines if not count else lines[:-1]), flush=True)
             print(f"{name}: its wrong bodies took {prove.in_words(seconds)}", flush=True)
-        for name in sorted(left):
+        for name in sorted(self.left):
             failed += len(os.listdir(f"{ASIDE}/{name}"))
             print(f"{name}: its wrong bodies were not tried", flush=True)
         print(f"wrong bodies: {passed} passed, {failed} failed\n", flush=True)

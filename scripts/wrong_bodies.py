@@ -1,16 +1,21 @@
 #!/usr/bin/env python3
-"""wrong_bodies.py CRATE [FOLDER]: tries the wrong bodies of a crate, the files *.edit of FOLDER, which is
+"""wrong_bodies.py [--right] CRATE [FOLDER]: tries the wrong bodies of a crate, the files *.edit of FOLDER, which is
 crates/CRATE/must-fail. The prover has to refuse each. It works over the libraries that `rt ci` or `make` left in
-crates/*/out/rlib.
+crates/*/out/rlib, and only those of the crates below have to be there.
 
-The crate is proved from nothing, and what was proved is kept. Over copies of that, wrong bodies are tried several at
-a time, each in another function: a function is proved by its own body and by the contracts of those that it calls, so
-what one wrong body breaks is its own function alone. One is refused where its function is refused for its own sake,
-and not only since it calls one that is refused. What a check says nothing of is tried again without those that it
-refused. Where it refuses a function in which no wrong body stands, it counts for nothing, and each half is tried by
-itself, down to one alone, which is what `rt must-fail` tries; so is what stands in no function's body.
+A function is proved by its own body and by the contracts of those that it calls. So only the functions in which wrong
+bodies stand are proved, several in one check, each with one wrong body; of each other function of the crate its
+contract is taken as it is, by a hole in place of its proof (`--allow-holes`). A wrong body is refused where its own
+function is refused: where an answer of its own does not hold, or a goal of its own is found by no search. One that is
+not proved only since it calls one that is refused is tried again in a later round. Where a check refuses a function in
+which no wrong body stands, or a lemma, it counts for nothing, and each half is tried by itself, down to one alone. One
+that stands in no function, as in a row of a table, is tried over all functions of its file, and where these are proved
+over the whole crate.
 
-A line for each wrong body, `refused` or `NOT REFUSED`, and last 'N passed, M failed'."""
+With --right the wrong bodies stay out, in one check: none of their functions may be refused then, which shows that a
+refusal comes from the wrong body and not from how it is tried.
+
+A line for each wrong body, `refused` or `NOT REFUSED`, or for each right one, and last 'N passed, M failed'."""
 import glob
 import os
 import re
@@ -20,24 +25,35 @@ import subprocess
 import sys
 import tempfile
 
+import functions
+
 RT = os.environ.get("RT", "rt")
 BIN = os.path.dirname(os.path.realpath(shutil.which(RT) or RT))
 KIT = os.path.dirname(BIN)
 PARTS = ("src", "specs", "proofs")
-# The first line of an item. A function's body ends where the next item begins.
-ITEM = re.compile(r"^[ \t]*(?:pub(?:\([a-z]+\))? )?(?:(?:const |unsafe )*(fn) (\w+)|(const|static|struct|enum|trait|impl|mod|use|type)\b)", re.M)
-# What a check says of a function that is refused, and why: an answer of its own is wrong, or no search proves a goal of its own.
-REFUSED = re.compile(r"fn (\S+): (not proved|no proof: expected answers in )")
+# The files of a proof, in whose place a hole stands.
+ANSWERS = ("Invariants.antt", "Answers.antt", "Proof.antt")
+HOLE = """use Rattle.{crate}.proofs.{module}.Statement.{{statement}}
+
+module _ {{M : Type 1}} where
+  pub {name}_spec : statement M
+  {name}_spec = ?
+"""
+# What a check says of a function.
+SAID = re.compile(r"fn (\S+): (.*)")
+# Why it is refused for its own sake: no search proves a goal of its own.
+UNFOUND = re.compile(r"no proof: expected answers in (?:\./)?proofs/(\S+)/\w+\.antt")
 # An error in a proof: in the answers of a function, or in lemmas that several may cite.
 ERROR = re.compile(r"(?:\./)?proofs/(\S+?)(?:/(?:Answers|Invariants|Proof))?\.antt:\d+:\d+: error")
 # What the prover says of a text that it cannot read.
-UNREAD = re.compile(r"(?:\./)?(?:src|specs)/\S+:\d+:\d+: error: .*(is not in scope|has no field|is no name|operand is missing|expected the end|cannot continue)")
+UNREAD = re.compile(r"(?:\./)?(?:src|specs)/\S+:\d+:\d+: error")
+ENDED = re.compile(r"only=\d+ (holes|proved)=\d+|holes=\d+|logic=(not-)?proved\b.*")
 
 
 class Edit:
     """A wrong body: the texts that it changes in one file of the crate, and the functions that they stand in."""
 
-    def __init__(self, path, folder):
+    def __init__(self, path, folder, known):
         self.name, self.pairs, self.file = os.path.basename(path), [], ""
         old = None
         with open(path, encoding="utf-8") as lines:
@@ -51,21 +67,10 @@ class Edit:
                     old = None
         with open(f"{folder}/{self.file}", encoding="utf-8") as file:
             text = file.read()
-        module = self.file[len("src/") : -len(".rt")].replace("/", "::")
-        self.module = "" if module == "lib" else f"{module}::"
-        self.functions = set()
-        for old, new in self.pairs:
-            self.functions.add(function_at(text, text.find(old)))
-            text = text.replace(old, new)
+        found = [functions.function_at(known[self.file], text.find(old)) for old, _ in self.pairs]
         # The functions of a cycle of calls have one proof.
-        if "#[cycle(" in text:
-            self.functions = {""}
-
-    def stands_alone(self):
-        return None in self.functions
-
-    def places(self):
-        return {(self.module, name) for name in self.functions}
+        self.is_wide = any(it is None or it.path is None or it.is_in_cycle for it in found)
+        self.places = {it.path for it in (known[self.file] if self.is_wide else found) if it.path}
 
     def apply(self, text):
         """Returns the text with the wrong body in it, or None where one of its texts is not there just once."""
@@ -74,12 +79,6 @@ class Edit:
                 return None
             text = text.replace(old, new)
         return text if self.pairs else None
-
-
-def function_at(text, at):
-    """Returns the name of the function in whose body a place stands, or None."""
-    before = [item for item in ITEM.finditer(text) if item.start() <= at]
-    return before[-1][2] if at >= 0 and before else None
 
 
 def uses():
@@ -115,24 +114,18 @@ def words_of(name):
     return [*words, "--links", f"{name}=", "--jobs", "1"]
 
 
-def link_or_copy(source, to):
-    """What was checked is never written again, and is given a further name. All else a check writes to."""
-    if source.endswith(".oantt"):
-        os.link(source, to)
-    else:
-        shutil.copy2(source, to)
-
-
 class Trials:
-    """The checks of one crate, each over what was proved of it."""
+    """The checks of one crate. They share what was checked of its statements and lemmas."""
 
     def __init__(self, name, room):
         self.name, self.folder, self.room = name, os.path.abspath(f"crates/{name}"), room
-        self.words, self.kept = words_of(name), f"{room}/kept"
+        self.words, self.known = words_of(name), functions.functions_of(f"crates/{name}")
+        self.kept = f"{room}/kept"
         os.mkdir(self.kept)
 
-    def check(self, texts, kept):
-        """Checks a copy of the crate with these texts in place of its own. Returns the status and what was said."""
+    def copy(self, texts, proved):
+        """Makes a copy of the crate with these texts in place of its own, and holes for all functions but those that
+        are to be proved, where these are told. Returns its folder."""
         crate = tempfile.mkdtemp(dir=self.room)
         for part in PARTS:
             if os.path.isdir(f"{self.folder}/{part}"):
@@ -140,8 +133,28 @@ class Trials:
         for path, text in texts.items():
             with open(f"{crate}/{path}", "w", encoding="utf-8") as file:
                 file.write(text)
+        for it in (it for file in self.known.values() for it in file if it.path and not it.is_in_cycle):
+            if proved and it.path not in proved:
+                self.put_hole(f"{crate}/proofs/{it.path.replace('::', '/')}", it)
+        return crate
+
+    def put_hole(self, folder, function):
+        os.makedirs(folder, exist_ok=True)
+        for it in ANSWERS:
+            if os.path.exists(f"{folder}/{it}"):
+                os.remove(f"{folder}/{it}")
+        with open(f"{folder}/Proof.antt", "w", encoding="utf-8") as file:
+            file.write(HOLE.format(crate=self.name, module=function.path.replace("::", "."), name=function.name))
+
+    def check(self, texts, proved):
+        """Checks a copy of the crate, of which only some functions are to be proved, or all where none is told.
+        Returns the lines that the check prints, or None where it comes to no verdict."""
+        crate = self.copy(texts, proved)
+        words = [*self.words, "--incremental", self.kept, "--allow-holes"]
+        for it in sorted(proved):
+            words += ["--only", it]
         ran = subprocess.run(
-            [*self.words, "--incremental", kept],
+            words,
             cwd=crate,
             stdin=subprocess.DEVNULL,
             stdout=subprocess.PIPE,
@@ -150,93 +163,83 @@ class Trials:
             errors="replace",
         )
         shutil.rmtree(crate)
-        return ran.returncode, ran.stdout
+        lines = ran.stdout.rstrip("\n").split("\n")
+        if ran.returncode not in (0, 1) or not ENDED.fullmatch(lines[-1]) or any(UNREAD.match(it) for it in lines):
+            return None
+        return lines
 
-    def is_proved(self):
-        status, said = self.check({}, self.kept)
-        if status:
-            print(said[-2000:], flush=True)
-        return status == 0
-
-    def text_of(self, path):
-        with open(f"{self.folder}/{path}", encoding="utf-8") as file:
-            return file.read()
-
-    def refusals(self, edits):
+    def refusals(self, edits, proved):
         """Checks the crate with these wrong bodies. Returns what it says of each function that is refused for its own
-        sake, by module and name, or None where there is no verdict."""
+        sake, by its path, with the lemmas that are refused, or None where there is no verdict."""
         texts = {}
         for edit in edits:
-            texts[edit.file] = edit.apply(texts.get(edit.file, self.text_of(edit.file)))
-        kept = tempfile.mkdtemp(dir=self.room)
-        shutil.copytree(self.kept, kept, copy_function=link_or_copy, dirs_exist_ok=True)
-        status, said = self.check(texts, kept)
-        shutil.rmtree(kept)
-        lines = said.rstrip("\n").split("\n")
-        if status != 1 or not lines[-1].startswith("logic=not-proved") or any(UNREAD.match(it) for it in lines):
-            return None
-        return refused_in(lines, len(edits) > 1)
+            with open(f"{self.folder}/{edit.file}", encoding="utf-8") as file:
+                texts[edit.file] = edit.apply(texts.get(edit.file) or file.read())
+        lines = self.check(texts, proved)
+        return None if lines is None else refused_in(lines, self.name)
+
+    def is_whole(self, edit):
+        """Returns whether each text of a wrong body stands in its file just once."""
+        with open(f"{self.folder}/{edit.file}", encoding="utf-8") as file:
+            return edit.apply(file.read()) is not None
 
 
-def refused_in(lines, is_group):
+def refused_in(lines, name):
     """Returns what the lines of a check say of each function that is refused for its own sake, and not only since it
-    calls one that is, by its name; of a group none, where a lemma is refused, on which any function may stand."""
-    errors = {found[1] for it in lines for found in [ERROR.match(it)] if found}
-    refused = {}
-    for line in lines:
-        found = REFUSED.match(line)
-        if found and (found[2] != "not proved" or not is_group or answers_of(found[1]) in errors):
-            refused[found[1]] = line
-    own = {answers_of(it) for it in refused} | {it for it in errors if "+" in it}
-    return refused if errors <= own or not is_group else {}
+    calls one that is, by its path; a lemma that is refused stands for itself."""
+    errors = {found[1].replace("/", "::"): it for it in lines for found in [ERROR.match(it)] if found}
+    refused, told = {}, set()
+    for path, why in (found.groups() for it in lines for found in [SAID.fullmatch(it)] if found):
+        path = path.removeprefix(f"{name}::")
+        own = f"Rattle.{name}.proofs.{path.replace('::', '.')}."
+        if UNFOUND.match(why) or why.startswith("not proved") and (path in errors or f"`{own}" in why):
+            refused[function_of(path, name)] = f"fn {name}::{path}: {why}"
+        told.add(path)
+    refused.update({path: it for path, it in errors.items() if path not in told})
+    return refused
 
 
-def answers_of(function):
-    """Returns the folder below proofs/ that has a function's answers."""
-    return "/".join(function.split("::")[1:])
+def function_of(path, name):
+    """Returns the function that a path tells of: of a closure the one that it stands in."""
+    found = re.match(rf"{name}\+\+([\w+]+?)\+(?:FnMut|FnOnce|Fn)::", path)
+    return found[1].replace("++", "::") if found else path.replace("fn::", "").partition("+")[0]
 
 
-def standing(refused, name, edit):
-    """Returns the functions that are refused among those that a wrong body stands in."""
-    module = f"{name}::{edit.module}"
-    inside = [it for it in refused if it.startswith(module)]
-    return [it for it in inside if edit.functions & {"", *it[len(module) :].split("::")}]
-
-
-def next_group(left, trials):
+def next_group(left):
     """Returns the wrong bodies of a round, of which no two stand in one function."""
-    group, taken, texts = [], set(), {}
+    group, taken = [], set()
     for edit in left:
-        text = edit.apply(texts.get(edit.file) or trials.text_of(edit.file))
-        if not edit.stands_alone() and text is not None and not edit.places() & taken:
+        if not edit.places & taken:
             group.append(edit)
-            taken |= edit.places()
-            texts[edit.file] = text
+            taken |= edit.places
     return group
 
 
 def try_alone(trials, edit):
     """Returns whether a wrong body is refused where no other is there, and why."""
-    if edit.apply(trials.text_of(edit.file)) is None:
-        return False, "BAD EDIT: a text of it does not stand in its file just once"
-    refused = trials.refusals([edit])
+    refused = trials.refusals([edit], edit.places)
+    if edit.is_wide and not refused:
+        refused = trials.refusals([edit], set())
     if refused is None:
-        return False, "NOT REFUSED: the crate is still proved, or the check did not reach the prover"
-    return True, next(iter(refused.values()), "")
+        return False, "NOT REFUSED: the check did not reach the prover"
+    if not refused:
+        return False, "NOT REFUSED: it is still proved"
+    return True, next(iter(refused.values()))
 
 
 def try_group(trials, group):
-    """Yields each wrong body of a group with whether it is refused, and why."""
+    """Yields each wrong body of a group with whether it is refused, and why; those of which a round tells nothing are
+    tried again."""
     if len(group) == 1:
         yield group[0], try_alone(trials, group[0])
         return
-    refused = trials.refusals(group) or {}
-    of_edits = {edit: standing(refused, trials.name, edit) for edit in group}
-    told = {it for inside in of_edits.values() for it in inside}
-    left = [edit for edit in group if not of_edits[edit] or set(refused) - told]
+    refused = trials.refusals(group, {place for edit in group for place in edit.places}) or {}
+    told = {place for edit in group for place in edit.places}
+    sound = set(refused) <= told
+    left = [edit for edit in group if not sound or not edit.places & set(refused)]
     for edit in group:
         if edit not in left:
-            yield edit, (True, refused[of_edits[edit][0]])
+            yield edit, (True, next(refused[place] for place in sorted(edit.places) if place in refused))
     half = (len(left) + 1) // 2 if len(left) == len(group) else len(left)
     for part in (left[:half], left[half:]):
         if part:
@@ -245,28 +248,47 @@ def try_group(trials, group):
 
 def try_all(trials, edits):
     """Yields each wrong body with whether it is refused, and why."""
-    left = list(edits)
+    left = [edit for edit in edits if trials.is_whole(edit)]
+    for edit in edits:
+        if edit not in left:
+            yield edit, (False, "BAD EDIT: a text of it does not stand in its file just once")
     while left:
-        group = next_group(left, trials) or left[:1]
+        group = next_group(left)
         yield from try_group(trials, group)
         left = [edit for edit in left if edit not in group]
 
 
-def main(name, folder):
-    edits = [Edit(path, f"crates/{name}") for path in sorted(glob.glob(f"{folder}/*.edit"))]
+def main(name, folder, is_right):
+    known = functions.functions_of(f"crates/{name}")
+    edits = [Edit(path, f"crates/{name}", known) for path in sorted(glob.glob(f"{folder}/*.edit"))]
+    passed = failed = 0
     with tempfile.TemporaryDirectory(prefix="uimg-wrong-") as room:
-        trials = Trials(name, room)
-        found = dict(try_all(trials, edits)) if trials.is_proved() else {}
-    passed = 0
+        for is_well, line in (right if is_right else wrong)(Trials(name, room), edits):
+            passed, failed = passed + is_well, failed + (not is_well)
+            print(line)
+    print(f"{passed} passed, {failed} failed")
+    return 1 if failed else 0
+
+
+def wrong(trials, edits):
+    """Yields for each wrong body whether it is refused, and a line that tells it."""
+    found = dict(try_all(trials, edits))
     for edit in edits:
-        is_refused, why = found.get(edit, (False, "NOT TRIED: the crate is not proved"))
-        passed += is_refused
-        print(f"must-fail {name}/{edit.name}: {'refused, as it must be: ' if is_refused else ''}{why[:200]}")
-    print(f"{passed} passed, {len(edits) - passed} failed")
-    return 0 if passed == len(edits) else 1
+        is_refused, why = found[edit]
+        yield is_refused, f"must-fail {trials.name}/{edit.name}: {'refused, as it must be: ' if is_refused else ''}{why[:200]}"
+
+
+def right(trials, edits):
+    """Yields for each function in which a wrong body stands whether it is proved without it, and a line that tells
+    it."""
+    places = {place for edit in edits for place in edit.places}
+    refused = trials.refusals([], places)
+    for place in sorted(places | set(refused or {})):
+        is_well = refused is not None and place not in refused
+        yield is_well, f"right {trials.name}::{place}: {'proved' if is_well else 'NOT PROVED'}"
 
 
 if __name__ == "__main__":
     signal.signal(signal.SIGTERM, lambda number, frame: sys.exit(143))
-    crate = sys.argv[1]
-    sys.exit(main(crate, sys.argv[2] if len(sys.argv) > 2 else f"crates/{crate}/must-fail"))
+    given = [it for it in sys.argv[1:] if it != "--right"]
+    sys.exit(main(given[0], given[1] if len(given) > 1 else f"crates/{given[0]}/must-fail", "--right" in sys.argv))

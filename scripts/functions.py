@@ -1,0 +1,81 @@
+"""functions.py: where the functions of a crate stand, by its sources, which `rt fmt` laid out.
+
+A function is known by its path below the crate, as the prover prints it: `room::Room::add`, or, where a type
+implements a trait, `source::MemSourceSource::size`. Whoever reads sources by lines misses some; of those that have no
+path here (those of an impl that names more than its own parameters, as `From<Fault>`) and those that a derive writes
+nothing is said."""
+import glob
+import os
+import re
+
+# A function at the beginning of a line, or inside of an impl or a trait.
+FUNCTION = re.compile(r'( {4})?(?:pub(?:\([a-z]+\))? )?(?:const |unsafe |extern "C" )*fn (\w+)')
+# The first line of an impl or a trait, and of other items.
+BLOCK = re.compile(r"(?:pub(?:\([a-z]+\))? )?(?:unsafe )?(impl|trait)\b")
+ITEM = re.compile(r"(?:pub(?:\([a-z]+\))? )?(?:const|static|struct|enum|mod|use|type|ghost|macro_rules!)\b")
+# What the header of an impl has before its brace.
+HEADER = re.compile(r"(?:unsafe )?impl(?:<(.*?)>)? (?:([\w:]+)(?:<([^<>]*)>)? for )?([\w:]+)(?:<([^<>]*)>)?(?: where .*)?")
+
+
+class Function:
+    """A function, from the place where it begins to the next item. Without a path it is one that the prover names
+    otherwise, and with no name that place is in no function."""
+
+    def __init__(self, begin, path, name, is_in_cycle):
+        self.begin, self.path, self.name, self.is_in_cycle = begin, path, name, is_in_cycle
+
+
+def owner_of(header):
+    """Returns what the prover calls an impl, or None where it names more than its own parameters."""
+    text = re.sub(r"\s+", " ", header.partition("{")[0]).strip()
+    # Bounds of the parameters may have brackets of their own.
+    text = re.sub(r"(?<=\w): [^<>,]*(?:<[^<>]*>)?", "", text)
+    found = HEADER.fullmatch(text)
+    if not found:
+        return None
+    own = {it.strip() for it in (found[1] or "").split(",")}
+    named = {it.strip() for group in (found[3], found[5]) for it in (group or "").split(",")}
+    if not named - {"", "'_"} <= own:
+        return None
+    return found[4].split("::")[-1] + (found[2] or "").split("::")[-1]
+
+
+def functions_in(file, module):
+    """Yields the functions of a file of a module, and what stands between them."""
+    begin, owner, header, is_in_cycle = 0, None, None, False
+    for line in file:
+        if header is not None and "{" not in header:
+            header += line
+        elif BLOCK.match(line):
+            header = line
+            yield Function(begin, None, None, False)
+        elif ITEM.match(line) or line.startswith("}"):
+            header = header if ITEM.match(line) else None
+            yield Function(begin, None, None, False)
+        if header is not None and "{" in header and owner is None:
+            owner = owner_of(header) or ""
+        owner = owner if header is not None else None
+        found = FUNCTION.match(line)
+        if found and (header is not None or not found[1]):
+            parts = [*module, owner, found[2]] if found[1] else [*module, found[2]]
+            yield Function(begin, None if owner == "" and found[1] else "::".join(parts), found[2], is_in_cycle)
+            is_in_cycle = False
+        is_in_cycle = is_in_cycle or line.lstrip().startswith("#[cycle(")
+        begin += len(line)
+
+
+def functions_of(folder):
+    """Returns the functions of the crate in a folder, by their files."""
+    found = {}
+    for path in sorted(glob.glob(f"{folder}/src/**/*.rt", recursive=True)):
+        name = os.path.relpath(path, folder)
+        module = name[len("src/") : -len(".rt")].split("/")
+        with open(path, encoding="utf-8") as file:
+            found[name] = list(functions_in(file, [] if module == ["lib"] else module))
+    return found
+
+
+def function_at(functions, place):
+    """Returns the function in whose body a place stands, or None."""
+    before = [it for it in functions if it.begin <= place]
+    return before[-1] if place >= 0 and before and before[-1].name else None
