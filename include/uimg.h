@@ -44,6 +44,9 @@ typedef struct uimg_report {
     size_t needed;   /* how many bytes the whole text has */
     size_t written;  /* how many of them stand at the front of the caller's memory: the lesser of needed and its
                         size */
+    uint64_t peak;   /* the most bytes that the table of a FIT image's nodes took, with a window of 8192 bytes that
+                        stands on the stack: at most 8192 and 128 for each node. What the text took is not in it.
+                        0 where memory was refused */
 } uimg_report;
 
 /* Where a payload stands in an image: image[start] to image[start + size - 1], always inside the image. */
@@ -53,14 +56,16 @@ typedef struct uimg_payload {
     uint64_t place;  /* where in the image a fault of the letter B is, else 0 */
     size_t start;    /* 0 where none was found, as size */
     size_t size;
+    uint64_t peak;   /* as of a report */
 } uimg_payload;
 
-/* How many images a FIT image has. */
+/* How many parts a legacy image, or how many images a FIT image has. */
 typedef struct uimg_count {
     uint32_t status; /* UIMG_DONE where they were counted, else UIMG_NOT_RIGHT or UIMG_NO_MEMORY */
     uint32_t fault;  /* why not, or 0 */
     uint64_t place;  /* where in the image a fault of the letter B is, else 0 */
     size_t count;    /* 0 where they were not */
+    uint64_t peak;   /* as of a report */
 } uimg_count;
 
 /* The listing of an image, as of `uimg dumpimage -l`. The answer is report->status. The front of text is written,
@@ -105,7 +110,9 @@ uint32_t uimg_payload_named(const uint8_t *image, size_t image_size, const uint8
    of the name, which has no NUL behind it in this count. The answer is payload->status. */
 uint32_t uimg_payload_name(const uint8_t *image, size_t image_size, uint32_t position, uimg_payload *payload);
 
-/* How many images a FIT image has. The answer is count->status. */
+/* How many images a FIT image has, or how many parts a legacy image: those in the table of the types multi and script, and
+   else one. Of a legacy image the checksums have to be right. At each position below the count uimg_payload_at finds
+   a payload, or tells why that one cannot be had. The answer is count->status, never UIMG_NO_MEMORY of a legacy image. */
 uint32_t uimg_payload_count(const uint8_t *image, size_t image_size, uimg_count *count);
 
 /* The line of a fault, as "L8 no such part", is put to the front of text, without a NUL. The answer is how many bytes

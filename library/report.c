@@ -36,6 +36,14 @@ static void *exactly(size_t size)
     return memory;
 }
 
+/* Where memory was not refused, a call took at least its window, and at most 16 bytes more for each of the image's and
+   for one node. */
+static void look_at_peak(uint32_t status, uint64_t peak, size_t size)
+{
+    if (status != UIMG_NO_MEMORY && (peak < 8192 || peak > 8320 + 16 * (uint64_t)size))
+        exit(4);
+}
+
 static void tell(const char *name, command *run, const uint8_t *image, size_t size, size_t room)
 {
     uint8_t *text = exactly(room);
@@ -46,6 +54,7 @@ static void tell(const char *name, command *run, const uint8_t *image, size_t si
     status = run(image, size, text, room, &report);
     printf("%s: %u %u %u %llu %zu %zu\n%.*s\n", name, status, report.status, report.fault,
            (unsigned long long)report.place, report.needed, report.written, (int)report.written, (char *)text);
+    look_at_peak(status, report.peak, size);
     free(text);
 }
 
@@ -58,6 +67,7 @@ static void tell_check(const uint8_t *image, size_t size, uint32_t need)
     status = uimg_check(image, size, need, &report);
     printf("check%u: %u %u %u %llu %zu %zu\n", need, status, report.status, report.fault,
            (unsigned long long)report.place, report.needed, report.written);
+    look_at_peak(status, report.peak, size);
 }
 
 static void tell_payload(const uint8_t *image, size_t size, uint32_t position)
@@ -94,6 +104,7 @@ static void tell_names(const uint8_t *image, size_t size)
     prepare();
     uimg_payload_count(image, size, &count);
     printf("count: %u %u %llu %zu\n", count.status, count.fault, (unsigned long long)count.place, count.count);
+    look_at_peak(count.status, count.peak, size);
     prepare();
     uimg_payload_name(image, size, 0, &name);
     printf("name: %u %u %llu %.*s\n", name.status, name.fault, (unsigned long long)name.place, (int)name.size,

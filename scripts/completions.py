@@ -16,14 +16,14 @@ def help_of(program, *words):
 
 def options(text):
     """Returns each option of a help with what it takes, if it takes something, and its meaning."""
-    rows = re.findall(r"^ +(-\w)(?:, (--\w+))?(?: <(\w+)>)? {2,}(.*)$", text, re.M)
-    return [(short, takes, meaning.split(" [")[0]) for short, _, takes, meaning in rows]
+    rows = re.findall(r"^ +(-\w|(?=--))(?:, )?(--[\w-]+)?(?: <(\w+)>)? {2,}(.*)$", text, re.M)
+    return [(short or long, takes, meaning.split(" [")[0]) for short, long, takes, meaning in rows]
 
 
 def short_names(text):
     """Returns the short names of a help, by what takes them."""
     names, key = {}, None
-    block = re.search(r"Short names:\n((?: .*\n)+)", text)
+    block = re.search(r"(?:Short names|Algorithms.*):\n((?: .*\n)+)", text)
     for line in block[1].splitlines() if block else ():
         row = re.match(r" +<(\w+)> +(.*)", line)
         key, words = (row[1], row[2]) if row else (key, line)
@@ -36,6 +36,8 @@ def read(program):
     return [(name, meaning, options(text), short_names(text)) for name, meaning in commands for text in [help_of(program, name)]]
 
 
+# What takes the name of a file.
+FILES = ("data", "source", "outfile", "file")
 HEAD = "# Made by scripts/completions.py from the helps of uimg."
 
 
@@ -47,7 +49,7 @@ def bash(commands):
         for option, takes, _ in taken:
             if takes in names:
                 rows.append(f"                {option}) COMPREPLY=($(compgen -W '{' '.join(names[takes])}' -- \"$current\")); return ;;")
-            elif takes and takes not in ("data", "source", "outfile"):
+            elif takes and takes not in FILES:
                 rows.append(f"                {option}) return ;;")
         rows.append("            esac")
         rows.append(f"            test \"${{current#-}}\" = \"$current\" || {{ COMPREPLY=($(compgen -W '{' '.join(it[0] for it in taken)}' -- \"$current\")); return; }}")
@@ -63,7 +65,7 @@ def zsh(commands):
     for name, _, taken, names in commands:
         rows.append(f"        {name})\n            _arguments \\")
         for option, takes, meaning in taken:
-            value = "" if not takes else f":{takes}:({' '.join(names[takes])})" if takes in names else f":{takes}:_files" if takes in ("data", "source", "outfile") else f":{takes}:"
+            value = "" if not takes else f":{takes}:({' '.join(names[takes])})" if takes in names else f":{takes}:_files" if takes in FILES else f":{takes}:"
             rows.append(f"                '{option}[{quoted(meaning)}]{value}' \\")
         rows.append("                ':image:_files'\n            ;;")
     listed = "\n".join(f"            '{name}:{quoted(meaning)}'" for name, meaning, _, _ in commands)
@@ -76,8 +78,9 @@ def fish(commands):
     for name, meaning, taken, names in commands:
         rows.append(f"complete -c uimg -n __fish_use_subcommand -f -a {name} -d '{quoted(meaning)}'")
         for option, takes, told in taken:
-            value = "" if not takes else f" -x -a '{' '.join(names[takes])}'" if takes in names else " -r" if takes in ("data", "source", "outfile") else " -x"
-            rows.append(f"complete -c uimg -n '__fish_seen_subcommand_from {name}' -s {option[1:]}{value} -d '{quoted(told)}'")
+            value = "" if not takes else f" -x -a '{' '.join(names[takes])}'" if takes in names else " -r" if takes in FILES else " -x"
+            way = f"-l {option[2:]}" if option.startswith("--") else f"-s {option[1:]}"
+            rows.append(f"complete -c uimg -n '__fish_seen_subcommand_from {name}' {way}{value} -d '{quoted(told)}'")
     return "\n".join([*rows, ""])
 
 

@@ -130,9 +130,13 @@ def compare(images):
         found = uimg.verify(image)
         wanted = by_program("verify", path)
         case(f"report on image {number}", (found.status, found.text, found.fault) == wanted, f"{found} and {wanted}")
+        lines = []
         for position in range(4):
             found, wanted = payload(image, position), payload_by_program(path, position)
             case(f"payload {position} of image {number}", found == wanted, f"{found} and {wanted}")
+            lines.append(wanted[1])
+        (count, line), wanted = told(lambda: uimg.count(image)), count_by_positions(lines)
+        case(f"count of image {number}", wanted in (count, line) if wanted is not None else count >= 4, f"{count}, {line} and {wanted}")
 
 
 def check_names():
@@ -144,16 +148,43 @@ def check_names():
         case(f"no image {name!r}", payload(image, name) == (b"", wanted), str(payload(image, name)))
     case("another name", two != image and payload(two, "KERNEL")[0] == b"abc" and payload(two, "kernel")[1] == "F4 no such image")
     legacy = open("examples/abc-kernel.img", "rb").read()
-    case("a name", uimg.name(image, 0) == b"kernel" and uimg.count(image) == 1)
+    case("a name", uimg.name(image, 0) == b"kernel")
     three = made(ONE % "".join(IMAGE % (number, "") for number in (1, 2, 3)))
     case("three names", [uimg.name(three, it) for it in range(uimg.count(three))] == [b"k1", b"k2", b"k3"])
-    case("no images", uimg.count(made(ONE % "")) == 0)
-    for call in (lambda: uimg.name(three, 3), lambda: uimg.count(b""), lambda: uimg.name(b"", 0)):
-        try:
-            case("a refusal", call() is None)
-        except uimg.Refused as refused:
-            case("a refusal", str(refused) in ("F4 no such image", "B1 too short at 0"), str(refused))
+    for refused, wanted in ((lambda: uimg.name(three, 3), "F4 no such image"), (lambda: uimg.name(b"", 0), "B1 too short at 0")):
+        case("a refusal", told(refused) == (None, wanted), str(told(refused)))
     case("a legacy image has no names", payload(legacy, "kernel") == (b"", "B2 bad magic at 0"), str(payload(legacy, "kernel")))
+
+
+def told(call):
+    """Returns what a call gives, or None with the line of its refusal."""
+    try:
+        return call(), ""
+    except uimg.Refused as refused:
+        return None, str(refused)
+
+
+def check_counts():
+    """The counts of images and parts, and the most memory that a call took: 8192 bytes, and 128 for each node."""
+    parts = [(open(f"examples/{it}", "rb").read(), count) for it, count in (("abc-kernel.img", 1), ("three-part.img", 3))]
+    for image, count in [*parts, (made(ONE % ""), 0), (open("examples/kernel.itb", "rb").read(), 1)]:
+        case(f"a count of {count}", uimg.count(image) == count)
+    case("a count of nothing", told(lambda: uimg.count(b"")) == (None, "L1 too short"))
+    for image, count in parts:
+        case("the peak of a legacy image", [it(image).peak for it in (uimg.listing, uimg.verify, uimg.check)] == [8192] * 3)
+    five = made(ONE % "".join(IMAGE % (number, "") for number in (1, 2, 3)))
+    case("the peak of five nodes", [it(five).peak for it in (uimg.listing, uimg.verify, uimg.check)] == [8192 + 128 * 5] * 3)
+
+
+def count_by_positions(lines):
+    """Returns what a count has to be by the faults at the first positions: a number, the line of a refusal, or None
+    where the count is beyond them."""
+    for position, line in enumerate(lines):
+        if line in ("L8 no such part", "F4 no such image"):
+            return position
+        if line and line[:2] not in ("F2", "F3", "L7"):
+            return line
+    return None
 
 
 STRENGTHS = ("crc32", "md5", "sha1", "sha256", "sha384", "sha512")
@@ -282,6 +313,7 @@ def main():
     check_headers()
     check_faults()
     check_names()
+    check_counts()
     check_calls()
     check_programs(files)
     compare(images)

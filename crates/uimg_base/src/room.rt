@@ -82,6 +82,13 @@ impl<A: Allocator> Room<A> {
         WINDOW as u128 + 128 * self.entries.len() as u128
     }
 
+    /// The most bytes that were ever held.
+    pub fn peak(&self) -> u128
+        ensures { result ≡ self.now.peak }
+    {
+        self.peak
+    }
+
     /// Adds an entry at the end, taking memory for just that one.
     ///
     /// `AllocError` comes where the memory was refused; then all entries stay.

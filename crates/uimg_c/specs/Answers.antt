@@ -1,15 +1,20 @@
 -- What the exports tell of the outcome of a command.
-use Rattle.std.specs.Prelude.{◌≡◌, ℕ, min, List, ◌++◌, length, take, drop, Option, Some, None, Result, Ok}
+use Rattle.std.specs.Prelude.{◌≡◌, ℕ, min, List, ◌++◌, length, take, drop, Option, Some, None, Result, Ok, Err}
 use Rattle.uimg_sums.specs.declared.algo.Algo.{Algo}
 use Rattle.uimg_texts.specs.Slices.{slice}
 use Rattle.uimg_base.specs.Outcome.{Outcome, End, not_right}
+use Rattle.uimg_base.specs.declared.status.Status.TheVariants.{Done}
+use Rattle.uimg_c.specs.declared.codes.Code.{Code}
 use Rattle.uimg_engine.specs.declared.fault.Fault.{Fault}
 use Rattle.uimg_c.specs.declared.reports.UimgReport.{UimgReport}
 use Rattle.uimg_c.specs.declared.reports.UimgPayload.{UimgPayload}
 use Rattle.uimg_c.specs.declared.reports.UimgCount.{UimgCount}
 use Rattle.uimg_fit_base.specs.declared.fault.Fault.{Fault as FitEngineFault}
+use Rattle.uimg_base.specs.Held.{held_bytes}
+use Rattle.uimg_requests.specs.declared.command.Format.{Format}
 use Rattle.uimg_engine.specs.Checking.{check_of}
-use Rattle.uimg_c.specs.Codes.{code_of, code_of_found, strength}
+use Rattle.uimg_engine.specs.Headline.{is_fit, nodes_in}
+use Rattle.uimg_c.specs.Codes.{code_of, code_of_answer, code_of_fault, code_of_found, strength}
 
 -- A report tells how an outcome ends, and its text, or as much of it as there is place for, stands at the front of the
 -- caller's memory; the rest of that stays.
@@ -21,7 +26,7 @@ pub record Reports (o : Outcome Fault) (old new : List ℕ) (report : UimgReport
 
 -- the report where memory was refused
 abbrev pub no_report : UimgReport
-no_report = record { status = 3; fault = 0; place = 0; needed = 0; written = 0 }
+no_report = record { status = 3; fault = 0; place = 0; needed = 0; written = 0; peak = 0 }
 
 -- A payload tells how the outcome of an extraction ends, and where the bytes that it writes stand in the image.
 pub record Finds (o : Outcome Fault) (image : List ℕ) (payload : UimgPayload) : Type 0 where
@@ -43,7 +48,16 @@ pub record Checks (need : ℕ) (image : List ℕ) (report : UimgReport) : Type 0
   pub code : code_of (check_by (strength need) image) ≡ Some (record { status = report.status; fault = report.fault; place = report.place })
   pub no_text : (report.needed ≡ 0) × (report.written ≡ 0)
 
+-- the most bytes that the table of an image's nodes takes, with a window of 8192 bytes: 128 for each node of a FIT image
+abbrev pub table_most : Format → List ℕ → ℕ
+table_most format image = held_bytes (nodes_in (is_fit format image) image)
+
+-- the numbers for a count, or for the fault that refuses it
+abbrev pub code_of_count : Result ℕ Fault → Option Code
+code_of_count (Ok count) = code_of_answer (Ok Done)
+code_of_count (Err fault) = code_of_fault fault
+
 -- A count tells how many there are, or why they can't be counted.
-pub record Counts (counted : Result ℕ FitEngineFault) (count : UimgCount) : Type 0 where
-  pub code : code_of_found counted ≡ Some (record { status = count.status; fault = count.fault; place = count.place })
+pub record Counts (counted : Result ℕ Fault) (count : UimgCount) : Type 0 where
+  pub code : code_of_count counted ≡ Some (record { status = count.status; fault = count.fault; place = count.place })
   pub is : count.status ≡ 0 → counted ≡ Ok count.count

@@ -1,10 +1,12 @@
 //! Whether an image in memory is whole, and vouched for.
 
-ghost use Rattle.std.specs.Prelude.{◌≡◌, ◌≢◌, Some};
-ghost use Rattle.uimg_c.specs.Answers.{Checks, no_report};
+ghost use Rattle.std.specs.Prelude.{◌≡◌, ◌≢◌, ◌≤◌, Some};
+ghost use Rattle.uimg_requests.specs.declared.command.Format.TheVariants as format;
+ghost use Rattle.uimg_c.specs.Answers.{Checks, no_report, table_most};
 ghost use Rattle.uimg_c.specs.Codes.{code_of_answer, strength};
 
 use crate::codes::{NO_MEMORY, answer_code};
+use crate::peaks::peak_of;
 use crate::reports::UimgReport;
 use std::alloc::Global;
 use uimg_base::{Algo, Room, Status};
@@ -25,8 +27,8 @@ fn strength(need: u32) -> Option<Algo>
     }
 }
 
-// The report without a text on an answer.
-fn report_of(end: Result<Status, Fault>) -> UimgReport
+// The report without a text on an answer, for which so much memory was taken.
+fn report_of(end: Result<Status, Fault>, peak: u64) -> UimgReport
     ensures code { result.status ≢ 3 → code_of_answer end ≡ Some (record {
       status = result.status;
       fault = result.fault;
@@ -34,6 +36,7 @@ fn report_of(end: Result<Status, Fault>) -> UimgReport
     }) }
     ensures memory { result.status ≡ 3 → result ≡ no_report }
     ensures no_text { (result.needed ≡ 0) × (result.written ≡ 0) }
+    ensures peak { result.peak ≤ peak }
 {
     match answer_code(end) {
         Some(code) => UimgReport {
@@ -42,6 +45,7 @@ fn report_of(end: Result<Status, Fault>) -> UimgReport
             place: code.place,
             needed: 0,
             written: 0,
+            peak,
         },
         None => UimgReport {
             status: NO_MEMORY,
@@ -49,6 +53,7 @@ fn report_of(end: Result<Status, Fault>) -> UimgReport
             place: 0,
             needed: 0,
             written: 0,
+            peak: 0,
         },
     }
 }
@@ -58,12 +63,13 @@ pub(crate) fn check(alloc: Global, image: &[u8], need: u32, report: &mut UimgRep
     ensures told { result ≢ 3 → Checks need image.now report.new }
     ensures status { result ≡ report.new.status }
     ensures nothing { result ≡ 3 → report.new ≡ no_report }
+    ensures peak { report.new.peak ≤ table_most format.Guess image.now }
 {
     let mut room = Room::new(alloc);
     let end = match strength(need) {
         Some(algo) => check_in_memory(alloc, algo, image, &mut room),
         None => Ok(Status::NotRight),
     };
-    *report = report_of(end);
+    *report = report_of(end, peak_of(&room));
     report.status
 }

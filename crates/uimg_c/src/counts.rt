@@ -1,26 +1,30 @@
-//! How many images a FIT image in memory has.
+//! How many payloads an image in memory has.
 
-ghost use Rattle.std.specs.Prelude.{◌≡◌, ◌≢◌};
-ghost use Rattle.uimg_fit_reading.specs.Counting.{count_of};
-ghost use Rattle.uimg_c.specs.Answers.{Counts};
+ghost use Rattle.std.specs.Prelude.{◌≡◌, ◌≢◌, ◌≤◌, false};
+ghost use Rattle.uimg_requests.specs.declared.command.Format.TheVariants as format;
+ghost use Rattle.uimg_engine.specs.Counting.{count_of};
+ghost use Rattle.uimg_engine.specs.Headline.{is_fit};
+ghost use Rattle.uimg_c.specs.Answers.{Counts, table_most};
 
 use crate::codes::{DONE, NO_MEMORY, fault_code};
+use crate::peaks::peak_of;
 use crate::reports::UimgCount;
 use std::alloc::Global;
 use uimg_base::Room;
-use uimg_engine::Fault;
-use uimg_fit_reading::count_images;
+use uimg_engine::count_in_memory;
 
-/// Counts the images of the bytes of a FIT image.
+/// Counts the parts or the images of the bytes of an image.
 pub(crate) fn payload_count(alloc: Global, image: &[u8], count: &mut UimgCount) -> u32
-    ensures told { result ≢ 3 → Counts (count_of image.now) count.new }
+    ensures told { result ≢ 3 → Counts (count_of (is_fit format.Guess image.now) image.now) count.new }
     ensures status { result ≡ count.new.status }
     ensures nothing { result ≢ 0 → count.new.count ≡ 0 }
+    ensures legacy { is_fit format.Guess image.now ≡ false → result ≢ 3 }
+    ensures peak { count.new.peak ≤ table_most format.Guess image.now }
 {
     let mut room = Room::new(alloc);
-    let (status, fault, place, images) = match count_images(image, &mut room) {
-        Ok(images) => (DONE, 0, 0, images),
-        Err(fault) => match fault_code(Fault::from(fault)) {
+    let (status, fault, place, payloads) = match count_in_memory(image, &mut room) {
+        Ok(payloads) => (DONE, 0, 0, payloads),
+        Err(fault) => match fault_code(fault) {
             Some(code) => (code.status, code.fault, code.place, 0),
             None => (NO_MEMORY, 0, 0, 0),
         },
@@ -29,7 +33,8 @@ pub(crate) fn payload_count(alloc: Global, image: &[u8], count: &mut UimgCount) 
         status,
         fault,
         place,
-        count: images,
+        count: payloads,
+        peak: peak_of(&room),
     };
     status
 }

@@ -4,10 +4,10 @@ ghost use Rattle.std.specs.Prelude.{◌≡◌, ◌≢◌, ◌+◌, ◌≤◌, le
 ghost use Rattle.uimg_names.specs.declared.naming.Naming.TheVariants as naming;
 ghost use Rattle.uimg_requests.specs.declared.command.Action.TheVariants as action;
 ghost use Rattle.uimg_requests.specs.declared.command.Format.TheVariants as format;
+ghost use Rattle.uimg_engine.specs.Counting.{count_of};
 ghost use Rattle.uimg_engine.specs.Headline.{outcome_of, is_fit};
-ghost use Rattle.uimg_fit_reading.specs.Counting.{count_of};
 ghost use Rattle.uimg_fit_reading.specs.Named.{name_at, payload_named};
-ghost use Rattle.uimg_c.specs.Answers.{Checks, Counts, Finds, FindsNamed, Reports, no_report};
+ghost use Rattle.uimg_c.specs.Answers.{Checks, Counts, Finds, FindsNamed, Reports, no_report, table_most};
 
 use crate::checks::check;
 use crate::counts::payload_count;
@@ -34,6 +34,7 @@ pub extern "C" fn uimg_list(
     }) image.now) text.old text.new report.new }
     ensures status { result ≡ report.new.status }
     ensures within { report.new.written ≤ length text.old }
+    ensures peak { report.new.peak ≤ table_most format.Guess image.now }
     ensures nothing { result ≡ 3 → report.new ≡ no_report }
     ensures untouched { result ≡ 3 → text.new ≡ text.old }
 {
@@ -58,6 +59,7 @@ pub extern "C" fn uimg_verify(
     }) image.now) text.old text.new report.new }
     ensures status { result ≡ report.new.status }
     ensures within { report.new.written ≤ length text.old }
+    ensures peak { report.new.peak ≤ table_most format.Guess image.now }
     ensures nothing { result ≡ 3 → report.new ≡ no_report }
     ensures untouched { result ≡ 3 → text.new ≡ text.old }
 {
@@ -74,6 +76,7 @@ pub extern "C" fn uimg_verify(
 pub extern "C" fn uimg_check(alloc: Global, image: &[u8], need: u32, report: &mut UimgReport) -> u32
     ensures told { result ≢ 3 → Checks need image.now report.new }
     ensures status { result ≡ report.new.status }
+    ensures peak { report.new.peak ≤ table_most format.Guess image.now }
     ensures nothing { result ≡ 3 → report.new ≡ no_report }
 {
     check(alloc, image, need, report)
@@ -96,6 +99,7 @@ pub extern "C" fn uimg_payload_at(
     ensures inside { payload.new.start + payload.new.size ≤ length image.now }
     ensures nowhere { result ≢ 0 → (payload.new.start ≡ 0) × (payload.new.size ≡ 0) }
     ensures legacy { is_fit format.Guess image.now ≡ false → result ≢ 3 }
+    ensures peak { payload.new.peak ≤ table_most format.Guess image.now }
 {
     payload_at(alloc, image, position, payload)
 }
@@ -110,6 +114,7 @@ pub extern "C" fn uimg_payload_named(
 ) -> u32
     ensures told { result ≢ 3 → FindsNamed (payload_named image.now name.now) image.now payload.new }
     ensures status { result ≡ payload.new.status }
+    ensures peak { payload.new.peak ≤ table_most format.Fit image.now }
     ensures inside { payload.new.start + payload.new.size ≤ length image.now }
     ensures nowhere { result ≢ 0 → (payload.new.start ≡ 0) × (payload.new.size ≡ 0) }
 {
@@ -126,18 +131,21 @@ pub extern "C" fn uimg_payload_name(
 ) -> u32
     ensures told { result ≢ 3 → FindsNamed (name_at image.now position) image.now name.new }
     ensures status { result ≡ name.new.status }
+    ensures peak { name.new.peak ≤ table_most format.Fit image.now }
     ensures inside { name.new.start + name.new.size ≤ length image.now }
     ensures nowhere { result ≢ 0 → (name.new.start ≡ 0) × (name.new.size ≡ 0) }
 {
     payload_name(alloc, image, position, name)
 }
 
-/// Counts the images of a FIT image.
+/// Counts the parts of a legacy image, or the images of a FIT image.
 #[unsafe(no_mangle)]
 pub extern "C" fn uimg_payload_count(alloc: Global, image: &[u8], count: &mut UimgCount) -> u32
-    ensures told { result ≢ 3 → Counts (count_of image.now) count.new }
+    ensures told { result ≢ 3 → Counts (count_of (is_fit format.Guess image.now) image.now) count.new }
     ensures status { result ≡ count.new.status }
     ensures nothing { result ≢ 0 → count.new.count ≡ 0 }
+    ensures legacy { is_fit format.Guess image.now ≡ false → result ≢ 3 }
+    ensures peak { count.new.peak ≤ table_most format.Guess image.now }
 {
     payload_count(alloc, image, count)
 }

@@ -11,5 +11,6 @@ mod exports;
 mod fault_lines;
 mod fronts;
 mod payloads;
+mod peaks;
 mod reports;
 mod running;

@@ -5,10 +5,11 @@ ghost use Rattle.uimg_requests.specs.declared.command.Action.TheVariants as acti
 ghost use Rattle.uimg_requests.specs.declared.command.Format.TheVariants as format;
 ghost use Rattle.uimg_engine.specs.Headline.{outcome_of, is_fit};
 ghost use Rattle.uimg_fit_reading.specs.Named.{name_at, payload_named};
-ghost use Rattle.uimg_c.specs.Answers.{Finds, FindsNamed};
+ghost use Rattle.uimg_c.specs.Answers.{Finds, FindsNamed, table_most};
 ghost use Rattle.uimg_c.specs.Codes.{code_of_fault};
 
 use crate::codes::{DONE, NO_MEMORY, fault_code};
+use crate::peaks::peak_of;
 use crate::reports::UimgPayload;
 use std::alloc::Global;
 use uimg_base::{Room, Span};
@@ -16,8 +17,8 @@ use uimg_engine::{Fault, locate_in_memory};
 use uimg_fit_reading::{locate_name, locate_named};
 use uimg_requests::Format;
 
-// What is told of a payload that was not found.
-fn unfound(fault: Fault) -> UimgPayload
+// What is told of a payload that was not found, for which so much memory was taken.
+fn unfound(fault: Fault, peak: u64) -> UimgPayload
     ensures code { result.status ≢ 3 → code_of_fault fault ≡ Some (record {
       status = result.status;
       fault = result.fault;
@@ -26,6 +27,7 @@ fn unfound(fault: Fault) -> UimgPayload
     ensures memory { result.status ≡ 3 → code_of_fault fault ≡ None }
     ensures not_found { result.status ≢ 0 }
     ensures nowhere { (result.start ≡ 0) × (result.size ≡ 0) }
+    ensures peak { result.peak ≡ peak }
 {
     match fault_code(fault) {
         Some(code) => UimgPayload {
@@ -34,6 +36,7 @@ fn unfound(fault: Fault) -> UimgPayload
             place: code.place,
             start: 0,
             size: 0,
+            peak,
         },
         None => UimgPayload {
             status: NO_MEMORY,
@@ -41,13 +44,14 @@ fn unfound(fault: Fault) -> UimgPayload
             place: 0,
             start: 0,
             size: 0,
+            peak,
         },
     }
 }
 
-// What is told of a payload at a span.
-fn found(span: Span) -> UimgPayload
-    ensures { result ≡ record { status = 0; fault = 0; place = 0; start = span.place; size = span.length } }
+// What is told of a payload at a span, for which so much memory was taken.
+fn found(span: Span, peak: u64) -> UimgPayload
+    ensures { result ≡ record { status = 0; fault = 0; place = 0; start = span.place; size = span.length; peak = peak } }
 {
     UimgPayload {
         status: DONE,
@@ -55,6 +59,7 @@ fn found(span: Span) -> UimgPayload
         place: 0,
         start: span.place as usize,
         size: span.length as usize,
+        peak,
     }
 }
 
@@ -73,11 +78,14 @@ pub(crate) fn payload_at(
     ensures inside { payload.new.start + payload.new.size ≤ length image.now }
     ensures nowhere { result ≢ 0 → (payload.new.start ≡ 0) × (payload.new.size ≡ 0) }
     ensures legacy { is_fit format.Guess image.now ≡ false → result ≢ 3 }
+    ensures peak { payload.new.peak ≤ table_most format.Guess image.now }
 {
     let mut room = Room::new(alloc);
-    *payload = match locate_in_memory(Format::Guess, position, image, &mut room) {
-        Ok(span) => found(span),
-        Err(fault) => unfound(fault),
+    let located = locate_in_memory(Format::Guess, position, image, &mut room);
+    let peak = peak_of(&room);
+    *payload = match located {
+        Ok(span) => found(span, peak),
+        Err(fault) => unfound(fault, peak),
     };
     payload.status
 }
@@ -91,13 +99,16 @@ pub(crate) fn payload_named(
 ) -> u32
     ensures told { result ≢ 3 → FindsNamed (payload_named image.now name.now) image.now payload.new }
     ensures status { result ≡ payload.new.status }
+    ensures peak { payload.new.peak ≤ table_most format.Fit image.now }
     ensures inside { payload.new.start + payload.new.size ≤ length image.now }
     ensures nowhere { result ≢ 0 → (payload.new.start ≡ 0) × (payload.new.size ≡ 0) }
 {
     let mut room = Room::new(alloc);
-    *payload = match locate_named(name, image, &mut room) {
-        Ok(span) => found(span),
-        Err(fault) => unfound(Fault::from(fault)),
+    let located = locate_named(name, image, &mut room);
+    let peak = peak_of(&room);
+    *payload = match located {
+        Ok(span) => found(span, peak),
+        Err(fault) => unfound(Fault::from(fault), peak),
     };
     payload.status
 }
@@ -111,13 +122,16 @@ pub(crate) fn payload_name(
 ) -> u32
     ensures told { result ≢ 3 → FindsNamed (name_at image.now position) image.now name.new }
     ensures status { result ≡ name.new.status }
+    ensures peak { name.new.peak ≤ table_most format.Fit image.now }
     ensures inside { name.new.start + name.new.size ≤ length image.now }
     ensures nowhere { result ≢ 0 → (name.new.start ≡ 0) × (name.new.size ≡ 0) }
 {
     let mut room = Room::new(alloc);
-    *name = match locate_name(position, image, &mut room) {
-        Ok(span) => found(span),
-        Err(fault) => unfound(Fault::from(fault)),
+    let located = locate_name(position, image, &mut room);
+    let peak = peak_of(&room);
+    *name = match located {
+        Ok(span) => found(span, peak),
+        Err(fault) => unfound(Fault::from(fault), peak),
     };
     name.status
 }

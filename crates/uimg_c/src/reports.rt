@@ -18,6 +18,10 @@ pub struct UimgReport {
 
     /// How many of them stand at the front of the caller's memory.
     pub written: usize,
+
+    /// The most bytes that the table of a FIT image's nodes took, with a window of 8192 bytes; 0 where
+    /// memory was refused.
+    pub peak: u64,
 }
 
 /// Where a payload stands in an image.
@@ -38,9 +42,12 @@ pub struct UimgPayload {
 
     /// How many bytes the payload has; 0 where none was found.
     pub size: usize,
+
+    /// The most bytes that the table of a FIT image's nodes took, with a window of 8192 bytes.
+    pub peak: u64,
 }
 
-/// How many images there are.
+/// How many images or parts there are.
 #[repr(C)]
 #[derive(Drop)]
 pub struct UimgCount {
@@ -55,4 +62,7 @@ pub struct UimgCount {
 
     /// How many; 0 where they were not counted.
     pub count: usize,
+
+    /// The most bytes that the table of a FIT image's nodes took, with a window of 8192 bytes.
+    pub peak: u64,
 }

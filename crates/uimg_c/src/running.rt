@@ -2,10 +2,11 @@
 
 ghost use Rattle.std.specs.Prelude.{◌≡◌, ◌≢◌, ◌≤◌, length};
 ghost use Rattle.uimg_engine.specs.Headline.{outcome_of};
-ghost use Rattle.uimg_c.specs.Answers.{Reports, no_report};
+ghost use Rattle.uimg_c.specs.Answers.{Reports, no_report, table_most};
 
 use crate::codes::{NO_MEMORY, answer_code};
 use crate::fronts::copy_front;
+use crate::peaks::peak_of;
 use crate::reports::UimgReport;
 use std::alloc::Global;
 use uimg_base::Room;
@@ -23,6 +24,7 @@ pub(crate) fn report_on(
     ensures told { result ≢ 3 → Reports (outcome_of command.now image.now) text.old text.new report.new }
     ensures status { result ≡ report.new.status }
     ensures within { report.new.written ≤ length text.old }
+    ensures peak { report.new.peak ≤ table_most command.now.format image.now }
     ensures nothing { result ≡ 3 → report.new ≡ no_report }
     ensures untouched { result ≡ 3 → text.new ≡ text.old }
 {
@@ -35,6 +37,7 @@ pub(crate) fn report_on(
             place: 0,
             needed: 0,
             written: 0,
+            peak: 0,
         };
         return NO_MEMORY;
     };
@@ -45,6 +48,7 @@ pub(crate) fn report_on(
         place: code.place,
         needed: whole.len(),
         written,
+        peak: peak_of(&room),
     };
     code.status
 }

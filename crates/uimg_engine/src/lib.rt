@@ -3,9 +3,11 @@
 #![tactic(auto)]
 
 mod checking;
+mod counting;
 mod disk_files;
 mod engine;
 mod fault;
+mod finding;
 mod formats;
 mod in_memory;
 mod locating;
@@ -16,9 +18,11 @@ mod making_trees;
 mod same_files;
 
 pub use checking::check_in_memory;
+pub use counting::count_in_memory;
 pub use disk_files::DiskFiles;
 pub use engine::run;
 pub use fault::Fault;
+pub use finding::{Checked, check};
 pub use in_memory::{locate_in_memory, make_in_memory, run_in_memory};
 pub use locating::locate;
 pub use making::{build_image, make};

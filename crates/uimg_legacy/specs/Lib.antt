@@ -9,6 +9,8 @@ pub mod Work
 pub mod Listing
 pub mod Faults
 pub mod Reading
+pub mod Counting
+pub mod Checking
 pub mod Devices
 pub mod PartSteps
 pub mod Building

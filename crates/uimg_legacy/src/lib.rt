@@ -3,6 +3,8 @@
 
 mod building;
 mod built_data;
+mod checking;
+mod counting;
 mod extraction;
 mod fault;
 mod header;
@@ -17,6 +19,8 @@ mod report;
 mod table;
 
 pub use building::build;
+pub use checking::check;
+pub use counting::count_parts;
 pub use extraction::{extract, locate};
 pub use fault::{Fault, LegacyFault};
 pub use header::{HEADER_LEN, Header, header_bytes, name_field, read_header};

@@ -2,9 +2,11 @@
 #![tactic(auto)]
 
 mod auto_program;
+mod check_program;
 mod main_program;
 mod old_program;
 mod old_tools;
+mod printed;
 mod safe_path;
 
 pub use main_program::program;

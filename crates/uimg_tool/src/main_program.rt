@@ -1,5 +1,6 @@
 //! The function `program`, the whole program: it opens the files that a command line names, has its
 //! request carried out, and turns the end into a line and an exit status.
+use crate::check_program::check_images;
 use crate::old_program::program_by_old_name;
 use crate::old_tools::Tool;
 use std::fmt::Display;
@@ -13,7 +14,7 @@ use uimg_engine::{DiskFiles, Fault, is_same_file, make, run};
 use uimg_fit_base::FitFault;
 use uimg_its::Kind;
 use uimg_requests::{MakeCommand, MakeRequest, RunRequest};
-use uimg_words::{Request, WordsFault, read_words};
+use uimg_words::{Asked, Request, WordsFault, read_words};
 
 /// All is done.
 pub(crate) const DONE: u8 = 0;
@@ -72,7 +73,8 @@ pub fn program<R: Files + AllocGlobal, W: Write, V: Write>(
         return program_by_old_name(rt, tool, words, epoch, now, out, err);
     }
     match read_words(rt.alloc(), words, epoch, now) {
-        Ok(request) => tell_end(&carry_out(rt, &request, out), err),
+        Ok(Asked::One(request)) => tell_end(&carry_out(rt, &request, out), err),
+        Ok(Asked::Check(request)) => check_images(rt, &request, out, err),
         Err(fault) => tell_words_fault(&fault, err),
     }
 }
@@ -96,8 +98,8 @@ fn tell_end<V: Write>(end: &Result<Status, RequestFault<'_>>, err: &mut V) -> u8
     }
 }
 
-// The line of a fault. It answers the status; a failed write changes nothing.
-fn tell<V: Write, D: Display>(err: &mut V, fault: &D, status: u8) -> u8 {
+/// The line of a fault. It answers the status; a failed write changes nothing.
+pub(crate) fn tell<V: Write, D: Display>(err: &mut V, fault: &D, status: u8) -> u8 {
     let _ = writeln!(err, "uimg: {fault}");
     status
 }

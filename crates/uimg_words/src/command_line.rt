@@ -1,5 +1,6 @@
 //! What the words of a command line ask for.
 
+mod check;
 mod complaints;
 mod dumpimage;
 mod help_notes;
@@ -8,6 +9,7 @@ mod verify;
 
 use clap::error::ErrorKind;
 use clap::{Arg, ArgAction, ArgMatches};
+pub use check::CheckRequest;
 use complaints::complaint;
 use help_notes::PROGRAM_NOTES;
 use std::alloc::{AllocError, Global};
@@ -15,6 +17,16 @@ use thiserror::Error;
 use uimg_requests::{MakeRequest, RunRequest, VERSION};
 
 /// What the words of a command line ask for.
+#[derive(Drop)]
+pub enum Asked<'a> {
+    /// Something about one image, or a text.
+    One(Request<'a>),
+
+    /// A check of any number of images.
+    Check(CheckRequest<'a>),
+}
+
+/// What is asked for about an image, or a text.
 #[derive(Drop)]
 pub enum Request<'a> {
     /// A command on an image.
@@ -46,11 +58,15 @@ pub enum WordsFault {
     #[error("no -d or -f")]
     NoDataOrSource,
 
+    /// No image was named to check.
+    #[error("no image")]
+    NoImages,
+
     /// There are both data and a source.
     #[error("-d with -f")]
     DataWithSource,
 
-    /// The word of -A, -O, -T or -C is no known short name.
+    /// The word of -A, -O, -T, -C or --need is no known short name.
     #[error("unknown name")]
     UnknownName,
 
@@ -84,7 +100,7 @@ pub fn read_words<'a>(
     words: &'a [&'a str],
     epoch: Option<&str>,
     now: u32,
-) -> Result<Request<'a>, WordsFault> {
+) -> Result<Asked<'a>, WordsFault> {
     match commands(alloc)?.try_get_matches_from(words) {
         Ok(matches) => request_of(alloc, &matches, epoch, now),
         Err(error) => without_matches(alloc, error),
@@ -96,20 +112,22 @@ fn request_of<'a>(
     matches: &ArgMatches<'a>,
     epoch: Option<&str>,
     now: u32,
-) -> Result<Request<'a>, WordsFault> {
-    match matches.subcommand() {
-        Some(("dumpimage", own)) => Ok(Request::Run(dumpimage::request(own)?)),
-        Some(("mkimage", own)) => mkimage::request(alloc, own, epoch, now),
-        Some((_, own)) => Ok(Request::Run(verify::request(own))),
-        None => Err(WordsFault::NoSubcommand),
-    }
+) -> Result<Asked<'a>, WordsFault> {
+    let request = match matches.subcommand() {
+        Some(("check", own)) => return Ok(Asked::Check(check::request(alloc, own)?)),
+        Some(("dumpimage", own)) => Request::Run(dumpimage::request(own)?),
+        Some(("mkimage", own)) => mkimage::request(alloc, own, epoch, now)?,
+        Some((_, own)) => Request::Run(verify::request(own)),
+        None => return Err(WordsFault::NoSubcommand),
+    };
+    Ok(Asked::One(request))
 }
 
 // What the library of command lines answers where it finds no command: help and the version were
 // asked for, and all else is a fault.
-fn without_matches<'a>(alloc: Global, error: clap::Error) -> Result<Request<'a>, WordsFault> {
+fn without_matches<'a>(alloc: Global, error: clap::Error) -> Result<Asked<'a>, WordsFault> {
     match error.kind() {
-        ErrorKind::DisplayHelp | ErrorKind::DisplayVersion => Ok(Request::Show(error)),
+        ErrorKind::DisplayHelp | ErrorKind::DisplayVersion => Ok(Asked::One(Request::Show(error))),
         ErrorKind::OutOfMemory => Err(WordsFault::OutOfMemory),
         _ => Err(WordsFault::NoCommand(complaint(alloc, &error)?)),
     }
@@ -132,7 +150,8 @@ fn commands<'a>(alloc: Global) -> Result<clap::Command<'a>, AllocError> {
         )?
         .subcommand(mkimage::command(alloc)?)?
         .subcommand(dumpimage::command(alloc)?)?
-        .subcommand(verify::command(alloc)?)
+        .subcommand(verify::command(alloc)?)?
+        .subcommand(check::command(alloc)?)
 }
 
 // An option with a value.

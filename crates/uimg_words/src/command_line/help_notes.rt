@@ -66,3 +66,31 @@ Exit status:
   1  A line ends with another word, or the image is refused
   2  The command line is wrong
   3  A file cannot be opened, or a read, a write or memory failed";
+
+/// The notes of check.
+pub(super) const CHECK_NOTES: &str = "Algorithms, from the weakest to the strongest:
+  <algo>  crc32 md5 sha1 sha256 sha384 sha512
+
+A line for each image: its path, and what was found first.
+  ok           Each hash is right, or both checksums of a legacy image are
+  unhashed     The same, but this image of a FIT has no hash
+  bad          This hash of an image is not right, or a checksum
+  malformed    This hash of an image has no algorithm, or no value of its length
+  unsupported  This hash of an image has an unknown algorithm
+  weak         This image has no hash as strong as --need, or is a legacy image
+  empty        There is no image in the FIT, where --need is given
+  overlapping  With this image there are more bytes to hash than the file has
+  refused      The image is refused by this fault
+  failed       The file cannot be opened, or a read or memory failed
+A byte of a name that is no printable letter of ASCII, and \\, is written \\xNN.
+Signatures and the hashes of configurations are not checked.
+
+Examples:
+  uimg check --need sha256 kernel.itb rescue.itb
+  find /srv/images -name '*.itb' -print0 | uimg check -0 --files-from -
+
+Exit status: the greatest of all lines
+  0  ok or unhashed
+  1  Another word than these and failed
+  2  The command line is wrong
+  3  failed, or a line cannot be written";

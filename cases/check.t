@@ -1,0 +1,204 @@
+Many images are checked, a line for each
+========================================
+
+  $ files="$TESTDIR/files"
+
+`cell FILE AT BYTE..` puts bytes into a file at a place:
+
+  $ cell() {
+  >     to=$1 at=$2; shift 2
+  >     printf "$(printf '\\%03o' "$@")" | dd of=$to bs=1 seek=$at conv=notrunc status=none
+  > }
+
+`fit IMAGES` makes a FIT image k.itb with these images:
+
+  $ fit() {
+  >     echo "/dts-v1/; / { description = \"d\"; images { $1 }; };" > k.its
+  >     SOURCE_DATE_EPOCH=0 uimg mkimage -f k.its k.itb > /dev/null
+  > }
+
+Legacy images have two checksums:
+
+  $ cp "$files/abc-kernel.img" kernel.img
+  $ uimg check kernel.img "$files/three-part-multi.img" > out; echo $?; cut -d/ -f 99- out; sed 's|.*/||' out
+  0
+  kernel.img: ok 2 checksums
+  three-part-multi.img: ok 2 checksums
+  $ cp kernel.img name.img && printf 1 | dd of=name.img bs=1 seek=32 conv=notrunc status=none
+  $ cp kernel.img data.img && printf b | dd of=data.img bs=1 seek=64 conv=notrunc status=none
+  $ head -c 63 kernel.img > short.img
+  $ cp "$files/size-too-large.img" cut.img
+  $ uimg check name.img data.img short.img cut.img kernel.img
+  name.img: bad checksum
+  data.img: bad checksum
+  short.img: refused L1 too short
+  cut.img: refused L4 truncated
+  kernel.img: ok 2 checksums
+  [1]
+
+FIT images are told by their first hash that is not right:
+
+  $ for name in four-hash-fit one-bad-hash sha3-node no-data no-images; do cp "$files/$name.itb" .; done
+  $ uimg check four-hash-fit.itb one-bad-hash.itb sha3-node.itb no-data.itb no-images.itb
+  four-hash-fit.itb: ok 1 payload, 4 hashes
+  one-bad-hash.itb: bad kernel hash-2
+  sha3-node.itb: unsupported kernel hash-1
+  no-data.itb: refused F2 no data
+  no-images.itb: refused F1 no images
+  [1]
+
+Words and counts:
+
+  $ fit 'a { data = "abc"; hash-1 { algo = "crc32"; }; }; b { data = "de"; hash { algo = "sha1"; }; hash-2 { algo = "md5"; }; };'
+  $ uimg check k.itb
+  k.itb: ok 2 payloads, 3 hashes
+  $ fit 'a { data = "abc"; hash-1 { algo = "crc32"; }; };'
+  $ uimg check k.itb
+  k.itb: ok 1 payload, 1 hash
+  $ fit ''
+  $ uimg check k.itb
+  k.itb: ok 0 payloads, 0 hashes
+  $ uimg check --need crc32 k.itb
+  k.itb: empty
+  [1]
+
+An image without a hash node is told, and is not wrong unless an algorithm is needed:
+
+  $ fit 'a { data = "abc"; hash-1 { algo = "sha256"; }; }; b { data = "de"; }; c { data = "f"; };'
+  $ uimg check k.itb
+  k.itb: unhashed b
+  $ uimg check --need crc32 k.itb
+  k.itb: weak b
+  [1]
+
+The needed algorithm, and each that is stronger, will do:
+
+  $ fit 'a { data = "abc"; hash-1 { algo = "crc32"; }; hash-2 { algo = "sha256"; }; }; b { data = "de"; hash-1 { algo = "sha512"; }; };'
+  $ for algo in crc32 md5 sha1 sha256 sha384 sha512; do uimg check --need $algo k.itb kernel.img; done
+  k.itb: ok 2 payloads, 3 hashes
+  kernel.img: ok 2 checksums
+  k.itb: ok 2 payloads, 3 hashes
+  kernel.img: weak crc32
+  k.itb: ok 2 payloads, 3 hashes
+  kernel.img: weak crc32
+  k.itb: ok 2 payloads, 3 hashes
+  kernel.img: weak crc32
+  k.itb: weak a
+  kernel.img: weak crc32
+  k.itb: weak a
+  kernel.img: weak crc32
+  [1]
+
+What is wrong comes before what is weak, of one image, and the first image before the others:
+
+  $ fit 'a { data = "abc"; hash-1 { algo = "crc32"; }; }; b { data = "defg"; hash-1 { algo = "sha256"; }; };'
+  $ at=$(grep -abo defg k.itb | cut -d: -f 1) && cell k.itb $at 68
+  $ uimg check k.itb
+  k.itb: bad b hash-1
+  [1]
+  $ uimg check --need sha256 k.itb
+  k.itb: weak a
+  [1]
+
+Payloads that overlap are not hashed for more bytes than the file has. Two images with the same 4000 bytes behind the tree:
+
+  $ head -c 4000 /dev/zero > zeros
+  $ fit 'a { data = /incbin/("zeros"); hash-1 { algo = "crc32"; }; }; b { data = /incbin/("zeros"); hash-1 { algo = "crc32"; }; };'
+  $ uimg mkimage -f k.its -E k.itb > /dev/null && uimg check k.itb
+  k.itb: ok 2 payloads, 2 hashes
+  $ fit 'a { data = /incbin/("zeros"); hash-1 { algo = "crc32"; }; }; b { data-position = <0>; data-size = <4000>; hash-1 { algo = "crc32"; value = <0>; }; };' 2> /dev/null
+  [1]
+  $ python3 - <<'END'
+  > import re
+  > image = open("k.itb", "rb").read()
+  > # the second image's offset becomes that of the first, and what is behind it goes
+  > at = [it.start() for it in re.finditer(rb"\0\0\x0f\xa0", image)]
+  > open("shared.itb", "wb").write(image[:at[1] - 16] + bytes(4) + image[at[1] - 12:-4000])
+  > END
+  $ uimg verify shared.itb
+  a hash-1 crc32 ok
+  b hash-1 crc32 ok
+  $ uimg check shared.itb
+  shared.itb: overlapping b
+  [1]
+
+A name does not end its line, and hides nothing in it:
+
+  $ python3 - <<'END'
+  > image = bytearray(open("one-bad-hash.itb", "rb").read())
+  > at = image.index(b"kernel\0")
+  > image[at:at + 6] = b"o\nk\\\x7f\x1b"
+  > open("name.itb", "wb").write(image)
+  > image[at:at + 6] = "k\u00e4\u0085n".encode()
+  > open("text.itb", "wb").write(image)
+  > image[at:at + 6] = b"k\xe4\xff\xfen\t"
+  > open("bytes.itb", "wb").write(image)
+  > END
+  $ uimg check name.itb
+  name.itb: bad o\x0ak\x5c\x7f\x1b hash-2
+  [1]
+  $ uimg check text.itb
+  text.itb: bad k\xc3\xa4\xc2\x85n hash-2 (esc)
+  [1]
+  $ uimg check bytes.itb
+  bytes.itb: bad k\xe4\xff\xfen\x09 hash-2
+  [1]
+  $ cp kernel.img "$(printf 'a: ok\nb')" && uimg check "$(printf 'a: ok\nb')"
+  a: ok\x0ab: ok 2 checksums
+
+A file that cannot be read does not keep the others from being checked, and its status is the greatest:
+
+  $ mkdir folder && mkfifo pipe && cp kernel.img "last one.img"
+  $ uimg check none.img data.img folder "last one.img" ''
+  none.img: failed cannot read
+  data.img: bad checksum
+  folder: failed cannot read
+  last one.img: ok 2 checksums
+  : failed cannot read
+  [3]
+
+Paths from a file, a line each, after those of the command line; empty lines are none:
+
+  $ printf 'data.img\n\nlast one.img' > names
+  $ uimg check --files-from names kernel.img
+  kernel.img: ok 2 checksums
+  data.img: bad checksum
+  last one.img: ok 2 checksums
+  [1]
+  $ printf 'last one.img\0kernel.img\0' | uimg check -0 --files-from -
+  last one.img: ok 2 checksums
+  kernel.img: ok 2 checksums
+  $ printf 'k\344\nkernel.img\n' | uimg check --files-from -
+  k\xe4: failed cannot read
+  kernel.img: ok 2 checksums
+  [3]
+  $ uimg check --files-from /dev/null
+  $ uimg check kernel.img --files-from none
+  kernel.img: ok 2 checksums
+  uimg: cannot read none
+  [3]
+  $ uimg check --files-from folder
+  uimg: cannot read folder
+  [3]
+
+Lines that cannot be written, and that nobody reads:
+
+  $ uimg check kernel.img > /dev/full
+  uimg: write failed
+  [3]
+  $ for number in 1 2 3 4 5 6 7 8 9; do cat names; echo; done > many
+  $ (uimg check --files-from many; echo "status $?" > status) | head -n 1
+  data.img: bad checksum
+  $ cat status
+  status 1
+
+Wrong lines:
+
+  $ uimg check
+  uimg: no image
+  [2]
+  $ uimg check --need sha2 kernel.img
+  uimg: unknown name
+  [2]
+  $ uimg check -0 kernel.img
+  kernel.img: ok 2 checksums

@@ -1,0 +1,108 @@
+//! What a check finds of an image, over any source.
+
+ghost use Rattle.std.specs.Prelude.{◌≡◌, [], false, length, IsTrue, IfOk};
+ghost use Rattle.uimg_base.specs.Using.{UsesAtMost};
+ghost use Rattle.uimg_fit_reading.specs.Rooms.{TakesNodes};
+ghost use Rattle.uimg_requests.specs.declared.command.Format.TheVariants as format;
+ghost use Rattle.uimg_engine.specs.Faults.{is_read, is_put, is_no_memory, is_of_making};
+ghost use Rattle.uimg_engine.specs.Finding.{ChecksIn, EndsInside, TellsCheck, check_work, stands_by_crc32};
+ghost use Rattle.uimg_engine.specs.Headline.{IsLegacy, is_fit};
+
+use crate::fault::Fault;
+use crate::formats::is_fit;
+use std::alloc::Allocator;
+use uimg_base::{Algo, Room, Source};
+use uimg_fit_reading::Finding;
+use uimg_requests::Format;
+
+/// What is found of an image.
+#[derive(Clone, Copy, Debug, PartialEq, Eq)]
+pub enum Checked {
+    /// This is found of a FIT image.
+    Fit(Finding),
+
+    /// The two checksums of a legacy image are right, and as strong as is needed.
+    Right,
+
+    /// A checksum of a legacy image is not right.
+    Damaged,
+
+    /// The checksums of a legacy image are right, and a stronger algorithm than CRC-32 is needed.
+    Weak,
+}
+
+// Whether a legacy image, which has CRC-32 alone, is strong enough.
+fn stands_by_crc32(need: Option<Algo>) -> bool
+    ensures { result ≡ stands_by_crc32 need }
+{
+    match need {
+        None | Some(Algo::Crc32) => true,
+        Some(_) => false,
+    }
+}
+
+// What is found of a legacy image.
+fn check_legacy<S: Source, A: Allocator>(
+    need: Option<Algo>,
+    source: &mut S,
+    room: &mut Room<A>,
+) -> Result<Checked, Fault>
+    ensures { ChecksIn false need result (S.device source.old) (S.device source.new) room.old room.new }
+{
+    let is_right = uimg_legacy::check(source, room)?;
+    if !is_right {
+        return Ok(Checked::Damaged);
+    }
+    if stands_by_crc32(need) {
+        Ok(Checked::Right)
+    } else {
+        Ok(Checked::Weak)
+    }
+}
+
+// What is found of a FIT image.
+fn check_fit<S: Source, A: Allocator>(
+    need: Option<Algo>,
+    source: &mut S,
+    room: &mut Room<A>,
+) -> Result<Checked, Fault>
+    ensures { ChecksIn true need result (S.device source.old) (S.device source.new) room.old room.new }
+{
+    let finding = uimg_fit_reading::check(need, source, room)?;
+    Ok(Checked::Fit(finding))
+}
+
+/// Checks the checksums and hashes of an image, up to the first finding. The first four bytes tell its
+/// format. Where an algorithm is needed, each image of a FIT, of which there is one at least, needs a hash
+/// node that is compared by it or a stronger one, in the order CRC-32, MD5, SHA-1, SHA-256, SHA-384,
+/// SHA-512.
+///
+/// Over an honest source the finding, or the fault that refuses the image, is exactly that of the
+/// definition. However the payloads of a FIT image lie, no more bytes of them are asked for than the file
+/// has. `Fault::Read` comes exactly where a read failed, `OutOfMemory` of the blob exactly where the room
+/// refused to grow, which a legacy image never asks of it. `Fault::Put` never comes, nor do the faults
+/// that only `make` answers.
+pub fn check<S: Source, A: Allocator>(
+    need: Option<Algo>,
+    source: &mut S,
+    room: &mut Room<A>,
+) -> Result<Checked, Fault>
+    ensures uses { UsesAtMost (check_work (S.device source.old).bytes) (is_read result)
+        (S.device source.old) (S.device source.new) }
+    ensures room { TakesNodes (S.device source.old) (is_no_memory result) room.old room.new }
+    ensures legacy { IsLegacy format.Guess (S.device source.old) →
+        (room.new ≡ record room.old { entries = [] }) × (is_no_memory result ≡ false) }
+    ensures no_put { is_put result ≡ false }
+    ensures not_making { is_of_making result ≡ false }
+    ensures inside { IfOk result (EndsInside (length (S.device source.old).bytes)) }
+    ensures told { IsTrue (S.device source.old).honest →
+        TellsCheck (is_fit format.Guess (S.device source.old).bytes) need
+        (S.device source.old).bytes result }
+{
+    room.clear();
+    if is_fit(Format::Guess, source)? {
+        check_fit(need, source, room)
+    } else {
+        check_legacy(need, source, room)
+    }
+}

@@ -1,0 +1,36 @@
+-- Whether an image's checksums are right.
+use Rattle.std.specs.Prelude.{◌≡◌, List, ℕ, Result, Ok, Err, Bool, true, false, Option, Some, None, IfSome}
+use Rattle.uimg_base.specs.Outcome.{End, done, not_right, refused}
+use Rattle.uimg_base.specs.Results.{◌>>=◌}
+use Rattle.uimg_legacy.specs.declared.fault.LegacyFault.{LegacyFault}
+use Rattle.uimg_legacy.specs.declared.fault.Fault.{Fault}
+use Rattle.uimg_legacy.specs.declared.fault.Fault.TheVariants.{Legacy}
+use Rattle.uimg_legacy.specs.Faults.{Gives}
+use Rattle.uimg_legacy.specs.Header.{head, has_right_crc, fields}
+use Rattle.uimg_legacy.specs.Image.{has_right_data}
+use Rattle.uimg_legacy.specs.Report.{verify_of}
+
+-- the data's checksum counts where the header's is right
+abbrev pub right_behind : Bool → Result Bool LegacyFault → Result Bool LegacyFault
+right_behind true found = found
+right_behind false found = Ok false
+
+-- whether both are right, or why the image is refused
+abbrev pub checked : List ℕ → Result Bool LegacyFault
+checked image = do
+  bytes ← head image
+  right_behind (has_right_crc bytes) (has_right_data image (fields bytes))
+
+abbrev pub Checks : List ℕ → Result Bool Fault → Type 0
+Checks image result = Gives (λ right. right) result (checked image)
+
+-- how a report ends that tells the same
+abbrev pub end_of : Result Bool Fault → Option (End LegacyFault)
+end_of (Ok true) = Some done
+end_of (Ok false) = Some not_right
+end_of (Err (Legacy fault)) = Some (refused fault)
+end_of (Err _) = None
+
+-- The answer is just how the report on the image ends, unless a device failed.
+abbrev pub ChecksAs : List ℕ → Result Bool Fault → Type 0
+ChecksAs image result = IfSome (end_of result) (λ end. (verify_of image).end ≡ end)

@@ -1,0 +1,30 @@
+-- How many parts an image has.
+use Rattle.std.specs.Prelude.{ℕ, List, length, Result, Ok, Bool, true, false}
+use Rattle.uimg_base.specs.Results.{◌>>=◌}
+use Rattle.uimg_legacy.specs.declared.fault.LegacyFault.{LegacyFault}
+use Rattle.uimg_legacy.specs.declared.fault.Fault.{Fault}
+use Rattle.uimg_legacy.specs.declared.header.Header.{Header}
+use Rattle.uimg_legacy.specs.Faults.{Gives}
+use Rattle.uimg_legacy.specs.Image.{payload, legacy}
+use Rattle.uimg_legacy.specs.Parts.{has_parts, part_sizes}
+
+-- the sizes of the table, or one: the data of an image of another type
+abbrev pub count_in_data : Bool → List ℕ → Result ℕ LegacyFault
+count_in_data true payload = do
+  table ← part_sizes payload
+  Ok (length table)
+count_in_data false payload = Ok 1
+
+-- how many parts an image has, or the first fault
+abbrev pub count_of : List ℕ → Result ℕ LegacyFault
+count_of image = do
+  it ← legacy image
+  count_in_data (has_parts it.header.kind) it.payload
+
+-- how many parts an image with this header has, or why its table is refused
+abbrev pub CountsIn : Header → List ℕ → Result ℕ Fault → Type 0
+CountsIn h image result = Gives (λ count. count) result (count_in_data (has_parts h.kind) (payload image h))
+
+-- the same of an image, whose header is read first
+abbrev pub CountsOf : List ℕ → Result ℕ Fault → Type 0
+CountsOf image result = Gives (λ count. count) result (count_of image)

@@ -1,0 +1,71 @@
+//! The words of `check`.
+
+use super::help_notes::CHECK_NOTES;
+use super::{WordsFault, flag};
+use clap::{Arg, ArgAction, ArgMatches};
+use std::alloc::{AllocError, Global};
+use uimg_base::Algo;
+
+/// A check of images.
+#[derive(Drop)]
+pub struct CheckRequest<'a> {
+    /// The algorithm that is needed at least, if there is one.
+    pub need: Option<Algo>,
+
+    /// The paths of images.
+    pub images: Vec<&'a str>,
+
+    /// The path of a file that has the paths of further images, `-` for standard input.
+    pub files_from: Option<&'a str>,
+
+    /// Whether a NUL ends each path of that file, and not a newline.
+    pub has_nuls: bool,
+}
+
+pub(super) fn command<'a>(alloc: Global) -> Result<clap::Command<'a>, AllocError> {
+    clap::Command::new(alloc, "check")
+        .about("Check many images, with a line for each")
+        .after_help(CHECK_NOTES)
+        .arg(
+            Arg::new(alloc, "need")
+                .long("need")
+                .action(ArgAction::Set)
+                .value_name("algo")
+                .help("Ask for a hash by this algorithm or a stronger one"),
+        )?
+        .arg(
+            Arg::new(alloc, "files-from")
+                .long("files-from")
+                .action(ArgAction::Set)
+                .value_name("file")
+                .help("Check the images that this file names, a line each; - is standard input"),
+        )?
+        .arg(flag(alloc, "nuls", '0', "End each name of that file by a NUL"))?
+        .arg(
+            Arg::new(alloc, "image")
+                .action(ArgAction::Append)
+                .num_args(0..)
+                .help("The images"),
+        )
+}
+
+pub(super) fn request<'a>(
+    alloc: Global,
+    matches: &ArgMatches<'a>,
+) -> Result<CheckRequest<'a>, WordsFault> {
+    let need = match matches.get_str("need") {
+        Some(name) => Some(Algo::named(name.as_bytes()).ok_or(WordsFault::UnknownName)?),
+        None => None,
+    };
+    let images = Vec::from_slice(alloc, matches.get_strs("image").unwrap_or(&[]))?;
+    let files_from = matches.get_str("files-from");
+    if images.is_empty() & files_from.is_none() {
+        return Err(WordsFault::NoImages);
+    }
+    Ok(CheckRequest {
+        need,
+        images,
+        files_from,
+        has_nuls: matches.get_flag("nuls"),
+    })
+}
