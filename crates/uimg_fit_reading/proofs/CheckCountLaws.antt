@@ -1,11 +1,9 @@
 -- The images whose hash nodes are all right, counted.
 use Rattle.std.proofs.Common.{◌≡◌, ◌≤◌, ◌+◌, ◌++◌, ℕ, List, [], ◌∷◌, length, map, Option, Some, None, Bool, true, false, if◌then◌else◌, refl, ap, sym, ◌∙◌, subst, arith}
-use Rattle.std.specs.List.{filter, sum_by}
-use Rattle.std.specs.Option.{is_some, option_map}
+use Rattle.std.specs.List.{filter}
+use Rattle.std.specs.Option.{is_some}
 use Rattle.std.proofs.lemmas.List.{length-append}
 use Rattle.std.proofs.lemmas.List.Sums.{sum_by-cons}
-use Rattle.uimg_texts.specs.Slices.{slice}
-use Rattle.uimg_base.specs.declared.spans.Span.{Span}
 use Rattle.uimg_blob.specs.declared.nodes.Blob.{Blob}
 use Rattle.uimg_blob.specs.Grammar.{Siblings, none, node}
 use Rattle.uimg_blob.specs.Indexed.{IsIndexed}
@@ -18,7 +16,7 @@ use Rattle.uimg_blob.proofs.LookLaws.{length_rows}
 use Rattle.uimg_blob.proofs.PhaseLaws.{by_bool}
 use Rattle.uimg_fit_reading.specs.Checks.{hash_count, name_or, unhashed_in}
 use Rattle.uimg_fit_reading.specs.Nodes.{AreFrom, IsNode, HashesAt, FirstHash}
-use Rattle.uimg_fit_reading.proofs.ImageLaws.{Front, front, none_left, entries_size}
+use Rattle.uimg_fit_reading.proofs.ImageLaws.{front, none_left, entries_size}
 
 -- So many hash nodes were counted, and the others follow one another from a number on.
 pub record LeftHashes (t : Siblings) (hs : List (NodeOf Spot)) (before count : ℕ) (next : Option ℕ) : Type 0 where

@@ -1,5 +1,5 @@
 -- Checking hash nodes and images, one more at a time.
-use Rattle.std.proofs.Common.{◌≡◌, ◌≢◌, ◌<◌, ◌≤◌, ◌+◌, ◌-◌, ◌*◌, ℕ, List, [], ◌∷◌, length, Option, Some, None, is_none, ◌&&◌, Bool, true, false, not, refl, ap, sym, ◌∙◌, subst, arith}
+use Rattle.std.proofs.Common.{◌≡◌, ◌<◌, ◌≤◌, ◌+◌, ◌-◌, ◌*◌, ℕ, List, [], ◌∷◌, length, Option, Some, None, is_none, ◌&&◌, Bool, true, false, not, refl, ap, sym, ◌∙◌, subst, arith}
 use Rattle.std.specs.Prelude.{Result, Ok, Err, is_err, IfOk, if◌then◌else◌}
 use Rattle.std.specs.List.{sum_by}
 use Rattle.std.specs.Option.{is_some, option_map, option_map_or}
@@ -25,7 +25,6 @@ use Rattle.uimg_fit_base.specs.declared.fault.FitFault.{FitFault}
 use Rattle.uimg_fit_base.specs.declared.verdicts.Verdict.{Verdict}
 use Rattle.uimg_fit_base.specs.AlgoSets.{is_empty, no_algos}
 use Rattle.uimg_fit_base.specs.Faults.{Gives}
-use Rattle.uimg_fit_base.specs.Files.{images_of}
 use Rattle.uimg_fit_base.specs.Places.{payload, TellsPlace}
 use Rattle.uimg_fit_base.specs.Report.{word_of, is_right}
 use Rattle.uimg_fit_base.proofs.FileLaws.{images_are}
@@ -34,7 +33,7 @@ use Rattle.uimg_fit_reading.specs.declared.checking.Finding.TheVariants as findi
 use Rattle.uimg_fit_reading.specs.declared.checking.checked_payloads.Checked.{Checked}
 use Rattle.uimg_fit_reading.specs.declared.checking.checked_payloads.Checked.TheVariants.{On, Ended}
 use Rattle.uimg_fit_reading.specs.Allowances.{node_allowance, allowance}
-use Rattle.uimg_fit_reading.specs.Checks.{Told, right, unhashed, wrong, weak, overlapping, no_image, check_work, told_of, wrong_in, is_weak, or_weak, found_of, image_told, or_later, first_told, images_told, some_told, check_of, all_right, or_right}
+use Rattle.uimg_fit_reading.specs.Checks.{Told, wrong, weak, overlapping, no_image, check_work, told_of, wrong_in, is_weak, or_weak, found_of, image_told, or_later, first_told, images_told, some_told, check_of, or_right}
 use Rattle.uimg_fit_reading.specs.CheckParts.{FindsWrong, IsChecked, TellsChecked, left_of, ChecksPayload, ChecksImage, ChecksImages}
 use Rattle.uimg_fit_reading.specs.HashReports.{AllCovered}
 use Rattle.uimg_fit_reading.specs.Nodes.{AreFrom, HashesAt, FirstHash}

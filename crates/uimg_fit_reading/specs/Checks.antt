@@ -1,27 +1,20 @@
 -- What a check finds of a FIT image.
-use Rattle.std.specs.Prelude.{◌≡◌, ⊤, ℕ, ◌+◌, ◌-◌, ◌≤◌, ◌*◌, List, [], ◌∷◌, length, not, nat_lt, Bool, true, false, if◌then◌else◌, Option, Some, None, Result, Ok, Err, IfOk}
+use Rattle.std.specs.Prelude.{⊤, ℕ, ◌+◌, ◌-◌, ◌≤◌, List, [], ◌∷◌, length, not, nat_lt, Bool, false, if◌then◌else◌, Option, Some, None, Result, Ok, Err}
 use Rattle.std.specs.List.{sum_by}
-use Rattle.std.specs.Option.{option_map}
 use Rattle.uimg_sums.specs.declared.algo.Algo.{Algo}
 use Rattle.uimg_texts.specs.Slices.{slice}
 use Rattle.uimg_base.specs.Results.{◌>>=◌}
-use Rattle.uimg_base.specs.declared.source.SourceFault.{SourceFault}
-use Rattle.uimg_base.specs.declared.spans.Span.{Span}
 use Rattle.uimg_blob.specs.LookUps.{NodeOf, hashes}
 use Rattle.uimg_blob.specs.Spots.{Spot}
 use Rattle.uimg_fit_base.specs.declared.fault.Fault.{Fault}
 use Rattle.uimg_fit_base.specs.declared.fault.Fault.TheVariants as of
 use Rattle.uimg_fit_base.specs.declared.fault.FitFault.{FitFault}
 use Rattle.uimg_fit_base.specs.declared.verdicts.Verdict.{Verdict}
-use Rattle.uimg_fit_base.specs.Faults.{Gives}
 use Rattle.uimg_fit_base.specs.Files.{images_of}
 use Rattle.uimg_fit_base.specs.Places.{payload}
 use Rattle.uimg_fit_base.specs.Report.{word_of, is_right}
 use Rattle.uimg_fit_reading.specs.declared.checking.Finding.{Finding}
 use Rattle.uimg_fit_reading.specs.declared.checking.Finding.TheVariants.{Right, Unhashed, Wrong, Weak, Overlapping, NoImage}
-use Rattle.uimg_fit_reading.specs.declared.checking.checked_payloads.Checked.{Checked}
-use Rattle.uimg_fit_reading.specs.declared.checking.checked_payloads.Checked.TheVariants.{On, Ended}
-use Rattle.uimg_fit_reading.specs.Allowances.{node_allowance}
 use Rattle.uimg_fit_reading.specs.Vouching.{is_vouched}
 use Rattle.uimg_fit_reading.specs.Work.{own_meta, hashed}
 

@@ -1,4 +1,4 @@
-use Rattle.std.proofs.Common.{rules, ◌≡◌, ℕ, Option, Some, None, length, subst}
+use Rattle.std.proofs.Common.{rules, ℕ, Option, length, subst}
 use Rattle.uimg_blob.specs.LookUps.{hashes}
 use Rattle.uimg_blob.specs.Roles.{in_images}
 use Rattle.uimg_fit_reading.proofs.CheckCountLaws.{LeftSummed, none_summed, one_summed, all_summed}

@@ -1,6 +1,6 @@
-use Rattle.std.proofs.Common.{rules, ◌≡◌, ℕ, Option, Some, None, subst}
+use Rattle.std.proofs.Common.{rules, ℕ, Option, subst}
 use Rattle.uimg_fit_reading.specs.Nodes.{HashesAt}
-use Rattle.uimg_fit_reading.proofs.CheckCountLaws.{LeftHashes, hashes_first, hashes_more, hashes_done, hashes_most}
+use Rattle.uimg_fit_reading.proofs.CheckCountLaws.{hashes_first, hashes_more, hashes_done, hashes_most}
 use Rattle.uimg_fit_reading.proofs.checking.all_right.count_hashes.Goals as goal
 
 pub loop-count-init : goal.loop-count-init

@@ -1,5 +1,4 @@
-use Rattle.std.proofs.Common.{rules, ◌≡◌, ◌∙◌, ℕ, Option, Some, None, Bool, true, false, not, ap, subst}
-use Rattle.std.specs.Option.{is_some}
+use Rattle.std.proofs.Common.{rules, ◌∙◌, ℕ, Option, not, ap, subst}
 use Rattle.uimg_blob.specs.Roles.{in_images}
 use Rattle.uimg_fit_reading.proofs.CheckCountLaws.{LeftHashed, all_hashed, next_hashed, is_unhashed, none_unhashed}
 use Rattle.uimg_fit_reading.proofs.checking.all_right.first_unhashed.Goals as goal

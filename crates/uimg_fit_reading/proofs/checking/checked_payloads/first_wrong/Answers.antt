@@ -1,4 +1,4 @@
-use Rattle.std.proofs.Common.{rules, ◌≡◌, ◌∙◌, ℕ, Option, Bool, true, false, refl, subst, sym}
+use Rattle.std.proofs.Common.{rules, ◌≡◌, ℕ, Option, true, false, refl, subst}
 use Rattle.std.specs.Prelude.{is_err}
 use Rattle.uimg_blob.specs.Roles.{in_image}
 use Rattle.uimg_fit_base.specs.AlgoSets.{set_of}
