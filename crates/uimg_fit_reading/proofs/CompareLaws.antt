@@ -4,6 +4,7 @@ use Rattle.std.specs.List.{AllByRecursion, list_any}
 use Rattle.std.specs.Option.{option_map}
 use Rattle.std.specs.Str.{bytes_eq}
 use Rattle.uimg_sums.specs.declared.algo.Algo.{Algo}
+use Rattle.uimg_sums.specs.declared.algo.Algo.TheVariants.{Crc32, Md5, Sha1, Sha256, Sha384, Sha512}
 use Rattle.uimg_sums.specs.Algorithms.{algo_named, digest_size, digest_by}
 use Rattle.uimg_blob.specs.declared.keys.Key.TheVariants as key
 use Rattle.uimg_blob.specs.Grammar.{Siblings}
@@ -107,6 +108,38 @@ pub read_where_compared : (hs : List (NodeOf Spot)) (size : ℕ) → (if is_empt
 read_where_compared hs size = by_bool (are_compared hs)
     (λ some. rw some (at_most (is_empty (with_all no_algos hs)) size))
     (λ none. let empty : is_empty (with_all no_algos hs) ≡ true = ap is_empty (none_compared no_algos hs none) ∙ no_algo in rw none (rw empty (omega arith)))
+
+-- a set with an algorithm is not empty
+no_has : (a : Algo) → has no_algos a ≡ true → ⊥
+unfolding has
+no_has Crc32 h = true_false (sym h)
+no_has Md5 h = true_false (sym h)
+no_has Sha1 h = true_false (sym h)
+no_has Sha256 h = true_false (sym h)
+no_has Sha384 h = true_false (sym h)
+no_has Sha512 h = true_false (sym h)
+
+has_some : (set : AlgoSet) (a : Algo) → has set a ≡ true → is_empty set ≡ false
+has_some set a h = by_bool (is_empty set)
+    (λ empty. absurd (no_has a (ap (λ (s : AlgoSet). has s a) (sym (empty-is set empty)) ∙ h)))
+    (λ some. some)
+
+some_plan : (set : AlgoSet) (plan : Plan) (hs : List (NodeOf Spot)) → (compares plan || are_compared hs) ≡ true
+    → ((more : AlgoSet) → are_compared hs ≡ true → is_empty (with_all more hs) ≡ false) → is_empty (with_all (with_plan set plan) hs) ≡ false
+some_plan set Malformed hs some rest = rest set some
+some_plan set Unsupported hs some rest = rest set some
+some_plan set (Compared algo span) hs some rest = has_some _ algo (all_keep (with_plan set (Compared algo span)) hs algo (marked-has set algo))
+
+some_compared : (set : AlgoSet) (hs : List (NodeOf Spot)) → are_compared hs ≡ true → is_empty (with_all set hs) ≡ false
+unfolding with_all
+some_compared set [] some = absurd (true_false (sym some))
+some_compared set (h ∷ hs) some = some_plan set (plan_of h) hs some (λ more. some_compared more hs)
+
+-- a payload is read just where a value is compared
+pub compared_size : (hs : List (NodeOf Spot)) (size : ℕ) → (if is_empty (with_all no_algos hs) then 0 else size) ≡ (if are_compared hs then size else 0)
+compared_size hs size = by_bool (are_compared hs)
+    (λ some. rw some (rw (some_compared no_algos hs some) refl))
+    (λ none. let empty : is_empty (with_all no_algos hs) ≡ true = ap is_empty (none_compared no_algos hs none) ∙ no_algo in rw none (rw empty refl))
 
 -- no sum has the same digests of every message
 no_sums : (message : List ℕ) → padded_digests (chosen no_algos) message ≡ padded_digests (chosen no_algos) []

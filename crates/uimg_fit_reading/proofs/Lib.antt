@@ -14,6 +14,8 @@ pub mod ExtractionLaws
 pub mod NamedLaws
 pub mod CountingLaws
 pub mod VouchingLaws
+pub mod CheckLaws
+pub mod CheckCountLaws
 pub mod LineLaws
 pub mod AllowanceLaws
 pub mod SharesLaws

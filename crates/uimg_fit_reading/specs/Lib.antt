@@ -9,6 +9,8 @@ pub mod Nodes
 pub mod Named
 pub mod Counting
 pub mod Vouching
+pub mod Checks
+pub mod CheckParts
 pub mod Rooms
 pub mod Shows
 pub mod Lists

@@ -24,7 +24,7 @@ use uimg_blob::Blob;
 use uimg_fit_base::Fault;
 
 // How many images there are from one on.
-fn count_from<A: Allocator>(blob: &Blob, room: &Room<A>, first: Option<usize>) -> usize
+pub(crate) fn count_from<A: Allocator>(blob: &Blob, room: &Room<A>, first: Option<usize>) -> usize
     requires within { IfSome first (λ i. i < length room.now.entries) }
     requires indexed { Indexed blob.now room.now.entries }
     ensures { (t : Siblings) → IsIndexed t blob.now room.now.entries → (found : List (NodeOf Spot)) →

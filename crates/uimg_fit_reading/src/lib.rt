@@ -1,6 +1,7 @@
 //! FIT images are read: listing, verification and extraction.
 #![tactic(auto)]
 
+mod checking;
 mod counting;
 mod extraction;
 mod images;
@@ -12,6 +13,7 @@ mod puts;
 mod report;
 mod tree;
 
+pub use checking::{Finding, check};
 pub use counting::count_images;
 pub use extraction::{extract, locate};
 pub use listing::list;

@@ -47,7 +47,7 @@ pub(crate) fn compared_algos<S: Source, A: Allocator>(
 }
 
 // The digests of a payload by the algorithms of a set; it is read once, and not at all where there is none.
-fn payload_digests<S: Source, A: Allocator>(
+pub(crate) fn payload_digests<S: Source, A: Allocator>(
     source: &mut S,
     room: &mut Room<A>,
     set: AlgoSet,

@@ -21,7 +21,7 @@ use uimg_blob::{Blob, Key};
 use uimg_fit_base::{Digests, Verdict};
 
 // The word of a hash node, by the digests of its payload.
-fn judge<S: Source, A: Allocator>(
+pub(crate) fn judge<S: Source, A: Allocator>(
     source: &mut S,
     blob: &Blob,
     room: &Room<A>,

@@ -21,7 +21,7 @@ use uimg_blob::Blob;
 use uimg_fit_base::{AlgoSet, Fault};
 
 // Whether a set has an algorithm that is at least as strong as one.
-fn has_from(set: AlgoSet, need: Algo) -> bool
+pub(crate) fn has_from(set: AlgoSet, need: Algo) -> bool
     ensures { result ≡ has_from set need }
 {
     let sha384 = set.has(Algo::Sha384) | set.has(Algo::Sha512);

@@ -1,0 +1,62 @@
+-- Checking the images of a FIT image one after the other.
+use Rattle.std.specs.Prelude.{◌≡◌, ⊤, ℕ, ◌+◌, ◌≤◌, ◌*◌, List, length, Option, Some, None, Result, Ok, Err, IfOk}
+use Rattle.std.specs.List.{sum_by}
+use Rattle.std.specs.Option.{option_map}
+use Rattle.uimg_sums.specs.declared.algo.Algo.{Algo}
+use Rattle.uimg_base.specs.declared.source.SourceFault.{SourceFault}
+use Rattle.uimg_blob.specs.LookUps.{NodeOf}
+use Rattle.uimg_blob.specs.Spots.{Spot}
+use Rattle.uimg_fit_base.specs.declared.fault.Fault.{Fault}
+use Rattle.uimg_fit_base.specs.declared.fault.Fault.TheVariants as of
+use Rattle.uimg_fit_base.specs.Faults.{Gives}
+use Rattle.uimg_fit_base.specs.Places.{payload}
+use Rattle.uimg_fit_reading.specs.declared.checking.Finding.{Finding}
+use Rattle.uimg_fit_reading.specs.declared.checking.checked_payloads.Checked.{Checked}
+use Rattle.uimg_fit_reading.specs.declared.checking.checked_payloads.Checked.TheVariants.{On, Ended}
+use Rattle.uimg_fit_reading.specs.Allowances.{node_allowance}
+use Rattle.uimg_fit_reading.specs.Work.{hashed}
+use Rattle.uimg_fit_reading.specs.Checks.{Told, told_of, EndsInside, wrong_in, found_of, image_told, first_told}
+
+-- The first hash node that is not right was found; at most 96 bytes were asked for about each node.
+pub record FindsWrong (file name message : List ℕ) (hs : List (NodeOf Spot)) (asked new : ℕ) (result : Result (Option Finding) SourceFault) : Type 0 where
+  pub told : IfOk result (λ found. option_map (told_of file) found ≡ wrong_in name message hs)
+  pub paid : new ≤ asked + 96 * length hs
+
+-- what is told of an image: that so many bytes of its payload were read, or what was found of it
+abbrev pub IsChecked : List ℕ → ℕ → ℕ → Option Told → Checked → Type 0
+IsChecked file left size told (On rest) = (told ≡ None) × (rest + size ≡ left)
+IsChecked file left size told (Ended finding) = told ≡ Some (told_of file finding)
+
+-- the same, or that its payload is refused
+abbrev pub TellsChecked : List ℕ → ℕ → ℕ → Result (Option Told) Fault → Result Checked Fault → Type 0
+TellsChecked file left size told (Ok (On rest)) = (told ≡ Ok None) × (rest + size ≡ left)
+TellsChecked file left size told (Ok (Ended finding)) = told ≡ Ok (Some (told_of file finding))
+TellsChecked file left size told (Err (of.Fit fault)) = told ≡ Err (of.Fit fault)
+TellsChecked file left size told (Err (of.Blob fault at)) = ⊥
+TellsChecked file left size told (Err _) = ⊤
+
+-- how many bytes are left for the next images
+abbrev pub left_of : {F : Type 0} → Result Checked F → ℕ
+left_of (Ok (On rest)) = rest
+left_of (Ok (Ended finding)) = 0
+left_of (Err fault) = 0
+
+-- each span of what is told of an image ends in a file of so many bytes
+abbrev pub StaysInside : ℕ → Checked → Type 0
+StaysInside size (On rest) = ⊤
+StaysInside size (Ended finding) = EndsInside size finding
+
+-- An image was checked whose payload is known; its place took at most 12 bytes.
+pub record ChecksPayload (file : List ℕ) (need : Option Algo) (left : ℕ) (image : NodeOf Spot) (message : List ℕ) (asked new : ℕ) (result : Result Checked SourceFault) : Type 0 where
+  pub told : IfOk result (IsChecked file left (hashed image (Ok message)) (found_of need left image message))
+  pub paid : new + left_of result + 12 ≤ asked + left + node_allowance image
+
+-- An image was checked.
+pub record ChecksImage (file : List ℕ) (need : Option Algo) (left : ℕ) (image : NodeOf Spot) (asked new : ℕ) (result : Result Checked Fault) : Type 0 where
+  pub told : TellsChecked file left (hashed image (payload file image)) (image_told need left image (payload file image)) result
+  pub paid : new + left_of result ≤ asked + left + node_allowance image
+
+-- Images were checked, up to the first that something was found of.
+pub record ChecksImages (file : List ℕ) (need : Option Algo) (found : List (NodeOf Spot)) (asked new : ℕ) (result : Result (Option Finding) Fault) : Type 0 where
+  pub told : Gives (option_map (told_of file)) result (first_told need file (length file) found)
+  pub paid : new ≤ asked + length file + sum_by node_allowance found

@@ -1,0 +1,87 @@
+//! What is found of a FIT image by a check of the hashes of its images.
+
+ghost use Rattle.std.specs.Prelude.{◌≡◌, false, length, IsTrue, IfOk};
+ghost use Rattle.uimg_base.specs.Using.{UsesAtMost};
+ghost use Rattle.uimg_fit_base.specs.Faults.{is_read, is_put, is_out_of_memory, is_of_making, Gives};
+ghost use Rattle.uimg_fit_reading.specs.Checks.{check_work, told_of, check_of, EndsInside};
+ghost use Rattle.uimg_fit_reading.specs.Rooms.{TakesNodes};
+
+mod all_right;
+mod checked_images;
+mod checked_payloads;
+
+use crate::checking::all_right::all_right;
+use crate::checking::checked_images::first_finding;
+use crate::images::first_image;
+use crate::tree::read_tree;
+use std::alloc::Allocator;
+use uimg_base::{Algo, Room, Source, Span};
+use uimg_fit_base::{Fault, Verdict};
+
+/// What is found of a FIT image whose blob and payload places are in order. An image and a hash node
+/// are told by where their names stand.
+#[derive(Clone, Copy, Debug, PartialEq, Eq)]
+pub enum Finding {
+    /// Each image has a hash node, and each hash node is right.
+    Right {
+        /// How many images there are.
+        images: usize,
+        /// How many hash nodes they have together.
+        hashes: usize,
+    },
+    /// Each hash node is right, and this is the first image that has none. It comes only where no
+    /// strength is needed.
+    Unhashed(Span),
+    /// A hash node is not right.
+    Wrong {
+        /// The image.
+        image: Span,
+        /// The hash node, the first of the image that is not right.
+        hash: Span,
+        /// What a report says of it.
+        word: Verdict,
+    },
+    /// The image has no hash node that is compared with its payload by an algorithm at least as strong
+    /// as the needed one.
+    Weak(Span),
+    /// With this image, the payloads that are compared have more bytes together than the file, so that
+    /// some of them overlap.
+    Overlapping(Span),
+    /// There is no image, and a strength is needed.
+    NoImage,
+}
+
+/// Compares the hash nodes of a FIT image's images with their payloads, up to the first finding. The
+/// images come in their order: of each, `Overlapping` is found before its payload is read, then `Wrong`,
+/// then `Weak`. `Right` or `Unhashed` is what is left. A needed strength is an algorithm, and the order is
+/// CRC-32, MD5, SHA-1, SHA-256, SHA-384, SHA-512.
+///
+/// Refusals are those of the blob, then `NoImages`, and `NoData` and `DataOutside` of an image before
+/// anything else is found of it. `OutOfMemory` comes exactly where the room refused to grow. A payload is
+/// asked for at most once, and not at all where no hash node of its image is compared, and all payloads
+/// that are asked for have no more bytes together than the file.
+pub fn check<S: Source, A: Allocator>(
+    need: Option<Algo>,
+    source: &mut S,
+    room: &mut Room<A>,
+) -> Result<Finding, Fault>
+    ensures uses { UsesAtMost (check_work (S.device source.old).bytes) (is_read result)
+        (S.device source.old) (S.device source.new) }
+    ensures room { TakesNodes (S.device source.old) (is_out_of_memory result) room.old room.new }
+    ensures no_put { is_put result ≡ false }
+    ensures no_making { is_of_making result ≡ false }
+    ensures inside { IfOk result (EndsInside (length (S.device source.old).bytes)) }
+    ensures told { IsTrue (S.device source.old).honest →
+        Gives (told_of (S.device source.old).bytes) result
+        (check_of need (S.device source.old).bytes) }
+{
+    let blob = read_tree(source, room)?;
+    let first = first_image(&blob, room)?;
+    if need.is_some() & first.is_none() {
+        return Ok(Finding::NoImage);
+    }
+    if let Some(finding) = first_finding(source, &blob, room, first, need)? {
+        return Ok(finding);
+    }
+    Ok(all_right(&blob, room, first))
+}

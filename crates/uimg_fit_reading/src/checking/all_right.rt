@@ -1,0 +1,99 @@
+//! What is found of images whose hash nodes are all right.
+
+ghost use Rattle.std.specs.Prelude.{◌≡◌, ℕ, ◌+◌, ◌<◌, ◌≤◌, List, length, IfSome};
+ghost use Rattle.std.specs.Option.{option_map};
+ghost use Rattle.uimg_texts.specs.Slices.{slice};
+ghost use Rattle.uimg_blob.specs.Grammar.{Siblings};
+ghost use Rattle.uimg_blob.specs.Indexed.{IsIndexed};
+ghost use Rattle.uimg_blob.specs.LookUps.{NodeOf};
+ghost use Rattle.uimg_blob.specs.Roles.{in_images};
+ghost use Rattle.uimg_blob.specs.Spots.{Spot};
+ghost use Rattle.uimg_fit_reading.specs.Checks.{EndsInside, told_of, hash_count, unhashed_in, all_right};
+ghost use Rattle.uimg_fit_reading.specs.Nodes.{Indexed, InFile, IsRead, AreFrom, HashesAt};
+
+use crate::checking::Finding;
+use crate::counting::count_from;
+use crate::nodes::{first_hash, name_of, next_hash, next_of};
+use std::alloc::Allocator;
+use uimg_base::{Room, Span};
+use uimg_blob::Blob;
+
+// A count with the hash nodes from one on; there are no more of them than entries.
+fn count_hashes<A: Allocator>(
+    blob: &Blob,
+    room: &Room<A>,
+    first: Option<usize>,
+    before: usize,
+) -> usize
+    requires within { IfSome first (λ i. i < length room.now.entries) }
+    requires indexed { Indexed blob.now room.now.entries }
+    ensures { (t : Siblings) → IsIndexed t blob.now room.now.entries → (hs : List (NodeOf Spot)) →
+        HashesAt t first hs → before + length hs ≤ length room.now.entries →
+        result ≡ before + length hs }
+{
+    let most = room.count();
+    let mut count = before;
+    let mut next = first;
+    while count < most {
+        let Some(hash) = next else {
+            return count;
+        };
+        count += 1;
+        next = next_hash(blob, room, hash);
+    }
+    count
+}
+
+// How many hash nodes the images from one on have.
+fn count_all<A: Allocator>(blob: &Blob, room: &Room<A>, first: Option<usize>) -> usize
+    requires within { IfSome first (λ i. i < length room.now.entries) }
+    requires indexed { Indexed blob.now room.now.entries }
+    ensures { (t : Siblings) → IsIndexed t blob.now room.now.entries → (found : List (NodeOf Spot)) →
+        AreFrom t in_images first found → result ≡ hash_count found }
+{
+    let mut count = 0;
+    let mut next = first;
+    while let Some(image) = next {
+        count = count_hashes(blob, room, first_hash(blob, room, image), count);
+        next = next_of(blob, room, image);
+    }
+    count
+}
+
+// Where the name of the first image from one on stands that has no hash node.
+fn first_unhashed<A: Allocator>(blob: &Blob, room: &Room<A>, first: Option<usize>) -> Option<Span>
+    requires within { IfSome first (λ i. i < length room.now.entries) }
+    requires indexed { Indexed blob.now room.now.entries }
+    ensures inside { (size : ℕ) → InFile size blob.now room.now.entries →
+        IfSome result (λ s. s.place + s.length ≤ size) }
+    ensures told { (file : List ℕ) (t : Siblings) → IsRead file blob.now room.now.entries t →
+        (found : List (NodeOf Spot)) → AreFrom t in_images first found →
+        option_map (λ s. slice file s.place s.length) result ≡ unhashed_in found }
+{
+    let mut next = first;
+    while let Some(image) = next {
+        if first_hash(blob, room, image).is_none() {
+            return Some(name_of(blob, room, image));
+        }
+        next = next_of(blob, room, image);
+    }
+    None
+}
+
+// What is found of the images from one on, whose hash nodes are all right.
+pub(crate) fn all_right<A: Allocator>(blob: &Blob, room: &Room<A>, first: Option<usize>) -> Finding
+    requires within { IfSome first (λ i. i < length room.now.entries) }
+    requires indexed { Indexed blob.now room.now.entries }
+    ensures inside { (size : ℕ) → InFile size blob.now room.now.entries → EndsInside size result }
+    ensures told { (file : List ℕ) (t : Siblings) → IsRead file blob.now room.now.entries t →
+        (found : List (NodeOf Spot)) → AreFrom t in_images first found →
+        told_of file result ≡ all_right found }
+{
+    match first_unhashed(blob, room, first) {
+        Some(image) => Finding::Unhashed(image),
+        None => Finding::Right {
+            images: count_from(blob, room, first),
+            hashes: count_all(blob, room, first),
+        },
+    }
+}
