@@ -1,6 +1,6 @@
 //! What a check finds of an image, over any source.
 
-ghost use Rattle.std.specs.Prelude.{◌≡◌, [], false, length, IsTrue, IfOk};
+ghost use Rattle.std.specs.Prelude.{◌≡◌, [], true, false, length, IsTrue, IfOk};
 ghost use Rattle.uimg_base.specs.Using.{UsesAtMost};
 ghost use Rattle.uimg_fit_reading.specs.Rooms.{TakesNodes};
 ghost use Rattle.uimg_requests.specs.declared.command.Format.TheVariants as format;

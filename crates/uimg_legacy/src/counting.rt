@@ -32,10 +32,7 @@ fn count_in_data<S: Source, A: Allocator>(
 }
 
 // How many parts an image has whose checksums are right.
-fn count_in_image<S: Source, A: Allocator>(
-    source: &mut S,
-    room: &mut Room<A>,
-) -> Result<u32, Fault>
+fn count_in_image<S: Source, A: Allocator>(source: &mut S, room: &mut Room<A>) -> Result<u32, Fault>
     ensures { Reads (UsesAtMost (list_work (S.device source.old).bytes)) CountsOf
         result (S.device source.old) (S.device source.new) room.old room.new }
 {

@@ -3,10 +3,9 @@
 use crate::main_program::{DONE, FAILED, REFUSED, RequestFault, status_of, tell};
 use crate::printed::Printed;
 use std::alloc::Global;
-use std::fs;
-use std::io;
 use std::io::{BufRead, BufReader, BufWriter, ErrorKind, Write};
 use std::rt::Files;
+use std::{fs, io};
 use uimg_base::{Algo, FileSource, Room, Source, Span};
 use uimg_engine::{Checked, Fault, check};
 use uimg_fit_base::word_text;
@@ -169,7 +168,11 @@ impl<'a, W: Write> Checks<'a, W> {
 fn put_fault<W: Write>(fault: Fault, out: &mut W) -> io::Result<u8> {
     let fault = RequestFault::Stopped(fault);
     let status = status_of(&fault);
-    let word = if status == REFUSED { "refused" } else { "failed" };
+    let word = if status == REFUSED {
+        "refused"
+    } else {
+        "failed"
+    };
     writeln!(out, "{word} {fault}")?;
     Ok(status)
 }

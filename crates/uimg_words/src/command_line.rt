@@ -7,9 +7,9 @@ mod help_notes;
 mod mkimage;
 mod verify;
 
+pub use check::CheckRequest;
 use clap::error::ErrorKind;
 use clap::{Arg, ArgAction, ArgMatches};
-pub use check::CheckRequest;
 use complaints::complaint;
 use help_notes::PROGRAM_NOTES;
 use std::alloc::{AllocError, Global};
