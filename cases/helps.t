@@ -10,6 +10,7 @@ Helps
     mkimage    Make an image from files, or list one
     dumpimage  List an image, or extract a part of it
     verify     Check the checksums and hashes of an image, and report each
+    check      Check many images, with a line for each
   
   Options:
         --version  Print the name and the version
@@ -128,6 +129,48 @@ Helps
     2  The command line is wrong
     3  A file cannot be opened, or a read, a write or memory failed
   $ uimg verify --help > short && uimg verify -h | cmp - short
+  $ uimg check -h
+  Check many images, with a line for each
+  
+  Usage: uimg check [OPTIONS] [image]...
+  
+  Arguments:
+    [image]...  The images
+  
+  Options:
+        --need <algo>        Ask for a hash by this algorithm or a stronger one
+        --files-from <file>  Check the images that this file names too, a line each
+    -0                       End each name of that file by a NUL
+    -h, --help               Print help
+  
+  Algorithms, from the weakest to the strongest:
+    <algo>  crc32 md5 sha1 sha256 sha384 sha512
+  
+  A line for each image: its path, and what was found first.
+    ok           Each hash is right, or both checksums of a legacy image are
+    unhashed     The same, but this image of a FIT has no hash
+    bad          This hash of an image is not right, or a checksum is not
+    malformed    This hash of an image has no algorithm, or no value of its length
+    unsupported  This hash of an image has an unknown algorithm
+    weak         This image has no hash as strong as --need, or is a legacy image
+    empty        There is no image in the FIT, where --need is given
+    overlapping  With this image there are more bytes to hash than the file has
+    refused      The image is refused by this fault
+    failed       The file cannot be opened, or a read or memory failed
+  Control characters and \ are written \xNN in a name. The names of --files-from -
+  are those of standard input.
+  Signatures and the hashes of configurations are not checked.
+  
+  Examples:
+    uimg check --need sha256 kernel.itb rescue.itb
+    find /srv/images -name '*.itb' -print0 | uimg check -0 --files-from -
+  
+  Exit status: the greatest of all lines
+    0  ok or unhashed
+    1  Another word than these and failed
+    2  The command line is wrong
+    3  failed, or a line cannot be written
+  $ uimg check --help > short && uimg check -h | cmp - short
   $ uimg --version
   uimg 0.1.0
 
@@ -142,6 +185,7 @@ No words are a wrong line: the help goes to standard error.
     mkimage    Make an image from files, or list one
     dumpimage  List an image, or extract a part of it
     verify     Check the checksums and hashes of an image, and report each
+    check      Check many images, with a line for each
   
   Options:
         --version  Print the name and the version

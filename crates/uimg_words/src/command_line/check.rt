@@ -38,7 +38,7 @@ pub(super) fn command<'a>(alloc: Global) -> Result<clap::Command<'a>, AllocError
                 .long("files-from")
                 .action(ArgAction::Set)
                 .value_name("file")
-                .help("Check the images that this file names, a line each; - is standard input"),
+                .help("Check the images that this file names too, a line each"),
         )?
         .arg(flag(alloc, "nuls", '0', "End each name of that file by a NUL"))?
         .arg(

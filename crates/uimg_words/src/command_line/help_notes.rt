@@ -74,7 +74,7 @@ pub(super) const CHECK_NOTES: &str = "Algorithms, from the weakest to the strong
 A line for each image: its path, and what was found first.
   ok           Each hash is right, or both checksums of a legacy image are
   unhashed     The same, but this image of a FIT has no hash
-  bad          This hash of an image is not right, or a checksum
+  bad          This hash of an image is not right, or a checksum is not
   malformed    This hash of an image has no algorithm, or no value of its length
   unsupported  This hash of an image has an unknown algorithm
   weak         This image has no hash as strong as --need, or is a legacy image
@@ -82,7 +82,8 @@ A line for each image: its path, and what was found first.
   overlapping  With this image there are more bytes to hash than the file has
   refused      The image is refused by this fault
   failed       The file cannot be opened, or a read or memory failed
-A byte of a name that is no printable letter of ASCII, and \\, is written \\xNN.
+Control characters and \\ are written \\xNN in a name. The names of --files-from -
+are those of standard input.
 Signatures and the hashes of configurations are not checked.
 
 Examples:
