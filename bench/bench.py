@@ -35,6 +35,8 @@ ZLIB = (
     "print(f'{sum:08x}')\n"
 )
 
+# How many small images are checked.
+CHECKED = 10000
 INSIDE = 64 * 1024 * 1024
 OUTSIDE = 512 * 1024 * 1024
 
@@ -57,12 +59,12 @@ def make_file(path):
 
 
 def seconds(command, output):
-    """The wall time of a command in seconds."""
+    """The wall time of a command in seconds. A check may find something."""
     with open(output, "wb") as out:
         begin = time.monotonic()
         status = subprocess.run(command, stdout=out).returncode
         spent = time.monotonic() - begin
-    if status != 0:
+    if status > ("check" in command):
         sys.exit(f"bench: {command[0]} failed")
     return spent
 
@@ -154,6 +156,23 @@ def fit_rows(uimg, folder):
     yield "verify 4 sums", "md5sum and 2 more", digests, text, INSIDE
 
 
+def check_rows(uimg, folder):
+    """What is timed of many small FIT images: the same."""
+    names, text = os.path.join(folder, "names"), os.path.join(folder, "text")
+    data = bytes(100)
+    image = fits.fit([fits.image("kernel", fits.prop("data", data), [("crc32", zlib.crc32(data).to_bytes(4, "big"))])])
+    paths = [os.path.join(folder, f"{number}.itb") for number in range(CHECKED)]
+    for path in paths:
+        with open(path, "wb") as file:
+            file.write(image)
+    with open(names, "w", encoding="ascii") as file:
+        file.write("\n".join(paths))
+    yield f"check {CHECKED} FITs", "uimg check", [uimg, "check", "--files-from", names], text, 0
+    for name, command in (("uimg dumpimage -l", [uimg, "dumpimage", "-l"]), ("dumpimage -l", ["dumpimage", "-l"])):
+        if shutil.which(command[0]):
+            yield f"check {CHECKED} FITs", name, ["xargs", "-n", "1", "-a", names, *command], text, 0
+
+
 def build_rows(uimg, folder):
     """What is timed of the building of FIT images from source: the same."""
     part, big = os.path.join(folder, "part.bin"), os.path.join(folder, "payload.bin")
@@ -180,7 +199,7 @@ def build_rows(uimg, folder):
 def shape_rows(uimg, folder):
     """What is timed of files that are made to cost much, each beside an ordinary one of the same length."""
     text, copy = os.path.join(folder, "text"), os.path.join(folder, "copy.bin")
-    words = {"list": ["dumpimage", "-l"], "verify": ["verify"], "extract": ["dumpimage", "-o", copy]}
+    words = {"list": ["dumpimage", "-l"], "verify": ["verify"], "check": ["check"], "extract": ["dumpimage", "-o", copy]}
     for number, (command, kind, *files) in enumerate(shapes.shapes()):
         for name, parts in zip(("costly", "ordinary"), files):
             path = os.path.join(folder, f"{name}-{number}")
@@ -212,7 +231,7 @@ def main():
     print("|" + "|".join("-" * (width + 2) for width in widths) + "|")
     with bench_folder() as folder:
         legacy = ((*row, SIZE) for row in legacy_rows(uimg, folder))
-        fit = itertools.chain(fit_rows(uimg, folder), build_rows(uimg, folder))
+        fit = itertools.chain(fit_rows(uimg, folder), check_rows(uimg, folder), build_rows(uimg, folder))
         rows = itertools.chain(legacy, fit, shape_rows(uimg, folder))
         installed = (row for row in rows if shutil.which(row[2][0]))
         for _, kind in itertools.groupby(installed, key=lambda row: row[0]):

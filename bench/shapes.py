@@ -44,6 +44,16 @@ def many_hashes(count):
     return hostile, outside(data, [("crc32", struct.pack(">I", zlib.crc32(data)))])
 
 
+def overlapping(count):
+    """So many images with one payload, and one image over as much."""
+    data = bytes(PAYLOAD)
+    hashes = [("crc32", struct.pack(">I", zlib.crc32(data)))]
+    payload = fits.prop("data-offset", bytes(4)) + fits.prop("data-size", struct.pack(">I", len(data)))
+    hostile = [fits.fit([fits.image("kernel", payload, hashes)] * count), data]
+    data += bytes(of_size(hostile) - of_size(outside(data, hashes)))
+    return hostile, outside(data, [("crc32", struct.pack(">I", zlib.crc32(data)))])
+
+
 def images_of(*nodes):
     return fits.blob(fits.node("", fits.node("images", *nodes)))
 
@@ -86,6 +96,7 @@ def shapes():
     """Of each shape the command that it is for, its file and an ordinary one as long, in parts."""
     yield "verify", "800 hash nodes", *many_hashes(800)
     yield "list", "800 hash nodes", *many_hashes(800)
+    yield "check", "100 images in one", *overlapping(100)
     for name, parts in (
         ("20000 bare nodes", bare_nodes(20000)),
         ("10000 properties", many_properties(10000)),
