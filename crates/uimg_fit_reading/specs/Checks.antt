@@ -120,7 +120,7 @@ abbrev pub or_right : Option Algo → List (NodeOf Spot) → Option Told → Tol
 or_right need found (Some told) = told
 or_right need found None = all_right need found
 
--- what is found of images, of which a whole file may be read
+-- what is found of images, of whose payloads as many bytes may be read as the file has
 abbrev pub images_told : Option Algo → List ℕ → List (NodeOf Spot) → Result Told Fault
 images_told need file found = do
   first ← first_told need file (length file) found
