@@ -342,11 +342,11 @@ check_has file t need found first is has from some = check_is file t need found 
 pub check_cut : (file : List ℕ) (need : Option Algo) (found : List (NodeOf Spot)) (fault : Fault) → check_of need file ≡ images_told need file found
     → Gives (option_map (told_of file)) (let r : Result (Option Finding) Fault = Err fault in r) (first_told need file (length file) found)
     → Gives (told_of file) (let r : Result Finding Fault = Err fault in r) (check_of need file)
-check_cut file need found (of.Blob fault at) is gives = λ m. is ∙ ap (λ (r : Result (Option Told) Fault). r >>= (λ o. Ok (or_right found o))) (gives m)
-check_cut file need found (of.Fit fault) is gives = is ∙ ap (λ (r : Result (Option Told) Fault). r >>= (λ o. Ok (or_right found o))) gives
+check_cut file need found (of.Blob fault at) is gives = λ m. is ∙ ap (λ (r : Result (Option Told) Fault). r >>= (λ o. Ok (or_right need found o))) (gives m)
+check_cut file need found (of.Fit fault) is gives = is ∙ ap (λ (r : Result (Option Told) Fault). r >>= (λ o. Ok (or_right need found o))) gives
 check_cut file need found of.Read is gives = tt
 check_cut file need found of.Put is gives = tt
 
 pub check_ends : (file : List ℕ) (need : Option Algo) (found : List (NodeOf Spot)) (o : Option Told) → check_of need file ≡ images_told need file found → first_told need file (length file) found ≡ Ok o
-    → check_of need file ≡ Ok (or_right found o)
-check_ends file need found o is gives = is ∙ ap (λ (r : Result (Option Told) Fault). r >>= (λ o. Ok (or_right found o))) gives
+    → check_of need file ≡ Ok (or_right need found o)
+check_ends file need found o is gives = is ∙ ap (λ (r : Result (Option Told) Fault). r >>= (λ o. Ok (or_right need found o))) gives

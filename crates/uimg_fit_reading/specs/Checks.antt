@@ -102,24 +102,29 @@ unfoldable pub unhashed_in : List (NodeOf Spot) → Option (List ℕ)
 unhashed_in [] = None
 unhashed_in (image ∷ more) = name_or image.name (hashes image) (unhashed_in more)
 
--- What is found of images whose hash nodes are all right. Where a strength is needed, an image without a hash node was weak.
+-- the same where no strength is needed; where one is, such an image is weak
+abbrev pub unhashed_of : Option Algo → List (NodeOf Spot) → Option (List ℕ)
+unhashed_of None found = unhashed_in found
+unhashed_of (Some need) found = None
+
+-- what is found of images whose hash nodes are all right
 abbrev pub right_or : Option (List ℕ) → List (NodeOf Spot) → Told
 right_or (Some name) found = unhashed name
 right_or None found = right (length found) (hash_count found)
 
-abbrev pub all_right : List (NodeOf Spot) → Told
-all_right found = right_or (unhashed_in found) found
+abbrev pub all_right : Option Algo → List (NodeOf Spot) → Told
+all_right need found = right_or (unhashed_of need found) found
 
 -- what was found first, or else that all are right
-abbrev pub or_right : List (NodeOf Spot) → Option Told → Told
-or_right found (Some told) = told
-or_right found None = all_right found
+abbrev pub or_right : Option Algo → List (NodeOf Spot) → Option Told → Told
+or_right need found (Some told) = told
+or_right need found None = all_right need found
 
--- what is found of images, of which a whole file may be read
+-- what is found of images, of whose payloads as many bytes may be read as the file has
 abbrev pub images_told : Option Algo → List ℕ → List (NodeOf Spot) → Result Told Fault
 images_told need file found = do
   first ← first_told need file (length file) found
-  Ok (or_right found first)
+  Ok (or_right need found first)
 
 -- where a strength is needed, there has to be an image
 abbrev pub some_told : Option Algo → List ℕ → List (NodeOf Spot) → Result Told Fault

@@ -83,5 +83,5 @@ pub fn check<S: Source, A: Allocator>(
     if let Some(finding) = first_finding(source, &blob, room, first, need)? {
         return Ok(finding);
     }
-    Ok(all_right(&blob, room, first))
+    Ok(all_right(&blob, room, first, need))
 }

@@ -8,14 +8,14 @@ ghost use Rattle.uimg_blob.specs.Indexed.{IsIndexed};
 ghost use Rattle.uimg_blob.specs.LookUps.{NodeOf};
 ghost use Rattle.uimg_blob.specs.Roles.{in_images};
 ghost use Rattle.uimg_blob.specs.Spots.{Spot};
-ghost use Rattle.uimg_fit_reading.specs.Checks.{EndsInside, told_of, hash_count, unhashed_in, all_right};
+ghost use Rattle.uimg_fit_reading.specs.Checks.{EndsInside, told_of, hash_count, unhashed_in, unhashed_of, all_right};
 ghost use Rattle.uimg_fit_reading.specs.Nodes.{Indexed, InFile, IsRead, AreFrom, HashesAt};
 
 use crate::checking::Finding;
 use crate::counting::count_from;
 use crate::nodes::{first_hash, name_of, next_hash, next_of};
 use std::alloc::Allocator;
-use uimg_base::{Room, Span};
+use uimg_base::{Algo, Room, Span};
 use uimg_blob::Blob;
 
 // A count with the hash nodes from one on; there are no more of them than entries.
@@ -80,16 +80,42 @@ fn first_unhashed<A: Allocator>(blob: &Blob, room: &Room<A>, first: Option<usize
     None
 }
 
+// The same where no strength is needed.
+fn unhashed<A: Allocator>(
+    blob: &Blob,
+    room: &Room<A>,
+    first: Option<usize>,
+    need: Option<Algo>,
+) -> Option<Span>
+    requires within { IfSome first (λ i. i < length room.now.entries) }
+    requires indexed { Indexed blob.now room.now.entries }
+    ensures inside { (size : ℕ) → InFile size blob.now room.now.entries →
+        IfSome result (λ s. s.place + s.length ≤ size) }
+    ensures told { (file : List ℕ) (t : Siblings) → IsRead file blob.now room.now.entries t →
+        (found : List (NodeOf Spot)) → AreFrom t in_images first found →
+        option_map (λ s. slice file s.place s.length) result ≡ unhashed_of need found }
+{
+    match need {
+        Some(_) => None,
+        None => first_unhashed(blob, room, first),
+    }
+}
+
 // What is found of the images from one on, whose hash nodes are all right.
-pub(crate) fn all_right<A: Allocator>(blob: &Blob, room: &Room<A>, first: Option<usize>) -> Finding
+pub(crate) fn all_right<A: Allocator>(
+    blob: &Blob,
+    room: &Room<A>,
+    first: Option<usize>,
+    need: Option<Algo>,
+) -> Finding
     requires within { IfSome first (λ i. i < length room.now.entries) }
     requires indexed { Indexed blob.now room.now.entries }
     ensures inside { (size : ℕ) → InFile size blob.now room.now.entries → EndsInside size result }
     ensures told { (file : List ℕ) (t : Siblings) → IsRead file blob.now room.now.entries t →
         (found : List (NodeOf Spot)) → AreFrom t in_images first found →
-        told_of file result ≡ all_right found }
+        told_of file result ≡ all_right need found }
 {
-    match first_unhashed(blob, room, first) {
+    match unhashed(blob, room, first, need) {
         Some(image) => Finding::Unhashed(image),
         None => Finding::Right {
             images: count_from(blob, room, first),

@@ -25,6 +25,7 @@ use uimg_fit_base::{AlgoSet, Digests, is_right};
 pub(crate) enum Checked {
     // It is in order, and so many bytes may still be read.
     On(u64),
+    // This is found of it.
     Ended(Finding),
 }
 
