@@ -72,7 +72,7 @@ class Proof:
         shutil.rmtree(self.lane, ignore_errors=True)
         os.makedirs(self.lane)
         with open(f"{self.lane}/crates.txt", "w", encoding="utf-8") as file:
-            file.writelines(line for line in open("crates.txt", encoding="utf-8") if line.partition(":")[0] in stack)
+            file.writelines(line for line in open("crates.txt", encoding="utf-8") if {*line.partition(":")[0].split()[:1]} & {*stack})
         for it in stack:
             for part in PARTS:
                 if os.path.isdir(f"crates/{it}/{part}"):
@@ -113,9 +113,9 @@ class Proof:
     def end(self):
         """Keeps what was made. Returns whether the crate is proved."""
         self.reader.join()
-        for part in ("rlib", "incremental"):
+        for part in ("rlib", "incremental", f"lib{self.name}.a"):
             made, to = f"{self.lane}/crates/{self.name}/out/{part}", f"crates/{self.name}/out/{part}"
-            if os.path.isdir(made):
+            if os.path.exists(made):
                 shutil.rmtree(to, ignore_errors=True)
                 os.makedirs(os.path.dirname(to), exist_ok=True)
                 os.rename(made, to)
