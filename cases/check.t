@@ -148,10 +148,11 @@ A name does not end its line, and hides nothing in it:
 A file that cannot be read does not keep the others from being checked, and its status is the greatest:
 
   $ mkdir folder && mkfifo pipe && cp kernel.img "last one.img"
-  $ uimg check none.img data.img folder "last one.img" ''
+  $ uimg check none.img data.img folder pipe "last one.img" ''
   none.img: failed cannot read
   data.img: bad checksum
   folder: failed cannot read
+  pipe: failed cannot read
   last one.img: ok 2 checksums
   : failed cannot read
   [3]

@@ -4,6 +4,7 @@ use crate::main_program::{DONE, FAILED, REFUSED, RequestFault, status_of, tell};
 use crate::printed::Printed;
 use std::alloc::Global;
 use std::io::{BufRead, BufReader, BufWriter, ErrorKind, Write};
+use std::os::unix::fs::FileTypeExt;
 use std::rt::Files;
 use std::{fs, io};
 use uimg_base::{Algo, FileSource, Room, Source, Span};
@@ -149,6 +150,9 @@ impl<'a, W: Write> Checks<'a, W> {
         need: Option<Algo>,
         path: &str,
     ) -> io::Result<u8> {
+        if is_pipe(rt, path) {
+            return self.put_unread();
+        }
         let Ok(mut source) = FileSource::open(rt, path) else {
             return self.put_unread();
         };
@@ -162,6 +166,11 @@ impl<'a, W: Write> Checks<'a, W> {
         self.out.write_all(b"failed cannot read\n")?;
         Ok(FAILED)
     }
+}
+
+// Whether a path leads to a pipe, whose open would wait for somebody who writes to it.
+fn is_pipe<R: Files>(rt: &R, path: &str) -> bool {
+    fs::metadata(rt, path).is_ok_and(|found| found.file_type().is_fifo())
 }
 
 // Ends the line of an image that is refused, or that cannot be checked.
