@@ -82,7 +82,7 @@ Two nodes, or two properties, with one name:
   mkimage: warning: /images/a: two nodes have the name "hash"
   mkimage: warning: /images/a: two properties have the name "os"
   mkimage: warning: /images/a/hash: two properties have the name "algo"
-  $ warned "a { $image }; x = <1>; x = <2>;" "c { $configuration $configuration s { }; s { }; }; c { $configuration };"
+  $ warned "x = <1>; x = <2>; a { $image };" "c { $configuration $configuration s { }; s { }; }; c { $configuration };"
   mkimage: warning: /images: two properties have the name "x"
   mkimage: warning: /configurations: two nodes have the name "c"
   mkimage: warning: /configurations/c: two nodes have the name "s"
@@ -96,8 +96,7 @@ Two nodes, or two properties, with one name:
 What is no letter of ASCII stands by its number:
 
   $ warned "a { $image };" 'c { description = "c"; kernel = "\x1b[31m\"\\ö\x7f"; };'
-  mkimage: warning: /configurations/c: kernel names no image: "\\x1b[31m\\x22\\x5c\\xc3\\xb6\\x7f"
-  [1]
+  mkimage: warning: /configurations/c: kernel names no image: "\x1b[31m\x22\x5c\xc3\xb6\x7f"
 
 Twenty have a line, and the rest are counted:
 
