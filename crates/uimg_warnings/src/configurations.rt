@@ -22,14 +22,13 @@ pub(crate) fn tell_of_configurations<W: Write>(
     images: Option<&Node<Global>>,
     teller: &mut Teller<'_, W>,
 ) -> Result<(), AllocError> {
-    let above = configurations.name.items();
     let known = match images {
         Some(images) => names_below(alloc, images)?,
         None => BTreeSet::new(alloc),
     };
-    tell_of_node(alloc, above, configurations, teller)?;
+    tell_of_node(alloc, configurations, teller)?;
     for configuration in configurations.children.items() {
-        let names = [above, configuration.name.items()];
+        let names = [configurations.name.items(), configuration.name.items()];
         let path = NodePath(&names);
         tell_of_configuration(path, configuration, &known, teller);
         tell_equal_names(alloc, path, configuration, teller)?;
@@ -40,11 +39,10 @@ pub(crate) fn tell_of_configurations<W: Write>(
 // The node that the configurations are below.
 fn tell_of_node<W: Write>(
     alloc: Global,
-    name: &[u8],
     configurations: &Node<Global>,
     teller: &mut Teller<'_, W>,
 ) -> Result<(), AllocError> {
-    let names = [name];
+    let names = [configurations.name.items()];
     let path = NodePath(&names);
     tell_equal_names(alloc, path, configurations, teller)?;
     tell_default(alloc, path, configurations, teller)
