@@ -93,6 +93,39 @@ Addresses at their ends, an image without data, and an image of several parts:
      Image 0: 12 Bytes = 0.01 KiB = 0.00 MiB
      Image 1: 3 Bytes = 0.00 KiB = 0.00 MiB
 
+An image that is run in its place has its header where the file begins with 64 bytes 0xff:
+
+  $ room() { printf '%64s' '' | tr ' ' '\377'; }
+  $ { room; cat d; } > xip && { room; room; } > rooms && room > room
+  $ room | tail -c +2 > little && { cat little; printf '\376'; cat d; } > other
+  $ mkimage -x -A arm -a 1000 -d xip out
+  Image Name:   
+  Created:      Tue Nov 14 22:13:20 2023
+  Image Type:   ARM Linux Kernel Image (gzip compressed)
+  Data Size:    12 Bytes = 0.01 KiB = 0.00 MiB
+  Load Address: 00001000
+  Entry Point:  00001040
+  $ mkimage -q -A arm -a 1000 -e 1040 -d d wanted-xip && cmp out wanted-xip
+  $ mkimage -q --xip -A arm -a 1000 -e 5 -d rooms out && mkimage -q -A arm -a 1000 -e 5 -d room wanted-xip && cmp out wanted-xip
+  $ mkimage -q -x -A arm -a ffffffd0 -d room out && od -An -tx1 -j12 -N12 out
+   00 00 00 00 ff ff ff d0 00 00 00 10
+  $ cp out kept && mkimage -x -A arm -d little out
+  mkimage: -x: little does not begin with 64 bytes 0xff, in whose place the header is to stand
+  [1]
+  $ mkimage -x -A arm -d other out
+  mkimage: -x: other does not begin with 64 bytes 0xff, in whose place the header is to stand
+  [1]
+  $ mkimage -x -A arm -d /dev/null out
+  mkimage: -x: /dev/null does not begin with 64 bytes 0xff, in whose place the header is to stand
+  [1]
+  $ mkimage -x -A arm -d nothing out
+  mkimage: cannot read nothing: No such file or directory (os error 2)
+  [3]
+  $ cp xip own && mkimage -x -A arm -d own own
+  mkimage: own would be written while it is read
+  [2]
+  $ cmp own xip && cmp out kept && mkimage -q -x -s -A arm -a ffffffd0 -d d out && cmp out kept && rm out* kept own
+
 SOURCE_DATE_EPOCH is the number that its text begins with:
 
   $ time_of() { rm -f out; SOURCE_DATE_EPOCH=$1 mkimage -q -A arm -d d out && od -An -tx1 -j8 -N4 out; }
@@ -228,8 +261,8 @@ What is asked for in vain:
   $ mkimage -f auto out
   mkimage: -f auto: no data is named; see -d
   [2]
-  $ mkimage -x -d d out
-  mkimage: -x: uimg makes no image that is run in its place; see mkimage of u-boot-tools
+  $ mkimage -x -T multi -d d:d out
+  mkimage: -x: uimg makes no image of several parts that is run in its place; see mkimage of u-boot-tools
   [2]
   $ mkimage -E -B 1000 -f kernel.its out
   mkimage: -B: uimg places payloads at multiples of 4 alone; see mkimage of u-boot-tools

@@ -21,6 +21,8 @@ Usage: mkimage -l [-T type] image
   -s  --no-copy         make the image without data
   -f  --fit             the image source of a FIT image; auto is one of the file of
                         -d, with -A to -n, and of the files of -b and -i
+  -x  --xip             the header stands in place of the 64 bytes 0xff that the
+                        data begin with, and the entry point behind it
   -b  --device-tree     with -f auto: a device tree; there may be several
   -i  --initramfs       with -f auto: the RAM disk
   -E  --external        with -f: place the data after the tree
@@ -30,8 +32,8 @@ Usage: mkimage -l [-T type] image
   -V  --version         print the version
 
 Taken without effect: -v, -t, -c comment, -R name, -B 4, and -D with words that
-change nothing. Refused: -x, another -B, and what signs (-F -g -G -k -K -N -o
--r). The image is written under a name of its own, and gets its name when it is
+change nothing. Refused: another -B, and what signs (-F -g -G -k -K -N -o -r).
+The image is written under a name of its own, and gets its name when it is
 whole. See uimg-mkimage(1).
 ";
 

@@ -18,4 +18,5 @@ pub use dumpimage::read_dumpimage;
 pub use fault::OldFault;
 pub use mkimage::read_mkimage;
 pub use names::title_of;
+pub use quoted::{Escaped, Quoted};
 pub use request::{AutoRequest, OldRequest, Show};

@@ -8,7 +8,7 @@ use crate::mkimage_options::MKIMAGE_OPTIONS;
 use crate::names::{Named, check_made, format_of, name_of};
 use crate::request::{AutoRequest, OldRequest, Show};
 use std::alloc::Global;
-use uimg_base::FLAT_DT;
+use uimg_base::{FLAT_DT, MULTI, SCRIPT};
 use uimg_fit_base::Placement;
 use uimg_getopt::{Given, Words, long_prefix, low_half, unsigned_long};
 use uimg_legacy::{Options, name_field};
@@ -17,6 +17,9 @@ use uimg_requests::{Action, Command, MakeRequest, RunRequest};
 
 /// The word of -f for a source that mkimage makes itself.
 const AUTO: &str = "auto";
+
+/// How many bytes a header has.
+const HEADER_BYTES: u32 = 64;
 
 /// The path whose file has no data, of which an image is made where none is to be copied.
 const NO_DATA: &str = "/dev/null";
@@ -40,6 +43,7 @@ struct Settings<'a> {
     is_external: bool,
     is_list: bool,
     is_quiet: bool,
+    is_xip: bool,
     has_no_data: bool,
 }
 
@@ -68,6 +72,7 @@ pub fn read_mkimage<'a>(
         is_external: false,
         is_list: false,
         is_quiet: false,
+        is_xip: false,
         has_no_data: false,
     };
     let mut unread = Words::new(words);
@@ -103,12 +108,7 @@ impl<'a> Settings<'a> {
             'q' => self.is_quiet = true,
             's' => self.has_no_data = true,
             'F' | 'r' => return Err(OldFault::Signs(option)),
-            'x' => {
-                return Err(OldFault::NotDone {
-                    letter: 'x',
-                    what: "makes no image that is run in its place",
-                });
-            }
+            'x' => self.is_xip = true,
             _ => {}
         }
         Ok(None)
@@ -230,10 +230,29 @@ impl<'a> Settings<'a> {
             (Some(_), None) if self.kind == Some(FLAT_DT) => Err(OldFault::NoSource),
             (Some(data), None) => {
                 check_made(self.kind.unwrap_or(0), self.kind_name)?;
-                let data = if self.has_no_data { NO_DATA } else { data };
-                Ok(MakeRequest::of_parts(alloc, self.options(), data, time, image)?)
+                self.making_of_parts(alloc, data, time, image)
             }
         }
+    }
+
+    fn making_of_parts(
+        self,
+        alloc: Global,
+        data: &'a str,
+        time: u32,
+        image: &'a str,
+    ) -> Result<MakeRequest<'a>, OldFault<'a>> {
+        let options = self.options();
+        if self.is_xip && has_parts(options.kind) {
+            return Err(OldFault::NotDone {
+                letter: 'x',
+                what: "makes no image of several parts that is run in its place",
+            });
+        }
+        let data = if self.has_no_data { NO_DATA } else { data };
+        let mut request = MakeRequest::of_parts(alloc, options, data, time, image)?;
+        request.is_xip = self.is_xip && !self.has_no_data;
+        Ok(request)
     }
 
     fn auto_source(&self, words: &'a [&'a str]) -> Result<AutoSource<'a>, OldFault<'a>> {
@@ -257,6 +276,15 @@ impl<'a> Settings<'a> {
         }
     }
 
+    // The entry point where none is given: behind the header of what is run in its place.
+    fn default_entry(&self) -> u32 {
+        if self.is_xip {
+            self.load.wrapping_add(HEADER_BYTES)
+        } else {
+            self.load
+        }
+    }
+
     // The fields of the header. The type `invalid` is as none.
     fn options(&self) -> Options {
         let kind = match self.kind {
@@ -266,7 +294,7 @@ impl<'a> Settings<'a> {
         Options {
             time: 0,
             load: self.load,
-            ep: self.entry.unwrap_or(self.load),
+            ep: self.entry.unwrap_or(self.default_entry()),
             os: self.os,
             arch: self.arch,
             kind,
@@ -274,6 +302,11 @@ impl<'a> Settings<'a> {
             name: name_field(self.name.as_bytes()),
         }
     }
+}
+
+// Whether images of a type have parts, with a table of their sizes.
+fn has_parts(kind: u8) -> bool {
+    kind == MULTI || kind == SCRIPT
 }
 
 // The low 32 bits of a hexadecimal number.

@@ -3,18 +3,27 @@
 use std::fmt;
 use std::fmt::{Display, Formatter, Write};
 
-/// A text between quotes, as image-tree source has it: what is no printable letter of ASCII, a quote
-/// or a backslash stands as `\xNN`, byte by byte.
+/// A text on one line: what is no printable letter of ASCII, a quote or a backslash stands as `\xNN`,
+/// byte by byte.
 #[derive(Clone, Copy, Debug)]
-pub(crate) struct Quoted<'a>(pub(crate) &'a [u8]);
+pub struct Escaped<'a>(pub &'a [u8]);
 
-impl<'a> Display for Quoted<'a> {
+impl<'a> Display for Escaped<'a> {
     fn fmt<W: Write>(&self, f: &mut Formatter<W>) -> fmt::Result {
-        f.write_str("\"")?;
         for byte in self.0 {
             put_byte(*byte, f)?;
         }
-        f.write_str("\"")
+        Ok(())
+    }
+}
+
+/// The same between quotes, as image-tree source has it.
+#[derive(Clone, Copy, Debug)]
+pub struct Quoted<'a>(pub &'a [u8]);
+
+impl<'a> Display for Quoted<'a> {
+    fn fmt<W: Write>(&self, f: &mut Formatter<W>) -> fmt::Result {
+        write!(f, "\"{}\"", Escaped(self.0))
     }
 }
 

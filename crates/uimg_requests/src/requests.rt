@@ -1,6 +1,6 @@
 //! What a command line asks for, with the paths that it names.
 
-ghost use Rattle.std.specs.Prelude.{◌≡◌, ◌++◌, [], IfOk};
+ghost use Rattle.std.specs.Prelude.{◌≡◌, ◌++◌, [], false, IfOk};
 ghost use Rattle.uimg_requests.specs.Names.{names_of};
 ghost use Rattle.uimg_requests.specs.Requests.{AsksParts, AsksSource};
 ghost use Rattle.uimg_requests.specs.Commands.{HasFitNames, has_fit_names_prop};
@@ -53,6 +53,9 @@ pub struct MakeRequest<'a> {
     /// The path that is written: that of the image, or one that gets its name at the end.
     pub written: &'a str,
 
+    /// Whether the header stands in place of the first 64 bytes of the file, which are 0xff.
+    pub is_xip: bool,
+
     ghost fits: { HasFitNames command } by { has_fit_names_prop command },
 }
 
@@ -71,6 +74,7 @@ impl<'a> MakeRequest<'a> {
             (names_of options.kind word.now)) }
         ensures time { IfOk result (λ request. request.time ≡ time) }
         ensures naming { IfOk result (λ request. request.naming ≡ Naming.Profile) }
+        ensures whole { IfOk result (λ request. request.is_xip ≡ false) }
         ensures outfile { IfOk result (λ request. request.outfile.now ≡ outfile.entry.now) }
         ensures written { IfOk result (λ request. request.written.now ≡ outfile.entry.now) }
     {
@@ -83,6 +87,7 @@ impl<'a> MakeRequest<'a> {
             folder: "",
             outfile,
             written: outfile,
+            is_xip: false,
         })
     }
 
@@ -99,6 +104,7 @@ impl<'a> MakeRequest<'a> {
             path.entry.now placement) }
         ensures time { IfOk result (λ request. request.time ≡ time) }
         ensures naming { IfOk result (λ request. request.naming ≡ Naming.Profile) }
+        ensures whole { IfOk result (λ request. request.is_xip ≡ false) }
         ensures outfile { IfOk result (λ request. request.outfile.now ≡ outfile.entry.now) }
         ensures written { IfOk result (λ request. request.written.now ≡ outfile.entry.now) }
     {
@@ -119,6 +125,7 @@ impl<'a> MakeRequest<'a> {
         ensures folder { IfOk result (λ request. request.folder.now ≡ []) }
         ensures time { IfOk result (λ request. request.time ≡ time) }
         ensures naming { IfOk result (λ request. request.naming ≡ Naming.Profile) }
+        ensures whole { IfOk result (λ request. request.is_xip ≡ false) }
         ensures outfile { IfOk result (λ request. request.outfile.now ≡ outfile.entry.now) }
         ensures written { IfOk result (λ request. request.written.now ≡ outfile.entry.now) }
     {
@@ -140,6 +147,7 @@ impl<'a> MakeRequest<'a> {
         ensures folder { IfOk result (λ request. request.folder.now ≡ folder.entry.now) }
         ensures time { IfOk result (λ request. request.time ≡ time) }
         ensures naming { IfOk result (λ request. request.naming ≡ Naming.Profile) }
+        ensures whole { IfOk result (λ request. request.is_xip ≡ false) }
         ensures outfile { IfOk result (λ request. request.outfile.now ≡ outfile.entry.now) }
         ensures written { IfOk result (λ request. request.written.now ≡ outfile.entry.now) }
     {
@@ -152,6 +160,7 @@ impl<'a> MakeRequest<'a> {
             folder,
             outfile,
             written: outfile,
+            is_xip: false,
         })
     }
 }

@@ -2,12 +2,16 @@
 #![tactic(auto)]
 
 mod auto_program;
+mod body_source;
 mod check_program;
 mod main_program;
+mod making;
 mod old_program;
 mod old_tools;
 mod printed;
 mod safe_path;
+mod source_warnings;
+mod xip_files;
 
 pub use main_program::program;
 pub use uimg_engine::{Action, Command, DiskFiles, Fault, Format, MakeCommand, make, run};

@@ -1,6 +1,7 @@
 //! The function `program`, the whole program: it opens the files that a command line names, has its
 //! request carried out, and turns the end into a line and an exit status.
 use crate::check_program::check_images;
+use crate::making::make_image;
 use crate::old_program::program_by_old_name;
 use crate::old_tools::Tool;
 use std::fmt::Display;
@@ -8,12 +9,12 @@ use std::fs;
 use std::io::{BufWriter, Write};
 use std::rt::Files;
 use thiserror::Error;
-use uimg_base::{FileShelf, FileSource, Out, Room, Status};
+use uimg_base::{FileSource, Out, Room, Status};
 use uimg_blob::BlobFault;
-use uimg_engine::{DiskFiles, Fault, is_same_file, make, run};
+use uimg_engine::{Fault, is_same_file, run};
 use uimg_fit_base::FitFault;
 use uimg_its::Kind;
-use uimg_requests::{MakeCommand, MakeRequest, RunRequest};
+use uimg_requests::RunRequest;
 use uimg_words::{Asked, Request, WordsFault, read_words};
 
 /// All is done.
@@ -39,6 +40,9 @@ pub(crate) enum RequestFault<'a> {
 
     #[error("{0} would be written while it is read")]
     WritesWhatIsRead(&'a str),
+
+    #[error("-x: {0} does not begin with 64 bytes 0xff, in whose place the header is to stand")]
+    NoRoom(&'a str),
 
     #[error("out of memory")]
     OutOfMemory,
@@ -108,6 +112,7 @@ pub(crate) fn tell<V: Write, D: Display>(err: &mut V, fault: &D, status: u8) -> 
 pub(crate) fn status_of(fault: &RequestFault<'_>) -> u8 {
     match fault {
         RequestFault::WritesWhatIsRead(_) => WRONG_LINE,
+        RequestFault::NoRoom(_) => REFUSED,
         RequestFault::Stopped(Fault::Legacy(_)) => REFUSED,
         RequestFault::Stopped(Fault::Blob(fault, _)) if *fault != BlobFault::OutOfMemory => REFUSED,
         RequestFault::Stopped(Fault::Fit(fault)) => status_of_fit(*fault),
@@ -200,50 +205,4 @@ fn run_command<'a, R: Files + AllocGlobal, W: Write>(
         }
     };
     Ok(status)
-}
-
-// Makes the image of a request.
-fn make_image<'a, R: Files + AllocGlobal, W: Write>(
-    rt: &'a R,
-    request: &'a MakeRequest<'a>,
-    out: &mut W,
-) -> Result<Status, RequestFault<'a>> {
-    let mut files = DiskFiles::without(rt, request.folder, request.outfile);
-    let made = make(
-        rt.alloc(),
-        &request.command,
-        request.time,
-        request.naming,
-        &mut files,
-        FileShelf::new(rt, request.written),
-        &mut Room::new(rt.alloc()),
-        &mut Out::new(&mut *out),
-    );
-    match made {
-        Ok(_) => Ok(Status::Done),
-        Err(_) if files.has_met_left_out() => {
-            Err(RequestFault::WritesWhatIsRead(request.outfile))
-        }
-        Err(fault) => Err(stopped_making(request, fault)),
-    }
-}
-
-// Why a making stopped, with the path that the command line gave.
-fn stopped_making<'a>(request: &'a MakeRequest<'_>, fault: Fault) -> RequestFault<'a> {
-    match fault {
-        Fault::NoFile(number) => RequestFault::CannotRead(file_path(request, number)),
-        Fault::Keep => RequestFault::CannotRead(request.outfile),
-        _ => RequestFault::Stopped(fault),
-    }
-}
-
-// The path of a file of a command line, as the line gave it.
-fn file_path<'a>(request: &'a MakeRequest<'_>, number: u64) -> &'a str {
-    match &request.command {
-        MakeCommand::Parts { options: _, files } => match files.get(number as usize) {
-            Some(name) => str::from_utf8(name).unwrap_or(""),
-            None => "",
-        },
-        MakeCommand::Tree { .. } => request.source,
-    }
 }

@@ -6,6 +6,7 @@ use crate::main_program::{
 };
 use crate::old_tools::Tool;
 use crate::safe_path::{SafePath, Writing, writing_of};
+use crate::source_warnings::warn_of_source;
 use std::fmt::Display;
 use std::io::Write;
 use std::rt::Files;
@@ -40,6 +41,7 @@ pub(crate) fn program_by_old_name<R: Files + AllocGlobal, W: Write, V: Write>(
             run_command(rt, tool, request, is_quiet, out, err)
         }
         Ok(OldRequest::Make { request, is_quiet }) => {
+            warn_of_source(rt, &request, err);
             make_image(rt, tool, request, is_quiet, out, err)
         }
         Ok(OldRequest::MakeAuto(request)) => make_auto(rt, tool, &request, out, err),

@@ -1,0 +1,86 @@
+//! A source behind the room for a header.
+
+ghost use Rattle.std.specs.Prelude.{◌+◌, ◌^◌, ◌<◌, ◌≤◌, false, length, IfOk, IfSome};
+ghost use Rattle.std.proofs.Common.{rules};
+ghost use Rattle.uimg_base.specs.Device.{IsFresh};
+ghost use Rattle.uimg_base.specs.Zeros.{zeros, zeros_short};
+
+use uimg_base::{Source, SourceFault};
+
+/// How many bytes a header has.
+const HEADER_BYTES: usize = 64;
+
+/// A source without its first 64 bytes.
+///
+/// It keeps the length that was found when it was made, and is not claimed to be honest: contracts see
+/// zeros in place of its bytes.
+#[derive(Drop)]
+pub(crate) struct BodySource<S: Source> {
+    source: S,
+    count: u64,
+    asked: u128,
+    failures: u64,
+    ghost short: { count < 2 ^ 64 },
+    ghost fits: { count + 64 ≤ length (S.device source).bytes },
+}
+
+impl<S: Source> BodySource<S> {
+    /// A source without its first 64 bytes, of which nothing was asked yet; `None` where these are not
+    /// there, or not all 0xff.
+    ///
+    /// `SourceFault` comes where a read failed.
+    pub(crate) fn of(mut source: S) -> Result<Option<BodySource<S>>, SourceFault>
+        ensures { IfOk result (λ found. IfSome found (λ body.
+            IsFresh (⟦<BodySource<S> as Source>⟧.device body))) }
+    {
+        let size = source.size()?;
+        if size < HEADER_BYTES as u64 {
+            return Ok(None);
+        }
+        let mut room = [0; HEADER_BYTES];
+        source.fill_at(0, &mut room)?;
+        if room.iter().any(|byte| *byte != 0xff) {
+            return Ok(None);
+        }
+        Ok(Some(BodySource {
+            source,
+            count: size - HEADER_BYTES as u64,
+            asked: 0,
+            failures: 0,
+        }))
+    }
+}
+
+impl<S: Source> Source for BodySource<S> {
+    ghost device = { λ s. record {
+      bytes = zeros s.count;
+      honest = false;
+      asked = s.asked;
+      failures = s.failures;
+    } };
+
+    ghost never_failed = { λ s always. Prim.search rules };
+
+    ghost short = { λ s. zeros_short s.count s.short };
+
+    fn size(&mut self) -> Result<u64, SourceFault> {
+        Ok(self.count)
+    }
+
+    fn fill_at(&mut self, at: u64, to: &mut [u8]) -> Result<(), SourceFault> {
+        self.asked = self.asked.saturating_add(to.len() as u128);
+        if self.source.fill_at(at + HEADER_BYTES as u64, to).is_ok() {
+            return Ok(());
+        }
+        self.failures = self.failures.saturating_add(1);
+        Err(SourceFault)
+    }
+
+    fn asked(&self) -> u128 {
+        self.asked
+    }
+
+    fn failures(&self) -> u64 {
+        self.failures
+    }
+}

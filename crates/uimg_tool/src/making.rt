@@ -1,0 +1,95 @@
+//! The making of an image on a disk.
+
+use crate::main_program::RequestFault;
+use crate::xip_files::XipFiles;
+use std::io::Write;
+use std::rt;
+use uimg_base::{FileShelf, Files, Out, Room, Status};
+use uimg_engine::{DiskFiles, Fault, make};
+use uimg_requests::{MakeCommand, MakeRequest};
+
+/// Makes the image of a request.
+pub(crate) fn make_image<'a, R: rt::Files + AllocGlobal, W: Write>(
+    rt: &'a R,
+    request: &'a MakeRequest<'a>,
+    out: &mut W,
+) -> Result<Status, RequestFault<'a>> {
+    let mut files = DiskFiles::without(rt, request.folder, request.outfile);
+    if request.is_xip {
+        return make_xip(rt, request, files, out);
+    }
+    let made = make_over(rt, request, &mut files, out);
+    end_of(request, made, files.has_met_left_out())
+}
+
+// Makes an image whose header stands in place of what its file begins with.
+fn make_xip<'a, R: rt::Files + AllocGlobal, W: Write>(
+    rt: &'a R,
+    request: &'a MakeRequest<'a>,
+    files: DiskFiles<'a, R>,
+    out: &mut W,
+) -> Result<Status, RequestFault<'a>> {
+    let mut files = XipFiles::new(files);
+    match make_over(rt, request, &mut files, out) {
+        Err(Fault::NoFile(number)) if files.has_met_no_room() => {
+            Err(RequestFault::NoRoom(file_path(request, number)))
+        }
+        made => end_of(request, made, files.has_met_left_out()),
+    }
+}
+
+// Makes an image over files.
+fn make_over<R: rt::Files + AllocGlobal, F: Files, W: Write>(
+    rt: &R,
+    request: &MakeRequest<'_>,
+    files: &mut F,
+    out: &mut W,
+) -> Result<(), Fault> {
+    let made = make(
+        rt.alloc(),
+        &request.command,
+        request.time,
+        request.naming,
+        files,
+        FileShelf::new(rt, request.written),
+        &mut Room::new(rt.alloc()),
+        &mut Out::new(&mut *out),
+    );
+    match made {
+        Ok(_) => Ok(()),
+        Err(fault) => Err(fault),
+    }
+}
+
+// How a making ended, with the path that the command line gave.
+fn end_of<'a>(
+    request: &'a MakeRequest<'a>,
+    made: Result<(), Fault>,
+    has_met_outfile: bool,
+) -> Result<Status, RequestFault<'a>> {
+    match made {
+        Ok(()) => Ok(Status::Done),
+        Err(_) if has_met_outfile => Err(RequestFault::WritesWhatIsRead(request.outfile)),
+        Err(fault) => Err(stopped_making(request, fault)),
+    }
+}
+
+// Why a making stopped, with the path that the command line gave.
+fn stopped_making<'a>(request: &'a MakeRequest<'_>, fault: Fault) -> RequestFault<'a> {
+    match fault {
+        Fault::NoFile(number) => RequestFault::CannotRead(file_path(request, number)),
+        Fault::Keep => RequestFault::CannotRead(request.outfile),
+        _ => RequestFault::Stopped(fault),
+    }
+}
+
+// The path of a file of a command line, as the line gave it.
+fn file_path<'a>(request: &'a MakeRequest<'_>, number: u64) -> &'a str {
+    match &request.command {
+        MakeCommand::Parts { options: _, files } => match files.get(number as usize) {
+            Some(name) => str::from_utf8(name).unwrap_or(""),
+            None => "",
+        },
+        MakeCommand::Tree { .. } => request.source,
+    }
+}

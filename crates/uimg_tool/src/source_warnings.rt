@@ -1,0 +1,48 @@
+//! What is warned of before an image is made of a source.
+
+use std::alloc::Global;
+use std::io::Write;
+use std::rt::Files;
+use uimg_base::{Files as _, Out, Source, WINDOW, copy_through};
+use uimg_engine::DiskFiles;
+use uimg_its::compile;
+use uimg_requests::{MakeCommand, MakeRequest};
+use uimg_tree::Tree;
+use uimg_warnings::warn;
+
+/// Tells what is wrong with the source of a making. Of one that cannot be read or compiled the making
+/// tells the fault, and of an image of parts there is nothing to tell.
+pub(crate) fn warn_of_source<R: Files + AllocGlobal, V: Write>(
+    rt: &R,
+    request: &MakeRequest<'_>,
+    err: &mut V,
+) {
+    if let MakeCommand::Tree { source, .. } = &request.command
+        && let Some(tree) = tree_of(rt, request, source)
+    {
+        warn(rt.alloc(), &tree, err);
+    }
+}
+
+// The tree of the source of a name. It is compiled over the files that the making opens.
+fn tree_of<R: Files + AllocGlobal>(
+    rt: &R,
+    request: &MakeRequest<'_>,
+    name: &[u8],
+) -> Option<Tree<Global>> {
+    let mut files = DiskFiles::without(rt, request.folder, request.outfile);
+    let mut source = files.open(name).ok()?;
+    let text = text_of(rt.alloc(), &mut source)?;
+    compile(rt.alloc(), &text, &mut files).ok()
+}
+
+// All the bytes of a source.
+fn text_of<S: Source>(alloc: Global, source: &mut S) -> Option<Vec<u8>> {
+    let size = source.size().ok()?;
+    let mut window = [0; WINDOW];
+    let mut text = Out::new(Vec::new(alloc));
+    match copy_through(source, &mut window, 0, size, &mut text) {
+        Ok(()) => Some(text.into_inner()),
+        Err(_) => None,
+    }
+}

@@ -1,0 +1,81 @@
+//! The files of images that are run in their place.
+
+ghost use Rattle.std.specs.Prelude.{None, false, IfOk};
+ghost use Rattle.uimg_base.specs.Device.{IsFresh};
+
+use crate::body_source::BodySource;
+use std::rt;
+use uimg_base::{FileSource, Files, Source, SourceFault};
+use uimg_engine::DiskFiles;
+
+/// The files of a folder, each without the room for a header that it begins with.
+///
+/// No contract says what a file has, so the files are not claimed to be honest.
+#[derive(Drop)]
+pub(crate) struct XipFiles<'a, R: rt::Files + AllocGlobal> {
+    files: DiskFiles<'a, R>,
+    has_met_no_room: bool,
+    refusals: u64,
+}
+
+impl<'a, R: rt::Files + AllocGlobal> XipFiles<'a, R> {
+    /// These files, of which none was opened yet.
+    pub(crate) fn new(files: DiskFiles<'a, R>) -> XipFiles<'a, R> {
+        XipFiles {
+            files,
+            has_met_no_room: false,
+            refusals: 0,
+        }
+    }
+
+    /// Whether the open of a file was refused that has no room for a header.
+    pub(crate) fn has_met_no_room(&self) -> bool {
+        self.has_met_no_room
+    }
+
+    /// Whether the open of the file that is left out was asked for, and refused.
+    pub(crate) fn has_met_left_out(&self) -> bool {
+        self.files.has_met_left_out()
+    }
+}
+
+impl<'a, R: rt::Files + AllocGlobal> Files for XipFiles<'a, R> {
+    type Opened = BodySource<FileSource<R::File>>;
+
+    ghost map = { λ s. record {
+      bytes = λ _. None;
+      honest = false;
+      complete = false;
+      refusals = s.refusals;
+    } };
+
+    /// Opens the file of this name, behind the room that it begins with.
+    ///
+    /// `SourceFault` comes where there is no such room, where it cannot be read, and as from
+    /// `DiskFiles::open`.
+    fn open(&mut self, name: &[u8]) -> Result<BodySource<FileSource<R::File>>, SourceFault> {
+        let opened = open_body(&mut self.files, name, &mut self.has_met_no_room);
+        if opened.is_err() {
+            self.refusals = self.refusals.saturating_add(1);
+        }
+        opened
+    }
+}
+
+// Opens a file behind the room that it begins with.
+fn open_body<F: Files>(
+    files: &mut F,
+    name: &[u8],
+    has_met_no_room: &mut bool,
+) -> Result<BodySource<F::Opened>, SourceFault>
+    ensures { IfOk result (λ source. IsFresh (⟦<BodySource<F::Opened> as Source>⟧.device source)) }
+{
+    let source = files.open(name)?;
+    match BodySource::of(source)? {
+        Some(body) => Ok(body),
+        None => {
+            *has_met_no_room = true;
+            Err(SourceFault)
+        }
+    }
+}
