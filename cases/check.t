@@ -142,6 +142,8 @@ A name does not end its line, and hides nothing in it:
   $ uimg check bytes.itb
   bytes.itb: bad k\xe4\xff\xfen\x09 hash-2
   [1]
+  $ cp kernel.img "$(printf 'a\342\200\250b\342\200\256c')" && uimg check "$(printf 'a\342\200\250b\342\200\256c')"
+  a\xe2\x80\xa8b\xe2\x80\xaec: ok 2 checksums
   $ cp kernel.img "$(printf 'a: ok\nb')" && uimg check "$(printf 'a: ok\nb')"
   a: ok\x0ab: ok 2 checksums
 
@@ -190,7 +192,7 @@ Lines that cannot be written, and that nobody reads:
   $ (uimg check --files-from many; echo "status $?" > status) | head -n 1
   data.img: bad checksum
   $ cat status
-  status 1
+  status 3
 
 Wrong lines:
 

@@ -56,7 +56,7 @@ typedef struct uimg_payload {
     uint64_t place;  /* where in the image a fault of the letter B is, else 0 */
     size_t start;    /* 0 where none was found, as size */
     size_t size;
-    uint64_t peak;   /* as of a report */
+    uint64_t peak;   /* the same as of a report, where memory was refused too */
 } uimg_payload;
 
 /* How many parts a legacy image, or how many images a FIT image has. */
@@ -65,7 +65,7 @@ typedef struct uimg_count {
     uint32_t fault;  /* why not, or 0 */
     uint64_t place;  /* where in the image a fault of the letter B is, else 0 */
     size_t count;    /* 0 where they were not */
-    uint64_t peak;   /* as of a report */
+    uint64_t peak;   /* the same as of a report, where memory was refused too */
 } uimg_count;
 
 /* The listing of an image, as of `uimg dumpimage -l`. The answer is report->status. The front of text is written,

@@ -79,6 +79,7 @@ static void tell_payload(const uint8_t *image, size_t size, uint32_t position)
     status = uimg_payload_at(image, size, position, &payload);
     printf("%u: %u %u %u %llu %zu %zu\n", position, status, payload.status, payload.fault,
            (unsigned long long)payload.place, payload.start, payload.size);
+    look_at_peak(status, payload.peak, size);
     if (payload.start > size || payload.size > size - payload.start)
         exit(4);
 }
@@ -92,6 +93,7 @@ static void tell_named(const uint8_t *image, size_t size, const char *name)
     status = uimg_payload_named(image, size, (const uint8_t *)name, strlen(name), &payload);
     printf("%s: %u %u %u %llu %zu %zu\n", name, status, payload.status, payload.fault,
            (unsigned long long)payload.place, payload.start, payload.size);
+    look_at_peak(status, payload.peak, size);
     if (payload.start > size || payload.size > size - payload.start)
         exit(4);
 }
@@ -107,6 +109,7 @@ static void tell_names(const uint8_t *image, size_t size)
     look_at_peak(count.status, count.peak, size);
     prepare();
     uimg_payload_name(image, size, 0, &name);
+    look_at_peak(name.status, name.peak, size);
     printf("name: %u %u %llu %.*s\n", name.status, name.fault, (unsigned long long)name.place, (int)name.size,
            (const char *)image + name.start);
 }

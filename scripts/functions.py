@@ -75,7 +75,13 @@ def functions_of(folder):
     return found
 
 
-def function_at(functions, place):
-    """Returns the function in whose body a place stands, or None."""
+def function_at(functions, text, place):
+    """Returns the function in whose body a place of a file's text stands, or None."""
     before = [it for it in functions if it.begin <= place]
-    return before[-1] if place >= 0 and before and before[-1].name else None
+    if place < 0 or not before or not before[-1].name:
+        return None
+    found = before[-1]
+    ends = [it.begin for it in functions if it.begin > found.begin]
+    inside = text[found.begin : min(ends, default=len(text))]
+    alone = re.search(r"^ *\{$", inside, re.M) or re.search(r"\{$", inside, re.M)
+    return found if alone and found.begin + alone.end() <= place else None

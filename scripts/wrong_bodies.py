@@ -9,10 +9,10 @@ contract is taken as it is, by a hole in place of its proof (`--allow-holes`). A
 function is refused: where an answer of its own does not hold, or a goal of its own is found by no search. One that is
 not proved only since it calls one that is refused is tried again in a later round. Where a check refuses a function in
 which no wrong body stands, or a lemma, it counts for nothing, and each half is tried by itself, down to one alone. One
-that stands in no function, as in a row of a table, is tried over all functions of its file, and where these are proved
-over the whole crate.
+that stands in no body, as in a row of a table, may change what other functions are proved by: it is tried alone, over
+all functions of its file, and where these are proved over the whole crate.
 
-With --right the wrong bodies stay out, in one check: none of their functions may be refused then, which shows that a
+With --right the wrong bodies stay out, in one check: each of their functions has to be proved then, which shows that a
 refusal comes from the wrong body and not from how it is tried.
 
 A line for each wrong body, `refused` or `NOT REFUSED`, or for each right one, and last 'N passed, M failed'."""
@@ -39,12 +39,16 @@ module _ {{M : Type 1}} where
   pub {name}_spec : statement M
   {name}_spec = ?
 """
-# What a check says of a function.
+# What a check says of a function: that it is proved, but for what holes stand for; that no search proves a goal of its
+# own, or that a measure or an invariant lacks; or that its contract cannot be read.
 SAID = re.compile(r"fn (\S+): (.*)")
-# Why it is refused for its own sake: no search proves a goal of its own.
-UNFOUND = re.compile(r"no proof: expected answers in (?:\./)?proofs/(\S+)/\w+\.antt")
+PROVED = re.compile(r"proved|no holes|depends on a hole in .*")
+UNFOUND = re.compile(r"no proof: expected .* in (?:\./)?proofs/\S+\.antt.*")
+UNSTATED = re.compile(r"no proof: antt did not admit its contract.*")
 # An error in a proof: in the answers of a function, or in lemmas that several may cite.
 ERROR = re.compile(r"(?:\./)?proofs/(\S+?)(?:/(?:Answers|Invariants|Proof))?\.antt:\d+:\d+: error")
+# An error by a name alone: a proof names what the wrong body took away, so that it says little of the contract.
+NAMED = re.compile(r".*: error: .*(has no `|has no field|is not in scope|was not admitted|were not admitted)")
 # What the prover says of a text that it cannot read.
 UNREAD = re.compile(r"(?:\./)?(?:src|specs)/\S+:\d+:\d+: error")
 ENDED = re.compile(r"only=\d+ (holes|proved)=\d+|holes=\d+|logic=(not-)?proved\b.*")
@@ -67,7 +71,7 @@ class Edit:
                     old = None
         with open(f"{folder}/{self.file}", encoding="utf-8") as file:
             text = file.read()
-        found = [functions.function_at(known[self.file], text.find(old)) for old, _ in self.pairs]
+        found = [functions.function_at(known[self.file], text, text.find(old)) for old, _ in self.pairs]
         # The functions of a cycle of calls have one proof.
         self.is_wide = any(it is None or it.path is None or it.is_in_cycle for it in found)
         self.places = {it.path for it in (known[self.file] if self.is_wide else found) if it.path}
@@ -164,39 +168,47 @@ class Trials:
         )
         shutil.rmtree(crate)
         lines = ran.stdout.rstrip("\n").split("\n")
-        if ran.returncode not in (0, 1) or not ENDED.fullmatch(lines[-1]) or any(UNREAD.match(it) for it in lines):
-            return None
-        return lines
+        said = [found[2] for it in lines for found in [SAID.fullmatch(it)] if found]
+        is_read = not any(UNREAD.match(it) for it in lines) and not any(UNSTATED.match(it) for it in said)
+        return lines if ran.returncode in (0, 1) and ENDED.fullmatch(lines[-1]) and is_read else None
 
     def refusals(self, edits, proved):
         """Checks the crate with these wrong bodies. Returns what it says of each function that is refused for its own
         sake, by its path, with the lemmas that are refused, or None where there is no verdict."""
         texts = {}
         for edit in edits:
-            with open(f"{self.folder}/{edit.file}", encoding="utf-8") as file:
-                texts[edit.file] = edit.apply(texts.get(edit.file) or file.read())
+            texts[edit.file] = edit.apply(texts.get(edit.file) or self.text_of(edit))
         lines = self.check(texts, proved)
         return None if lines is None else refused_in(lines, self.name)
 
-    def is_whole(self, edit):
-        """Returns whether each text of a wrong body stands in its file just once."""
+    def text_of(self, edit):
+        """Returns the right text of the file that a wrong body stands in."""
         with open(f"{self.folder}/{edit.file}", encoding="utf-8") as file:
-            return edit.apply(file.read()) is not None
+            return file.read()
 
 
 def refused_in(lines, name):
     """Returns what the lines of a check say of each function that is refused for its own sake, and not only since it
     calls one that is, by its path; a lemma that is refused stands for itself."""
     errors = {found[1].replace("/", "::"): it for it in lines for found in [ERROR.match(it)] if found}
+    own_errors = [it for it in lines if ERROR.match(it)]
     refused, told = {}, set()
     for path, why in (found.groups() for it in lines for found in [SAID.fullmatch(it)] if found):
         path = path.removeprefix(f"{name}::")
         own = f"Rattle.{name}.proofs.{path.replace('::', '.')}."
         if UNFOUND.match(why) or why.startswith("not proved") and (path in errors or f"`{own}" in why):
-            refused[function_of(path, name)] = f"fn {name}::{path}: {why}"
+            its = [it for it in own_errors if ERROR.match(it)[1].replace("/", "::") == path]
+            by_name = " (only by a name that a proof has, which says little)" if its and all(NAMED.match(it) for it in its) else ""
+            refused[function_of(path, name)] = f"fn {name}::{path}{by_name}: {why}"
         told.add(path)
     refused.update({path: it for path, it in errors.items() if path not in told})
     return refused
+
+
+def proved_in(lines, name):
+    """Returns the functions that the lines of a check say are proved, by their paths."""
+    said = [found.groups() for it in lines or [] for found in [SAID.fullmatch(it)] if found]
+    return {path.removeprefix(f"{name}::") for path, why in said if PROVED.fullmatch(why)}
 
 
 def function_of(path, name):
@@ -205,13 +217,17 @@ def function_of(path, name):
     return found[1].replace("++", "::") if found else path.replace("fn::", "").partition("+")[0]
 
 
-def next_group(left):
-    """Returns the wrong bodies of a round, of which no two stand in one function."""
-    group, taken = [], set()
+def next_group(left, trials):
+    """Returns the wrong bodies of a round, of which no two stand in one function; one that stands in no body is alone."""
+    if left[0].is_wide:
+        return left[:1]
+    group, taken, texts = [], set(), {}
     for edit in left:
-        if not edit.places & taken:
+        text = edit.apply(texts.get(edit.file) or trials.text_of(edit))
+        if not edit.is_wide and not edit.places & taken and text is not None:
             group.append(edit)
             taken |= edit.places
+            texts[edit.file] = text
     return group
 
 
@@ -222,9 +238,10 @@ def try_alone(trials, edit):
         refused = trials.refusals([edit], set())
     if refused is None:
         return False, "NOT REFUSED: the check did not reach the prover"
-    if not refused:
-        return False, "NOT REFUSED: it is still proved"
-    return True, next(iter(refused.values()))
+    own = [why for place, why in refused.items() if edit.is_wide or place in edit.places]
+    if not own:
+        return False, "NOT REFUSED: it is still proved, or only what it stands beside is refused"
+    return True, own[0]
 
 
 def try_group(trials, group):
@@ -248,12 +265,12 @@ def try_group(trials, group):
 
 def try_all(trials, edits):
     """Yields each wrong body with whether it is refused, and why."""
-    left = [edit for edit in edits if trials.is_whole(edit)]
+    left = [edit for edit in edits if edit.apply(trials.text_of(edit)) is not None]
     for edit in edits:
         if edit not in left:
             yield edit, (False, "BAD EDIT: a text of it does not stand in its file just once")
     while left:
-        group = next_group(left)
+        group = next_group(left, trials)
         yield from try_group(trials, group)
         left = [edit for edit in left if edit not in group]
 
@@ -282,10 +299,9 @@ def right(trials, edits):
     """Yields for each function in which a wrong body stands whether it is proved without it, and a line that tells
     it."""
     places = {place for edit in edits for place in edit.places}
-    refused = trials.refusals([], places)
-    for place in sorted(places | set(refused or {})):
-        is_well = refused is not None and place not in refused
-        yield is_well, f"right {trials.name}::{place}: {'proved' if is_well else 'NOT PROVED'}"
+    proved = proved_in(trials.check({}, places), trials.name)
+    for place in sorted(places):
+        yield place in proved, f"right {trials.name}::{place}: {'proved' if place in proved else 'NOT PROVED'}"
 
 
 if __name__ == "__main__":

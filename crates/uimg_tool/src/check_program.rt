@@ -22,7 +22,7 @@ const STANDARD_INPUT: &str = "/dev/stdin";
 /// Checks the images of a request, those of the command line first, with a line for each on `out`, and
 /// goes on after one that is not right. It answers the greatest status of all. A file of names that
 /// cannot be read, a line that cannot be written and want of memory end it, with a line on `err`; where
-/// nobody reads the lines any more it ends without one.
+/// nobody reads the lines any more it ends without one, and as failed, since not all was checked.
 pub(crate) fn check_images<R: Files + AllocGlobal, W: Write, V: Write>(
     rt: &R,
     request: &CheckRequest<'_>,
@@ -46,7 +46,8 @@ pub(crate) fn check_images<R: Files + AllocGlobal, W: Write, V: Write>(
     // A failed write leaves text in it, and its drop would try once more to write that.
     let (_, _) = out.into_parts();
     match ended {
-        Ok(()) | Err(Stop::Closed) => greatest,
+        Ok(()) => greatest,
+        Err(Stop::Closed) => FAILED,
         Err(Stop::NoNames(path)) => tell(err, &RequestFault::CannotRead(path), FAILED),
         Err(Stop::NoMemory) => tell(err, &RequestFault::OutOfMemory, FAILED),
         Err(Stop::Put) => tell(err, &RequestFault::Stopped(Fault::Put), FAILED),
@@ -117,11 +118,13 @@ impl<'a, W: Write> Checks<'a, W> {
         };
         let end = if request.has_nuls { 0 } else { b'\n' };
         for name in names.split(rt.alloc(), end) {
-            let Ok(name) = name else {
-                return Err(Stop::NoNames(path));
-            };
-            if !name.is_empty() {
-                self.check(rt, request.need, name.as_slice())?;
+            match name {
+                Ok(name) if name.is_empty() => {}
+                Ok(name) => self.check(rt, request.need, name.as_slice())?,
+                Err(error) if error.kind() == ErrorKind::OutOfMemory => {
+                    return Err(Stop::NoMemory);
+                }
+                Err(_) => return Err(Stop::NoNames(path)),
             }
         }
         Ok(())

@@ -3,8 +3,9 @@
 use std::fmt;
 use std::fmt::{Display, Formatter, Write};
 
-/// A name in a line of text: control characters and backslashes, and in a name that is not UTF-8 all
-/// that is not ASCII, stand as `\xNN`, byte by byte. So no name ends its line, or hides in it.
+/// A name in a line of text: backslashes, control characters and those that end a line, turn its
+/// direction or are not seen, and in a name that is not UTF-8 all that is not ASCII, stand as `\xNN`,
+/// byte by byte.
 #[derive(Clone, Copy, Debug)]
 pub(crate) struct Printed<'a>(pub(crate) &'a [u8]);
 
@@ -36,9 +37,42 @@ fn put_bytes<W: Write>(bytes: &[u8], f: &mut Formatter<W>) -> fmt::Result {
 }
 
 fn put_letter<W: Write>(letter: char, f: &mut Formatter<W>) -> fmt::Result {
-    match letter {
-        '\0'..='\x1f' | '\x7f' | '\\' => write!(f, "\\x{:02x}", letter as u32),
-        '\u{80}'..='\u{9f}' => write!(f, "\\xc2\\x{:02x}", letter as u32),
-        _ => f.write_char(letter),
+    if !is_hidden(letter) {
+        return f.write_char(letter);
     }
+    let mut bytes = [0; 4];
+    for byte in letter.encode_utf8(&mut bytes).as_bytes() {
+        write!(f, "\\x{byte:02x}")?;
+    }
+    Ok(())
+}
+
+// Whether a letter is a backslash, or is not seen as one: a control or format character of Unicode, or a
+// separator of lines or paragraphs.
+fn is_hidden(letter: char) -> bool {
+    matches!(
+        letter,
+        '\0'..='\x1f'
+            | '\\'
+            | '\x7f'..='\u{9f}'
+            | '\u{ad}'
+            | '\u{600}'..='\u{605}'
+            | '\u{61c}'
+            | '\u{6dd}'
+            | '\u{70f}'
+            | '\u{890}'..='\u{891}'
+            | '\u{8e2}'
+            | '\u{180e}'
+            | '\u{200b}'..='\u{200f}'
+            | '\u{2028}'..='\u{202e}'
+            | '\u{2060}'..='\u{206f}'
+            | '\u{feff}'
+            | '\u{fff9}'..='\u{fffb}'
+            | '\u{110bd}'
+            | '\u{110cd}'
+            | '\u{13430}'..='\u{1343f}'
+            | '\u{1bca0}'..='\u{1bca3}'
+            | '\u{1d173}'..='\u{1d17a}'
+            | '\u{e0001}'..='\u{e007f}'
+    )
 }
