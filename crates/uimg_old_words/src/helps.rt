@@ -19,10 +19,10 @@ Usage: mkimage -l [-T type] image
   -e  --entry-point     the entry point, hexadecimal [the load address]
   -n  --config          the image's name
   -s  --no-copy         make the image without data
-  -f  --fit             the image source of a FIT image; auto is one of the file of
-                        -d, with -A to -n, and of the files of -b and -i
   -x  --xip             the header stands in place of the 64 bytes 0xff that the
                         data begin with, and the entry point behind it
+  -f  --fit             the image source of a FIT image; auto is one of the file of
+                        -d, with -A to -n, and of the files of -b and -i
   -b  --device-tree     with -f auto: a device tree; there may be several
   -i  --initramfs       with -f auto: the RAM disk
   -E  --external        with -f: place the data after the tree
