@@ -2,7 +2,7 @@
 _uimg() {
     local current=${COMP_WORDS[COMP_CWORD]} previous=${COMP_WORDS[COMP_CWORD - 1]}
     if test "$COMP_CWORD" = 1; then
-        COMPREPLY=($(compgen -W 'mkimage dumpimage verify --help --version' -- "$current"))
+        COMPREPLY=($(compgen -W 'mkimage dumpimage verify check --help --version' -- "$current"))
         return
     fi
     case "${COMP_WORDS[1]}" in
@@ -30,6 +30,12 @@ _uimg() {
             case "$previous" in
             esac
             test "${current#-}" = "$current" || { COMPREPLY=($(compgen -W '-h' -- "$current")); return; }
+            ;;
+        check)
+            case "$previous" in
+                --need) COMPREPLY=($(compgen -W 'crc32 md5 sha1 sha256 sha384 sha512' -- "$current")); return ;;
+            esac
+            test "${current#-}" = "$current" || { COMPREPLY=($(compgen -W '--need --files-from -0 -h' -- "$current")); return; }
             ;;
     esac
     compopt -o default
