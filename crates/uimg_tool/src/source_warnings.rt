@@ -36,7 +36,8 @@ fn tree_of<R: Files + AllocGlobal>(
     compile(rt.alloc(), &text, &mut files).ok()
 }
 
-// All the bytes of a source.
+// All the bytes of a source. Its window is in no frame below which the source is compiled.
+#[inline(never)]
 fn text_of<S: Source>(alloc: Global, source: &mut S) -> Option<Vec<u8>> {
     let size = source.size().ok()?;
     let mut window = [0; WINDOW];
