@@ -188,10 +188,8 @@ Lines that cannot be written, and that nobody reads:
   $ uimg check kernel.img > /dev/full
   uimg: write failed
   [3]
-  $ for number in 1 2 3 4 5 6 7 8 9; do cat names; echo; done > many
-  $ (uimg check --files-from many; echo "status $?" > status) | head -n 1
-  data.img: bad checksum
-  $ cat status
+  $ (sleep 0.5; uimg check kernel.img 2> said; echo "status $?" >> said) | true
+  $ cat said
   status 3
 
 Wrong lines:
