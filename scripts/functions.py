@@ -64,14 +64,23 @@ def functions_in(file, module):
         begin += len(line)
 
 
+def functions_of_text(text, name):
+    """Returns the functions of the text of a file, which has a name below the crate's folder."""
+    module = name[len("src/") : -len(".rt")].split("/")
+    found = list(functions_in(text.splitlines(True), [] if module == ["lib"] else module))
+    for it, end in zip(found, [*(after.begin for after in found[1:]), len(text)]):
+        # One that calls itself is a cycle of its own.
+        it.is_in_cycle = it.is_in_cycle or bool(re.search(rf"(?<!fn )(?<![.\w:]){it.name}\(", text[it.begin : end]))
+    return found
+
+
 def functions_of(folder):
     """Returns the functions of the crate in a folder, by their files."""
     found = {}
     for path in sorted(glob.glob(f"{folder}/src/**/*.rt", recursive=True)):
         name = os.path.relpath(path, folder)
-        module = name[len("src/") : -len(".rt")].split("/")
         with open(path, encoding="utf-8") as file:
-            found[name] = list(functions_in(file, [] if module == ["lib"] else module))
+            found[name] = functions_of_text(file.read(), name)
     return found
 
 

@@ -71,7 +71,10 @@ class Edit:
                     old = None
         with open(f"{folder}/{self.file}", encoding="utf-8") as file:
             text = file.read()
-        found = [functions.function_at(known[self.file], text, text.find(old)) for old, _ in self.pairs]
+        found = []
+        for old, new in self.pairs:
+            found.append(functions.function_at(functions.functions_of_text(text, self.file), text, text.find(old)))
+            text = text.replace(old, new)
         # The functions of a cycle of calls have one proof.
         self.is_wide = any(it is None or it.path is None or it.is_in_cycle for it in found)
         self.places = {it.path for it in (known[self.file] if self.is_wide else found) if it.path}
