@@ -5,7 +5,7 @@ PREFIX ?= /usr/local
 IMAGE ?= examples/abc-kernel.img
 export RT
 
-.PHONY: all demo try check test lib lib-test install deb peers bench clean help
+.PHONY: all demo try check test lib lib-test json-test farm-test install deb peers bench clean help
 .NOTPARALLEL:
 
 ## make          proves what the program stands on, and builds bin/uimg
@@ -47,6 +47,16 @@ lib/libuimg.a: $(shell scripts/sources.sh uimg_c) $(wildcard library/* include/*
 lib-test: lib/libuimg.a bin/uimg
 	@scripts/needs.sh python3 cc
 	@python3 scripts/lib_test.py bin/uimg lib
+
+## make json-test   holds what `uimg check --json` writes of many images to the schema of docs/JSON.md, with python3-jsonschema
+json-test: bin/uimg
+	@scripts/needs.sh python3
+	@python3 scripts/json_test.py bin/uimg
+
+## make farm-test   kills examples/farm in the middle and lets it go on, with GNU parallel
+farm-test: bin/uimg
+	@scripts/needs.sh python3
+	@python3 scripts/farm_test.py bin/uimg
 
 ## make install  puts the program, its manual pages and completions below PREFIX, which is /usr/local, and with
 ##               OLD_NAMES=1 the names mkimage and dumpimage too; the library too, if make lib built it

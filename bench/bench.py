@@ -196,6 +196,19 @@ def build_rows(uimg, folder):
         yield f"build {kind}", "mkimage -f", make, text, size
 
 
+def unpack_rows(uimg, folder):
+    """What is timed of an image that is unpacked: the same."""
+    source, image, text = (os.path.join(folder, name) for name in ("unpacked.its", "unpacked.itb", "text"))
+    fits.write_source(source, [fits.source_image(0, fits.included(os.path.join(folder, "payload.bin")), ["sha256"])])
+    subprocess.run([uimg, "mkimage", "-E", "-f", source, image], stdout=subprocess.DEVNULL, check=True)
+    there = os.path.join(folder, "unpacked")
+    os.mkdir(there)
+    kind, copy = "unpack 512 MiB, sha256", os.path.join(there, "copy")
+    yield kind, "uimg unpack", [uimg, "unpack", "--force", "-C", there, image], text, OUTSIDE
+    yield kind, "verify, dumpimage -o", ["sh", "-c", f'{uimg} verify "$0" && {uimg} dumpimage -o "$1" "$0"', image, copy], text, OUTSIDE
+    yield kind, "uimg verify", [uimg, "verify", image], text, OUTSIDE
+
+
 def shape_rows(uimg, folder):
     """What is timed of files that are made to cost much, each beside an ordinary one of the same length."""
     text, copy = os.path.join(folder, "text"), os.path.join(folder, "copy.bin")
@@ -231,7 +244,7 @@ def main():
     print("|" + "|".join("-" * (width + 2) for width in widths) + "|")
     with bench_folder() as folder:
         legacy = ((*row, SIZE) for row in legacy_rows(uimg, folder))
-        fit = itertools.chain(fit_rows(uimg, folder), check_rows(uimg, folder), build_rows(uimg, folder))
+        fit = itertools.chain(fit_rows(uimg, folder), check_rows(uimg, folder), build_rows(uimg, folder), unpack_rows(uimg, folder))
         rows = itertools.chain(legacy, fit, shape_rows(uimg, folder))
         installed = (row for row in rows if shutil.which(row[2][0]))
         for _, kind in itertools.groupby(installed, key=lambda row: row[0]):

@@ -11,6 +11,7 @@ Helps
     dumpimage  List an image, or extract a part of it
     verify     Check the checksums and hashes of an image, and report each
     check      Check many images, with a line for each
+    unpack     Put the payloads of a FIT image in a folder, where their hashes are right
   
   Options:
         --version  Print the name and the version
@@ -141,6 +142,7 @@ Helps
         --need <algo>        Ask for a hash by this algorithm or a stronger one
         --files-from <file>  Check the images that this file names too, a line each
     -0                       End each name of that file by a NUL
+        --json               Write an object of JSON for each image
     -h, --help               Print help
   
   Algorithms, from the weakest to the strongest:
@@ -158,7 +160,9 @@ Helps
     refused      The image is refused by this fault
     failed       The file cannot be opened, or a read or memory failed
   Control characters and \ are written \xNN in a name. The names of --files-from -
-  are those of standard input.
+  are those of standard input. With --json a line is an object: path, status,
+  verdict (the word), and what is known of format, images, hashes, checksums, algo,
+  image, hash, fault, message and offset.
   Signatures and the hashes of configurations are not checked.
   
   Examples:
@@ -186,6 +190,7 @@ No words are a wrong line: the help goes to standard error.
     dumpimage  List an image, or extract a part of it
     verify     Check the checksums and hashes of an image, and report each
     check      Check many images, with a line for each
+    unpack     Put the payloads of a FIT image in a folder, where their hashes are right
   
   Options:
         --version  Print the name and the version

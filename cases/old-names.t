@@ -155,6 +155,51 @@ FIT images:
   $ mkimage -q -f kernel.its -E -p 1000 out && dumpimage -p0 -o part out && cmp part abc.bin
   $ dumpimage -T flat_dt -o part out && cmp part abc.bin && dumpimage -lT FLAT_DT inside | cmp - listing
 
+FIT images whose tree and payloads take what -B has them rounded up to, by how many bytes they have and where the tree says
+that it ends; without -E, and by 4 or 0, it has no effect:
+
+  $ cat > two.its <<'END'
+  > /dts-v1/;
+  > / {
+  >   description = "two";
+  >   #address-cells = <1>;
+  >   images {
+  >     kernel {
+  >       description = "k"; type = "kernel"; arch = "arm"; os = "linux"; compression = "none";
+  >       load = <0x8000>; entry = <0x8000>; data = /incbin/("d"); hash { algo = "crc32"; };
+  >     };
+  >     ramdisk {
+  >       description = "r"; type = "ramdisk"; arch = "arm"; os = "linux"; compression = "none";
+  >       data = /incbin/("abc.bin"); hash { algo = "sha256"; };
+  >     };
+  >   };
+  >   configurations { default = "c"; c { description = "c"; kernel = "kernel"; ramdisk = "ramdisk"; }; };
+  > };
+  > END
+  $ ends() { rm -f out; mkimage -E "$@" -f two.its out > listing && uimg verify out | grep -v ok; echo $(stat -c %s out; od -An -tx1 -j4 -N4 out); }
+  $ mkimage -q -E -f two.its plain && mkimage -q -f two.its inside
+  $ mkimage -q -E -B 4 -f two.its out && cmp out plain && mkimage -q -E -B 0 -f two.its out && cmp out plain
+  $ mkimage -q -E -B '' -f two.its out && cmp out plain && mkimage -q -EB0x100000004 -f two.its out && cmp out plain
+  $ mkimage -q -B 1000 -f two.its out && cmp out inside && mkimage -q -B 6 -p 1000 -f two.its out && cmp out inside
+  $ ends -B 8
+  848 00 00 03 38
+  $ ends -B 10
+  864 00 00 03 40
+  $ ends -B 40
+  960 00 00 03 40
+  $ ends -B 200
+  2048 00 00 04 00
+  $ ends --alignment=1000
+  12288 00 00 10 00
+  $ ends -B 0x1000 -p 0x1000
+  12288 00 00 10 00
+  $ ends -B 1000 -p 1001
+  12289 00 00 10 00
+  $ ends -B 5000
+  12288 00 00 10 00
+  $ ends -B 100000200
+  2048 00 00 04 00
+
 The source that mkimage makes itself, by a file and by the image that is made of it:
 
   $ printf tree > my.board.dtb && printf ram > ram
@@ -264,9 +309,21 @@ What is asked for in vain:
   $ mkimage -x -T multi -d d:d out
   mkimage: -x: uimg makes no image of several parts that is run in its place; see mkimage of u-boot-tools
   [2]
-  $ mkimage -E -B 1000 -f kernel.its out
-  mkimage: -B: uimg places payloads at multiples of 4 alone; see mkimage of u-boot-tools
+  $ mkimage -E -B 6 -f kernel.its out
+  mkimage: -B: '6' is no multiple of 4, where readers look for payloads
   [2]
+  $ mkimage -f kernel.its --external --position 1000 --alignment=1 out
+  mkimage: -B: '1' is no multiple of 4, where readers look for payloads
+  [2]
+  $ mkimage -f kernel.its -B 8x out
+  mkimage: -B: '8x' is no hexadecimal number
+  [2]
+  $ mkimage -E -B 1000 -p 800 -f kernel.its out
+  mkimage: out: F6 position too low
+  [1]
+  $ mkimage -E -B 80000000 -f kernel.its out
+  mkimage: out: F7 too large
+  [1]
   $ mkimage -D '-@' -f kernel.its out
   mkimage: -D: uimg takes no words for dtc but -I dts, -O dtb, -q and -p with a number; see mkimage of u-boot-tools
   [2]

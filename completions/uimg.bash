@@ -2,7 +2,7 @@
 _uimg() {
     local current=${COMP_WORDS[COMP_CWORD]} previous=${COMP_WORDS[COMP_CWORD - 1]}
     if test "$COMP_CWORD" = 1; then
-        COMPREPLY=($(compgen -W 'mkimage dumpimage verify check --help --version' -- "$current"))
+        COMPREPLY=($(compgen -W 'mkimage dumpimage verify check unpack --help --version' -- "$current"))
         return
     fi
     case "${COMP_WORDS[1]}" in
@@ -35,7 +35,15 @@ _uimg() {
             case "$previous" in
                 --need) COMPREPLY=($(compgen -W 'crc32 md5 sha1 sha256 sha384 sha512' -- "$current")); return ;;
             esac
-            test "${current#-}" = "$current" || { COMPREPLY=($(compgen -W '--need --files-from -0 -h' -- "$current")); return; }
+            test "${current#-}" = "$current" || { COMPREPLY=($(compgen -W '--need --files-from -0 --json -h' -- "$current")); return; }
+            ;;
+        unpack)
+            case "$previous" in
+                -C) return ;;
+                --only) return ;;
+                --need-hash) COMPREPLY=($(compgen -W 'crc32 md5 sha1 sha256 sha384 sha512' -- "$current")); return ;;
+            esac
+            test "${current#-}" = "$current" || { COMPREPLY=($(compgen -W '-C --only --need-hash --force -h' -- "$current")); return; }
             ;;
     esac
     compopt -o default

@@ -1,7 +1,7 @@
 #!/usr/bin/env python3
 """gate.py: the gate. It runs `rt ci`, which proves every crate from nothing and runs the tests, tries the wrong
-bodies of each crate once those below it are proved, and then plays the transcripts of cases/ and the examples of README.md and
-of the manual page against the program that `rt ci` built. Where there is a C compiler it links the library for C
+bodies of each crate once those below it are proved, and then plays the transcripts of cases/ and the examples of README.md,
+of docs/JSON.md and of the manual page against the program that `rt ci` built. Where there is a C compiler it links the library for C
 and tests it too, which counts as one. Its last line, 'N passed, M failed', counts all, and its status is 0 where
 nothing failed.
 
@@ -31,6 +31,9 @@ PROGRAM = "crates/uimg/out/uimg"
 # What is built is not copied, and the wrong bodies go to a folder of their own.
 LEFT_OUT = shutil.ignore_patterns(".git", "out", "bin", "lib", "__pycache__", "must-fail")
 ASIDE = "wrong-bodies"
+# What was checked of the crates' statements for them, and how many are in a lot at most.
+KEPT = "kept"
+LOT = 12
 # A line that tells the end of a proof.
 STEP = re.compile(r"rt: \w+(: its tests are)? (NOT )?(PROVED|proved)")
 # A crate was proved, in this run or by an earlier one on this machine over the same files.
@@ -48,13 +51,41 @@ def copy_to(room):
         shutil.copytree(folder, f"{room}/{ASIDE}/{folder.split('/')[1]}")
 
 
+class Lot:
+    """Some wrong bodies of a crate, which one process tries."""
+
+    def __init__(self, name, files, is_first):
+        self.name, self.files, self.is_first = name, files, is_first
+        self.seconds, self.said = 0, ""
+
+    def try_all(self):
+        """Tries them. What the first lot checked of the crate's statements is taken over by the others."""
+        words = ["nice", sys.executable, "scripts/wrong_bodies.py", "--kept", f"{KEPT}/{self.name}", self.name, *self.files]
+        begun = time.monotonic()
+        ran = subprocess.run(words, stdout=subprocess.PIPE, stderr=subprocess.STDOUT, text=True, errors="replace")
+        self.seconds, self.said = time.monotonic() - begun, ran.stdout
+
+    def end(self):
+        """Prints what became of them. Returns how many passed and failed."""
+        lines = self.said.rstrip("\n").split("\n")
+        count = re.fullmatch(r"(\d+) passed, (\d+) failed", lines[-1])
+        print("\n".join(lines[:-1] if count else lines), flush=True)
+        print(f"{self.name}: {len(self.files)} wrong bodies took {prove.in_words(self.seconds)}", flush=True)
+        return (int(count[1]), int(count[2])) if count else (0, len(self.files))
+
+
 class WrongBodies:
-    """The wrong bodies of crates, each crate's tried in turn, and crates side by side."""
+    """The wrong bodies of crates, in lots: of a crate the first alone, and then its others side by side."""
 
     def __init__(self, at_once):
         self.pool, self.waiting, self.tried = concurrent.futures.ThreadPoolExecutor(at_once), [], []
         self.uses, self.lock = prove.crates(), threading.Lock()
-        self.proved, self.left = set(), set(os.listdir(ASIDE))
+        self.proved, self.left, self.later = set(), {}, {}
+        os.makedirs(KEPT)
+        for name in os.listdir(ASIDE):
+            files = sorted(glob.glob(f"{ASIDE}/{name}/*.edit"))
+            count = -(-len(files) // LOT)
+            self.left[name] = [Lot(name, files[at::count], at == 0) for at in range(count)]
         self.begin_ready()
 
     def begin(self, line):
@@ -67,37 +98,40 @@ class WrongBodies:
     def begin_ready(self):
         for name in sorted(self.left):
             if self.proved >= set(prove.below(self.uses, name)) - {name}:
-                self.left.remove(name)
-                with self.lock:
-                    self.waiting.append(name)
-                self.tried.append(self.pool.submit(self.try_dearest))
+                first, *self.later[name] = self.left.pop(name)
+                self.add([first])
 
-    def cost(self, name):
-        """How long a crate's wrong bodies take beside another's: each loads the crates below."""
-        return len(os.listdir(f"{ASIDE}/{name}")) * len(prove.below(self.uses, name))
+    def add(self, lots):
+        """Lets lots wait for a lane."""
+        with self.lock:
+            self.waiting += lots
+            self.tried += [self.pool.submit(self.try_dearest) for _ in lots]
+
+    def cost(self, lot):
+        """How long a lot takes beside another: each check loads the crates below. What comes after it counts too."""
+        after = self.later[lot.name] if lot.is_first else []
+        return sum(len(it.files) for it in [lot, *after]) * len(prove.below(self.uses, lot.name))
 
     def try_dearest(self):
-        """Tries those of the crate that waits and takes the longest, so that none is left alone at the end."""
+        """Tries the lot that waits and takes the longest, so that none is left alone at the end."""
         with self.lock:
-            name = max(self.waiting, key=self.cost)
-            self.waiting.remove(name)
-        words = ["nice", sys.executable, "scripts/wrong_bodies.py", name, f"{ASIDE}/{name}"]
-        begun = time.monotonic()
-        ran = subprocess.run(words, stdout=subprocess.PIPE, stderr=subprocess.STDOUT, text=True, errors="replace")
-        return name, time.monotonic() - begun, ran.stdout
+            lot = max(self.waiting, key=self.cost)
+            self.waiting.remove(lot)
+        lot.try_all()
+        if lot.is_first:
+            self.add(self.later[lot.name])
+        return lot
 
     def end(self):
         """Prints what became of them. Returns how many passed and failed: what was not tried, since a crate below its
         own is not proved, failed."""
         passed = failed = 0
-        for name, seconds, said in [it.result() for it in self.tried]:
-            lines = said.rstrip("\n").split("\n")
-            count = re.fullmatch(r"(\d+) passed, (\d+) failed", lines[-1])
-            passed, failed = passed + int(count[1] if count else 0), failed + int(count[2] if count else 1)
-            print("\n".join(lines if not count else lines[:-1]), flush=True)
-            print(f"{name}: its wrong bodies took {prove.in_words(seconds)}", flush=True)
-        for name in sorted(self.left):
-            failed += len(os.listdir(f"{ASIDE}/{name}"))
+        # A first lot adds the others of its crate before it ends.
+        for it in self.tried:
+            more, bad = it.result().end()
+            passed, failed = passed + more, failed + bad
+        for name, lots in sorted(self.left.items()):
+            failed += sum(len(it.files) for it in lots)
             print(f"{name}: its wrong bodies were not tried", flush=True)
         print(f"wrong bodies: {passed} passed, {failed} failed\n", flush=True)
         return passed, failed
@@ -151,7 +185,7 @@ def gate():
     more, bad = wrong_bodies.end()
     passed, failed = passed + more, failed + bad
     if os.path.isfile(PROGRAM):
-        played = [*sorted(glob.glob("cases/*.t")), "README.md", "docs/uimg.1"]
+        played = [*sorted(glob.glob("cases/*.t")), "README.md", "docs/JSON.md", "docs/uimg.1"]
         more, bad = counted(["scripts/play.py", PROGRAM, *played], environment)
         passed, failed = passed + more, failed + bad
         if not shutil.which(os.environ.get("CC", "cc")):

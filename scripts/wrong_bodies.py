@@ -1,7 +1,8 @@
 #!/usr/bin/env python3
-"""wrong_bodies.py [--right] CRATE [FOLDER]: tries the wrong bodies of a crate, the files *.edit of FOLDER, which is
-crates/CRATE/must-fail. The prover has to refuse each. It works over the libraries that `rt ci` or `make` left in
-crates/*/out/rlib, and only those of the crates below have to be there.
+"""wrong_bodies.py [--right] [--kept KEPT] CRATE [FILE..]: tries the wrong bodies of a crate, which are these files, or
+else crates/CRATE/must-fail/*.edit. The prover has to refuse each. It works over the libraries that `rt ci` or `make`
+left in crates/*/out/rlib, and only those of the crates below have to be there. What was checked of the crate's
+statements and lemmas is kept in KEPT, where that is not there, or else taken over from it.
 
 A function is proved by its own body and by the contracts of those that it calls. So only the functions in which wrong
 bodies stand are proved, several in one check, each with one wrong body; of each other function of the crate its
@@ -16,6 +17,7 @@ With --right the wrong bodies stay out, in one check: each of their functions ha
 refusal comes from the wrong body and not from how it is tried.
 
 A line for each wrong body, `refused` or `NOT REFUSED`, or for each right one, and last 'N passed, M failed'."""
+import argparse
 import glob
 import os
 import re
@@ -124,11 +126,15 @@ def words_of(name):
 class Trials:
     """The checks of one crate. They share what was checked of its statements and lemmas."""
 
-    def __init__(self, name, room):
+    def __init__(self, name, room, kept):
         self.name, self.folder, self.room = name, os.path.abspath(f"crates/{name}"), room
         self.words, self.known = words_of(name), functions.functions_of(f"crates/{name}")
-        self.kept = f"{room}/kept"
-        os.mkdir(self.kept)
+        if kept and os.path.isdir(kept):
+            self.kept = f"{room}/kept"
+            shutil.copytree(kept, self.kept)
+        else:
+            self.kept = os.path.abspath(kept or f"{room}/kept")
+            os.mkdir(self.kept)
 
     def copy(self, texts, proved):
         """Makes a copy of the crate with these texts in place of its own, and holes for all functions but those that
@@ -278,12 +284,14 @@ def try_all(trials, edits):
         left = [edit for edit in left if edit not in group]
 
 
-def main(name, folder, is_right):
-    known = functions.functions_of(f"crates/{name}")
-    edits = [Edit(path, f"crates/{name}", known) for path in sorted(glob.glob(f"{folder}/*.edit"))]
+def main(given):
+    known = functions.functions_of(f"crates/{given.crate}")
+    paths = given.files or sorted(glob.glob(f"crates/{given.crate}/must-fail/*.edit"))
+    edits = [Edit(path, f"crates/{given.crate}", known) for path in paths]
     passed = failed = 0
     with tempfile.TemporaryDirectory(prefix="uimg-wrong-") as room:
-        for is_well, line in (right if is_right else wrong)(Trials(name, room), edits):
+        trials = Trials(given.crate, room, given.kept)
+        for is_well, line in (right if given.right else wrong)(trials, edits):
             passed, failed = passed + is_well, failed + (not is_well)
             print(line)
     print(f"{passed} passed, {failed} failed")
@@ -307,7 +315,15 @@ def right(trials, edits):
         yield place in proved, f"right {trials.name}::{place}: {'proved' if place in proved else 'NOT PROVED'}"
 
 
+def words():
+    parser = argparse.ArgumentParser()
+    parser.add_argument("--right", action="store_true")
+    parser.add_argument("--kept")
+    parser.add_argument("crate")
+    parser.add_argument("files", nargs="*")
+    return parser.parse_args()
+
+
 if __name__ == "__main__":
     signal.signal(signal.SIGTERM, lambda number, frame: sys.exit(143))
-    given = [it for it in sys.argv[1:] if it != "--right"]
-    sys.exit(main(given[0], given[1] if len(given) > 1 else f"crates/{given[0]}/must-fail", "--right" in sys.argv))
+    sys.exit(main(words()))

@@ -6,7 +6,6 @@ use Rattle.uimg_base.specs.Named.{FileMap, SameFiles}
 use Rattle.uimg_base.specs.Sink.{Sink, AppendsAll}
 use Rattle.uimg_blob.specs.Plain.{Nodes}
 use Rattle.uimg_tree.specs.Content.{Unread, AreKept, in_full}
-use Rattle.uimg_tree.specs.Encoding.{encode}
 use Rattle.uimg_tree.specs.UsingFiles.{UsesFiles}
 use Rattle.uimg_its.specs.Answers.{is_outside}
 use Rattle.uimg_its.specs.Grammar.{Spells}
@@ -18,7 +17,7 @@ use Rattle.uimg_fit_base.specs.declared.fault.FitFault.{FitFault}
 use Rattle.uimg_fit_base.specs.declared.fault.FitFault.TheVariants as fit_fault
 use Rattle.uimg_fit_base.specs.declared.placement.Placement.{Placement}
 use Rattle.uimg_fit_building.specs.BuildAnswers.{is_no_file as fit_is_no_file, CanBuild, BuildsAnswer}
-use Rattle.uimg_fit_building.specs.Building.{moved, built}
+use Rattle.uimg_fit_building.specs.Building.{placed_blob, built}
 use Rattle.uimg_fit_base.specs.Faults.{is_read as fit_is_read}
 use Rattle.uimg_fit_building.specs.FillAnswers.{opens_no_file, fails_to_read, Fills, FillsAnswer}
 use Rattle.uimg_fit_building.specs.Filling.{IsFilled}
@@ -168,7 +167,7 @@ kept_payload false false false = tt
 keeps_payload : (t : Nodes) (placement : Placement) → KeepsPayload (build_fault t placement)
 unfolding build_fault
 keeps_payload t placement =
-    kept_payload (nat_lt 4294967295 (length (encode (moved t placement)))) (is_low (length (encode (moved t placement))) placement) (nat_lt 4294967295 (length (built t placement)))
+    kept_payload (nat_lt 4294967295 (length (placed_blob t placement))) (is_low (length (placed_blob t placement)) placement) (nat_lt 4294967295 (length (built t placement)))
 
 lost_by : (t : Nodes) (placement : Placement) (f : FitFault) (s u : Sink) → BuildsAnswer {X = ⊤} t placement (Err (fit.Fit f)) s u → loses_payload f ≡ false
 lost_by t placement fit_fault.NoImages s u builds = refl

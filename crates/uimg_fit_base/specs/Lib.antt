@@ -5,3 +5,4 @@ pub mod Report
 pub mod Extraction
 pub mod Lying
 pub mod AlgoSets
+pub mod Placements

@@ -180,6 +180,13 @@ impl Digests {
         }
     }
 
+    /// The algorithms that there are digests by.
+    pub fn set(&self) -> AlgoSet
+        ensures { result ≡ set_of self.now }
+    {
+        self.set
+    }
+
     /// The digest by an algorithm of the set, with zeros behind it up to 64 bytes. Of an algorithm that
     /// is not in the set nothing is said.
     pub fn by(&self, algo: Algo) -> [u8; 64]

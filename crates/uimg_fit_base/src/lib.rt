@@ -12,4 +12,5 @@ pub use algo_sets::{AlgoSet, Digests};
 pub use fault::{Fault, FitFault};
 pub use feeds::feed_through;
 pub use placement::Placement;
+pub use uimg_tree::WORD_ALIGNMENT;
 pub use verdicts::{Verdict, is_right, word_text};

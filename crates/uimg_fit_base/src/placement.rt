@@ -1,12 +1,33 @@
 //! Where the payloads of an image that is built stand.
 
+ghost use Rattle.std.specs.Prelude.{◌≡◌};
+ghost use Rattle.uimg_fit_base.specs.Placements.{align_of};
+
+use uimg_tree::WORD_ALIGNMENT;
+
 /// Where the payloads of a FIT image that is built stand.
+///
+/// Behind the blob, its end and that of each payload are rounded up by an alignment, as
+/// `uimg_tree::aligned` does it.
 #[derive(Clone, Copy, Debug, PartialEq, Eq)]
 pub enum Placement {
     /// In the blob, as the values of `data`.
     Inside,
     /// After the blob, each told by `data-offset`, counted from the blob's end.
-    After,
+    After { align: u32 },
     /// After the blob, each told by `data-position`, the first at this offset of the file.
-    At(u32),
+    At { position: u32, align: u32 },
+}
+
+impl Placement {
+    /// The alignment of the blob's end and of each payload's.
+    pub fn align(self) -> u32
+        ensures { result ≡ align_of self }
+    {
+        match self {
+            Placement::Inside => WORD_ALIGNMENT,
+            Placement::After { align } => align,
+            Placement::At { position: _, align } => align,
+        }
+    }
 }

@@ -7,117 +7,119 @@ use Rattle.std.proofs.lemmas.List.{length-replicate}
 use Rattle.uimg_blob.specs.Plain.{with_value}
 use Rattle.uimg_blob.specs.LookUps.{NodeOf, first, images}
 use Rattle.uimg_tree.specs.Content.{Content, Unread, IsKept, AreKept, bytes_in, size_of, in_full}
-use Rattle.uimg_tree.specs.Encoding.{padded, encode}
-use Rattle.uimg_tree.specs.Pieces.{padding}
+use Rattle.uimg_tree.specs.Alignment.{padding_by, padded_by}
+use Rattle.uimg_tree.proofs.AlignmentLaws.{aligned-none}
 use Rattle.uimg_tree.proofs.SizeLaws.{kept-size}
 use Rattle.uimg_tree.proofs.WritesLaws.{flat_map-both, all-both}
 use Rattle.uimg_fit_base.specs.declared.fault.FitFault.TheVariants.{PositionTooLow, TooLarge}
 use Rattle.uimg_fit_base.specs.declared.placement.Placement.{Placement}
 use Rattle.uimg_fit_base.specs.declared.placement.Placement.TheVariants.{Inside, After, At}
-use Rattle.uimg_fit_building.specs.Building.{data_of, moved, payloads, behind, built}
+use Rattle.uimg_fit_base.specs.Placements.{align_of}
+use Rattle.uimg_fit_building.specs.Building.{data_of, placed_blob, payloads, behind, built}
 use Rattle.uimg_fit_building.specs.Refusing.{is_low, build_fault}
 use Rattle.uimg_fit_building.specs.Behind.{images_in, padded_pieces, payload_pieces, padded_sizes, behind_pieces, file_size, end_fault}
 use Rattle.uimg_fit_building.proofs.LookUpLaws.{NodeHas, node_with, first-with, first-has, images-with, images-has}
 use Rattle.uimg_fit_building.proofs.MovedLaws.{padded-length}
 use Rattle.uimg_fit_building.proofs.UnreadLaws.{padded-same}
 
-module _ (files : List ℕ → Option (List ℕ)) where
+module _ (files : List ℕ → Option (List ℕ)) (align : ℕ) where
   abbrev read : Content → List ℕ
   read = bytes_in files
 
   abbrev kept_node : NodeOf Content → Type 0
   kept_node i = NodeHas (IsKept files) i
 
-  pieces-step : (o : Option Content) → IfSome o (IsKept files) → flat_map read (padded_pieces o) ≡ padded (unwrap_or (option_map read o) [])
-  pieces-step None kept = refl
+  pieces-step : (o : Option Content) → IfSome o (IsKept files) → flat_map read (padded_pieces align o) ≡ padded_by align (unwrap_or (option_map read o) [])
+  pieces-step None kept = sym (ap (λ (n : ℕ). let w : List ℕ = replicate (n - 0) 0 in w) (aligned-none align))
   pieces-step (Some c) kept =
-      ap (λ (w : List ℕ). read c ++ w) (append-nil (padding (size_of c)) ∙ ap padding (sym (kept-size files c kept)))
+      ap (λ (w : List ℕ). read c ++ w) (append-nil (padding_by align (size_of c)) ∙ ap (padding_by align) (sym (kept-size files c kept)))
 
-  pieces-same : (i : NodeOf Content) → kept_node i → flat_map read (payload_pieces i) ≡ padded (data_of (map (with_value read) i.own))
+  pieces-same : (i : NodeOf Content) → kept_node i → flat_map read (payload_pieces align i) ≡ padded_by align (data_of (map (with_value read) i.own))
   pieces-same i kept =
       pieces-step (first i.own (codes "data")) (first-has (IsKept files) i.own (codes "data") kept.0)
-      ∙ ap (λ (o : Option (List ℕ)). padded (unwrap_or o [])) (sym (first-with read i.own (codes "data")))
+      ∙ ap (λ (o : Option (List ℕ)). padded_by align (unwrap_or o [])) (sym (first-with read i.own (codes "data")))
 
   abbrev padded_of : NodeOf (List ℕ) → List ℕ
-  padded_of i = padded (data_of i.own)
+  padded_of i = padded_by align (data_of i.own)
 
-  each-same : (is : List (NodeOf Content)) → AllByRecursion kept_node is → flat_map read (flat_map payload_pieces is) ≡ flat_map padded_of (map (node_with read) is)
+  each-same : (is : List (NodeOf Content)) → AllByRecursion kept_node is → flat_map read (flat_map (payload_pieces align) is) ≡ flat_map padded_of (map (node_with read) is)
   each-same [] kept = refl
   each-same (i ∷ is) kept =
-      flat_map-both read (payload_pieces i) (flat_map payload_pieces is)
-      ∙ ap (λ (w : List ℕ). w ++ flat_map read (flat_map payload_pieces is)) (pieces-same i kept.0)
-      ∙ ap (λ (w : List ℕ). padded (data_of (map (with_value read) i.own)) ++ w) (each-same is kept.1)
+      flat_map-both read (payload_pieces align i) (flat_map (payload_pieces align) is)
+      ∙ ap (λ (w : List ℕ). w ++ flat_map read (flat_map (payload_pieces align) is)) (pieces-same i kept.0)
+      ∙ ap (λ (w : List ℕ). padded_by align (data_of (map (with_value read) i.own)) ++ w) (each-same is kept.1)
 
   images-step : (o : Option (List (NodeOf Content))) → IfSome o (AllByRecursion kept_node)
-      → flat_map read (flat_map payload_pieces (unwrap_or o [])) ≡ flat_map padded_of (unwrap_or (option_map (λ (l : List (NodeOf Content)). map (node_with read) l) o) [])
+      → flat_map read (flat_map (payload_pieces align) (unwrap_or o [])) ≡ flat_map padded_of (unwrap_or (option_map (λ (l : List (NodeOf Content)). map (node_with read) l) o) [])
   images-step None kept = refl
   images-step (Some is) kept = each-same is kept
 
   -- the payloads that are written are those of the tree in full
-  pub payloads-joined : (t : Unread) → AreKept files t → flat_map read (flat_map payload_pieces (images_in t)) ≡ payloads (in_full files t)
+  pub payloads-joined : (t : Unread) → AreKept files t → flat_map read (flat_map (payload_pieces align) (images_in t)) ≡ payloads align (in_full files t)
   payloads-joined t kept =
       images-step (images t) (images-has (IsKept files) t kept)
       ∙ ap (λ (o : Option (List (NodeOf (List ℕ)))). flat_map padded_of (unwrap_or o [])) (sym (images-with read t))
 
-  sizes-each : (is : List (NodeOf Content)) → AllByRecursion kept_node is → length (flat_map padded_of (map (node_with read) is)) ≡ padded_sizes is
+  sizes-each : (is : List (NodeOf Content)) → AllByRecursion kept_node is → length (flat_map padded_of (map (node_with read) is)) ≡ padded_sizes align is
   unfolding padded_sizes
   sizes-each [] kept = refl
   sizes-each (i ∷ is) kept =
-      let own = padded (data_of (map (with_value read) i.own)) in
+      let own = padded_by align (data_of (map (with_value read) i.own)) in
       let more = flat_map padded_of (map (node_with read) is) in
-      omega (arith, length-append own more, padded-length (map (with_value read) i.own), padded-same files i.own kept.0.0, sizes-each is kept.1)
+      omega (arith, length-append own more, padded-length align (map (with_value read) i.own), padded-same files align i.own kept.0.0, sizes-each is kept.1)
 
   sizes-step : (o : Option (List (NodeOf Content))) → IfSome o (AllByRecursion kept_node)
-      → length (flat_map padded_of (unwrap_or (option_map (λ (l : List (NodeOf Content)). map (node_with read) l) o) [])) ≡ padded_sizes (unwrap_or o [])
+      → length (flat_map padded_of (unwrap_or (option_map (λ (l : List (NodeOf Content)). map (node_with read) l) o) [])) ≡ padded_sizes align (unwrap_or o [])
   unfolding padded_sizes
   sizes-step None kept = refl
   sizes-step (Some is) kept = sizes-each is kept
 
   -- they take as many bytes as are counted
-  pub length-payloads : (t : Unread) → AreKept files t → length (payloads (in_full files t)) ≡ padded_sizes (images_in t)
+  pub length-payloads : (t : Unread) → AreKept files t → length (payloads align (in_full files t)) ≡ padded_sizes align (images_in t)
   length-payloads t kept =
       ap (λ (o : Option (List (NodeOf (List ℕ)))). length (flat_map padded_of (unwrap_or o []))) (images-with read t)
       ∙ sizes-step (images t) (images-has (IsKept files) t kept)
 
-  pieces-kept : (o : Option Content) → IfSome o (IsKept files) → AllByRecursion (IsKept files) (padded_pieces o)
+  pieces-kept : (o : Option Content) → IfSome o (IsKept files) → AllByRecursion (IsKept files) (padded_pieces align o)
   pieces-kept None kept = tt
   pieces-kept (Some c) kept = (kept, (tt, tt))
 
-  each-kept : (is : List (NodeOf Content)) → AllByRecursion kept_node is → AllByRecursion (IsKept files) (flat_map payload_pieces is)
+  each-kept : (is : List (NodeOf Content)) → AllByRecursion kept_node is → AllByRecursion (IsKept files) (flat_map (payload_pieces align) is)
   each-kept [] kept = tt
   each-kept (i ∷ is) kept =
-      all-both (IsKept files) (payload_pieces i) (flat_map payload_pieces is)
+      all-both (IsKept files) (payload_pieces align i) (flat_map (payload_pieces align) is)
       (pieces-kept (first i.own (codes "data")) (first-has (IsKept files) i.own (codes "data") kept.0.0)) (each-kept is kept.1)
 
-  images-kept : (o : Option (List (NodeOf Content))) → IfSome o (AllByRecursion kept_node) → AllByRecursion (IsKept files) (flat_map payload_pieces (unwrap_or o []))
+  images-kept : (o : Option (List (NodeOf Content))) → IfSome o (AllByRecursion kept_node) → AllByRecursion (IsKept files) (flat_map (payload_pieces align) (unwrap_or o []))
   images-kept None kept = tt
   images-kept (Some is) kept = each-kept is kept
 
+module _ (files : List ℕ → Option (List ℕ)) where
   -- the files of what is written behind the blob are kept where those of the tree are
   pub behind-kept : (size : ℕ) (t : Unread) (placement : Placement) → AreKept files t → AllByRecursion (IsKept files) (behind_pieces size t placement)
   behind-kept size t Inside kept = tt
-  behind-kept size t After kept = images-kept (images t) (images-has (IsKept files) t kept)
-  behind-kept size t (At p) kept = (tt, images-kept (images t) (images-has (IsKept files) t kept))
+  behind-kept size t (After align) kept = images-kept files align (images t) (images-has (IsKept files) t kept)
+  behind-kept size t (At p align) kept = (tt, images-kept files align (images t) (images-has (IsKept files) t kept))
 
   -- what is written behind the blob of a tree
-  pub behind-joined : (size : ℕ) (t : Unread) (placement : Placement) → AreKept files t → length (encode (moved (in_full files t) placement)) ≡ size
-      → flat_map read (behind_pieces size t placement) ≡ behind (in_full files t) placement
+  pub behind-joined : (size : ℕ) (t : Unread) (placement : Placement) → AreKept files t → length (placed_blob (in_full files t) placement) ≡ size
+      → flat_map (bytes_in files) (behind_pieces size t placement) ≡ behind (in_full files t) placement
   behind-joined size t Inside kept is = refl
-  behind-joined size t After kept is = payloads-joined t kept
-  behind-joined size t (At p) kept is =
-      ap (λ (w : List ℕ). replicate (p - size) 0 ++ w) (payloads-joined t kept)
-      ∙ ap (λ (n : ℕ). replicate (p - n) 0 ++ payloads (in_full files t)) (sym is)
+  behind-joined size t (After align) kept is = payloads-joined files align t kept
+  behind-joined size t (At p align) kept is =
+      ap (λ (w : List ℕ). replicate (p - size) 0 ++ w) (payloads-joined files align t kept)
+      ∙ ap (λ (n : ℕ). replicate (p - n) 0 ++ payloads align (in_full files t)) (sym is)
 
-  length-built : (size : ℕ) (t : Unread) (placement : Placement) → AreKept files t → length (encode (moved (in_full files t) placement)) ≡ size → is_low size placement ≡ false
-      → length (built (in_full files t) placement) ≡ file_size size (padded_sizes (images_in t)) placement
-  length-built size t Inside kept is high = ap (λ (w : List ℕ). length w) (append-nil (encode (in_full files t))) ∙ is
-  length-built size t After kept is high =
-      omega (arith, length-append (encode (moved (in_full files t) After)) (payloads (in_full files t)), is, length-payloads t kept)
-  length-built size t (At p) kept is high =
-      let blob = encode (moved (in_full files t) (At p)) in
+  length-built : (size : ℕ) (t : Unread) (placement : Placement) → AreKept files t → length (placed_blob (in_full files t) placement) ≡ size → is_low size placement ≡ false
+      → length (built (in_full files t) placement) ≡ file_size size (padded_sizes (align_of placement) (images_in t)) placement
+  length-built size t Inside kept is high = ap (λ (w : List ℕ). length w) (append-nil (placed_blob (in_full files t) Inside)) ∙ is
+  length-built size t (After align) kept is high =
+      omega (arith, length-append (placed_blob (in_full files t) (After align)) (payloads align (in_full files t)), is, length-payloads files align t kept)
+  length-built size t (At p align) kept is high =
+      let blob = placed_blob (in_full files t) (At p align) in
       let gap : List ℕ = replicate (p - length blob) 0 in
       let low : size ≤ p = ltb-false _ _ high in
-      omega (arith, length-append blob (gap ++ payloads (in_full files t)), length-append gap (payloads (in_full files t)), length-replicate {A = ℕ} (p - length blob) 0, is, low, length-payloads t kept)
+      omega (arith, length-append blob (gap ++ payloads align (in_full files t)), length-append gap (payloads align (in_full files t)), length-replicate {A = ℕ} (p - length blob) 0, is, low, length-payloads files align t kept)
 
   fault-step : (a b c d : Bool) → a ≡ false → (b ≡ false → c ≡ d)
       → (if a then Some TooLarge else if b then Some PositionTooLow else if c then Some TooLarge else None) ≡ (if b then Some PositionTooLow else if d then Some TooLarge else None)
@@ -126,14 +128,14 @@ module _ (files : List ℕ → Option (List ℕ)) where
   fault-step false false c d h k = ap (λ (x : Bool). if x then Some TooLarge else None) (k refl)
 
   -- why the file of a tree whose blob isn't too large can't be built
-  pub fault-same : (size : ℕ) (t : Unread) (placement : Placement) → AreKept files t → length (encode (moved (in_full files t) placement)) ≡ size → size ≤ 4294967295
-      → build_fault (in_full files t) placement ≡ end_fault size (padded_sizes (images_in t)) placement
+  pub fault-same : (size : ℕ) (t : Unread) (placement : Placement) → AreKept files t → length (placed_blob (in_full files t) placement) ≡ size → size ≤ 4294967295
+      → build_fault (in_full files t) placement ≡ end_fault size (padded_sizes (align_of placement) (images_in t)) placement
   unfolding build_fault end_fault
   fault-same size t placement kept is small =
-      let fits : nat_lt 4294967295 (length (encode (moved (in_full files t) placement))) ≡ false = ap (λ (n : ℕ). nat_lt 4294967295 n) is ∙ le-ltb _ _ small in
-      ap (λ (n : ℕ). if nat_lt 4294967295 (length (encode (moved (in_full files t) placement))) then Some TooLarge else if is_low n placement then Some PositionTooLow else if nat_lt 4294967295 (length (built (in_full files t) placement)) then Some TooLarge else None) is
-      ∙ fault-step (nat_lt 4294967295 (length (encode (moved (in_full files t) placement)))) (is_low size placement) (nat_lt 4294967295 (length (built (in_full files t) placement)))
-      (nat_lt 4294967295 (file_size size (padded_sizes (images_in t)) placement)) fits
+      let fits : nat_lt 4294967295 (length (placed_blob (in_full files t) placement)) ≡ false = ap (λ (n : ℕ). nat_lt 4294967295 n) is ∙ le-ltb _ _ small in
+      ap (λ (n : ℕ). if nat_lt 4294967295 (length (placed_blob (in_full files t) placement)) then Some TooLarge else if is_low n placement then Some PositionTooLow else if nat_lt 4294967295 (length (built (in_full files t) placement)) then Some TooLarge else None) is
+      ∙ fault-step (nat_lt 4294967295 (length (placed_blob (in_full files t) placement))) (is_low size placement) (nat_lt 4294967295 (length (built (in_full files t) placement)))
+      (nat_lt 4294967295 (file_size size (padded_sizes (align_of placement) (images_in t)) placement)) fits
       (λ high. ap (λ (n : ℕ). nat_lt 4294967295 n) (length-built size t placement kept is high))
 
 -- counting up to 2^36 is enough
@@ -149,8 +151,8 @@ same-test n a b h k = test-step n a b (nat_lt n a) (nat_lt n b) refl refl h k
 
 size-capped : (size room : ℕ) (placement : Placement) → nat_lt 4294967295 (file_size size (min room (2 ^ 36)) placement) ≡ nat_lt 4294967295 (file_size size room placement)
 size-capped size room Inside = refl
-size-capped size room After = same-test 4294967295 (size + min room (2 ^ 36)) (size + room) (λ h. omega (arith, h)) (λ h. omega (arith, h))
-size-capped size room (At p) = same-test 4294967295 (p + min room (2 ^ 36)) (p + room) (λ h. omega (arith, h)) (λ h. omega (arith, h))
+size-capped size room (After align) = same-test 4294967295 (size + min room (2 ^ 36)) (size + room) (λ h. omega (arith, h)) (λ h. omega (arith, h))
+size-capped size room (At p align) = same-test 4294967295 (p + min room (2 ^ 36)) (p + room) (λ h. omega (arith, h)) (λ h. omega (arith, h))
 
 pub end-capped : (size room : ℕ) (placement : Placement) → end_fault size (min room (2 ^ 36)) placement ≡ end_fault size room placement
 unfolding end_fault

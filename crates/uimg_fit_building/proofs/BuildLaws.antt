@@ -11,7 +11,7 @@ use Rattle.uimg_blob.specs.Plain.{NamedOf, NodesOf, no_node, a_node}
 use Rattle.uimg_tree.specs.declared.fault.TreeFault.{TreeFault}
 use Rattle.uimg_tree.specs.declared.fault.TreeFault.TheVariants as tree
 use Rattle.uimg_tree.specs.Content.{Unread, AreKept, IsKept, bytes_in, in_full}
-use Rattle.uimg_tree.specs.Encoding.{encode}
+use Rattle.uimg_tree.specs.Encoding.{encode_by}
 use Rattle.uimg_tree.specs.Layouts.{Plan, plan_of, totalsize}
 use Rattle.uimg_tree.specs.Measured.{is_name, bad_property, bad_name, measured_with, measured, Measures}
 use Rattle.uimg_tree.proofs.TotalLaws.{encode-size}
@@ -20,9 +20,10 @@ use Rattle.uimg_fit_base.specs.declared.fault.Fault.TheVariants.{Blob, Fit, Read
 use Rattle.uimg_fit_base.specs.declared.fault.FitFault.{FitFault}
 use Rattle.uimg_fit_base.specs.declared.fault.FitFault.TheVariants.{NoImages, NoData, DataOutside, NoSuchImage, UnknownAlgo, PositionTooLow, TooLarge, OutOfMemory, NoFile, ReadFailed}
 use Rattle.uimg_fit_base.specs.declared.placement.Placement.{Placement}
+use Rattle.uimg_fit_base.specs.Placements.{align_of}
 use Rattle.uimg_fit_building.specs.Behind.{images_in, padded_sizes, file_size, end_fault}
 use Rattle.uimg_fit_building.specs.BuildAnswers.{CanBuild, BuildsAnswer}
-use Rattle.uimg_fit_building.specs.Building.{moved, built}
+use Rattle.uimg_fit_building.specs.Building.{placed_blob, built}
 use Rattle.uimg_fit_building.specs.BuildSteps.{of_measure, MeasuresTree, WritesText, Builds}
 use Rattle.uimg_fit_building.specs.Filling.{IsFilled}
 use Rattle.uimg_fit_building.specs.ReadsBack.{ReadsBack}
@@ -94,21 +95,21 @@ ok-told : (o : Option BlobFault) (p q : Plan) → answer o p ≡ Ok q → (o ≡
 ok-told None p q e = (refl, ok-step (nat_lt 4294967295 (totalsize p)) p q e)
 ok-told (Some g) p q e = absurd (cc)
 
-pub measured-ok : (t : Unread) (p : Plan) → measured t ≡ Ok p → (bad_name t ≡ None) × (plan_of t ≡ p)
-measured-ok t p e = ok-told (bad_name t) (plan_of t) p e
+pub measured-ok : (align : ℕ) (t : Unread) (p : Plan) → measured align t ≡ Ok p → (bad_name t ≡ None) × (plan_of align t ≡ p)
+measured-ok align t p e = ok-told (bad_name t) (plan_of align t) p e
 
-pub measured-err : (t : Unread) (f : BlobFault) → Measures (Err f) (measured t) → MeasuresTree (Err (of_measure f)) t
-measured-err t blob.TooShort e = (bad-told (bad_name t) (plan_of t) blob.TooShort refl e, refl)
-measured-err t blob.BadMagic e = (bad-told (bad_name t) (plan_of t) blob.BadMagic refl e, refl)
-measured-err t blob.BadVersion e = (bad-told (bad_name t) (plan_of t) blob.BadVersion refl e, refl)
-measured-err t blob.BlockOutside e = (bad-told (bad_name t) (plan_of t) blob.BlockOutside refl e, refl)
-measured-err t blob.BadToken e = (bad-told (bad_name t) (plan_of t) blob.BadToken refl e, refl)
-measured-err t blob.Truncated e = (bad-told (bad_name t) (plan_of t) blob.Truncated refl e, refl)
-measured-err t blob.BadNodeName e = (bad-told (bad_name t) (plan_of t) blob.BadNodeName refl e, refl)
-measured-err t blob.BadNesting e = (bad-told (bad_name t) (plan_of t) blob.BadNesting refl e, refl)
-measured-err t blob.BadPropertyName e = (bad-told (bad_name t) (plan_of t) blob.BadPropertyName refl e, refl)
-measured-err t blob.TooLarge e = large-told (bad_name t) (plan_of t) (name-large t) e
-measured-err t blob.OutOfMemory e = tt
+pub measured-err : (align : ℕ) (t : Unread) (f : BlobFault) → Measures (Err f) (measured align t) → MeasuresTree align (Err (of_measure f)) t
+measured-err align t blob.TooShort e = (bad-told (bad_name t) (plan_of align t) blob.TooShort refl e, refl)
+measured-err align t blob.BadMagic e = (bad-told (bad_name t) (plan_of align t) blob.BadMagic refl e, refl)
+measured-err align t blob.BadVersion e = (bad-told (bad_name t) (plan_of align t) blob.BadVersion refl e, refl)
+measured-err align t blob.BlockOutside e = (bad-told (bad_name t) (plan_of align t) blob.BlockOutside refl e, refl)
+measured-err align t blob.BadToken e = (bad-told (bad_name t) (plan_of align t) blob.BadToken refl e, refl)
+measured-err align t blob.Truncated e = (bad-told (bad_name t) (plan_of align t) blob.Truncated refl e, refl)
+measured-err align t blob.BadNodeName e = (bad-told (bad_name t) (plan_of align t) blob.BadNodeName refl e, refl)
+measured-err align t blob.BadNesting e = (bad-told (bad_name t) (plan_of align t) blob.BadNesting refl e, refl)
+measured-err align t blob.BadPropertyName e = (bad-told (bad_name t) (plan_of align t) blob.BadPropertyName refl e, refl)
+measured-err align t blob.TooLarge e = large-told (bad_name t) (plan_of align t) (name-large t) e
+measured-err align t blob.OutOfMemory e = tt
 
 -- a tree that is placed and one whose files are read, of the same tree
 module _ (t : Unread) (placement : Placement) where
@@ -118,13 +119,13 @@ module _ (t : Unread) (placement : Placement) where
   pub placed-kept : (files : List ℕ → Option (List ℕ)) → AreKept files t → AreKept files (moved_unread t placement)
   placed-kept files kept = placed-values (IsKept files) (λ b. tt) t placement kept
 
-  pub placed-size : (files : List ℕ → Option (List ℕ)) → AreKept files t → length (encode (moved (in_full files t) placement)) ≡ totalsize (plan_of (moved_unread t placement))
-  placed-size files kept = ap (λ u. length (encode u)) (moved-unread files t placement kept) ∙ encode-size files (moved_unread t placement) (placed-kept files kept)
+  pub placed-size : (files : List ℕ → Option (List ℕ)) → AreKept files t → length (placed_blob (in_full files t) placement) ≡ totalsize (plan_of (align_of placement) (moved_unread t placement))
+  placed-size files kept = ap (λ u. length (encode_by (align_of placement) u)) (moved-unread files t placement kept) ∙ encode-size files (align_of placement) (moved_unread t placement) (placed-kept files kept)
 
-  pub large-fault : (files : List ℕ → Option (List ℕ)) → AreKept files t → 4294967295 < totalsize (plan_of (moved_unread t placement)) → build_fault (in_full files t) placement ≡ Some TooLarge
+  pub large-fault : (files : List ℕ → Option (List ℕ)) → AreKept files t → 4294967295 < totalsize (plan_of (align_of placement) (moved_unread t placement)) → build_fault (in_full files t) placement ≡ Some TooLarge
   unfolding build_fault
   large-fault files kept large =
-      let over : nat_lt 4294967295 (length (encode (moved (in_full files t) placement))) ≡ true = ap (λ (n : ℕ). nat_lt 4294967295 n) (placed-size files kept) ∙ lt-ltb _ _ large in
+      let over : nat_lt 4294967295 (length (placed_blob (in_full files t) placement)) ≡ true = ap (λ (n : ℕ). nat_lt 4294967295 n) (placed-size files kept) ∙ lt-ltb _ _ large in
       rw over refl
 
 same-map : (m : FileMap) → SameFiles m m
@@ -154,7 +155,7 @@ module _ (steady : Bool) (t : Unread) (placement : Placement) (m : FileMap) (s :
   }
 
   -- the tree can't be measured
-  pub unmeasured : (e : Fault) → (let r : Result Plan Fault = Err e in MeasuresTree r (moved_unread t placement)) → Builds steady t placement (failed e) m m s s
+  pub unmeasured : (e : Fault) → (let r : Result Plan Fault = Err e in MeasuresTree (align_of placement) r (moved_unread t placement)) → Builds steady t placement (failed e) m m s s
   unmeasured (Blob fault at) h = record {
     files = record { same = same-map m; refusals = refl };
     found = λ complete kept. refl;
@@ -185,14 +186,14 @@ module _ (steady : Bool) (t : Unread) (placement : Placement) (m : FileMap) (s :
   unmeasured Read h = absurd h
   unmeasured Put h = absurd h
 
-  module _ (p : Plan) (is : (let r : Result Plan Fault = Ok p in MeasuresTree r (moved_unread t placement))) (small : totalsize p ≤ 4294967295) where
-    sized : (files : List ℕ → Option (List ℕ)) → AreKept files t → length (encode (moved (in_full files t) placement)) ≡ totalsize p
+  module _ (p : Plan) (is : (let r : Result Plan Fault = Ok p in MeasuresTree (align_of placement) r (moved_unread t placement))) (small : totalsize p ≤ 4294967295) where
+    sized : (files : List ℕ → Option (List ℕ)) → AreKept files t → length (placed_blob (in_full files t) placement) ≡ totalsize p
     sized files kept = placed-size t placement files kept ∙ ap totalsize is.1
 
     named : (files : List ℕ → Option (List ℕ)) → bad_name (in_full files t) ≡ None
     named files = sym (names t placement files) ∙ is.0
 
-    fault-is : (files : List ℕ → Option (List ℕ)) → AreKept files t → build_fault (in_full files t) placement ≡ end_fault (totalsize p) (padded_sizes (images_in t)) placement
+    fault-is : (files : List ℕ → Option (List ℕ)) → AreKept files t → build_fault (in_full files t) placement ≡ end_fault (totalsize p) (padded_sizes (align_of placement) (images_in t)) placement
     fault-is files kept = fault-same files (totalsize p) t placement kept (sized files kept) small
 
     chosen : (P : FitFault → Type 0) (b c : Bool) (f : FitFault) → (if b then Some PositionTooLow else if c then Some TooLarge else None) ≡ Some f → P PositionTooLow → P TooLarge → P f
@@ -201,7 +202,7 @@ module _ (steady : Bool) (t : Unread) (placement : Placement) (m : FileMap) (s :
     chosen P false false f e h k = absurd (cc)
 
     abbrev ToldBy : FitFault → Type 0
-    ToldBy f = end_fault (totalsize p) (padded_sizes (images_in t)) placement ≡ Some f → Builds steady t placement (failed (Fit f)) m m s s
+    ToldBy f = end_fault (totalsize p) (padded_sizes (align_of placement) (images_in t)) placement ≡ Some f → Builds steady t placement (failed (Fit f)) m m s s
 
     low-told : ToldBy PositionTooLow
     low-told e = record {
@@ -228,9 +229,9 @@ module _ (steady : Bool) (t : Unread) (placement : Placement) (m : FileMap) (s :
     -- the payloads can't stand behind the blob
     pub no_room : (f : FitFault) → ToldBy f
     unfolding end_fault
-    no_room f e = chosen ToldBy (is_low (totalsize p) placement) (nat_lt 4294967295 (file_size (totalsize p) (padded_sizes (images_in t)) placement)) f e low-told large-end-told e
+    no_room f e = chosen ToldBy (is_low (totalsize p) placement) (nat_lt 4294967295 (file_size (totalsize p) (padded_sizes (align_of placement) (images_in t)) placement)) f e low-told large-end-told e
 
-    module _ (good : end_fault (totalsize p) (padded_sizes (images_in t)) placement ≡ None) (n : FileMap) (u : Sink) where
+    module _ (good : end_fault (totalsize p) (padded_sizes (align_of placement) (images_in t)) placement ≡ None) (n : FileMap) (u : Sink) where
       can : AreKept m.bytes t → CanBuild (in_full m.bytes t) placement
       can kept = record { named = named m.bytes; fits = fault-is m.bytes kept ∙ good }
 

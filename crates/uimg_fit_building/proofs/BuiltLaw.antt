@@ -7,13 +7,13 @@ use Rattle.uimg_blob.specs.declared.fault.BlobFault.{BlobFault}
 use Rattle.uimg_blob.specs.declared.fault.BlobFault.TheVariants.{BadNodeName, BadPropertyName}
 use Rattle.uimg_texts.specs.Nul.{before_nul}
 use Rattle.uimg_blob.specs.Plain.{Named, Nodes, no_node, a_node, IsName, AreNamed}
-use Rattle.uimg_tree.specs.Encoding.{encode}
+use Rattle.uimg_tree.specs.Encoding.{encode_by}
 use Rattle.uimg_tree.specs.Measured.{is_name, bad_property, bad_name}
 use Rattle.uimg_fit_base.specs.declared.fault.FitFault.TheVariants.{PositionTooLow, TooLarge}
 use Rattle.uimg_fit_base.specs.declared.placement.Placement.{Placement}
 use Rattle.uimg_fit_base.specs.declared.placement.Placement.TheVariants.{Inside, After, At}
 use Rattle.uimg_fit_building.specs.Filling.{IsFilled}
-use Rattle.uimg_fit_building.specs.Building.{moved, built}
+use Rattle.uimg_fit_building.specs.Building.{placed_blob, built}
 use Rattle.uimg_fit_building.specs.Refusing.{is_low, build_fault}
 use Rattle.uimg_fit_building.specs.ReadsBack.{ReadsBack}
 use Rattle.uimg_fit_building.proofs.InsideLaw.{built-inside}
@@ -70,20 +70,20 @@ module _ (name : List ℕ) (own : List Named) (below : Nodes) where
   fits : (placement : Placement) → build_fault t placement ≡ None → length (built t placement) < 2 ^ 32
   unfolding build_fault
   fits placement h =
-      let s = accepted (nat_lt 4294967295 (length (encode (moved t placement)))) (is_low (length (encode (moved t placement))) placement) (nat_lt 4294967295 (length (built t placement))) h in
+      let s = accepted (nat_lt 4294967295 (length (placed_blob t placement))) (is_low (length (placed_blob t placement)) placement) (nat_lt 4294967295 (length (built t placement))) h in
       let le : length (built t placement) ≤ 4294967295 = ltb-false _ _ s.2 in
       omega (arith, le)
 
-  high : (p : ℕ) → build_fault t (At p) ≡ None → length (encode (moved t (At p))) ≤ p
+  high : (p align : ℕ) → build_fault t (At p align) ≡ None → length (placed_blob t (At p align)) ≤ p
   unfolding build_fault
-  high p h =
-      let s = accepted (nat_lt 4294967295 (length (encode (moved t (At p))))) (nat_lt p (length (encode (moved t (At p))))) (nat_lt 4294967295 (length (built t (At p)))) h in
+  high p align h =
+      let s = accepted (nat_lt 4294967295 (length (placed_blob t (At p align)))) (nat_lt p (length (placed_blob t (At p align)))) (nat_lt 4294967295 (length (built t (At p align)))) h in
       ltb-false _ _ s.1
 
   -- a filled tree that can be built is what is read of its file again
   pub reads_back : (placement : Placement) → bad_name t ≡ None → IsFilled t → build_fault t placement ≡ None → ReadsBack (built t placement) t
   reads_back Inside good filled ok =
-      let small : length (encode t) < 2 ^ 32 = omega (arith, fits Inside ok, length-append (encode t) []) in
+      let small : length (encode_by 4 t) < 2 ^ 32 = omega (arith, fits Inside ok, length-append (encode_by 4 t) []) in
       built-inside name own below (named-good t good) small filled
-  reads_back After good filled ok = built-after name own below (named-good t good) filled (fits After ok)
-  reads_back (At p) good filled ok = built-at name own below (named-good t good) filled p (high p ok) (fits (At p) ok)
+  reads_back (After align) good filled ok = built-after align name own below (named-good t good) filled (fits (After align) ok)
+  reads_back (At p align) good filled ok = built-at align name own below (named-good t good) filled p (high p align ok) (fits (At p align) ok)

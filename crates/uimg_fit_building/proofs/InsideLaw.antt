@@ -8,7 +8,7 @@ use Rattle.uimg_blob.specs.Reading.{Fault}
 use Rattle.uimg_blob.specs.Grammar.{Siblings}
 use Rattle.uimg_blob.specs.Blob.{tree}
 use Rattle.uimg_blob.specs.Plain.{Named, Nodes, no_node, a_node, AllValues, AreNamed}
-use Rattle.uimg_tree.specs.Encoding.{encode}
+use Rattle.uimg_tree.specs.Encoding.{encode_by}
 use Rattle.uimg_tree.proofs.Spelling.{placed}
 use Rattle.uimg_fit_base.specs.declared.fault.FitFault.{FitFault}
 use Rattle.uimg_fit_base.specs.declared.placement.Placement.TheVariants.{Inside}
@@ -42,15 +42,15 @@ read-from file None found e h is = absurd (cc)
 read-from file (Some l) found e h is = record { placed = l; are = is; same = cc; lie = h }
 
 -- the images of a file that begins with the blob of a tree are those of the tree
-pub images-read : (name : List ℕ) (own : List Named) (below : Nodes) (more : List ℕ) (found : List (NodeOf (List ℕ)))
+pub images-read : (align : ℕ) (name : List ℕ) (own : List Named) (below : Nodes) (more : List ℕ) (found : List (NodeOf (List ℕ)))
     → (let u : Nodes = a_node name own below no_node in AreNamed u)
-    → (let u : Nodes = a_node name own below no_node in length (encode u)) < 2 ^ 32
+    → (let u : Nodes = a_node name own below no_node in length (encode_by align u)) < 2 ^ 32
     → (let u : Nodes = a_node name own below no_node in images u ≡ Some found)
-    → (let u : Nodes = a_node name own below no_node in IsRead (encode u ++ more) found)
-images-read name own below more found named fits are =
+    → (let u : Nodes = a_node name own below no_node in IsRead (encode_by align u ++ more) found)
+images-read align name own below more found named fits are =
     let u : Nodes = a_node name own below no_node in
-    let file = encode u ++ more in
-    let read : tree file ≡ Ok (placed 56 u) = encode-tree name own below named fits more in
+    let file = encode_by align u ++ more in
+    let read : tree file ≡ Ok (placed 56 u) = encode-tree align name own below named fits more in
     let s = spots (placed 56 u) in
     let lie : AllValues (Lies file) s = lies-spots file (placed 56 u) (subst (λ (r : Result Siblings Fault). IfOk r (Lie file)) read (tree-lies file)) in
     let views : option_map (λ (l : List (NodeOf Spot)). map plain l) (images s) ≡ Some found =
@@ -86,13 +86,13 @@ inside-images file (i ∷ is) lie f = (inside-image file i lie.0 f.0, inside-ima
 
 pub built-inside : (name : List ℕ) (own : List Named) (below : Nodes)
     → (let t : Nodes = a_node name own below no_node in AreNamed t)
-    → (let t : Nodes = a_node name own below no_node in length (encode t)) < 2 ^ 32
+    → (let t : Nodes = a_node name own below no_node in length (encode_by 4 t)) < 2 ^ 32
     → (let t : Nodes = a_node name own below no_node in IsFilled t)
     → (let t : Nodes = a_node name own below no_node in ReadsBack (built t Inside) t)
 built-inside name own below named fits f =
     let t : Nodes = a_node name own below no_node in
-    let file = encode t ++ [] in
-    let r = images-read name own below [] f.found named fits f.are_images in
+    let file = encode_by 4 t ++ [] in
+    let r = images-read 4 name own below [] f.found named fits f.are_images in
     let filled : AllByRecursion IsFilledImage (map plain r.placed) = subst (λ (l : List (NodeOf (List ℕ))). AllByRecursion IsFilledImage l) (sym r.same) f.each_filled in
     let sound : AreSound file r.placed (map (λ (i : NodeOf (List ℕ)). data_of i.own) f.found) =
     subst (λ (l : List (NodeOf (List ℕ))). AreSound file r.placed (map (λ (i : NodeOf (List ℕ)). data_of i.own) l)) r.same (inside-images file r.placed r.lie filled) in

@@ -25,61 +25,61 @@ module _ (files : List ℕ → Option (List ℕ)) where
   abbrev all_pieces : List Content → Type 0
   all_pieces pieces = AllByRecursion (IsKept files) pieces
 
-  own-step : (b : Bool) (key : List ℕ) (at : ℕ) (p : NamedOf Content) (own source : List (NamedOf Content))
+  own-step : (align : ℕ) (b : Bool) (key : List ℕ) (at : ℕ) (p : NamedOf Content) (own source : List (NamedOf Content))
       → all_own (if b then record { name = key; value = bytes (word at) } ∷ record { name = codes "data-size"; value = bytes (word (size_of p.value)) } ∷ own else p ∷ source)
-      → all_pieces (padded_pieces (option_map (λ q. q.value) (cond b (Some p) (find (λ q. bytes_eq (codes "data") q.name) own))))
-      → (all_own source → all_pieces (padded_pieces (first own (codes "data"))) → all_own own)
+      → all_pieces (padded_pieces align (option_map (λ q. q.value) (cond b (Some p) (find (λ q. bytes_eq (codes "data") q.name) own))))
+      → (all_own source → all_pieces (padded_pieces align (first own (codes "data"))) → all_own own)
       → all_own (p ∷ own)
-  own-step true key at p own source placed behind more = (behind.0, placed.1.1)
-  own-step false key at p own source placed behind more = (placed.0, more placed.1 behind)
+  own-step align true key at p own source placed behind more = (behind.0, placed.1.1)
+  own-step align false key at p own source placed behind more = (placed.0, more placed.1 behind)
 
-  own-kept : (key : List ℕ) (at : ℕ) (own : List (NamedOf Content)) → all_own (unread_own key at own) → all_pieces (padded_pieces (first own (codes "data"))) → all_own own
+  own-kept : (align : ℕ) (key : List ℕ) (at : ℕ) (own : List (NamedOf Content)) → all_own (unread_own key at own) → all_pieces (padded_pieces align (first own (codes "data"))) → all_own own
   unfolding moved_own_by
-  own-kept key at [] placed behind = tt
-  own-kept key at (p ∷ own) placed behind =
-      own-step (bytes_eq (codes "data") p.name) key at p own (unread_own key at own) placed behind (own-kept key at own)
+  own-kept align key at [] placed behind = tt
+  own-kept align key at (p ∷ own) placed behind =
+      own-step align (bytes_eq (codes "data") p.name) key at p own (unread_own key at own) placed behind (own-kept align key at own)
 
-  images-kept : (key : List ℕ) (at : ℕ) (t : Unread) → AreKept files (unread_from key at t) → all_pieces (flat_map payload_pieces (listed t)) → AreKept files t
+  images-kept : (align : ℕ) (key : List ℕ) (at : ℕ) (t : Unread) → AreKept files (unread_from align key at t) → all_pieces (flat_map (payload_pieces align) (listed t)) → AreKept files t
   unfolding moved_from_by listed
-  images-kept key at no_node placed behind = tt
-  images-kept key at (a_node name own below after) placed behind =
+  images-kept align key at no_node placed behind = tt
+  images-kept align key at (a_node name own below after) placed behind =
       let here : NodeOf Content = record { name = name; own = own; below = below } in
-      let rest = flat_map payload_pieces (listed after) in (
-        own-kept key at own placed.0 (all-first (IsKept files) (payload_pieces here) rest behind),
+      let rest = flat_map (payload_pieces align) (listed after) in (
+        own-kept align key at own placed.0 (all-first (IsKept files) (payload_pieces align here) rest behind),
         placed.1,
-        images-kept key (at + padded_size_of own) after placed.2 (all-second (IsKept files) (payload_pieces here) rest behind),
+        images-kept align key (at + padded_size_of align own) after placed.2 (all-second (IsKept files) (payload_pieces align here) rest behind),
       )
 
   -- the payloads of the images below a node, if there is one
-  abbrev pieces_below : Option (NodeOf Content) → List Content
-  pieces_below o = flat_map payload_pieces (unwrap_or (option_map (λ c. listed c.below) o) [])
+  abbrev pieces_below : ℕ → Option (NodeOf Content) → List Content
+  pieces_below align o = flat_map (payload_pieces align) (unwrap_or (option_map (λ c. listed c.below) o) [])
 
-  first-step : (b : Bool) (name : List ℕ) (own : List (NamedOf Content)) (below after new_below new_after : Unread) (o : Option (NodeOf Content))
+  first-step : (align : ℕ) (b : Bool) (name : List ℕ) (own : List (NamedOf Content)) (below after new_below new_after : Unread) (o : Option (NodeOf Content))
       → AreKept files (if b then a_node name own new_below after else a_node name own below new_after)
-      → all_pieces (pieces_below (cond b (Some (record { name = name; own = own; below = below })) o))
-      → (AreKept files new_below → all_pieces (flat_map payload_pieces (listed below)) → AreKept files below)
-      → (AreKept files new_after → all_pieces (pieces_below o) → AreKept files after)
+      → all_pieces (pieces_below align (cond b (Some (record { name = name; own = own; below = below })) o))
+      → (AreKept files new_below → all_pieces (flat_map (payload_pieces align) (listed below)) → AreKept files below)
+      → (AreKept files new_after → all_pieces (pieces_below align o) → AreKept files after)
       → AreKept files (a_node name own below after)
-  first-step true name own below after new_below new_after o placed behind here there = (placed.0, here placed.1 behind, placed.2)
-  first-step false name own below after new_below new_after o placed behind here there = (placed.0, placed.1, there placed.2 behind)
+  first-step align true name own below after new_below new_after o placed behind here there = (placed.0, here placed.1 behind, placed.2)
+  first-step align false name own below after new_below new_after o placed behind here there = (placed.0, placed.1, there placed.2 behind)
 
-  first-kept : (key : List ℕ) (at : ℕ) (t : Unread) → AreKept files (in_first (codes "images") (unread_from key at) t)
-      → all_pieces (pieces_below (find (λ c. bytes_eq (codes "images") c.name) (listed t))) → AreKept files t
+  first-kept : (align : ℕ) (key : List ℕ) (at : ℕ) (t : Unread) → AreKept files (in_first (codes "images") (unread_from align key at) t)
+      → all_pieces (pieces_below align (find (λ c. bytes_eq (codes "images") c.name) (listed t))) → AreKept files t
   unfolding in_first listed
-  first-kept key at no_node placed behind = tt
-  first-kept key at (a_node name own below after) placed behind =
-      first-step (bytes_eq (codes "images") name) name own below after (unread_from key at below) (in_first (codes "images") (unread_from key at) after)
-      (find (λ c. bytes_eq (codes "images") c.name) (listed after)) placed behind (images-kept key at below) (first-kept key at after)
+  first-kept align key at no_node placed behind = tt
+  first-kept align key at (a_node name own below after) placed behind =
+      first-step align (bytes_eq (codes "images") name) name own below after (unread_from align key at below) (in_first (codes "images") (unread_from align key at) after)
+      (find (λ c. bytes_eq (codes "images") c.name) (listed after)) placed behind (images-kept align key at below) (first-kept align key at after)
 
-  tree-kept : (key : List ℕ) (at : ℕ) (t : Unread) → AreKept files (with_images (unread_from key at) t) → all_pieces (flat_map payload_pieces (images_in t)) → AreKept files t
-  tree-kept key at no_node placed behind = tt
-  tree-kept key at (a_node name own below after) placed behind = (placed.0, first-kept key at below placed.1 behind, placed.2)
+  tree-kept : (align : ℕ) (key : List ℕ) (at : ℕ) (t : Unread) → AreKept files (with_images (unread_from align key at) t) → all_pieces (flat_map (payload_pieces align) (images_in t)) → AreKept files t
+  tree-kept align key at no_node placed behind = tt
+  tree-kept align key at (a_node name own below after) placed behind = (placed.0, first-kept align key at below placed.1 behind, placed.2)
 
   -- the files of a tree are kept where those of its blob are, and those of what stands behind it
   pub both-kept : (size : ℕ) (t : Unread) (placement : Placement) → AreKept files (moved_unread t placement) → all_pieces (behind_pieces size t placement) → AreKept files t
   both-kept size t Inside placed behind = placed
-  both-kept size t After placed behind = tree-kept (codes "data-offset") 0 t placed behind
-  both-kept size t (At p) placed behind = tree-kept (codes "data-position") p t placed behind.1
+  both-kept size t (After align) placed behind = tree-kept align (codes "data-offset") 0 t placed behind
+  both-kept size t (At p align) placed behind = tree-kept align (codes "data-position") p t placed behind.1
 
   -- the same where the blob was written, of what writing the rest answers
   pub kept-then : (r : Result (Unit {0}) TreeFault) (size : ℕ) (t : Unread) (placement : Placement) → AreKept files (moved_unread t placement)

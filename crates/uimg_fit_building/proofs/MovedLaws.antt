@@ -4,22 +4,22 @@ use Rattle.std.specs.List.{AllByRecursion}
 use Rattle.std.specs.Option.{option_map, option_map_or}
 use Rattle.std.specs.Str.{bytes_eq}
 use Rattle.std.proofs.lemmas.Nat.{from_be_bytes-to_be_bytes_4}
-use Rattle.uimg_texts.specs.Numbers.{up4}
 use Rattle.uimg_blob.specs.Plain.{Named, Nodes, no_node, a_node, IsName, AreNamed}
-use Rattle.uimg_tree.specs.Encoding.{word, padded}
-use Rattle.uimg_tree.proofs.TokenLaws.{length-padded}
+use Rattle.uimg_tree.specs.Alignment.{aligned, padded_by}
+use Rattle.uimg_tree.specs.Encoding.{word}
+use Rattle.uimg_tree.proofs.AlignmentLaws.{length-padded_by, aligned-none}
 use Rattle.uimg_blob.specs.LookUps.{NodeOf, listed, first, images}
 use Rattle.uimg_fit_base.specs.Files.{number}
 use Rattle.uimg_fit_building.specs.Filling.{in_first, with_images}
 use Rattle.uimg_fit_building.specs.Building.{data_of, padded_size, moved_own, moved_from, moved_from_by, moved_own_by}
 
 -- a payload with the zeros behind it
-padded-step : (o : Option (List ℕ)) → length (padded (unwrap_or o [])) ≡ option_map_or (λ (payload : List ℕ). up4 (length payload)) o 0
-padded-step None = refl
-padded-step (Some payload) = length-padded payload
+padded-step : (align : ℕ) (o : Option (List ℕ)) → length (padded_by align (unwrap_or o [])) ≡ option_map_or (λ (payload : List ℕ). aligned align (length payload)) o 0
+padded-step align None = length-padded_by align [] ∙ aligned-none align
+padded-step align (Some payload) = length-padded_by align payload
 
-pub padded-length : (own : List Named) → length (padded (data_of own)) ≡ padded_size own
-padded-length own = padded-step (first own (codes "data"))
+pub padded-length : (align : ℕ) (own : List Named) → length (padded_by align (data_of own)) ≡ padded_size align own
+padded-length align own = padded-step align (first own (codes "data"))
 
 -- the three names
 
@@ -31,15 +31,15 @@ offset-name = record { short = omega arith; no_nul = refl }
 abbrev pub moved_node : List ℕ → ℕ → NodeOf (List ℕ) → NodeOf (List ℕ)
 moved_node key at i = record i { own = moved_own key at i.own }
 
-unfoldable pub moved_nodes : List ℕ → ℕ → List (NodeOf (List ℕ)) → List (NodeOf (List ℕ))
-moved_nodes key at [] = []
-moved_nodes key at (i ∷ is) = moved_node key at i ∷ moved_nodes key (at + padded_size i.own) is
+unfoldable pub moved_nodes : ℕ → List ℕ → ℕ → List (NodeOf (List ℕ)) → List (NodeOf (List ℕ))
+moved_nodes align key at [] = []
+moved_nodes align key at (i ∷ is) = moved_node key at i ∷ moved_nodes align key (at + padded_size align i.own) is
 
-listed-moved : (key : List ℕ) (at : ℕ) (t : Nodes) → listed (moved_from key at t) ≡ moved_nodes key at (listed t)
+listed-moved : (align : ℕ) (key : List ℕ) (at : ℕ) (t : Nodes) → listed (moved_from align key at t) ≡ moved_nodes align key at (listed t)
 unfolding listed moved_from_by moved_nodes
-listed-moved key at no_node = refl
-listed-moved key at (a_node name own below after) =
-    ap (λ (l : List (NodeOf (List ℕ))). moved_node key at (record { name = name; own = own; below = below }) ∷ l) (listed-moved key (at + padded_size own) after)
+listed-moved align key at no_node = refl
+listed-moved align key at (a_node name own below after) =
+    ap (λ (l : List (NodeOf (List ℕ))). moved_node key at (record { name = name; own = own; below = below }) ∷ l) (listed-moved align key (at + padded_size align own) after)
 
 -- a node, its children by a function
 abbrev pub node_in : (Nodes → Nodes) → NodeOf (List ℕ) → NodeOf (List ℕ)
@@ -58,17 +58,17 @@ unfolding listed in_first
 find-in_first key f no_node = refl
 find-in_first key f (a_node name own below after) = in_first-step key f name own below after (bytes_eq key name) refl (find-in_first key f after)
 
-below-in : (key : List ℕ) (at : ℕ) (o : Option (NodeOf (List ℕ))) → option_map (λ (c : NodeOf (List ℕ)). listed c.below) (option_map (node_in (moved_from key at)) o)
-    ≡ option_map (moved_nodes key at) (option_map (λ (c : NodeOf (List ℕ)). listed c.below) o)
-below-in key at None = refl
-below-in key at (Some c) = ap (λ (l : List (NodeOf (List ℕ))). let y : Option (List (NodeOf (List ℕ))) = Some l in y) (listed-moved key at c.below)
+below-in : (align : ℕ) (key : List ℕ) (at : ℕ) (o : Option (NodeOf (List ℕ))) → option_map (λ (c : NodeOf (List ℕ)). listed c.below) (option_map (node_in (moved_from align key at)) o)
+    ≡ option_map (moved_nodes align key at) (option_map (λ (c : NodeOf (List ℕ)). listed c.below) o)
+below-in align key at None = refl
+below-in align key at (Some c) = ap (λ (l : List (NodeOf (List ℕ))). let y : Option (List (NodeOf (List ℕ))) = Some l in y) (listed-moved align key at c.below)
 
 -- the images of a moved tree are the images moved
-pub images-moved : (key : List ℕ) (at : ℕ) (t : Nodes) → images (with_images (moved_from key at) t) ≡ option_map (moved_nodes key at) (images t)
-images-moved key at no_node = refl
-images-moved key at (a_node name own below after) =
-    ap (λ (o : Option (NodeOf (List ℕ))). option_map (λ (c : NodeOf (List ℕ)). listed c.below) o) (find-in_first (codes "images") (moved_from key at) below)
-    ∙ below-in key at (find (λ c. bytes_eq (codes "images") c.name) (listed below))
+pub images-moved : (align : ℕ) (key : List ℕ) (at : ℕ) (t : Nodes) → images (with_images (moved_from align key at) t) ≡ option_map (moved_nodes align key at) (images t)
+images-moved align key at no_node = refl
+images-moved align key at (a_node name own below after) =
+    ap (λ (o : Option (NodeOf (List ℕ))). option_map (λ (c : NodeOf (List ℕ)). listed c.below) o) (find-in_first (codes "images") (moved_from align key at) below)
+    ∙ below-in align key at (find (λ c. bytes_eq (codes "images") c.name) (listed below))
 
 size-name : IsName (codes "data-size")
 unfolding Rattle.uimg_texts.specs.Nul.before_nul
@@ -95,26 +95,26 @@ unfolding moved_own_by
 named-moved_own key at [] k h = tt
 named-moved_own key at (p ∷ own) k h = named-step (bytes_eq (codes "data") p.name) key at p own (moved_own key at own) k h.0 h.1 (named-moved_own key at own k h.1)
 
-named-moved : (key : List ℕ) (at : ℕ) (t : Nodes) → IsName key → AreNamed t → AreNamed (moved_from key at t)
+named-moved : (align : ℕ) (key : List ℕ) (at : ℕ) (t : Nodes) → IsName key → AreNamed t → AreNamed (moved_from align key at t)
 unfolding moved_from_by
-named-moved key at no_node k h = tt
-named-moved key at (a_node name own below after) k h = (h.0, named-moved_own key at own k h.1, h.2, named-moved key (at + padded_size own) after k h.3)
+named-moved align key at no_node k h = tt
+named-moved align key at (a_node name own below after) k h = (h.0, named-moved_own key at own k h.1, h.2, named-moved align key (at + padded_size align own) after k h.3)
 
 named-choice : (b : Bool) (t u : Nodes) → AreNamed t → AreNamed u → AreNamed (if b then t else u)
 named-choice true t u h k = h
 named-choice false t u h k = k
 
-named-in : (first_key key : List ℕ) (at : ℕ) (t : Nodes) → IsName key → AreNamed t → AreNamed (in_first first_key (moved_from key at) t)
+named-in : (align : ℕ) (first_key key : List ℕ) (at : ℕ) (t : Nodes) → IsName key → AreNamed t → AreNamed (in_first first_key (moved_from align key at) t)
 unfolding in_first
-named-in first_key key at no_node k h = tt
-named-in first_key key at (a_node name own below after) k h =
-    let here : Nodes = a_node name own (moved_from key at below) after in
-    let there : Nodes = a_node name own below (in_first first_key (moved_from key at) after) in
-    named-choice (bytes_eq first_key name) here there (h.0, h.1, named-moved key at below k h.2, h.3) (h.0, h.1, h.2, named-in first_key key at after k h.3)
+named-in align first_key key at no_node k h = tt
+named-in align first_key key at (a_node name own below after) k h =
+    let here : Nodes = a_node name own (moved_from align key at below) after in
+    let there : Nodes = a_node name own below (in_first first_key (moved_from align key at) after) in
+    named-choice (bytes_eq first_key name) here there (h.0, h.1, named-moved align key at below k h.2, h.3) (h.0, h.1, h.2, named-in align first_key key at after k h.3)
 
-pub named-images : (key : List ℕ) (at : ℕ) (t : Nodes) → IsName key → AreNamed t → AreNamed (with_images (moved_from key at) t)
-named-images key at no_node k h = tt
-named-images key at (a_node name own below after) k h = (h.0, h.1, named-in (codes "images") key at below k h.2, h.3)
+pub named-images : (align : ℕ) (key : List ℕ) (at : ℕ) (t : Nodes) → IsName key → AreNamed t → AreNamed (with_images (moved_from align key at) t)
+named-images align key at no_node k h = tt
+named-images align key at (a_node name own below after) k h = (h.0, h.1, named-in align (codes "images") key at below k h.2, h.3)
 
 -- the number of a word
 pub number-word : (n : ℕ) → n < 2 ^ 32 → number (word n) ≡ Some n

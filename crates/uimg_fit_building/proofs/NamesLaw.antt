@@ -46,7 +46,7 @@ position_is_good : is_name (codes "data-position") ≡ true
 unfolding Rattle.uimg_texts.specs.Nul.before_nul
 position_is_good = refl
 
-module _ (key : List ℕ) (good : is_name key ≡ true) where
+module _ (align : ℕ) (key : List ℕ) (good : is_name key ≡ true) where
   abbrev chain : Bool → Option BlobFault → Option BlobFault
   chain b o = if b then o else Some BadPropertyName
 
@@ -65,12 +65,12 @@ module _ (key : List ℕ) (good : is_name key ≡ true) where
       own-step (bytes_eq (codes "data") p.name) at p own (unread_own key at own)
       (λ here. ap (λ (n : List ℕ). is_name n) (sym ((bytes_eq-Decides (codes "data") p.name).0 here)) ∙ data_is_name) (own-names at own)
 
-  from-names : (at : ℕ) (t : Unread) → bad_name (unread_from key at t) ≡ bad_name t
+  from-names : (at : ℕ) (t : Unread) → bad_name (unread_from align key at t) ≡ bad_name t
   unfolding bad_name moved_from_by
   from-names at no_node = refl
   from-names at (a_node name own below after) =
-      ap (λ (o : Option BlobFault). if is_name name then option_or o (option_or (bad_name below) (bad_name (unread_from key (at + padded_size_of own) after))) else Some BadNodeName) (own-names at own)
-      ∙ ap (λ (o : Option BlobFault). if is_name name then option_or (bad_property own) (option_or (bad_name below) o) else Some BadNodeName) (from-names (at + padded_size_of own) after)
+      ap (λ (o : Option BlobFault). if is_name name then option_or o (option_or (bad_name below) (bad_name (unread_from align key (at + padded_size_of align own) after))) else Some BadNodeName) (own-names at own)
+      ∙ ap (λ (o : Option BlobFault). if is_name name then option_or (bad_property own) (option_or (bad_name below) o) else Some BadNodeName) (from-names (at + padded_size_of align own) after)
 
   first-step : (b : Bool) (name : List ℕ) (own : List (NamedOf Content)) (below after new_below new_after : Unread) → bad_name new_below ≡ bad_name below → bad_name new_after ≡ bad_name after
       → bad_name (if b then a_node name own new_below after else a_node name own below new_after) ≡ bad_name (a_node name own below after)
@@ -78,13 +78,13 @@ module _ (key : List ℕ) (good : is_name key ≡ true) where
   first-step true name own below after new_below new_after h k = ap (λ (o : Option BlobFault). if is_name name then option_or (bad_property own) (option_or o (bad_name after)) else Some BadNodeName) h
   first-step false name own below after new_below new_after h k = ap (λ (o : Option BlobFault). if is_name name then option_or (bad_property own) (option_or (bad_name below) o) else Some BadNodeName) k
 
-  first-names : (first_key : List ℕ) (at : ℕ) (t : Unread) → bad_name (in_first first_key (unread_from key at) t) ≡ bad_name t
+  first-names : (first_key : List ℕ) (at : ℕ) (t : Unread) → bad_name (in_first first_key (unread_from align key at) t) ≡ bad_name t
   unfolding in_first
   first-names first_key at no_node = refl
   first-names first_key at (a_node name own below after) =
-      first-step (bytes_eq first_key name) name own below after (unread_from key at below) (in_first first_key (unread_from key at) after) (from-names at below) (first-names first_key at after)
+      first-step (bytes_eq first_key name) name own below after (unread_from align key at below) (in_first first_key (unread_from align key at) after) (from-names at below) (first-names first_key at after)
 
-  images-names : (at : ℕ) (t : Unread) → bad_name (with_images (unread_from key at) t) ≡ bad_name t
+  images-names : (at : ℕ) (t : Unread) → bad_name (with_images (unread_from align key at) t) ≡ bad_name t
   unfolding bad_name
   images-names at no_node = refl
   images-names at (a_node name own below after) =
@@ -93,8 +93,8 @@ module _ (key : List ℕ) (good : is_name key ≡ true) where
 -- the bad name of a tree whose payloads are placed
 pub placed-names : (t : Unread) (placement : Placement) → bad_name (moved_unread t placement) ≡ bad_name t
 placed-names t Inside = refl
-placed-names t After = images-names (codes "data-offset") offset_is_good 0 t
-placed-names t (At p) = images-names (codes "data-position") position_is_good p t
+placed-names t (After align) = images-names align (codes "data-offset") offset_is_good 0 t
+placed-names t (At p align) = images-names align (codes "data-position") position_is_good p t
 
 module _ (P : Content → Type 0) (of-bytes : (b : List ℕ) → P (bytes b)) where
   abbrev all_own : List (NamedOf Content) → Type 0
@@ -110,29 +110,29 @@ module _ (P : Content → Type 0) (of-bytes : (b : List ℕ) → P (bytes b)) wh
   kept-own key at [] h = tt
   kept-own key at (p ∷ own) h = kept-step (bytes_eq (codes "data") p.name) key at p own (unread_own key at own) h.0 h.1 (kept-own key at own h.1)
 
-  kept-from : (key : List ℕ) (at : ℕ) (t : Unread) → AllValues P t → AllValues P (unread_from key at t)
+  kept-from : (align : ℕ) (key : List ℕ) (at : ℕ) (t : Unread) → AllValues P t → AllValues P (unread_from align key at t)
   unfolding moved_from_by
-  kept-from key at no_node h = tt
-  kept-from key at (a_node name own below after) h = (kept-own key at own h.0, h.1, kept-from key (at + padded_size_of own) after h.2)
+  kept-from align key at no_node h = tt
+  kept-from align key at (a_node name own below after) h = (kept-own key at own h.0, h.1, kept-from align key (at + padded_size_of align own) after h.2)
 
   kept-choice : (b : Bool) (t u : Unread) → AllValues P t → AllValues P u → AllValues P (if b then t else u)
   kept-choice true t u h k = h
   kept-choice false t u h k = k
 
-  kept-first : (first_key key : List ℕ) (at : ℕ) (t : Unread) → AllValues P t → AllValues P (in_first first_key (unread_from key at) t)
+  kept-first : (align : ℕ) (first_key key : List ℕ) (at : ℕ) (t : Unread) → AllValues P t → AllValues P (in_first first_key (unread_from align key at) t)
   unfolding in_first
-  kept-first first_key key at no_node h = tt
-  kept-first first_key key at (a_node name own below after) h =
-      let here : Unread = a_node name own (unread_from key at below) after in
-      let there : Unread = a_node name own below (in_first first_key (unread_from key at) after) in
-      kept-choice (bytes_eq first_key name) here there (h.0, kept-from key at below h.1, h.2) (h.0, h.1, kept-first first_key key at after h.2)
+  kept-first align first_key key at no_node h = tt
+  kept-first align first_key key at (a_node name own below after) h =
+      let here : Unread = a_node name own (unread_from align key at below) after in
+      let there : Unread = a_node name own below (in_first first_key (unread_from align key at) after) in
+      kept-choice (bytes_eq first_key name) here there (h.0, kept-from align key at below h.1, h.2) (h.0, h.1, kept-first align first_key key at after h.2)
 
-  kept-images : (key : List ℕ) (at : ℕ) (t : Unread) → AllValues P t → AllValues P (with_images (unread_from key at) t)
-  kept-images key at no_node h = tt
-  kept-images key at (a_node name own below after) h = (h.0, kept-first (codes "images") key at below h.1, h.2)
+  kept-images : (align : ℕ) (key : List ℕ) (at : ℕ) (t : Unread) → AllValues P t → AllValues P (with_images (unread_from align key at) t)
+  kept-images align key at no_node h = tt
+  kept-images align key at (a_node name own below after) h = (h.0, kept-first align (codes "images") key at below h.1, h.2)
 
   -- a fact on all values is one on those of the tree whose payloads are placed
   pub placed-values : (t : Unread) (placement : Placement) → AllValues P t → AllValues P (moved_unread t placement)
   placed-values t Inside h = h
-  placed-values t After h = kept-images (codes "data-offset") 0 t h
-  placed-values t (At p) h = kept-images (codes "data-position") p t h
+  placed-values t (After align) h = kept-images align (codes "data-offset") 0 t h
+  placed-values t (At p align) h = kept-images align (codes "data-position") p t h

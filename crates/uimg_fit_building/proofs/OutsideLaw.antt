@@ -8,7 +8,9 @@ use Rattle.std.proofs.lemmas.List.{length-replicate}
 use Rattle.std.proofs.Math.Seq.{drop-append_seam}
 use Rattle.uimg_texts.specs.Numbers.{be32, up4}
 use Rattle.uimg_blob.specs.Plain.{Named, Nodes, no_node, a_node, AreNamed}
-use Rattle.uimg_tree.specs.Encoding.{word, padded, encode}
+use Rattle.uimg_tree.specs.Alignment.{padding_by, padded_by}
+use Rattle.uimg_tree.specs.Encoding.{word, structure, strings, names_of, encode_by}
+use Rattle.uimg_tree.proofs.AlignmentLaws.{aligned-words}
 use Rattle.uimg_tree.proofs.ReadsBackLaw.{length-encode, totalsize}
 use Rattle.uimg_fit_base.specs.declared.fault.FitFault.{FitFault}
 use Rattle.uimg_fit_base.specs.declared.placement.Placement.TheVariants.{After, At}
@@ -19,7 +21,7 @@ use Rattle.uimg_base.specs.declared.spans.Span.{Span}
 use Rattle.uimg_fit_base.specs.Files.{number, cell}
 use Rattle.uimg_fit_base.specs.Places.{place, bytes_at}
 use Rattle.uimg_fit_building.specs.Filling.{in_first, IsFilledImage, IsFilled, IsDigest}
-use Rattle.uimg_fit_building.specs.Building.{data_of, padded_size, moved_own, moved_from, moved, payloads, built}
+use Rattle.uimg_fit_building.specs.Building.{data_of, padded_size, moved_own, moved_from, placed_blob, payloads, built}
 use Rattle.uimg_fit_building.specs.ReadsBack.{ReadsBack}
 use Rattle.uimg_tree.proofs.TokenLaws.{drop-piece}
 use Rattle.uimg_fit_building.proofs.SpotLaws.{piece-within, piece-lies}
@@ -42,23 +44,23 @@ cell-none i key own same is =
     cell-plain i key ∙ ap (λ (ps : List Named). option_and_then number (first ps key)) same
     ∙ ap (λ (o : Option (List ℕ)). option_and_then number o) is
 
--- the payloads of images, each padded
-abbrev stored : List (NodeOf (List ℕ)) → List ℕ
-stored is = flat_map (λ image. padded (data_of image.own)) is
+-- the payloads of images, each with zeros up to where an alignment has it end
+abbrev stored : ℕ → List (NodeOf (List ℕ)) → List ℕ
+stored align is = flat_map (λ image. padded_by align (data_of image.own)) is
 
--- a key under which payloads are placed, the other key, and where their places are counted from
-module _ (key other : List ℕ) (base : ℕ) (file : List ℕ)
+-- an alignment, a key under which payloads are placed, the other key, and where their places are counted from
+module _ (align : ℕ) (key other : List ℕ) (base : ℕ) (file : List ℕ)
     (key_key : bytes_eq key key ≡ true) (size_key : bytes_eq (codes "data-size") key ≡ false) (other_key : bytes_eq other key ≡ false) (other_size : bytes_eq other (codes "data-size") ≡ false)
     (no_key : (i : NodeOf (List ℕ)) → IsFilledImage i → first i.own key ≡ None) (no_other : (i : NodeOf (List ℕ)) → IsFilledImage i → first i.own other ≡ None)
     (placed : (i : NodeOf Spot) (at size : ℕ) → cell i.own key ≡ Some at → cell i.own (codes "data-size") ≡ Some size → cell i.own other ≡ None → place file i ≡ Ok (record { place = base + at; length = size }))
     (fits : length file < 2 ^ 32) where
   -- a payload that stands where it was placed is sound
   outside-image : (i : NodeOf Spot) (f : NodeOf (List ℕ)) (at : ℕ) (rest : List ℕ) → plain i ≡ moved_node key at f → IsFilledImage f → base + at ≤ length file
-      → drop (base + at) file ≡ padded (data_of f.own) ++ rest → IsSound file i (data_of f.own)
+      → drop (base + at) file ≡ padded_by align (data_of f.own) ++ rest → IsSound file i (data_of f.own)
   unfolding bytes_at
   outside-image i f at rest same filled within h =
       let message = data_of f.own in
-      let pad : List ℕ = replicate (up4 (length message) - length message) 0 in
+      let pad : List ℕ = padding_by align (length message) in
       let here : drop (base + at) file ≡ message ++ (pad ++ rest) = h ∙ append_assoc message pad rest in
       let ends : base + at + length message ≤ length file = piece-within file (base + at) message (pad ++ rest) within here in
       let is_data : filled.message ≡ message = sym (ap (λ (o : Option (List ℕ)). unwrap_or o []) filled.has) in
@@ -77,84 +79,84 @@ module _ (key other : List ℕ) (base : ℕ) (file : List ℕ)
         digests = subst (λ (n : NodeOf (List ℕ)). AllByRecursion (IsDigest message) (hashes n)) (sym same) digests;
       }
 
-  pub outside-images : (is : List (NodeOf Spot)) (fs : List (NodeOf (List ℕ))) (at : ℕ) (rest : List ℕ) → map plain is ≡ moved_nodes key at fs → AllByRecursion IsFilledImage fs → base + at ≤ length file
-      → drop (base + at) file ≡ stored fs ++ rest → AreSound file is (map (λ f. data_of f.own) fs)
+  pub outside-images : (is : List (NodeOf Spot)) (fs : List (NodeOf (List ℕ))) (at : ℕ) (rest : List ℕ) → map plain is ≡ moved_nodes align key at fs → AllByRecursion IsFilledImage fs → base + at ≤ length file
+      → drop (base + at) file ≡ stored align fs ++ rest → AreSound file is (map (λ f. data_of f.own) fs)
   unfolding moved_nodes
   outside-images [] [] at rest same filled within h = tt
   outside-images [] (f ∷ fs) at rest same filled within h = absurd (cc)
   outside-images (i ∷ is) [] at rest same filled within h = absurd (cc)
   outside-images (i ∷ is) (f ∷ fs) at rest same filled within h =
-      let piece = padded (data_of f.own) in
-      let here : drop (base + at) file ≡ piece ++ (stored fs ++ rest) = h ∙ append_assoc piece (stored fs) rest in
+      let piece = padded_by align (data_of f.own) in
+      let here : drop (base + at) file ≡ piece ++ (stored align fs ++ rest) = h ∙ append_assoc piece (stored align fs) rest in
       let first_same : plain i ≡ moved_node key at f = cc in
-      let next_same : map plain is ≡ moved_nodes key (at + padded_size f.own) fs = cc in
-      let more_same : map plain is ≡ moved_nodes key (at + length piece) fs = next_same ∙ ap (λ (n : ℕ). moved_nodes key (at + n) fs) (sym (padded-length f.own)) in
+      let next_same : map plain is ≡ moved_nodes align key (at + padded_size align f.own) fs = cc in
+      let more_same : map plain is ≡ moved_nodes align key (at + length piece) fs = next_same ∙ ap (λ (n : ℕ). moved_nodes align key (at + n) fs) (sym (padded-length align f.own)) in
       let place : base + at + length piece ≡ base + (at + length piece) = omega arith in
-      let there : drop (base + (at + length piece)) file ≡ stored fs ++ rest =
-      ap (λ (k : ℕ). drop k file) (sym place) ∙ drop-piece file (base + at) piece (stored fs ++ rest) (length piece) refl here in
-      let past_it : base + (at + length piece) ≤ length file = omega (arith, place, piece-within file (base + at) piece (stored fs ++ rest) within here) in (
-        outside-image i f at (stored fs ++ rest) first_same filled.0 within here,
+      let there : drop (base + (at + length piece)) file ≡ stored align fs ++ rest =
+      ap (λ (k : ℕ). drop k file) (sym place) ∙ drop-piece file (base + at) piece (stored align fs ++ rest) (length piece) refl here in
+      let past_it : base + (at + length piece) ≤ length file = omega (arith, place, piece-within file (base + at) piece (stored align fs ++ rest) within here) in (
+        outside-image i f at (stored align fs ++ rest) first_same filled.0 within here,
         outside-images is fs (at + length piece) rest more_same filled.1 past_it there,
       )
 
 -- the payloads of a tree whose images are known
-payloads-found : (t : Nodes) (found : List (NodeOf (List ℕ))) → images t ≡ Some found → payloads t ≡ stored found ++ []
-payloads-found t found are =
-    ap (λ (o : Option (List (NodeOf (List ℕ)))). stored (unwrap_or o [])) are ∙ sym (append-nil (stored found))
+payloads-found : (align : ℕ) (t : Nodes) (found : List (NodeOf (List ℕ))) → images t ≡ Some found → payloads align t ≡ stored align found ++ []
+payloads-found align t found are =
+    ap (λ (o : Option (List (NodeOf (List ℕ)))). stored align (unwrap_or o [])) are ∙ sym (append-nil (stored align found))
 
 -- the length of a blob is a multiple of 4
-encode-aligned : (t : Nodes) → up4 (length (encode t)) ≡ length (encode t)
-encode-aligned t = omega (arith, length-encode t)
+encode-aligned : (align : ℕ) (t : Nodes) → up4 (length (encode_by align t)) ≡ length (encode_by align t)
+encode-aligned align t = let end = 56 + length (structure t) + length (strings (names_of t)) in omega (arith, length-encode align t, aligned-words align end)
 
-module _ (name : List ℕ) (own : List Named) (below : Nodes)
+module _ (align : ℕ) (name : List ℕ) (own : List Named) (below : Nodes)
     (named : let t : Nodes = a_node name own below no_node in AreNamed t) (filled : let t : Nodes = a_node name own below no_node in IsFilled t) where
   abbrev t : Nodes
   t = a_node name own below no_node
 
-  pub built-after : length (built t After) < 2 ^ 32 → ReadsBack (built t After) t
+  pub built-after : length (built t (After align)) < 2 ^ 32 → ReadsBack (built t (After align)) t
   built-after fits =
       let key = codes "data-offset" in
       let other = codes "data-position" in
-      let moved_below = in_first (codes "images") (moved_from key 0) below in
+      let moved_below = in_first (codes "images") (moved_from align key 0) below in
       let u : Nodes = a_node name own moved_below no_node in
-      let more = payloads t in
-      let file = encode u ++ more in
-      let all : length file ≡ length (encode u) + length more = length-append (encode u) more in
-      let blob_fits : length (encode u) < 2 ^ 32 = omega (arith, all, fits) in
-      let named_u : AreNamed u = named-images key 0 t offset_is_name named in
-      let are_u : images u ≡ Some (moved_nodes key 0 filled.found) = images-moved key 0 t ∙ ap (λ (o : Option (List (NodeOf (List ℕ)))). option_map (moved_nodes key 0) o) filled.are_images in
-      let r = images-read name own moved_below more (moved_nodes key 0 filled.found) named_u blob_fits are_u in
-      let total : up4 (be32 file 4) ≡ length (encode u) = ap (λ (n : ℕ). up4 n) (totalsize name own moved_below named_u blob_fits more) ∙ encode-aligned u in
-      let none : length (encode u) + 0 ≡ length (encode u) = omega arith in
-      let here : drop (length (encode u) + 0) file ≡ stored filled.found ++ [] =
-      ap (λ (k : ℕ). drop k file) none ∙ drop-append_seam (encode u) more ∙ payloads-found t filled.found filled.are_images in
-      let sound = outside-images key other (length (encode u)) file refl refl refl refl (λ i f. f.no_offset) (λ i f. f.no_position)
+      let more = payloads align t in
+      let file = encode_by align u ++ more in
+      let all : length file ≡ length (encode_by align u) + length more = length-append (encode_by align u) more in
+      let blob_fits : length (encode_by align u) < 2 ^ 32 = omega (arith, all, fits) in
+      let named_u : AreNamed u = named-images align key 0 t offset_is_name named in
+      let are_u : images u ≡ Some (moved_nodes align key 0 filled.found) = images-moved align key 0 t ∙ ap (λ (o : Option (List (NodeOf (List ℕ)))). option_map (moved_nodes align key 0) o) filled.are_images in
+      let r = images-read align name own moved_below more (moved_nodes align key 0 filled.found) named_u blob_fits are_u in
+      let total : up4 (be32 file 4) ≡ length (encode_by align u) = ap (λ (n : ℕ). up4 n) (totalsize align name own moved_below named_u blob_fits more) ∙ encode-aligned align u in
+      let none : length (encode_by align u) + 0 ≡ length (encode_by align u) = omega arith in
+      let here : drop (length (encode_by align u) + 0) file ≡ stored align filled.found ++ [] =
+      ap (λ (k : ℕ). drop k file) none ∙ drop-append_seam (encode_by align u) more ∙ payloads-found align t filled.found filled.are_images in
+      let sound = outside-images align key other (length (encode_by align u)) file refl refl refl refl (λ i f. f.no_offset) (λ i f. f.no_position)
       (λ i at size at_cell size_cell other_cell. rw (other_cell, at_cell, size_cell, total) refl)
       fits r.placed filled.found 0 [] r.same filled.each_filled (omega (arith, all)) here in
       reads_back-sound file t r.placed filled.found r.are filled.are_images sound
 
-  pub built-at : (p : ℕ) → length (encode (moved t (At p))) ≤ p → length (built t (At p)) < 2 ^ 32 → ReadsBack (built t (At p)) t
+  pub built-at : (p : ℕ) → length (placed_blob t (At p align)) ≤ p → length (built t (At p align)) < 2 ^ 32 → ReadsBack (built t (At p align)) t
   built-at p above fits =
       let key = codes "data-position" in
       let other = codes "data-offset" in
-      let moved_below = in_first (codes "images") (moved_from key p) below in
+      let moved_below = in_first (codes "images") (moved_from align key p) below in
       let u : Nodes = a_node name own moved_below no_node in
-      let gap : List ℕ = replicate (p - length (encode u)) 0 in
-      let more = gap ++ payloads t in
-      let file = encode u ++ more in
-      let all : length file ≡ length (encode u) + length more = length-append (encode u) more in
-      let all_more : length more ≡ length gap + length (payloads t) = length-append gap (payloads t) in
-      let gap_length : length gap ≡ p - length (encode u) = length-replicate {A = ℕ} (p - length (encode u)) 0 in
-      let front : length (encode u ++ gap) ≡ p = omega (arith, length-append (encode u) gap, gap_length, above) in
-      let from_start : 0 + p ≡ length (encode u ++ gap) = omega (arith, front) in
-      let blob_fits : length (encode u) < 2 ^ 32 = omega (arith, all, fits) in
-      let named_u : AreNamed u = named-images key p t position_is_name named in
-      let are_u : images u ≡ Some (moved_nodes key p filled.found) = images-moved key p t ∙ ap (λ (o : Option (List (NodeOf (List ℕ)))). option_map (moved_nodes key p) o) filled.are_images in
-      let r = images-read name own moved_below more (moved_nodes key p filled.found) named_u blob_fits are_u in
-      let here : drop (0 + p) file ≡ stored filled.found ++ [] =
-      ap (λ (k : ℕ). drop k file) from_start ∙ ap (λ (w : List ℕ). drop (length (encode u ++ gap)) w) (sym (append_assoc (encode u) gap (payloads t)))
-      ∙ drop-append_seam (encode u ++ gap) (payloads t) ∙ payloads-found t filled.found filled.are_images in
-      let sound = outside-images key other 0 file refl refl refl refl (λ i f. f.no_position) (λ i f. f.no_offset)
+      let gap : List ℕ = replicate (p - length (encode_by align u)) 0 in
+      let more = gap ++ payloads align t in
+      let file = encode_by align u ++ more in
+      let all : length file ≡ length (encode_by align u) + length more = length-append (encode_by align u) more in
+      let all_more : length more ≡ length gap + length (payloads align t) = length-append gap (payloads align t) in
+      let gap_length : length gap ≡ p - length (encode_by align u) = length-replicate {A = ℕ} (p - length (encode_by align u)) 0 in
+      let front : length (encode_by align u ++ gap) ≡ p = omega (arith, length-append (encode_by align u) gap, gap_length, above) in
+      let from_start : 0 + p ≡ length (encode_by align u ++ gap) = omega (arith, front) in
+      let blob_fits : length (encode_by align u) < 2 ^ 32 = omega (arith, all, fits) in
+      let named_u : AreNamed u = named-images align key p t position_is_name named in
+      let are_u : images u ≡ Some (moved_nodes align key p filled.found) = images-moved align key p t ∙ ap (λ (o : Option (List (NodeOf (List ℕ)))). option_map (moved_nodes align key p) o) filled.are_images in
+      let r = images-read align name own moved_below more (moved_nodes align key p filled.found) named_u blob_fits are_u in
+      let here : drop (0 + p) file ≡ stored align filled.found ++ [] =
+      ap (λ (k : ℕ). drop k file) from_start ∙ ap (λ (w : List ℕ). drop (length (encode_by align u ++ gap)) w) (sym (append_assoc (encode_by align u) gap (payloads align t)))
+      ∙ drop-append_seam (encode_by align u ++ gap) (payloads align t) ∙ payloads-found align t filled.found filled.are_images in
+      let sound = outside-images align key other 0 file refl refl refl refl (λ i f. f.no_position) (λ i f. f.no_offset)
       (λ i at size at_cell size_cell other_cell. rw (at_cell, size_cell) refl)
       fits r.placed filled.found p [] r.same filled.each_filled (omega (arith, all, all_more, gap_length, above)) here in
       reads_back-sound file t r.placed filled.found r.are filled.are_images sound

@@ -77,22 +77,22 @@ unfolding at_first moved_own_by
 own-placed key at [] = refl
 own-placed key at (p ∷ ps) = own-step (is_data p) key at p ps (placed_properties key at ps) (unread_own key at (map property ps)) (own-placed key at ps)
 
-children-step : {A : Type 0} (b : Bool) (key : List ℕ) (at : ℕ) (n : Node A) (ns more : List (Node A)) (t : Unread) → siblings more ≡ t
-    → siblings (if b then with_placed key at n ∷ ns else n ∷ more)
-    ≡ (if b then a_node n.name n.props (unread_from key at n.children) (siblings ns) else a_node n.name n.props n.children t)
-children-step true key at n ns more t h = refl
-children-step false key at n ns more t h = ap (λ (u : Unread). a_node n.name n.props n.children u) h
+children-step : {A : Type 0} (align : ℕ) (b : Bool) (key : List ℕ) (at : ℕ) (n : Node A) (ns more : List (Node A)) (t : Unread) → siblings more ≡ t
+    → siblings (if b then with_placed align key at n ∷ ns else n ∷ more)
+    ≡ (if b then a_node n.name n.props (unread_from align key at n.children) (siblings ns) else a_node n.name n.props n.children t)
+children-step align true key at n ns more t h = refl
+children-step align false key at n ns more t h = ap (λ (u : Unread). a_node n.name n.props n.children u) h
 
-pub children-placed : {A : Type 0} (key : List ℕ) (at : ℕ) (ns : List (Node A)) → siblings (placed_children key at ns) ≡ in_first (codes "images") (unread_from key at) (siblings ns)
+pub children-placed : {A : Type 0} (align : ℕ) (key : List ℕ) (at : ℕ) (ns : List (Node A)) → siblings (placed_children align key at ns) ≡ in_first (codes "images") (unread_from align key at) (siblings ns)
 unfolding at_first in_first
-children-placed key at [] = refl
-children-placed key at (n ∷ ns) =
-    children-step (is_images n) key at n ns (placed_children key at ns) (in_first (codes "images") (unread_from key at) (siblings ns)) (children-placed key at ns)
+children-placed align key at [] = refl
+children-placed align key at (n ∷ ns) =
+    children-step align (is_images n) key at n ns (placed_children align key at ns) (in_first (codes "images") (unread_from align key at) (siblings ns)) (children-placed align key at ns)
 
-pub images-placed : {A : Type 0} (key : List ℕ) (at : ℕ) (ns : List (Node A)) → siblings (placed_images key at ns) ≡ unread_from key at (siblings ns)
+pub images-placed : {A : Type 0} (align : ℕ) (key : List ℕ) (at : ℕ) (ns : List (Node A)) → siblings (placed_images align key at ns) ≡ unread_from align key at (siblings ns)
 unfolding placed_images moved_from_by
-images-placed key at [] = refl
-images-placed key at (n ∷ ns) = ap (λ (u : Unread). a_node n.name (unread_own key at n.props) n.children u) (images-placed key (at + padded_size_of n.props) ns)
+images-placed align key at [] = refl
+images-placed align key at (n ∷ ns) = ap (λ (u : Unread). a_node n.name (unread_own key at n.props) n.children u) (images-placed align key (at + padded_size_of align n.props) ns)
 
 -- a place counts by its lowest 32 bits
 
@@ -123,25 +123,25 @@ unfolding moved_own_by
 own-same key a b [] e = refl
 own-same key a b (p ∷ own) e = own-step-same (bytes_eq (codes "data") p.name) key a b p own (unread_own key a own) (unread_own key b own) e (own-same key a b own e)
 
-pub images-same : {A : Type 0} (key : List ℕ) (a b : ℕ) (ns : List (Node A)) → a % 4294967296 ≡ b % 4294967296 → placed_images key a ns ≡ placed_images key b ns
+pub images-same : {A : Type 0} (align : ℕ) (key : List ℕ) (a b : ℕ) (ns : List (Node A)) → a % 4294967296 ≡ b % 4294967296 → placed_images align key a ns ≡ placed_images align key b ns
 unfolding placed_images
-images-same key a b [] e = refl
-images-same {A = A} key a b (n ∷ ns) e =
-    ap (λ (own : List (NamedOf Content)). let l : List (Node A) = record n { props = own } ∷ placed_images key (a + padded_size_of n.props) ns in l) (own-same key a b n.props (word-same a b e))
-    ∙ ap (λ (l : List (Node A)). placed_image key b n ∷ l) (images-same key (a + padded_size_of n.props) (b + padded_size_of n.props) ns (omega (arith, e)))
+images-same align key a b [] e = refl
+images-same {A = A} align key a b (n ∷ ns) e =
+    ap (λ (own : List (NamedOf Content)). let l : List (Node A) = record n { props = own } ∷ placed_images align key (a + padded_size_of align n.props) ns in l) (own-same key a b n.props (word-same a b e))
+    ∙ ap (λ (l : List (Node A)). placed_image key b n ∷ l) (images-same align key (a + padded_size_of align n.props) (b + padded_size_of align n.props) ns (omega (arith, e)))
 
-module _ {A : Type 0} (key : List ℕ) (at next : ℕ) (done whole rest : List (Node A)) (d : Node A) where
+module _ {A : Type 0} (align : ℕ) (key : List ℕ) (at next : ℕ) (done whole rest : List (Node A)) (d : Node A) where
   -- one image more
-  pub image-goes : (ns : List (Node A)) → ns ≡ d ∷ rest → next % 4294967296 ≡ (at + padded_size_of d.props) % 4294967296 → done ++ placed_images key at ns ≡ whole → (done ++ placed_image key at d ∷ []) ++ placed_images key next rest ≡ whole
+  pub image-goes : (ns : List (Node A)) → ns ≡ d ∷ rest → next % 4294967296 ≡ (at + padded_size_of align d.props) % 4294967296 → done ++ placed_images align key at ns ≡ whole → (done ++ placed_image key at d ∷ []) ++ placed_images align key next rest ≡ whole
   unfolding placed_images
   image-goes ns e same h =
-      append_assoc done (placed_image key at d ∷ []) (placed_images key next rest)
-      ∙ ap (λ (l : List (Node A)). done ++ (placed_image key at d ∷ l)) (images-same key next (at + padded_size_of d.props) rest same)
-      ∙ ap (λ (l : List (Node A)). done ++ placed_images key at l) (sym e) ∙ h
+      append_assoc done (placed_image key at d ∷ []) (placed_images align key next rest)
+      ∙ ap (λ (l : List (Node A)). done ++ (placed_image key at d ∷ l)) (images-same align key next (at + padded_size_of align d.props) rest same)
+      ∙ ap (λ (l : List (Node A)). done ++ placed_images align key at l) (sym e) ∙ h
 
-pub images-end : {A : Type 0} (key : List ℕ) (at : ℕ) (done whole ns : List (Node A)) → ns ≡ [] → done ++ placed_images key at ns ≡ whole → done ≡ whole
+pub images-end : {A : Type 0} (align : ℕ) (key : List ℕ) (at : ℕ) (done whole ns : List (Node A)) → ns ≡ [] → done ++ placed_images align key at ns ≡ whole → done ≡ whole
 unfolding placed_images
-images-end {A = A} key at done whole ns e h = sym (append-nil done) ∙ ap (λ (l : List (Node A)). done ++ placed_images key at l) (sym e) ∙ h
+images-end {A = A} align key at done whole ns e h = sym (append-nil done) ∙ ap (λ (l : List (Node A)). done ++ placed_images align key at l) (sym e) ∙ h
 
 -- the images of a tree, by its root's children
 

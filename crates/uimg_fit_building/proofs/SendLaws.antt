@@ -9,15 +9,16 @@ use Rattle.uimg_base.proofs.SinkLaws.{prefix_first}
 use Rattle.uimg_base.proofs.WritingLaws.{written_then}
 use Rattle.uimg_tree.specs.declared.fault.TreeFault.{TreeFault}
 use Rattle.uimg_tree.specs.Content.{Unread, AreKept, in_full}
-use Rattle.uimg_tree.specs.Encoding.{encode}
+use Rattle.uimg_tree.specs.Encoding.{encode_by}
 use Rattle.uimg_tree.specs.Faults.{is_no_file, is_put, is_read}
 use Rattle.uimg_tree.specs.Layouts.{plan_of, totalsize}
 use Rattle.uimg_tree.specs.Pieces.{WritesPieces}
 use Rattle.uimg_tree.specs.UsingFiles.{UsesFiles}
 use Rattle.uimg_tree.proofs.WritesLaws.{rises-then}
 use Rattle.uimg_fit_base.specs.declared.placement.Placement.{Placement}
+use Rattle.uimg_fit_base.specs.Placements.{align_of}
 use Rattle.uimg_fit_building.specs.Behind.{behind_pieces}
-use Rattle.uimg_fit_building.specs.Building.{moved, behind}
+use Rattle.uimg_fit_building.specs.Building.{placed_blob, behind}
 use Rattle.uimg_fit_building.specs.BuildSteps.{WritesText}
 use Rattle.uimg_fit_building.specs.UnreadTrees.{moved_unread}
 use Rattle.uimg_fit_building.proofs.BehindLaws.{behind-kept, behind-joined}
@@ -76,15 +77,15 @@ module _ (steady : Bool) (t : Unread) where
     pub blob-sent : (placed : Unread) → placed ≡ moved_unread t placement → UsesFiles (is_no_file r) m n → RisesIf (is_put r) s.faults u.faults
         → (IsTrue m.complete → AreKept m.bytes placed → is_no_file r ≡ false)
         → (IsTrue steady → IsTrue m.honest → AreKept m.bytes placed → is_read r ≡ false)
-        → (IsTrue m.honest → AreKept m.bytes placed → Written (is_err r) s u (encode (in_full m.bytes placed)))
-        → WritesText steady t r m n s u (λ files. encode (moved (in_full files t) placement))
+        → (IsTrue m.honest → AreKept m.bytes placed → Written (is_err r) s u (encode_by (align_of placement) (in_full m.bytes placed)))
+        → WritesText steady t r m n s u (λ files. placed_blob (in_full files t) placement)
     blob-sent placed is files faults found reads written = record {
       files = files;
       faults = faults;
       found = λ complete kept. found complete (all_kept kept);
       reads = λ always honest kept. reads always honest (all_kept kept);
       written = λ honest kept.
-          subst (λ (w : List ℕ). Written (is_err r) s u w) (ap (λ (p : Unread). encode (in_full m.bytes p)) is ∙ ap encode (sym (moved-unread m.bytes t placement kept)))
+          subst (λ (w : List ℕ). Written (is_err r) s u w) (ap (λ (p : Unread). encode_by (align_of placement) (in_full m.bytes p)) is ∙ ap (encode_by (align_of placement)) (sym (moved-unread m.bytes t placement kept)))
           (written honest (all_kept kept));
     }
       where
@@ -92,7 +93,7 @@ module _ (steady : Bool) (t : Unread) where
         all_kept kept = subst (λ (p : Unread). AreKept m.bytes p) (sym is) (placed-kept t placement m.bytes kept)
 
     -- what stands behind it
-    pub behind-sent : (size : ℕ) → totalsize (plan_of (moved_unread t placement)) ≡ size → WritesPieces steady r m n s u (behind_pieces size t placement) → WritesText steady t r m n s u (λ files. behind (in_full files t) placement)
+    pub behind-sent : (size : ℕ) → totalsize (plan_of (align_of placement) (moved_unread t placement)) ≡ size → WritesPieces steady r m n s u (behind_pieces size t placement) → WritesText steady t r m n s u (λ files. behind (in_full files t) placement)
     behind-sent size is p = record {
       files = p.files;
       faults = p.faults;

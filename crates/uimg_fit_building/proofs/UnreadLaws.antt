@@ -3,8 +3,8 @@ use Rattle.std.proofs.Common.{◌≡◌, ℕ, ◌+◌, List, [], ◌∷◌, leng
 use Rattle.std.specs.List.{AllByRecursion}
 use Rattle.std.specs.Option.{option_map, option_map_or, IfSome}
 use Rattle.std.specs.Str.{bytes_eq}
-use Rattle.uimg_texts.specs.Numbers.{up4}
 use Rattle.uimg_blob.specs.Plain.{NamedOf, Named, Nodes, no_node, a_node, with_value, with_values, AllValues}
+use Rattle.uimg_tree.specs.Alignment.{aligned}
 use Rattle.uimg_tree.specs.Encoding.{word}
 use Rattle.uimg_tree.specs.Content.{Content, Unread, IsKept, bytes, bytes_in, size_of}
 use Rattle.uimg_tree.proofs.SizeLaws.{kept-size}
@@ -35,24 +35,24 @@ module _ (files : List ℕ → Option (List ℕ)) where
   own-moved key at (p ∷ own) kept =
       own-step (bytes_eq (codes "data") p.name) key at p own (unread_own key at own) (moved_own key at (map (with_value read) own)) kept.0 (own-moved key at own kept.1)
 
-  padded-step : (o : Option Content) → IfSome o (IsKept files)
-      → option_map_or (λ (payload : List ℕ). up4 (length payload)) (option_map read o) 0 ≡ option_map_or (λ (c : Content). up4 (size_of c)) o 0
-  padded-step None kept = refl
-  padded-step (Some c) kept = ap (λ (n : ℕ). up4 n) (kept-size files c kept)
+  padded-step : (align : ℕ) (o : Option Content) → IfSome o (IsKept files)
+      → option_map_or (λ (payload : List ℕ). aligned align (length payload)) (option_map read o) 0 ≡ option_map_or (λ (c : Content). aligned align (size_of c)) o 0
+  padded-step align None kept = refl
+  padded-step align (Some c) kept = ap (λ (n : ℕ). aligned align n) (kept-size files c kept)
 
-  pub padded-same : (own : List (NamedOf Content)) → AllByRecursion (λ p. IsKept files p.value) own → padded_size (map (with_value read) own) ≡ padded_size_of own
-  padded-same own kept =
-      ap (λ (o : Option (List ℕ)). option_map_or (λ (payload : List ℕ). up4 (length payload)) o 0) (first-with read own (codes "data"))
-      ∙ padded-step (first own (codes "data")) (first-has (IsKept files) own (codes "data") kept)
+  pub padded-same : (align : ℕ) (own : List (NamedOf Content)) → AllByRecursion (λ p. IsKept files p.value) own → padded_size align (map (with_value read) own) ≡ padded_size_of align own
+  padded-same align own kept =
+      ap (λ (o : Option (List ℕ)). option_map_or (λ (payload : List ℕ). aligned align (length payload)) o 0) (first-with read own (codes "data"))
+      ∙ padded-step align (first own (codes "data")) (first-has (IsKept files) own (codes "data") kept)
 
-  from-moved : (key : List ℕ) (at : ℕ) (t : Unread) → AllValues (IsKept files) t → moved_from key at (with_values read t) ≡ with_values read (unread_from key at t)
+  from-moved : (align : ℕ) (key : List ℕ) (at : ℕ) (t : Unread) → AllValues (IsKept files) t → moved_from align key at (with_values read t) ≡ with_values read (unread_from align key at t)
   unfolding moved_from_by with_values
-  from-moved key at no_node kept = refl
-  from-moved key at (a_node name own below after) kept =
-      let same = padded-same own kept.0 in
-      ap (λ (l : List Named). a_node name l (with_values read below) (moved_from key (at + padded_size (map (with_value read) own)) (with_values read after))) (own-moved key at own kept.0)
-      ∙ ap (λ (n : ℕ). a_node name (map (with_value read) (unread_own key at own)) (with_values read below) (moved_from key (at + n) (with_values read after))) same
-      ∙ ap (λ (u : Nodes). a_node name (map (with_value read) (unread_own key at own)) (with_values read below) u) (from-moved key (at + padded_size_of own) after kept.2)
+  from-moved align key at no_node kept = refl
+  from-moved align key at (a_node name own below after) kept =
+      let same = padded-same align own kept.0 in
+      ap (λ (l : List Named). a_node name l (with_values read below) (moved_from align key (at + padded_size align (map (with_value read) own)) (with_values read after))) (own-moved key at own kept.0)
+      ∙ ap (λ (n : ℕ). a_node name (map (with_value read) (unread_own key at own)) (with_values read below) (moved_from align key (at + n) (with_values read after))) same
+      ∙ ap (λ (u : Nodes). a_node name (map (with_value read) (unread_own key at own)) (with_values read below) u) (from-moved align key (at + padded_size_of align own) after kept.2)
 
   first-step : (b : Bool) (name : List ℕ) (own : List (NamedOf Content)) (below after new_below new_after : Unread) (f_below g_after : Nodes) → f_below ≡ with_values read new_below → g_after ≡ with_values read new_after
       → (if b then a_node name (map (with_value read) own) f_below (with_values read after) else a_node name (map (with_value read) own) (with_values read below) g_after)
@@ -61,20 +61,20 @@ module _ (files : List ℕ → Option (List ℕ)) where
   first-step true name own below after new_below new_after f_below g_after h k = ap (λ (u : Nodes). a_node name (map (with_value read) own) u (with_values read after)) h
   first-step false name own below after new_below new_after f_below g_after h k = ap (λ (u : Nodes). a_node name (map (with_value read) own) (with_values read below) u) k
 
-  in-moved : (first_key key : List ℕ) (at : ℕ) (t : Unread) → AllValues (IsKept files) t → in_first first_key (moved_from key at) (with_values read t) ≡ with_values read (in_first first_key (unread_from key at) t)
+  in-moved : (align : ℕ) (first_key key : List ℕ) (at : ℕ) (t : Unread) → AllValues (IsKept files) t → in_first first_key (moved_from align key at) (with_values read t) ≡ with_values read (in_first first_key (unread_from align key at) t)
   unfolding in_first with_values
-  in-moved first_key key at no_node kept = refl
-  in-moved first_key key at (a_node name own below after) kept =
-      first-step (bytes_eq first_key name) name own below after (unread_from key at below) (in_first first_key (unread_from key at) after)
-      (moved_from key at (with_values read below)) (in_first first_key (moved_from key at) (with_values read after))
-      (from-moved key at below kept.1) (in-moved first_key key at after kept.2)
+  in-moved align first_key key at no_node kept = refl
+  in-moved align first_key key at (a_node name own below after) kept =
+      first-step (bytes_eq first_key name) name own below after (unread_from align key at below) (in_first first_key (unread_from align key at) after)
+      (moved_from align key at (with_values read below)) (in_first first_key (moved_from align key at) (with_values read after))
+      (from-moved align key at below kept.1) (in-moved align first_key key at after kept.2)
 
-  images-moved : (key : List ℕ) (at : ℕ) (t : Unread) → AllValues (IsKept files) t → with_images (moved_from key at) (with_values read t) ≡ with_values read (with_images (unread_from key at) t)
+  images-moved : (align : ℕ) (key : List ℕ) (at : ℕ) (t : Unread) → AllValues (IsKept files) t → with_images (moved_from align key at) (with_values read t) ≡ with_values read (with_images (unread_from align key at) t)
   unfolding with_values
-  images-moved key at no_node kept = refl
-  images-moved key at (a_node name own below after) kept = ap (λ (u : Nodes). a_node name (map (with_value read) own) u (with_values read after)) (in-moved (codes "images") key at below kept.1)
+  images-moved align key at no_node kept = refl
+  images-moved align key at (a_node name own below after) kept = ap (λ (u : Nodes). a_node name (map (with_value read) own) u (with_values read after)) (in-moved align (codes "images") key at below kept.1)
 
   pub moved-unread : (t : Unread) (placement : Placement) → AllValues (IsKept files) t → moved (with_values read t) placement ≡ with_values read (moved_unread t placement)
   moved-unread t Inside kept = refl
-  moved-unread t After kept = images-moved (codes "data-offset") 0 t kept
-  moved-unread t (At p) kept = images-moved (codes "data-position") p t kept
+  moved-unread t (After align) kept = images-moved align (codes "data-offset") 0 t kept
+  moved-unread t (At p align) kept = images-moved align (codes "data-position") p t kept

@@ -5,7 +5,7 @@ use Rattle.uimg_blob.specs.Plain.{NodesOf}
 use Rattle.uimg_blob.specs.LookUps.{NodeOf, first, images}
 use Rattle.uimg_tree.specs.declared.tree.Node.{Node}
 use Rattle.uimg_tree.specs.Content.{Content, Unread, bytes, size_of}
-use Rattle.uimg_tree.specs.Pieces.{padding}
+use Rattle.uimg_tree.specs.Alignment.{padding_by}
 use Rattle.uimg_fit_base.specs.declared.fault.FitFault.{FitFault}
 use Rattle.uimg_fit_base.specs.declared.fault.FitFault.TheVariants.{PositionTooLow, TooLarge}
 use Rattle.uimg_fit_base.specs.declared.placement.Placement.{Placement}
@@ -21,31 +21,31 @@ entry n = record { name = n.name; own = n.props; below = n.children }
 abbrev pub images_in : {V : Type 0} → NodesOf V → List (NodeOf V)
 images_in t = unwrap_or (images t) []
 
--- a payload and the zeros behind it
-abbrev pub padded_pieces : Option Content → List Content
-padded_pieces None = []
-padded_pieces (Some c) = c ∷ bytes (padding (size_of c)) ∷ []
+-- a payload and the zeros behind it, up to where an alignment has it end
+abbrev pub padded_pieces : ℕ → Option Content → List Content
+padded_pieces align None = []
+padded_pieces align (Some c) = c ∷ bytes (padding_by align (size_of c)) ∷ []
 
 -- those of an image
-abbrev pub payload_pieces : NodeOf Content → List Content
-payload_pieces i = padded_pieces (first i.own (codes "data"))
+abbrev pub payload_pieces : ℕ → NodeOf Content → List Content
+payload_pieces align i = padded_pieces align (first i.own (codes "data"))
 
--- how many bytes the payloads of images take, each padded
-unfoldable pub padded_sizes : List (NodeOf Content) → ℕ
-padded_sizes [] = 0
-padded_sizes (i ∷ is) = padded_size_of i.own + padded_sizes is
+-- how many bytes the payloads of images take, each rounded up by an alignment
+unfoldable pub padded_sizes : ℕ → List (NodeOf Content) → ℕ
+padded_sizes align [] = 0
+padded_sizes align (i ∷ is) = padded_size_of align i.own + padded_sizes align is
 
 -- what stands after a blob of so many bytes
 abbrev pub behind_pieces : ℕ → Unread → Placement → List Content
 behind_pieces size t Inside = []
-behind_pieces size t After = flat_map payload_pieces (images_in t)
-behind_pieces size t (At p) = bytes (replicate (p - size) 0) ∷ flat_map payload_pieces (images_in t)
+behind_pieces size t (After align) = flat_map (payload_pieces align) (images_in t)
+behind_pieces size t (At p align) = bytes (replicate (p - size) 0) ∷ flat_map (payload_pieces align) (images_in t)
 
 -- how many bytes the file has
 abbrev pub file_size : ℕ → ℕ → Placement → ℕ
 file_size size padded Inside = size
-file_size size padded After = size + padded
-file_size size padded (At p) = p + padded
+file_size size padded (After align) = size + padded
+file_size size padded (At p align) = p + padded
 
 -- why payloads of so many bytes can't stand behind a blob of so many
 unfoldable pub end_fault : ℕ → ℕ → Placement → Option FitFault

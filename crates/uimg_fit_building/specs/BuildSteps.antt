@@ -27,15 +27,15 @@ of_measure blob.TooLarge = Fit TooLarge
 of_measure blob.OutOfMemory = Fit OutOfMemory
 of_measure fault = Blob fault 0
 
--- What an answer says of a tree that was measured.
-abbrev pub MeasuresTree : Result Plan Fault → Unread → Type 0
-MeasuresTree (Ok p) t = (bad_name t ≡ None) × (plan_of t ≡ p)
-MeasuresTree (Err (Blob fault at)) t = (bad_name t ≡ Some fault) × (at ≡ 0)
-MeasuresTree (Err (Fit TooLarge)) t = (bad_name t ≡ None) × (4294967295 < totalsize (plan_of t))
-MeasuresTree (Err (Fit OutOfMemory)) t = ⊤
-MeasuresTree (Err (Fit fault)) t = ⊥
-MeasuresTree (Err Read) t = ⊥
-MeasuresTree (Err Put) t = ⊥
+-- What an answer says of a tree that was measured by an alignment.
+abbrev pub MeasuresTree : ℕ → Result Plan Fault → Unread → Type 0
+MeasuresTree align (Ok p) t = (bad_name t ≡ None) × (plan_of align t ≡ p)
+MeasuresTree align (Err (Blob fault at)) t = (bad_name t ≡ Some fault) × (at ≡ 0)
+MeasuresTree align (Err (Fit TooLarge)) t = (bad_name t ≡ None) × (4294967295 < totalsize (plan_of align t))
+MeasuresTree align (Err (Fit OutOfMemory)) t = ⊤
+MeasuresTree align (Err (Fit fault)) t = ⊥
+MeasuresTree align (Err Read) t = ⊥
+MeasuresTree align (Err Put) t = ⊥
 
 -- What a call did that writes a text, which depends on files, where those of a tree are kept.
 pub record WritesText {X : Type 0} (steady : Bool) (t : Unread) (answer : Result X TreeFault) (old new : FileMap) (s u : Sink) (text : (List ℕ → Option (List ℕ)) → List ℕ) : Type 0 where

@@ -3,11 +3,12 @@ use Rattle.std.specs.Prelude.{ℕ, ◌+◌, ◌-◌, List, [], ◌∷◌, ◌++�
 use Rattle.std.specs.List.{flat_map}
 use Rattle.std.specs.Option.{option_map_or}
 use Rattle.std.specs.Str.{bytes_eq}
-use Rattle.uimg_texts.specs.Numbers.{up4}
 use Rattle.uimg_blob.specs.Plain.{NamedOf, NodesOf, Named, Nodes, no_node, a_node}
-use Rattle.uimg_tree.specs.Encoding.{word, padded, encode}
+use Rattle.uimg_tree.specs.Alignment.{aligned, padded_by}
+use Rattle.uimg_tree.specs.Encoding.{word, encode_by}
 use Rattle.uimg_fit_base.specs.declared.placement.Placement.{Placement}
 use Rattle.uimg_fit_base.specs.declared.placement.Placement.TheVariants.{Inside, After, At}
+use Rattle.uimg_fit_base.specs.Placements.{align_of}
 use Rattle.uimg_blob.specs.LookUps.{first, images}
 use Rattle.uimg_fit_building.specs.Filling.{with_images}
 
@@ -17,9 +18,9 @@ data_of own = unwrap_or (first own (codes "data")) []
 
 -- The steps of placing are over any values: `size` gives how many bytes a value has, `made` the value of bytes.
 
--- how many bytes the payload of an image takes, padded to a multiple of 4
-abbrev pub padded_size_by : {V : Type 0} → (V → ℕ) → List (NamedOf V) → ℕ
-padded_size_by size own = option_map_or (λ payload. up4 (size payload)) (first own (codes "data")) 0
+-- how many bytes the payload of an image takes, rounded up by an alignment
+abbrev pub padded_size_by : {V : Type 0} → (V → ℕ) → ℕ → List (NamedOf V) → ℕ
+padded_size_by size align own = option_map_or (λ payload. aligned align (size payload)) (first own (codes "data")) 0
 
 -- properties, the first `data` moved to a place: two cells stand for it, the place by a key, and the size
 unfoldable pub moved_own_by : {V : Type 0} → (V → ℕ) → (List ℕ → V) → List ℕ → ℕ → List (NamedOf V) → List (NamedOf V)
@@ -29,41 +30,45 @@ moved_own_by size made key at (p ∷ own) =
     record { name = key; value = made (word at) } ∷ record { name = codes "data-size"; value = made (word (size p.value)) } ∷ own
     else p ∷ moved_own_by size made key at own
 
--- images, the first `data` of each moved: one after the other from a place on, each padded to a multiple of 4
-unfoldable pub moved_from_by : {V : Type 0} → (V → ℕ) → (List ℕ → V) → List ℕ → ℕ → NodesOf V → NodesOf V
-moved_from_by size made key at no_node = no_node
-moved_from_by size made key at (a_node name own below after) =
-    a_node name (moved_own_by size made key at own) below (moved_from_by size made key (at + padded_size_by size own) after)
+-- images, the first `data` of each moved: one after the other from a place on, each rounded up by an alignment
+unfoldable pub moved_from_by : {V : Type 0} → (V → ℕ) → (List ℕ → V) → ℕ → List ℕ → ℕ → NodesOf V → NodesOf V
+moved_from_by size made align key at no_node = no_node
+moved_from_by size made align key at (a_node name own below after) =
+    a_node name (moved_own_by size made key at own) below (moved_from_by size made align key (at + padded_size_by size align own) after)
 
 -- a tree whose payloads are placed
 abbrev pub moved_by : {V : Type 0} → (V → ℕ) → (List ℕ → V) → NodesOf V → Placement → NodesOf V
 moved_by size made t Inside = t
-moved_by size made t After = with_images (moved_from_by size made (codes "data-offset") 0) t
-moved_by size made t (At p) = with_images (moved_from_by size made (codes "data-position") p) t
+moved_by size made t (After align) = with_images (moved_from_by size made align (codes "data-offset") 0) t
+moved_by size made t (At p align) = with_images (moved_from_by size made align (codes "data-position") p) t
 
 -- the same where the values are bytes
-abbrev pub padded_size : List Named → ℕ
-padded_size own = padded_size_by (λ value. length value) own
+abbrev pub padded_size : ℕ → List Named → ℕ
+padded_size align own = padded_size_by (λ value. length value) align own
 
 abbrev pub moved_own : List ℕ → ℕ → List Named → List Named
 moved_own = moved_own_by (λ value. length value) (λ value. value)
 
-abbrev pub moved_from : List ℕ → ℕ → Nodes → Nodes
+abbrev pub moved_from : ℕ → List ℕ → ℕ → Nodes → Nodes
 moved_from = moved_from_by (λ value. length value) (λ value. value)
 
 abbrev pub moved : Nodes → Placement → Nodes
 moved = moved_by (λ value. length value) (λ value. value)
 
--- the payloads of a tree, each padded to a multiple of 4
-abbrev pub payloads : Nodes → List ℕ
-payloads t = flat_map (λ image. padded (data_of image.own)) (unwrap_or (images t) [])
+-- the payloads of a tree, each with zeros up to where an alignment has it end
+abbrev pub payloads : ℕ → Nodes → List ℕ
+payloads align t = flat_map (λ image. padded_by align (data_of image.own)) (unwrap_or (images t) [])
+
+-- the blob of a tree whose payloads are placed
+abbrev pub placed_blob : Nodes → Placement → List ℕ
+placed_blob t placement = encode_by (align_of placement) (moved t placement)
 
 -- what stands after the blob
 abbrev pub behind : Nodes → Placement → List ℕ
 behind t Inside = []
-behind t After = payloads t
-behind t (At p) = replicate (p - length (encode (moved t (At p)))) 0 ++ payloads t
+behind t (After align) = payloads align t
+behind t (At p align) = replicate (p - length (placed_blob t (At p align))) 0 ++ payloads align t
 
 -- the file of a tree
 abbrev pub built : Nodes → Placement → List ℕ
-built t placement = encode (moved t placement) ++ behind t placement
+built t placement = placed_blob t placement ++ behind t placement

@@ -39,17 +39,17 @@ abbrev pub placed_image : {A : Type 0} → List ℕ → ℕ → Node A → Node 
 placed_image key at n = record n { props = unread_own key at n.props }
 
 -- images, one after the other from a place on
-unfoldable pub placed_images : {A : Type 0} → List ℕ → ℕ → List (Node A) → List (Node A)
-placed_images key at [] = []
-placed_images key at (n ∷ ns) = placed_image key at n ∷ placed_images key (at + padded_size_of n.props) ns
+unfoldable pub placed_images : {A : Type 0} → ℕ → List ℕ → ℕ → List (Node A) → List (Node A)
+placed_images align key at [] = []
+placed_images align key at (n ∷ ns) = placed_image key at n ∷ placed_images align key (at + padded_size_of align n.props) ns
 
 abbrev pub is_images : {A : Type 0} → Node A → Bool
 is_images n = bytes_eq (codes "images") n.name
 
 -- a node, its children being images that are placed
-abbrev pub with_placed : {A : Type 0} → List ℕ → ℕ → Node A → Node A
-with_placed key at n = record n { children = unread_from key at n.children }
+abbrev pub with_placed : {A : Type 0} → ℕ → List ℕ → ℕ → Node A → Node A
+with_placed align key at n = record n { children = unread_from align key at n.children }
 
 -- the root's children
-abbrev pub placed_children : {A : Type 0} → List ℕ → ℕ → List (Node A) → List (Node A)
-placed_children key at ns = at_first is_images (λ n. with_placed key at n ∷ []) ns
+abbrev pub placed_children : {A : Type 0} → ℕ → List ℕ → ℕ → List (Node A) → List (Node A)
+placed_children align key at ns = at_first is_images (λ n. with_placed align key at n ∷ []) ns

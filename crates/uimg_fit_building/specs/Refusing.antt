@@ -3,14 +3,13 @@ use Rattle.std.specs.Prelude.{ℕ, List, [], ◌∷◌, Bool, length, is_some, i
 use Rattle.std.specs.List.{list_all}
 use Rattle.std.specs.Option.{option_or}
 use Rattle.uimg_blob.specs.Plain.{Nodes}
-use Rattle.uimg_tree.specs.Encoding.{encode}
 use Rattle.uimg_fit_base.specs.declared.fault.FitFault.{FitFault}
 use Rattle.uimg_fit_base.specs.declared.fault.FitFault.TheVariants.{NoImages, NoData, UnknownAlgo, PositionTooLow, TooLarge}
 use Rattle.uimg_fit_base.specs.declared.placement.Placement.{Placement}
 use Rattle.uimg_fit_base.specs.declared.placement.Placement.TheVariants.{Inside, After, At}
 use Rattle.uimg_blob.specs.LookUps.{NodeOf, first, images, hashes}
 use Rattle.uimg_fit_building.specs.Filling.{algo_in, filled}
-use Rattle.uimg_fit_building.specs.Building.{moved, built}
+use Rattle.uimg_fit_building.specs.Building.{placed_blob, built}
 
 -- why an image isn't filled: it has no `data`, or a hash node of an unknown algorithm
 unfoldable pub image_fault : NodeOf (List ℕ) → Option FitFault
@@ -39,13 +38,13 @@ fill_of time t = fill_from (fault_of (images t)) (filled time t)
 -- the payloads would begin before the blob's end
 abbrev pub is_low : ℕ → Placement → Bool
 is_low size Inside = Bool.false
-is_low size After = Bool.false
-is_low size (At p) = nat_lt p size
+is_low size (After align) = Bool.false
+is_low size (At p align) = nat_lt p size
 
 -- whether a tree whose names are good can be built, or the first fault
 unfoldable pub build_fault : Nodes → Placement → Option FitFault
 build_fault t placement =
-    if nat_lt 4294967295 (length (encode (moved t placement))) then Some TooLarge
-    else if is_low (length (encode (moved t placement))) placement then Some PositionTooLow
+    if nat_lt 4294967295 (length (placed_blob t placement)) then Some TooLarge
+    else if is_low (length (placed_blob t placement)) placement then Some PositionTooLow
     else if nat_lt 4294967295 (length (built t placement)) then Some TooLarge
     else None

@@ -10,16 +10,16 @@ use Rattle.uimg_fit_building.specs.Filling.{filled_by}
 abbrev pub filled_unread : (List ℕ → Option (List ℕ)) → ℕ → Unread → Unread
 filled_unread files time t = filled_by (bytes_in files) bytes time t
 
--- how many bytes the payload of an image takes, padded
-abbrev pub padded_size_of : List (NamedOf Content) → ℕ
-padded_size_of own = padded_size_by size_of own
+-- how many bytes the payload of an image takes, rounded up by an alignment
+abbrev pub padded_size_of : ℕ → List (NamedOf Content) → ℕ
+padded_size_of align own = padded_size_by size_of align own
 
 -- properties, the first `data` moved to a place
 abbrev pub unread_own : List ℕ → ℕ → List (NamedOf Content) → List (NamedOf Content)
 unread_own = moved_own_by size_of bytes
 
 -- images, the first `data` of each moved
-abbrev pub unread_from : List ℕ → ℕ → Unread → Unread
+abbrev pub unread_from : ℕ → List ℕ → ℕ → Unread → Unread
 unread_from = moved_from_by size_of bytes
 
 -- a tree whose payloads are placed, as it is written

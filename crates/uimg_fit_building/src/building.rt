@@ -10,6 +10,7 @@ ghost use Rattle.uimg_fit_building.specs.BuildAnswers.{is_no_file, is_before_wri
 ghost use Rattle.uimg_fit_building.specs.BuildSteps.{of_measure, MeasuresTree, WritesText, Builds};
 ghost use Rattle.uimg_fit_building.specs.Building.{built};
 ghost use Rattle.uimg_fit_base.specs.Faults.{is_put, is_read};
+ghost use Rattle.uimg_fit_base.specs.Placements.{align_of};
 ghost use Rattle.uimg_fit_building.specs.Filling.{IsFilled};
 ghost use Rattle.uimg_fit_building.specs.ReadsBack.{ReadsBack};
 ghost use Rattle.uimg_fit_building.specs.Refusing.{is_low};
@@ -39,11 +40,15 @@ fn of_measure(fault: BlobFault) -> Fault
     }
 }
 
-// Measures the blob of a tree.
-fn measure_placed<'a, A: Allocator>(alloc: A, placed: &'a Tree<A>) -> Result<Layout<'a, A>, Fault>
-    ensures { MeasuresTree result (node_of placed.now.root) }
+// Measures the blob of a tree, by an alignment.
+fn measure_placed<'a, A: Allocator>(
+    alloc: A,
+    placed: &'a Tree<A>,
+    align: u32,
+) -> Result<Layout<'a, A>, Fault>
+    ensures { MeasuresTree align result (node_of placed.now.root) }
 {
-    match measure(alloc, placed) {
+    match measure(alloc, placed, align) {
         Ok(layout) => Ok(layout),
         Err(fault) => Err(of_measure(fault)),
     }
@@ -58,7 +63,7 @@ fn write_file<F: Files, W: Write, A: Allocator>(
     files: &mut F,
     out: &mut Out<W>,
 ) -> Result<(), TreeFault>
-    requires plan { layout.now ≡ plan_of (node_of placed.now.root) }
+    requires plan { layout.now ≡ plan_of (align_of placement) (node_of placed.now.root) }
     requires placed { node_of placed.now.root ≡ moved_unread (node_of tree.now.root) placement }
     requires high { is_low (totalsize layout.now) placement ≡ false }
     ensures kept { IsTrue (F.map files.old).honest →
@@ -84,7 +89,7 @@ fn build_placed<F: Files, W: Write, A: Allocator>(
     ensures { Builds F.Opened.steady (node_of tree.now.root) placement result (F.map files.old)
         (F.map files.new) out.old out.new }
 {
-    let layout = measure_placed(alloc, placed)?;
+    let layout = measure_placed(alloc, placed, placement.align())?;
     check_payloads(layout.totalsize(), tree, placement)?;
     write_file(placed, &layout, tree, placement, files, out)?;
     Ok(())
@@ -103,14 +108,14 @@ fn place_and_build<F: Files, W: Write, A: Allocator + Copy>(
 {
     match placement {
         Placement::Inside => build_placed(alloc, tree, tree, placement, files, out),
-        Placement::After => {
-            let Ok(placed) = place(alloc, tree, b"data-offset", 0) else {
+        Placement::After { align } => {
+            let Ok(placed) = place(alloc, tree, align, b"data-offset", 0) else {
                 return Err(Fault::Fit(FitFault::OutOfMemory));
             };
             build_placed(alloc, &placed, tree, placement, files, out)
         }
-        Placement::At(position) => {
-            let Ok(placed) = place(alloc, tree, b"data-position", position) else {
+        Placement::At { position, align } => {
+            let Ok(placed) = place(alloc, tree, align, b"data-position", position) else {
                 return Err(Fault::Fit(FitFault::OutOfMemory));
             };
             build_placed(alloc, &placed, tree, placement, files, out)
@@ -123,8 +128,9 @@ fn place_and_build<F: Files, W: Write, A: Allocator + Copy>(
 ///
 /// With `Inside` the tree is written as it is. With `After` and `At` two cells stand in the place of
 /// the first `data` of each image, `data-offset` or `data-position`, and `data-size`; the payloads
-/// follow in order, each padded with zeros to a multiple of 4, and zeros fill up to the position of
-/// the first. An image without `data` is left as it is.
+/// follow in order. The blob's end and each payload's are rounded up by the placement's alignment, with
+/// zeros behind them, and zeros fill up to the position of the first. An image without `data` is left as
+/// it is.
 ///
 /// All memory is taken, and all is refused, before the first byte: `BadNodeName` or
 /// `BadPropertyName` of the blob, at offset 0, for the first bad name in the order of writing;

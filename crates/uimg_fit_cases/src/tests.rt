@@ -1,5 +1,6 @@
 //! Tables of cases, and what plays them. A row that fails is named in the panic.
 
+mod answers;
 mod build_rows;
 mod device_rows;
 mod fill_rows;
@@ -7,3 +8,4 @@ mod images;
 mod making;
 mod read_rows;
 mod tree_rows;
+mod unpack_rows;

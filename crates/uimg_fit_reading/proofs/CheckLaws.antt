@@ -32,6 +32,7 @@ use Rattle.uimg_fit_reading.specs.declared.checking.Finding.{Finding}
 use Rattle.uimg_fit_reading.specs.declared.checking.Finding.TheVariants as finding
 use Rattle.uimg_fit_reading.specs.declared.checking.checked_payloads.Checked.{Checked}
 use Rattle.uimg_fit_reading.specs.declared.checking.checked_payloads.Checked.TheVariants.{On, Ended}
+use Rattle.uimg_fit_reading.specs.declared.report.wrong_hashes.WrongHash.{WrongHash}
 use Rattle.uimg_fit_reading.specs.Allowances.{node_allowance, allowance}
 use Rattle.uimg_fit_reading.specs.Checks.{Told, wrong, weak, overlapping, no_image, check_work, told_of, wrong_in, is_weak, or_weak, found_of, image_told, or_later, first_told, images_told, some_told, check_of, or_right}
 use Rattle.uimg_fit_reading.specs.CheckParts.{FindsWrong, IsChecked, TellsChecked, left_of, ChecksPayload, ChecksImage, ChecksImages}
@@ -48,16 +49,16 @@ use Rattle.uimg_fit_reading.proofs.PlanLaws.{if_err}
 use Rattle.uimg_fit_reading.proofs.SharesLaws.{hashes_allowed, images_allowed}
 
 -- The first hash node that is not right among those that are left is the first of all.
-pub record LeftRight (t : Siblings) (set : AlgoSet) (name message : List ℕ) (hs : List (NodeOf Spot)) (asked new : ℕ) (next : Option ℕ) : Type 0 where
+pub record LeftRight (t : Siblings) (set : AlgoSet) (message : List ℕ) (hs : List (NodeOf Spot)) (asked new : ℕ) (next : Option ℕ) : Type 0 where
   pub left : List (NodeOf Spot)
   pub at : HashesAt t next left
   pub covered : AllCovered set left
-  pub same : wrong_in name message hs ≡ wrong_in name message left
+  pub same : (name : List ℕ) → wrong_in name message hs ≡ wrong_in name message left
   pub paid : new + 96 * length left ≤ asked + 96 * length hs
 
-pub rights_first : (t : Siblings) (set : AlgoSet) (name message : List ℕ) (hs : List (NodeOf Spot)) (asked : ℕ) (next : Option ℕ) → HashesAt t next hs → AllCovered set hs
-    → LeftRight t set name message hs asked asked next
-rights_first t set name message hs asked next at covered = record { left = hs; at = at; covered = covered; same = refl; paid = omega arith }
+pub rights_first : (t : Siblings) (set : AlgoSet) (message : List ℕ) (hs : List (NodeOf Spot)) (asked : ℕ) (next : Option ℕ) → HashesAt t next hs → AllCovered set hs
+    → LeftRight t set message hs asked asked next
+rights_first t set message hs asked next at covered = record { left = hs; at = at; covered = covered; same = λ name. refl; paid = omega arith }
 
 right_next : (name message : List ℕ) (h : NodeOf Spot) (hs : List (NodeOf Spot)) → is_right (word_of message h) ≡ true → wrong_in name message (h ∷ hs) ≡ wrong_in name message hs
 unfolding wrong_in
@@ -72,42 +73,43 @@ none_wrong : (name message : List ℕ) → wrong_in name message [] ≡ None
 unfolding wrong_in
 none_wrong name message = refl
 
-pub rights_more : (t : Siblings) (set : AlgoSet) (name message : List ℕ) (hs : List (NodeOf Spot)) (asked new number : ℕ) (next : Option ℕ) (k : LeftRight t set name message hs asked new next)
+pub rights_more : (t : Siblings) (set : AlgoSet) (message : List ℕ) (hs : List (NodeOf Spot)) (asked new number : ℕ) (next : Option ℕ) (k : LeftRight t set message hs asked new next)
     (f : FirstHash t number k.left) (word : Verdict) (following : Option ℕ) (later : ℕ) → word ≡ word_of message f.hash → is_right word ≡ true → later ≤ new + 96 → HashesAt t following f.more
-    → LeftRight t set name message hs asked later following
-rights_more t set name message hs asked new number next k f word following later is good paid at = record {
+    → LeftRight t set message hs asked later following
+rights_more t set message hs asked new number next k f word following later is good paid at = record {
   left = f.more;
   at = at;
   covered = (covered_first set k.left t number f k.covered).1;
-  same = k.same ∙ ap (wrong_in name message) f.are ∙ right_next name message f.hash f.more (ap is_right (sym is) ∙ good);
+  same = λ name. k.same name ∙ ap (wrong_in name message) f.are ∙ right_next name message f.hash f.more (ap is_right (sym is) ∙ good);
   paid = omega (arith, paid, k.paid, ap (λ (l : List (NodeOf Spot)). length l) f.are);
 }
 
-pub rights_cut : (t : Siblings) (set : AlgoSet) (file name message : List ℕ) (hs : List (NodeOf Spot)) (asked new number : ℕ) (next : Option ℕ) (k : LeftRight t set name message hs asked new next)
-    → FirstHash t number k.left → (later : ℕ) (r : Result (Option Finding) SourceFault) → later ≤ new + 96 → is_err r ≡ true → FindsWrong file name message hs asked later r
-rights_cut t set file name message hs asked new number next k f later r paid failed = record {
-  told = if_err r _ failed;
+pub rights_cut : (t : Siblings) (set : AlgoSet) (file message : List ℕ) (hs : List (NodeOf Spot)) (asked new number : ℕ) (next : Option ℕ) (k : LeftRight t set message hs asked new next)
+    → FirstHash t number k.left → (later : ℕ) (r : Result (Option WrongHash) SourceFault) → later ≤ new + 96 → is_err r ≡ true → FindsWrong file message hs asked later r
+rights_cut t set file message hs asked new number next k f later r paid failed = record {
+  told = λ name. if_err r _ failed;
+  short = if_err r _ failed;
   paid = omega (arith, paid, k.paid, ap (λ (l : List (NodeOf Spot)). length l) f.are);
 }
 
-pub rights_end : (t : Siblings) (set : AlgoSet) (file message : List ℕ) (hs : List (NodeOf Spot)) (asked new number : ℕ) (next : Option ℕ) (image hash : Span)
-    (k : LeftRight t set (slice file image.place image.length) message hs asked new next) (f : FirstHash t number k.left) (word : Verdict) (later : ℕ) → word ≡ word_of message f.hash → is_right word ≡ false
-    → slice file hash.place hash.length ≡ f.hash.name → later ≤ new + 96
-    → FindsWrong file (slice file image.place image.length) message hs asked later (Ok (Some (finding.Wrong image hash word)))
-rights_end t set file message hs asked new number next image hash k f word later is bad named paid =
-    let name : List ℕ = slice file image.place image.length in
-    record {
-      told = ap (λ (n : List ℕ). Some (wrong name n word)) named ∙ ap (λ (w : Verdict). Some (wrong name f.hash.name w)) is
-          ∙ sym (k.same ∙ ap (wrong_in name message) f.are ∙ wrong_next name message f.hash f.more (ap is_right (sym is) ∙ bad));
-      paid = omega (arith, paid, k.paid, ap (λ (l : List (NodeOf Spot)). length l) f.are);
-    }
+pub rights_end : (t : Siblings) (set : AlgoSet) (file message : List ℕ) (hs : List (NodeOf Spot)) (asked new number : ℕ) (next : Option ℕ) (hash : Span)
+    (k : LeftRight t set message hs asked new next) (f : FirstHash t number k.left) (word : Verdict) (later : ℕ) → word ≡ word_of message f.hash → is_right word ≡ false
+    → slice file hash.place hash.length ≡ f.hash.name → hash.length ≤ 255 → later ≤ new + 96
+    → FindsWrong file message hs asked later (Ok (Some (record { hash = hash; word = word })))
+rights_end t set file message hs asked new number next hash k f word later is bad named short paid = record {
+  short = short;
+  told = λ name. ap (λ (n : List ℕ). Some (wrong name n word)) named ∙ ap (λ (w : Verdict). Some (wrong name f.hash.name w)) is
+      ∙ sym (k.same name ∙ ap (wrong_in name message) f.are ∙ wrong_next name message f.hash f.more (ap is_right (sym is) ∙ bad));
+  paid = omega (arith, paid, k.paid, ap (λ (l : List (NodeOf Spot)). length l) f.are);
+}
 
-pub rights_all : (t : Siblings) (set : AlgoSet) (file name message : List ℕ) (hs : List (NodeOf Spot)) (asked new : ℕ) (next : Option ℕ) → next ≡ None → LeftRight t set name message hs asked new next
-    → FindsWrong file name message hs asked new (Ok None)
-rights_all t set file name message hs asked new next none k =
+pub rights_all : (t : Siblings) (set : AlgoSet) (file message : List ℕ) (hs : List (NodeOf Spot)) (asked new : ℕ) (next : Option ℕ) → next ≡ None → LeftRight t set message hs asked new next
+    → FindsWrong file message hs asked new (Ok None)
+rights_all t set file message hs asked new next none k =
     let nothing_left : k.left ≡ [] = subst (λ (o : Option ℕ). HashesAt t o k.left) none k.at in
     record {
-      told = sym (k.same ∙ ap (wrong_in name message) nothing_left ∙ none_wrong name message);
+      told = λ name. sym (k.same name ∙ ap (wrong_in name message) nothing_left ∙ none_wrong name message);
+      short = tt;
       paid = omega (arith, k.paid);
     }
 
@@ -129,7 +131,7 @@ within : (need : Option Algo) (left size : ℕ) (image : NodeOf Spot) (message :
 within need left size image message is few = rw (le-ltb left (hashed image (Ok message)) (omega (arith, is, few))) refl
 
 -- each hash node has its allowance
-some_nodes : (hs : List (NodeOf Spot)) → 760 * length hs ≤ sum_by node_allowance hs
+pub some_nodes : (hs : List (NodeOf Spot)) → 760 * length hs ≤ sum_by node_allowance hs
 some_nodes [] = omega arith
 some_nodes (h ∷ hs) = omega (arith, sum_by-cons node_allowance h hs, some_nodes hs)
 
@@ -156,43 +158,43 @@ payload_cut file need left image message asked new r failed paid = record {
 }
 
 -- a hash node is not right
-pub payload_wrong : (file : List ℕ) (need : Option Algo) (left size : ℕ) (image : NodeOf Spot) (message : List ℕ) (asked middle new : ℕ) (found : Finding) → size ≡ hashed image (Ok message) → size ≤ left
-    → middle ≤ asked + (size + 32 * length (hashes image)) → FindsWrong file image.name message (hashes image) middle new (Ok (Some found))
-    → ChecksPayload file need left image message asked new (Ok (Ended found))
-payload_wrong file need left size image message asked middle new found is few paid w = record {
-  told = within need left size image message is few ∙ ap (λ (o : Option Told). or_weak o need image) (sym w.told);
+pub payload_wrong : (file : List ℕ) (need : Option Algo) (left size : ℕ) (image : NodeOf Spot) (message : List ℕ) (asked middle new : ℕ) (name : Span) (found : WrongHash) → size ≡ hashed image (Ok message) → size ≤ left
+    → middle ≤ asked + (size + 32 * length (hashes image)) → FindsWrong file message (hashes image) middle new (Ok (Some found)) → slice file name.place name.length ≡ image.name
+    → ChecksPayload file need left image message asked new (Ok (Ended (finding.Wrong name found.hash found.word)))
+payload_wrong file need left size image message asked middle new name found is few paid w named = record {
+  told = within need left size image message is few ∙ ap (λ (o : Option Told). or_weak o need image) (sym (w.told image.name))
+      ∙ ap (λ (n : List ℕ). Some (wrong n (slice file found.hash.place found.hash.length) found.word)) (sym named);
   paid = omega (arith, paid, w.paid, few, nodes_paid image);
 }
 
 -- what was found of hash nodes, once more of the same bytes
-pub finds_in : (file read its message : List ℕ) (name : Span) (hs : List (NodeOf Spot)) (asked new : ℕ) (o p : Option Finding) → read ≡ file → slice file name.place name.length ≡ its → o ≡ p
-    → FindsWrong read (slice read name.place name.length) message hs asked new (Ok o) → FindsWrong file its message hs asked new (Ok p)
-finds_in file read its message name hs asked new o p same named is w =
-    subst (λ (x : Option Finding). FindsWrong file its message hs asked new (Ok x)) is
-    (subst (λ (n : List ℕ). FindsWrong file n message hs asked new (Ok o)) named
-    (subst (λ (xs : List ℕ). FindsWrong xs (slice xs name.place name.length) message hs asked new (Ok o)) same w))
+pub finds_in : (file read message : List ℕ) (hs : List (NodeOf Spot)) (asked new : ℕ) (o p : Option WrongHash) → read ≡ file → o ≡ p
+    → FindsWrong read message hs asked new (Ok o) → FindsWrong file message hs asked new (Ok p)
+finds_in file read message hs asked new o p same is w =
+    subst (λ (x : Option WrongHash). FindsWrong file message hs asked new (Ok x)) is
+    (subst (λ (xs : List ℕ). FindsWrong xs message hs asked new (Ok o)) same w)
 
 -- whether an image is weak, by its algorithms
-weak_by : (need : Option Algo) (image : NodeOf Spot) (set : AlgoSet) → set ≡ with_all no_algos (hashes image) → is_weak need image ≡ option_map_or (λ algo. not (has_from set algo)) need false
+pub weak_by : (need : Option Algo) (image : NodeOf Spot) (set : AlgoSet) → set ≡ with_all no_algos (hashes image) → is_weak need image ≡ option_map_or (λ algo. not (has_from set algo)) need false
 weak_by None image set is = refl
 weak_by (Some need) image set is = ap (λ (s : AlgoSet). not (has_from s need)) (sym is)
 
 pub payload_weak : (file : List ℕ) (need : Option Algo) (left size : ℕ) (image : NodeOf Spot) (message : List ℕ) (asked middle new : ℕ) (set : AlgoSet) (name : Span) → size ≡ hashed image (Ok message) → size ≤ left
-    → middle ≤ asked + (size + 32 * length (hashes image)) → FindsWrong file image.name message (hashes image) middle new (Ok None) → set ≡ with_all no_algos (hashes image)
+    → middle ≤ asked + (size + 32 * length (hashes image)) → FindsWrong file message (hashes image) middle new (Ok None) → set ≡ with_all no_algos (hashes image)
     → option_map_or (λ algo. not (has_from set algo)) need false ≡ true → slice file name.place name.length ≡ image.name
     → ChecksPayload file need left image message asked new (Ok (Ended (finding.Weak name)))
 payload_weak file need left size image message asked middle new set name is few paid w algos lacks named = record {
-  told = within need left size image message is few ∙ ap (λ (o : Option Told). or_weak o need image) (sym w.told)
+  told = within need left size image message is few ∙ ap (λ (o : Option Told). or_weak o need image) (sym (w.told image.name))
       ∙ ap (λ (b : Bool). if b then Some (weak image.name) else None) (weak_by need image set algos ∙ lacks) ∙ ap (λ (n : List ℕ). Some (weak n)) (sym named);
   paid = omega (arith, paid, w.paid, few, nodes_paid image);
 }
 
 pub payload_on : (file : List ℕ) (need : Option Algo) (left size : ℕ) (image : NodeOf Spot) (message : List ℕ) (asked middle new : ℕ) (set : AlgoSet) (rest : ℕ) → size ≡ hashed image (Ok message) → size ≤ left
-    → middle ≤ asked + (size + 32 * length (hashes image)) → FindsWrong file image.name message (hashes image) middle new (Ok None) → set ≡ with_all no_algos (hashes image)
+    → middle ≤ asked + (size + 32 * length (hashes image)) → FindsWrong file message (hashes image) middle new (Ok None) → set ≡ with_all no_algos (hashes image)
     → option_map_or (λ algo. not (has_from set algo)) need false ≡ false → rest + size ≡ left → ChecksPayload file need left image message asked new (Ok (On rest))
 payload_on file need left size image message asked middle new set rest is few paid w algos lacks sum = record {
   told = (
-    within need left size image message is few ∙ ap (λ (o : Option Told). or_weak o need image) (sym w.told)
+    within need left size image message is few ∙ ap (λ (o : Option Told). or_weak o need image) (sym (w.told image.name))
         ∙ ap (λ (b : Bool). if b then Some (weak image.name) else None) (weak_by need image set algos ∙ lacks),
     omega (arith, is, sum),
   );

@@ -1,13 +1,12 @@
 -- Which hash nodes are compared, and by which algorithms.
-use Rattle.std.proofs.Common.{◌≡◌, ◌≤◌, ◌==◌, ◌||◌, ℕ, List, [], ◌∷◌, length, Option, Some, None, Bool, true, false, if◌then◌else◌, codes, IsTrue, refl, ap, sym, ◌∙◌, subst, arith}
-use Rattle.std.specs.List.{AllByRecursion, list_any}
+use Rattle.std.proofs.Common.{◌≡◌, ◌≤◌, ◌==◌, ◌||◌, ℕ, List, [], ◌∷◌, length, Option, Some, None, Bool, true, false, if◌then◌else◌, codes, IsTrue, refl, ap, sym, ◌∙◌, arith}
+use Rattle.std.specs.List.{list_any}
 use Rattle.std.specs.Option.{option_map}
 use Rattle.std.specs.Str.{bytes_eq}
 use Rattle.uimg_sums.specs.declared.algo.Algo.{Algo}
 use Rattle.uimg_sums.specs.declared.algo.Algo.TheVariants.{Crc32, Md5, Sha1, Sha256, Sha384, Sha512}
 use Rattle.uimg_sums.specs.Algorithms.{algo_named, digest_size, digest_by}
 use Rattle.uimg_blob.specs.declared.keys.Key.TheVariants as key
-use Rattle.uimg_blob.specs.Grammar.{Siblings}
 use Rattle.uimg_blob.specs.Indexed.{keeps, value_span}
 use Rattle.uimg_blob.specs.LookUps.{NodeOf, first}
 use Rattle.uimg_blob.specs.Roles.{in_image, is_hash, role_at}
@@ -22,9 +21,7 @@ use Rattle.uimg_fit_base.proofs.AlgoSetLaws.{marked-has, marked-keeps, empty-is}
 use Rattle.uimg_fit_reading.specs.declared.report.plans.Plan.{Plan}
 use Rattle.uimg_fit_reading.specs.declared.report.plans.Plan.TheVariants.{Malformed, Unsupported, Compared}
 use Rattle.uimg_fit_reading.specs.HashReports.{AllCovered}
-use Rattle.uimg_fit_reading.specs.Nodes.{FirstHash, HashAt}
 use Rattle.uimg_fit_reading.specs.Plans.{plan_of, plan_for, plan_by_algo, plan_by_name, compares, are_compared, IsCovered, with_plan, with_all}
-use Rattle.uimg_fit_reading.proofs.HashLaws.{head_or, rest_of}
 
 -- a hash node keeps the values of its algorithm and its digest
 pub keeps_algo : (name : List ℕ) → is_hash name ≡ true → IsTrue (keeps (role_at in_image name) key.Algo)

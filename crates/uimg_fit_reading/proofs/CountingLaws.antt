@@ -1,5 +1,5 @@
 -- The images that are counted, and those that are left.
-use Rattle.std.proofs.Common.{◌≡◌, ◌+◌, ◌≤◌, ◌<◌, IfSome, ℕ, List, [], ◌∷◌, length, Option, Some, None, Result, Ok, ap, sym, ◌∙◌, subst, arith}
+use Rattle.std.proofs.Common.{◌≡◌, ◌+◌, ◌≤◌, ◌<◌, IfSome, ℕ, List, ◌∷◌, length, Option, Some, None, Result, Ok, ap, subst, arith}
 use Rattle.uimg_base.specs.Results.{◌>>=◌}
 use Rattle.uimg_blob.specs.Blob.{tree}
 use Rattle.uimg_blob.specs.Grammar.{Siblings}
@@ -10,7 +10,7 @@ use Rattle.uimg_fit_base.specs.declared.fault.Fault.{Fault}
 use Rattle.uimg_fit_base.proofs.FileLaws.{images_are}
 use Rattle.uimg_fit_reading.specs.Counting.{count_of}
 use Rattle.uimg_fit_reading.specs.Nodes.{AreFrom}
-use Rattle.uimg_fit_reading.proofs.ImageLaws.{Front, front, none_left}
+use Rattle.uimg_fit_reading.proofs.ImageLaws.{front, none_left}
 
 -- So many images were counted, and the others follow one another from a number on.
 pub record LeftCounted (t : Siblings) (found : List (NodeOf Spot)) (count : ℕ) (next : Option ℕ) : Type 0 where

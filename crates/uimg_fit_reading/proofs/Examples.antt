@@ -17,6 +17,7 @@ use Rattle.uimg_blob.specs.Blob.{tree, blocks}
 use Rattle.uimg_blob.specs.Plain.{Named, NodesOf, Nodes, no_node, a_node}
 use Rattle.uimg_blob.specs.LookUps.{NodeOf, images, listed}
 use Rattle.uimg_blob.specs.Spots.{Spot, spots}
+use Rattle.uimg_tree.specs.Alignment.{aligned}
 use Rattle.uimg_tree.specs.Encoding.{word, ended, with_names, with_names_in, name_offset, property_bytes, nodes_bytes, blob, encode}
 use Rattle.uimg_fit_base.specs.declared.fault.Fault.{Fault}
 use Rattle.uimg_fit_base.specs.declared.fault.Fault.TheVariants.{Fit}
@@ -89,26 +90,26 @@ abbrev external : List ℕ
 external = encode (demo_of (set (codes "data-offset") (word 0) ∷ set (codes "data-size") (word 3) ∷ []) four_hashes) ++ codes "abc" ++ 0 ∷ []
 
 four-size : (length (encode four) ≡ 760) × (length external ≡ 800)
-unfolding with_names with_names_in name_offset property_bytes nodes_bytes blob
+unfolding with_names with_names_in name_offset property_bytes nodes_bytes blob aligned
 four-size = (refl, refl)
 
 four-extract : (extract_of (encode four) 0 ≡ told (codes "abc") done) × (extract_of (encode four) 1 ≡ told [] (refused (Fit NoSuchImage)))
-unfolding with_names with_names_in name_offset property_bytes nodes_bytes blob tree blocks tokens_from token_at before_nul root properties children without_nops be32 listed spots number bytes_at
+unfolding with_names with_names_in name_offset property_bytes nodes_bytes blob aligned tree blocks tokens_from token_at before_nul root properties children without_nops be32 listed spots number bytes_at
 four-extract = (refl, refl)
 
 external-extract : extract_of external 0 ≡ told (codes "abc") done
-unfolding with_names with_names_in name_offset property_bytes nodes_bytes blob tree blocks tokens_from token_at before_nul root properties children without_nops be32 listed spots number bytes_at
+unfolding with_names with_names_in name_offset property_bytes nodes_bytes blob aligned tree blocks tokens_from token_at before_nul root properties children without_nops be32 listed spots number bytes_at
 external-extract = refl
 
 abbrev four_lines : List ℕ
 four_lines = line (codes "kernel hash-1 crc32 ok") ++ line (codes "kernel hash-2 md5 ok") ++ line (codes "kernel hash-3 sha1 ok") ++ line (codes "kernel hash-4 sha256 ok")
 
 four-verify : verify_of (encode four) ≡ told four_lines done
-unfolding with_names with_names_in name_offset property_bytes nodes_bytes blob tree blocks tokens_from token_at before_nul root properties children without_nops be32 listed spots number text bytes_at compared report Crc.bits Crc.number_of Crc.polynomial Crc.rem_by Crc.rem Crc.dividend Crc.xor_bits Crc.invert_prefix Crc.crc Md5.block_words Md5.rounds Md5.compress Md5.hash_after Md5.digest_bytes Md5.md5 Sha1.first_words Sha1.schedule Sha1.rounds Sha1.compress Sha1.hash_after Sha1.digest_bytes Sha1.sha1 Sha256.first_words Sha256.schedule Sha256.rounds Sha256.compress Sha256.hash_after Sha256.digest_bytes Sha256.sha256
+unfolding with_names with_names_in name_offset property_bytes nodes_bytes blob aligned tree blocks tokens_from token_at before_nul root properties children without_nops be32 listed spots number text bytes_at compared report Crc.bits Crc.number_of Crc.polynomial Crc.rem_by Crc.rem Crc.dividend Crc.xor_bits Crc.invert_prefix Crc.crc Md5.block_words Md5.rounds Md5.compress Md5.hash_after Md5.digest_bytes Md5.md5 Sha1.first_words Sha1.schedule Sha1.rounds Sha1.compress Sha1.hash_after Sha1.digest_bytes Sha1.sha1 Sha256.first_words Sha256.schedule Sha256.rounds Sha256.compress Sha256.hash_after Sha256.digest_bytes Sha256.sha256
 four-verify = refl
 
 external-verify : verify_of external ≡ told four_lines done
-unfolding with_names with_names_in name_offset property_bytes nodes_bytes blob tree blocks tokens_from token_at before_nul root properties children without_nops be32 listed spots number text bytes_at compared report Crc.bits Crc.number_of Crc.polynomial Crc.rem_by Crc.rem Crc.dividend Crc.xor_bits Crc.invert_prefix Crc.crc Md5.block_words Md5.rounds Md5.compress Md5.hash_after Md5.digest_bytes Md5.md5 Sha1.first_words Sha1.schedule Sha1.rounds Sha1.compress Sha1.hash_after Sha1.digest_bytes Sha1.sha1 Sha256.first_words Sha256.schedule Sha256.rounds Sha256.compress Sha256.hash_after Sha256.digest_bytes Sha256.sha256
+unfolding with_names with_names_in name_offset property_bytes nodes_bytes blob aligned tree blocks tokens_from token_at before_nul root properties children without_nops be32 listed spots number text bytes_at compared report Crc.bits Crc.number_of Crc.polynomial Crc.rem_by Crc.rem Crc.dividend Crc.xor_bits Crc.invert_prefix Crc.crc Md5.block_words Md5.rounds Md5.compress Md5.hash_after Md5.digest_bytes Md5.md5 Sha1.first_words Sha1.schedule Sha1.rounds Sha1.compress Sha1.hash_after Sha1.digest_bytes Sha1.sha1 Sha256.first_words Sha256.schedule Sha256.rounds Sha256.compress Sha256.hash_after Sha256.digest_bytes Sha256.sha256
 external-verify = refl
 
 -- a payload that is changed is told
@@ -116,13 +117,13 @@ abbrev one_hash : Nodes
 one_hash = demo (hash (codes "hash-1") (codes "crc32") crc no_node)
 
 changed-payload : verify_of (take 168 (encode one_hash) ++ 0x62 ∷ drop 169 (encode one_hash)) ≡ told (line (codes "kernel hash-1 crc32 bad")) not_right
-unfolding with_names with_names_in name_offset property_bytes nodes_bytes blob tree blocks tokens_from token_at before_nul root properties children without_nops be32 listed spots number text bytes_at compared report Crc.bits Crc.number_of Crc.polynomial Crc.rem_by Crc.rem Crc.dividend Crc.xor_bits Crc.invert_prefix Crc.crc
+unfolding with_names with_names_in name_offset property_bytes nodes_bytes blob aligned tree blocks tokens_from token_at before_nul root properties children without_nops be32 listed spots number text bytes_at compared report Crc.bits Crc.number_of Crc.polynomial Crc.rem_by Crc.rem Crc.dividend Crc.xor_bits Crc.invert_prefix Crc.crc
 changed-payload = refl
 
 -- no images: two lines of a listing, and no line of a report
 no-images : (list_of Profile (encode (a_node [] [] no_node no_node)) ≡ told (line (codes "FIT description: unavailable") ++ line (codes "Created:         unavailable")) (refused (Fit NoImages)))
     × (verify_of (encode (a_node [] [] no_node no_node)) ≡ told [] (refused (Fit NoImages)))
-unfolding with_names with_names_in name_offset property_bytes nodes_bytes blob tree blocks tokens_from token_at before_nul root properties children without_nops be32 listed spots number
+unfolding with_names with_names_in name_offset property_bytes nodes_bytes blob aligned tree blocks tokens_from token_at before_nul root properties children without_nops be32 listed spots number
 no-images = (refl, refl)
 
 abbrev first_fields : List ℕ → Result (NodesOf Spot) Fault → Option (List (NodeOf Spot)) → List ℕ
@@ -163,7 +164,7 @@ bare-fields : first_fields (encode bare) (tree_of (encode bare)) (images_in (tre
     ++ line (codes "  Hash value:   a9993e364706816aba3e25717850c26c9cd0d89d")
     ++ line (codes "  Hash algo:    sha256")
     ++ line (codes "  Hash value:   ba7816bf8f01cfea414140de5dae2223b00361a396177a9cb410ff61f20015ad")
-unfolding with_names with_names_in name_offset property_bytes nodes_bytes blob tree blocks tokens_from token_at before_nul root properties children without_nops be32 listed spots number text encode_with time_text civil_date address_text rows_lines value_lines name_text code_text
+unfolding with_names with_names_in name_offset property_bytes nodes_bytes blob aligned tree blocks tokens_from token_at before_nul root properties children without_nops be32 listed spots number text encode_with time_text civil_date address_text rows_lines value_lines name_text code_text
 bare-fields = refl
 
 -- two cells of an address, and the texts of a list
@@ -180,41 +181,41 @@ abbrev one : List Named → Nodes
 one own = a_node [] [] (a_node (codes "images") [] (a_node (codes "a") own no_node no_node) no_node) no_node
 
 by-position : extract_of (encode (one (set (codes "data-offset") (word 0) ∷ set (codes "data-position") (word 0) ∷ set (codes "data-size") (word 4) ∷ []))) 0 ≡ told (word 0xd00dfeed) done
-unfolding with_names with_names_in name_offset property_bytes nodes_bytes blob tree blocks tokens_from token_at before_nul root properties children without_nops be32 listed spots number bytes_at
+unfolding with_names with_names_in name_offset property_bytes nodes_bytes blob aligned tree blocks tokens_from token_at before_nul root properties children without_nops be32 listed spots number bytes_at
 by-position = refl
 
 by-data : extract_of (encode (one (set (codes "data-position") (word 0) ∷ set (codes "data") (codes "abc") ∷ []))) 0 ≡ told (codes "abc") done
-unfolding with_names with_names_in name_offset property_bytes nodes_bytes blob tree blocks tokens_from token_at before_nul root properties children without_nops be32 listed spots number bytes_at
+unfolding with_names with_names_in name_offset property_bytes nodes_bytes blob aligned tree blocks tokens_from token_at before_nul root properties children without_nops be32 listed spots number bytes_at
 by-data = refl
 
 -- a payload that ends after the file, none, and no image
 outside : extract_of (encode (one (set (codes "data-position") (word 0xffffffff) ∷ set (codes "data-size") (word 4) ∷ []))) 0 ≡ told [] (refused (Fit DataOutside))
-unfolding with_names with_names_in name_offset property_bytes nodes_bytes blob tree blocks tokens_from token_at before_nul root properties children without_nops be32 listed spots number bytes_at
+unfolding with_names with_names_in name_offset property_bytes nodes_bytes blob aligned tree blocks tokens_from token_at before_nul root properties children without_nops be32 listed spots number bytes_at
 outside = refl
 
 no-data : (extract_of (encode (one [])) 0 ≡ told [] (refused (Fit NoData))) × (extract_of (encode (one [])) 1 ≡ told [] (refused (Fit NoSuchImage)))
-unfolding with_names with_names_in name_offset property_bytes nodes_bytes blob tree blocks tokens_from token_at before_nul root properties children without_nops be32 listed spots number bytes_at
+unfolding with_names with_names_in name_offset property_bytes nodes_bytes blob aligned tree blocks tokens_from token_at before_nul root properties children without_nops be32 listed spots number bytes_at
 no-data = (refl, refl)
 
 -- a check: all is right, the strength is too small, and a payload was changed
 one-check : (check_of None (encode one_hash) ≡ Ok (right 1 1)) × (check_of (Some algo.Crc32) (encode one_hash) ≡ Ok (right 1 1)) × (check_of (Some algo.Md5) (encode one_hash) ≡ Ok (weak (codes "kernel")))
-unfolding with_names with_names_in name_offset property_bytes nodes_bytes blob tree blocks tokens_from token_at before_nul root properties children without_nops be32 listed spots number text bytes_at compared plan_for with_all has marked wrong_in first_told unhashed_in Crc.bits Crc.number_of Crc.polynomial Crc.rem_by Crc.rem Crc.dividend Crc.xor_bits Crc.invert_prefix Crc.crc
+unfolding with_names with_names_in name_offset property_bytes nodes_bytes blob aligned tree blocks tokens_from token_at before_nul root properties children without_nops be32 listed spots number text bytes_at compared plan_for with_all has marked wrong_in first_told unhashed_in Crc.bits Crc.number_of Crc.polynomial Crc.rem_by Crc.rem Crc.dividend Crc.xor_bits Crc.invert_prefix Crc.crc
 one-check = (refl, refl, refl)
 
 changed-check : check_of (Some algo.Md5) (take 168 (encode one_hash) ++ 0x62 ∷ drop 169 (encode one_hash)) ≡ Ok (wrong (codes "kernel") (codes "hash-1") word_of.Wrong)
-unfolding with_names with_names_in name_offset property_bytes nodes_bytes blob tree blocks tokens_from token_at before_nul root properties children without_nops be32 listed spots number text bytes_at compared plan_for with_all has marked wrong_in first_told unhashed_in Crc.bits Crc.number_of Crc.polynomial Crc.rem_by Crc.rem Crc.dividend Crc.xor_bits Crc.invert_prefix Crc.crc
+unfolding with_names with_names_in name_offset property_bytes nodes_bytes blob aligned tree blocks tokens_from token_at before_nul root properties children without_nops be32 listed spots number text bytes_at compared plan_for with_all has marked wrong_in first_told unhashed_in Crc.bits Crc.number_of Crc.polynomial Crc.rem_by Crc.rem Crc.dividend Crc.xor_bits Crc.invert_prefix Crc.crc
 changed-check = refl
 
 -- an image without a hash node, and no image
 unhashed-check : (check_of None (encode (demo no_node)) ≡ Ok (unhashed (codes "kernel"))) × (check_of (Some algo.Crc32) (encode (demo no_node)) ≡ Ok (weak (codes "kernel")))
-unfolding with_names with_names_in name_offset property_bytes nodes_bytes blob tree blocks tokens_from token_at before_nul root properties children without_nops be32 listed spots number text bytes_at compared plan_for with_all has marked wrong_in first_told unhashed_in Crc.bits Crc.number_of Crc.polynomial Crc.rem_by Crc.rem Crc.dividend Crc.xor_bits Crc.invert_prefix Crc.crc
+unfolding with_names with_names_in name_offset property_bytes nodes_bytes blob aligned tree blocks tokens_from token_at before_nul root properties children without_nops be32 listed spots number text bytes_at compared plan_for with_all has marked wrong_in first_told unhashed_in Crc.bits Crc.number_of Crc.polynomial Crc.rem_by Crc.rem Crc.dividend Crc.xor_bits Crc.invert_prefix Crc.crc
 unhashed-check = (refl, refl)
 
 abbrev empty : Nodes
 empty = a_node [] [] (a_node (codes "images") [] no_node no_node) no_node
 
 empty-check : (check_of None (encode empty) ≡ Ok (right 0 0)) × (check_of (Some algo.Crc32) (encode empty) ≡ Ok no_image) × (check_of None (encode (a_node [] [] no_node no_node)) ≡ Err (Fit NoImages))
-unfolding with_names with_names_in name_offset property_bytes nodes_bytes blob tree blocks tokens_from token_at before_nul root properties children without_nops be32 listed spots number text bytes_at compared plan_for with_all has marked wrong_in first_told unhashed_in Crc.bits Crc.number_of Crc.polynomial Crc.rem_by Crc.rem Crc.dividend Crc.xor_bits Crc.invert_prefix Crc.crc
+unfolding with_names with_names_in name_offset property_bytes nodes_bytes blob aligned tree blocks tokens_from token_at before_nul root properties children without_nops be32 listed spots number text bytes_at compared plan_for with_all has marked wrong_in first_told unhashed_in Crc.bits Crc.number_of Crc.polynomial Crc.rem_by Crc.rem Crc.dividend Crc.xor_bits Crc.invert_prefix Crc.crc
 empty-check = (refl, refl, refl)
 
 -- a second payload is read where it has just the bytes that are left, and is told where it has one more
@@ -225,5 +226,5 @@ two size = a_node [] []
     (a_node (codes "b") (set (codes "data-position") (word 0) ∷ set (codes "data-size") (word size) ∷ []) (hash (codes "hash") (codes "crc32") crc no_node) no_node)) no_node) no_node
 
 overlapping-check : (length (encode (two 302)) ≡ 304) × (check_of None (encode (two 302)) ≡ Ok (overlapping (codes "b"))) × (check_of None (encode (two 301)) ≡ Ok (wrong (codes "b") (codes "hash") word_of.Wrong))
-unfolding with_names with_names_in name_offset property_bytes nodes_bytes blob tree blocks tokens_from token_at before_nul root properties children without_nops be32 listed spots number text bytes_at compared plan_for with_all has marked wrong_in first_told unhashed_in Crc.bits Crc.number_of Crc.polynomial Crc.rem_by Crc.rem Crc.dividend Crc.xor_bits Crc.invert_prefix Crc.crc
+unfolding with_names with_names_in name_offset property_bytes nodes_bytes blob aligned tree blocks tokens_from token_at before_nul root properties children without_nops be32 listed spots number text bytes_at compared plan_for with_all has marked wrong_in first_told unhashed_in Crc.bits Crc.number_of Crc.polynomial Crc.rem_by Crc.rem Crc.dividend Crc.xor_bits Crc.invert_prefix Crc.crc
 overlapping-check = (refl, refl, refl)

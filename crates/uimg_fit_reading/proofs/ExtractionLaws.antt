@@ -3,18 +3,15 @@ use Rattle.std.proofs.Common.{◌≡◌, ℕ, List, Option, Some, Ok, Err, Resul
 use Rattle.std.specs.List.{slice_get}
 use Rattle.uimg_texts.specs.Slices.{slice}
 use Rattle.uimg_base.specs.Results.{◌>>=◌}
-use Rattle.uimg_blob.specs.Reading.{Fault as BlobFaultAt}
 use Rattle.uimg_blob.specs.Blob.{tree}
 use Rattle.uimg_blob.specs.Grammar.{Siblings}
 use Rattle.uimg_blob.specs.Roles.{in_images}
-use Rattle.uimg_blob.specs.Plain.{NodesOf}
-use Rattle.uimg_blob.specs.LookUps.{NodeOf, images}
-use Rattle.uimg_blob.specs.Spots.{Spot, spots}
+use Rattle.uimg_blob.specs.LookUps.{NodeOf}
+use Rattle.uimg_blob.specs.Spots.{Spot}
 use Rattle.uimg_base.specs.declared.spans.Span.{Span}
 use Rattle.uimg_fit_base.specs.declared.fault.Fault.{Fault}
 use Rattle.uimg_fit_base.specs.declared.fault.Fault.TheVariants.{Blob as OfBlob, Fit, Read, Put}
 use Rattle.uimg_fit_base.specs.Faults.{Gives}
-use Rattle.uimg_fit_base.specs.Files.{spots_in, listed_or, images_of}
 use Rattle.uimg_fit_base.specs.Places.{payload, TellsPlace}
 use Rattle.uimg_fit_base.specs.Extraction.{of_images, payload_of, payload_at}
 use Rattle.uimg_fit_reading.specs.Nodes.{IsNode, HasImage}

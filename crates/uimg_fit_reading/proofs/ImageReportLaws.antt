@@ -1,5 +1,5 @@
 -- Reporting on images, one more at a time.
-use Rattle.std.proofs.Common.{◌≡◌, ◌≤◌, ◌+◌, ◌*◌, ◌&&◌, ℕ, List, [], ◌∷◌, ◌++◌, length, Option, Some, None, Bool, true, false, if◌then◌else◌, codes, refl, ap, sym, ◌∙◌, subst, append_assoc, arith}
+use Rattle.std.proofs.Common.{◌≡◌, ◌≤◌, ◌+◌, ◌&&◌, ℕ, List, [], ◌∷◌, ◌++◌, length, Option, Some, None, Bool, true, false, if◌then◌else◌, codes, refl, ap, sym, ◌∙◌, subst, append_assoc, arith}
 use Rattle.std.specs.Prelude.{Result, Ok, Err, IfOk, is_err}
 use Rattle.std.specs.Option.{is_some}
 use Rattle.std.specs.List.{flat_map, sum_by}
@@ -24,7 +24,7 @@ use Rattle.uimg_fit_reading.specs.Allowances.{node_allowance}
 use Rattle.uimg_base.specs.declared.ranges.MoveFault.TheVariants as move
 use Rattle.uimg_fit_base.specs.Faults.{end_of, of_move, unless_memory}
 use Rattle.uimg_fit_reading.specs.HashReports.{hash_cost, ReportsHashes}
-use Rattle.uimg_fit_reading.specs.ImageReports.{status_of, ReportsFound, image_work, ImageDone, ImageCut, ReportsImage, ReportsImages}
+use Rattle.uimg_fit_reading.specs.ImageReports.{status_of, ReportsFound, image_work, ImageDone, ImageCut, ReportsImages}
 use Rattle.uimg_fit_reading.specs.Nodes.{AreFrom, HashesAt}
 use Rattle.uimg_fit_base.specs.Places.{payload, TellsPlace}
 use Rattle.uimg_fit_reading.specs.Plans.{are_compared}

@@ -16,6 +16,11 @@ pub mod CountingLaws
 pub mod VouchingLaws
 pub mod CheckLaws
 pub mod CheckCountLaws
+pub mod CopyLaws
+pub mod UnpackLaws
+pub mod ClaimLaws
+pub mod TakeLaws
+pub mod UnpackedLaws
 pub mod LineLaws
 pub mod AllowanceLaws
 pub mod SharesLaws

@@ -1,5 +1,5 @@
 -- The first image of a name, among those that are left.
-use Rattle.std.proofs.Common.{◌≡◌, ℕ, List, [], ◌∷◌, Option, Some, None, Bool, true, false, Result, Ok, Err, ap, sym, ◌∙◌, subst, refl}
+use Rattle.std.proofs.Common.{◌≡◌, ℕ, List, ◌∷◌, Option, Some, None, true, false, Result, Ok, ap, sym, ◌∙◌, subst, refl}
 use Rattle.std.specs.List.{slice_get}
 use Rattle.std.specs.Str.{bytes_eq}
 use Rattle.uimg_texts.specs.Slices.{slice}
@@ -13,13 +13,12 @@ use Rattle.uimg_blob.specs.Spots.{Spot, spots}
 use Rattle.uimg_fit_base.specs.declared.fault.Fault.{Fault}
 use Rattle.uimg_fit_base.specs.Extraction.{of_images, payload_of}
 use Rattle.uimg_fit_base.specs.Faults.{Gives}
-use Rattle.uimg_fit_base.specs.Files.{images_of}
 use Rattle.uimg_fit_base.specs.Places.{payload, TellsPlace}
 use Rattle.uimg_fit_base.proofs.FileLaws.{images_are}
 use Rattle.uimg_fit_reading.specs.Named.{named, payload_named, name_of, name_at, HasNamed, LacksNamed}
 use Rattle.uimg_fit_reading.specs.Nodes.{IsNode, AreFrom, HasImages, HasImage}
 use Rattle.uimg_fit_reading.proofs.ExtractionLaws.{by_answer}
-use Rattle.uimg_fit_reading.proofs.ImageLaws.{Front, front, none_left}
+use Rattle.uimg_fit_reading.proofs.ImageLaws.{front, none_left}
 
 -- The images from a number on, among which the first of a name is the first of all.
 pub record LeftNamed (t : Siblings) (name : List ℕ) (next : Option ℕ) : Type 0 where

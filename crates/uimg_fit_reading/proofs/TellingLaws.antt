@@ -4,7 +4,6 @@ use Rattle.std.specs.List.{sum_by}
 use Rattle.std.proofs.lemmas.List.Sums.{sum_by-cons}
 use Rattle.uimg_base.specs.Device.{Device}
 use Rattle.uimg_base.specs.Sink.{Sink}
-use Rattle.uimg_base.specs.Writing.{Written}
 use Rattle.uimg_blob.specs.declared.nodes.Blob.{Blob}
 use Rattle.uimg_blob.specs.Grammar.{Siblings}
 use Rattle.uimg_blob.specs.Roles.{level_after}

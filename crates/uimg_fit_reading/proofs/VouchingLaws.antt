@@ -1,5 +1,5 @@
 -- The images that are left, of which each has to be vouched for.
-use Rattle.std.proofs.Common.{◌≡◌, ℕ, List, [], ◌∷◌, Option, Some, None, is_none, Bool, true, false, Result, Ok, Err, ap, sym, ◌∙◌, subst, refl}
+use Rattle.std.proofs.Common.{◌≡◌, ℕ, List, ◌∷◌, Option, Some, None, is_none, Bool, true, false, Result, Ok, ap, sym, ◌∙◌, subst, refl}
 use Rattle.std.specs.List.{list_all}
 use Rattle.uimg_sums.specs.declared.algo.Algo.{Algo}
 use Rattle.uimg_blob.specs.Grammar.{Siblings}
@@ -12,7 +12,7 @@ use Rattle.uimg_fit_base.specs.declared.fault.Fault.{Fault}
 use Rattle.uimg_fit_base.proofs.FileLaws.{images_are}
 use Rattle.uimg_fit_reading.specs.Nodes.{IsNode, AreFrom}
 use Rattle.uimg_fit_reading.specs.Vouching.{is_vouched, are_vouched, vouched_in}
-use Rattle.uimg_fit_reading.proofs.ImageLaws.{Front, front, none_left}
+use Rattle.uimg_fit_reading.proofs.ImageLaws.{front, none_left}
 
 -- What is said of the images from a number on is said of all.
 pub record LeftVouched (t : Siblings) (need : Algo) (found : List (NodeOf Spot)) (next : Option ℕ) : Type 0 where

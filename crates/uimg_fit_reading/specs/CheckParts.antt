@@ -1,5 +1,5 @@
 -- Checking the images of a FIT image one after the other.
-use Rattle.std.specs.Prelude.{◌≡◌, ⊤, ℕ, ◌+◌, ◌≤◌, ◌*◌, List, length, Option, Some, None, Result, Ok, Err, IfOk}
+use Rattle.std.specs.Prelude.{◌≡◌, ⊤, ℕ, ◌+◌, ◌≤◌, ◌*◌, List, length, Option, Some, None, Result, Ok, Err, IfOk, IfSome}
 use Rattle.std.specs.List.{sum_by}
 use Rattle.std.specs.Option.{option_map}
 use Rattle.uimg_sums.specs.declared.algo.Algo.{Algo}
@@ -10,16 +10,23 @@ use Rattle.uimg_fit_base.specs.declared.fault.Fault.{Fault}
 use Rattle.uimg_fit_base.specs.declared.fault.Fault.TheVariants as of
 use Rattle.uimg_fit_base.specs.Faults.{Gives}
 use Rattle.uimg_fit_base.specs.Places.{payload}
+use Rattle.uimg_texts.specs.Slices.{slice}
 use Rattle.uimg_fit_reading.specs.declared.checking.Finding.{Finding}
+use Rattle.uimg_fit_reading.specs.declared.report.wrong_hashes.WrongHash.{WrongHash}
 use Rattle.uimg_fit_reading.specs.declared.checking.checked_payloads.Checked.{Checked}
 use Rattle.uimg_fit_reading.specs.declared.checking.checked_payloads.Checked.TheVariants.{On, Ended}
 use Rattle.uimg_fit_reading.specs.Allowances.{node_allowance}
 use Rattle.uimg_fit_reading.specs.Work.{hashed}
-use Rattle.uimg_fit_reading.specs.Checks.{Told, told_of, EndsInside, wrong_in, found_of, image_told, first_told}
+use Rattle.uimg_fit_reading.specs.Checks.{Told, wrong, told_of, EndsInside, wrong_in, found_of, image_told, first_told}
+
+-- what is told of an image of a name with a hash node that is not right
+abbrev pub wrong_told : List ℕ → List ℕ → WrongHash → Told
+wrong_told file name found = wrong name (slice file found.hash.place found.hash.length) found.word
 
 -- The first hash node that is not right was found; at most 96 bytes were asked for about each node.
-pub record FindsWrong (file name message : List ℕ) (hs : List (NodeOf Spot)) (asked new : ℕ) (result : Result (Option Finding) SourceFault) : Type 0 where
-  pub told : IfOk result (λ found. option_map (told_of file) found ≡ wrong_in name message hs)
+pub record FindsWrong (file message : List ℕ) (hs : List (NodeOf Spot)) (asked new : ℕ) (result : Result (Option WrongHash) SourceFault) : Type 0 where
+  pub told : (name : List ℕ) → IfOk result (λ found. option_map (wrong_told file name) found ≡ wrong_in name message hs)
+  pub short : IfOk result (λ found. IfSome found (λ w. w.hash.length ≤ 255))
   pub paid : new ≤ asked + 96 * length hs
 
 -- what is told of an image: that so many bytes of its payload were read, or what was found of it

@@ -11,6 +11,10 @@ pub mod Counting
 pub mod Vouching
 pub mod Checks
 pub mod CheckParts
+pub mod Unpacking
+pub mod UnpackingParts
+pub mod Copies
+pub mod MemTakes
 pub mod Rooms
 pub mod Shows
 pub mod Lists

@@ -59,6 +59,13 @@ IsCovered set Malformed = ⊤
 IsCovered set Unsupported = ⊤
 IsCovered set (Compared algo span) = has set algo ≡ true
 
+-- A word is that a value is right only where it is compared by an algorithm of a set.
+abbrev pub IsCompared : AlgoSet → Plan → Verdict → Type 0
+IsCompared set (Compared algo span) word.Right = has set algo ≡ true
+IsCompared set Malformed word.Right = ⊥
+IsCompared set Unsupported word.Right = ⊥
+IsCompared set plan _ = ⊤
+
 -- a set with that algorithm
 abbrev pub with_plan : AlgoSet → Plan → AlgoSet
 with_plan set Malformed = set

@@ -1,5 +1,5 @@
 -- The lines of images, hash nodes and configurations, as rows of tables.
-use Rattle.std.specs.Prelude.{ℕ, List, [], ◌∷◌, ◌++◌, take, replicate, decimal, Bool, true, Option, Some, None, codes, length}
+use Rattle.std.specs.Prelude.{ℕ, List, [], ◌∷◌, ◌++◌, take, replicate, decimal, Bool, true, None, codes, length}
 use Rattle.std.specs.List.{flat_map}
 use Rattle.std.specs.Option.{option_map_or}
 use Rattle.uimg_base.specs.Outcome.{line}

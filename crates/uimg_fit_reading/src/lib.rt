@@ -12,6 +12,7 @@ mod places;
 mod puts;
 mod report;
 mod tree;
+mod unpacking;
 
 pub use checking::{Finding, check};
 pub use counting::count_images;
@@ -19,3 +20,4 @@ pub use extraction::{extract, locate};
 pub use listing::list;
 pub use named::{locate_name, locate_named};
 pub use report::{is_vouched, verify};
+pub use unpacking::{MemTake, MemTaker, NodeName, Refusal, Taker, Unpacked, Vouched, unpack};

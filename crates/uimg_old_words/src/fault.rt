@@ -36,6 +36,10 @@ pub enum OldFault<'a> {
         word: &'a str,
     },
 
+    /// Payloads behind the tree are to stand where those that read the image look for none.
+    #[error("-B: '{0}' is no multiple of 4, where readers look for payloads")]
+    UnevenAlignment(&'a str),
+
     /// SOURCE_DATE_EPOCH is in no year that the C library has.
     #[error("SOURCE_DATE_EPOCH is too large")]
     BadEpoch,

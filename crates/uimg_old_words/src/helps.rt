@@ -6,7 +6,7 @@ pub(crate) const MKIMAGE_HELP: &str = "Make a U-Boot image, or list one: uimg by
 Usage: mkimage -l [-T type] image
        mkimage -d file[:file...] [-A arch] [-O os] [-T type] [-C comp]
                [-a address] [-e address] [-n name] image
-       mkimage -f source.its [-E] [-p position] image
+       mkimage -f source.its [-E] [-p position] [-B bytes] image
        mkimage -f auto -d file [-b tree].. [-i ramdisk] [as above] image
 
   -l  --list            list the image, and make none
@@ -27,12 +27,14 @@ Usage: mkimage -l [-T type] image
   -i  --initramfs       with -f auto: the RAM disk
   -E  --external        with -f: place the data after the tree
   -p  --position        with -E: place the data at this position, hexadecimal
+  -B  --alignment       with -E: round up what the tree and each image's data take
+                        by so many bytes, hexadecimal, a multiple of 4 [4]
   -q  --quiet           print no listing
   -h  --help            print this
   -V  --version         print the version
 
-Taken without effect: -v, -t, -c comment, -R name, -B 4, and -D with words that
-change nothing. Refused: another -B, and what signs (-F -g -G -k -K -N -o -r).
+Taken without effect: -v, -t, -c comment, -R name, and -D with words that change
+nothing. Refused: what signs (-F -g -G -k -K -N -o -r).
 The image is written under a name of its own, and gets its name when it is
 whole. See uimg-mkimage(1).
 ";

@@ -9,7 +9,7 @@ use crate::names::{Named, check_made, format_of, name_of};
 use crate::request::{AutoRequest, OldRequest, Show};
 use std::alloc::Global;
 use uimg_base::{FLAT_DT, MULTI, SCRIPT};
-use uimg_fit_base::Placement;
+use uimg_fit_base::{Placement, WORD_ALIGNMENT};
 use uimg_getopt::{Given, Words, long_prefix, low_half, unsigned_long};
 use uimg_legacy::{Options, name_field};
 use uimg_names::{Field, Naming};
@@ -40,6 +40,8 @@ struct Settings<'a> {
     ramdisk: Option<&'a str>,
     image: Option<&'a str>,
     position: u32,
+    alignment: u32,
+    alignment_word: &'a str,
     is_external: bool,
     is_list: bool,
     is_quiet: bool,
@@ -69,6 +71,8 @@ pub fn read_mkimage<'a>(
         ramdisk: None,
         image: None,
         position: 0,
+        alignment: 0,
+        alignment_word: "",
         is_external: false,
         is_list: false,
         is_quiet: false,
@@ -132,7 +136,10 @@ impl<'a> Settings<'a> {
             'd' => self.data = Some(value),
             'f' => self.source = Some(value),
             'i' => self.ramdisk = Some(value),
-            'B' => check_alignment(value)?,
+            'B' => {
+                self.alignment = address('B', value)?;
+                self.alignment_word = value;
+            }
             'D' => check_dtc_words(value)?,
             'g' | 'G' | 'k' | 'K' | 'N' | 'o' => return Err(OldFault::Signs(option)),
             _ => {}
@@ -184,7 +191,7 @@ impl<'a> Settings<'a> {
         if self.source == Some(AUTO) {
             return Ok(OldRequest::MakeAuto(AutoRequest {
                 source: self.auto_source(words)?,
-                placement: self.placement(),
+                placement: self.placement()?,
                 time,
                 outfile: image,
                 is_quiet,
@@ -224,7 +231,7 @@ impl<'a> Settings<'a> {
             (None, None) => Err(OldFault::NothingToMake),
             (Some(_), Some(_)) => Err(OldFault::DataWithSource),
             (None, Some(source)) => {
-                let placement = self.placement();
+                let placement = self.placement()?;
                 Ok(MakeRequest::of_source(alloc, source, placement, time, image)?)
             }
             (Some(_), None) if self.kind == Some(FLAT_DT) => Err(OldFault::NoSource),
@@ -268,11 +275,24 @@ impl<'a> Settings<'a> {
         })
     }
 
-    fn placement(&self) -> Placement {
-        match (self.is_external, self.position) {
-            (false, _) => Placement::Inside,
-            (true, 0) => Placement::After,
-            (true, position) => Placement::At(position),
+    // Where the payloads stand. The alignment counts only where that is behind the tree.
+    fn placement(&self) -> Result<Placement, OldFault<'a>> {
+        if !self.is_external {
+            return Ok(Placement::Inside);
+        }
+        let align = self.align()?;
+        match self.position {
+            0 => Ok(Placement::After { align }),
+            position => Ok(Placement::At { position, align }),
+        }
+    }
+
+    // The alignment of payloads behind the tree, at which those that read the image find them.
+    fn align(&self) -> Result<u32, OldFault<'a>> {
+        match self.alignment {
+            0 => Ok(WORD_ALIGNMENT),
+            align if align % WORD_ALIGNMENT == 0 => Ok(align),
+            _ => Err(OldFault::UnevenAlignment(self.alignment_word)),
         }
     }
 
@@ -317,17 +337,6 @@ fn address(letter: char, word: &str) -> Result<u32, OldFault<'_>> {
             letter,
             title: "hexadecimal",
             word,
-        }),
-    }
-}
-
-// Payloads stand at multiples of four bytes.
-fn check_alignment(word: &str) -> Result<(), OldFault<'_>> {
-    match address('B', word)? {
-        0 | 4 => Ok(()),
-        _ => Err(OldFault::NotDone {
-            letter: 'B',
-            what: "places payloads at multiples of 4 alone",
         }),
     }
 }

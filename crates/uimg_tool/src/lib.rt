@@ -3,14 +3,17 @@
 
 mod auto_program;
 mod body_source;
+mod check_answers;
+mod check_json;
+mod check_lines;
 mod check_program;
 mod main_program;
 mod making;
 mod old_program;
 mod old_tools;
-mod printed;
 mod safe_path;
 mod source_warnings;
+mod unpack_program;
 mod xip_files;
 
 pub use main_program::program;

@@ -4,6 +4,7 @@ use crate::check_program::check_images;
 use crate::making::make_image;
 use crate::old_program::program_by_old_name;
 use crate::old_tools::Tool;
+use crate::unpack_program::unpack_image;
 use std::fmt::Display;
 use std::fs;
 use std::io::{BufWriter, Write};
@@ -79,6 +80,7 @@ pub fn program<R: Files + AllocGlobal, W: Write, V: Write>(
     match read_words(rt.alloc(), words, epoch, now) {
         Ok(Asked::One(request)) => tell_end(&carry_out(rt, &request, out), err),
         Ok(Asked::Check(request)) => check_images(rt, &request, out, err),
+        Ok(Asked::Unpack(request)) => unpack_image(rt, &request, out, err),
         Err(fault) => tell_words_fault(&fault, err),
     }
 }

@@ -1,4 +1,5 @@
 pub mod Examples
+pub mod AlignmentLaws
 pub mod Spelling
 pub mod GrammarLaws
 pub mod TokenLaws

@@ -3,7 +3,8 @@ use Rattle.std.proofs.Common.{◌≡◌, ◌+◌, ◌++◌, ℕ, List, [], ◌�
 use Rattle.std.specs.List.{flat_map, AllByRecursion}
 use Rattle.uimg_blob.specs.Plain.{NamedOf, no_node, a_node, with_value, with_values, AllValues}
 use Rattle.uimg_tree.specs.Content.{Content, Unread, bytes, size_of, bytes_in, in_full, IsKept, AreKept}
-use Rattle.uimg_tree.specs.Encoding.{word, padded, header, strings, blob, encode, ended, names_of, name_offset, property_bytes, nodes_bytes}
+use Rattle.uimg_tree.specs.Alignment.{padding_by}
+use Rattle.uimg_tree.specs.Encoding.{word, padded, header, strings, blob_size, blob, encode_by, ended, names_of, name_offset, property_bytes, nodes_bytes}
 use Rattle.uimg_tree.specs.Layouts.{nodes_size, plan_of}
 use Rattle.uimg_tree.specs.Pieces.{padding, begin_bytes, head_bytes, property_pieces, nodes_pieces, blob_pieces}
 use Rattle.uimg_tree.proofs.SizeLaws.{kept-size, length-nodes, names_of-values}
@@ -40,12 +41,12 @@ module _ (P : Content → Type 0) (of-bytes : (b : List ℕ) → P (bytes b)) (n
       let rest = all-second P own_pieces (below_pieces ++ end) h.1 in
       (own-values own (all-first P own_pieces (below_pieces ++ end) h.1), all-values below (all-first P below_pieces end rest), all-values after (all-second P below_pieces end rest).1)
 
-module _ (P : Content → Type 0) (of-bytes : (b : List ℕ) → P (bytes b)) (t : Unread) where
-  pub blob-holds : AllValues P t → AllByRecursion P (blob_pieces (plan_of t) t)
+module _ (P : Content → Type 0) (of-bytes : (b : List ℕ) → P (bytes b)) (align : ℕ) (t : Unread) where
+  pub blob-holds : AllValues P t → AllByRecursion P (blob_pieces (plan_of align t) t)
   unfolding blob_pieces
   blob-holds h = (of-bytes _, all-both P (nodes_pieces (names_of t) t) _ (all-pieces P of-bytes (names_of t) t h) (of-bytes _, (of-bytes _, (of-bytes _, tt))))
 
-  pub blob-held : AllByRecursion P (blob_pieces (plan_of t) t) → AllValues P t
+  pub blob-held : AllByRecursion P (blob_pieces (plan_of align t) t) → AllValues P t
   unfolding blob_pieces
   blob-held h = all-values P of-bytes (names_of t) t (all-first P (nodes_pieces (names_of t) t) _ h.1)
 
@@ -89,33 +90,34 @@ module _ (files : List ℕ → Option (List ℕ)) where
       ∙ sym (right (word 1) (padded (ended name)) own_bytes below_bytes (word 2) after_bytes)
 
   -- the pieces of a blob
-  blob-whole : (nodes strings : List ℕ) (size strings_size : ℕ) → length nodes + 4 ≡ size → length strings ≡ strings_size →
-      (header size strings_size ++ replicate 16 0) ++ nodes ++ word 9 ++ strings ++ padding (56 + size + strings_size) ≡ blob (nodes ++ word 9) strings
+  blob-whole : (align : ℕ) (nodes strings : List ℕ) (size strings_size : ℕ) → length nodes + 4 ≡ size → length strings ≡ strings_size →
+      (header (blob_size align size strings_size) size strings_size ++ replicate 16 0) ++ nodes ++ word 9 ++ strings ++ padding_by align (56 + size + strings_size) ≡ blob align (nodes ++ word 9) strings
   unfolding blob
-  blob-whole nodes strings size strings_size e f =
+  blob-whole align nodes strings size strings_size e f =
+      let header_by : ℕ → ℕ → List ℕ = λ a b. header (blob_size align a b) a b in
       let s = nodes ++ word 9 in
       let len : size ≡ length s = omega (arith, length-append nodes (word 9)) in
-      let front = header (length s) (length strings) ++ replicate 16 0 in
+      let front = header_by (length s) (length strings) ++ replicate 16 0 in
       let n : 56 + size + strings_size ≡ length (front ++ s ++ strings) = omega (arith, len, length-append s strings) in
-      ap (λ (k : ℕ). (header size strings_size ++ replicate 16 0) ++ nodes ++ word 9 ++ strings ++ padding k) n
-      ∙ ap (λ (k : ℕ). (header k strings_size ++ replicate 16 0) ++ nodes ++ word 9 ++ strings ++ padding (length (front ++ s ++ strings))) len
-      ∙ ap (λ (k : ℕ). (header (length s) k ++ replicate 16 0) ++ nodes ++ word 9 ++ strings ++ padding (length (front ++ s ++ strings))) (sym f)
-      ∙ ap (λ (w : List ℕ). w ++ strings ++ padding (length (front ++ s ++ strings))) (append_assoc front nodes (word 9))
+      ap (λ (k : ℕ). (header_by size strings_size ++ replicate 16 0) ++ nodes ++ word 9 ++ strings ++ padding_by align k) n
+      ∙ ap (λ (k : ℕ). (header_by k strings_size ++ replicate 16 0) ++ nodes ++ word 9 ++ strings ++ padding_by align (length (front ++ s ++ strings))) len
+      ∙ ap (λ (k : ℕ). (header_by (length s) k ++ replicate 16 0) ++ nodes ++ word 9 ++ strings ++ padding_by align (length (front ++ s ++ strings))) (sym f)
+      ∙ ap (λ (w : List ℕ). w ++ strings ++ padding_by align (length (front ++ s ++ strings))) (append_assoc front nodes (word 9))
 
   nest : (a b c d e : List ℕ) → a ++ (b ++ (c ++ (d ++ (e ++ [])))) ≡ a ++ b ++ c ++ d ++ e
   nest a b c d e = simp (append_assoc, append-nil)
 
-  pub blob-joined : (t : Unread) → AreKept files t → joined (blob_pieces (plan_of t) t) ≡ encode (in_full files t)
+  pub blob-joined : (align : ℕ) (t : Unread) → AreKept files t → joined (blob_pieces (plan_of align t) t) ≡ encode_by align (in_full files t)
   unfolding blob_pieces
-  blob-joined t kept =
+  blob-joined align t kept =
       let names = names_of t in
       let u = in_full files t in
       let nodes = nodes_bytes names u in
       let size = nodes_size t + 4 in
-      let begin = header size (length (strings names)) ++ replicate 16 0 in
-      let end : List Content = bytes (word 9) ∷ bytes (strings names) ∷ bytes (padding (56 + size + length (strings names))) ∷ [] in
+      let begin = header (blob_size align size (length (strings names))) size (length (strings names)) ++ replicate 16 0 in
+      let end : List Content = bytes (word 9) ∷ bytes (strings names) ∷ bytes (padding_by align (56 + size + length (strings names))) ∷ [] in
       let sized : length nodes + 4 ≡ size = ap (λ (n : ℕ). n + 4) (length-nodes files names t kept) in
       ap (λ (w : List ℕ). begin ++ w) (flat_map-both (bytes_in files) (nodes_pieces names t) end ∙ ap (λ (w : List ℕ). w ++ joined end) (nodes-joined names t kept))
-      ∙ nest begin nodes (word 9) (strings names) (padding (56 + size + length (strings names)))
-      ∙ blob-whole nodes (strings names) size (length (strings names)) sized refl
-      ∙ ap (λ (ns : List (List ℕ)). blob (nodes_bytes ns u ++ word 9) (strings ns)) (sym (names_of-values (bytes_in files) t))
+      ∙ nest begin nodes (word 9) (strings names) (padding_by align (56 + size + length (strings names)))
+      ∙ blob-whole align nodes (strings names) size (length (strings names)) sized refl
+      ∙ ap (λ (ns : List (List ℕ)). blob align (nodes_bytes ns u ++ word 9) (strings ns)) (sym (names_of-values (bytes_in files) t))

@@ -1,5 +1,5 @@
 -- What measuring answers, from its parts.
-use Rattle.std.proofs.Common.{◌≡◌, ◌≤◌, ◌<◌, Some, None, Result, Ok, Err, true, false, nat_lt, is_err, refl, ap, sym, ◌∙◌}
+use Rattle.std.proofs.Common.{◌≡◌, ◌≤◌, ◌<◌, ℕ, Some, None, Result, Ok, Err, true, false, nat_lt, is_err, refl, ap, sym, ◌∙◌}
 use Rattle.std.proofs.lemmas.Bool.{le-ltb, lt-ltb}
 use Rattle.std.specs.Result.{IsErrAnd, OnOk}
 use Rattle.uimg_blob.specs.declared.fault.BlobFault.{BlobFault}
@@ -12,18 +12,18 @@ pub on-ok : {X E P : Type 0} (r : Result X E) → is_err r ≡ false → OnOk r 
 on-ok (Ok x) e p = p
 on-ok (Err x) e p = absurd (cc)
 
-pub measured-ok : (t : Unread) (p : Plan) → None ≡ bad_name t → totalsize (plan_of t) ≤ 4294967295 → plan_of t ≡ p → measured t ≡ Ok p
-measured-ok t p good small same =
-    let fits : nat_lt 4294967295 (totalsize (plan_of t)) ≡ false = le-ltb _ _ small in
+pub measured-ok : (align : ℕ) (t : Unread) (p : Plan) → None ≡ bad_name t → totalsize (plan_of align t) ≤ 4294967295 → plan_of align t ≡ p → measured align t ≡ Ok p
+measured-ok align t p good small same =
+    let fits : nat_lt 4294967295 (totalsize (plan_of align t)) ≡ false = le-ltb _ _ small in
     rw (sym good) (rw fits (ap (λ (q : Plan). let y : Result Plan BlobFault = Ok q in y) same))
 
-pub measured-large : (t : Unread) → None ≡ bad_name t → 4294967295 < totalsize (plan_of t) → measured t ≡ Err TooLarge
-measured-large t good large =
-    let over : nat_lt 4294967295 (totalsize (plan_of t)) ≡ true = lt-ltb _ _ large in
+pub measured-large : (align : ℕ) (t : Unread) → None ≡ bad_name t → 4294967295 < totalsize (plan_of align t) → measured align t ≡ Err TooLarge
+measured-large align t good large =
+    let over : nat_lt 4294967295 (totalsize (plan_of align t)) ≡ true = lt-ltb _ _ large in
     rw (sym good) (rw over refl)
 
-pub measured-bad : (t : Unread) (f : BlobFault) → Some f ≡ bad_name t → measured t ≡ Err f
-measured-bad t f bad = rw (sym bad) refl
+pub measured-bad : (align : ℕ) (t : Unread) (f : BlobFault) → Some f ≡ bad_name t → measured align t ≡ Err f
+measured-bad align t f bad = rw (sym bad) refl
 
 Measures-same : (e f : BlobFault) (m : Result Plan BlobFault) → e ≡ f → m ≡ Err f → Measures (Err e) m
 Measures-same OutOfMemory f m same is = tt

@@ -3,17 +3,19 @@ use Rattle.std.proofs.Common.{◌≡◌, ◌≤◌, ◌<◌, ℕ, suc, ◌+◌, 
 use Rattle.std.specs.List.{AllByRecursion}
 use Rattle.std.proofs.lemmas.Bool.{le-ltb}
 use Rattle.std.proofs.lemmas.List.{drop-drop, drop-append-le}
-use Rattle.uimg_texts.specs.Numbers.{be32, up4}
+use Rattle.uimg_texts.specs.Numbers.{be32}
 use Rattle.uimg_base.specs.Results.{◌>>=◌}
 use Rattle.uimg_blob.specs.Reading.{Fault}
 use Rattle.uimg_blob.specs.Tokens.{Token, Blocks, last, token_at, tokens_from, tokens}
 use Rattle.uimg_blob.specs.Grammar.{root, without_nops}
 use Rattle.uimg_blob.specs.Blob.{magic, blocks, tree}
 use Rattle.uimg_blob.specs.Plain.{Named, Nodes, no_node, a_node, IsName, AreNamed, unplaced_in}
-use Rattle.uimg_tree.specs.Encoding.{word, header, blob, structure, strings, names_of, nodes_bytes, name_offset, encode}
+use Rattle.uimg_tree.specs.Alignment.{aligned, padding_by}
+use Rattle.uimg_tree.specs.Encoding.{word, header, blob_size, blob, structure, strings, names_of, nodes_bytes, name_offset, encode_by}
 use Rattle.uimg_tree.proofs.Spelling.{placed, past, past_name, past_property, past_properties, spelled, fuel, fuel_properties}
 use Rattle.uimg_tree.proofs.GrammarLaws.{root-spelled, without_nops-spelled, unplaced-placed}
-use Rattle.uimg_tree.proofs.TokenLaws.{be32-word, drop-piece, IsFound, AreFound, tokens-spelled, token-last, past-length, length-padded}
+use Rattle.uimg_tree.proofs.TokenLaws.{be32-word, drop-piece, IsFound, AreFound, tokens-spelled, token-last, past-length}
+use Rattle.uimg_tree.proofs.AlignmentLaws.{aligned-least, length-padded_by}
 use Rattle.uimg_tree.proofs.NameLaws.{Stands, stands, AllNames, all_names}
 
 -- each token has a byte at least
@@ -60,59 +62,60 @@ accepted file size s g len enough e0 e4 e8 e12 e20 e24 e32 e36 =
     let strings_inside : nat_lt size (56 + s + g) ≡ false = le-ltb _ _ (omega arith) in
     rw (e0, e4, e8, e12, e20, e24, e32, e36, long, small, whole, structure_inside, strings_inside) refl
 
-module _ (s g more : List ℕ) where
+module _ (align : ℕ) (s g more : List ℕ) where
   pub size : ℕ
-  size = up4 (56 + length s + length g)
+  size = blob_size align (length s) (length g)
 
   -- all but what stands behind the strings
   pub front : List ℕ
-  front = header (length s) (length g) ++ replicate 16 0 ++ s ++ g
+  front = header (blob_size align (length s) (length g)) (length s) (length g) ++ replicate 16 0 ++ s ++ g
 
   pub slack : List ℕ
-  slack = replicate (up4 (length front) - length front) 0
+  slack = padding_by align (length front)
 
   front-length : length front ≡ 56 + length s + length g
   unfolding front
   front-length = omega (arith, length-append s g)
 
-  from_structure : drop 56 (blob s g ++ more) ≡ (s ++ g) ++ (slack ++ more)
+  from_structure : drop 56 (blob align s g ++ more) ≡ (s ++ g) ++ (slack ++ more)
   unfolding blob slack front
   from_structure = append_assoc (s ++ g) slack more
 
-  blob-length : length (blob s g) ≡ size
+  blob-length : length (blob align s g) ≡ size
   unfolding size blob front
-  blob-length = length-padded front ∙ ap up4 front-length
+  blob-length = length-padded_by align front ∙ ap (aligned align) front-length
 
-  blob-blocks : length (blob s g) < 2 ^ 32 → blocks (blob s g ++ more) ≡ Ok (record { bytes = blob s g ++ more; structure = 56; structure_end = 56 + length s; strings = 56 + length s; strings_size = length g })
+  blob-blocks : length (blob align s g) < 2 ^ 32 → blocks (blob align s g ++ more) ≡ Ok (record { bytes = blob align s g ++ more; structure = 56; structure_end = 56 + length s; strings = 56 + length s; strings_size = length g })
   unfolding size blob
   blob-blocks fits =
-      let file = blob s g ++ more in
+      let file = blob align s g ++ more in
       let short : size < 2 ^ 32 = omega (arith, blob-length, fits) in
-      accepted file size (length s) (length g) (omega (arith, blob-length, length-append (blob s g) more)) (omega arith)
+      let end : 56 + length s + length g ≤ size = aligned-least align (56 + length s + length g) in
+      accepted file size (length s) (length g) (omega (arith, blob-length, length-append (blob align s g) more)) end
       (be32-word file 0 magic (drop 4 file) (omega arith) refl)
       (be32-word file 4 size (drop 8 file) short refl)
       (be32-word file 8 56 (drop 12 file) (omega arith) refl)
-      (be32-word file 12 (56 + length s) (drop 16 file) (omega arith) refl)
+      (be32-word file 12 (56 + length s) (drop 16 file) (omega (arith, end, short)) refl)
       (be32-word file 20 17 (drop 24 file) (omega arith) refl)
       (be32-word file 24 16 (drop 28 file) (omega arith) refl)
-      (be32-word file 32 (length g) (drop 36 file) (omega arith) refl)
-      (be32-word file 36 (length s) (drop 40 file) (omega arith) refl)
+      (be32-word file 32 (length g) (drop 36 file) (omega (arith, end, short)) refl)
+      (be32-word file 36 (length s) (drop 40 file) (omega (arith, end, short)) refl)
 
   -- the number at 4 is the length
-  blob-totalsize : length (blob s g) < 2 ^ 32 → be32 (blob s g ++ more) 4 ≡ length (blob s g)
+  blob-totalsize : length (blob align s g) < 2 ^ 32 → be32 (blob align s g ++ more) 4 ≡ length (blob align s g)
   unfolding size blob
   blob-totalsize fits =
-      let file = blob s g ++ more in
+      let file = blob align s g ++ more in
       let short : size < 2 ^ 32 = omega (arith, blob-length, fits) in
       be32-word file 4 size (drop 8 file) short refl ∙ sym blob-length
 
 -- how many bytes a blob has
-pub length-encode : (t : Nodes) → length (encode t) ≡ up4 (56 + length (structure t) + length (strings (names_of t)))
+pub length-encode : (align : ℕ) (t : Nodes) → length (encode_by align t) ≡ blob_size align (length (structure t)) (length (strings (names_of t)))
 unfolding size
-length-encode t = blob-length (structure t) (strings (names_of t)) []
+length-encode align t = blob-length align (structure t) (strings (names_of t)) []
 
 -- the blob of a tree reads as the tree
-module _ (name : List ℕ) (own : List Named) (below : Nodes) (named : AreNamed (a_node name own below no_node)) (fits : length (encode (a_node name own below no_node)) < 2 ^ 32) (more : List ℕ) where
+module _ (align : ℕ) (name : List ℕ) (own : List Named) (below : Nodes) (named : AreNamed (a_node name own below no_node)) (fits : length (encode_by align (a_node name own below no_node)) < 2 ^ 32) (more : List ℕ) where
   abbrev t : Nodes
   t = a_node name own below no_node
 
@@ -127,20 +130,24 @@ module _ (name : List ℕ) (own : List Named) (below : Nodes) (named : AreNamed 
   g = strings names
 
   abbrev end : List ℕ
-  end = slack s g more ++ more
+  end = slack align s g more ++ more
 
   abbrev file : List ℕ
-  file = encode t ++ more
+  file = encode_by align t ++ more
 
   abbrev b : Blocks
   b = record { bytes = file; structure = 56; structure_end = 56 + length s; strings = 56 + length s; strings_size = length g }
 
-  encode-length : length (encode t) ≡ up4 (56 + length s + length g)
+  encode-length : length (encode_by align t) ≡ blob_size align (length s) (length g)
   unfolding size
-  encode-length = blob-length s g more
+  encode-length = blob-length align s g more
+
+  -- the strings end in the blob
+  enough : 56 + length s + length g ≤ length (encode_by align t)
+  enough = omega (arith, encode-length, aligned-least align (56 + length s + length g))
 
   from_strings : drop (56 + length s) file ≡ g ++ end
-  from_strings = drop-piece file 56 s (g ++ end) (length s) refl (from_structure s g more ∙ append_assoc s g end)
+  from_strings = drop-piece file 56 s (g ++ end) (length s) refl (from_structure align s g more ∙ append_assoc s g end)
 
   found_at : (n : List ℕ) → IsName n → Stands names n → IsFound b names n
   found_at n is_name stands_there =
@@ -175,16 +182,16 @@ module _ (name : List ℕ) (own : List Named) (below : Nodes) (named : AreNamed 
       let nodes = nodes_bytes names t in
       let structure_length : length s ≡ length nodes + 4 = length-append nodes (word 9) in
       let past_is : past 56 t ≡ 56 + length nodes = past-length b names 56 t in
-      let enough = fuel-past 56 t 1 in
-      let strings_fit : length g < 2 ^ 32 = omega (arith, encode-length, fits) in
-      let end_fits : 56 + length s < 2 ^ 32 = omega (arith, encode-length, fits) in
+      let fuel_left = fuel-past 56 t 1 in
+      let strings_fit : length g < 2 ^ 32 = omega (arith, enough, fits) in
+      let end_fits : 56 + length s < 2 ^ 32 = omega (arith, enough, fits) in
       let block : 56 + length s - 56 ≡ length s = omega arith in
       let one_more : 1 + left ≡ suc left = omega arith in
-      let whole : fuel t 1 + left ≡ suc (length s) = omega (arith, structure_length, past_is, enough) in
+      let whole : fuel t 1 + left ≡ suc (length s) = omega (arith, structure_length, past_is, fuel_left) in
       let fuels : suc (56 + length s - 56) ≡ fuel t (suc left) =
       ap suc block ∙ sym whole ∙ fuel-more t 1 left ∙ ap (λ (n : ℕ). fuel t n) one_more in
       let here : drop 56 file ≡ nodes ++ (word 9 ++ (g ++ end)) =
-      from_structure s g more ∙ append_assoc s g end ∙ append_assoc nodes (word 9) (g ++ end) in
+      from_structure align s g more ∙ append_assoc s g end ∙ append_assoc nodes (word 9) (g ++ end) in
       let there : drop (past 56 t) file ≡ word 9 ++ (g ++ end) =
       ap (λ (k : ℕ). drop k file) past_is ∙ drop-piece file 56 nodes _ (length nodes) refl here in
       let at_last : token_at b (past 56 t) ≡ last (past 56 t) = token-last b names (past 56 t) (g ++ end) (omega (arith, past_is, structure_length)) there in
@@ -196,20 +203,20 @@ module _ (name : List ℕ) (own : List Named) (below : Nodes) (named : AreNamed 
   pub encode-tree : tree file ≡ Ok (placed 56 t)
   unfolding tree without_nops
   encode-tree =
-      ap (λ (r : Result Blocks Fault). r >>= λ found. root (without_nops (tokens found))) (blob-blocks s g more fits)
+      ap (λ (r : Result Blocks Fault). r >>= λ found. root (without_nops (tokens found))) (blob-blocks align s g more fits)
       ∙ ap (λ (ts : List Token). root (without_nops ts)) encode-tokens
       ∙ ap root (without_nops-spelled 56 t (last (past 56 t) ∷ []))
       ∙ root-spelled 56 name own below (past 56 t)
 
-  pub totalsize : be32 file 4 ≡ length (encode t)
-  totalsize = blob-totalsize s g more fits
+  pub totalsize : be32 file 4 ≡ length (encode_by align t)
+  totalsize = blob-totalsize align s g more fits
 
   -- where the nodes stand
   pub from_nodes : drop 56 file ≡ nodes_bytes names t ++ (word 9 ++ (g ++ end))
-  from_nodes = from_structure s g more ∙ append_assoc s g end ∙ append_assoc (nodes_bytes names t) (word 9) (g ++ end)
+  from_nodes = from_structure align s g more ∙ append_assoc s g end ∙ append_assoc (nodes_bytes names t) (word 9) (g ++ end)
 
   pub long : 56 ≤ length file
-  long = omega (arith, encode-length, length-append (encode t) more)
+  long = omega (arith, enough, length-append (encode_by align t) more)
 
   pub reads_back : unplaced_in (tree file) ≡ Ok t
   reads_back = ap unplaced_in encode-tree ∙ ap (λ (u : Nodes). let y : Result Nodes Fault = Ok u in y) (unplaced-placed 56 t)

@@ -6,6 +6,7 @@ use Rattle.std.specs.Str.{bytes_eq}
 use Rattle.uimg_texts.specs.Numbers.{up4}
 use Rattle.uimg_blob.specs.Blob.{magic}
 use Rattle.uimg_blob.specs.Plain.{NamedOf, NodesOf, Named, Nodes, no_node, a_node}
+use Rattle.uimg_tree.specs.Alignment.{aligned, padded_by}
 
 -- a number in four bytes, the highest first
 abbrev pub word : ℕ → List ℕ
@@ -61,18 +62,27 @@ nodes_bytes names (a_node name own below after) =
 abbrev pub structure : Nodes → List ℕ
 structure t = nodes_bytes (names_of t) t ++ word 9
 
--- The header of a blob whose structure block and strings block have so many bytes: magic, totalsize, off_dt_struct,
--- off_dt_strings, off_mem_rsvmap, version, last_comp_version, boot_cpuid_phys, size_dt_strings, size_dt_struct.
-abbrev pub header : ℕ → ℕ → List ℕ
-header structure_size strings_size =
-    word magic ++ word (up4 (56 + structure_size + strings_size)) ++ word 56 ++ word (56 + structure_size) ++ word 40
+-- The header of a blob of so many bytes, whose structure block and strings block have so many: magic, totalsize,
+-- off_dt_struct, off_dt_strings, off_mem_rsvmap, version, last_comp_version, boot_cpuid_phys, size_dt_strings,
+-- size_dt_struct.
+abbrev pub header : ℕ → ℕ → ℕ → List ℕ
+header total structure_size strings_size =
+    word magic ++ word total ++ word 56 ++ word (56 + structure_size) ++ word 40
     ++ word 17 ++ word 16 ++ word 0 ++ word strings_size ++ word structure_size
 
--- a blob: the header, an empty reservation block, the structure block and the strings block
-unfoldable pub blob : List ℕ → List ℕ → List ℕ
-blob structure strings =
-    padded (header (length structure) (length strings) ++ replicate 16 0 ++ structure ++ strings)
+-- how many bytes a blob has whose structure block and strings block have so many, by an alignment
+abbrev pub blob_size : ℕ → ℕ → ℕ → ℕ
+blob_size align structure_size strings_size = aligned align (56 + structure_size + strings_size)
+
+-- a blob: the header, an empty reservation block, the structure block and the strings block, and zeros up to its end
+unfoldable pub blob : ℕ → List ℕ → List ℕ → List ℕ
+blob align structure strings =
+    padded_by align (header (blob_size align (length structure) (length strings)) (length structure) (length strings) ++ replicate 16 0 ++ structure ++ strings)
+
+-- the blob of a tree, which ends where an alignment has it
+abbrev pub encode_by : ℕ → Nodes → List ℕ
+encode_by align t = blob align (structure t) (strings (names_of t))
 
 -- the blob of a tree
 abbrev pub encode : Nodes → List ℕ
-encode t = blob (structure t) (strings (names_of t))
+encode t = encode_by 4 t

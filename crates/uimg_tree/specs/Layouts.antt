@@ -3,12 +3,13 @@ use Rattle.std.specs.Prelude.{ℕ, ◌+◌, List, [], ◌∷◌, length}
 use Rattle.uimg_texts.specs.Numbers.{up4}
 use Rattle.uimg_blob.specs.Plain.{NamedOf, no_node, a_node}
 use Rattle.uimg_tree.specs.Content.{Content, Unread, size_of}
-use Rattle.uimg_tree.specs.Encoding.{names_of, strings}
+use Rattle.uimg_tree.specs.Encoding.{names_of, strings, blob_size}
 
--- The names of the strings block, and how many bytes the structure block has.
+-- The names of the strings block, how many bytes the structure block has, and the alignment of the blob's end.
 pub record Plan : Type 0 where
   pub names : List (List ℕ)
   pub structure : ℕ
+  pub align : ℕ
 
 -- how many bytes the token of a property takes, with its value
 abbrev pub property_size : NamedOf Content → ℕ
@@ -25,10 +26,10 @@ nodes_size no_node = 0
 nodes_size (a_node name own below after) =
     4 + up4 (length name + 1) + properties_size own + nodes_size below + 4 + nodes_size after
 
--- the plan of a tree: the structure block ends with FDT_END
-abbrev pub plan_of : Unread → Plan
-plan_of t = record { names = names_of t; structure = nodes_size t + 4 }
+-- the plan of a tree, by an alignment: the structure block ends with FDT_END
+abbrev pub plan_of : ℕ → Unread → Plan
+plan_of align t = record { names = names_of t; structure = nodes_size t + 4; align = align }
 
 -- how many bytes a blob of a plan has
 abbrev pub totalsize : Plan → ℕ
-totalsize p = up4 (56 + p.structure + length (strings p.names))
+totalsize p = blob_size p.align p.structure (length (strings p.names))

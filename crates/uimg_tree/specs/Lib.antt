@@ -1,3 +1,4 @@
+pub mod Alignment
 pub mod Content
 pub mod Coding
 pub mod Properties

@@ -28,9 +28,9 @@ abbrev pub measured_with : Option BlobFault → Plan → Result Plan BlobFault
 measured_with (Some fault) p = Err fault
 measured_with None p = if nat_lt 4294967295 (totalsize p) then Err TooLarge else Ok p
 
--- the plan of a tree, or the fault of its first bad name, or TooLarge
-abbrev pub measured : Unread → Result Plan BlobFault
-measured t = measured_with (bad_name t) (plan_of t)
+-- the plan of a tree by an alignment, or the fault of its first bad name, or TooLarge
+abbrev pub measured : ℕ → Unread → Result Plan BlobFault
+measured align t = measured_with (bad_name t) (plan_of align t)
 
 -- the fault of an answer, if it is one
 abbrev pub fault_in : {X : Type 0} → Result X BlobFault → Option BlobFault

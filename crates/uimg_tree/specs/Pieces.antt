@@ -11,7 +11,8 @@ use Rattle.uimg_blob.specs.Plain.{NamedOf, no_node, a_node}
 use Rattle.uimg_tree.specs.declared.fault.TreeFault.{TreeFault}
 use Rattle.uimg_tree.specs.Content.{Content, Unread, bytes, size_of, bytes_in, IsKept, IsBytes}
 use Rattle.uimg_tree.specs.Encoding.{word, padded, ended, name_offset, strings, header}
-use Rattle.uimg_tree.specs.Layouts.{Plan}
+use Rattle.uimg_tree.specs.Alignment.{padding_by}
+use Rattle.uimg_tree.specs.Layouts.{Plan, totalsize}
 use Rattle.uimg_tree.specs.Faults.{is_put, is_no_file, is_read}
 use Rattle.uimg_tree.specs.UsingFiles.{UsesFiles}
 
@@ -42,9 +43,9 @@ nodes_pieces names (a_node name own below after) =
 -- the blob of a plan, from its nodes: the header and an empty reservation block, the nodes, FDT_END, and the strings
 unfoldable pub blob_pieces : Plan → Unread → List Content
 blob_pieces p t =
-    bytes (header p.structure (length (strings p.names)) ++ replicate 16 0)
+    bytes (header (totalsize p) p.structure (length (strings p.names)) ++ replicate 16 0)
     ∷ (nodes_pieces p.names t ++ bytes (word 9) ∷ bytes (strings p.names)
-    ∷ bytes (padding (56 + p.structure + length (strings p.names))) ∷ [])
+    ∷ bytes (padding_by p.align (56 + p.structure + length (strings p.names))) ∷ [])
 
 -- What a call that writes pieces did to files and to an output. Where it ended well, and the files are honest, each piece
 -- that is a file is kept, and all was appended; else a prefix was.

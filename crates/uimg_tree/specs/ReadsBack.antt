@@ -2,8 +2,8 @@
 use Rattle.std.specs.Prelude.{◌≡◌, ℕ, List, ◌++◌, Ok}
 use Rattle.uimg_blob.specs.Blob.{tree}
 use Rattle.uimg_blob.specs.Plain.{Nodes, unplaced_in}
-use Rattle.uimg_tree.specs.Encoding.{encode}
+use Rattle.uimg_tree.specs.Encoding.{encode_by}
 
--- A file that begins with the blob of a tree is read as that tree, but for the places.
-abbrev pub ReadsBack : Nodes → Type 0
-ReadsBack t = (more : List ℕ) → unplaced_in (tree (encode t ++ more)) ≡ Ok t
+-- A file that begins with the blob of a tree, by whatever alignment, is read as that tree, but for the places.
+abbrev pub ReadsBack : ℕ → Nodes → Type 0
+ReadsBack align t = (more : List ℕ) → unplaced_in (tree (encode_by align t ++ more)) ≡ Ok t

@@ -1,18 +1,19 @@
 //! What measuring finds: the names and the sizes of a blob.
 
-ghost use Rattle.std.specs.Prelude.{◌≡◌};
+ghost use Rattle.std.specs.Prelude.{◌≡◌, ◌+◌, length};
+ghost use Rattle.uimg_tree.specs.Encoding.{strings};
 ghost use Rattle.uimg_tree.specs.Layouts.{totalsize};
 
+use crate::alignment::aligned;
 use std::alloc::Allocator;
 use std::marker::Model;
-use uimg_base::up4;
 
 /// Where the structure block begins: behind the header of 40 bytes and the one pair of zeros that
 /// ends the reservation block.
 pub(crate) const STRUCTURE_OFFSET: u32 = 56;
 
 /// What is known of a tree's blob before it is written: the names of the strings block, which it
-/// borrows from the tree, and the sizes of the two blocks.
+/// borrows from the tree, the sizes of the two blocks, and the alignment of its end.
 ///
 /// Contracts see it as a `Plan`. `measure` makes it.
 #[derive(Drop)]
@@ -20,6 +21,7 @@ pub struct Layout<'a, A: Allocator> {
     pub(crate) names: Vec<&'a [u8], A>,
     pub(crate) structure_size: u32,
     pub(crate) strings_size: u32,
+    pub(crate) align: u32,
 }
 
 impl<'a, A: Allocator> Model for Layout<'a, A> {
@@ -27,15 +29,24 @@ impl<'a, A: Allocator> Model for Layout<'a, A> {
 
     ghost Value = { Plan };
 
-    ghost use Rattle.std.specs.Prelude.{◌≡◌, ◌<◌, ◌^◌, length};
+    ghost use Rattle.std.specs.Prelude.{◌≡◌, ◌+◌, ◌<◌, ◌^◌, length};
     ghost use Rattle.uimg_tree.specs.Encoding.{strings};
     ghost use Rattle.uimg_tree.specs.Layouts.{totalsize};
     ghost use Rattle.uimg_tree.specs.Names.{texts};
 
-    ghost view = { λ l. record { names = texts l.names.items; structure = l.structure_size } };
+    ghost view = { λ l. record {
+      names = texts l.names.items;
+      structure = l.structure_size;
+      align = l.align;
+    } };
 
     ghost invariant = { λ l. (l.strings_size ≡ length (strings (texts l.names.items)))
-        × (totalsize (record { names = texts l.names.items; structure = l.structure_size }) < 2 ^ 32) };
+        × (totalsize (record {
+          names = texts l.names.items;
+          structure = l.structure_size;
+          align = l.align;
+        }) < 2 ^ 32)
+        × (56 + l.structure_size + l.strings_size < 2 ^ 32) };
 }
 
 impl<'a, A: Allocator> Layout<'a, A> {
@@ -43,7 +54,13 @@ impl<'a, A: Allocator> Layout<'a, A> {
     pub fn totalsize(&self) -> u32
         ensures { result ≡ totalsize self.now }
     {
-        let end = STRUCTURE_OFFSET as u64 + self.structure_size as u64 + self.strings_size as u64;
-        up4(end) as u32
+        aligned(self.end(), self.align) as u32
+    }
+
+    // Where the strings block ends.
+    pub(crate) fn end(&self) -> u64
+        ensures { result ≡ 56 + self.now.structure + length (strings self.now.names) }
+    {
+        STRUCTURE_OFFSET as u64 + self.structure_size as u64 + self.strings_size as u64
     }
 }

@@ -1,6 +1,7 @@
 //! Trees of nodes and properties, and the flattened devicetree blobs that are made of them.
 #![tactic(auto)]
 
+mod alignment;
 mod byte_list;
 mod checking;
 mod copying;
@@ -18,12 +19,13 @@ mod tokens;
 mod tree;
 mod writing;
 
+pub use alignment::{WORD_ALIGNMENT, aligned, put_zeros};
 pub use byte_list::ByteList;
 pub use copying::{copy_bytes, copy_node, copy_nodes, copy_properties, copy_property, copy_value};
 pub use fault::TreeFault;
 pub use layout::Layout;
 pub use measuring::measure;
-pub use payloads::{put_padded, value_size};
+pub use payloads::{put_aligned, value_size};
 pub use props::{Prop, Props, Value};
 pub use tree::{Node, Nodes, Tree};
 pub use writing::write_tree;

@@ -4,11 +4,12 @@ ghost use Rattle.std.specs.Prelude.{◌≡◌, ◌≢◌, ℕ, List, [], length,
 ghost use Rattle.uimg_blob.specs.Plain.{AreNamed};
 ghost use Rattle.uimg_tree.specs.Content.{in_full, AreKept};
 ghost use Rattle.uimg_blob.specs.declared.fault.BlobFault.TheVariants.{OutOfMemory};
-ghost use Rattle.uimg_tree.specs.Encoding.{names_of, encode};
+ghost use Rattle.uimg_tree.specs.Encoding.{names_of, encode_by};
 ghost use Rattle.uimg_tree.specs.Layouts.{totalsize};
 ghost use Rattle.uimg_tree.specs.Measured.{measured, Measures};
 ghost use Rattle.uimg_tree.specs.Trees.{node_of};
 
+use crate::alignment::aligned;
 use crate::checking::check_names;
 use crate::layout::{Layout, STRUCTURE_OFFSET};
 use crate::names::add_all_names;
@@ -16,14 +17,13 @@ use crate::nodes::ThisNode;
 use crate::sizes::{node_size, strings_size};
 use crate::tree::Tree;
 use std::alloc::Allocator;
-use uimg_base::up4;
 use uimg_blob::BlobFault;
 
 // The most bytes of a blob.
-const LARGEST: u64 = 0xffff_ffff;
+const LARGEST: u128 = 0xffff_ffff;
 
 /// Measures the blob of a tree: the names of its properties, each once in the order of first use,
-/// and the sizes of its blocks.
+/// and the sizes of its blocks. The blob's end is rounded up by `align`, of which four is the least.
 ///
 /// `BadNodeName` or `BadPropertyName` comes for the first name, in the order of writing, that has
 /// more than 255 bytes or a NUL; then `TooLarge` where the blob has more than 4294967295 bytes, each
@@ -32,13 +32,17 @@ const LARGEST: u64 = 0xffff_ffff;
 ///
 /// The time grows with the properties times the distinct names. The depth of its calls is that of
 /// the tree.
-pub fn measure<'a, A: Allocator>(alloc: A, tree: &'a Tree<A>) -> Result<Layout<'a, A>, BlobFault>
-    ensures measured { Measures result (measured (node_of tree.now.root)) }
+pub fn measure<'a, A: Allocator>(
+    alloc: A,
+    tree: &'a Tree<A>,
+    align: u32,
+) -> Result<Layout<'a, A>, BlobFault>
+    ensures measured { Measures result (measured align (node_of tree.now.root)) }
     ensures memory { result ≡ Err OutOfMemory → names_of (node_of tree.now.root) ≢ [] }
     ensures named { OnOk result (AreNamed (node_of tree.now.root)) }
     ensures sized { IfOk result (λ layout. (files : List ℕ → Option (List ℕ)) →
         AreKept files (node_of tree.now.root) →
-        length (encode (in_full files (node_of tree.now.root))) ≡ totalsize layout) }
+        length (encode_by align (in_full files (node_of tree.now.root))) ≡ totalsize layout) }
 {
     check_names(ThisNode { node: &tree.root })?;
     let mut names = Vec::new(alloc);
@@ -47,12 +51,13 @@ pub fn measure<'a, A: Allocator>(alloc: A, tree: &'a Tree<A>) -> Result<Layout<'
     }
     let structure = node_size(ThisNode { node: &tree.root }) + 4;
     let strings = strings_size(names.as_slice());
-    if up4(STRUCTURE_OFFSET as u64 + structure + strings) > LARGEST {
+    if aligned(STRUCTURE_OFFSET as u64 + structure + strings, align) > LARGEST {
         return Err(BlobFault::TooLarge);
     }
     Ok(Layout {
         names,
         structure_size: structure as u32,
         strings_size: strings as u32,
+        align,
     })
 }

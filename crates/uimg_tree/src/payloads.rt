@@ -1,10 +1,12 @@
 //! A value is written, with the zeros behind it.
 
 ghost use Rattle.std.specs.Prelude.{◌≡◌, ◌∷◌, [], length};
+ghost use Rattle.uimg_tree.specs.Alignment.{padding_by};
 ghost use Rattle.uimg_tree.specs.Content.{bytes, size_of};
 ghost use Rattle.uimg_tree.specs.Pieces.{padding, WritesPieces};
 ghost use Rattle.uimg_tree.specs.Properties.{content};
 
+use crate::alignment::put_gap;
 use crate::fault::TreeFault;
 use crate::file_pieces::put_file;
 use crate::props::Value;
@@ -42,13 +44,8 @@ pub fn value_size<A: Allocator>(value: &Value<A>) -> u64
     }
 }
 
-/// Writes a value, and the zeros that bring it to a multiple of 4.
-///
-/// A file is opened, goes through the window, and is never held in memory whole. One whose size is not
-/// the one that is kept is answered as a failed read, before a byte of it. `Put` comes exactly where a
-/// write failed, `NoFile` exactly where an open was refused. Over honest files of the kept sizes all was
-/// written, or at a refusal a prefix.
-pub fn put_padded<F: Files, W: Write, A: Allocator>(
+// Writes a value, and the zeros that bring it to a multiple of 4.
+pub(crate) fn put_padded<F: Files, W: Write, A: Allocator>(
     value: &Value<A>,
     files: &mut F,
     window: &mut [u8; WINDOW],
@@ -59,5 +56,26 @@ pub fn put_padded<F: Files, W: Write, A: Allocator>(
 {
     put_value(value, files, window, out)?;
     put_padding(value_size(value), out)?;
+    Ok(())
+}
+
+/// Writes a value, and the zeros that bring it to where an alignment has it end.
+///
+/// A file is opened, goes through the window, and is never held in memory whole. One whose size is not
+/// the one that is kept is answered as a failed read, before a byte of it. `Put` comes exactly where a
+/// write failed, `NoFile` exactly where an open was refused. Over honest files of the kept sizes all was
+/// written, or at a refusal a prefix.
+pub fn put_aligned<F: Files, W: Write, A: Allocator>(
+    value: &Value<A>,
+    align: u32,
+    files: &mut F,
+    window: &mut [u8; WINDOW],
+    out: &mut Out<W>,
+) -> Result<(), TreeFault>
+    ensures { WritesPieces F.Opened.steady result (F.map files.old) (F.map files.new)
+        out.old out.new (content value.now ∷ bytes (padding_by align (size_of (content value.now))) ∷ []) }
+{
+    put_value(value, files, window, out)?;
+    put_gap(value_size(value), align, out)?;
     Ok(())
 }

@@ -5,19 +5,20 @@ ghost use Rattle.uimg_base.specs.Device.{RisesIf};
 ghost use Rattle.uimg_base.specs.Writing.{Writes, Written};
 ghost use Rattle.uimg_blob.specs.Plain.{AllValues, AreNamed};
 ghost use Rattle.uimg_tree.specs.Content.{in_full, AreKept, IsBytes};
-ghost use Rattle.uimg_tree.specs.Encoding.{ended, header, strings, encode};
+ghost use Rattle.uimg_tree.specs.Encoding.{ended, header, strings, encode_by};
 ghost use Rattle.uimg_tree.specs.Faults.{is_put, is_no_file, is_read};
 ghost use Rattle.uimg_tree.specs.Layouts.{plan_of, totalsize};
 ghost use Rattle.uimg_tree.specs.Names.{texts};
-ghost use Rattle.uimg_tree.specs.Pieces.{padding, blob_pieces, WritesPieces};
+ghost use Rattle.uimg_tree.specs.Pieces.{blob_pieces, WritesPieces};
 ghost use Rattle.uimg_tree.specs.ReadsBack.{ReadsBack};
 ghost use Rattle.uimg_tree.specs.Trees.{node_of};
 ghost use Rattle.uimg_tree.specs.UsingFiles.{UsesFiles};
 
+use crate::alignment::put_gap;
 use crate::fault::TreeFault;
 use crate::layout::{Layout, STRUCTURE_OFFSET};
 use crate::nodes::{ThisNode, put_node};
-use crate::tokens::{put_end, put_padding};
+use crate::tokens::put_end;
 use crate::tree::Tree;
 use std::alloc::Allocator;
 use std::io::Write;
@@ -39,7 +40,8 @@ const RESERVATION: [u8; 16] = [0; 16];
 // Writes the header and the reservation block.
 fn put_header<W: Write, A: Allocator>(layout: &Layout<A>, out: &mut Out<W>) -> Result<(), PutFault>
     ensures { Writes (is_err result) out.old out.new
-        (header layout.now.structure (length (strings layout.now.names)) ++ replicate 16 0) }
+        (header (totalsize layout.now) layout.now.structure (length (strings layout.now.names))
+        ++ replicate 16 0) }
 {
     let reservation = RESERVATION;
     let structure = layout.structure_size;
@@ -83,7 +85,7 @@ fn put_blob<F: Files, W: Write, A: Allocator>(
     files: &mut F,
     out: &mut Out<W>,
 ) -> Result<(), TreeFault>
-    requires { layout.now ≡ plan_of (node_of tree.now.root) }
+    requires { layout.now ≡ plan_of layout.now.align (node_of tree.now.root) }
     ensures fits { totalsize layout.now < 2 ^ 32 }
     ensures writes { WritesPieces F.Opened.steady result (F.map files.old) (F.map files.new)
         out.old out.new
@@ -101,13 +103,13 @@ fn put_blob<F: Files, W: Write, A: Allocator>(
     )?;
     put_end(out)?;
     put_strings(names, out)?;
-    let end = STRUCTURE_OFFSET as u64 + layout.structure_size as u64 + layout.strings_size as u64;
-    put_padding(end, out)?;
+    put_gap(layout.end(), layout.align, out)?;
     Ok(())
 }
 
 /// Writes the blob of a tree (Devicetree Specification, chapter 5): the header, an empty reservation
-/// block, the nodes and properties in order, and the names of the properties, each once.
+/// block, the nodes and properties in order, the names of the properties, each once, and zeros up to the
+/// blob's end.
 ///
 /// The caller gives the layout that `measure` made of this tree. A file is opened when its value is
 /// written, and goes through a window of 8192 bytes; it is never held in memory whole. A file whose
@@ -116,7 +118,7 @@ fn put_blob<F: Files, W: Write, A: Allocator>(
 /// `Put` comes exactly where a write failed, `NoFile` exactly where an open was refused, `Read`
 /// where a read of a file failed or its size is another; a tree without files is refused by a failed
 /// write alone, and no read fails over honest files of the kept sizes that are opened as steady sources
-/// (those in memory). Over honest files of the kept sizes the bytes of `encode` were written, or at a
+/// (those in memory). Over honest files of the kept sizes the bytes of `encode_by` were written, or at a
 /// refusal a prefix of them; and a file that begins with these bytes reads back as the tree.
 ///
 /// It takes no memory. The depth of its calls is that of the tree.
@@ -126,7 +128,7 @@ pub fn write_tree<F: Files, W: Write, A: Allocator>(
     files: &mut F,
     out: &mut Out<W>,
 ) -> Result<(), TreeFault>
-    requires { layout.now ≡ plan_of (node_of tree.now.root) }
+    requires { layout.now ≡ plan_of layout.now.align (node_of tree.now.root) }
     ensures files { UsesFiles (is_no_file result) (F.map files.old) (F.map files.new) }
     ensures faults { RisesIf (is_put result) out.old.faults out.new.faults }
     ensures found { IsTrue (F.map files.old).complete →
@@ -139,10 +141,10 @@ pub fn write_tree<F: Files, W: Write, A: Allocator>(
     ensures written { IsTrue (F.map files.old).honest →
         AreKept (F.map files.old).bytes (node_of tree.now.root) →
         Written (is_err result) out.old out.new
-        (encode (in_full (F.map files.old).bytes (node_of tree.now.root))) }
+        (encode_by layout.now.align (in_full (F.map files.old).bytes (node_of tree.now.root))) }
     ensures reads_back { AreKept (F.map files.old).bytes (node_of tree.now.root) →
         AreNamed (node_of tree.now.root) →
-        ReadsBack (in_full (F.map files.old).bytes (node_of tree.now.root)) }
+        ReadsBack layout.now.align (in_full (F.map files.old).bytes (node_of tree.now.root)) }
 {
     put_blob(tree, layout, files, out)
 }

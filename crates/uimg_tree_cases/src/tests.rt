@@ -1,5 +1,6 @@
 //! Tables of cases, and what plays them. A row that fails is named in the panic.
 
+mod answers;
 mod bytes;
 mod device_rows;
 mod growth;

@@ -5,6 +5,7 @@ mod complaints;
 mod dumpimage;
 mod help_notes;
 mod mkimage;
+mod unpack;
 mod verify;
 
 pub use check::CheckRequest;
@@ -15,6 +16,7 @@ use help_notes::PROGRAM_NOTES;
 use std::alloc::{AllocError, Global};
 use thiserror::Error;
 use uimg_requests::{MakeRequest, RunRequest, VERSION};
+pub use unpack::UnpackRequest;
 
 /// What the words of a command line ask for.
 #[derive(Drop)]
@@ -24,6 +26,9 @@ pub enum Asked<'a> {
 
     /// A check of any number of images.
     Check(CheckRequest<'a>),
+
+    /// The unpacking of an image.
+    Unpack(UnpackRequest<'a>),
 }
 
 /// What is asked for about an image, or a text.
@@ -62,11 +67,15 @@ pub enum WordsFault {
     #[error("no image")]
     NoImages,
 
+    /// The name of a folder is empty.
+    #[error("no folder")]
+    NoFolder,
+
     /// There are both data and a source.
     #[error("-d with -f")]
     DataWithSource,
 
-    /// The word of -A, -O, -T, -C or --need is no known short name.
+    /// The word of -A, -O, -T, -C, --need or --need-hash is no known short name.
     #[error("unknown name")]
     UnknownName,
 
@@ -115,6 +124,7 @@ fn request_of<'a>(
 ) -> Result<Asked<'a>, WordsFault> {
     let request = match matches.subcommand() {
         Some(("check", own)) => return Ok(Asked::Check(check::request(alloc, own)?)),
+        Some(("unpack", own)) => return Ok(Asked::Unpack(unpack::request(own)?)),
         Some(("dumpimage", own)) => Request::Run(dumpimage::request(own)?),
         Some(("mkimage", own)) => mkimage::request(alloc, own, epoch, now)?,
         Some((_, own)) => Request::Run(verify::request(own)),
@@ -151,7 +161,8 @@ fn commands<'a>(alloc: Global) -> Result<clap::Command<'a>, AllocError> {
         .subcommand(mkimage::command(alloc)?)?
         .subcommand(dumpimage::command(alloc)?)?
         .subcommand(verify::command(alloc)?)?
-        .subcommand(check::command(alloc)?)
+        .subcommand(check::command(alloc)?)?
+        .subcommand(unpack::command(alloc)?)
 }
 
 // An option with a value.

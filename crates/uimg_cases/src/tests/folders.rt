@@ -31,16 +31,21 @@ const ROWS: [(&str, &str, &str); 21] = [
     ("none", "disk_name", ""),
 ];
 
+// The three bytes of a source, `-` where it has not so many.
+fn text_of<'a, S: Source>(source: &mut S, bytes: &'a mut [u8; 3]) -> &'a [u8] {
+    if source.size() == Ok(3) && source.fill_at(0, bytes).is_ok() {
+        bytes
+    } else {
+        b"-"
+    }
+}
+
 // Whether the file of a name is opened in a folder, and has this text.
 fn opens_as<R: rt::Files + AllocGlobal>(rt: &R, folder: &str, name: &str, text: &str) -> bool {
-    let Ok(mut source) = DiskFiles::new(rt, folder).open(name.as_bytes()) else {
-        return text.is_empty();
-    };
-    let mut bytes = [0; 3];
-    if source.size() != Ok(3) || source.fill_at(0, &mut bytes).is_err() {
-        return text == "-";
+    match DiskFiles::new(rt, folder).open(name.as_bytes()) {
+        Ok(mut source) => text_of(&mut source, &mut [0; 3]) == text.as_bytes(),
+        Err(_) => text.is_empty(),
     }
-    bytes.as_slice() == text.as_bytes()
 }
 
 #[test]

@@ -48,14 +48,20 @@ fn growths_for_parts(rt: HostRuntime) -> Result<(), Fail> {
 }
 
 // The step that a heap has no place for: the text, the tree, or the filled or built one.
-fn step_of(made: &Outcome) -> u8 {
-    if !made.listed.is_empty() || made.file != "no file" {
-        return 9;
+fn step_of(fault: Fault) -> u8 {
+    match fault {
+        Fault::OutOfMemory => 0,
+        Fault::Its(fault) if fault.kind == Kind::OutOfMemory => 1,
+        Fault::Fit(FitFault::OutOfMemory) => 2,
+        _ => 9,
     }
+}
+
+// The same of a making that lists and leaves nothing where it is refused; 3 where the image is made.
+fn step_left(made: &Outcome) -> u8 {
     match made.end {
-        Err(Fault::OutOfMemory) => 0,
-        Err(Fault::Its(fault)) if fault.kind == Kind::OutOfMemory => 1,
-        Err(Fault::Fit(FitFault::OutOfMemory)) => 2,
+        Ok(Status::Done) if made.file == "all" => 3,
+        Err(fault) if made.listed.is_empty() && made.file == "no file" => step_of(fault),
         _ => 9,
     }
 }
@@ -68,8 +74,7 @@ fn made_on<R: Files + AllocGlobal>(rt: &R, size: usize) -> u8 {
     };
     let memory = (&heap, rt.alloc());
     match making(rt, memory, "four-hash-fit", "heap.itb", NO_FUSE) {
-        Ok(made) if made.end == Ok(Status::Done) && made.file == "all" => 3,
-        Ok(made) => step_of(&made),
+        Ok(made) => step_left(&made),
         Err(_) => 9,
     }
 }

@@ -6,6 +6,8 @@ use uimg_samples::fit::{
 };
 use uimg_samples::legacy::{ABC_KERNEL, PART_OUTSIDE, THREE_PART_MULTI};
 
+const ZEROS: [u8; 20000] = [0; 20000];
+
 // The CRC-32 of 20000 zeros.
 const ZEROS_CRC: [u8; 4] = [0x97, 0x2f, 0x53, 0x02];
 
@@ -24,9 +26,11 @@ fn legacy_named(name: &str) -> &'static [u8] {
 
 // A FIT image of so many zeros, and so many CRC-32 nodes of a value.
 fn zeros(alloc: Global, length: usize, crc: [u8; 4], hashes: u32) -> Option<Vec<u8>> {
-    let data = [0; 20000];
-    let payload = Payload::Inside(data.get(..length)?);
-    crc_fit(alloc, payload, crc, hashes).ok()
+    let data = ZEROS.get(..length).unwrap_or(&[]);
+    match crc_fit(alloc, Payload::Inside(data), crc, hashes) {
+        Ok(image) => Some(image),
+        Err(_) => None,
+    }
 }
 
 // A FIT image of the table of cases.

@@ -1,5 +1,6 @@
 //! What the making of an image leaves, where opens, reads, the shelf or memory fail.
 ghost use Rattle.std.specs.Prelude.{◌≡◌, ◌≢◌, false, length, IfOk};
+ghost use Rattle.uimg_base.specs.Device.{IsFresh};
 ghost use Rattle.uimg_legacy.specs.Parts.{has_parts};
 ghost use Rattle.uimg_requests.specs.Commands.{HasFitNames};
 
@@ -55,6 +56,17 @@ const SOURCE: &[u8] = b"/dts-v1/;
 };
 ";
 
+// What a shelf keeps, or nothing.
+fn kept<H: Shelf>(shelf: H, keeps: bool) -> Result<H::Kept, SourceFault>
+    ensures { IfOk result (λ kept. IsFresh (H.Kept.device kept)) }
+{
+    if keeps {
+        shelf.keep()
+    } else {
+        Err(SourceFault)
+    }
+}
+
 // A shelf that takes so many bytes, and keeps what was written or refuses to.
 #[derive(Drop)]
 struct CutShelf<H: Shelf> {
@@ -81,11 +93,7 @@ impl<H: Shelf> Shelf for CutShelf<H> {
 
     fn keep(self) -> Result<H::Kept, SourceFault> {
         let CutShelf { shelf, keeps } = self;
-        if keeps {
-            shelf.into_inner().keep()
-        } else {
-            Err(SourceFault)
-        }
+        kept(shelf.into_inner(), keeps)
     }
 }
 
@@ -108,23 +116,38 @@ pub(super) struct Outcome {
     pub(super) file: &'static str,
 }
 
+// A list of one name.
+fn one_name(alloc: Global, name: &str) -> Result<Vec<Vec<u8>>, AllocError>
+    ensures { IfOk result (λ names. length names.items ≡ 1) }
+{
+    let mut names = Vec::new(alloc);
+    names.push(Vec::from_slice(alloc, name.as_bytes())?)?;
+    Ok(names)
+}
+
+// The names that stand between colons.
+fn part_names(alloc: Global, data: &str) -> Result<Vec<Vec<u8>>, AllocError>
+    ensures { IfOk result (λ names. length names.items ≢ 0) }
+{
+    let (front, last) = data.rsplit_once(':').unwrap_or(("", data));
+    let mut names = Vec::new(alloc);
+    for name in front.split_terminator(':') {
+        names.push(Vec::from_slice(alloc, name.as_bytes())?)?;
+    }
+    names.push(Vec::from_slice(alloc, last.as_bytes())?)?;
+    Ok(names)
+}
+
 // The names of a legacy image's files: one, or all that stand between colons.
 fn file_names(alloc: Global, kind: u8, data: &str) -> Result<Vec<Vec<u8>>, AllocError>
     ensures some { IfOk result (λ names. length names.items ≢ 0) }
     ensures single { IfOk result (λ names. has_parts kind ≡ false → length names.items ≡ 1) }
 {
-    let mut names = Vec::new(alloc);
-    let mut last = data;
-    if has_parts(kind)
-        && let Some((before, after)) = data.rsplit_once(':')
-    {
-        for name in before.split(':') {
-            names.push(Vec::from_slice(alloc, name.as_bytes())?)?;
-        }
-        last = after;
+    if has_parts(kind) {
+        part_names(alloc, data)
+    } else {
+        one_name(alloc, data)
     }
-    names.push(Vec::from_slice(alloc, last.as_bytes())?)?;
-    Ok(names)
 }
 
 /// The making of an image by its name; any other name is that of several parts with colons between them.

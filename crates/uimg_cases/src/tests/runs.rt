@@ -1,6 +1,5 @@
 //! What a command does to an image in memory, whose reads and writes may fail.
 use std::alloc::Global;
-use std::io::Write;
 use uimg_base::{FuseSource, FuseWriter, MemSource, Out, Room, Source, Status};
 use uimg_engine::{Action, Command, Fault, Format, run};
 use uimg_names::Naming;
@@ -51,13 +50,15 @@ pub(super) fn ran(alloc: Global, action: &str, image: &[u8], calls: u64, bytes: 
 
 /// The text of an end.
 pub(super) fn told(alloc: Global, end: &Result<Status, Fault>) -> Vec<u8> {
-    let mut text = Vec::new(alloc);
-    let _ = match end {
-        Ok(Status::Done) => write!(text, "done"),
-        Ok(Status::NotRight) => write!(text, "not right"),
-        Err(fault) => write!(text, "{fault}"),
+    let told = match end {
+        Ok(Status::Done) => format!(in alloc; "done"),
+        Ok(Status::NotRight) => format!(in alloc; "not right"),
+        Err(fault) => format!(in alloc; "{fault}"),
     };
-    text
+    match told {
+        Ok(text) => text.into_bytes(),
+        Err(_) => Vec::new(alloc),
+    }
 }
 
 /// Bytes as a text, for an assertion.

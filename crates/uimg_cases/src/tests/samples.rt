@@ -18,13 +18,10 @@ pub(super) const SHARED_NAMES: &str = "( 1000*0= )";
 
 // The bytes of a hexadecimal text of at most 16 of them, and how many they are.
 fn bytes_of(text: &str) -> ([u8; 16], usize) {
-    let mut bytes = [0; 16];
     let length = usize::min(text.len() / 2, 16);
-    for (number, byte) in bytes.iter_mut().enumerate() {
-        let digits = text.get(number * 2..number * 2 + 2).unwrap_or("0");
-        *byte = u8::from_str_radix(digits, 16).unwrap_or(0);
-    }
-    (bytes, length)
+    let number = u128::from_str_radix(text, 16).unwrap_or(0);
+    let shift = 128 - 8 * length as u32;
+    (number.unbounded_shl(shift).to_be_bytes(), length)
 }
 
 // Adds what a word stands for, and answers whether it could.

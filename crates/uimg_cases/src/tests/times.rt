@@ -16,24 +16,21 @@ const ROWS: [(&str, u32, u32); 7] = [
     ("4294967295", 9, u32::MAX),
 ];
 
-fn plays<R: Files + AllocGlobal + Abort>(
-    rt: &R,
-    epoch: &str,
-    now: u32,
-    time: u32,
-) -> Result<(), Fail> {
+// The exit status where the image is made.
+fn status_of<R: Files + AllocGlobal>(rt: &R, epoch: &str, now: u32) -> u8 {
     let epoch = if epoch.is_empty() { None } else { Some(epoch) };
     let words = ["uimg", "mkimage", "-d", "times.bin", "times.img"];
     let mut out = Vec::new(rt.alloc());
     let mut err = Vec::new(rt.alloc());
-    let status = program(rt, &words, epoch, now, &mut out, &mut err);
-    assert_eq!(rt; status, 0, "{now}");
-    let image = fs::read(rt, "times.img")?;
-    assert!(rt;
-        image.get(8..12) == Some(time.to_be_bytes().as_slice()),
-        "{now}"
-    );
-    Ok(())
+    program(rt, &words, epoch, now, &mut out, &mut err)
+}
+
+// Whether the image that was made has a time.
+fn has_time<R: Files + AllocGlobal>(rt: &R, time: u32) -> bool {
+    match fs::read(rt, "times.img") {
+        Ok(image) => image.get(8..12) == Some(time.to_be_bytes().as_slice()),
+        Err(_) => false,
+    }
 }
 
 // SOURCE_DATE_EPOCH counts where it is set, or else the clock.
@@ -41,7 +38,8 @@ fn plays<R: Files + AllocGlobal + Abort>(
 fn times(rt: HostRuntime) -> Result<(), Fail> {
     fs::write(&rt, "times.bin", "abc")?;
     for (epoch, now, time) in &ROWS {
-        plays(&rt, epoch, *now, *time)?;
+        assert_eq!(rt; status_of(&rt, epoch, *now), 0, "{epoch} {now}");
+        assert!(rt; has_time(&rt, *time), "{epoch} {now}");
     }
     fs::remove_file(&rt, "times.bin")?;
     fs::remove_file(&rt, "times.img")?;

@@ -6,15 +6,16 @@ ghost use Rattle.uimg_base.specs.Writing.{Writes};
 ghost use Rattle.uimg_tree.specs.Pieces.{WritesPieces};
 ghost use Rattle.uimg_tree.specs.Trees.{node_of};
 ghost use Rattle.uimg_fit_building.specs.Behind.{entry, payload_pieces, images_in, padded_sizes, behind_pieces, end_fault, fault_in};
+ghost use Rattle.uimg_fit_base.specs.Placements.{align_of};
 ghost use Rattle.uimg_fit_building.specs.Refusing.{is_low};
 
 use crate::building::payload_sizes::payloads_size;
 use crate::payloads::{images_of, payload_of};
 use std::alloc::Allocator;
 use std::io::Write;
-use uimg_base::{Files, Out, PutFault, Source, WINDOW};
+use uimg_base::{Files, Out, Source, WINDOW};
 use uimg_fit_base::{FitFault, Placement};
-use uimg_tree::{Node, Tree, TreeFault, put_padded};
+use uimg_tree::{Node, Tree, TreeFault, put_aligned, put_zeros};
 
 // The most bytes of a file.
 const LARGEST: u64 = 0xffff_ffff;
@@ -28,13 +29,13 @@ fn check_end(size: u32, padded: u64, placement: Placement) -> Result<(), FitFaul
 {
     match placement {
         Placement::Inside => Ok(()),
-        Placement::After => {
+        Placement::After { align: _ } => {
             if size as u64 + padded > LARGEST {
                 return Err(FitFault::TooLarge);
             }
             Ok(())
         }
-        Placement::At(position) => {
+        Placement::At { position, align: _ } => {
             if position < size {
                 return Err(FitFault::PositionTooLow);
             }
@@ -53,53 +54,43 @@ pub(crate) fn check_payloads<A: Allocator>(
     placement: Placement,
 ) -> Result<(), FitFault>
     ensures { fault_in result
-        ≡ end_fault size (padded_sizes (images_in (node_of tree.now.root))) placement }
+        ≡ end_fault size (padded_sizes (align_of placement) (images_in (node_of tree.now.root)))
+        placement }
 {
-    check_end(size, payloads_size(images_of(&tree.root)), placement)
+    let padded = payloads_size(images_of(&tree.root), placement.align());
+    check_end(size, padded, placement)
 }
 
-// Writes so many zeros.
-fn put_zeros<W: Write>(count: u32, out: &mut Out<W>) -> Result<(), PutFault>
-    ensures { Writes (is_err result) out.old out.new (replicate count 0) }
-{
-    let zeros = [0; WINDOW];
-    let mut left = count;
-    while left > 0 {
-        let next = u32::min(left, WINDOW as u32);
-        out.put_all(&zeros[..next as usize])?;
-        left -= next;
-    }
-    Ok(())
-}
-
-// Writes the payload of an image, padded with zeros to a multiple of 4.
+// Writes the payload of an image, with zeros up to where an alignment has it end.
 fn put_payload<F: Files, W: Write, A: Allocator>(
     image: &Node<A>,
+    align: u32,
     files: &mut F,
     window: &mut [u8; WINDOW],
     out: &mut Out<W>,
 ) -> Result<(), TreeFault>
     ensures { WritesPieces F.Opened.steady result (F.map files.old) (F.map files.new)
-        out.old out.new (payload_pieces (entry image.now)) }
+        out.old out.new (payload_pieces align (entry image.now)) }
 {
     match payload_of(&image.props) {
-        Some(value) => put_padded(value, files, window, out),
+        Some(value) => put_aligned(value, align, files, window, out),
         None => Ok(()),
     }
 }
 
-// Writes the payloads of images, each padded.
+// Writes the payloads of images, each with zeros up to where an alignment has it end.
 fn put_payloads<F: Files, W: Write, A: Allocator>(
     images: &[Node<A>],
+    align: u32,
     files: &mut F,
     out: &mut Out<W>,
 ) -> Result<(), TreeFault>
     ensures { WritesPieces F.Opened.steady result (F.map files.old) (F.map files.new)
-        out.old out.new (flat_map payload_pieces (map entry images.now)) }
+        out.old out.new (flat_map (payload_pieces align) (map entry images.now)) }
 {
     let mut window = [0; WINDOW];
     for image in images {
-        put_payload(image, files, &mut window, out)?;
+        put_payload(image, align, files, &mut window, out)?;
     }
     Ok(())
 }
@@ -118,10 +109,10 @@ pub(crate) fn put_behind<F: Files, W: Write, A: Allocator>(
 {
     match placement {
         Placement::Inside => Ok(()),
-        Placement::After => put_payloads(images_of(&tree.root), files, out),
-        Placement::At(position) => {
-            put_zeros(position - size, out)?;
-            put_payloads(images_of(&tree.root), files, out)
+        Placement::After { align } => put_payloads(images_of(&tree.root), align, files, out),
+        Placement::At { position, align } => {
+            put_zeros((position - size) as u64, out)?;
+            put_payloads(images_of(&tree.root), align, files, out)
         }
     }
 }

@@ -89,21 +89,23 @@ fn place_image<A: Allocator + Copy>(
     })
 }
 
-// A copy of images, their payloads moved to places, one after the other.
+// A copy of images, their payloads moved to places, one after the other, each rounded up by an
+// alignment.
 fn place_images<A: Allocator + Copy>(
     alloc: A,
     images: &Nodes<A>,
+    align: u32,
     key: &[u8],
     at: u32,
 ) -> Result<Nodes<A>, AllocError>
-    ensures { IfOk result (λ placed. placed ≡ unread_from key.now at images.now) }
+    ensures { IfOk result (λ placed. placed ≡ unread_from align key.now at images.now) }
 {
     let mut copies = Vec::new(alloc);
     let mut at = at;
     for image in images.items() {
         let copy = place_image(alloc, image, key, at)?;
         copies.push(copy)?;
-        at = at.wrapping_add(padded_size_in_cell(&image.props));
+        at = at.wrapping_add(padded_size_in_cell(&image.props, align));
     }
     Ok(Nodes::of(copies))
 }
@@ -112,14 +114,15 @@ fn place_images<A: Allocator + Copy>(
 fn place_in<A: Allocator + Copy>(
     alloc: A,
     node: &Node<A>,
+    align: u32,
     key: &[u8],
     at: u32,
 ) -> Result<Node<A>, AllocError>
-    ensures { IfOk result (λ placed. placed ≡ with_placed key.now at node.now) }
+    ensures { IfOk result (λ placed. placed ≡ with_placed align key.now at node.now) }
 {
     let name = copy_bytes(alloc, node.name.items())?;
     let props = copy_properties(alloc, &node.props)?;
-    let children = place_images(alloc, &node.children, key, at)?;
+    let children = place_images(alloc, &node.children, align, key, at)?;
     Ok(Node {
         name,
         props,
@@ -131,18 +134,19 @@ fn place_in<A: Allocator + Copy>(
 fn place_children<A: Allocator + Copy>(
     alloc: A,
     nodes: &Nodes<A>,
+    align: u32,
     key: &[u8],
     at: u32,
 ) -> Result<Nodes<A>, AllocError>
     ensures { IfOk result (λ placed.
-        placed ≡ in_first (codes "images") (unread_from key.now at) nodes.now) }
+        placed ≡ in_first (codes "images") (unread_from align key.now at) nodes.now) }
 {
     let mut copies = Vec::new(alloc);
     let mut moved = false;
     for node in nodes.items() {
         let copy = if !moved && is_images(node) {
             moved = true;
-            place_in(alloc, node, key, at)?
+            place_in(alloc, node, align, key, at)?
         } else {
             copy_node(alloc, node)?
         };
@@ -152,19 +156,20 @@ fn place_children<A: Allocator + Copy>(
 }
 
 // A copy of a tree whose payloads are moved: the first to a place that a cell of this name tells, the
-// others behind it. No payload of an image is copied.
+// others behind it, by an alignment. No payload of an image is copied.
 pub(crate) fn place<A: Allocator + Copy>(
     alloc: A,
     tree: &Tree<A>,
+    align: u32,
     key: &[u8],
     at: u32,
 ) -> Result<Tree<A>, AllocError>
     ensures { IfOk result (λ placed.
-        node_of placed.root ≡ with_images (unread_from key.now at) (node_of tree.now.root)) }
+        node_of placed.root ≡ with_images (unread_from align key.now at) (node_of tree.now.root)) }
 {
     let name = copy_bytes(alloc, tree.root.name.items())?;
     let props = copy_properties(alloc, &tree.root.props)?;
-    let children = place_children(alloc, &tree.root.children, key, at)?;
+    let children = place_children(alloc, &tree.root.children, align, key, at)?;
     Ok(Tree {
         root: Node {
             name,

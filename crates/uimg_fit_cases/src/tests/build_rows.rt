@@ -1,4 +1,5 @@
 //! Images that are filled and built, by bytes from outside.
+use super::answers::is_said;
 use super::images::image;
 use super::making::{FOUR_HASH, built, filled, told};
 use std::alloc::{AllocError, Global};
@@ -75,17 +76,21 @@ const ROWS: [(&str, u32, &str, usize, &str, usize, u32); 12] = [
     ("memory", 0, "1024", 1028, "position-fit", 0, 0),
 ];
 
+// Whether an image is made, and of these bytes.
+fn makes(alloc: Global, text: &str, time: u32, placement: &str, wanted: &[u8]) -> bool {
+    let (answer, fit) = made(alloc, text, time, placement);
+    answer == Ok(()) && fit.as_slice() == wanted
+}
+
 #[test]
 fn demo_rows(rt: HostRuntime) -> Result<(), Fail> {
     let alloc = rt.alloc();
     for (place, time, placement, size, name, at, number) in &ROWS {
         let text = source(alloc, place)?;
-        let (answer, fit) = made(alloc, text.as_str(), *time, placement);
-        assert_eq!(rt; answer, Ok(()), "{place}, {time}, {placement}");
         let wanted = image(alloc, name, *at, *number)?;
-        assert_eq!(rt; fit.len(), *size, "{place}, {time}, {placement}");
+        let same = makes(alloc, text.as_str(), *time, placement, &wanted);
         assert!(rt;
-            fit.as_slice() == wanted.as_slice(),
+            same && wanted.len() == *size,
             "{place}, {time}, {placement}"
         );
     }
@@ -108,12 +113,53 @@ fn position_rows(rt: HostRuntime) -> Result<(), Fail> {
     let text = source(alloc, "memory")?;
     for (placement, wanted) in &POSITION_ROWS {
         let (answer, fit) = made(alloc, text.as_str(), 0, placement);
-        let answer = told(alloc, answer, fit.len())?;
-        assert_eq!(rt; answer.as_str(), *wanted, "at {placement}");
+        is_said(&rt, told(alloc, answer, fit.len()), wanted, placement, 0);
         if *placement == "796" {
             assert!(rt; fit.ends_with(b"abc\0"));
             assert_eq!(rt; fit.get(168..172), Some([0, 0, 3, 0x1c].as_slice()));
         }
+    }
+    Ok(())
+}
+
+// The placement by an alignment, what is answered, where the blob says that it ends, and where the payload
+// stands: as mkimage 2023.01 rounds up, also by 12 and 20480, which are no powers of two.
+const ALIGN_ROWS: [(&str, &str, u32, usize); 14] = [
+    ("after by 4", "done, 800", 796, 796),
+    ("after by 0", "done, 800", 796, 796),
+    ("after by 8", "done, 808", 800, 800),
+    ("after by 12", "done, 808", 804, 804),
+    ("after by 512", "done, 1536", 1024, 1024),
+    ("after by 4096", "done, 8192", 4096, 4096),
+    ("after by 20480", "done, 8192", 4096, 4096),
+    ("after by 2147483648", "F7 too large, 0", 0, 0),
+    ("after by 4294967292", "F7 too large, 0", 0, 0),
+    ("1024 by 512", "done, 1536", 1024, 1024),
+    ("1025 by 512", "done, 1537", 1024, 1025),
+    ("1023 by 512", "F6 position too low, 0", 0, 0),
+    ("2048 by 4096", "F6 position too low, 0", 0, 0),
+    ("2147483647 by 2147483648", "F6 position too low, 0", 0, 0),
+];
+
+// Whether a blob of 796 bytes says that it ends at a place, and has zeros from its end up to the payload.
+fn stands(fit: &[u8], end: u32, at: usize) -> bool {
+    let gap = fit.get(796..at).unwrap_or(&[]);
+    let rest = fit.get(at..).unwrap_or(&[]);
+    fit.get(4..8) == Some(end.to_be_bytes().as_slice())
+        && gap.iter().all(|byte| *byte == 0)
+        && rest.starts_with(b"abc")
+        && rest.iter().skip(3).all(|byte| *byte == 0)
+}
+
+#[test]
+fn align_rows(rt: HostRuntime) -> Result<(), Fail> {
+    let alloc = rt.alloc();
+    let text = source(alloc, "memory")?;
+    for (placement, wanted, end, at) in &ALIGN_ROWS {
+        let (answer, fit) = made(alloc, text.as_str(), 0, placement);
+        let answer = told(alloc, answer, fit.len())?;
+        assert_eq!(rt; answer.as_str(), *wanted, "{placement}");
+        assert!(rt; fit.is_empty() || stands(&fit, *end, *at), "{placement}");
     }
     Ok(())
 }

@@ -1,10 +1,11 @@
 //! What is answered and left where files, the output or memory fail.
+use super::answers::is_said;
 use super::making::{FOUR_HASH, built, filled, placement, told};
 use linked_list_allocator::LocalHeap;
 use std::alloc::{AllocError, Global};
 use std::test::Fail;
 use uimg_base::{Files, FuseFiles, FuseWriter, MemFiles, Out};
-use uimg_fit::{Fault, FitFault, Placement, build, fill};
+use uimg_fit::{Fault, FitFault, build, fill};
 use uimg_its::compile;
 use uimg_tree::Tree;
 
@@ -57,33 +58,40 @@ const ROWS: [(&str, &str, u64, u64, &str); 13] = [
 fn file_rows(rt: HostRuntime) -> Result<(), Fail> {
     let alloc = rt.alloc();
     let tree = filled(alloc, FOUR_HASH, 0, &ABC, &mut MemFiles::new(&ABC))?;
-    for (word, content, from, calls, wanted) in &ROWS {
+    for (number, row) in ROWS.iter().enumerate() {
+        let (word, content, from, calls, wanted) = *row;
         let named: [(&[u8], &[u8]); 1] = [(b"abc.bin", content.as_bytes())];
-        let found = fused(alloc, &tree, word, MemFiles::new(&named), *from, *calls)?;
-        assert_eq!(rt;
-            found.as_str(),
-            *wanted,
-            "{word}, {content}, {from}, {calls}"
-        );
+        let found = fused(alloc, &tree, word, MemFiles::new(&named), from, calls);
+        is_said(&rt, found, wanted, word, number as u64);
     }
     Ok(())
 }
 
-// A writer that takes so many bytes leaves that prefix.
+// Whether a writer that takes so many bytes of an image leaves that prefix.
+fn leaves_prefix(alloc: Global, tree: &Tree<Global>, whole: &[u8], taken: usize) -> bool {
+    let mut files = MemFiles::new(&ABC);
+    let mut out = Out::new(FuseWriter::new(Vec::new(alloc), taken as u64));
+    let answer = build(alloc, tree, &mut files, placement("1024"), &mut out);
+    let written = out.into_inner().into_inner();
+    answer == Err(Fault::Put) && written.len() == taken && whole.starts_with(&written)
+}
+
+// The first length of which a writer does not leave that prefix, up to the whole image.
+fn first_wrong(alloc: Global, tree: &Tree<Global>, whole: &[u8]) -> Option<usize> {
+    for taken in 0..whole.len() {
+        if !leaves_prefix(alloc, tree, whole, taken) {
+            return Some(taken);
+        }
+    }
+    None
+}
+
 #[test]
 fn each_write_failing(rt: HostRuntime) -> Result<(), Fail> {
     let alloc = rt.alloc();
     let tree = filled(alloc, FOUR_HASH, 0, &ABC, &mut MemFiles::new(&ABC))?;
     let (_, whole) = built(alloc, &tree, "1024", &mut MemFiles::new(&ABC));
-    for taken in 0..whole.len() {
-        let mut files = MemFiles::new(&ABC);
-        let mut out = Out::new(FuseWriter::new(Vec::new(alloc), taken as u64));
-        let answer = build(alloc, &tree, &mut files, Placement::At(1024), &mut out);
-        assert!(rt; answer == Err(Fault::Put), "{taken} are taken");
-        let written = out.into_inner().into_inner();
-        assert_eq!(rt; written.len(), taken);
-        assert!(rt; whole.starts_with(&written), "{taken} are taken");
-    }
+    assert!(rt; first_wrong(alloc, &tree, &whole).is_none());
     Ok(())
 }
 

@@ -36,12 +36,18 @@ pub(super) const FOUR_HASH: &str = "/dts-v1/;
 };
 ";
 
-/// The placement of a word: `inside`, `after`, or a position.
+/// The placement of a word: `inside`, `after`, or a position; the latter two may have an alignment, as
+/// in `after by 8`.
 pub(super) fn placement(word: &str) -> Placement {
-    match word {
+    let (place, align) = word.split_once(" by ").unwrap_or((word, "4"));
+    let align = align.parse().unwrap_or(0);
+    match place {
         "inside" => Placement::Inside,
-        "after" => Placement::After,
-        _ => Placement::At(word.parse().unwrap_or(0)),
+        "after" => Placement::After { align },
+        _ => Placement::At {
+            position: place.parse().unwrap_or(0),
+            align,
+        },
     }
 }
 

@@ -1,4 +1,5 @@
 //! Trees that no source spells, and the lines of faults.
+use super::answers::is_said;
 use super::making::{built, told};
 use std::alloc::{AllocError, Global};
 use std::test::Fail;
@@ -118,12 +119,11 @@ fn answer_of_sizes(
 }
 
 #[test]
-fn size_rows(rt: HostRuntime) -> Result<(), Fail> {
+fn size_rows(rt: HostRuntime) {
     for (first, second, placement, wanted) in &SIZE_ROWS {
-        let found = answer_of_sizes(rt.alloc(), *first, *second, placement)?;
-        assert_eq!(rt; found.as_str(), *wanted, "{first}, {second}, {placement}");
+        let found = answer_of_sizes(rt.alloc(), *first, *second, placement);
+        is_said(&rt, found, wanted, placement, *first);
     }
-    Ok(())
 }
 
 // How long an image's name is, the name of a property, the placement, and what is answered.
@@ -151,12 +151,11 @@ fn answer_of_names(
 }
 
 #[test]
-fn name_rows(rt: HostRuntime) -> Result<(), Fail> {
+fn name_rows(rt: HostRuntime) {
     for (length, name, placement, wanted) in &NAME_ROWS {
-        let found = answer_of_names(rt.alloc(), *length, name, placement)?;
-        assert_eq!(rt; found.as_str(), *wanted, "{length}, {name}, {placement}");
+        let found = answer_of_names(rt.alloc(), *length, name, placement);
+        is_said(&rt, found, wanted, placement, *length as u64);
     }
-    Ok(())
 }
 
 // The lines of the faults that no other row has.

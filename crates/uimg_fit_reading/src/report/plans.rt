@@ -7,7 +7,7 @@ ghost use Rattle.uimg_base.specs.Using.{Asks};
 ghost use Rattle.uimg_fit_base.specs.AlgoSets.{set_of, AreDigests};
 ghost use Rattle.uimg_fit_base.specs.Report.{word_of};
 ghost use Rattle.uimg_fit_reading.specs.Nodes.{OfHash, HasNode};
-ghost use Rattle.uimg_fit_reading.specs.Plans.{plan_by_value, plan_by_algo, plan_by_name, plan_of, text_in, IsOf, EndsIn, IsCovered, word_by};
+ghost use Rattle.uimg_fit_reading.specs.Plans.{plan_by_value, plan_by_algo, plan_by_name, plan_of, text_in, IsOf, EndsIn, IsCovered, IsCompared, word_by};
 
 use crate::nodes::value_of;
 use std::alloc::Allocator;
@@ -116,11 +116,15 @@ pub(crate) fn judged<S: Source>(
     ensures word { IsTrue (S.device source.old).honest → (message : List ℕ) →
         AreDigests digests.now message → IsCovered (set_of digests.now) plan →
         IfOk result (λ word. word ≡ word_by (S.device source.old).bytes message plan) }
+    ensures compared { IfOk result (IsCompared (set_of digests.now) plan) }
 {
     match plan {
         Plan::Malformed => Ok(Verdict::Malformed),
         Plan::Unsupported => Ok(Verdict::Unsupported),
         Plan::Compared(algo, span) => {
+            if !digests.set().has(algo) {
+                return Ok(Verdict::Wrong);
+            }
             if is_digest(source, span, &digests.by(algo))? {
                 Ok(Verdict::Right)
             } else {

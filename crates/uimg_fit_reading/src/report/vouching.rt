@@ -1,6 +1,7 @@
 //! Whether hash nodes of a certain strength stand for each image.
-ghost use Rattle.std.specs.Prelude.{◌≡◌, ◌≤◌, IfOk, is_err, max, false, IsTrue, List, Some};
+ghost use Rattle.std.specs.Prelude.{◌≡◌, ◌≤◌, IfOk, is_err, max, not, false, IsTrue, List, Some};
 ghost use Rattle.std.specs.List.{list_all};
+ghost use Rattle.std.specs.Option.{option_map_or};
 ghost use Rattle.uimg_base.specs.Device.{RisesIf};
 ghost use Rattle.uimg_base.specs.Held.{held_bytes};
 ghost use Rattle.uimg_base.specs.Using.{Uses};
@@ -21,7 +22,7 @@ use uimg_blob::Blob;
 use uimg_fit_base::{AlgoSet, Fault};
 
 // Whether a set has an algorithm that is at least as strong as one.
-pub(crate) fn has_from(set: AlgoSet, need: Algo) -> bool
+fn has_from(set: AlgoSet, need: Algo) -> bool
     ensures { result ≡ has_from set need }
 {
     let sha384 = set.has(Algo::Sha384) | set.has(Algo::Sha512);
@@ -35,6 +36,16 @@ pub(crate) fn has_from(set: AlgoSet, need: Algo) -> bool
         Algo::Sha1 => sha1,
         Algo::Md5 => md5,
         Algo::Crc32 => set.has(Algo::Crc32) | md5,
+    }
+}
+
+// Whether no algorithm of a set is at least as strong as the needed one.
+pub(crate) fn lacks(set: AlgoSet, need: Option<Algo>) -> bool
+    ensures { result ≡ option_map_or (λ algo. not (has_from set algo)) need false }
+{
+    match need {
+        Some(algo) => !has_from(set, algo),
+        None => false,
     }
 }
 

@@ -32,11 +32,13 @@ pub(super) fn unhex(alloc: Global, text: &str) -> Result<Vec<u8>, AllocError> {
 pub(super) fn plain(alloc: Global, text: &str) -> Result<Vec<u8>, AllocError> {
     let mut bytes = Vec::new(alloc);
     for byte in text.bytes() {
-        match byte {
-            b';' => bytes.push(0)?,
-            b'~' => bytes.extend_from_slice(&[b'n'; 255])?,
-            _ => bytes.push(byte)?,
-        }
+        let one = [byte];
+        let part: &[u8] = match byte {
+            b';' => b"\0",
+            b'~' => &[b'n'; 255],
+            _ => &one,
+        };
+        bytes.extend_from_slice(part)?;
     }
     Ok(bytes)
 }

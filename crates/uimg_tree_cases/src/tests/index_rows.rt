@@ -1,33 +1,31 @@
 //! What `index` answers, and what it asks of the source.
+use super::answers::is_said;
 use super::made::{made, shown};
 use std::alloc::{AllocError, Global};
 use std::process::Abort;
 use std::test::Fail;
 use uimg_base::{MemSource, Room, Source};
-use uimg_blob::{IndexFault, index};
+use uimg_blob::{Blob, IndexFault, index};
 
-// What is answered of a blob, and how many bytes were asked for.
-fn answer(
+// What is answered of a blob.
+fn told(
     alloc: Global,
-    room: &mut Room<Global>,
-    bytes: &[u8],
-) -> Result<(String, u128), AllocError> {
-    let mut source = MemSource::new(bytes);
-    let found = index(&mut source, room);
+    room: &Room<Global>,
+    found: Result<Blob, IndexFault>,
+) -> Result<String, AllocError> {
     let count = room.count();
-    let text = match found {
+    match found {
         Ok(blob) => {
-            let images = shown(alloc, blob.images())?;
-            let configurations = shown(alloc, blob.configurations())?;
+            let images = shown(blob.images());
+            let configurations = shown(blob.configurations());
             let size = blob.totalsize();
             let held = room.held();
             format!(in alloc;
                 "{size} bytes, {count} nodes, {held} held, {images}, {configurations}"
-            )?
+            )
         }
-        Err(fault) => format!(in alloc; "{fault}, {count} nodes")?,
-    };
-    Ok((text, source.asked()))
+        Err(fault) => format!(in alloc; "{fault}, {count} nodes"),
+    }
 }
 
 // Goes over rows.
@@ -39,9 +37,10 @@ pub(super) fn plays_rows<R: AllocGlobal + Abort>(
     let mut room = Room::new(alloc);
     for (name, blob, wanted, most) in rows {
         let bytes = made(alloc, blob)?;
-        let (text, asked) = answer(alloc, &mut room, &bytes)?;
-        assert_eq!(rt; text.as_str(), *wanted, "{name}: {blob}");
-        assert!(rt; asked <= *most, "{name}: {blob}");
+        let mut source = MemSource::new(&bytes);
+        let found = index(&mut source, &mut room);
+        assert!(rt; source.asked() <= *most, "{name}: {blob}");
+        is_said(rt, told(alloc, &room, found), wanted, blob, 0);
     }
     Ok(())
 }

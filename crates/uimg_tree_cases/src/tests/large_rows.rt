@@ -1,4 +1,5 @@
 //! Blobs of very many nodes.
+use super::tree_rows::nodes_in;
 use std::alloc::{AllocError, Global};
 use std::test::Fail;
 use uimg_base::{MemSource, Room, Source};
@@ -42,23 +43,36 @@ fn ten_thousand_deep(rt: HostRuntime) -> Result<(), Fail> {
     Ok(())
 }
 
+// How many nodes have the one behind them as the next sibling, from the first child of the root on. The
+// root has none, and the last one has none.
+fn siblings(alloc: Global, bytes: &[u8]) -> usize {
+    let mut room = Room::new(alloc);
+    let found = index(&mut MemSource::new(bytes), &mut room);
+    let count = room.count();
+    let Ok(blob) = found else {
+        return 0;
+    };
+    if count == 0
+        || blob.first_child(&room, 0) != Some(1)
+        || blob.next_sibling(&room, 0).is_some()
+    {
+        return 0;
+    }
+    for node in 1..count {
+        match blob.next_sibling(&room, node) {
+            Some(next) if next == node + 1 => {}
+            Some(_) => return 0,
+            None => return node,
+        }
+    }
+    0
+}
+
 // Each child of the root is the next sibling of the one before it.
 #[test]
 fn many_siblings(rt: HostRuntime) -> Result<(), Fail> {
     let bytes = row(rt.alloc(), 10000)?;
-    let mut room = Room::new(rt.alloc());
-    let found = index(&mut MemSource::new(&bytes), &mut room);
-    assert_eq!(rt; room.count(), 10001);
-    if let Ok(blob) = found
-        && room.count() == 10001
-    {
-        assert_eq!(rt; blob.first_child(&room, 0), Some(1));
-        for node in 1..10000usize {
-            assert_eq!(rt; blob.next_sibling(&room, node), Some(node + 1));
-        }
-        assert_eq!(rt; blob.next_sibling(&room, 10000), None);
-        assert_eq!(rt; blob.next_sibling(&room, 0), None);
-    }
-    assert!(rt; found.is_ok());
+    assert_eq!(rt; siblings(rt.alloc(), &bytes), 10000);
+    assert_eq!(rt; nodes_in(rt.alloc(), &bytes), 10001);
     Ok(())
 }

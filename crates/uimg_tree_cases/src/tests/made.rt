@@ -66,6 +66,8 @@ d00dfeed 00000260 00000038 00000208 00000028 00000011 00000010 00000000
 6c730064 61746100 74797065 00617263 68006f73 00636f6d 70726573 73696f6e
 006c6f61 6400656e 74727900 616c676f 00646566 61756c74 006b6572 6e656c00";
 
+const DIGITS: [&str; 10] = ["0", "1", "2", "3", "4", "5", "6", "7", "8", "9"];
+
 // All properties that FIT gives a meaning, and their names: what `ALL` and `KEYS` in a script stand for.
 const ALL: [u32; 19] = [
     0, 12, 22, 27, 32, 37, 40, 52, 57, 63, 73, 85, 99, 104, 110, 118, 125, 133, 137,
@@ -74,11 +76,11 @@ const ALL: [u32; 19] = [
 const KEYS: &str =
     "description;timestamp;data;type;arch;os;compression;load;entry;data-size;data-offset;data-position;algo;value;default;kernel;ramdisk;fdt;loadables;";
 
-/// A number, or `-`.
-pub(super) fn shown(alloc: Global, number: Option<usize>) -> Result<String, AllocError> {
+/// A number of one digit, `?` for a greater one, and `-` for none.
+pub(super) fn shown(number: Option<usize>) -> &'static str {
     match number {
-        Some(number) => format!(in alloc; "{number}"),
-        None => format!(in alloc; "-"),
+        Some(number) => DIGITS.get(number).unwrap_or(&"?"),
+        None => "-",
     }
 }
 
@@ -90,29 +92,49 @@ fn put_keys(sample: &mut Sample<Global>) -> Result<(), AllocError> {
     Ok(())
 }
 
+// Begins a node.
+fn begin(alloc: Global, sample: &mut Sample<Global>, name: &str) -> Result<(), AllocError> {
+    let name = plain(alloc, name)?;
+    sample.begin(&name)
+}
+
+// Adds a node by itself.
+fn put_node(alloc: Global, sample: &mut Sample<Global>, name: &str) -> Result<(), AllocError> {
+    begin(alloc, sample, name)?;
+    sample.end_node()
+}
+
+// Adds a property, if there is memory for its value.
+fn put_prop(
+    sample: &mut Sample<Global>,
+    offset: &str,
+    value: Result<Vec<u8>, AllocError>,
+) -> Result<(), AllocError> {
+    match value {
+        Ok(value) => sample.prop(offset.parse().unwrap_or(0), &value),
+        Err(fault) => Err(fault),
+    }
+}
+
 // Does what a word of a script says: `+NAME` begins a node and `-` ends one, `|NAME` is a node by
 // itself, `.` is a NOP, `OFFSET=VALUE` and `OFFSET:HEX` are properties, and `#HEX` is a word.
 fn put_word(alloc: Global, sample: &mut Sample<Global>, word: &str) -> Result<(), AllocError> {
     if let Some(name) = word.strip_prefix('+') {
-        return sample.begin(&plain(alloc, name)?);
-    }
-    if let Some(name) = word.strip_prefix('|') {
-        sample.begin(&plain(alloc, name)?)?;
-        return sample.end_node();
-    }
-    if let Some(digits) = word.strip_prefix('#') {
-        return sample.word(u32::from_str_radix(digits, 16).unwrap_or(0));
-    }
-    if let Some((offset, value)) = word.split_once('=') {
-        return sample.prop(offset.parse().unwrap_or(0), &plain(alloc, value)?);
-    }
-    if let Some((offset, value)) = word.split_once(':') {
-        return sample.prop(offset.parse().unwrap_or(0), &unhex(alloc, value)?);
-    }
-    match word {
-        "." => sample.nop(),
-        "ALL" => put_keys(sample),
-        _ => sample.end_node(),
+        begin(alloc, sample, name)
+    } else if let Some(name) = word.strip_prefix('|') {
+        put_node(alloc, sample, name)
+    } else if let Some(digits) = word.strip_prefix('#') {
+        sample.word(u32::from_str_radix(digits, 16).unwrap_or(0))
+    } else if let Some((offset, value)) = word.split_once('=') {
+        put_prop(sample, offset, plain(alloc, value))
+    } else if let Some((offset, value)) = word.split_once(':') {
+        put_prop(sample, offset, unhex(alloc, value))
+    } else {
+        match word {
+            "." => sample.nop(),
+            "ALL" => put_keys(sample),
+            _ => sample.end_node(),
+        }
     }
 }
 
@@ -124,18 +146,26 @@ fn counted(word: &str) -> (u32, &str) {
     }
 }
 
-// The blob of a script: words with commas between them, and after a `/` the strings.
-fn scripted(alloc: Global, script: &str) -> Result<Vec<u8>, AllocError> {
-    let (words, strings) = script.split_once('/').unwrap_or((script, ""));
-    let mut sample = Sample::new(alloc);
+// Does what words with commas between them say.
+fn put_words(alloc: Global, sample: &mut Sample<Global>, words: &str) -> Result<(), AllocError> {
     for word in words.split(',') {
         let (count, word) = counted(word);
         for _ in 0..count {
-            put_word(alloc, &mut sample, word)?;
+            put_word(alloc, sample, word)?;
         }
     }
-    let strings = if strings == "KEYS" { KEYS } else { strings };
-    sample.finish(alloc, &plain(alloc, strings)?)
+    Ok(())
+}
+
+// The blob of a script: words with commas between them, and after a `/` the strings.
+fn scripted(alloc: Global, script: &str) -> Result<Vec<u8>, AllocError> {
+    let (words, strings) = script.split_once('/').unwrap_or((script, ""));
+    let strings = plain(alloc, if strings == "KEYS" { KEYS } else { strings })?;
+    let mut sample = Sample::new(alloc);
+    match put_words(alloc, &mut sample, words) {
+        Ok(()) => sample.finish(alloc, &strings),
+        Err(fault) => Err(fault),
+    }
 }
 
 // Puts bytes into a blob, from a place on.
@@ -151,13 +181,16 @@ fn put_bytes(blob: &mut [u8], at: usize, bytes: &[u8]) {
 fn edit(alloc: Global, blob: &mut Vec<u8>, word: &str) -> Result<(), AllocError> {
     if let Some(length) = word.strip_prefix('<') {
         blob.truncate(length.parse().unwrap_or(0));
+        Ok(())
     } else if let Some(text) = word.strip_prefix('>') {
-        blob.extend_from_slice(text.as_bytes())?;
+        blob.extend_from_slice(text.as_bytes())
     } else if let Some((at, digits)) = word.split_once('=') {
         let bytes = unhex(alloc, digits)?;
         put_bytes(blob, at.parse().unwrap_or(0), &bytes);
+        Ok(())
+    } else {
+        Ok(())
     }
-    Ok(())
 }
 
 // The blob of a name, of hexadecimal digits, or of a script.

@@ -1,6 +1,7 @@
 //! What is looked up in a blob that is indexed.
 ghost use Rattle.std.specs.Prelude.{◌<◌, length};
 
+use super::answers::is_said;
 use super::made::{made, shown};
 use std::alloc::{AllocError, Global};
 use std::test::Fail;
@@ -52,8 +53,8 @@ fn placed(alloc: Global, span: Option<Span>) -> Result<String, AllocError> {
 fn links(alloc: Global, blob: Blob, room: &Room<Global>, node: usize) -> Result<String, AllocError>
     requires { node < length room.now.entries }
 {
-    let child = shown(alloc, blob.first_child(room, node))?;
-    let next = shown(alloc, blob.next_sibling(room, node))?;
+    let child = shown(blob.first_child(room, node));
+    let next = shown(blob.next_sibling(room, node));
     let kind = if blob.is_hash(room, node) {
         "hash"
     } else {
@@ -472,19 +473,21 @@ const ROWS: [(&str, &str, usize, &str, &str); 88] = [
     ("mixed-values", "mixed", 0, "name", "60+0"),
 ];
 
+// What a look-up gives in a blob of some bytes.
+fn found_in(alloc: Global, bytes: &[u8], node: usize, what: &str) -> Result<String, AllocError> {
+    let mut room = Room::new(alloc);
+    match index(&mut MemSource::new(bytes), &mut room) {
+        Ok(blob) => looked_up(alloc, blob, &room, node, what),
+        Err(fault) => format!(in alloc; "refused: {fault}"),
+    }
+}
+
 #[test]
 fn node_rows(rt: HostRuntime) -> Result<(), Fail> {
-    let alloc = rt.alloc();
-    let mut room = Room::new(alloc);
     for (name, text, node, what, wanted) in &ROWS {
-        let bytes = made(alloc, text)?;
-        match index(&mut MemSource::new(&bytes), &mut room) {
-            Ok(blob) => {
-                let found = looked_up(alloc, blob, &room, *node, what)?;
-                assert_eq!(rt; found.as_str(), *wanted, "{name}: {text} {what} of {node}");
-            }
-            Err(fault) => panic!(rt; "{name}: {text} is refused: {fault}"),
-        }
+        let bytes = made(rt.alloc(), text)?;
+        let found = found_in(rt.alloc(), &bytes, *node, what);
+        is_said(&rt, found, wanted, name, *node as u64);
     }
     Ok(())
 }

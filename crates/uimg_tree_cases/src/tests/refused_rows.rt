@@ -1,7 +1,7 @@
 //! Sources that are refused, each with the line that the program prints, and sources that are compiled.
+use super::answers::is_said;
 use super::sources::{NAMED, source};
 use std::alloc::{AllocError, Global};
-use std::test::Fail;
 use uimg_base::{Files, MemFiles};
 use uimg_its::compile;
 
@@ -15,6 +15,11 @@ pub(super) fn answer<F: Files>(
         Ok(_) => format!(in alloc; "compiled"),
         Err(fault) => format!(in alloc; "{fault}"),
     }
+}
+
+// The same over the files of the tests.
+fn answered(alloc: Global, text: &[u8]) -> Result<String, AllocError> {
+    answer(alloc, text, &mut MemFiles::new(&NAMED))
 }
 
 // Sources and their answers.
@@ -190,30 +195,20 @@ const ROWS: [(&str, &str); 70] = [
 ];
 
 #[test]
-fn source_answers(rt: HostRuntime) -> Result<(), Fail> {
-    let alloc = rt.alloc();
+fn source_answers(rt: HostRuntime) {
     for (text, wanted) in &ROWS {
-        let text = source(text).as_bytes();
-        let found = answer(alloc, text, &mut MemFiles::new(&NAMED))?;
-        assert_eq!(rt;
-            found.as_str(),
-            *wanted,
-            "{}",
-            str::from_utf8(text).unwrap_or("")
-        );
+        let found = answered(rt.alloc(), source(text).as_bytes());
+        is_said(&rt, found, wanted, text, 0);
     }
-    Ok(())
 }
 
 // Bytes that begin no word.
 #[test]
-fn stray_bytes(rt: HostRuntime) -> Result<(), Fail> {
-    let alloc = rt.alloc();
+fn stray_bytes(rt: HostRuntime) {
     for byte in *b"!$%\\~|^\0\x7f\xff" {
-        let found = answer(alloc, &[byte], &mut MemFiles::new(&NAMED))?;
-        assert_eq!(rt; found.as_str(), "I1 bad token at line 1", "{byte}");
+        let found = answered(rt.alloc(), &[byte]);
+        is_said(&rt, found, "I1 bad token at line 1", "byte", byte as u64);
     }
-    Ok(())
 }
 
 // A beginning, how often what follows stands, both parts of it, the end, and the answer: 64 levels are
@@ -250,8 +245,8 @@ const LONG_ROWS: [(&str, usize, &str, &str, &str, &str); 7] = [
     ("/dts-v1/;\n/ {\n", 256, "a", "", ":\nb;\n};", "compiled"),
 ];
 
-// A beginning, two parts so often each, and an end.
-fn long_text(
+/// A beginning, two parts so often each, and an end.
+pub(super) fn long_text(
     alloc: Global,
     head: &str,
     count: usize,
@@ -270,29 +265,36 @@ fn long_text(
     Ok(text)
 }
 
+// The answer for such a text.
+fn answered_long(
+    alloc: Global,
+    head: &str,
+    count: usize,
+    one: &str,
+    other: &str,
+    tail: &str,
+) -> Result<String, AllocError> {
+    let text = long_text(alloc, head, count, one, other, tail)?;
+    answered(alloc, text.as_bytes())
+}
+
 #[test]
-fn long_sources(rt: HostRuntime) -> Result<(), Fail> {
-    let alloc = rt.alloc();
+fn long_sources(rt: HostRuntime) {
     for (head, count, one, other, tail, wanted) in &LONG_ROWS {
-        let text = long_text(alloc, head, *count, one, other, tail)?;
-        let found = answer(alloc, text.as_bytes(), &mut MemFiles::new(&NAMED))?;
-        assert_eq!(rt; found.as_str(), *wanted, "{count} of {one}, {tail}");
+        let found = answered_long(rt.alloc(), head, *count, one, other, tail);
+        is_said(&rt, found, wanted, tail, *count as u64);
     }
-    Ok(())
 }
 
 // A text that ends too early, at each of its words, is I2.
 #[test]
-fn every_cut(rt: HostRuntime) -> Result<(), Fail> {
-    let alloc = rt.alloc();
+fn every_cut(rt: HostRuntime) {
     let text = b"/dts-v1/ ; / { a : b = < 1 > , [ 00 ] , /incbin/ ( \"a\" ) ; c { d ; } ; } ; ";
     for n in 0..text.len() - 2 {
         if text[n] == b' ' {
-            let found = answer(alloc, &text[..n], &mut MemFiles::new(&NAMED))?;
-            assert_eq!(rt; found.as_str(), "I2 bad syntax at line 1", "{n} bytes");
+            let found = answered(rt.alloc(), &text[..n]);
+            is_said(&rt, found, "I2 bad syntax at line 1", "cut", n as u64);
         }
     }
-    let found = answer(alloc, text, &mut MemFiles::new(&NAMED))?;
-    assert_eq!(rt; found.as_str(), "compiled");
-    Ok(())
+    is_said(&rt, answered(rt.alloc(), text), "compiled", "whole", 0);
 }

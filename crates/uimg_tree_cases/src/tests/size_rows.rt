@@ -1,5 +1,6 @@
 //! Blobs of trees by their sizes.
 use super::bytes::unhex;
+use super::refused_rows::long_text;
 use super::sources::{blob_of, tree_of};
 use super::tree_rows::nodes_in;
 use super::trees::{chain, prop, root_in_file, root_of};
@@ -42,16 +43,22 @@ fn blob_of_property(
     Ok(blob_of(alloc, &tree, &[]))
 }
 
+// Whether the blob of a property ends so, at a multiple of 4.
+fn is_padded(alloc: Global, name: &str, value: &str, end: &[u8]) -> bool {
+    match blob_of_property(alloc, name.as_bytes(), value.as_bytes()) {
+        Ok(Some(blob)) => blob.ends_with(end) && blob.len() % 4 == 0,
+        _ => false,
+    }
+}
+
 #[test]
 fn padded_rows(rt: HostRuntime) -> Result<(), Fail> {
-    let alloc = rt.alloc();
     for (name, value, end) in &PADDED_ROWS {
-        let end = unhex(alloc, end)?;
-        let blob = blob_of_property(alloc, name.as_bytes(), value.as_bytes())?.unwrap_or(Vec::new(
-            alloc,
-        ));
-        assert!(rt; blob.ends_with(&end), "{name} = {value}");
-        assert_eq!(rt; blob.len() % 4, 0, "{name} = {value}");
+        let end = unhex(rt.alloc(), end)?;
+        assert!(rt;
+            is_padded(rt.alloc(), name, value, &end),
+            "{name} = {value}"
+        );
     }
     Ok(())
 }
@@ -87,17 +94,28 @@ const LENGTH_ROWS: [(usize, usize, usize); 10] = [
     (4, 8193, 8288),
 ];
 
-#[test]
-fn length_rows(rt: HostRuntime) -> Result<(), Fail> {
-    let alloc = rt.alloc();
-    for (name, value, length) in &LENGTH_ROWS {
-        let one = blob_in_memory(alloc, *name, *value)?.unwrap_or(Vec::new(alloc));
-        let other = blob_in_file(alloc, *name, *value)?.unwrap_or(Vec::new(alloc));
-        assert_eq!(rt; one.len(), *length, "{name}, {value}");
-        assert!(rt; one.as_slice() == other.as_slice(), "{name}, {value}");
-        assert_eq!(rt; nodes_in(alloc, &one), 1, "{name}, {value}");
+// The length of such a blob of one node, the same from memory and from a file; 0 for any other.
+fn length_of(alloc: Global, name: usize, value: usize) -> usize {
+    let one = blob_in_memory(alloc, name, value);
+    let other = blob_in_file(alloc, name, value);
+    match (one, other) {
+        (Ok(Some(one)), Ok(Some(other))) => {
+            if one.as_slice() == other.as_slice() && nodes_in(alloc, &one) == 1 {
+                one.len()
+            } else {
+                0
+            }
+        }
+        _ => 0,
     }
-    Ok(())
+}
+
+#[test]
+fn length_rows(rt: HostRuntime) {
+    for (name, value, length) in &LENGTH_ROWS {
+        let found = length_of(rt.alloc(), *name, *value);
+        assert_eq!(rt; found, *length, "{name}, {value}");
+    }
 }
 
 // How many nodes the blob of so many levels has.
@@ -115,21 +133,24 @@ fn deep_trees(rt: HostRuntime) -> Result<(), Fail> {
     Ok(())
 }
 
+// The length of the blob of a source's tree, if it has one node; 0 otherwise.
+fn length_of_source(alloc: Global, text: &str) -> usize {
+    let Some(tree) = tree_of(alloc, text) else {
+        return 0;
+    };
+    match blob_of(alloc, &tree, &[]) {
+        Some(blob) if nodes_in(alloc, &blob) == 1 => blob.len(),
+        _ => 0,
+    }
+}
+
+const EIGHT: &str = " a = [76616c7565]; b = [76616c7565]; c = [76616c7565]; d = [76616c7565]; \
+e = [76616c7565]; f = [76616c7565]; g = [76616c7565]; h = [76616c7565];";
+
 // Many properties of few names.
 #[test]
 fn many_properties(rt: HostRuntime) -> Result<(), Fail> {
-    let alloc = rt.alloc();
-    let mut text = String::from_str(alloc, "/dts-v1/; / {")?;
-    for _turn in 0..1000u32 {
-        text.push_str(" a = [76616c7565]; b = [76616c7565]; c = [76616c7565]; d = [76616c7565];")?;
-        text.push_str(" e = [76616c7565]; f = [76616c7565]; g = [76616c7565]; h = [76616c7565];")?;
-    }
-    text.push_str(" };")?;
-    let Some(tree) = tree_of(alloc, text.as_str()) else {
-        panic!(rt; "the source is refused");
-    };
-    let blob = blob_of(alloc, &tree, &[]).unwrap_or(Vec::new(alloc));
-    assert_eq!(rt; blob.len(), 160_088);
-    assert_eq!(rt; nodes_in(alloc, &blob), 1);
+    let text = long_text(rt.alloc(), "/dts-v1/; / {", 1000, EIGHT, "", " };")?;
+    assert_eq!(rt; length_of_source(rt.alloc(), text.as_str()), 160_088);
     Ok(())
 }

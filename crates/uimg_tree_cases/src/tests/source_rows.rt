@@ -1,4 +1,5 @@
 //! The trees of sources, and files that fail while sources are compiled.
+use super::answers::is_said;
 use super::bytes::unhex;
 use super::refused_rows::answer;
 use super::sources::{NAMED, source, tree_of};
@@ -35,18 +36,23 @@ const VALUE_ROWS: [(&str, &str); 14] = [
     ("\"\"", "00"),
 ];
 
+// Whether these bytes are the value of a root's only property.
+fn is_value(tree: &Tree<Global>, bytes: &[u8]) -> bool {
+    match tree.root.props.items() {
+        [own] => match &own.value {
+            Value::Bytes(list) => list.items() == bytes,
+            Value::File { .. } => false,
+        },
+        _ => false,
+    }
+}
+
 // Whether a value gives these bytes.
 fn gives(alloc: Global, value: &str, bytes: &[u8]) -> Result<bool, AllocError> {
     let text = format!(in alloc; "/dts-v1/; / {{ v = {value}; }};")?;
-    let Some(tree) = tree_of(alloc, text.as_str()) else {
-        return Ok(false);
-    };
-    match tree.root.props.items() {
-        [own] => match &own.value {
-            Value::Bytes(list) => Ok(list.items() == bytes),
-            Value::File { .. } => Ok(false),
-        },
-        _ => Ok(false),
+    match tree_of(alloc, text.as_str()) {
+        Some(tree) => Ok(is_value(&tree, bytes)),
+        None => Ok(false),
     }
 }
 
@@ -154,13 +160,11 @@ fn part_of_source(
 }
 
 #[test]
-fn part_rows(rt: HostRuntime) -> Result<(), Fail> {
-    let alloc = rt.alloc();
+fn part_rows(rt: HostRuntime) {
     for (text, path, number, wanted) in &PART_ROWS {
-        let found = part_of_source(alloc, text, path, *number)?;
-        assert_eq!(rt; found.as_str(), *wanted, "{text}: {number} at {path}");
+        let found = part_of_source(rt.alloc(), text, path, *number);
+        is_said(&rt, found, wanted, text, *number as u64);
     }
-    Ok(())
 }
 
 // A file that stays a file, one of 8193 bytes that is read, and three that are opened in the order of
@@ -218,22 +222,20 @@ fn fused<F: Files + Drop>(
     turn: u64,
     calls: u64,
 ) -> Result<String, AllocError> {
-    answer(
-        alloc,
-        text.as_bytes(),
-        &mut FuseFiles::new(files, from, turn, calls),
-    )
+    let mut files = FuseFiles::new(files, from, turn, calls);
+    answer(alloc, text.as_bytes(), &mut files)
 }
 
+const BIG_FILE: [u8; 8193] = [7; 8193];
+
+const FILES: [(&[u8], &[u8]); 3] = [(b"a", b"abc"), (b"abc.bin", b"abc"), (b"big", &BIG_FILE)];
+
 #[test]
-fn file_rows(rt: HostRuntime) -> Result<(), Fail> {
-    let alloc = rt.alloc();
-    let big = [7u8; 8193];
-    let named: [(&[u8], &[u8]); 3] = [(b"a", b"abc"), (b"abc.bin", b"abc"), (b"big", &big)];
-    for (name, from, turn, calls, wanted) in &FILE_ROWS {
-        let text = filed(name);
-        let found = fused(alloc, text, MemFiles::new(&named), *from, *turn, *calls)?;
-        assert_eq!(rt; found.as_str(), *wanted, "{name}: {from}, {turn}, {calls}");
+fn file_rows(rt: HostRuntime) {
+    for (number, row) in FILE_ROWS.iter().enumerate() {
+        let (name, from, turn, calls, wanted) = *row;
+        let files = MemFiles::new(&FILES);
+        let found = fused(rt.alloc(), filed(name), files, from, turn, calls);
+        is_said(&rt, found, wanted, name, number as u64);
     }
-    Ok(())
 }

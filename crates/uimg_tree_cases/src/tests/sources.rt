@@ -2,7 +2,7 @@
 use std::alloc::Global;
 use uimg_base::{MemFiles, Out};
 use uimg_its::compile;
-use uimg_tree::{Tree, measure, write_tree};
+use uimg_tree::{Tree, WORD_ALIGNMENT, measure, write_tree};
 
 /// The files of the tests.
 pub(super) const NAMED: [(&[u8], &[u8]); 2] = [(b"a", b"abc"), (b"abc.bin", b"abc")];
@@ -88,7 +88,17 @@ pub(super) fn blob_of(
     tree: &Tree<Global>,
     named: &[(&[u8], &[u8])],
 ) -> Option<Vec<u8>> {
-    let layout = measure(alloc, tree).ok()?;
+    blob_by(alloc, tree, WORD_ALIGNMENT, named)
+}
+
+/// The same by an alignment.
+pub(super) fn blob_by(
+    alloc: Global,
+    tree: &Tree<Global>,
+    align: u32,
+    named: &[(&[u8], &[u8])],
+) -> Option<Vec<u8>> {
+    let layout = measure(alloc, tree, align).ok()?;
     let mut files = MemFiles::new(named);
     let mut out = Out::new(Vec::new(alloc));
     let answer = write_tree(tree, &layout, &mut files, &mut out);

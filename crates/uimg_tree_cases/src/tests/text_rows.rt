@@ -50,23 +50,28 @@ const MIXED_ROWS: [(u64, u64, &str); 5] = [
     (0, 4, "d00dfeed"),
 ];
 
+// Whether a text is written, and is short.
+fn is_text(alloc: Global, bytes: &[u8], place: u64, length: u64, wanted: &[u8]) -> bool {
+    if place > 100 || length > 100 || (bytes.len() as u64) < place + length {
+        return false;
+    }
+    let at = Span { place, length };
+    match written(alloc, bytes, at) {
+        Some(text) => { text.as_slice() == wanted && short(bytes, at, wanted) == wanted.len() }
+        None => false,
+    }
+}
+
 #[test]
 fn texts_of_mixed_values(rt: HostRuntime) -> Result<(), Fail> {
     let alloc = rt.alloc();
     let bytes = made(alloc, "mixed")?;
     for (place, length, text) in &MIXED_ROWS {
         let wanted = unhex(alloc, text)?;
-        let at = Span {
-            place: *place,
-            length: *length,
-        };
-        assert!(rt; *place <= 100 && *length <= 100 && bytes.len() as u64 >= *place + *length);
-        let text = written(alloc, &bytes, at);
         assert!(rt;
-            text.is_some_and(|text| text.as_slice() == wanted.as_slice()),
+            is_text(alloc, &bytes, *place, *length, &wanted),
             "at {place}"
         );
-        assert_eq!(rt; short(&bytes, at, &wanted), wanted.len(), "at {place}");
     }
     Ok(())
 }
@@ -98,6 +103,16 @@ fn letters(alloc: Global, count: usize, end: usize) -> Result<Vec<u8>, AllocErro
     Ok(bytes)
 }
 
+// The lengths of a text that is written and of the short one.
+fn lengths_of(alloc: Global, bytes: &[u8], at: Span) -> Option<(usize, usize)>
+    requires { at.place + at.length ≤ length bytes.now }
+{
+    match written(alloc, bytes, at) {
+        Some(text) => Some((text.len(), short(bytes, at, b""))),
+        None => None,
+    }
+}
+
 #[test]
 fn texts_of_letters(rt: HostRuntime) -> Result<(), Fail> {
     let alloc = rt.alloc();
@@ -108,13 +123,8 @@ fn texts_of_letters(rt: HostRuntime) -> Result<(), Fail> {
             length: *length,
         };
         assert!(rt; bytes.len() as u64 >= *length);
-        let held = written(alloc, &bytes, at);
-        assert_eq!(rt;
-            held.map(|held| held.len()),
-            Some(*text),
-            "{end} of {length}"
-        );
-        assert_eq!(rt; short(&bytes, at, b""), *wanted, "{end} of {length}");
+        let lengths = lengths_of(alloc, &bytes, at);
+        assert!(rt; lengths == Some((*text, *wanted)), "{end} of {length}");
     }
     Ok(())
 }
@@ -124,22 +134,27 @@ const ALL: Span = Span {
     length: 112,
 };
 
+// What is answered, and how much is written, where so many bytes are taken of a text of 112.
+fn put_to(alloc: Global, bytes: &[u8; 112], takes: u64) -> (Result<(), MoveFault>, usize) {
+    let mut room = Room::new(alloc);
+    let mut out = Out::new(FuseWriter::new(Vec::new(alloc), takes));
+    let put = put_text(&mut MemSource::new(bytes), &mut room, ALL, &mut out);
+    (put, out.into_inner().into_inner().len())
+}
+
 // A write that takes some bytes and then fails leaves a prefix of the text.
 #[test]
 fn writes_of_a_text_fail(rt: HostRuntime) {
     let alloc = rt.alloc();
     let bytes = [b'x'; 112];
-    let mut room = Room::new(alloc);
     for takes in 0..113u64 {
-        let mut out = Out::new(FuseWriter::new(Vec::new(alloc), takes));
-        let put = put_text(&mut MemSource::new(&bytes), &mut room, ALL, &mut out);
         let wanted = if takes < 112 {
             Err(MoveFault::Put)
         } else {
             Ok(())
         };
-        assert_eq!(rt; put, wanted, "{takes} are taken");
-        assert_eq!(rt; out.into_inner().into_inner().len() as u64, takes);
+        let left = put_to(alloc, &bytes, takes);
+        assert!(rt; left == (wanted, takes as usize), "{takes} are taken");
     }
 }
 
@@ -151,9 +166,7 @@ fn reads_of_a_text_fail(rt: HostRuntime) {
     let mut room = Room::new(rt.alloc());
     let mut out = Out::new(Vec::new(rt.alloc()));
     let put = put_text(&mut source, &mut room, ALL, &mut out);
-    assert_eq!(rt; put, Err(MoveFault::Read));
-    assert_eq!(rt; source.failures(), 1);
+    assert!(rt; put == Err(MoveFault::Read) && source.failures() == 1);
     let read = short_text(&mut source, ALL, &mut [0; 32]);
-    assert_eq!(rt; read, Err(SourceFault));
-    assert_eq!(rt; source.failures(), 2);
+    assert!(rt; read == Err(SourceFault) && source.failures() == 2);
 }

@@ -51,11 +51,20 @@ fn blob_of_source(alloc: Global, text: &str) -> Option<Vec<u8>> {
     blob_of(alloc, &tree, &NAMED)
 }
 
+// A copy of a tree.
+fn copied(alloc: Global, tree: &Tree<Global>) -> Option<Tree<Global>> {
+    match copy_node(alloc, &tree.root) {
+        Ok(root) => Some(Tree { root }),
+        Err(_) => None,
+    }
+}
+
 // The blob of a copy of it.
 fn blob_of_copy(alloc: Global, text: &str) -> Option<Vec<u8>> {
-    let tree = tree_of(alloc, text)?;
-    let root = copy_node(alloc, &tree.root).ok()?;
-    blob_of(alloc, &Tree { root }, &NAMED)
+    match tree_of(alloc, text) {
+        Some(tree) => blob_of(alloc, &copied(alloc, &tree)?, &NAMED),
+        None => None,
+    }
 }
 
 // A copy of a tree is written as the tree is.

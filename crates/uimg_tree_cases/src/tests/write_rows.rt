@@ -1,4 +1,5 @@
 //! What `write_tree` and `put_padded` answer and leave where files or the output fail.
+use super::answers::is_said;
 use super::bytes::unhex;
 use super::sources::{FAMILY, NAMED, blob_of, tree_of};
 use super::trees::in_file;
@@ -7,7 +8,8 @@ use std::test::Fail;
 use uimg_base::{Files, FuseFiles, FuseWriter, MemFiles, Out, WINDOW};
 use uimg_its::compile;
 use uimg_tree::{
-    ByteList, Tree, TreeFault, Value, copy_value, measure, put_padded, value_size, write_tree,
+    ByteList, Tree, TreeFault, Value, WORD_ALIGNMENT, copy_value, measure, put_aligned, value_size,
+    write_tree,
 };
 
 // An answer in words, and how many bytes were written.
@@ -34,7 +36,7 @@ fn fused<F: Files + Drop>(
 ) -> Result<String, AllocError> {
     let mut files = FuseFiles::new(files, from, 0, calls);
     let mut out = Out::new(Vec::new(alloc));
-    let Ok(layout) = measure(alloc, tree) else {
+    let Ok(layout) = measure(alloc, tree, WORD_ALIGNMENT) else {
         return format!(in alloc; "no layout");
     };
     let answer = write_tree(tree, &layout, &mut files, &mut out);
@@ -64,6 +66,13 @@ const FILE_ROWS: [(usize, usize, &str, u64, u64, &str); 13] = [
     (8193, 8193, "abc.bin", 1, 3, "written, 8384"),
 ];
 
+const BYTES: [u8; 8193] = [0x5a; 8193];
+
+// So many bytes of a file.
+fn bytes(count: usize) -> &'static [u8] {
+    BYTES.get(..count).unwrap_or(&[])
+}
+
 // The answer of a row.
 fn kept_as(
     alloc: Global,
@@ -80,47 +89,53 @@ fn kept_as(
 }
 
 #[test]
-fn file_rows(rt: HostRuntime) -> Result<(), Fail> {
-    let alloc = rt.alloc();
-    for (kept, held, name, from, calls, wanted) in &FILE_ROWS {
-        let first = Vec::from_elem(alloc, 0x5au8, *kept)?;
-        let then = Vec::from_elem(alloc, 0x5au8, *held)?;
-        let kept_files: [(&[u8], &[u8]); 1] = [(b"abc.bin", &first)];
-        let held_files: [(&[u8], &[u8]); 1] = [(name.as_bytes(), &then)];
-        let answer = kept_as(alloc, &kept_files, &held_files, *from, *calls)?;
-        assert_eq!(rt;
-            answer.as_str(),
-            *wanted,
-            "{kept}, {held}, {name}, {from}, {calls}"
-        );
+fn file_rows(rt: HostRuntime) {
+    for (number, row) in FILE_ROWS.iter().enumerate() {
+        let (kept, held, name, from, calls, wanted) = *row;
+        let first: [(&[u8], &[u8]); 1] = [(b"abc.bin", bytes(kept))];
+        let then: [(&[u8], &[u8]); 1] = [(name.as_bytes(), bytes(held))];
+        let answer = kept_as(rt.alloc(), &first, &then, from, calls);
+        is_said(&rt, answer, wanted, name, number as u64);
     }
-    Ok(())
 }
 
-// A writer that takes so many bytes leaves that prefix.
-#[test]
-fn each_write_failing(rt: HostRuntime) -> Result<(), Fail> {
-    let alloc = rt.alloc();
-    let Some(tree) = tree_of(alloc, "family") else {
-        panic!(rt; "the source is refused");
+// Whether a writer that takes so many bytes of a tree's blob leaves that prefix.
+fn leaves_prefix(alloc: Global, tree: &Tree<Global>, whole: &[u8], taken: usize) -> bool {
+    let Ok(layout) = measure(alloc, tree, WORD_ALIGNMENT) else {
+        return false;
+    };
+    let mut out = Out::new(FuseWriter::new(Vec::new(alloc), taken as u64));
+    let answer = write_tree(tree, &layout, &mut MemFiles::new(&NAMED), &mut out);
+    let wanted = if taken < whole.len() {
+        Err(TreeFault::Put)
+    } else {
+        Ok(())
+    };
+    let written = out.into_inner().into_inner();
+    answer == wanted && written.len() == taken && whole.starts_with(&written)
+}
+
+// How many writers, from one that takes nothing to one that takes all, leave what they have to of a
+// source's blob of 192 bytes.
+fn prefixes(alloc: Global, text: &str) -> usize {
+    let Some(tree) = tree_of(alloc, text) else {
+        return 0;
     };
     let whole = blob_of(alloc, &tree, &NAMED).unwrap_or(Vec::new(alloc));
-    let layout = measure(alloc, &tree)?;
-    assert_eq!(rt; whole.len(), 192);
-    for taken in 0..193usize {
-        let mut out = Out::new(FuseWriter::new(Vec::new(alloc), taken as u64));
-        let answer = write_tree(&tree, &layout, &mut MemFiles::new(&NAMED), &mut out);
-        let wanted = if taken < 192 {
-            Err(TreeFault::Put)
-        } else {
-            Ok(())
-        };
-        assert!(rt; answer == wanted, "{taken} are taken");
-        let written = out.into_inner().into_inner();
-        assert_eq!(rt; written.len(), taken);
-        assert!(rt; whole.starts_with(&written), "{taken} are taken");
+    if whole.len() != 192 {
+        return 0;
     }
-    Ok(())
+    for taken in 0..193usize {
+        if !leaves_prefix(alloc, &tree, &whole, taken) {
+            return taken;
+        }
+    }
+    193
+}
+
+#[test]
+fn each_write_failing(rt: HostRuntime) {
+    assert_eq!(rt; prefixes(rt.alloc(), "family"), 193);
 }
 
 // What is answered, and written, for a value over files that fail.
@@ -134,7 +149,7 @@ fn put<F: Files + Drop>(
     let mut files = FuseFiles::new(files, 1, 0, calls);
     let mut window = [0; WINDOW];
     let mut out = Out::new(FuseWriter::new(Vec::new(alloc), taken));
-    let answer = put_padded(value, &mut files, &mut window, &mut out);
+    let answer = put_aligned(value, WORD_ALIGNMENT, &mut files, &mut window, &mut out);
     (answer, out.into_inner().into_inner())
 }
 
@@ -148,26 +163,50 @@ const PADDED_ROWS: [(&str, &str); 6] = [
     ("12345", "3132333435000000"),
 ];
 
-// Whether a value and its copy have this size, and are written so.
+// Whether a value has this size, and is written so.
 fn is_written(alloc: Global, value: &Value<Global>, content: &[u8], wanted: &[u8]) -> bool {
     let named: [(&[u8], &[u8]); 1] = [(b"f", content)];
     let (answer, written) = put(alloc, value, MemFiles::new(&named), 9, 9);
     answer.is_ok() && written.as_slice() == wanted && value_size(value) == content.len() as u64
 }
 
+// The same of a value and its copy.
+fn are_written(alloc: Global, value: &Value<Global>, content: &[u8], wanted: &[u8]) -> bool {
+    match copy_value(alloc, value) {
+        Ok(copy) => {
+            is_written(alloc, value, content, wanted) && is_written(alloc, &copy, content, wanted)
+        }
+        Err(_) => false,
+    }
+}
+
+// A value in memory.
+fn in_memory(alloc: Global, content: &[u8]) -> Result<Value<Global>, AllocError> {
+    let bytes = Vec::from_slice(alloc, content)?;
+    Ok(Value::Bytes(ByteList::of(bytes)))
+}
+
+// Whether a content is written so from memory and from a file.
+fn is_padded(alloc: Global, content: &[u8], wanted: &[u8]) -> bool {
+    match (
+        in_memory(alloc, content),
+        in_file(alloc, content.len() as u64),
+    ) {
+        (Ok(one), Ok(other)) => {
+            are_written(alloc, &one, content, wanted) && are_written(alloc, &other, content, wanted)
+        }
+        _ => false,
+    }
+}
+
 #[test]
 fn padded_values(rt: HostRuntime) -> Result<(), Fail> {
-    let alloc = rt.alloc();
     for (content, wanted) in &PADDED_ROWS {
-        let content = content.as_bytes();
-        let wanted = unhex(alloc, wanted)?;
-        let in_memory = Value::Bytes(ByteList::of(Vec::from_slice(alloc, content)?));
-        let in_file = in_file(alloc, content.len() as u64)?;
-        for value in [&in_memory, &in_file] {
-            let copy = copy_value(alloc, value)?;
-            assert!(rt; is_written(alloc, value, content, &wanted));
-            assert!(rt; is_written(alloc, &copy, content, &wanted));
-        }
+        let wanted = unhex(rt.alloc(), wanted)?;
+        assert!(rt;
+            is_padded(rt.alloc(), content.as_bytes(), &wanted),
+            "{content}"
+        );
     }
     Ok(())
 }
@@ -191,20 +230,28 @@ const VALUE_ROWS: [(&str, u64, u64, &str); 14] = [
     ("12345", 2, 7, "write failed, 7"),
 ];
 
-#[test]
-fn value_rows(rt: HostRuntime) -> Result<(), Fail> {
-    let alloc = rt.alloc();
+// The answer for such a value over some files.
+fn put_in_words(
+    alloc: Global,
+    named: &[(&[u8], &[u8])],
+    calls: u64,
+    taken: u64,
+) -> Result<String, AllocError> {
     let value = in_file(alloc, 5)?;
+    let (answer, written) = put(alloc, &value, MemFiles::new(named), calls, taken);
+    if b"12345\0\0\0".starts_with(&written) {
+        told(alloc, answer, written.len())
+    } else {
+        format!(in alloc; "no prefix")
+    }
+}
+
+#[test]
+fn value_rows(rt: HostRuntime) {
     for (content, calls, taken, wanted) in &VALUE_ROWS {
         let name = if *content == "none" { "g" } else { "f" };
         let named: [(&[u8], &[u8]); 1] = [(name.as_bytes(), content.as_bytes())];
-        let (answer, written) = put(alloc, &value, MemFiles::new(&named), *calls, *taken);
-        assert!(rt;
-            b"12345\0\0\0".starts_with(&written),
-            "{content}, {calls}, {taken}"
-        );
-        let answer = told(alloc, answer, written.len())?;
-        assert_eq!(rt; answer.as_str(), *wanted, "{content}, {calls}, {taken}");
+        let answer = put_in_words(rt.alloc(), &named, *calls, *taken);
+        is_said(&rt, answer, wanted, content, *taken);
     }
-    Ok(())
 }

@@ -20,6 +20,9 @@ pub struct CheckRequest<'a> {
 
     /// Whether a NUL ends each path of that file, and not a newline.
     pub has_nuls: bool,
+
+    /// Whether an object of JSON is to be written for each image, and not a line of text.
+    pub as_json: bool,
 }
 
 pub(super) fn command<'a>(alloc: Global) -> Result<clap::Command<'a>, AllocError> {
@@ -41,6 +44,12 @@ pub(super) fn command<'a>(alloc: Global) -> Result<clap::Command<'a>, AllocError
                 .help("Check the images that this file names too, a line each"),
         )?
         .arg(flag(alloc, "nuls", '0', "End each name of that file by a NUL"))?
+        .arg(
+            Arg::new(alloc, "json")
+                .long("json")
+                .action(ArgAction::SetTrue)
+                .help("Write an object of JSON for each image"),
+        )?
         .arg(
             Arg::new(alloc, "image")
                 .action(ArgAction::Append)
@@ -67,5 +76,6 @@ pub(super) fn request<'a>(
         images,
         files_from,
         has_nuls: matches.get_flag("nuls"),
+        as_json: matches.get_flag("json"),
     })
 }

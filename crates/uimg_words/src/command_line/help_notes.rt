@@ -83,7 +83,9 @@ A line for each image: its path, and what was found first.
   refused      The image is refused by this fault
   failed       The file cannot be opened, or a read or memory failed
 Control characters and \\ are written \\xNN in a name. The names of --files-from -
-are those of standard input.
+are those of standard input. With --json a line is an object: path, status,
+verdict (the word), and what is known of format, images, hashes, checksums, algo,
+image, hash, fault, message and offset.
 Signatures and the hashes of configurations are not checked.
 
 Examples:
@@ -95,3 +97,36 @@ Exit status: the greatest of all lines
   1  Another word than these and failed
   2  The command line is wrong
   3  failed, or a line cannot be written";
+
+/// The notes of unpack.
+pub(super) const UNPACK_NOTES: &str = "Algorithms, from the weakest to the strongest:
+  <algo>  crc32 md5 sha1 sha256 sha384 sha512
+
+Each payload is read once: summed while it is written to .uimg-new1 of the
+folder. It gets its name only where each hash of its image is right, and one is
+as strong as --need-hash. A line for each:
+  kernel: 3 bytes, sha256 ba7816..  It is kept; what vouches for it, with which digest
+  kernel: 3 bytes, unhashed         It is kept; its image has no hash
+  kernel: bad hash-1                It is not kept, as this hash is not right
+                                    (malformed, unsupported: as verify tells it)
+  kernel: weak                      It is not kept: no hash is strong enough
+  kernel: overlapping               None is kept: with it there are more bytes than
+                                    the file has
+A file has its image's name where that has letters, digits and . _ - + @ alone,
+begins with neither . nor -, and is that of no payload before it (a and A are the
+same); else it is image-N, N counted from 0 (kernel: 3 bytes as image-1, ..).
+Nothing is written where one of the files is there already, unless --force
+replaces them; then a file whose new payload is refused is removed. In names,
+control characters, \\, spaces, colons and commas are written \\xNN.
+Signatures and the hashes of configurations are not checked. Parts of a legacy
+image are taken out by dumpimage -p.
+
+Examples:
+  uimg unpack -C /srv/tftp --need-hash sha256 kernel.itb
+  uimg unpack --only ramdisk kernel.itb
+
+Exit status:
+  0  All payloads that were asked for are kept
+  1  A payload is refused, there is no such image, or the image is refused
+  2  The command line is wrong, or a file would be the image
+  3  A file cannot be opened, is there already or cannot be written, or memory failed";

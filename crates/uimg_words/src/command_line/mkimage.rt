@@ -5,7 +5,7 @@ use super::{Request, WordsFault, flag, image, value};
 use clap::ArgMatches;
 use std::alloc::{AllocError, Global};
 use uimg_base::{FLAT_DT, arch_code, comp_code, kind_code, os_code};
-use uimg_fit_base::Placement;
+use uimg_fit_base::{Placement, WORD_ALIGNMENT};
 use uimg_legacy::{Options, name_field};
 use uimg_names::Naming;
 use uimg_requests::{Action, Command, Format, MakeRequest, RunRequest, decimal, hexadecimal};
@@ -117,8 +117,13 @@ fn placement(matches: &ArgMatches<'_>) -> Result<Placement, WordsFault> {
     let position = address(matches.get_str("position"), 0)?;
     match (matches.get_flag("external"), position) {
         (false, _) => Ok(Placement::Inside),
-        (true, 0) => Ok(Placement::After),
-        (true, _) => Ok(Placement::At(position)),
+        (true, 0) => Ok(Placement::After {
+            align: WORD_ALIGNMENT,
+        }),
+        (true, _) => Ok(Placement::At {
+            position,
+            align: WORD_ALIGNMENT,
+        }),
     }
 }
 

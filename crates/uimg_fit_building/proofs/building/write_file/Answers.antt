@@ -1,16 +1,28 @@
-use Rattle.std.proofs.Common.{◌≡◌, ℕ, List, Option, IsTrue, is_err, ap, sym, subst, ◌∙◌}
+use Rattle.std.proofs.Common.{◌≡◌, ℕ, List, Option, Bool, true, false, IsTrue, is_err, ap, sym, subst, ◌∙◌}
 use Rattle.std.specs.Bool.{OnFalse}
 use Rattle.std.specs.List.{AllByRecursion}
+use Rattle.uimg_base.specs.Sink.{Sink}
+use Rattle.uimg_base.specs.Writing.{Written}
+use Rattle.uimg_blob.specs.Plain.{Nodes}
 use Rattle.uimg_tree.specs.Content.{Unread, AreKept, IsKept, in_full}
-use Rattle.uimg_tree.specs.Encoding.{encode}
-use Rattle.uimg_tree.specs.Layouts.{plan_of, totalsize}
+use Rattle.uimg_tree.specs.Encoding.{encode_by}
+use Rattle.uimg_tree.specs.Layouts.{Plan, plan_of, totalsize}
 use Rattle.uimg_tree.specs.Trees.{node_of}
+use Rattle.uimg_fit_base.specs.Placements.{align_of}
 use Rattle.uimg_fit_building.specs.Behind.{behind_pieces}
-use Rattle.uimg_fit_building.specs.Building.{moved, behind}
+use Rattle.uimg_fit_building.specs.Building.{placed_blob, behind}
 use Rattle.uimg_fit_building.specs.UnreadTrees.{moved_unread}
 use Rattle.uimg_fit_building.proofs.KeptLaws.{kept-then}
 use Rattle.uimg_fit_building.proofs.SendLaws.{Text, went_well, failed, goes, stops, refused, blob-sent, behind-sent}
 use Rattle.uimg_fit_building.proofs.building.write_file.Goals as goal
+
+-- the blob of a layout is that of its alignment
+blob-by : (b : Bool) (s u : Sink) (t : Nodes) (p q : ℕ) → p ≡ q → Written b s u (encode_by p t) → Written b s u (encode_by q t)
+blob-by b s u t p q same w = subst (λ (align : ℕ). Written b s u (encode_by align t)) same w
+
+pub write_tree-requires : goal.write_tree-requires
+write_tree-requires g c =
+    c.requires.plan ∙ ap (λ (align : ℕ). plan_of align (node_of c.args.placed.now.root)) (sym (ap (λ (p : Plan). p.align) c.requires.plan))
 
 pub returns-in_err-write_tree-clause-sent : goal.returns-in_err-write_tree-clause-sent
 returns-in_err-write_tree-clause-sent g c =
@@ -23,10 +35,11 @@ returns-in_err-write_tree-clause-sent g c =
     let u = c.write_tree.new.out in
     let e = c.in_err-write_tree.field-0.0 in
     let w = c.in_err-write_tree.ensures in
-    let a : Text = λ files. encode (moved (in_full files t) placement) in
+    let a : Text = λ files. placed_blob (in_full files t) placement in
     let b : Text = λ files. behind (in_full files t) placement in
     refused steady t c.from_residual.result e m n s u _ c.from_residual.ensures.1
-    (stops steady t e m n s u a b (blob-sent steady t placement (failed e) m n s u (node_of c.args.placed.now.root) c.requires.placed w.files w.faults w.found w.steady w.written))
+    (stops steady t e m n s u a b (blob-sent steady t placement (failed e) m n s u (node_of c.args.placed.now.root) c.requires.placed w.files w.faults w.found w.steady
+    (λ honest kept. blob-by true s u _ _ _ (ap (λ (p : Plan). p.align) c.requires.plan) (w.written honest kept))))
 
 pub returns-clause-kept : goal.returns-clause-kept
 returns-clause-kept g c = λ honest.
@@ -53,9 +66,10 @@ returns-clause-sent g c =
     let v = c.put_behind.new.out in
     let r = c.put_behind.result in
     let w = c.in_ok-write_tree.ensures in
-    let a : Text = λ files. encode (moved (in_full files t) placement) in
+    let a : Text = λ files. placed_blob (in_full files t) placement in
     let b : Text = λ files. behind (in_full files t) placement in
-    let size : totalsize (plan_of (moved_unread t placement)) ≡ c.totalsize.result =
-    ap (λ (p : Unread). totalsize (plan_of p)) (sym c.requires.placed) ∙ ap totalsize (sym c.requires.plan) ∙ sym c.totalsize.ensures in
-    goes steady t r m n k s u v a b (blob-sent steady t placement went_well m n s u (node_of c.args.placed.now.root) c.requires.placed w.files w.faults w.found w.steady w.written)
+    let size : totalsize (plan_of (align_of placement) (moved_unread t placement)) ≡ c.totalsize.result =
+    ap (λ (p : Unread). totalsize (plan_of (align_of placement) p)) (sym c.requires.placed) ∙ ap totalsize (sym c.requires.plan) ∙ sym c.totalsize.ensures in
+    goes steady t r m n k s u v a b (blob-sent steady t placement went_well m n s u (node_of c.args.placed.now.root) c.requires.placed w.files w.faults w.found w.steady
+    (λ honest kept. blob-by false s u _ _ _ (ap (λ (p : Plan). p.align) c.requires.plan) (w.written honest kept)))
     (behind-sent steady t placement r n k u v c.totalsize.result size c.put_behind.ensures)

@@ -1,4 +1,4 @@
-use Rattle.std.proofs.Common.{rules, ◌≡◌, ◌<◌, ℕ, Option, Some, None, IfSome, sym, subst}
+use Rattle.std.proofs.Common.{rules, ◌≡◌, ◌<◌, ℕ, Option, None, IfSome, sym, subst}
 use Rattle.uimg_blob.specs.Roles.{in_images}
 use Rattle.uimg_fit_reading.proofs.CountingLaws.{LeftCounted, none_counted, one_counted, all_counted, past_counted}
 use Rattle.uimg_fit_reading.proofs.counting.count_from.Goals as goal

@@ -1,4 +1,4 @@
-use Rattle.std.proofs.Common.{rules, ◌≡◌, ◌∙◌, ℕ, Ok, sym, ap}
+use Rattle.std.proofs.Common.{◌∙◌, ℕ, Ok, sym, ap}
 use Rattle.uimg_fit_reading.proofs.CountingLaws.{count_is}
 use Rattle.uimg_fit_reading.proofs.counting.count_in.Goals as goal
 

@@ -1,14 +1,12 @@
-use Rattle.std.proofs.Common.{rules, ◌≡◌, ℕ, List, Bool, true, is_err, IsTrue, ap, sym, subst}
+use Rattle.std.proofs.Common.{rules, ◌≡◌, true, is_err}
 use Rattle.std.specs.List.{sum_by}
-use Rattle.uimg_base.specs.Held.{Held}
 use Rattle.uimg_blob.specs.LookUps.{configurations}
 use Rattle.uimg_blob.specs.Spots.{spots}
 use Rattle.uimg_fit_reading.specs.Allowances.{node_allowance}
 use Rattle.uimg_fit_reading.specs.Listing.{configurations_lines, image_lines, numbered}
 use Rattle.uimg_fit_reading.specs.ListingParts.{configurations_allowance}
-use Rattle.uimg_fit_reading.specs.Telling.{Lists}
 use Rattle.uimg_fit_reading.proofs.OpenedLaws.{still}
-use Rattle.uimg_fit_reading.proofs.TellingLaws.{then_lists, cut_lists, read_same}
+use Rattle.uimg_fit_reading.proofs.TellingLaws.{then_lists, cut_lists}
 use Rattle.uimg_fit_reading.proofs.listing.put_body.Goals as goal
 
 pub returns-in_err-put_listed_nodes-clause-told : goal.returns-in_err-put_listed_nodes-clause-told

@@ -1,6 +1,5 @@
-use Rattle.std.proofs.Common.{rules, ◌≡◌, ◌+◌, ◌*◌, ℕ, List, Option, Bool, true, false, refl, is_err, IsTrue, codes, ap, sym, subst, arith}
+use Rattle.std.proofs.Common.{rules, ◌≡◌, ◌+◌, ◌*◌, ℕ, List, Option, true, false, refl, is_err, codes, sym, subst, arith}
 use Rattle.std.specs.List.{sum_by}
-use Rattle.uimg_base.specs.Held.{Held}
 use Rattle.uimg_base.specs.Writing.{Written}
 use Rattle.uimg_blob.specs.LookUps.{NodeOf, listed}
 use Rattle.uimg_blob.specs.Roles.{Level}
@@ -15,7 +14,7 @@ use Rattle.uimg_fit_reading.specs.Telling.{Lists}
 use Rattle.uimg_fit_reading.proofs.OpenedLaws.{still}
 use Rattle.uimg_fit_reading.proofs.PutLaws.{cut}
 use Rattle.uimg_fit_reading.proofs.SharesLaws.{one_text, children_allowed}
-use Rattle.uimg_fit_reading.proofs.TellingLaws.{then_lists, more_lists, read_same}
+use Rattle.uimg_fit_reading.proofs.TellingLaws.{then_lists, more_lists}
 use Rattle.uimg_fit_reading.proofs.WithinLaws.{value_size}
 use Rattle.uimg_fit_reading.proofs.listing.put_configurations.Goals as goal
 

@@ -1,4 +1,4 @@
-use Rattle.std.proofs.Common.{◌≡◌, ◌-◌, ◌<◌, length, IfSome}
+use Rattle.std.proofs.Common.{◌-◌, ◌<◌, length, IfSome}
 use Rattle.std.specs.Option.{option_map_or}
 use Rattle.uimg_blob.specs.Grammar.{Siblings}
 use Rattle.uimg_fit_reading.specs.Nodes.{IsRead}

@@ -1,4 +1,3 @@
-use Rattle.std.proofs.Common.{rules, ◌≡◌, ℕ, List, subst, sym}
 use Rattle.uimg_texts.specs.Slices.{slice}
 use Rattle.uimg_blob.specs.Roles.{in_images}
 use Rattle.uimg_fit_reading.proofs.NamedLaws.{gives_name}

@@ -6,7 +6,8 @@ use Rattle.uimg_tree.specs.Encoding.{word, strings}
 use Rattle.uimg_tree.specs.Layouts.{Plan, nodes_size}
 use Rattle.uimg_tree.specs.Names.{texts}
 use Rattle.uimg_tree.specs.Trees.{node_of}
-use Rattle.uimg_tree.specs.Pieces.{padding, nodes_pieces, blob_pieces, WritesPieces}
+use Rattle.uimg_tree.specs.Alignment.{padding_by}
+use Rattle.uimg_tree.specs.Pieces.{nodes_pieces, blob_pieces, WritesPieces}
 use Rattle.uimg_tree.proofs.SizeLaws.{small-values}
 use Rattle.uimg_tree.proofs.WritesLaws.{went_well, failed, refused, ◌▶◌, before, all-put, prefix-put}
 use Rattle.uimg_tree.proofs.writing.put_blob.Goals as goal
@@ -21,7 +22,7 @@ pub returns-in_err-put_header-clause-writes : goal.returns-in_err-put_header-cla
 unfolding blob_pieces
 returns-in_err-put_header-clause-writes g c =
     let p = c.args.layout.now in
-    let rest = nodes_pieces p.names (node_of c.args.tree.now.root) ++ bytes (word 9) ∷ bytes (strings p.names) ∷ bytes (padding (56 + p.structure + length (strings p.names))) ∷ [] in
+    let rest = nodes_pieces p.names (node_of c.args.tree.now.root) ++ bytes (word 9) ∷ bytes (strings p.names) ∷ bytes (padding_by p.align (56 + p.structure + length (strings p.names))) ∷ [] in
     refused g.F.Opened.Source.steady _ Put _ _ _ _ _ c.from_residual.ensures.1 (before rest (prefix-put c.in_err-put_header.ensures))
 
 pub returns-in_err-put_node-clause-writes : goal.returns-in_err-put_node-clause-writes
@@ -34,7 +35,7 @@ returns-in_err-put_node-clause-writes g c =
     let fault = c.in_err-put_node.field-0.0 in
     let is_names : texts c.as_slice-names.result.now ≡ p.names = ap texts c.as_slice-names.ensures.value ∙ ap (λ (q : Plan). q.names) c.layout.view_is in
     let nodes = subst (λ (ns : List (List ℕ)). WritesPieces g.F.Opened.Source.steady (failed fault) m n c.put_header.new.out c.put_node.new.out (nodes_pieces ns t)) is_names c.in_err-put_node.ensures in
-    let rest : List Content = bytes (word 9) ∷ bytes (strings p.names) ∷ bytes (padding (56 + p.structure + length (strings p.names))) ∷ [] in
+    let rest : List Content = bytes (word 9) ∷ bytes (strings p.names) ∷ bytes (padding_by p.align (56 + p.structure + length (strings p.names))) ∷ [] in
     refused g.F.Opened.Source.steady _ fault _ _ _ _ _ c.from_residual-in_err-put_node.ensures.1 (all-put c.in_ok-put_header.ensures ▶ before rest nodes)
 
 pub returns-in_err-put_end-clause-writes : goal.returns-in_err-put_end-clause-writes
@@ -46,7 +47,7 @@ returns-in_err-put_end-clause-writes g c =
     let n = g.F.Files.map c.put_node.new.files in
     let is_names : texts c.as_slice-names.result.now ≡ p.names = ap texts c.as_slice-names.ensures.value ∙ ap (λ (q : Plan). q.names) c.layout.view_is in
     let nodes = subst (λ (ns : List (List ℕ)). WritesPieces g.F.Opened.Source.steady went_well m n c.put_header.new.out c.put_node.new.out (nodes_pieces ns t)) is_names c.in_ok-put_node.ensures in
-    let rest : List Content = bytes (strings p.names) ∷ bytes (padding (56 + p.structure + length (strings p.names))) ∷ [] in
+    let rest : List Content = bytes (strings p.names) ∷ bytes (padding_by p.align (56 + p.structure + length (strings p.names))) ∷ [] in
     refused g.F.Opened.Source.steady _ Put _ _ _ _ _ c.from_residual-in_err-put_end.ensures.1 (all-put c.in_ok-put_header.ensures ▶ nodes ▶ before rest (prefix-put c.in_err-put_end.ensures))
 
 pub returns-in_err-put_strings-clause-writes : goal.returns-in_err-put_strings-clause-writes
@@ -59,26 +60,23 @@ returns-in_err-put_strings-clause-writes g c =
     let is_names : texts c.as_slice-names.result.now ≡ p.names = ap texts c.as_slice-names.ensures.value ∙ ap (λ (q : Plan). q.names) c.layout.view_is in
     let nodes = subst (λ (ns : List (List ℕ)). WritesPieces g.F.Opened.Source.steady went_well m n c.put_header.new.out c.put_node.new.out (nodes_pieces ns t)) is_names c.in_ok-put_node.ensures in
     let names = subst (λ (ns : List (List ℕ)). Writes true c.put_end.new.out c.put_strings.new.out (strings ns)) is_names c.in_err-put_strings.ensures in
-    let rest : List Content = bytes (padding (56 + p.structure + length (strings p.names))) ∷ [] in
+    let rest : List Content = bytes (padding_by p.align (56 + p.structure + length (strings p.names))) ∷ [] in
     refused g.F.Opened.Source.steady _ Put _ _ _ _ _ c.from_residual-in_err-put_strings.ensures.1
     (all-put c.in_ok-put_header.ensures ▶ nodes ▶ all-put c.in_ok-put_end.ensures ▶ before rest (prefix-put names))
 
-pub returns-in_err-put_padding-clause-writes : goal.returns-in_err-put_padding-clause-writes
+pub returns-in_err-put_gap-clause-writes : goal.returns-in_err-put_gap-clause-writes
 unfolding blob_pieces
-returns-in_err-put_padding-clause-writes g c =
+returns-in_err-put_gap-clause-writes g c =
     let p = c.args.layout.now in
     let t = node_of c.args.tree.now.root in
     let m = g.F.Files.map c.args.files.now in
     let n = g.F.Files.map c.put_node.new.files in
-    let inside = c.layout.inside in
     let is_names : texts c.as_slice-names.result.now ≡ p.names = ap texts c.as_slice-names.ensures.value ∙ ap (λ (q : Plan). q.names) c.layout.view_is in
-    let structure : inside.structure_size ≡ p.structure = ap (λ (q : Plan). q.structure) c.layout.view_is in
-    let strings_size : inside.strings_size ≡ length (strings p.names) = c.layout.invariant.0 ∙ ap (λ (q : Plan). length (strings q.names)) c.layout.view_is in
-    let end : 56 + inside.structure_size + inside.strings_size ≡ 56 + p.structure + length (strings p.names) = omega (arith, structure, strings_size) in
     let nodes = subst (λ (ns : List (List ℕ)). WritesPieces g.F.Opened.Source.steady went_well m n c.put_header.new.out c.put_node.new.out (nodes_pieces ns t)) is_names c.in_ok-put_node.ensures in
     let names = subst (λ (ns : List (List ℕ)). Writes false c.put_end.new.out c.put_strings.new.out (strings ns)) is_names c.in_ok-put_strings.ensures in
-    let zeros = subst (λ (k : ℕ). Writes true c.put_strings.new.out c.put_padding.new.out (padding k)) end c.in_err-put_padding.ensures in
-    refused g.F.Opened.Source.steady _ Put _ _ _ _ _ c.from_residual-in_err-put_padding.ensures.1
+    let align : c.layout.inside.align ≡ p.align = ap (λ (q : Plan). q.align) c.layout.view_is in
+    let zeros = subst (λ (w : List ℕ). Writes true c.put_strings.new.out c.put_gap.new.out w) (ap (λ (k : ℕ). padding_by c.layout.inside.align k) c.end.ensures ∙ ap (λ (a : ℕ). padding_by a (56 + p.structure + length (strings p.names))) align) c.in_err-put_gap.ensures in
+    refused g.F.Opened.Source.steady _ Put _ _ _ _ _ c.from_residual-in_err-put_gap.ensures.1
     (all-put c.in_ok-put_header.ensures ▶ nodes ▶ all-put c.in_ok-put_end.ensures ▶ all-put names ▶ prefix-put zeros)
 
 pub returns-clause-writes : goal.returns-clause-writes
@@ -88,12 +86,9 @@ returns-clause-writes g c =
     let t = node_of c.args.tree.now.root in
     let m = g.F.Files.map c.args.files.now in
     let n = g.F.Files.map c.put_node.new.files in
-    let inside = c.layout.inside in
     let is_names : texts c.as_slice-names.result.now ≡ p.names = ap texts c.as_slice-names.ensures.value ∙ ap (λ (q : Plan). q.names) c.layout.view_is in
-    let structure : inside.structure_size ≡ p.structure = ap (λ (q : Plan). q.structure) c.layout.view_is in
-    let strings_size : inside.strings_size ≡ length (strings p.names) = c.layout.invariant.0 ∙ ap (λ (q : Plan). length (strings q.names)) c.layout.view_is in
-    let end : 56 + inside.structure_size + inside.strings_size ≡ 56 + p.structure + length (strings p.names) = omega (arith, structure, strings_size) in
     let nodes = subst (λ (ns : List (List ℕ)). WritesPieces g.F.Opened.Source.steady went_well m n c.put_header.new.out c.put_node.new.out (nodes_pieces ns t)) is_names c.in_ok-put_node.ensures in
     let names = subst (λ (ns : List (List ℕ)). Writes false c.put_end.new.out c.put_strings.new.out (strings ns)) is_names c.in_ok-put_strings.ensures in
-    let zeros = subst (λ (k : ℕ). Writes false c.put_strings.new.out c.put_padding.new.out (padding k)) end c.in_ok-put_padding.ensures in
+    let align : c.layout.inside.align ≡ p.align = ap (λ (q : Plan). q.align) c.layout.view_is in
+    let zeros = subst (λ (w : List ℕ). Writes false c.put_strings.new.out c.put_gap.new.out w) (ap (λ (k : ℕ). padding_by c.layout.inside.align k) c.end.ensures ∙ ap (λ (a : ℕ). padding_by a (56 + p.structure + length (strings p.names))) align) c.in_ok-put_gap.ensures in
     all-put c.in_ok-put_header.ensures ▶ nodes ▶ all-put c.in_ok-put_end.ensures ▶ all-put names ▶ all-put zeros

@@ -16,6 +16,6 @@ returns-in_ok-put_zeros-in-At g c =
     let n = g.F.Files.map c.put_payloads-in-At.new.files in
     let r = c.put_payloads-in-At.result in
     let u = c.put_payloads-in-At.new.out in
-    let payloads = subst (λ (l : List (NodeOf Content)). WritesPieces steady r m n c.put_zeros.new.out u (flat_map payload_pieces l)) c.images_of-in-At.ensures c.put_payloads-in-At.ensures in
+    let payloads = subst (λ (l : List (NodeOf Content)). WritesPieces steady r m n c.put_zeros.new.out u (flat_map (payload_pieces c.in-At.align) l)) c.images_of-in-At.ensures c.put_payloads-in-At.ensures in
     subst (λ (p : Placement). WritesPieces steady r m n c.args.out.now u (behind_pieces c.args.size (node_of c.args.tree.now.root) p)) (sym c.in-At.is)
     (all-put c.in_ok-put_zeros-in-At.ensures ▶ payloads)

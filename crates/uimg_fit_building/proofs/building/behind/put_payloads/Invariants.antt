@@ -9,4 +9,4 @@ use Rattle.uimg_fit_building.proofs.building.behind.put_payloads.Given as goal
 abbrev pub invariant-loop-image : goal.invariant-loop-image
 invariant-loop-image g l =
     WritesPieces g.F.Opened.Source.steady went_well (g.F.Files.map l.fn.files) (g.F.Files.map l.files) l.fn.out l.out
-    (flat_map (λ n. payload_pieces (entry n)) (take l.image-index l.images))
+    (flat_map (λ n. payload_pieces l.fn.align (entry n)) (take l.image-index l.images))

@@ -6,5 +6,5 @@ use Rattle.uimg_fit_building.proofs.building.payload_sizes.payloads_size.Given a
 abbrev pub invariant-loop-image : goal.invariant-loop-image
 invariant-loop-image g l = record {
   small : l.size ≤ 2 ^ 36;
-  whole : min (l.size + padded_sizes (map entry (drop l.image-index l.images))) (2 ^ 36) ≡ min (padded_sizes (map entry l.images)) (2 ^ 36);
+  whole : min (l.size + padded_sizes l.fn.align (map entry (drop l.image-index l.images))) (2 ^ 36) ≡ min (padded_sizes l.fn.align (map entry l.images)) (2 ^ 36);
 }

@@ -13,7 +13,7 @@ use Rattle.uimg_fit_building.proofs.building.placing.place_children.Goals.{then-
 
 pub loop-node-preserved : goal.loop-node-preserved
 loop-node-preserved g c =
-    let f : Node g.row.A.Denot → List (Node g.row.A.Denot) = λ n. with_placed c.args.key.now c.args.at n ∷ [] in
+    let f : Node g.row.A.Denot → List (Node g.row.A.Denot) = λ n. with_placed c.args.align c.args.key.now c.args.at n ∷ [] in
     let items = c.items-node-items.result.now in
     let i = c.loop-node.node-index in
     let d = c.node-item.result in
@@ -42,6 +42,6 @@ returns g c =
     let at = c.args.at in
     let items = c.items-node-items.result.now in
     let i = c.loop-node.node-index in
-    let whole = no-more is_images (λ n. with_placed key at n ∷ []) c.loop-node.copies.items _ c.loop-node.moved (drop i items) (drop_of_length-le items {i = i} c.loop-node-test.false) c.loop-node.invariant in
-    c.of.ensures ∙ ap (λ (l : List (Node g.row.A.Denot)). siblings l) whole ∙ children-placed key at items
-    ∙ ap (λ (t : Unread). in_first (codes "images") (unread_from key at) t) c.items-node-items.ensures
+    let whole = no-more is_images (λ n. with_placed c.args.align key at n ∷ []) c.loop-node.copies.items _ c.loop-node.moved (drop i items) (drop_of_length-le items {i = i} c.loop-node-test.false) c.loop-node.invariant in
+    c.of.ensures ∙ ap (λ (l : List (Node g.row.A.Denot)). siblings l) whole ∙ children-placed c.args.align key at items
+    ∙ ap (λ (t : Unread). in_first (codes "images") (unread_from c.args.align key at) t) c.items-node-items.ensures

@@ -5,4 +5,4 @@ use Rattle.uimg_fit_building.proofs.building.placing.place_children.Given as goa
 -- what was copied and what is left give the whole
 abbrev pub invariant-loop-node : goal.invariant-loop-node
 invariant-loop-node g l =
-    l.copies.items ++ left_of is_images (λ n. with_placed l.fn.key l.fn.at n ∷ []) l.moved (drop l.node-index l.node-items) ≡ placed_children l.fn.key l.fn.at l.node-items
+    l.copies.items ++ left_of is_images (λ n. with_placed l.fn.align l.fn.key l.fn.at n ∷ []) l.moved (drop l.node-index l.node-items) ≡ placed_children l.fn.align l.fn.key l.fn.at l.node-items

@@ -1,4 +1,4 @@
-use Rattle.std.proofs.Common.{◌≡◌, List, true, is_err, sym, subst, ap, ◌∙◌}
+use Rattle.std.proofs.Common.{◌≡◌, true, is_err, sym, subst}
 use Rattle.uimg_fit_reading.specs.declared.listing.rows.Row.{Row}
 use Rattle.uimg_fit_reading.specs.Rows.{keeps_row, row_cost, row_lines}
 use Rattle.uimg_fit_reading.specs.Telling.{Lists}

@@ -1,4 +1,4 @@
-use Rattle.std.proofs.Common.{◌≡◌, ℕ, take, true, false, IsTrue}
+use Rattle.std.proofs.Common.{◌≡◌, take, true, false}
 use Rattle.std.specs.List.{list_all, sum_by}
 use Rattle.uimg_base.specs.Device.{SameDevice}
 use Rattle.uimg_fit_reading.specs.Nodes.{OfAnyNode}

@@ -1,12 +1,11 @@
-use Rattle.std.proofs.Common.{rules, ◌≡◌, ℕ, List, Option, Bool, true, refl, is_err, IsTrue, ap, sym, subst, ◌∙◌}
+use Rattle.std.proofs.Common.{rules, ◌≡◌, ℕ, List, Option, true, refl, is_err, subst, ◌∙◌}
 use Rattle.std.specs.List.{flat_map}
-use Rattle.uimg_base.specs.Held.{Held}
 use Rattle.uimg_blob.specs.LookUps.{NodeOf}
 use Rattle.uimg_blob.specs.Spots.{Spot}
 use Rattle.uimg_fit_reading.specs.Listing.{hash_lines}
 use Rattle.uimg_fit_reading.specs.Nodes.{HashesAt, FirstHash}
 use Rattle.uimg_fit_reading.proofs.OpenedLaws.{still}
-use Rattle.uimg_fit_reading.proofs.TellingLaws.{left_more, left_fails, read_same}
+use Rattle.uimg_fit_reading.proofs.TellingLaws.{left_more, left_fails}
 use Rattle.uimg_fit_reading.proofs.listing.listed_nodes.put_hashes.Goals as goal
 
 abbrev texts : ℕ → List (NodeOf Spot) → List ℕ

@@ -1,7 +1,7 @@
 use Rattle.std.proofs.Common.{◌++◌, ℕ, Option, refl, is_err, ap, subst, ◌∙◌, arith, codes}
 use Rattle.std.specs.List.{flat_map}
 use Rattle.uimg_base.specs.Writing.{Written}
-use Rattle.uimg_fit_reading.specs.Listing.{image_lines, size_in}
+use Rattle.uimg_fit_reading.specs.Listing.{size_in}
 use Rattle.uimg_blob.specs.LookUps.{hashes}
 use Rattle.uimg_fit_reading.specs.Listing.{hash_lines}
 use Rattle.uimg_fit_reading.specs.Rows.{image_rows, rows_lines, title}

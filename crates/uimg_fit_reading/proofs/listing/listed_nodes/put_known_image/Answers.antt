@@ -1,4 +1,4 @@
-use Rattle.std.proofs.Common.{rules, ◌≡◌, ◌≤◌, ◌+◌, ◌*◌, ◌++◌, ℕ, List, true, false, refl, ap, is_err, sym, subst, arith, append_assoc, codes}
+use Rattle.std.proofs.Common.{rules, ◌≡◌, ◌≤◌, ◌+◌, ◌*◌, ℕ, List, true, false, refl, ap, is_err, subst, arith, append_assoc, codes}
 use Rattle.std.specs.List.{flat_map, list_all, sum_by}
 use Rattle.uimg_blob.specs.Roles.{in_images}
 use Rattle.uimg_blob.specs.LookUps.{NodeOf, hashes}

@@ -1,4 +1,4 @@
-use Rattle.std.proofs.Common.{rules, ◌≡◌, ◌≤◌, ◌<◌, ◌+◌, ℕ, List, length, Option, Some, IfSome, Bool, true, is_err, IsTrue, refl, ap, sym, subst, ◌∙◌, false, arith}
+use Rattle.std.proofs.Common.{rules, ◌≡◌, ◌≤◌, ◌<◌, ◌+◌, ℕ, List, length, Option, Some, IfSome, true, is_err, ap, subst, ◌∙◌, false, arith}
 use Rattle.uimg_base.specs.Held.{Held}
 use Rattle.uimg_blob.specs.LookUps.{NodeOf}
 use Rattle.uimg_blob.specs.Roles.{Level}
@@ -10,7 +10,7 @@ use Rattle.uimg_fit_reading.specs.Nodes.{AreFrom}
 use Rattle.uimg_fit_reading.specs.Telling.{Lists}
 use Rattle.uimg_fit_reading.proofs.OpenedLaws.{still}
 use Rattle.uimg_fit_reading.proofs.ImageLaws.{front, none_left}
-use Rattle.uimg_fit_reading.proofs.TellingLaws.{left_more, left_fails, left_ends, read_same, numbered_more, numbered_none, within_next, none_after, same_level}
+use Rattle.uimg_fit_reading.proofs.TellingLaws.{left_more, left_fails, left_ends, numbered_more, numbered_none, within_next, none_after, same_level}
 use Rattle.uimg_fit_reading.proofs.listing.listed_nodes.put_listed_nodes.Goals as goal
 
 pub returns-in_default-clause-told : goal.returns-in_default-clause-told

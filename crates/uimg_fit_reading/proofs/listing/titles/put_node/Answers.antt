@@ -1,4 +1,4 @@
-use Rattle.std.proofs.Common.{rules, ◌≡◌, ◌+◌, List, Bool, ℕ, true, false, is_err, sym, subst, arith}
+use Rattle.std.proofs.Common.{rules, ◌≡◌, List, ℕ, true, false, is_err, subst, arith}
 use Rattle.std.specs.List.{sum_by}
 use Rattle.uimg_base.specs.Writing.{Written}
 use Rattle.uimg_fit_reading.specs.Rows.{row_cost, rows_lines, title}

@@ -1,4 +1,4 @@
-use Rattle.std.proofs.Common.{rules, ◌≡◌, ◌∙◌, ◌&&◌, ℕ, List, Option, Bool, true, false, subst, sym, ap}
+use Rattle.std.proofs.Common.{rules, ◌≡◌, ◌&&◌, ℕ, List, Option, Bool, true, false, subst, sym}
 use Rattle.std.specs.Prelude.{is_err}
 use Rattle.uimg_texts.specs.Slices.{slice}
 use Rattle.uimg_base.specs.Writing.{Written}

@@ -1,4 +1,4 @@
-use Rattle.std.proofs.Common.{rules, ℕ, List, subst, arith}
+use Rattle.std.proofs.Common.{ℕ, List, subst, arith}
 use Rattle.uimg_texts.specs.Slices.{slice}
 use Rattle.uimg_base.proofs.SinkLaws.{prefix_none}
 use Rattle.uimg_fit_reading.specs.HashReports.{PutsHashes}

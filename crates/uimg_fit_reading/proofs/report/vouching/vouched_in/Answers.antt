@@ -1,9 +1,6 @@
 use Rattle.std.proofs.Common.{rules, ◌≡◌, ◌∙◌, ℕ, List, Option, None, is_none, false, Ok, Bool, sym, ap, subst}
-use Rattle.std.specs.Prelude.{Result}
 use Rattle.uimg_blob.specs.Roles.{in_images}
-use Rattle.uimg_fit_base.specs.declared.fault.Fault.{Fault}
-use Rattle.uimg_fit_reading.specs.Nodes.{HasTree, Opened, IsRead, AreFrom}
-use Rattle.uimg_fit_reading.proofs.OpenedLaws.{still}
+use Rattle.uimg_fit_reading.specs.Nodes.{Opened, IsRead, AreFrom}
 use Rattle.uimg_fit_reading.proofs.VouchingLaws.{vouched_is, none_vouched, some_vouched}
 use Rattle.uimg_fit_reading.proofs.report.vouching.vouched_in.Goals as goal
 

@@ -1,0 +1,159 @@
+Many images are checked, an object of JSON for each
+===================================================
+
+  $ files="$TESTDIR/files"
+
+`cell FILE AT BYTE..` puts bytes into a file at a place:
+
+  $ cell() {
+  >     to=$1 at=$2; shift 2
+  >     printf "$(printf '\\%03o' "$@")" | dd of=$to bs=1 seek=$at conv=notrunc status=none
+  > }
+
+`fit IMAGES` makes a FIT image k.itb with these images:
+
+  $ fit() {
+  >     echo "/dts-v1/; / { description = \"d\"; images { $1 }; };" > k.its
+  >     SOURCE_DATE_EPOCH=0 uimg mkimage -f k.its k.itb > /dev/null
+  > }
+
+Legacy images:
+
+  $ cp "$files/abc-kernel.img" kernel.img
+  $ cp kernel.img data.img && printf b | dd of=data.img bs=1 seek=64 conv=notrunc status=none
+  $ head -c 63 kernel.img > short.img
+  $ cp "$files/size-too-large.img" cut.img
+  $ uimg check --json kernel.img data.img short.img cut.img none.img
+  {"path":"kernel.img","status":0,"verdict":"ok","format":"legacy","checksums":2}
+  {"path":"data.img","status":1,"verdict":"bad","format":"legacy"}
+  {"path":"short.img","status":1,"verdict":"refused","format":"legacy","fault":"L1","message":"L1 too short"}
+  {"path":"cut.img","status":1,"verdict":"refused","format":"legacy","fault":"L4","message":"L4 truncated"}
+  {"path":"none.img","status":3,"verdict":"failed","message":"cannot read"}
+  [3]
+  $ uimg check --json --need md5 kernel.img
+  {"path":"kernel.img","status":1,"verdict":"weak","format":"legacy","algo":"crc32"}
+  [1]
+
+FIT images:
+
+  $ for name in four-hash-fit one-bad-hash sha3-node no-data no-images; do cp "$files/$name.itb" .; done
+  $ uimg check --json four-hash-fit.itb one-bad-hash.itb sha3-node.itb no-data.itb no-images.itb
+  {"path":"four-hash-fit.itb","status":0,"verdict":"ok","format":"fit","images":1,"hashes":4}
+  {"path":"one-bad-hash.itb","status":1,"verdict":"bad","format":"fit","image":"a","hash":"hash"}
+  {"path":"sha3-node.itb","status":1,"verdict":"unsupported","format":"fit","image":"b","hash":"hash-1"}
+  {"path":"no-data.itb","status":1,"verdict":"refused","format":"fit","fault":"F2","message":"F2 no data"}
+  {"path":"no-images.itb","status":1,"verdict":"refused","format":"fit","fault":"F1","message":"F1 no images"}
+  [1]
+  $ cp "$files/hash-words.itb" . && uimg check --json hash-words.itb
+  {"path":"hash-words.itb","status":1,"verdict":"malformed","format":"fit","image":"a","hash":"hash"}
+  [1]
+  $ fit 'a { data = "abc"; hash-1 { algo = "crc32"; }; }; b { data = "de"; };'
+  $ uimg check --json k.itb
+  {"path":"k.itb","status":0,"verdict":"unhashed","format":"fit","image":"b"}
+  $ uimg check --json --need md5 k.itb
+  {"path":"k.itb","status":1,"verdict":"weak","format":"fit","image":"a"}
+  [1]
+  $ fit ''
+  $ uimg check --json k.itb
+  {"path":"k.itb","status":0,"verdict":"ok","format":"fit","images":0,"hashes":0}
+  $ uimg check --json --need crc32 k.itb
+  {"path":"k.itb","status":1,"verdict":"empty","format":"fit"}
+  [1]
+
+A fault of the blob has its place. The version stands at 20, and the first token, behind the header of 40 bytes and an empty list of reservations of 16, at 56; 5 is no token:
+
+  $ fit 'a { data = "abc"; };' && cp k.itb version.itb && cell version.itb 23 16
+  $ uimg check version.itb
+  version.itb: refused B3 bad version at 20
+  [1]
+  $ uimg check --json version.itb
+  {"path":"version.itb","status":1,"verdict":"refused","format":"fit","fault":"B3","message":"B3 bad version at 20","offset":20}
+  [1]
+  $ cell k.itb 59 5
+  $ uimg check --json k.itb
+  {"path":"k.itb","status":1,"verdict":"refused","format":"fit","fault":"B5","message":"B5 bad token at 56","offset":56}
+  [1]
+
+Payloads that overlap, of two images with the same 4000 bytes behind the tree:
+
+  $ head -c 4000 /dev/zero > zeros
+  $ fit 'a { data = /incbin/("zeros"); hash-1 { algo = "crc32"; }; }; b { data = /incbin/("zeros"); hash-1 { algo = "crc32"; }; };'
+  $ uimg mkimage -f k.its -E k.itb > /dev/null
+  $ python3 - <<'END'
+  > import re
+  > image = open("k.itb", "rb").read()
+  > _, at, _ = [it.start() for it in re.finditer(rb"\0\0\x0f\xa0", image)]
+  > open("shared.itb", "wb").write(image[:at] + bytes(4) + image[at + 4:-4000])
+  > END
+  $ uimg check --json shared.itb
+  {"path":"shared.itb","status":1,"verdict":"overlapping","format":"fit","image":"b"}
+  [1]
+
+Names: quotes, backslashes and control characters are escaped as RFC 8259 has it, and all else that is UTF-8 stands as it is. A name that is not UTF-8 has U+FFFD in place of what is not, and beside it its bytes by base64:
+
+  $ fit 'kernel { data = "abcd"; hash-2 { algo = "crc32"; }; };'
+  $ at=$(grep -abo abcd k.itb | cut -d: -f 1) && cell k.itb $at 65
+  $ python3 - <<'END'
+  > image = bytearray(open("k.itb", "rb").read())
+  > name, hash = image.index(b"kernel\0"), image.index(b"hash-2\0")
+  > image[name:name + 6] = b"\"\n\\\x7f\x1b/"
+  > open("name.itb", "wb").write(image)
+  > image[name:name + 6] = "k\u00e4\u2028".encode()
+  > open("text.itb", "wb").write(image)
+  > image[name:name + 6] = b"k\xe4\xff\xfen\t"
+  > open("bytes.itb", "wb").write(image)
+  > image[hash:hash + 6] = b"hash\xc3\""
+  > open("both.itb", "wb").write(image)
+  > END
+  $ uimg check --json name.itb
+  {"path":"name.itb","status":1,"verdict":"bad","format":"fit","image":"\\"\\n\\\\\x7f\\u001b/","hash":"hash-2"} (esc)
+  [1]
+  $ uimg check --json text.itb
+  {"path":"text.itb","status":1,"verdict":"bad","format":"fit","image":"k\xc3\xa4\xe2\x80\xa8","hash":"hash-2"} (esc)
+  [1]
+  $ uimg check --json bytes.itb
+  {"path":"bytes.itb","status":1,"verdict":"bad","format":"fit","image":"k\xef\xbf\xbd\xef\xbf\xbd\xef\xbf\xbdn\\t","image_base64":"a+T//m4J","hash":"hash-2"} (esc)
+  [1]
+  $ uimg check --json both.itb
+  {"path":"both.itb","status":1,"verdict":"bad","format":"fit","image":"k\xef\xbf\xbd\xef\xbf\xbd\xef\xbf\xbdn\\t","image_base64":"a+T//m4J","hash":"hash\xef\xbf\xbd\\"","hash_base64":"aGFzaMMi"} (esc)
+  [1]
+  $ cp kernel.img "$(printf 'a"\n}')" && uimg check --json "$(printf 'a"\n}')"
+  {"path":"a\"\n}","status":0,"verdict":"ok","format":"legacy","checksums":2}
+
+Paths from a file, with one that is not UTF-8:
+
+  $ printf 'k\344\nkernel.img\n' | uimg check --json --files-from -
+  {"path":"k\xef\xbf\xbd","path_base64":"a+Q=","status":3,"verdict":"failed","message":"cannot read"} (esc)
+  {"path":"kernel.img","status":0,"verdict":"ok","format":"legacy","checksums":2}
+  [3]
+  $ printf 'kernel.img\0' | uimg check -0 --json --files-from -
+  {"path":"kernel.img","status":0,"verdict":"ok","format":"legacy","checksums":2}
+  $ uimg check --json kernel.img --files-from none
+  {"path":"kernel.img","status":0,"verdict":"ok","format":"legacy","checksums":2}
+  uimg: cannot read none
+  [3]
+
+Lines that cannot be written, and that nobody reads:
+
+  $ uimg check --json kernel.img > /dev/full
+  uimg: write failed
+  [3]
+  $ (sleep 0.5; uimg check --json kernel.img 2> said; echo "status $?" >> said) | true
+  $ cat said
+  status 3
+
+An object is made in memory before it is written; where there is too little for one of a path of 20 MB, the check ends before its line:
+
+  $ { echo kernel.img; head -c 20000000 /dev/zero | tr '\0' x; echo; echo kernel.img; } > long
+  $ (ulimit -v 61440; uimg check --json --files-from long)
+  {"path":"kernel.img","status":0,"verdict":"ok","format":"legacy","checksums":2}
+  uimg: out of memory
+  [3]
+
+Wrong lines:
+
+  $ uimg check --json
+  uimg: no image
+  [2]
+  $ uimg check --json=1 kernel.img > said 2>&1
+  [2]

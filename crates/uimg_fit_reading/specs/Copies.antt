@@ -1,0 +1,28 @@
+-- What is written is what is summed, over any device.
+use Rattle.std.specs.Prelude.{◌≡◌, ℕ, List, ◌++◌, IsTrue}
+use Rattle.uimg_sums.specs.declared.algo.Algo.{Algo}
+use Rattle.uimg_sums.specs.declared.bundle.Bundle.{Bundle}
+use Rattle.uimg_sums.specs.Bundle.{Holds}
+use Rattle.uimg_texts.specs.Slices.{slice}
+use Rattle.uimg_base.specs.Device.{Device}
+use Rattle.uimg_base.specs.Sink.{Sink, AppendsAll}
+use Rattle.uimg_base.specs.declared.spans.Span.{Span}
+use Rattle.uimg_fit_base.specs.declared.algo_sets.AlgoSet.{AlgoSet}
+use Rattle.uimg_fit_base.specs.declared.algo_sets.Digests.{Digests}
+use Rattle.uimg_fit_base.specs.AlgoSets.{set_of, AreDigests}
+
+-- Some bytes were fed to sums and appended to an output, those of a range of the device if it is honest.
+pub record TakesPiece (d : Device) (at len : ℕ) (old new : Bundle) (s t : Sink) : Type 0 where
+  pub piece : List ℕ
+  pub summed : (algos : List Algo) (fed : List ℕ) → Holds old algos fed → Holds new algos (fed ++ piece)
+  pub wrote : AppendsAll s t piece
+  pub right : IsTrue d.honest → piece ≡ slice d.bytes at len
+
+-- The digests of what was appended to an output, by the algorithms of a set; that is the payload at a span of the device if it
+-- is honest.
+pub record TakesPayload (d : Device) (payload : Span) (algos : AlgoSet) (found : Digests) (s t : Sink) : Type 0 where
+  pub message : List ℕ
+  pub set : set_of found ≡ algos
+  pub digests : AreDigests found message
+  pub wrote : AppendsAll s t message
+  pub right : IsTrue d.honest → message ≡ slice d.bytes payload.place payload.length

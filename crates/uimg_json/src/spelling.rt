@@ -1,0 +1,37 @@
+//! How a name is spelled that need not be UTF-8.
+
+ghost use Rattle.std.specs.Prelude.{◌≡◌, Some, None, IfOk, option_map};
+ghost use Rattle.std.specs.Str.{IsUtf8};
+ghost use Rattle.std.specs.Str.Lossy.{utf8_lossy};
+ghost use Rattle.std.specs.String.{string_bytes};
+ghost use Rattle.base64.specs.Engines.{standard};
+ghost use Rattle.base64.specs.GeneralPurpose.{encode_of};
+
+use base64::engine::general_purpose::STANDARD;
+use std::alloc::{AllocError, Global};
+
+/// How a name is spelled.
+#[derive(Drop)]
+pub struct Spelling {
+    /// The name, with U+FFFD in place of what is not UTF-8.
+    pub text: String,
+
+    /// The bytes of a name that is not UTF-8, by base64 (RFC 4648, section 4).
+    pub base64: Option<String>,
+}
+
+/// The spelling of a name.
+pub fn spell(alloc: Global, name: &[u8]) -> Result<Spelling, AllocError>
+    ensures text { IfOk result (λ s. string_bytes s.text ≡ utf8_lossy name.now) }
+    ensures same { IfOk result (λ s. IsUtf8 name.now →
+        (string_bytes s.text ≡ name.now) × (s.base64 ≡ None)) }
+    ensures bytes { IfOk result (λ s. ¬ (IsUtf8 name.now) →
+        option_map string_bytes s.base64 ≡ Some (encode_of standard name.now)) }
+{
+    let base64 = match str::from_utf8(name) {
+        Ok(_) => None,
+        Err(_) => Some(STANDARD.encode(alloc, name)?),
+    };
+    let text = String::from_utf8_lossy(alloc, name)?;
+    Ok(Spelling { text, base64 })
+}

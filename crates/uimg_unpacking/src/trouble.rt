@@ -1,0 +1,61 @@
+//! Why payloads are not put in a folder.
+
+use std::alloc::{AllocError, AllocFailed};
+use std::io;
+use std::io::ErrorKind;
+use thiserror::Error;
+
+/// Why a payload was not put in a folder. Its text is a line, but where nobody reads the lines any more.
+#[derive(Debug, Drop, Error)]
+pub enum Trouble {
+    /// Something is at the path of a file that is to be written. A folder is never replaced.
+    #[error("{0} is there already, and only a file is replaced, by --force")]
+    IsThere(String),
+
+    /// A file that is to be written is the image.
+    #[error("{0} would be written while it is read")]
+    IsImage(String),
+
+    /// A file cannot be made, written or given its name.
+    #[error("cannot write {0}")]
+    CannotWrite(String),
+
+    /// No name was found for a file.
+    #[error("no name for a file")]
+    NoName,
+
+    /// Memory ran out.
+    #[error("out of memory")]
+    OutOfMemory,
+
+    /// A line could not be written.
+    #[error("write failed")]
+    Put,
+
+    /// Nobody reads the lines any more.
+    #[error("closed")]
+    Closed,
+}
+
+impl From<AllocError> for Trouble {
+    fn from(_error: AllocError) -> Trouble {
+        Trouble::OutOfMemory
+    }
+}
+
+impl From<io::Error> for Trouble {
+    fn from(error: io::Error) -> Trouble {
+        match error.kind() {
+            ErrorKind::OutOfMemory => Trouble::OutOfMemory,
+            ErrorKind::BrokenPipe => Trouble::Closed,
+            _ => Trouble::Put,
+        }
+    }
+}
+
+impl<X: Drop> From<AllocFailed<X>> for Trouble {
+    fn from(failed: AllocFailed<X>) -> Trouble {
+        drop(failed);
+        Trouble::OutOfMemory
+    }
+}

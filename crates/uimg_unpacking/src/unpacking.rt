@@ -1,0 +1,102 @@
+//! A FIT image is unpacked into a folder.
+
+use crate::folder::Folder;
+use crate::folder_taker::FolderTaker;
+use crate::lines::put_overlapping;
+use crate::trouble::Trouble;
+use std::io::Write;
+use std::rt::Files;
+use uimg_base::{Algo, Room, Source};
+use uimg_fit_base::{Fault, FitFault};
+use uimg_fit_reading::{NodeName, Unpacked};
+
+/// What is asked for of an image.
+#[derive(Clone, Copy, Debug)]
+pub struct Unpacking<'a> {
+    /// Where its payloads are put.
+    pub folder: Folder<'a>,
+
+    /// The name of the image whose payload is asked for alone, if not all are.
+    pub only: Option<&'a str>,
+
+    /// The algorithm that is needed at least, if there is one.
+    pub need: Option<Algo>,
+}
+
+/// How it ended.
+#[derive(Debug, Drop)]
+pub enum Ended {
+    /// All payloads are kept that were asked for.
+    Kept,
+
+    /// A payload is refused, or payloads overlap. A line tells of it.
+    Refused,
+
+    /// There is no image, and a strength is needed.
+    NoImage,
+
+    /// The image is refused, or a read of it failed.
+    Stopped(Fault),
+
+    /// A file or a line could not be written.
+    Troubled(Trouble),
+}
+
+/// Puts the payloads of a FIT image in a folder, as files that get their names when each hash node of
+/// their images is right, with a line for each on `out`.
+///
+/// A file has the name of its image where that can be a file's (`is_file_name`) and that of no payload
+/// before it is the same in small letters, or else `image-` and its number among those that are taken,
+/// counted from 0, or the first number after it that is free. Nothing is written where something is at
+/// one of these paths, unless files are replaced, or where one leads to the image. A file that did not
+/// get its name is removed.
+pub fn unpack<R: Files + AllocGlobal, S: Source, W: Write + Drop>(
+    rt: &R,
+    asked: &Unpacking<'_>,
+    source: &mut S,
+    out: W,
+) -> Ended {
+    let Some(only) = only_of(asked.only) else {
+        return Ended::Stopped(Fault::Fit(FitFault::NoSuchImage));
+    };
+    let mut room = Room::new(rt.alloc());
+    let mut taker = FolderTaker::new(rt, asked.folder, out);
+    let unpacked = uimg_fit_reading::unpack(only, asked.need, source, &mut room, &mut taker);
+    let (out, count, trouble) = taker.end();
+    match unpacked {
+        Ok(Unpacked::Taken(all)) => taken(asked, all, count),
+        Ok(Unpacked::Overlapping(name)) => overlapping(out, &name),
+        Err(Fault::Put) => Ended::Troubled(trouble.unwrap_or(Trouble::Put)),
+        Err(fault) => Ended::Stopped(fault),
+    }
+}
+
+// The name that is asked for, if one is; there is none where it is too long for the name of an image.
+fn only_of(only: Option<&str>) -> Option<Option<NodeName>> {
+    match only {
+        Some(name) => match NodeName::of(name.as_bytes()) {
+            Some(name) => Some(Some(name)),
+            None => None,
+        },
+        None => Some(None),
+    }
+}
+
+// How it ended where so many payloads were taken.
+fn taken(asked: &Unpacking<'_>, all: bool, count: usize) -> Ended {
+    if count == 0 && asked.only.is_some() {
+        return Ended::Stopped(Fault::Fit(FitFault::NoSuchImage));
+    }
+    if count == 0 && asked.need.is_some() {
+        return Ended::NoImage;
+    }
+    if all { Ended::Kept } else { Ended::Refused }
+}
+
+fn overlapping<W: Write + Drop>(mut out: W, name: &NodeName) -> Ended {
+    let told = put_overlapping(&mut out, name).and_then(|()| out.flush());
+    match told {
+        Ok(()) => Ended::Refused,
+        Err(error) => Ended::Troubled(Trouble::from(error)),
+    }
+}

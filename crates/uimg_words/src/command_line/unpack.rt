@@ -1,0 +1,72 @@
+//! The words of `unpack`.
+
+use super::help_notes::UNPACK_NOTES;
+use super::{WordsFault, image, value};
+use clap::{Arg, ArgAction, ArgMatches};
+use std::alloc::{AllocError, Global};
+use uimg_base::Algo;
+
+/// The unpacking of an image.
+#[derive(Drop)]
+pub struct UnpackRequest<'a> {
+    /// The folder that its payloads are put in.
+    pub folder: &'a str,
+
+    /// The name of the image whose payload is asked for alone, if not all are.
+    pub only: Option<&'a str>,
+
+    /// The algorithm that is needed at least, if there is one.
+    pub need: Option<Algo>,
+
+    /// Whether files that are there are replaced.
+    pub is_forced: bool,
+
+    /// The path of the image.
+    pub image: &'a str,
+}
+
+pub(super) fn command<'a>(alloc: Global) -> Result<clap::Command<'a>, AllocError> {
+    clap::Command::new(alloc, "unpack")
+        .about("Put the payloads of a FIT image in a folder, where their hashes are right")
+        .after_help(UNPACK_NOTES)
+        .arg(value(alloc, "folder", 'C', "Put the files in this folder"))?
+        .arg(
+            Arg::new(alloc, "only")
+                .long("only")
+                .action(ArgAction::Set)
+                .value_name("name")
+                .help("Take the payload of the image of this name alone"),
+        )?
+        .arg(
+            Arg::new(alloc, "need-hash")
+                .long("need-hash")
+                .action(ArgAction::Set)
+                .value_name("algo")
+                .help("Ask for a hash by this algorithm or a stronger one"),
+        )?
+        .arg(
+            Arg::new(alloc, "force")
+                .long("force")
+                .action(ArgAction::SetTrue)
+                .help("Replace files that are there"),
+        )?
+        .arg(image(alloc, "The image"))
+}
+
+pub(super) fn request<'a>(matches: &ArgMatches<'a>) -> Result<UnpackRequest<'a>, WordsFault> {
+    let need = match matches.get_str("need-hash") {
+        Some(name) => Some(Algo::named(name.as_bytes()).ok_or(WordsFault::UnknownName)?),
+        None => None,
+    };
+    let folder = matches.get_str("folder").unwrap_or(".");
+    if folder.is_empty() {
+        return Err(WordsFault::NoFolder);
+    }
+    Ok(UnpackRequest {
+        folder,
+        only: matches.get_str("only"),
+        need,
+        is_forced: matches.get_flag("force"),
+        image: matches.get_str("image").unwrap_or(""),
+    })
+}

@@ -1,0 +1,62 @@
+#!/usr/bin/env python3
+"""summary.py FOLDER: what a farm found, from FOLDER/results.jsonl and FOLDER/joblog.
+
+It prints how many images have each verdict, those whose verdict is not ok, a line each, and how many images were
+checked a second, over the time in which jobs ran: by all of them together, and by one. The status is the greatest of
+all images."""
+import collections
+import json
+import os
+import sys
+
+
+def results(folder):
+    """What is told of each image. Lines end with newlines alone."""
+    with open(os.path.join(folder, "results.jsonl"), encoding="utf-8", newline="\n") as file:
+        return [json.loads(line) for line in file]
+
+
+def jobs(folder):
+    """When each job began and how long it ran, in seconds."""
+    with open(os.path.join(folder, "joblog"), encoding="utf-8", newline="\n") as file:
+        rows = [line.split("\t") for line in file][1:]
+    return [(float(row[2]), float(row[3])) for row in rows]
+
+
+def busy(spans):
+    """For how long at least one job ran, so that the time between two runs does not count."""
+    total, until = 0.0, 0.0
+    for begun, took in sorted(spans):
+        total += max(0.0, begun + took - max(begun, until))
+        until = max(until, begun + took)
+    return total
+
+
+def about(told):
+    """What a verdict is about, on one line."""
+    names = [json.dumps(told[key]) for key in ("image", "hash") if key in told]
+    return " ".join(names) or told.get("message") or told.get("algo", "")
+
+
+def main():
+    folder = sys.argv[1]
+    told = results(folder)
+    counts = collections.Counter(one["verdict"] for one in told)
+    print(f"{len(told)} images")
+    for verdict, count in counts.most_common():
+        print(f"  {verdict:<12} {count:>9}")
+    wrong = [one for one in told if one["verdict"] != "ok"]
+    if wrong:
+        print(f"\n{len(wrong)} that are not ok")
+    for one in wrong:
+        print(f"  {one['verdict']:<12} {json.dumps(one['path'])} {about(one)}".rstrip())
+    spans = jobs(folder)
+    ran = sum(took for _, took in spans)
+    print(f"\n{len(spans)} jobs in {busy(spans):.1f} s, {ran:.1f} s of jobs")
+    if ran:
+        print(f"{len(told) / busy(spans):.0f} images a second, {len(told) / ran:.0f} by each job")
+    return max((one["status"] for one in told), default=0)
+
+
+if __name__ == "__main__":
+    sys.exit(main())

@@ -1,0 +1,215 @@
+#!/usr/bin/env python3
+"""json_test.py PROGRAM: what `PROGRAM check --json` writes, held to the schema of docs/JSON.md.
+
+It checks all files of examples/ and cases/files/, FIT images of a fixed seed, whole and damaged, and some whose names
+are hostile. Each line has to be JSON without a control character and without a member that comes twice, to be valid
+by the schema, and to tell the path and just the line of text of the same image. It needs jsonschema, and says so where
+no Python here has it. The last line is 'N passed, M failed'."""
+import base64
+import glob
+import hashlib
+import json
+import os
+import random
+import re
+import subprocess
+import sys
+import tempfile
+import zlib
+
+TOP = os.path.dirname(os.path.dirname(os.path.abspath(__file__)))
+SYSTEM_PYTHON = "/usr/bin/python3"
+
+sys.path.insert(0, os.path.join(TOP, "bench"))
+import fits  # noqa: E402
+
+# How many FIT images are made.
+BUILT = 200
+ALGOS = ["crc32", "md5", "sha1", "sha256", "sha384", "sha512"]
+# Names of nodes of six bytes, in place of `kernel` and `hash-0`.
+IMAGES = [b"k\nel\"\\", b"\xff\xfe\x80abc", b"\xe2\x80\xa8\xe2\x80\xa9", b"\x01\x02\x1f\x7f\xc2\x85", b"\xed\xa0\x80\xf0\x9f\x98",
+          b"\xf0\x9f\x98\x80\xc3x", b"</a>&\t", b"\r\n{}[]", b"\xe2\x80\xae\xe2\x80\x8b"]  # fmt: skip
+HASHES = [b"hash\"\n", b"hash\xff\xc3", b"hash\\u", b"hash\xc2\xa0", b"hash\x08\x0c"]
+# Names of files.
+PATHS = [b'a"b', b"new\nline", b"back\\slash", b"\xff\xfe", b"\xe2\x80\xa8sep", b"\x01\x1b[31m", b"caf\xc3\xa9", b"\xed\xa0\x80", b"tab\t", b"%s{}$(x)"]  # fmt: skip
+
+
+def schema_of(path):
+    """The schema that stands in a document."""
+    with open(path) as file:
+        return json.loads(re.search(r"^```json\n(.*?)^```$", file.read(), re.M | re.S)[1])
+
+
+def digest(algo, data):
+    return zlib.crc32(data).to_bytes(4, "big") if algo == "crc32" else hashlib.new(algo, data).digest()
+
+
+def fit_of(pick):
+    """A FIT image with some images and hash nodes, of which some are not right."""
+    images = []
+    for number in range(pick.choice([0, 1, 1, 2, 5])):
+        data = pick.randbytes(pick.choice([0, 1, 33, 5000]))
+        hashes = []
+        for algo in pick.sample(ALGOS, pick.choice([0, 1, 1, 2])):
+            value = digest(algo, data)
+            spoilt = pick.choice([value] * 12 + [value[:-1], bytes(len(value))])
+            hashes.append((pick.choice([algo] * 12 + ["sha3", ""]), spoilt))
+        images.append(fits.image(f"kernel-{number}", fits.prop("data", data), hashes))
+    return fits.fit(images)
+
+
+def damaged(image, pick):
+    """The image as it is, cut, or with a byte that is another one."""
+    choice = pick.random()
+    if choice < 0.5:
+        return image
+    if choice < 0.6:
+        return image[: pick.randrange(len(image))]
+    at = pick.randrange(min(len(image), pick.choice([40, 200, len(image)])))
+    return image[:at] + bytes([image[at] ^ 1 << pick.randrange(8)]) + image[at + 1 :]
+
+
+def with_names(image, hash_name):
+    """A FIT image whose one hash is wrong, with these names of six bytes."""
+    whole = fits.fit([fits.image("kernel", fits.prop("data", b"abcd"), [("crc32", bytes(4))])])
+    return whole.replace(b"kernel\0", image + b"\0", 1).replace(b"hash-0\0", hash_name + b"\0", 1)
+
+
+def shared():
+    """A FIT image of two images with the same bytes behind the blob."""
+    data = bytes(5000)
+    place = fits.prop("data-offset", bytes(4)) + fits.prop("data-size", len(data).to_bytes(4, "big"))
+    return fits.fit([fits.image(name, place, [("crc32", digest("crc32", data))]) for name in ("one", "two")]) + data
+
+
+def write(folder, name, data):
+    path = os.path.join(os.fsencode(folder), name)
+    with open(path, "wb") as file:
+        file.write(data)
+    return path
+
+
+def made(folder):
+    """The paths of all images that are made for the test, and of some that cannot be read."""
+    pick = random.Random(2023)
+    paths = [write(folder, b"built-%d.itb" % number, damaged(fit_of(pick), pick)) for number in range(BUILT)]
+    pairs = [(image, b"hash-0") for image in IMAGES] + [(b"kernel", name) for name in HASHES] + list(zip(IMAGES, HASHES))
+    paths += [write(folder, b"names-%d.itb" % number, with_names(*pair)) for number, pair in enumerate(pairs)]
+    paths += [write(folder, name, fit_of(pick)) for name in PATHS]
+    paths.append(write(folder, b"shared.itb", shared()))
+    return paths + [os.fsencode(folder), os.path.join(os.fsencode(folder), b"none"), b""]
+
+
+def listed():
+    folders = ("examples", "cases/files")
+    return [os.fsencode(path) for folder in folders for path in sorted(glob.glob(os.path.join(TOP, folder, "*"))) if os.path.isfile(path)]
+
+
+def check(program, paths, *options):
+    """The status of a check of these paths, its lines, and what it says on standard error."""
+    command = [program, "check", "-0", "--files-from", "-", *options]
+    end = subprocess.run(command, input=b"".join(path + b"\0" for path in paths), capture_output=True)
+    return end.returncode, end.stdout, end.stderr
+
+
+def spelled(name):
+    """A name as a line of text has it."""
+    hidden = re.compile("[\0-\x1f\\\\\x7f-\x9f\u2028-\u202e\u200b-\u200f]")
+    escaped = lambda text: "".join(f"\\x{byte:02x}" for byte in text)
+    try:
+        return hidden.sub(lambda found: escaped(found[0].encode()), name.decode())
+    except UnicodeDecodeError:
+        return "".join(chr(byte) if 32 <= byte < 127 and byte != 92 else f"\\x{byte:02x}" for byte in name)
+
+
+def bytes_of(told, key):
+    """The bytes of a name, which its text has to stand for."""
+    if f"{key}_base64" not in told:
+        return told[key].encode()
+    name = base64.b64decode(told[f"{key}_base64"], validate=True)
+    assert name.decode("utf-8", "replace") == told[key], f"{key} is not that of its bytes"
+    return name
+
+
+def once(pairs):
+    """The object of these members."""
+    assert len({key for key, _ in pairs}) == len(pairs), "a member comes twice"
+    return dict(pairs)
+
+
+def text_of(told):
+    """The line of text of an image."""
+    verdict = told["verdict"]
+    if "images" in told:
+        counts = [(told["images"], "payload", "payloads"), (told["hashes"], "hash", "hashes")]
+        rest = ", ".join(f"{count} {one if count == 1 else many}" for count, one, many in counts)
+    elif "checksums" in told:
+        rest = f"{told['checksums']} checksums"
+    elif "image" in told:
+        rest = " ".join(spelled(bytes_of(told, key)) for key in ("image", "hash") if key in told)
+    else:
+        rest = told.get("message") or told.get("algo") or ("checksum" if verdict == "bad" else "")
+    return f"{spelled(bytes_of(told, 'path'))}: {verdict} {rest}".rstrip(" ")
+
+
+def judge(line, text, path, validator):
+    """Raises an error where a line is not what it has to be beside the line of text."""
+    assert not re.search(rb"[\0-\x1f]", line), "it has a control character"
+    told = json.loads(line.decode(), object_pairs_hook=once)
+    validator.validate(told)
+    assert bytes_of(told, "path") == path, "it has another path"
+    assert text_of(told) == text.decode(), f"the line of text is {text!r}"
+    if "fault" in told:
+        assert told["message"].startswith(told["fault"] + " "), "the fault is not that of its line"
+    if "offset" in told:
+        assert told["message"].endswith(f" at {told['offset']}"), "the offset is not that of the line"
+    return told
+
+
+def try_all(program, paths, validator, options):
+    """Checks all paths once as JSON and once as text. It gives the number of failures, and what was told."""
+    status, lines, said = check(program, paths, "--json", *options)
+    text_status, texts, text_said = check(program, paths, *options)
+    lines, texts, failures, all_told = lines.split(b"\n"), texts.split(b"\n"), 0, []
+    named = [path for path in paths if path]
+    if (status, said, lines[-1], len(lines)) != (text_status, text_said, b"", len(named) + 1):
+        print(f"status {status} and {len(lines) - 1} lines, not {text_status} and {len(named)}; {said!r}")
+        failures += 1
+    for line, text, path in zip(lines, texts, named):
+        try:
+            all_told.append(judge(line, text, path, validator))
+        except Exception as error:
+            print(f"{path!r}: {str(error).splitlines()[0]}\n    {line!r}")
+            failures += 1
+    if all_told and max(told["status"] for told in all_told) != status:
+        print(f"status {status} is not the greatest")
+        failures += 1
+    return failures, all_told
+
+
+def main():
+    program = os.path.abspath(sys.argv[1])
+    try:
+        import jsonschema
+    except ImportError:
+        if sys.executable != SYSTEM_PYTHON and os.path.exists(SYSTEM_PYTHON):
+            os.execv(SYSTEM_PYTHON, [SYSTEM_PYTHON, *sys.argv])
+        print("json_test: skipped, since no Python here has jsonschema (apt install python3-jsonschema)")
+        return 0
+    schema = schema_of(os.path.join(TOP, "docs", "JSON.md"))
+    jsonschema.Draft202012Validator.check_schema(schema)
+    validator = jsonschema.Draft202012Validator(schema)
+    failures, told = 0, []
+    with tempfile.TemporaryDirectory() as folder:
+        paths = listed() + made(folder)
+        for options in ([], ["--need", "crc32"], ["--need", "sha256"]):
+            failed, some = try_all(program, paths, validator, options)
+            failures, told = failures + failed, told + some
+    verdicts = sorted({one["verdict"] for one in told})
+    print(f"{len(told)} lines, verdicts: {' '.join(verdicts)}; {len({one.get('fault') for one in told}) - 1} faults")
+    print(f"{len(told)} passed, {failures} failed")
+    return 1 if failures else 0
+
+
+if __name__ == "__main__":
+    sys.exit(main())
