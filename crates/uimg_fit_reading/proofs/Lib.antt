@@ -31,3 +31,4 @@ pub mod TellingLaws
 pub mod RowLaws
 pub mod ListingLaws
 pub mod WithinLaws
+pub mod SurveyLaws

@@ -24,3 +24,5 @@ pub mod Telling
 pub mod NodeLines
 pub mod Heads
 pub mod ListingParts
+pub mod Survey
+pub mod SurveyParts

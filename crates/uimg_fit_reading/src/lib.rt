@@ -11,6 +11,7 @@ mod nodes;
 mod places;
 mod puts;
 mod report;
+mod surveying;
 mod tree;
 mod unpacking;
 
@@ -20,4 +21,7 @@ pub use extraction::{extract, locate};
 pub use listing::list;
 pub use named::{locate_name, locate_named};
 pub use report::{is_vouched, verify};
+pub use surveying::{
+    ConfigurationFacts, HashFacts, ImageFacts, PayloadFacts, Survey, SurveyFault, survey,
+};
 pub use unpacking::{MemTake, MemTaker, NodeName, Refusal, Taker, Unpacked, Vouched, unpack};

@@ -1,0 +1,76 @@
+-- What is said of a survey beside what it tells.
+use Rattle.std.specs.Prelude.{◌≡◌, ◌≤◌, ◌+◌, ℕ, ⊤, List, IfSome, Option, Result, Ok, Err, Bool, true, false}
+use Rattle.std.specs.List.{All}
+use Rattle.uimg_base.specs.declared.spans.Span.{Span}
+use Rattle.uimg_fit_reading.specs.declared.surveying.facts.HashFacts.{HashFacts}
+use Rattle.uimg_fit_reading.specs.declared.surveying.facts.PayloadFacts.{PayloadFacts}
+use Rattle.uimg_fit_reading.specs.declared.surveying.facts.ImageFacts.{ImageFacts}
+use Rattle.uimg_fit_reading.specs.declared.surveying.facts.ConfigurationFacts.{ConfigurationFacts}
+use Rattle.uimg_fit_reading.specs.declared.surveying.facts.Survey.{Survey}
+use Rattle.uimg_fit_reading.specs.declared.surveying.fault.SurveyFault.{SurveyFault}
+use Rattle.uimg_fit_reading.specs.declared.surveying.fault.SurveyFault.TheVariants.{Stopped, OutOfMemory}
+use Rattle.uimg_fit_reading.specs.Survey.{read_survey, survey_of}
+use Rattle.uimg_blob.specs.Faults.{refuses_memory}
+use Rattle.uimg_fit_base.specs.declared.fault.Fault.TheVariants as of
+
+-- A value that is there ends in a file of so many bytes.
+abbrev pub Ends : ℕ → Option Span → Type 0
+Ends size value = IfSome value (λ s. s.place + s.length ≤ size)
+
+pub record HashInside (size : ℕ) (facts : HashFacts) : Type 0 where
+  pub name : facts.name.place + facts.name.length ≤ size
+  pub algo : Ends size facts.algo
+  pub value : Ends size facts.value
+
+pub record PayloadInside (file_size : ℕ) (facts : PayloadFacts) : Type 0 where
+  pub embedded : Ends file_size facts.embedded
+  pub size : Ends file_size facts.size
+  pub offset : Ends file_size facts.offset
+  pub position : Ends file_size facts.position
+
+pub record ImageInside (size : ℕ) (facts : ImageFacts) : Type 0 where
+  pub name : facts.name.place + facts.name.length ≤ size
+  pub description : Ends size facts.description
+  pub kind : Ends size facts.kind
+  pub arch : Ends size facts.arch
+  pub os : Ends size facts.os
+  pub compression : Ends size facts.compression
+  pub load : Ends size facts.load
+  pub entry : Ends size facts.entry
+  pub payload : PayloadInside size facts.payload
+  pub hashes : All (HashInside size) facts.hashes.items
+
+pub record ConfigurationInside (size : ℕ) (facts : ConfigurationFacts) : Type 0 where
+  pub name : facts.name.place + facts.name.length ≤ size
+  pub description : Ends size facts.description
+  pub kernel : Ends size facts.kernel
+  pub ramdisk : Ends size facts.ramdisk
+  pub fdt : Ends size facts.fdt
+  pub loadables : Ends size facts.loadables
+
+pub record SurveyInside (size : ℕ) (facts : Survey) : Type 0 where
+  pub blob : facts.totalsize ≤ size
+  pub description : Ends size facts.description
+  pub timestamp : Ends size facts.timestamp
+  pub images : All (ImageInside size) facts.images.items
+  pub preferred : Ends size facts.preferred
+  pub configurations : All (ConfigurationInside size) facts.configurations.items
+
+-- the answer is that a read failed
+abbrev pub is_unread : Result Survey SurveyFault → Bool
+is_unread (Err (Stopped of.Read)) = true
+is_unread _ = false
+
+-- the answer is that memory for the table of nodes was refused
+abbrev pub lacks_room : Result Survey SurveyFault → Bool
+lacks_room (Err (Stopped (of.Blob fault at))) = refuses_memory fault
+lacks_room _ = false
+
+-- An answer is what the file says, or its first fault, unless a read failed or memory was refused.
+abbrev pub Surveys : List ℕ → Result Survey SurveyFault → Type 0
+Surveys file (Ok survey) = survey_of file ≡ Ok (read_survey file survey)
+Surveys file (Err (Stopped (of.Blob fault at))) = refuses_memory fault ≡ false → survey_of file ≡ Err (of.Blob fault at)
+Surveys file (Err (Stopped (of.Fit fault))) = survey_of file ≡ Err (of.Fit fault)
+Surveys file (Err (Stopped of.Read)) = ⊤
+Surveys file (Err (Stopped of.Put)) = ⊥
+Surveys file (Err OutOfMemory) = ⊤

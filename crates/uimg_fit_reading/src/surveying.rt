@@ -1,0 +1,100 @@
+//! What a FIT image says of itself is gathered, without its payloads.
+
+ghost use Rattle.std.specs.Prelude.{◌≡◌, ◌<◌, ℕ, List, length, false, IsTrue, IfOk, IfSome};
+ghost use Rattle.uimg_base.specs.Using.{UsesAtMost};
+ghost use Rattle.uimg_blob.specs.Counts.{index_cost};
+ghost use Rattle.uimg_blob.specs.Grammar.{Siblings};
+ghost use Rattle.uimg_blob.specs.LookUps.{NodeOf, images, configurations};
+ghost use Rattle.uimg_blob.specs.Roles.{in_images};
+ghost use Rattle.uimg_blob.specs.Spots.{Spot, spots};
+ghost use Rattle.uimg_fit_reading.specs.Nodes.{Indexed, InFile, IsRead, AreFrom};
+ghost use Rattle.uimg_fit_reading.specs.Rooms.{TakesNodes};
+ghost use Rattle.uimg_fit_reading.specs.Survey.{said_of, read_survey, preferred_in, configurations_in, read_configuration, survey_of};
+ghost use Rattle.uimg_fit_reading.specs.SurveyParts.{Ends, ConfigurationInside, SurveyInside, is_unread, lacks_room, Surveys};
+ghost use Rattle.std.specs.List.{All};
+ghost use Rattle.std.specs.Prelude.{map};
+ghost use Rattle.uimg_fit_base.specs.Files.{bytes_in};
+
+mod facts;
+mod fault;
+mod gathered_nodes;
+
+use crate::images::first_image;
+use crate::nodes::{child_of, configurations_of, root_value, value_of};
+use crate::surveying::gathered_nodes::{gather_configurations, gather_images};
+use crate::tree::read_tree;
+pub use facts::{ConfigurationFacts, HashFacts, ImageFacts, PayloadFacts, Survey};
+pub use fault::SurveyFault;
+use std::alloc::{AllocError, Allocator, Global};
+use uimg_base::{Room, Source, Span};
+use uimg_blob::{Blob, Key};
+
+// The default and what the configurations say, if there are any.
+fn configurations<A: Allocator>(
+    alloc: Global,
+    blob: &Blob,
+    room: &Room<A>,
+) -> Result<(Option<Span>, Vec<ConfigurationFacts>), AllocError>
+    requires { Indexed blob.now room.now.entries }
+    ensures inside { (size : ℕ) → InFile size blob.now room.now.entries →
+        IfOk result (λ found. Ends size found.0 × All (ConfigurationInside size) found.1.items) }
+    ensures said { (file : List ℕ) (t : Siblings) → IsRead file blob.now room.now.entries t →
+        IfOk result (λ found. (bytes_in file found.0 ≡ preferred_in (configurations (spots t)))
+        × (map (read_configuration file) found.1.items ≡ configurations_in (configurations (spots t)))) }
+{
+    let Some(node) = configurations_of(blob, room) else {
+        return Ok((None, Vec::new(alloc)));
+    };
+    let preferred = value_of(blob, room, node, Key::Default);
+    let all = gather_configurations(alloc, blob, room, child_of(blob, room, node))?;
+    Ok((preferred, all))
+}
+
+// What an image with these images says.
+fn gather<A: Allocator>(
+    alloc: Global,
+    blob: &Blob,
+    room: &Room<A>,
+    first: Option<usize>,
+) -> Result<Survey, AllocError>
+    requires within { IfSome first (λ i. i < length room.now.entries) }
+    requires indexed { Indexed blob.now room.now.entries }
+    ensures inside { (size : ℕ) → InFile size blob.now room.now.entries →
+        IfOk result (SurveyInside size) }
+    ensures said { (file : List ℕ) (t : Siblings) → IsRead file blob.now room.now.entries t →
+        (found : List (NodeOf Spot)) → AreFrom t in_images first found →
+        IfOk result (λ survey. read_survey file survey ≡ said_of file (spots t) found) }
+{
+    let images = gather_images(alloc, blob, room, first)?;
+    let (preferred, configurations) = configurations(alloc, blob, room)?;
+    Ok(Survey {
+        totalsize: blob.totalsize(),
+        description: root_value(blob, room, Key::Description),
+        timestamp: root_value(blob, room, Key::Timestamp),
+        images,
+        preferred,
+        configurations,
+    })
+}
+
+/// What a FIT image says of itself: of its root, its images with their hash nodes, and its configurations,
+/// all but the payloads. Each value is told as the place where it stands, and no value is read.
+///
+/// Refusals are those of the blob, then `NoImages`. The room holds the nodes meanwhile, and refuses memory
+/// as it does for a listing; `OutOfMemory` comes where memory for what is gathered was refused, some 250
+/// bytes for an image or a configuration and 80 for a hash node.
+pub fn survey<S: Source, A: Allocator>(
+    alloc: Global,
+    source: &mut S,
+    room: &mut Room<A>,
+) -> Result<Survey, SurveyFault>
+    ensures uses { UsesAtMost (index_cost (S.device source.old).bytes) (is_unread result)
+        (S.device source.old) (S.device source.new) }
+    ensures room { TakesNodes (S.device source.old) (lacks_room result) room.old room.new }
+    ensures inside { IfOk result (SurveyInside (length (S.device source.old).bytes)) }
+    ensures told { IsTrue (S.device source.old).honest → Surveys (S.device source.old).bytes result }
+{
+    let blob = read_tree(source, room)?;
+    let first = first_image(&blob, room)?;
+    Ok(gather(alloc, &blob, room, first)?)
+}

@@ -1,0 +1,170 @@
+//! What images, hash nodes and configurations say, gathered from the nodes of an indexed blob.
+
+ghost use Rattle.std.specs.Prelude.{◌≡◌, ◌<◌, ℕ, List, length, map, IfOk, IfSome, true};
+ghost use Rattle.std.specs.List.{All};
+ghost use Rattle.uimg_blob.specs.Grammar.{Siblings};
+ghost use Rattle.uimg_blob.specs.LookUps.{NodeOf, hashes};
+ghost use Rattle.uimg_blob.specs.Roles.{in_image, in_images, in_configurations, is_hash};
+ghost use Rattle.uimg_blob.specs.Spots.{Spot};
+ghost use Rattle.uimg_fit_reading.specs.Nodes.{Indexed, InFile, IsRead, IsNode, AreFrom, AtLevel, HashesAt};
+ghost use Rattle.uimg_fit_reading.specs.Survey.{hash_said, payload_said, image_said, configuration_said, read_hash, read_payload, read_image, read_configuration};
+ghost use Rattle.uimg_fit_reading.specs.SurveyParts.{HashInside, PayloadInside, ImageInside, ConfigurationInside};
+
+use crate::nodes::{first_hash, name_of, next_hash, next_of, value_of};
+use crate::surveying::facts::{ConfigurationFacts, HashFacts, ImageFacts, PayloadFacts};
+use std::alloc::{AllocError, Allocator, Global};
+use uimg_base::Room;
+use uimg_blob::{Blob, Key};
+
+// What a hash node says.
+fn hash_facts<A: Allocator>(blob: &Blob, room: &Room<A>, hash: usize) -> HashFacts
+    requires { hash < length room.now.entries }
+    ensures inside { (size : ℕ) → InFile size blob.now room.now.entries → HashInside size result }
+    ensures said { AtLevel blob.now room.now.entries in_image hash (λ file found.
+        is_hash found.name ≡ true → read_hash file result ≡ hash_said found) }
+{
+    HashFacts {
+        name: name_of(blob, room, hash),
+        algo: value_of(blob, room, hash, Key::Algo),
+        value: value_of(blob, room, hash, Key::Value),
+    }
+}
+
+// What the hash nodes from one on say.
+fn gather_hashes<A: Allocator>(
+    alloc: Global,
+    blob: &Blob,
+    room: &Room<A>,
+    first: Option<usize>,
+) -> Result<Vec<HashFacts>, AllocError>
+    requires within { IfSome first (λ i. i < length room.now.entries) }
+    requires indexed { Indexed blob.now room.now.entries }
+    ensures inside { (size : ℕ) → InFile size blob.now room.now.entries →
+        IfOk result (λ facts. All (HashInside size) facts.items) }
+    ensures said { (file : List ℕ) (t : Siblings) → IsRead file blob.now room.now.entries t →
+        (hs : List (NodeOf Spot)) → HashesAt t first hs →
+        IfOk result (λ facts. map (read_hash file) facts.items ≡ map hash_said hs) }
+{
+    let mut facts = Vec::new(alloc);
+    let mut next = first;
+    while let Some(hash) = next {
+        facts.push(hash_facts(blob, room, hash))?;
+        next = next_hash(blob, room, hash);
+    }
+    Ok(facts)
+}
+
+// What an image says of the place of its payload.
+fn payload_facts<A: Allocator>(blob: &Blob, room: &Room<A>, image: usize) -> PayloadFacts
+    requires { image < length room.now.entries }
+    ensures inside { (size : ℕ) → InFile size blob.now room.now.entries → PayloadInside size result }
+    ensures said { AtLevel blob.now room.now.entries in_images image (λ file found.
+        read_payload file result ≡ payload_said found) }
+{
+    PayloadFacts {
+        embedded: value_of(blob, room, image, Key::Data),
+        size: value_of(blob, room, image, Key::DataSize),
+        offset: value_of(blob, room, image, Key::DataOffset),
+        position: value_of(blob, room, image, Key::DataPosition),
+    }
+}
+
+// What an image says.
+fn image_facts<A: Allocator>(
+    alloc: Global,
+    blob: &Blob,
+    room: &Room<A>,
+    image: usize,
+) -> Result<ImageFacts, AllocError>
+    requires within { image < length room.now.entries }
+    requires indexed { Indexed blob.now room.now.entries }
+    ensures inside { (size : ℕ) → InFile size blob.now room.now.entries →
+        IfOk result (ImageInside size) }
+    ensures said { AtLevel blob.now room.now.entries in_images image (λ file found.
+        IfOk result (λ facts. read_image file facts ≡ image_said found)) }
+{
+    let hashes = gather_hashes(alloc, blob, room, first_hash(blob, room, image))?;
+    Ok(ImageFacts {
+        name: name_of(blob, room, image),
+        description: value_of(blob, room, image, Key::Description),
+        kind: value_of(blob, room, image, Key::Kind),
+        arch: value_of(blob, room, image, Key::Arch),
+        os: value_of(blob, room, image, Key::Os),
+        compression: value_of(blob, room, image, Key::Compression),
+        load: value_of(blob, room, image, Key::Load),
+        entry: value_of(blob, room, image, Key::Entry),
+        payload: payload_facts(blob, room, image),
+        hashes,
+    })
+}
+
+// What the images from one on say.
+pub(super) fn gather_images<A: Allocator>(
+    alloc: Global,
+    blob: &Blob,
+    room: &Room<A>,
+    first: Option<usize>,
+) -> Result<Vec<ImageFacts>, AllocError>
+    requires within { IfSome first (λ i. i < length room.now.entries) }
+    requires indexed { Indexed blob.now room.now.entries }
+    ensures inside { (size : ℕ) → InFile size blob.now room.now.entries →
+        IfOk result (λ facts. All (ImageInside size) facts.items) }
+    ensures said { (file : List ℕ) (t : Siblings) → IsRead file blob.now room.now.entries t →
+        (found : List (NodeOf Spot)) → AreFrom t in_images first found →
+        IfOk result (λ facts. map (read_image file) facts.items ≡ map image_said found) }
+{
+    let mut facts = Vec::new(alloc);
+    let mut next = first;
+    while let Some(image) = next {
+        facts.push(image_facts(alloc, blob, room, image)?)?;
+        next = next_of(blob, room, image);
+    }
+    Ok(facts)
+}
+
+// What a configuration says.
+fn configuration_facts<A: Allocator>(
+    blob: &Blob,
+    room: &Room<A>,
+    configuration: usize,
+) -> ConfigurationFacts
+    requires { configuration < length room.now.entries }
+    ensures inside { (size : ℕ) → InFile size blob.now room.now.entries →
+        ConfigurationInside size result }
+    ensures said { AtLevel blob.now room.now.entries in_configurations configuration (λ file found.
+        read_configuration file result ≡ configuration_said found) }
+{
+    ConfigurationFacts {
+        name: name_of(blob, room, configuration),
+        description: value_of(blob, room, configuration, Key::Description),
+        kernel: value_of(blob, room, configuration, Key::Kernel),
+        ramdisk: value_of(blob, room, configuration, Key::Ramdisk),
+        fdt: value_of(blob, room, configuration, Key::Fdt),
+        loadables: value_of(blob, room, configuration, Key::Loadables),
+    }
+}
+
+// What the configurations from one on say.
+pub(super) fn gather_configurations<A: Allocator>(
+    alloc: Global,
+    blob: &Blob,
+    room: &Room<A>,
+    first: Option<usize>,
+) -> Result<Vec<ConfigurationFacts>, AllocError>
+    requires within { IfSome first (λ i. i < length room.now.entries) }
+    requires indexed { Indexed blob.now room.now.entries }
+    ensures inside { (size : ℕ) → InFile size blob.now room.now.entries →
+        IfOk result (λ facts. All (ConfigurationInside size) facts.items) }
+    ensures said { (file : List ℕ) (t : Siblings) → IsRead file blob.now room.now.entries t →
+        (found : List (NodeOf Spot)) → AreFrom t in_configurations first found →
+        IfOk result (λ facts. map (read_configuration file) facts.items
+        ≡ map configuration_said found) }
+{
+    let mut facts = Vec::new(alloc);
+    let mut next = first;
+    while let Some(configuration) = next {
+        facts.push(configuration_facts(blob, room, configuration))?;
+        next = next_of(blob, room, configuration);
+    }
+    Ok(facts)
+}
