@@ -202,3 +202,59 @@ Wrong lines:
   [2]
   $ uimg check -0 kernel.img
   kernel.img: ok 2 checksums
+
+With --strict an image needs a hash, and what configurations name has to be there: the default first, then each configuration's
+kernel, ramdisk, fdt and loadables:
+
+  $ fit2() {
+  >     images='kernel { data = "k"; hash-1 { algo = "crc32"; }; }; board { data = "f"; hash-1 { algo = "sha1"; }; };'
+  >     echo "/dts-v1/; / { description = \"d\"; images { $images }; configurations { $1 }; };" > k.its
+  >     SOURCE_DATE_EPOCH=0 uimg mkimage -f k.its k.itb > /dev/null
+  > }
+  $ fit2 'default = "c"; c { kernel = "kernel"; fdt = "board"; }; d { kernel = "kernel"; fdt = "board", "kernel"; loadables = "board"; };'
+  $ uimg check --strict k.itb kernel.img
+  k.itb: ok 2 payloads, 2 hashes
+  kernel.img: ok 2 checksums
+  $ uimg check --strict --need sha1 k.itb kernel.img
+  k.itb: weak kernel
+  kernel.img: weak crc32
+  [1]
+  $ missing() { fit2 "$1" && uimg check k.itb && uimg check --strict k.itb; uimg check --strict --json k.itb; }
+  $ missing 'default = "d"; c { kernel = "gone"; };'
+  k.itb: ok 2 payloads, 2 hashes
+  k.itb: missing default d
+  {"path":"k.itb","status":1,"verdict":"missing","format":"fit","property":"default","name":"d"}
+  [1]
+  $ missing 'c { kernel = "kernel"; }; d { kernel = "kerne"; ramdisk = "gone"; };'
+  k.itb: ok 2 payloads, 2 hashes
+  k.itb: missing d kernel kerne
+  {"path":"k.itb","status":1,"verdict":"missing","format":"fit","configuration":"d","property":"kernel","name":"kerne"}
+  [1]
+  $ missing 'c { ramdisk = "kernel2"; fdt = "gone"; };' | head -n 2
+  k.itb: ok 2 payloads, 2 hashes
+  k.itb: missing c ramdisk kernel2
+  $ missing 'c { fdt = "board", "over, lay"; loadables = "gone"; };' | head -n 2
+  k.itb: ok 2 payloads, 2 hashes
+  k.itb: missing c fdt over, lay
+  $ missing 'c { loadables = "kernel", "", "board"; };'
+  k.itb: ok 2 payloads, 2 hashes
+  k.itb: missing c loadables 
+  {"path":"k.itb","status":1,"verdict":"missing","format":"fit","configuration":"c","property":"loadables","name":""}
+  [1]
+  $ missing 'c { loadables = [ff 0a 00]; };'
+  k.itb: ok 2 payloads, 2 hashes
+  k.itb: missing c loadables \xff\x0a
+  {"path":"k.itb","status":1,"verdict":"missing","format":"fit","configuration":"c","property":"loadables","name":"\ufffd\n","name_base64":"/wo="}
+  [1]
+
+A value that is empty names nothing; an image without a hash is weak, and one without images is empty:
+
+  $ fit2 'default = []; c { kernel = []; };' && uimg check --strict k.itb
+  k.itb: ok 2 payloads, 2 hashes
+  $ fit 'a { data = "abc"; };' && uimg check k.itb && uimg check --strict k.itb
+  k.itb: unhashed a
+  k.itb: weak a
+  [1]
+  $ fit '' && uimg check --strict k.itb
+  k.itb: empty
+  [1]

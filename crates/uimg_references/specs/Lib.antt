@@ -1,2 +1,3 @@
 pub mod Names
+pub mod Properties
 pub mod References

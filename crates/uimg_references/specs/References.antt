@@ -2,18 +2,18 @@
 use Rattle.std.specs.Prelude.{ℕ, List, [], ◌∷◌, map, Option, Some, None}
 use Rattle.std.specs.List.{find}
 use Rattle.std.specs.Option.{option_map}
-use Rattle.uimg_blob.specs.declared.keys.Key.{Key}
-use Rattle.uimg_blob.specs.declared.keys.Key.TheVariants.{Default, Kernel, Ramdisk, Fdt, Loadables}
 use Rattle.uimg_fit_base.specs.Files.{bytes_in}
 use Rattle.uimg_fit_reading.specs.Survey.{Said, ConfigurationSaid}
 use Rattle.uimg_fit_reading.specs.Values.{pieces}
 use Rattle.uimg_references.specs.declared.missing.Missing.{Missing}
+use Rattle.uimg_references.specs.declared.reference.Reference.{Reference}
+use Rattle.uimg_references.specs.declared.reference.Reference.TheVariants.{Default, Kernel, Ramdisk, Fdt, Loadables}
 use Rattle.uimg_references.specs.Names.{is_lost}
 
 -- A name that is given: by which configuration, or by the node of all of them, and under which property.
 pub record MissingSaid : Type 0 where
   pub configuration : Option (List ℕ)
-  pub key : Key
+  pub reference : Reference
   pub name : List ℕ
 
 -- the first text of a value that is none of some names
@@ -22,8 +22,8 @@ lost_in names None = None
 lost_in names (Some value) = find (is_lost names) (pieces value)
 
 -- the same, with who gives it
-abbrev pub missing_under : List (List ℕ) → Option (List ℕ) → Key → Option (List ℕ) → Option MissingSaid
-missing_under names giver property value = option_map (λ text. record { configuration = giver; key = property; name = text }) (lost_in names value)
+abbrev pub missing_under : List (List ℕ) → Option (List ℕ) → Reference → Option (List ℕ) → Option MissingSaid
+missing_under names giver property value = option_map (λ text. record { configuration = giver; reference = property; name = text }) (lost_in names value)
 
 -- the first of two that is there
 abbrev pub first_of : Option MissingSaid → Option MissingSaid → Option MissingSaid
@@ -50,4 +50,4 @@ missing_in said =
 
 -- what is told of one, in a file
 abbrev pub read_missing : List ℕ → Missing → MissingSaid
-read_missing file missing = record { configuration = bytes_in file missing.configuration; key = missing.key; name = missing.name.items }
+read_missing file missing = record { configuration = bytes_in file missing.configuration; reference = missing.reference; name = missing.name.items }

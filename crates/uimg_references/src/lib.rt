@@ -4,5 +4,7 @@
 mod missing;
 mod names;
 mod reads;
+mod reference;
 
 pub use missing::{Missing, find_missing};
+pub use reference::Reference;

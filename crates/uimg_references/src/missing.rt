@@ -13,10 +13,10 @@ ghost use Rattle.uimg_references.specs.References.{read_missing, missing_under, 
 
 use crate::names::{configuration_names, image_names};
 use crate::reads::read_bytes;
+use crate::reference::Reference;
 use std::alloc::Global;
 use std::collections::BTreeSet;
 use uimg_base::{Source, Span, before_nul};
-use uimg_blob::Key;
 use uimg_fit_reading::{ConfigurationFacts, Survey, SurveyFault};
 
 /// A name that is given, and that no image, or no configuration, has.
@@ -26,8 +26,8 @@ pub struct Missing {
     /// node `configurations` gives.
     pub configuration: Option<Span>,
 
-    /// The property that gives it: `Default`, `Kernel`, `Ramdisk`, `Fdt` or `Loadables`.
-    pub key: Key,
+    /// The property that gives it.
+    pub reference: Reference,
 
     /// The name.
     pub name: Vec<u8>,
@@ -66,7 +66,7 @@ fn missing_under<S: Source>(
     source: &mut S,
     names: &BTreeSet<Vec<u8>>,
     configuration: Option<Span>,
-    key: Key,
+    reference: Reference,
     value: Option<Span>,
 ) -> Result<Option<Missing>, SurveyFault>
     requires { Ends (length (S.device source.old).bytes) value }
@@ -74,7 +74,7 @@ fn missing_under<S: Source>(
     ensures told { IsTrue (S.device source.old).honest → (list : List (List ℕ)) →
         HasNames names.now list → IfOk result (λ found.
         option_map (read_missing (S.device source.old).bytes) found
-        ≡ missing_under list (bytes_in (S.device source.old).bytes configuration) key
+        ≡ missing_under list (bytes_in (S.device source.old).bytes configuration) reference
           (bytes_in (S.device source.old).bytes value)) }
 {
     let Some(span) = value else {
@@ -84,7 +84,7 @@ fn missing_under<S: Source>(
     match lost_in(names, bytes.as_slice()) {
         Some(name) => Ok(Some(Missing {
             configuration,
-            key,
+            reference,
             name: Vec::from_slice(alloc, name)?,
         })),
         None => Ok(None),
@@ -106,19 +106,19 @@ fn missing_of<S: Source>(
         ≡ missing_of list (read_configuration (S.device source.old).bytes configuration.now)) }
 {
     let name = Some(configuration.name);
-    let kernel = missing_under(alloc, source, images, name, Key::Kernel, configuration.kernel)?;
+    let kernel = missing_under(alloc, source, images, name, Reference::Kernel, configuration.kernel)?;
     if kernel.is_some() {
         return Ok(kernel);
     }
-    let ramdisk = missing_under(alloc, source, images, name, Key::Ramdisk, configuration.ramdisk)?;
+    let ramdisk = missing_under(alloc, source, images, name, Reference::Ramdisk, configuration.ramdisk)?;
     if ramdisk.is_some() {
         return Ok(ramdisk);
     }
-    let fdt = missing_under(alloc, source, images, name, Key::Fdt, configuration.fdt)?;
+    let fdt = missing_under(alloc, source, images, name, Reference::Fdt, configuration.fdt)?;
     if fdt.is_some() {
         return Ok(fdt);
     }
-    missing_under(alloc, source, images, name, Key::Loadables, configuration.loadables)
+    missing_under(alloc, source, images, name, Reference::Loadables, configuration.loadables)
 }
 
 // The first name that some configurations give and no image has.
@@ -164,7 +164,7 @@ pub fn find_missing<S: Source>(
 {
     let configurations = survey.configurations.as_slice();
     let names = configuration_names(alloc, source, configurations)?;
-    let preferred = missing_under(alloc, source, &names, None, Key::Default, survey.preferred)?;
+    let preferred = missing_under(alloc, source, &names, None, Reference::Default, survey.preferred)?;
     if preferred.is_some() {
         return Ok(preferred);
     }

@@ -1,10 +1,12 @@
 //! What is told of an image that was checked.
 
 use crate::main_program::{DONE, FAILED, REFUSED, RequestFault, status_of};
+use std::alloc::Global;
 use uimg_base::{Source, Span};
 use uimg_engine::{Checked, Fault};
 use uimg_fit_base::word_text;
 use uimg_fit_reading::Finding;
+use uimg_references::Missing;
 
 /// The most bytes that a name of a node has.
 const NAME_LEN: usize = 255;
@@ -14,14 +16,16 @@ const NAME_LEN: usize = 255;
 pub(crate) struct Names {
     image: [u8; NAME_LEN],
     hash: [u8; NAME_LEN],
+    missing: Vec<u8>,
 }
 
 impl Names {
     /// Room for the names of an answer.
-    pub(crate) fn new() -> Names {
+    pub(crate) fn new(alloc: Global) -> Names {
         Names {
             image: [0; NAME_LEN],
             hash: [0; NAME_LEN],
+            missing: Vec::new(alloc),
         }
     }
 }
@@ -46,6 +50,13 @@ pub(crate) enum Answer<'a> {
     /// There is no image in a FIT, and a strength is needed.
     Empty,
 
+    /// A name is given that is not there: by a configuration, or else as the default.
+    Missing {
+        configuration: Option<&'a [u8]>,
+        property: &'static str,
+        name: &'a [u8],
+    },
+
     /// The checksums of a legacy image are right.
     RightChecksums,
 
@@ -68,7 +79,8 @@ impl<'a> Answer<'a> {
         match *self {
             Answer::Right { .. } | Answer::RightChecksums => DONE,
             Answer::About { status, .. } => status,
-            Answer::Empty | Answer::BadChecksum | Answer::WeakChecksums => REFUSED,
+            Answer::Empty | Answer::Missing { .. } => REFUSED,
+            Answer::BadChecksum | Answer::WeakChecksums => REFUSED,
             Answer::Stopped(fault) => status_of(&RequestFault::Stopped(fault)),
             Answer::Unread => FAILED,
         }
@@ -80,6 +92,7 @@ impl<'a> Answer<'a> {
             Answer::Right { .. } | Answer::RightChecksums => "ok",
             Answer::About { word, .. } => word,
             Answer::Empty => "empty",
+            Answer::Missing { .. } => "missing",
             Answer::BadChecksum => "bad",
             Answer::WeakChecksums => "weak",
             Answer::Stopped(_) if self.status() == REFUSED => "refused",
@@ -101,6 +114,37 @@ pub(crate) fn answer_of<'a, S: Source>(
         Ok(Checked::Damaged) => Answer::BadChecksum,
         Ok(Checked::Weak) => Answer::WeakChecksums,
         Err(fault) => Answer::Stopped(fault),
+    }
+}
+
+/// What is told of a name that is not there.
+pub(crate) fn answer_of_missing<'a, S: Source>(
+    missing: Missing,
+    source: &mut S,
+    names: &'a mut Names,
+) -> Answer<'a> {
+    let Missing {
+        configuration,
+        reference,
+        name,
+    } = missing;
+    let Names {
+        image: bytes,
+        missing: kept,
+        ..
+    } = names;
+    *kept = name;
+    let configuration = match configuration {
+        Some(place) => match name_at(source, place, bytes) {
+            Some(found) => Some(found),
+            None => return Answer::Stopped(Fault::Read),
+        },
+        None => None,
+    };
+    Answer::Missing {
+        configuration,
+        property: reference.name(),
+        name: kept.as_slice(),
     }
 }
 

@@ -31,6 +31,9 @@ pub(crate) fn json_text(
 struct Details {
     image: Option<Spelling>,
     hash: Option<Spelling>,
+    configuration: Option<Spelling>,
+    property: Option<&'static str>,
+    name: Option<Spelling>,
     message: Option<String>,
     has_code: bool,
 }
@@ -41,9 +44,20 @@ impl Details {
             Answer::About { image, hash, .. } => (Some(image), hash),
             _ => (None, None),
         };
+        let (configuration, property, name) = match *answer {
+            Answer::Missing {
+                configuration,
+                property,
+                name,
+            } => (configuration, Some(property), Some(name)),
+            _ => (None, None, None),
+        };
         Ok(Details {
             image: spell_if(alloc, image)?,
             hash: spell_if(alloc, hash)?,
+            configuration: spell_if(alloc, configuration)?,
+            property,
+            name: spell_if(alloc, name)?,
             message: message_of(alloc, answer)?,
             has_code: has_code(answer),
         })
@@ -117,6 +131,13 @@ impl<'a> Object<'a> {
         if let Some(hash) = &details.hash {
             self.name("hash", "hash_base64", hash)?;
         }
+        if let Some(configuration) = &details.configuration {
+            self.name("configuration", "configuration_base64", configuration)?;
+        }
+        self.text_if("property", details.property)?;
+        if let Some(name) = &details.name {
+            self.name("name", "name_base64", name)?;
+        }
         match &details.message {
             Some(message) => self.message(message.as_str(), details.has_code),
             None => Ok(()),
@@ -158,7 +179,8 @@ fn has_code(answer: &Answer<'_>) -> bool {
 // The format of the image, where it is known.
 fn format_of(answer: &Answer<'_>) -> Option<&'static str> {
     match *answer {
-        Answer::Right { .. } | Answer::About { .. } | Answer::Empty => Some("fit"),
+        Answer::Right { .. } | Answer::About { .. } => Some("fit"),
+        Answer::Empty | Answer::Missing { .. } => Some("fit"),
         Answer::Stopped(Fault::Blob(_, _) | Fault::Fit(_)) => Some("fit"),
         Answer::RightChecksums | Answer::BadChecksum | Answer::WeakChecksums => Some("legacy"),
         Answer::Stopped(Fault::Legacy(_)) => Some("legacy"),

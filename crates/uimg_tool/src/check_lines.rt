@@ -13,6 +13,11 @@ pub(crate) fn put_line<W: Write>(path: &[u8], answer: &Answer<'_>, out: &mut W) 
         Answer::Right { images, hashes } => put_counts(images, hashes, out),
         Answer::About { image, hash, .. } => put_names(image, hash, out),
         Answer::Empty => writeln!(out, ""),
+        Answer::Missing {
+            configuration,
+            property,
+            name,
+        } => put_missing(configuration, property, name, out),
         Answer::RightChecksums => writeln!(out, " 2 checksums"),
         Answer::BadChecksum => writeln!(out, " checksum"),
         Answer::WeakChecksums => writeln!(out, " crc32"),
@@ -32,4 +37,16 @@ fn put_names<W: Write>(image: &[u8], hash: Option<&[u8]>, out: &mut W) -> io::Re
         Some(hash) => writeln!(out, " {} {}", Printed(image), Printed(hash)),
         None => writeln!(out, " {}", Printed(image)),
     }
+}
+
+fn put_missing<W: Write>(
+    configuration: Option<&[u8]>,
+    property: &str,
+    name: &[u8],
+    out: &mut W,
+) -> io::Result<()> {
+    if let Some(configuration) = configuration {
+        write!(out, " {}", Printed(configuration))?;
+    }
+    writeln!(out, " {property} {}", Printed(name))
 }

@@ -1,6 +1,6 @@
 //! The check of many images, with a line for each.
 
-use crate::check_answers::{Answer, Names, answer_of};
+use crate::check_answers::{Answer, Names, answer_of, answer_of_missing};
 use crate::check_json::json_text;
 use crate::check_lines::put_line;
 use crate::main_program::{DONE, FAILED, RequestFault, tell};
@@ -9,8 +9,10 @@ use std::io::{BufRead, BufReader, BufWriter, ErrorKind, Write};
 use std::os::unix::fs::FileTypeExt;
 use std::rt::Files;
 use std::{fs, io};
-use uimg_base::{Algo, FileSource, Room};
-use uimg_engine::{Fault, check};
+use uimg_base::{FileSource, Room, Source};
+use uimg_engine::{Checked, Fault, check};
+use uimg_fit_reading::{Finding, SurveyFault, survey};
+use uimg_references::{Missing, find_missing};
 use uimg_words::CheckRequest;
 
 /// Where standard input is read as a file.
@@ -140,9 +142,9 @@ impl<'a, W: Write> Checks<'a, W> {
         request: &CheckRequest<'b>,
         path: &[u8],
     ) -> Result<(), Stop<'b>> {
-        let mut names = Names::new();
+        let mut names = Names::new(rt.alloc());
         let answer = match str::from_utf8(path) {
-            Ok(path) => self.answer(rt, request.need, path, &mut names),
+            Ok(path) => self.answer(rt, request, path, &mut names),
             Err(_) => Answer::Unread,
         };
         self.greatest = u8::max(self.greatest, answer.status());
@@ -161,7 +163,7 @@ impl<'a, W: Write> Checks<'a, W> {
     fn answer<'n, R: Files + AllocGlobal>(
         &mut self,
         rt: &R,
-        need: Option<Algo>,
+        request: &CheckRequest<'_>,
         path: &str,
         names: &'n mut Names,
     ) -> Answer<'n> {
@@ -171,9 +173,27 @@ impl<'a, W: Write> Checks<'a, W> {
         let Ok(mut source) = FileSource::open(rt, path) else {
             return Answer::Unread;
         };
-        let end = check(need, &mut source, &mut self.room);
+        let end = check(request.need, &mut source, &mut self.room);
+        if request.is_strict && matches!(end, Ok(Checked::Fit(Finding::Right { .. }))) {
+            match missing_name(rt.alloc(), &mut source, &mut self.room) {
+                Ok(Some(missing)) => return answer_of_missing(missing, &mut source, names),
+                Ok(None) => {}
+                Err(SurveyFault::Stopped(fault)) => return Answer::Stopped(Fault::from(fault)),
+                Err(SurveyFault::OutOfMemory) => return Answer::Stopped(Fault::OutOfMemory),
+            }
+        }
         answer_of(end, &mut source, names)
     }
+}
+
+// The first name that a FIT image gives and does not have.
+fn missing_name<S: Source>(
+    alloc: Global,
+    source: &mut S,
+    room: &mut Room<Global>,
+) -> Result<Option<Missing>, SurveyFault> {
+    let facts = survey(alloc, source, room)?;
+    find_missing(alloc, source, &facts)
 }
 
 /// Whether a path leads to a pipe, whose open would wait for somebody who writes to it.

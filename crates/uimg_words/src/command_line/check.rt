@@ -12,6 +12,9 @@ pub struct CheckRequest<'a> {
     /// The algorithm that is needed at least, if there is one.
     pub need: Option<Algo>,
 
+    /// Whether each image needs a hash, and each name that a configuration gives an image.
+    pub is_strict: bool,
+
     /// The paths of images.
     pub images: Vec<&'a str>,
 
@@ -35,6 +38,12 @@ pub(super) fn command<'a>(alloc: Global) -> Result<clap::Command<'a>, AllocError
                 .action(ArgAction::Set)
                 .value_name("algo")
                 .help("Ask for a hash by this algorithm or a stronger one"),
+        )?
+        .arg(
+            Arg::new(alloc, "strict")
+                .long("strict")
+                .action(ArgAction::SetTrue)
+                .help("Ask for a hash of each image, and for what configurations name"),
         )?
         .arg(
             Arg::new(alloc, "files-from")
@@ -62,8 +71,10 @@ pub(super) fn request<'a>(
     alloc: Global,
     matches: &ArgMatches<'a>,
 ) -> Result<CheckRequest<'a>, WordsFault> {
+    let is_strict = matches.get_flag("strict");
     let need = match matches.get_str("need") {
         Some(name) => Some(Algo::named(name.as_bytes()).ok_or(WordsFault::UnknownName)?),
+        None if is_strict => Some(Algo::Crc32),
         None => None,
     };
     let images = Vec::from_slice(alloc, matches.get_strs("image").unwrap_or(&[]))?;
@@ -73,6 +84,7 @@ pub(super) fn request<'a>(
     }
     Ok(CheckRequest {
         need,
+        is_strict,
         images,
         files_from,
         has_nuls: matches.get_flag("nuls"),

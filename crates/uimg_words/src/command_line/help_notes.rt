@@ -77,19 +77,22 @@ A line for each image: its path, and what was found first.
   bad          This hash of an image is not right, or a checksum is not
   malformed    This hash of an image has no algorithm, or no value of its length
   unsupported  This hash of an image has an unknown algorithm
-  weak         This image has no hash as strong as --need, or is a legacy image
-  empty        There is no image in the FIT, where --need is given
+  weak         This image has no hash as strong as --need, or is a legacy image;
+               --strict alone asks for any hash
+  empty        There is no image in the FIT, where --need or --strict is given
+  missing      With --strict: this configuration, or the default, gives this name,
+               and no image, or no configuration, has it
   overlapping  With this image there are more bytes to hash than the file has
   refused      The image is refused by this fault
   failed       The file cannot be opened, or a read or memory failed
 Control characters and \\ are written \\xNN in a name. The names of --files-from -
 are those of standard input. With --json a line is an object: path, status,
 verdict (the word), and what is known of format, images, hashes, checksums, algo,
-image, hash, fault, message and offset.
+image, hash, configuration, property, name, fault, message and offset.
 Signatures and the hashes of configurations are not checked.
 
 Examples:
-  uimg check --need sha256 kernel.itb rescue.itb
+  uimg check --strict --need sha256 kernel.itb rescue.itb
   find /srv/images -name '*.itb' -print0 | uimg check -0 --files-from -
 
 Exit status: the greatest of all lines
