@@ -28,8 +28,10 @@ fn add_name<S: Source>(
         has names.new name ≡ (bytes_eq name (name_in (S.device source.old).bytes span) || has names.old name)) }
 {
     let name = read_bytes(alloc, source, span)?;
-    names.insert(name)?;
-    Ok(())
+    match names.insert(name) {
+        Ok(_) => Ok(()),
+        Err(_) => Err(SurveyFault::OutOfMemory),
+    }
 }
 
 // The names of images.

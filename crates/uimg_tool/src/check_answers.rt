@@ -193,6 +193,7 @@ fn about_hash<'a, S: Source>(
     let Names {
         image: image_bytes,
         hash: hash_bytes,
+        ..
     } = names;
     let (Some(image), Some(hash)) = (
         name_at(source, image, image_bytes),
