@@ -1,8 +1,7 @@
 -- Names in a set, and at places of a file.
-use Rattle.std.specs.Prelude.{◌≡◌, ℕ, List, Bool, not}
+use Rattle.std.specs.Prelude.{◌≡◌, ℕ, List, Bool, not, Vec}
 use Rattle.std.specs.List.{list_any}
 use Rattle.std.specs.Str.{bytes_eq}
-use Rattle.std.specs.Layout.Vec.{Vec}
 use Rattle.std.specs.BTreeSet.{BTreeSet}
 use Rattle.uimg_base.specs.declared.spans.Span.{Span}
 use Rattle.uimg_texts.specs.Slices.{slice}
@@ -10,11 +9,11 @@ use Rattle.uimg_fit_reading.specs.declared.surveying.facts.ImageFacts.{ImageFact
 use Rattle.uimg_fit_reading.specs.declared.surveying.facts.ConfigurationFacts.{ConfigurationFacts}
 
 -- whether a set has a name
-abbrev pub has : BTreeSet (Vec ℕ) → List ℕ → Bool
+abbrev pub has : {Z : Type 0} → BTreeSet (Vec ℕ Z) → List ℕ → Bool
 has names name = list_any (λ known. bytes_eq name known.items) names.keys
 
 -- A set has just the names of a list.
-abbrev pub HasNames : BTreeSet (Vec ℕ) → List (List ℕ) → Type 0
+abbrev pub HasNames : {Z : Type 0} → BTreeSet (Vec ℕ Z) → List (List ℕ) → Type 0
 HasNames names list = (name : List ℕ) → has names name ≡ list_any (bytes_eq name) list
 
 -- whether a name is none of a list

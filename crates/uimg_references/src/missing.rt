@@ -75,7 +75,7 @@ fn missing_under<S: Source>(
         HasNames names.now list → IfOk result (λ found.
         option_map (read_missing (S.device source.old).bytes) found
         ≡ missing_under list (bytes_in (S.device source.old).bytes configuration) reference
-          (bytes_in (S.device source.old).bytes value)) }
+        (bytes_in (S.device source.old).bytes value)) }
 {
     let Some(span) = value else {
         return Ok(None);
@@ -106,19 +106,47 @@ fn missing_of<S: Source>(
         ≡ missing_of list (read_configuration (S.device source.old).bytes configuration.now)) }
 {
     let name = Some(configuration.name);
-    let kernel = missing_under(alloc, source, images, name, Reference::Kernel, configuration.kernel)?;
+    let kernel = missing_under(
+        alloc,
+        source,
+        images,
+        name,
+        Reference::Kernel,
+        configuration.kernel,
+    )?;
     if kernel.is_some() {
         return Ok(kernel);
     }
-    let ramdisk = missing_under(alloc, source, images, name, Reference::Ramdisk, configuration.ramdisk)?;
+    let ramdisk = missing_under(
+        alloc,
+        source,
+        images,
+        name,
+        Reference::Ramdisk,
+        configuration.ramdisk,
+    )?;
     if ramdisk.is_some() {
         return Ok(ramdisk);
     }
-    let fdt = missing_under(alloc, source, images, name, Reference::Fdt, configuration.fdt)?;
+    let fdt = missing_under(
+        alloc,
+        source,
+        images,
+        name,
+        Reference::Fdt,
+        configuration.fdt,
+    )?;
     if fdt.is_some() {
         return Ok(fdt);
     }
-    missing_under(alloc, source, images, name, Reference::Loadables, configuration.loadables)
+    missing_under(
+        alloc,
+        source,
+        images,
+        name,
+        Reference::Loadables,
+        configuration.loadables,
+    )
 }
 
 // The first name that some configurations give and no image has.
@@ -134,7 +162,7 @@ fn first_missing<S: Source>(
         HasNames images.now list → IfOk result (λ found.
         option_map (read_missing (S.device source.old).bytes) found
         ≡ first_missing list
-          (map (read_configuration (S.device source.old).bytes) configurations.now)) }
+        (map (read_configuration (S.device source.old).bytes) configurations.now)) }
 {
     for configuration in configurations {
         let found = missing_of(alloc, source, images, configuration)?;
@@ -164,7 +192,14 @@ pub fn find_missing<S: Source>(
 {
     let configurations = survey.configurations.as_slice();
     let names = configuration_names(alloc, source, configurations)?;
-    let preferred = missing_under(alloc, source, &names, None, Reference::Default, survey.preferred)?;
+    let preferred = missing_under(
+        alloc,
+        source,
+        &names,
+        None,
+        Reference::Default,
+        survey.preferred,
+    )?;
     if preferred.is_some() {
         return Ok(preferred);
     }

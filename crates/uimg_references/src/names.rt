@@ -28,10 +28,10 @@ fn add_name<S: Source>(
         has names.new name ≡ (bytes_eq name (name_in (S.device source.old).bytes span) || has names.old name)) }
 {
     let name = read_bytes(alloc, source, span)?;
-    match names.insert(name) {
-        Ok(_) => Ok(()),
-        Err(_) => Err(SurveyFault::OutOfMemory),
-    }
+    let Ok(_is_new) = names.insert(name) else {
+        return Err(SurveyFault::OutOfMemory);
+    };
+    Ok(())
 }
 
 // The names of images.

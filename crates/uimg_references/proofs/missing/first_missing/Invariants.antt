@@ -1,0 +1,18 @@
+use Rattle.std.proofs.Common.{◌≡◌, ℕ, List, map, drop, IsTrue}
+use Rattle.uimg_base.specs.Device.{SameDevice}
+use Rattle.uimg_fit_reading.specs.Survey.{read_configuration}
+use Rattle.uimg_references.specs.Names.{HasNames}
+use Rattle.uimg_references.specs.References.{first_missing}
+use Rattle.uimg_references.proofs.missing.first_missing.Given as goal
+
+-- no configuration so far gives a name that is missing
+abbrev pub invariant-loop-configuration : goal.invariant-loop-configuration
+invariant-loop-configuration g l =
+    let device = g.S.Source.device in
+    record {
+      same : SameDevice (device l.fn.source) (device l.source);
+      failures : (device l.source).failures ≡ (device l.fn.source).failures;
+      left : IsTrue (device l.fn.source).honest → (list : List (List ℕ)) → HasNames l.images list
+          → first_missing list (map (read_configuration (device l.fn.source).bytes) (drop l.configuration-index l.configurations))
+          ≡ first_missing list (map (read_configuration (device l.fn.source).bytes) l.configurations);
+    }
