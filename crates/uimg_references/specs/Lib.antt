@@ -1,3 +1,4 @@
 pub mod Names
 pub mod Properties
 pub mod References
+pub mod Work

@@ -1,14 +1,16 @@
 //! The first name that is given and not there.
 
 ghost use Rattle.std.specs.Prelude.{◌≡◌, ◌+◌, ℕ, List, length, map, drop, IsTrue, IfOk};
-ghost use Rattle.std.specs.List.{All, find};
+ghost use Rattle.std.specs.List.{All, find, sum_by};
 ghost use Rattle.std.specs.Option.{option_map};
-ghost use Rattle.uimg_base.specs.Using.{Uses};
+ghost use Rattle.uimg_base.specs.Using.{Asks};
 ghost use Rattle.uimg_fit_base.specs.Files.{bytes_in};
+ghost use Rattle.uimg_fit_reading.specs.Heads.{span_size};
 ghost use Rattle.uimg_fit_reading.specs.Survey.{read_configuration, read_survey};
 ghost use Rattle.uimg_fit_reading.specs.SurveyParts.{Ends, ConfigurationInside, SurveyInside, is_unread};
 ghost use Rattle.uimg_fit_reading.specs.Values.{pieces};
 ghost use Rattle.uimg_references.specs.Names.{HasNames, is_lost};
+ghost use Rattle.uimg_references.specs.Work.{values_size, missing_work};
 ghost use Rattle.uimg_references.specs.References.{read_missing, missing_under, missing_of, first_missing, missing_in};
 
 use crate::names::{configuration_names, image_names};
@@ -70,7 +72,7 @@ fn missing_under<S: Source>(
     value: Option<Span>,
 ) -> Result<Option<Missing>, SurveyFault>
     requires { Ends (length (S.device source.old).bytes) value }
-    ensures uses { Uses (is_unread result) (S.device source.old) (S.device source.new) }
+    ensures uses { Asks (span_size value) (is_unread result) (S.device source.old) (S.device source.new) }
     ensures told { IsTrue (S.device source.old).honest → (list : List (List ℕ)) →
         HasNames names.now list → IfOk result (λ found.
         option_map (read_missing (S.device source.old).bytes) found
@@ -99,7 +101,7 @@ fn missing_of<S: Source>(
     configuration: &ConfigurationFacts,
 ) -> Result<Option<Missing>, SurveyFault>
     requires { ConfigurationInside (length (S.device source.old).bytes) configuration.now }
-    ensures uses { Uses (is_unread result) (S.device source.old) (S.device source.new) }
+    ensures uses { Asks (values_size configuration.now) (is_unread result) (S.device source.old) (S.device source.new) }
     ensures told { IsTrue (S.device source.old).honest → (list : List (List ℕ)) →
         HasNames images.now list → IfOk result (λ found.
         option_map (read_missing (S.device source.old).bytes) found
@@ -157,7 +159,7 @@ fn first_missing<S: Source>(
     configurations: &[ConfigurationFacts],
 ) -> Result<Option<Missing>, SurveyFault>
     requires { All (ConfigurationInside (length (S.device source.old).bytes)) configurations.now }
-    ensures uses { Uses (is_unread result) (S.device source.old) (S.device source.new) }
+    ensures uses { Asks (sum_by values_size configurations.now) (is_unread result) (S.device source.old) (S.device source.new) }
     ensures told { IsTrue (S.device source.old).honest → (list : List (List ℕ)) →
         HasNames images.now list → IfOk result (λ found.
         option_map (read_missing (S.device source.old).bytes) found
@@ -177,7 +179,7 @@ fn first_missing<S: Source>(
 /// name, or else a name under `kernel`, `ramdisk`, `fdt` or `loadables` of a configuration, in this order,
 /// that no image has. The configurations come in their order, and of a value each of its texts is a name.
 ///
-/// The names and one value at a time are held in memory, `OutOfMemory` where it was refused. `Stopped` has
+/// Each name, and each value up to the one that is told, is read once. The names and one value at a time are held in memory, `OutOfMemory` where it was refused. `Stopped` has
 /// a failed read, and no other fault.
 pub fn find_missing<S: Source>(
     alloc: Global,
@@ -185,7 +187,7 @@ pub fn find_missing<S: Source>(
     survey: &Survey,
 ) -> Result<Option<Missing>, SurveyFault>
     requires { SurveyInside (length (S.device source.old).bytes) survey.now }
-    ensures uses { Uses (is_unread result) (S.device source.old) (S.device source.new) }
+    ensures uses { Asks (missing_work survey.now) (is_unread result) (S.device source.old) (S.device source.new) }
     ensures told { IsTrue (S.device source.old).honest → IfOk result (λ found.
         option_map (read_missing (S.device source.old).bytes) found
         ≡ missing_in (read_survey (S.device source.old).bytes survey.now)) }

@@ -1,5 +1,7 @@
-use Rattle.std.proofs.Common.{◌≡◌, ◌+◌, ℕ, List, Bool, None, false, is_some, map, drop, slice_index_or, IsTrue, sym, ap, subst, ◌∙◌}
+use Rattle.std.proofs.Common.{◌≡◌, ◌+◌, ℕ, List, Bool, None, false, is_some, map, drop, slice_index_or, IsTrue, sym, ap, subst, ◌∙◌, arith}
 use Rattle.std.proofs.lemmas.List.{drop_more}
+use Rattle.std.proofs.lemmas.List.Sums.{sum_by_more}
+use Rattle.uimg_references.specs.Work.{values_size}
 use Rattle.std.specs.Option.{option_map}
 use Rattle.uimg_fit_reading.specs.declared.surveying.facts.ConfigurationFacts.{ConfigurationFacts}
 use Rattle.uimg_fit_reading.specs.Survey.{read_configuration}
@@ -19,6 +21,7 @@ loop-configuration-preserved g c =
     let file = (g.S.Source.device c.args.source.now).bytes in
     record {
       same = record { bytes = c.missing_of.ensures.uses.same.bytes ∙ same.bytes; honest = c.missing_of.ensures.uses.same.honest ∙ same.honest };
+      asked = omega (arith, c.missing_of.ensures.uses.asked, c.loop-configuration.invariant.asked, sum_by_more values_size cs i unnamed c.loop-configuration-test.true);
       failures = c.in_ok-found.ensures.uses.failures ∙ c.loop-configuration.invariant.failures;
       left = λ honest list names.
           let here = subst (λ (b : Bool). IsTrue b) (sym same.honest) honest in

@@ -1,4 +1,6 @@
-use Rattle.std.proofs.Common.{◌≡◌, ℕ, List, map, drop, IsTrue}
+use Rattle.std.proofs.Common.{◌≡◌, ◌≤◌, ◌+◌, take, ℕ, List, map, drop, IsTrue}
+use Rattle.std.specs.List.{sum_by}
+use Rattle.uimg_references.specs.Work.{values_size}
 use Rattle.uimg_base.specs.Device.{SameDevice}
 use Rattle.uimg_fit_reading.specs.Survey.{read_configuration}
 use Rattle.uimg_references.specs.Names.{HasNames}
@@ -11,6 +13,7 @@ invariant-loop-configuration g l =
     let device = g.S.Source.device in
     record {
       same : SameDevice (device l.fn.source) (device l.source);
+      asked : (device l.source).asked ≤ (device l.fn.source).asked + sum_by values_size (take l.configuration-index l.configurations);
       failures : (device l.source).failures ≡ (device l.fn.source).failures;
       left : IsTrue (device l.fn.source).honest → (list : List (List ℕ)) → HasNames l.images list
           → first_missing list (map (read_configuration (device l.fn.source).bytes) (drop l.configuration-index l.configurations))
