@@ -7,5 +7,6 @@ mod fill_rows;
 mod images;
 mod making;
 mod read_rows;
+mod survey_rows;
 mod tree_rows;
 mod unpack_rows;
