@@ -14,7 +14,6 @@ use Rattle.uimg_fit_base.specs.declared.fault.FitFault.TheVariants.{DataOutside}
 use Rattle.uimg_fit_base.specs.Files.{cell}
 use Rattle.uimg_fit_base.specs.Places.{external, embedded, or_else, place, bytes_at, payload}
 
-
 inside_of : (file : List ℕ) (p : Span) → p.place + p.length ≤ length file → bytes_at file p ≡ Ok (slice file p.place p.length)
 unfolding bytes_at
 inside_of file p inside = rw (le-ltb (length file) (p.place + p.length) inside) refl

@@ -37,9 +37,10 @@ fn said<S: Source>(
         Some(missing) => (missing.reference.name(), missing.name.len()),
         None => ("nothing", 0),
     };
-    Ok(
-        format!(in alloc; "{} and {}; {first}; {property} {length}", counts.0, counts.1),
-    )
+    Ok(format!(in alloc;
+        "{} and {}; {first}; {property} {length}",
+        counts.0, counts.1
+    ))
 }
 
 fn answer<S: Source>(alloc: Global, source: &mut S) -> Result<String, AllocError> {
