@@ -1,0 +1,4 @@
+mod RowsLaws
+mod OrderLaws
+mod CoverLaws
+mod ArrangeLaws
