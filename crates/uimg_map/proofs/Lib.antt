@@ -2,3 +2,5 @@ mod RowsLaws
 mod OrderLaws
 mod CoverLaws
 mod ArrangeLaws
+mod BarLaws
+mod ReservationsLaws
