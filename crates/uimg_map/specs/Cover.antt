@@ -12,6 +12,17 @@ within i place end = nat_le place i && nat_lt i end
 abbrev pub contains : ℕ → Thing → Bool
 contains i t = within i t.place t.end
 
+-- where a row begins and where it ends
+abbrev pub place_of : Row → ℕ
+place_of (Taken t over) = t.place
+place_of (Gap place end) = place
+place_of (Rest place end) = place
+
+abbrev pub end_of : Row → ℕ
+end_of (Taken t over) = t.end
+end_of (Gap place end) = end
+end_of (Rest place end) = end
+
 -- whether a row has it
 abbrev pub has : ℕ → Row → Bool
 has i (Taken t over) = contains i t

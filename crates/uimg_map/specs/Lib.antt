@@ -5,3 +5,4 @@ pub mod Arranging
 pub mod Bars
 pub mod Numbers
 pub mod Reservations
+pub mod Blocks

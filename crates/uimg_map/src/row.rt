@@ -1,5 +1,8 @@
 //! The rows of a map.
 
+ghost use Rattle.std.specs.Prelude.{◌≡◌};
+ghost use Rattle.uimg_map.specs.Cover.{place_of, end_of};
+
 use crate::thing::Thing;
 
 /// A row of the map of a file.
@@ -14,4 +17,26 @@ pub enum Row {
 
     /// Bytes of the file that no thing has, from a place up to the file's end, behind all things.
     Rest(u64, u64),
+}
+
+impl Row {
+    /// The offset of its first byte from the file's start.
+    pub fn place(&self) -> u64
+        ensures { result ≡ place_of self.now }
+    {
+        match *self {
+            Row::Taken(thing, _) => thing.place,
+            Row::Gap(place, _) | Row::Rest(place, _) => place,
+        }
+    }
+
+    /// The offset behind its last byte.
+    pub fn end(&self) -> u64
+        ensures { result ≡ end_of self.now }
+    {
+        match *self {
+            Row::Taken(thing, _) => thing.end,
+            Row::Gap(_, end) | Row::Rest(_, end) => end,
+        }
+    }
 }
