@@ -27,10 +27,32 @@ pub struct Map {
     pub fault: Option<MapFault>,
 }
 
+/// How a thing stands to the earlier ones.
+#[derive(Clone, Copy, Debug, PartialEq, Eq)]
+pub(crate) enum Standing {
+    /// It shares no bytes with them.
+    Alone,
+
+    /// It is the value of a property, in the structure block, as it should.
+    Nested,
+
+    /// It shares bytes with this one.
+    Overlapping(Label),
+}
+
 impl Map {
     /// What a thing is, if it is of this map.
     pub(crate) fn label_of(&self, thing: Thing) -> Option<Label> {
         self.labels.get(thing.number).copied()
+    }
+
+    /// How a thing stands to the earlier ones, by the one that it shares bytes with, if there is one.
+    pub(crate) fn standing_of(&self, thing: Thing, over: Option<Thing>) -> Standing {
+        match (self.label_of(thing), over.and_then(|over| self.label_of(over))) {
+            (_, None) => Standing::Alone,
+            (Some(Label::Embedded(_)), Some(Label::Structure)) => Standing::Nested,
+            (_, Some(other)) => Standing::Overlapping(other),
+        }
     }
 }
 

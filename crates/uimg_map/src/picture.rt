@@ -1,7 +1,7 @@
 //! A map as a picture.
 
 use crate::bar::bar_of;
-use crate::map::Map;
+use crate::map::{Map, Standing};
 use crate::row::Row;
 use crate::stop::MapStop;
 use crate::texts::text_of;
@@ -28,7 +28,7 @@ pub fn put_picture<S: Source, W: Write>(
     for row in &map.rows {
         let text = text_of(alloc, source, map, row)?;
         put_text(top, row, text.as_str(), out)?;
-        put_rectangle(top, map.size, row, out)?;
+        put_rectangle(top, map, row, out)?;
         top = top.saturating_add(ROW);
     }
     writeln!(out, "</svg>")?;
@@ -57,21 +57,23 @@ fn put_text<W: Write>(top: u64, row: &Row, text: &str, out: &mut W) -> io::Resul
 }
 
 // Writes the bar of a row.
-fn put_rectangle<W: Write>(top: u64, size: u64, row: &Row, out: &mut W) -> io::Result<()> {
-    let bar = bar_of(WIDTH, size, row.place(), row.end());
+fn put_rectangle<W: Write>(top: u64, map: &Map, row: &Row, out: &mut W) -> io::Result<()> {
+    let bar = bar_of(WIDTH, map.size, row.place(), row.end());
     let left = MARGIN + bar.from as u64;
     let width = bar.to - bar.from;
     let top = top.saturating_add(20);
-    let colour = colour_of(row);
+    let colour = colour_of(map, row);
     write!(out, "<rect x=\"{left}\" y=\"{top}\" width=\"{width}\" height=\"12\" ")?;
     writeln!(out, "fill=\"{colour}\"/>")
 }
 
 // The colour of a row: of a thing, of one that shares bytes with another, and of bytes of no thing.
-fn colour_of(row: &Row) -> &'static str {
+fn colour_of(map: &Map, row: &Row) -> &'static str {
     match *row {
-        Row::Taken(_, None) => "#3465a4",
-        Row::Taken(_, Some(_)) => "#f57900",
+        Row::Taken(thing, over) => match map.standing_of(thing, over) {
+            Standing::Overlapping(_) => "#f57900",
+            _ => "#3465a4",
+        },
         Row::Gap(_, _) | Row::Rest(_, _) => "#d3d7cf",
     }
 }

@@ -2,7 +2,7 @@
 
 use crate::contents::Label;
 use crate::fault::MapFault;
-use crate::map::Map;
+use crate::map::{Map, Standing};
 use crate::row::Row;
 use crate::thing::Thing;
 use std::alloc::Global;
@@ -36,21 +36,17 @@ fn thing_text<S: Source>(
     thing: Thing,
     over: Option<Thing>,
 ) -> Result<String, MapFault> {
-    let label = map.label_of(thing);
-    let other = over.and_then(|over| map.label_of(over));
-    let name = label_text(alloc, source, label)?;
+    let name = label_text(alloc, source, map.label_of(thing))?;
     let outside = if thing.end > map.size {
         ", outside the file"
     } else {
         ""
     };
-    let text = match (label, other) {
-        (_, None) => format!(in alloc; "{name}{outside}")?,
-        (Some(Label::Embedded(_)), Some(Label::Structure)) => {
-            format!(in alloc; "  {name}{outside}")?
-        }
-        (_, other) => {
-            let other = label_text(alloc, source, other)?;
+    let text = match map.standing_of(thing, over) {
+        Standing::Alone => format!(in alloc; "{name}{outside}")?,
+        Standing::Nested => format!(in alloc; "  {name}{outside}")?,
+        Standing::Overlapping(other) => {
+            let other = label_text(alloc, source, Some(other))?;
             format!(in alloc; "{name}, overlaps {other}{outside}")?
         }
     };
