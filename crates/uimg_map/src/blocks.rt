@@ -1,6 +1,6 @@
 //! The header of a devicetree blob and the blocks that it names.
 
-ghost use Rattle.std.specs.Prelude.{◌≡◌};
+ghost use Rattle.std.specs.Prelude.{◌≡◌, ◌+◌};
 ghost use Rattle.uimg_map.specs.Blocks.{blocks_of};
 
 use crate::numbers::{BLOB_HEADER_LEN, BlobNumbers};

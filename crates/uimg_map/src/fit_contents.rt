@@ -1,5 +1,8 @@
 //! What stands in the file of a FIT image.
 
+ghost use Rattle.std.specs.Prelude.{length};
+ghost use Rattle.uimg_fit_reading.specs.SurveyParts.{SurveyInside};
+
 use crate::blocks::blocks_of;
 use crate::contents::{Contents, Label};
 use crate::fault::MapFault;
@@ -59,7 +62,9 @@ fn add_payloads<S: Source>(
     source: &mut S,
     survey: &Survey,
     contents: &mut Contents,
-) -> Result<(), MapFault> {
+) -> Result<(), MapFault>
+    requires { SurveyInside (length (S.device source.old).bytes) survey.now }
+{
     for image in &survey.images {
         match find_payload(source, survey.totalsize, &image.payload)? {
             Ok(span) => add_payload(image, span, contents)?,

@@ -51,8 +51,8 @@ fn add_data<S: Source>(
     if !has_parts(header.kind) {
         return contents.add(start, end, Label::Data);
     }
-    match count_sizes(source, header.size / 4, contents.size)? {
-        Some(count) => add_parts(source, count, end, contents),
+    match count_sizes(source, header.size / 4)? {
+        Some(count) => add_parts(source, count, header.size, contents),
         None => {
             contents.add(start, end, Label::Table)?;
             contents.refuse_at(end, legacy_fault(LegacyFault::NoTableEnd))
@@ -65,14 +65,10 @@ fn legacy_fault(fault: LegacyFault) -> MapFault {
     MapFault::Legacy(Fault::Legacy(fault))
 }
 
-// How many of so many words stand before the first zero word, if there is one before the data end.
-fn count_sizes<S: Source>(
-    source: &mut S,
-    words: u32,
-    end: u64,
-) -> Result<Option<u32>, MapFault> {
+// How many of so many words stand before the first zero word, if the file has one among them.
+fn count_sizes<S: Source>(source: &mut S, words: u32) -> Result<Option<u32>, MapFault> {
     for number in 0..words {
-        match size_at(source, number, end)? {
+        match size_at(source, number)? {
             Some(0) => return Ok(Some(number)),
             Some(_) => {}
             None => return Ok(None),
@@ -81,10 +77,11 @@ fn count_sizes<S: Source>(
     Ok(None)
 }
 
-// The size of a number in the table, if the table has it before the data end.
-fn size_at<S: Source>(source: &mut S, number: u32, end: u64) -> Result<Option<u32>, MapFault> {
+// The word of a number behind the header, if the file has it.
+fn size_at<S: Source>(source: &mut S, number: u32) -> Result<Option<u32>, MapFault> {
     let at = HEADER_LEN as u64 + 4 * number as u64;
-    if at + 4 > end {
+    let size = source.size()?;
+    if size < 4 || size - 4 < at {
         return Ok(None);
     }
     let mut word = [0; 4];
@@ -92,18 +89,20 @@ fn size_at<S: Source>(source: &mut S, number: u32, end: u64) -> Result<Option<u3
     Ok(Some(number_at(&word, 0)))
 }
 
-// Adds the table of so many sizes, and the parts up to the first that ends after the data.
+// Adds the table of so many sizes, and the parts up to the first that ends after the data, which have so
+// many bytes.
 fn add_parts<S: Source>(
     source: &mut S,
     count: u32,
-    end: u64,
+    size: u32,
     contents: &mut Contents,
 ) -> Result<(), MapFault> {
     let start = HEADER_LEN as u64;
+    let end = start + size as u64;
     let mut at = start + 4 * (count as u64 + 1);
     contents.add(start, at, Label::Table)?;
     for number in 0..count {
-        let Some(size) = size_at(source, number, contents.size)? else {
+        let Some(size) = size_at(source, number)? else {
             return Ok(());
         };
         let stop = at + size as u64;
@@ -112,7 +111,7 @@ fn add_parts<S: Source>(
             return contents.refuse_at(at, legacy_fault(LegacyFault::PartOutside));
         }
         at = up4(stop);
-        if number + 1 < count && stop < at {
+        if stop < at && number + 1 < count {
             contents.add(stop, at, Label::Padding)?;
         }
     }
