@@ -43,12 +43,7 @@ fn overlapped(last: Option<Thing>, thing: Thing) -> Option<Thing>
 
 // Adds the rows of the next thing: the gap before it, if there is one, and its own.
 #[tactic(auto, unfolding(crate::specs::Rows::gap))]
-fn add(
-    rows: &mut Vec<Row>,
-    size: u64,
-    last: Option<Thing>,
-    thing: Thing,
-) -> Result<(), AllocError>
+fn add(rows: &mut Vec<Row>, size: u64, last: Option<Thing>, thing: Thing) -> Result<(), AllocError>
     ensures { OnOk result (rows.new.items ≡ rows.old.items ++ step size last thing) }
 {
     let (end, next) = (end_of(last), u64::min(thing.place, size));
@@ -90,11 +85,7 @@ fn rows_of(alloc: Global, size: u64, things: &[Thing]) -> Result<Vec<Row>, Alloc
 ///
 /// Memory for the rows may be refused: 64 bytes a row or so, and at most twice as many rows as things,
 /// and one.
-pub fn arrange(
-    alloc: Global,
-    size: u64,
-    mut things: Vec<Thing>,
-) -> Result<Vec<Row>, AllocError>
+pub fn arrange(alloc: Global, size: u64, mut things: Vec<Thing>) -> Result<Vec<Row>, AllocError>
     ensures { IfOk result (λ rows. Arranges size things.items rows.items) }
 {
     things.sort_unstable();

@@ -1,7 +1,6 @@
 //! Why there is no map, or what is wrong with an image of which there is one.
 
-use std::alloc::AllocError;
-use std::alloc::AllocFailed;
+use std::alloc::{AllocError, AllocFailed};
 use thiserror::Error;
 use uimg_base::SourceFault;
 use uimg_fit_reading::SurveyFault;

@@ -19,9 +19,8 @@ pub(crate) fn add_legacy<S: Source>(
 }
 
 // Where in the file the fault of a header is.
-fn place_of(fault: LegacyFault, size: u64) -> u64 {
+fn place_of(fault: LegacyFault) -> u64 {
     match fault {
-        LegacyFault::TooShort => size,
         LegacyFault::BadHeaderCrc => 4,
         _ => 0,
     }
@@ -32,8 +31,7 @@ fn add_refused(fault: LegacyFault, contents: &mut Contents) -> Result<(), MapFau
     if fault == LegacyFault::BadHeaderCrc {
         contents.add(0, HEADER_LEN as u64, Label::Header)?;
     }
-    let place = place_of(fault, contents.size);
-    contents.refuse_at(place, MapFault::Legacy(Fault::Legacy(fault)))
+    contents.refuse_at(place_of(fault), legacy_fault(fault))
 }
 
 // Adds the header and the data that it tells of.

@@ -48,7 +48,10 @@ impl Map {
 
     /// How a thing stands to the earlier ones, by the one that it shares bytes with, if there is one.
     pub(crate) fn standing_of(&self, thing: Thing, over: Option<Thing>) -> Standing {
-        match (self.label_of(thing), over.and_then(|over| self.label_of(over))) {
+        match (
+            self.label_of(thing),
+            over.and_then(|over| self.label_of(over)),
+        ) {
             (_, None) => Standing::Alone,
             (Some(Label::Embedded(_)), Some(Label::Structure)) => Standing::Nested,
             (_, Some(other)) => Standing::Overlapping(other),

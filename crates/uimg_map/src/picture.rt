@@ -12,7 +12,9 @@ use uimg_base::Source;
 
 // How wide a bar is that fills all, how much room there is around it, and how high a row is.
 const WIDTH: u32 = 1000;
+
 const MARGIN: u64 = 10;
+
 const ROW: u64 = 40;
 
 /// Writes the rows of a map as a picture (SVG 1.1), a text and a bar below it for each. What was written
@@ -50,7 +52,10 @@ fn put_text<W: Write>(top: u64, row: &Row, text: &str, out: &mut W) -> io::Resul
     let (place, end) = (row.place(), row.end());
     let size = end.saturating_sub(place);
     let base = top.saturating_add(14);
-    write!(out, "<text x=\"{MARGIN}\" y=\"{base}\" xml:space=\"preserve\">")?;
+    write!(
+        out,
+        "<text x=\"{MARGIN}\" y=\"{base}\" xml:space=\"preserve\">"
+    )?;
     write!(out, "{place:08x}-{end:08x} {size:>9} ")?;
     put_escaped(text, out)?;
     writeln!(out, "</text>")
@@ -63,7 +68,10 @@ fn put_rectangle<W: Write>(top: u64, map: &Map, row: &Row, out: &mut W) -> io::R
     let width = bar.to - bar.from;
     let top = top.saturating_add(20);
     let colour = colour_of(map, row);
-    write!(out, "<rect x=\"{left}\" y=\"{top}\" width=\"{width}\" height=\"12\" ")?;
+    write!(
+        out,
+        "<rect x=\"{left}\" y=\"{top}\" width=\"{width}\" height=\"12\" "
+    )?;
     writeln!(out, "fill=\"{colour}\"/>")
 }
 

@@ -60,9 +60,7 @@ fn label_text<S: Source>(
     label: Option<Label>,
 ) -> Result<String, MapFault> {
     let text = match label {
-        Some(Label::Payload(name) | Label::Embedded(name)) => {
-            payload_text(alloc, source, name)?
-        }
+        Some(Label::Payload(name) | Label::Embedded(name)) => { payload_text(alloc, source, name)? }
         Some(Label::Part(number)) => format!(in alloc; "part {number}")?,
         Some(Label::Fault(fault)) => format!(in alloc; "fault {fault}")?,
         Some(label) => String::from_str(alloc, word_of(label))?,
@@ -72,11 +70,7 @@ fn label_text<S: Source>(
 }
 
 // The name of a payload, by the place of its image's name.
-fn payload_text<S: Source>(
-    alloc: Global,
-    source: &mut S,
-    name: Span,
-) -> Result<String, MapFault> {
+fn payload_text<S: Source>(alloc: Global, source: &mut S, name: Span) -> Result<String, MapFault> {
     let mut bytes = [0; NAME_LEN];
     let length = u64::min(name.length, NAME_LEN as u64) as usize;
     let size = source.size()?;

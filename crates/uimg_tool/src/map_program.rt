@@ -50,11 +50,7 @@ enum Stop<'a> {
     Stopped(MapStop),
 }
 
-fn tell_ended<V: Write>(
-    ended: Result<(), Stop<'_>>,
-    fault: Option<MapFault>,
-    err: &mut V,
-) -> u8 {
+fn tell_ended<V: Write>(ended: Result<(), Stop<'_>>, fault: Option<MapFault>, err: &mut V) -> u8 {
     match (ended, fault) {
         (Ok(()), None) => DONE,
         (Ok(()), Some(fault)) => tell(err, &fault, REFUSED),
