@@ -27,6 +27,14 @@ Behind the blob, from its end on or by its position in the file. One that has no
   00000319-0000031c         3 ...............................# gap
   0000031c-0000031f         3 ...............................# payload of kernel
   0000031f-00000320         1 ...............................# rest
+  $ cp "$files/external-fit.itb" empty.itb && patch empty.itb 187 "\0" && uimg map empty.itb
+  00000000-00000028        40 ##.............................. header
+  00000028-00000038        16 .##............................. reservation block
+  00000038-000002a0       616 ..#########################..... structure
+  000002a0-00000319       121 ..........................###### strings
+  00000319-0000031c         3 ...............................# gap
+  0000031c-0000031c         0 ................................ payload of kernel
+  0000031c-00000320         4 ...............................# rest
 
 What begins before something else has ended says so. An image of a hostile place covers the header, and two images share
 their payload:
@@ -38,6 +46,12 @@ their payload:
   00000038-000000a4       108 ........#################....... structure
   000000a4-000000cd        41 ........................#######. strings
   000000cd-000000d4         7 ..............................## rest
+  $ cp "$files/position-first.itb" over.itb && patch over.itb 131 "\324" && uimg map over.itb
+  00000000-00000028        40 #######......................... header
+  00000000-000000d4       212 ################################ payload of a, overlaps header
+  00000028-00000038        16 ......###....................... reservation block, overlaps payload of a
+  00000038-000000a4       108 ........#################....... structure, overlaps payload of a
+  000000a4-000000cd        41 ........................#######. strings, overlaps payload of a
   $ uimg map "$files/shared-payload.itb"
   00000000-00000028        40 #####........................... header
   00000028-00000038        16 ....##.......................... reservation block
@@ -225,7 +239,7 @@ A picture in place of the lines, one text and one bar a row, as XML:
   svg 6 6
   $ ls *uimg-new*; grep -c '<text' name.svg
   ls: cannot access '*uimg-new*': No such file or directory
-  8
+  7
 
 It replaces what is there when it is whole, through a link too, and is never the image:
 
@@ -259,8 +273,8 @@ A file that cannot be read, a full device, and lines that nobody reads:
   $ uimg map image.itb > /dev/full
   uimg: write failed
   [3]
-  $ { uimg map image.itb; echo $? > status; } | :; cat status
-  3
+  $ (sleep 0.5; uimg map image.itb 2> said; echo "status $?" >> said) | true; cat said
+  status 3
   $ uimg map
   uimg: error: the following required arguments were not provided:
     <image>
