@@ -6,3 +6,4 @@ pub mod Bars
 pub mod Numbers
 pub mod Reservations
 pub mod Blocks
+pub mod Maps

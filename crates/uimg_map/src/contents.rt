@@ -1,5 +1,7 @@
 //! What stands in the file of an image, as it is gathered.
 
+ghost use Rattle.std.specs.Prelude.{◌≡◌};
+
 use crate::fault::MapFault;
 use crate::thing::Thing;
 use std::alloc::Global;
@@ -60,7 +62,9 @@ pub(crate) struct Contents {
 
 impl Contents {
     /// Nothing yet, of a file of so many bytes.
-    pub(crate) fn new(alloc: Global, size: u64) -> Contents {
+    pub(crate) fn new(alloc: Global, size: u64) -> Contents
+        ensures { result.size ≡ size }
+    {
         Contents {
             size,
             things: Vec::new(alloc),
@@ -70,7 +74,9 @@ impl Contents {
     }
 
     /// Adds what stands from a place up to an end.
-    pub(crate) fn add(&mut self, place: u64, end: u64, label: Label) -> Result<(), MapFault> {
+    pub(crate) fn add(&mut self, place: u64, end: u64, label: Label) -> Result<(), MapFault>
+        ensures { self.new.size ≡ self.old.size }
+    {
         let number = self.labels.len();
         self.labels.push(label)?;
         self.things.push(Thing { place, end, number })?;
@@ -78,13 +84,17 @@ impl Contents {
     }
 
     /// Adds a fault that has a place, which is why the image is refused.
-    pub(crate) fn refuse_at(&mut self, place: u64, fault: MapFault) -> Result<(), MapFault> {
+    pub(crate) fn refuse_at(&mut self, place: u64, fault: MapFault) -> Result<(), MapFault>
+        ensures { self.new.size ≡ self.old.size }
+    {
         self.refuse(fault);
         self.add(place, place, Label::Fault(fault))
     }
 
     /// Tells why the image is refused, where that was not told before.
-    pub(crate) fn refuse(&mut self, fault: MapFault) {
+    pub(crate) fn refuse(&mut self, fault: MapFault)
+        ensures { self.new.size ≡ self.old.size }
+    {
         if self.fault.is_none() {
             self.fault = Some(fault);
         }

@@ -1,6 +1,7 @@
 //! What stands in the file of a FIT image.
 
-ghost use Rattle.std.specs.Prelude.{length};
+ghost use Rattle.std.specs.Prelude.{◌≡◌, length};
+ghost use Rattle.uimg_base.specs.Device.{SameDevice};
 ghost use Rattle.uimg_fit_reading.specs.SurveyParts.{SurveyInside};
 
 use crate::blocks::blocks_of;
@@ -28,7 +29,10 @@ pub(crate) fn add_fit<S: Source>(
     alloc: Global,
     source: &mut S,
     contents: &mut Contents,
-) -> Result<(), MapFault> {
+) -> Result<(), MapFault>
+    ensures same { SameDevice (S.device source.old) (S.device source.new) }
+    ensures size { contents.new.size ≡ contents.old.size }
+{
     add_blocks(source, contents)?;
     let mut room = Room::new(alloc);
     match survey(alloc, source, &mut room) {
@@ -45,7 +49,10 @@ pub(crate) fn add_fit<S: Source>(
 }
 
 // Adds the header and the blocks of a blob, if it has a header.
-fn add_blocks<S: Source>(source: &mut S, contents: &mut Contents) -> Result<(), MapFault> {
+fn add_blocks<S: Source>(source: &mut S, contents: &mut Contents) -> Result<(), MapFault>
+    ensures same { SameDevice (S.device source.old) (S.device source.new) }
+    ensures size { contents.new.size ≡ contents.old.size }
+{
     let Some(numbers) = read_numbers(source)? else {
         return Ok(());
     };
@@ -64,6 +71,8 @@ fn add_payloads<S: Source>(
     contents: &mut Contents,
 ) -> Result<(), MapFault>
     requires { SurveyInside (length (S.device source.old).bytes) survey.now }
+    ensures same { SameDevice (S.device source.old) (S.device source.new) }
+    ensures size { contents.new.size ≡ contents.old.size }
 {
     for image in &survey.images {
         match find_payload(source, survey.totalsize, &image.payload)? {
@@ -75,7 +84,9 @@ fn add_payloads<S: Source>(
 }
 
 // Adds the payload of an image.
-fn add_payload(image: &ImageFacts, span: Span, contents: &mut Contents) -> Result<(), MapFault> {
+fn add_payload(image: &ImageFacts, span: Span, contents: &mut Contents) -> Result<(), MapFault>
+    ensures { contents.new.size ≡ contents.old.size }
+{
     let end = span.place.saturating_add(span.length);
     if end > contents.size {
         contents.refuse(MapFault::Fit(Fault::Fit(FitFault::DataOutside)));

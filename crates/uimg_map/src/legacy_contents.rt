@@ -1,5 +1,8 @@
 //! What stands in the file of a legacy image.
 
+ghost use Rattle.std.specs.Prelude.{◌≡◌};
+ghost use Rattle.uimg_base.specs.Device.{SameDevice};
+
 use crate::contents::{Contents, Label};
 use crate::fault::MapFault;
 use uimg_base::{Source, number_at, up4};
@@ -10,7 +13,10 @@ use uimg_legacy::{Fault, HEADER_LEN, Header, LegacyFault, has_parts, read_header
 pub(crate) fn add_legacy<S: Source>(
     source: &mut S,
     contents: &mut Contents,
-) -> Result<(), MapFault> {
+) -> Result<(), MapFault>
+    ensures same { SameDevice (S.device source.old) (S.device source.new) }
+    ensures size { contents.new.size ≡ contents.old.size }
+{
     match read_header(source) {
         Ok(header) => add_data(source, &header, contents),
         Err(Fault::Legacy(fault)) => add_refused(fault, contents),
@@ -27,7 +33,9 @@ fn place_of(fault: LegacyFault) -> u64 {
 }
 
 // Adds the header of an image, where there is one, and its fault.
-fn add_refused(fault: LegacyFault, contents: &mut Contents) -> Result<(), MapFault> {
+fn add_refused(fault: LegacyFault, contents: &mut Contents) -> Result<(), MapFault>
+    ensures { contents.new.size ≡ contents.old.size }
+{
     if fault == LegacyFault::BadHeaderCrc {
         contents.add(0, HEADER_LEN as u64, Label::Header)?;
     }
@@ -39,7 +47,10 @@ fn add_data<S: Source>(
     source: &mut S,
     header: &Header,
     contents: &mut Contents,
-) -> Result<(), MapFault> {
+) -> Result<(), MapFault>
+    ensures same { SameDevice (S.device source.old) (S.device source.new) }
+    ensures size { contents.new.size ≡ contents.old.size }
+{
     let start = HEADER_LEN as u64;
     let end = start + header.size as u64;
     contents.add(0, start, Label::Header)?;
@@ -64,7 +75,9 @@ fn legacy_fault(fault: LegacyFault) -> MapFault {
 }
 
 // How many of so many words stand before the first zero word, if the file has one among them.
-fn count_sizes<S: Source>(source: &mut S, words: u32) -> Result<Option<u32>, MapFault> {
+fn count_sizes<S: Source>(source: &mut S, words: u32) -> Result<Option<u32>, MapFault>
+    ensures { SameDevice (S.device source.old) (S.device source.new) }
+{
     for number in 0..words {
         match size_at(source, number)? {
             Some(0) => return Ok(Some(number)),
@@ -76,7 +89,9 @@ fn count_sizes<S: Source>(source: &mut S, words: u32) -> Result<Option<u32>, Map
 }
 
 // The word of a number behind the header, if the file has it.
-fn size_at<S: Source>(source: &mut S, number: u32) -> Result<Option<u32>, MapFault> {
+fn size_at<S: Source>(source: &mut S, number: u32) -> Result<Option<u32>, MapFault>
+    ensures { SameDevice (S.device source.old) (S.device source.new) }
+{
     let at = HEADER_LEN as u64 + 4 * number as u64;
     let size = source.size()?;
     if size < 4 || size - 4 < at {
@@ -94,7 +109,10 @@ fn add_parts<S: Source>(
     count: u32,
     size: u32,
     contents: &mut Contents,
-) -> Result<(), MapFault> {
+) -> Result<(), MapFault>
+    ensures same { SameDevice (S.device source.old) (S.device source.new) }
+    ensures size { contents.new.size ≡ contents.old.size }
+{
     let start = HEADER_LEN as u64;
     let end = start + size as u64;
     let mut at = start + 4 * (count as u64 + 1);

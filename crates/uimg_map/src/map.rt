@@ -1,5 +1,9 @@
 //! The map of an image's file.
 
+ghost use Rattle.std.specs.Prelude.{◌≡◌, length, IfOk};
+ghost use Rattle.uimg_base.specs.Device.{SameDevice};
+ghost use Rattle.uimg_map.specs.Maps.{IsMap};
+
 use crate::arranging::arrange;
 use crate::contents::{Contents, Label};
 use crate::fault::MapFault;
@@ -65,7 +69,11 @@ impl Map {
 ///
 /// There is none where a read failed, or memory for the nodes of a FIT image, for what stands in the file
 /// or for the rows was refused: some 500 bytes for an image, 300 for a part.
-pub fn map_of<S: Source>(alloc: Global, source: &mut S) -> Result<Map, MapFault> {
+pub fn map_of<S: Source>(alloc: Global, source: &mut S) -> Result<Map, MapFault>
+    ensures same { SameDevice (S.device source.old) (S.device source.new) }
+    ensures size { IfOk result (λ map. map.size ≡ length (S.device source.old).bytes) }
+    ensures rows { IfOk result IsMap }
+{
     let mut contents = Contents::new(alloc, source.size()?);
     if begins_as_blob(source)? {
         add_fit(alloc, source, &mut contents)?;
@@ -88,7 +96,9 @@ pub fn map_of<S: Source>(alloc: Global, source: &mut S) -> Result<Map, MapFault>
 }
 
 // Whether a file begins as a blob does.
-fn begins_as_blob<S: Source>(source: &mut S) -> Result<bool, SourceFault> {
+fn begins_as_blob<S: Source>(source: &mut S) -> Result<bool, SourceFault>
+    ensures { SameDevice (S.device source.old) (S.device source.new) }
+{
     if source.size()? < 4 {
         return Ok(false);
     }
