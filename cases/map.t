@@ -189,6 +189,20 @@ A part that ends behind the data, a table without an end, and data that end behi
   00000040-00000044         4 ..............................## data, outside the file
   uimg: L4 truncated
   [1]
+  $ head -c 70 "$files/three-part-multi.img" > cut.img && uimg map cut.img
+  00000000-00000040        64 ##############################.. header
+  00000040-0000005d        29 .............................### table of sizes, outside the file
+  uimg: L4 truncated
+  [1]
+  $ head -c 85 "$files/three-part-multi.img" > cut.img && uimg map cut.img
+  00000000-00000040        64 #########################....... header
+  00000040-00000050        16 ........................#######. table of sizes
+  00000050-00000053         3 ..............................## part 0
+  00000053-00000054         1 ...............................# padding
+  00000054-00000058         4 ...............................# part 1, outside the file
+  00000058-0000005d         5 ................................ part 2, outside the file
+  uimg: L4 truncated
+  [1]
 
 A header that is refused, and what is no image:
 

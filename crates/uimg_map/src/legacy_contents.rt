@@ -64,6 +64,9 @@ fn add_data<S: Source>(
         Some(count) => add_parts(source, count, header.size, contents),
         None => {
             contents.add(start, end, Label::Table)?;
+            if end > contents.size {
+                return Ok(());
+            }
             contents.refuse_at(end, legacy_fault(LegacyFault::NoTableEnd))
         }
     }
