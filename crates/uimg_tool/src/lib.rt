@@ -9,6 +9,7 @@ mod check_lines;
 mod check_program;
 mod main_program;
 mod making;
+mod map_program;
 mod old_program;
 mod old_tools;
 mod safe_path;

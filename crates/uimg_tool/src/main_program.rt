@@ -2,6 +2,7 @@
 //! request carried out, and turns the end into a line and an exit status.
 use crate::check_program::check_images;
 use crate::making::make_image;
+use crate::map_program::map_image;
 use crate::old_program::program_by_old_name;
 use crate::old_tools::Tool;
 use crate::unpack_program::unpack_image;
@@ -81,6 +82,7 @@ pub fn program<R: Files + AllocGlobal, W: Write, V: Write>(
         Ok(Asked::One(request)) => tell_end(&carry_out(rt, &request, out), err),
         Ok(Asked::Check(request)) => check_images(rt, &request, out, err),
         Ok(Asked::Unpack(request)) => unpack_image(rt, &request, out, err),
+        Ok(Asked::Map(request)) => map_image(rt, &request, out, err),
         Err(fault) => tell_words_fault(&fault, err),
     }
 }

@@ -133,3 +133,28 @@ Exit status:
   1  A payload is refused, there is no such image, or the image is refused
   2  The command line is wrong, or a file would be the image
   3  A file cannot be opened, is there already or cannot be written, or memory failed";
+
+/// The notes of map.
+pub(super) const MAP_NOTES: &str =
+    "A line for each thing, by where it begins and then by where it ends: its offset
+and its end in hexadecimal, its size, a bar of the file, and what it is.
+  gap                    Bytes of nothing, with something behind them
+  rest                   Bytes of nothing up to the file's end
+    payload of kernel    It stands in the structure block, as the value of data
+  .., overlaps strings   It has bytes that this thing of a line before has too
+  .., outside the file   It ends behind the file's end
+  fault B5 bad token ..  Here is the fault that the image is refused for
+A refused image has a map too, of what its header tells. The reservation block
+is counted up to its entry of zeros; where none comes it ends outside the file.
+Neither payloads nor data are read: verify checks them. In names, control
+characters, \\, spaces, colons and commas are written \\xNN.
+
+Examples:
+  uimg map kernel.itb
+  uimg map --svg kernel.svg kernel.itb
+
+Exit status:
+  0  The map was written
+  1  It was written too, and the image is refused, or something ends outside the file
+  2  The command line is wrong, or the picture would be the image
+  3  A file cannot be opened or written, or a read or memory failed";

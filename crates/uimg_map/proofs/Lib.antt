@@ -1,0 +1,6 @@
+mod RowsLaws
+mod OrderLaws
+mod CoverLaws
+mod ArrangeLaws
+mod BarLaws
+mod ReservationsLaws

@@ -1,0 +1,15 @@
+-- The blocks of a devicetree blob (Devicetree Specification, section 5.1).
+use Rattle.std.specs.Prelude.{ℕ, ◌+◌, ◌-◌, ◌^◌, min, max, List, [], ◌∷◌, Option}
+use Rattle.std.specs.Option.{unwrap_or}
+use Rattle.uimg_map.specs.declared.numbers.BlobNumbers.{BlobNumbers}
+use Rattle.uimg_map.specs.declared.thing.Thing.{Thing}
+
+-- The header and the three blocks by its numbers, in a file of so many bytes, with the end of the reservation block, where it
+-- has one in the file. Where it has none it ends behind the file.
+abbrev pub blocks_of : BlobNumbers → Option ℕ → ℕ → List Thing
+blocks_of n end size =
+    record { place = 0; end = 40; number = 0 }
+    ∷ record { place = n.reservations; end = unwrap_or end (min (max n.reservations size + 16) (2 ^ 64 - 1)); number = 1 }
+    ∷ record { place = n.structure; end = n.structure + n.structure_size; number = 2 }
+    ∷ record { place = n.strings; end = n.strings + n.strings_size; number = 3 }
+    ∷ []

@@ -1,0 +1,36 @@
+-- Which bytes a thing has, and which a row.
+use Rattle.std.specs.Prelude.{ℕ, nat_le, nat_lt, ◌&&◌, Bool, false}
+use Rattle.uimg_map.specs.declared.thing.Thing.{Thing}
+use Rattle.uimg_map.specs.declared.row.Row.{Row}
+use Rattle.uimg_map.specs.declared.row.Row.TheVariants.{Taken, Gap, Rest}
+
+-- whether a byte stands from a place up to an end
+abbrev pub within : ℕ → ℕ → ℕ → Bool
+within i place end = nat_le place i && nat_lt i end
+
+-- whether a thing has the byte at an offset
+abbrev pub contains : ℕ → Thing → Bool
+contains i t = within i t.place t.end
+
+-- where a row begins and where it ends
+abbrev pub place_of : Row → ℕ
+place_of (Taken t over) = t.place
+place_of (Gap place end) = place
+place_of (Rest place end) = place
+
+abbrev pub end_of : Row → ℕ
+end_of (Taken t over) = t.end
+end_of (Gap place end) = end
+end_of (Rest place end) = end
+
+-- whether a row has it
+abbrev pub has : ℕ → Row → Bool
+has i (Taken t over) = contains i t
+has i (Gap place end) = within i place end
+has i (Rest place end) = within i place end
+
+-- whether a row has it that is of no thing
+abbrev pub has_free : ℕ → Row → Bool
+has_free i (Taken t over) = false
+has_free i (Gap place end) = within i place end
+has_free i (Rest place end) = within i place end

@@ -1,0 +1,14 @@
+-- Things in the order of their places.
+use Rattle.std.specs.Prelude.{◌≡◌, ◌≤◌, ⊤, List, [], ◌∷◌}
+use Rattle.std.specs.List.{AllByRecursion}
+use Rattle.uimg_map.specs.declared.thing.Thing.{Thing}
+
+-- a thing begins before another; where both begin alike it ends no later, and where they end alike its number is no greater
+pub record IsBefore (s t : Thing) : Type 0 where
+  pub place : s.place ≤ t.place
+  pub end : s.place ≡ t.place → s.end ≤ t.end
+  pub number : s.place ≡ t.place → s.end ≡ t.end → s.number ≤ t.number
+
+abbrev pub InOrder : List Thing → Type 0
+InOrder [] = ⊤
+InOrder (t ∷ ts) = AllByRecursion (IsBefore t) ts × InOrder ts

@@ -1,0 +1,45 @@
+-- The rows of the map of a file: its things, and the bytes that no thing has.
+use Rattle.std.specs.Prelude.{ℕ, List, [], ◌∷◌, ◌++◌, min, nat_lt, if◌then◌else◌, Option, Some, None}
+use Rattle.uimg_map.specs.declared.thing.Thing.{Thing}
+use Rattle.uimg_map.specs.declared.row.Row.{Row}
+use Rattle.uimg_map.specs.declared.row.Row.TheVariants.{Taken, Gap, Rest}
+
+-- where a thing ends; before all things it is the file's start
+abbrev pub end_of : Option Thing → ℕ
+end_of None = 0
+end_of (Some t) = t.end
+
+-- the one that ends later, the earlier one where they end alike
+abbrev pub further : Option Thing → Thing → Option Thing
+further last t = if nat_lt (end_of last) t.end then Some t else last
+
+-- the thing that ends last, where another, which begins no earlier, has bytes of it
+unfoldable pub overlapped : Option Thing → Thing → Option Thing
+overlapped last t = if nat_lt t.place (min (end_of last) t.end) then last else None
+
+-- the bytes from an end up to a place, if there are any, with a thing behind them
+unfoldable pub gap : ℕ → ℕ → List Row
+gap end place = if nat_lt end place then Gap end place ∷ [] else []
+
+-- the bytes from an end up to the file's, if there are any
+unfoldable pub rest : ℕ → ℕ → List Row
+rest size end = if nat_lt end size then Rest end size ∷ [] else []
+
+-- the rows of a thing behind others: the bytes before it, as far as the file has them, and its own
+abbrev pub step : ℕ → Option Thing → Thing → List Row
+step size last t = gap (end_of last) (min t.place size) ++ Taken t (overlapped last t) ∷ []
+
+-- The rows of things in their order, in a file of so many bytes, behind others of which this one ends last.
+abbrev pub rows_from : ℕ → Option Thing → List Thing → List Row
+rows_from size last [] = rest size (end_of last)
+rows_from size last (t ∷ ts) = step size last t ++ rows_from size (further last t) ts
+
+-- the things of rows
+abbrev pub thing_of : Row → List Thing
+thing_of (Taken t over) = t ∷ []
+thing_of (Gap place end) = []
+thing_of (Rest place end) = []
+
+abbrev pub things_in : List Row → List Thing
+things_in [] = []
+things_in (r ∷ rs) = thing_of r ++ things_in rs

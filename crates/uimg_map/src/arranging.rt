@@ -1,0 +1,93 @@
+//! The rows of a map are made of the things that stand in a file.
+
+ghost use Rattle.std.specs.Prelude.{◌≡◌, ◌++◌, None, IfOk, OnOk};
+ghost use Rattle.uimg_map.specs.Arranging.{Arranges};
+ghost use Rattle.uimg_map.specs.Rows.{end_of, further, overlapped, step, rest, rows_from};
+
+use crate::row::Row;
+use crate::thing::Thing;
+use std::alloc::{AllocError, Global};
+
+// Where the thing that ends last has its end, before all things the file's start.
+fn end_of(last: Option<Thing>) -> u64
+    ensures { result ≡ end_of last }
+{
+    match last {
+        Some(thing) => thing.end,
+        None => 0,
+    }
+}
+
+// The one that ends later, the earlier one where they end alike.
+fn further(last: Option<Thing>, thing: Thing) -> Option<Thing>
+    ensures { result ≡ further last thing }
+{
+    if end_of(last) < thing.end {
+        Some(thing)
+    } else {
+        last
+    }
+}
+
+// The thing that ends last, where another has bytes of it.
+#[tactic(auto, unfolding(crate::specs::Rows::overlapped))]
+fn overlapped(last: Option<Thing>, thing: Thing) -> Option<Thing>
+    ensures { result ≡ overlapped last thing }
+{
+    if thing.place < u64::min(end_of(last), thing.end) {
+        last
+    } else {
+        None
+    }
+}
+
+// Adds the rows of the next thing: the gap before it, if there is one, and its own.
+#[tactic(auto, unfolding(crate::specs::Rows::gap))]
+fn add(rows: &mut Vec<Row>, size: u64, last: Option<Thing>, thing: Thing) -> Result<(), AllocError>
+    ensures { OnOk result (rows.new.items ≡ rows.old.items ++ step size last thing) }
+{
+    let (end, next) = (end_of(last), u64::min(thing.place, size));
+    if end < next {
+        rows.push(Row::Gap(end, next))?;
+    }
+    rows.push(Row::Taken(thing, overlapped(last, thing)))?;
+    Ok(())
+}
+
+// Adds the row of the bytes behind all things, if there are any.
+#[tactic(auto, unfolding(crate::specs::Rows::rest))]
+fn add_rest(rows: &mut Vec<Row>, size: u64, last: Option<Thing>) -> Result<(), AllocError>
+    ensures { OnOk result (rows.new.items ≡ rows.old.items ++ rest size (end_of last)) }
+{
+    if end_of(last) < size {
+        rows.push(Row::Rest(end_of(last), size))?;
+    }
+    Ok(())
+}
+
+// The rows of things that are in order.
+fn rows_of(alloc: Global, size: u64, things: &[Thing]) -> Result<Vec<Row>, AllocError>
+    ensures { IfOk result (λ rows. rows.items ≡ rows_from size None things.now) }
+{
+    let mut rows = Vec::new(alloc);
+    let mut last = None;
+    for thing in things {
+        add(&mut rows, size, last, *thing)?;
+        last = further(last, *thing);
+    }
+    add_rest(&mut rows, size, last)?;
+    Ok(rows)
+}
+
+/// The rows of the map of a file of so many bytes: one for each thing, in their order, one for the bytes
+/// before a thing that no earlier one has, and one for those behind all. Things may lie behind the file's
+/// end, and may share bytes.
+///
+/// Memory for the rows may be refused: 64 bytes a row or so, and at most twice as many rows as things,
+/// and one.
+pub fn arrange(alloc: Global, size: u64, mut things: Vec<Thing>) -> Result<Vec<Row>, AllocError>
+    ensures { IfOk result (λ rows. Arranges size things.items rows.items) }
+{
+    things.sort_unstable();
+    rows_of(alloc, size, &things)
+}

@@ -1,0 +1,41 @@
+//! The header of a devicetree blob and the blocks that it names.
+
+ghost use Rattle.std.specs.Prelude.{◌≡◌, ◌+◌};
+ghost use Rattle.uimg_map.specs.Blocks.{blocks_of};
+
+use crate::numbers::{BLOB_HEADER_LEN, BlobNumbers};
+use crate::thing::Thing;
+
+/// How many bytes an entry of a memory reservation block has.
+const ENTRY_LEN: u64 = 16;
+
+// What stands at an offset and has so many bytes.
+fn block(place: u32, size: u32, number: usize) -> Thing
+    ensures { result ≡ record { place = place; end = place + size; number = number } }
+{
+    Thing {
+        place: place as u64,
+        end: place as u64 + size as u64,
+        number,
+    }
+}
+
+/// The header of a blob, its memory reservation block, its structure block and its strings block, with
+/// the numbers 0 to 3, by the numbers of the header, in a file of so many bytes. A reservation block that
+/// has no end in the file is taken to end with an entry behind the file's end.
+pub fn blocks_of(numbers: &BlobNumbers, reservations_end: Option<u64>, size: u64) -> [Thing; 4]
+    ensures { result ≡ blocks_of numbers.now reservations_end size }
+{
+    let place = numbers.reservations as u64;
+    let behind = u64::max(place, size).saturating_add(ENTRY_LEN);
+    [
+        block(0, BLOB_HEADER_LEN as u32, 0),
+        Thing {
+            place,
+            end: reservations_end.unwrap_or(behind),
+            number: 1,
+        },
+        block(numbers.structure, numbers.structure_size, 2),
+        block(numbers.strings, numbers.strings_size, 3),
+    ]
+}

@@ -1,0 +1,102 @@
+//! What stands in the file of an image, as it is gathered.
+
+ghost use Rattle.std.specs.Prelude.{◌≡◌};
+
+use crate::fault::MapFault;
+use crate::thing::Thing;
+use std::alloc::Global;
+use uimg_base::Span;
+
+/// What a thing is.
+#[derive(Clone, Copy, Debug, PartialEq, Eq)]
+pub enum Label {
+    /// The header of a blob or of a legacy image.
+    Header,
+
+    /// The memory reservation block of a blob.
+    Reservations,
+
+    /// Its structure block, which has the nodes and the values of their properties.
+    Structure,
+
+    /// Its strings block, which has the names of properties.
+    Strings,
+
+    /// The payload of the image whose name stands there.
+    Payload(Span),
+
+    /// The same, where it is the value of a property.
+    Embedded(Span),
+
+    /// The table of the sizes of a legacy image's parts.
+    Table,
+
+    /// The data of a legacy image that has no parts.
+    Data,
+
+    /// The part of this position.
+    Part(u32),
+
+    /// The bytes up to the next part.
+    Padding,
+
+    /// The place of a fault.
+    Fault(MapFault),
+}
+
+/// What was found in the file of an image.
+#[derive(Drop)]
+pub(crate) struct Contents {
+    /// How many bytes the file has.
+    pub(crate) size: u64,
+
+    /// What stands in it. The number of a thing is that of its label.
+    pub(crate) things: Vec<Thing>,
+
+    /// What each of them is.
+    pub(crate) labels: Vec<Label>,
+
+    /// Why the image is refused, if it is.
+    pub(crate) fault: Option<MapFault>,
+}
+
+impl Contents {
+    /// Nothing yet, of a file of so many bytes.
+    pub(crate) fn new(alloc: Global, size: u64) -> Contents
+        ensures { result.size ≡ size }
+    {
+        Contents {
+            size,
+            things: Vec::new(alloc),
+            labels: Vec::new(alloc),
+            fault: None,
+        }
+    }
+
+    /// Adds what stands from a place up to an end.
+    pub(crate) fn add(&mut self, place: u64, end: u64, label: Label) -> Result<(), MapFault>
+        ensures { self.new.size ≡ self.old.size }
+    {
+        let number = self.labels.len();
+        self.labels.push(label)?;
+        self.things.push(Thing { place, end, number })?;
+        Ok(())
+    }
+
+    /// Adds a fault that has a place, which is why the image is refused.
+    pub(crate) fn refuse_at(&mut self, place: u64, fault: MapFault) -> Result<(), MapFault>
+        ensures { self.new.size ≡ self.old.size }
+    {
+        self.refuse(fault);
+        self.add(place, place, Label::Fault(fault))
+    }
+
+    /// Tells why the image is refused, where that was not told before.
+    pub(crate) fn refuse(&mut self, fault: MapFault)
+        ensures { self.new.size ≡ self.old.size }
+    {
+        if self.fault.is_none() {
+            self.fault = Some(fault);
+        }
+    }
+}

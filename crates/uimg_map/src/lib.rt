@@ -1,0 +1,34 @@
+//! The map of an image's file: what stands where in it, and which bytes are of nothing. `map_of` gives it,
+//! `put_lines` and `put_picture` write it.
+#![tactic(auto)]
+
+mod arranging;
+mod bar;
+mod blocks;
+mod contents;
+mod fault;
+mod fit_contents;
+mod legacy_contents;
+mod lines;
+mod map;
+mod numbers;
+mod picture;
+mod reservations;
+mod row;
+mod stop;
+mod texts;
+mod thing;
+
+pub use arranging::arrange;
+pub use bar::{Bar, bar_of};
+pub use blocks::blocks_of;
+pub use contents::Label;
+pub use fault::MapFault;
+pub use lines::put_lines;
+pub use map::{Map, map_of};
+pub use numbers::{BLOB_HEADER_LEN, BlobNumbers, read_numbers};
+pub use picture::put_picture;
+pub use reservations::end_of_reservations;
+pub use row::Row;
+pub use stop::MapStop;
+pub use thing::Thing;

@@ -1,0 +1,108 @@
+//! The map of an image's file.
+
+ghost use Rattle.std.specs.Prelude.{◌≡◌, length, IfOk};
+ghost use Rattle.uimg_base.specs.Device.{SameDevice};
+ghost use Rattle.uimg_map.specs.Maps.{IsMap};
+
+use crate::arranging::arrange;
+use crate::contents::{Contents, Label};
+use crate::fault::MapFault;
+use crate::fit_contents::add_fit;
+use crate::legacy_contents::add_legacy;
+use crate::row::Row;
+use crate::thing::Thing;
+use std::alloc::Global;
+use uimg_base::{Source, SourceFault, number_at};
+use uimg_blob::BLOB_MAGIC;
+
+/// The map of an image's file.
+#[derive(Drop)]
+pub struct Map {
+    /// How many bytes the file has.
+    pub size: u64,
+
+    /// Its rows. The number of a thing is that of its label.
+    pub rows: Vec<Row>,
+
+    /// What the things are.
+    pub labels: Vec<Label>,
+
+    /// Why the image is refused, if it is: the first of its faults.
+    pub fault: Option<MapFault>,
+}
+
+/// How a thing stands to the earlier ones.
+#[derive(Clone, Copy, Debug, PartialEq, Eq)]
+pub(crate) enum Standing {
+    /// It shares no bytes with them.
+    Alone,
+
+    /// It is the value of a property, in the structure block, as it should.
+    Nested,
+
+    /// It shares bytes with this one.
+    Overlapping(Label),
+}
+
+impl Map {
+    /// What a thing is, if it is of this map.
+    pub(crate) fn label_of(&self, thing: Thing) -> Option<Label> {
+        self.labels.get(thing.number).copied()
+    }
+
+    /// How a thing stands to the earlier ones, by the one that it shares bytes with, if there is one.
+    pub(crate) fn standing_of(&self, thing: Thing, over: Option<Thing>) -> Standing {
+        match (
+            self.label_of(thing),
+            over.and_then(|over| self.label_of(over)),
+        ) {
+            (_, None) => Standing::Alone,
+            (Some(Label::Embedded(_)), Some(Label::Structure)) => Standing::Nested,
+            (_, Some(other)) => Standing::Overlapping(other),
+        }
+    }
+}
+
+/// The map of an image's file: a FIT image where it begins as a devicetree blob, and else a legacy one.
+/// A refused image has one too, with what its header tells and the place of its fault, where that has one;
+/// that a payload or a part ends behind the file is a fault too. Neither payloads nor data are read.
+///
+/// There is none where a read failed, or memory for the nodes of a FIT image, for what stands in the file
+/// or for the rows was refused: some 500 bytes for an image, 300 for a part.
+pub fn map_of<S: Source>(alloc: Global, source: &mut S) -> Result<Map, MapFault>
+    ensures same { SameDevice (S.device source.old) (S.device source.new) }
+    ensures size { IfOk result (λ map. map.size ≡ length (S.device source.old).bytes) }
+    ensures rows { IfOk result IsMap }
+{
+    let mut contents = Contents::new(alloc, source.size()?);
+    if begins_as_blob(source)? {
+        add_fit(alloc, source, &mut contents)?;
+    } else {
+        add_legacy(source, &mut contents)?;
+    }
+    let Contents {
+        size,
+        things,
+        labels,
+        fault,
+    } = contents;
+    let rows = arrange(alloc, size, things)?;
+    Ok(Map {
+        size,
+        rows,
+        labels,
+        fault,
+    })
+}
+
+// Whether a file begins as a blob does.
+fn begins_as_blob<S: Source>(source: &mut S) -> Result<bool, SourceFault>
+    ensures { SameDevice (S.device source.old) (S.device source.new) }
+{
+    if source.size()? < 4 {
+        return Ok(false);
+    }
+    let mut magic = [0; 4];
+    source.fill_at(0, &mut magic)?;
+    Ok(number_at(&magic, 0) == BLOB_MAGIC)
+}

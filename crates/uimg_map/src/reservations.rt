@@ -1,0 +1,45 @@
+//! Where the memory reservation block of a devicetree blob ends.
+
+ghost use Rattle.std.specs.Prelude.{◌≡◌, ◌+◌, ◌≤◌, length, is_err, IfOk, IfSome, IsTrue};
+ghost use Rattle.uimg_base.specs.Using.{Asks, Uses};
+ghost use Rattle.uimg_map.specs.Reservations.{zeros, EndsBlock};
+ghost use Rattle.uimg_texts.specs.Slices.{slice};
+
+use uimg_base::{Source, SourceFault};
+
+// How many bytes an entry has: the place of the memory that is reserved, and its size.
+const ENTRY_LEN: usize = 16;
+
+// Whether the entry at a place is the last, of zeros only.
+fn is_last<S: Source>(source: &mut S, at: u64) -> Result<bool, SourceFault>
+    requires { at + 16 ≤ length (S.device source.old).bytes }
+    ensures uses { Asks 16 (is_err result) (S.device source.old) (S.device source.new) }
+    ensures last { IsTrue (S.device source.old).honest →
+        IfOk result (λ is. is ≡ zeros (slice (S.device source.old).bytes at 16)) }
+{
+    let mut entry = [0; ENTRY_LEN];
+    source.fill_at(at, &mut entry)?;
+    Ok(entry == [0; ENTRY_LEN])
+}
+
+/// Where the memory reservation block of a blob ends that begins at a place (Devicetree Specification,
+/// section 5.3): behind the first entry of zeros only. There is no end where the source ends before such
+/// an entry does. An entry is read at a time.
+pub fn end_of_reservations<S: Source>(
+    source: &mut S,
+    place: u32,
+) -> Result<Option<u64>, SourceFault>
+    ensures uses { Uses (is_err result) (S.device source.old) (S.device source.new) }
+    ensures found { IsTrue (S.device source.old).honest →
+        IfOk result (EndsBlock (S.device source.old).bytes place) }
+{
+    let size = source.size()?;
+    let mut at = place as u64;
+    while at < size && size - at >= ENTRY_LEN as u64 {
+        if is_last(source, at)? {
+            return Ok(Some(at + ENTRY_LEN as u64));
+        }
+        at += ENTRY_LEN as u64;
+    }
+    Ok(None)
+}

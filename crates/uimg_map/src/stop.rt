@@ -1,0 +1,41 @@
+//! Why a map is not written.
+
+use crate::fault::MapFault;
+use std::alloc::AllocError;
+use std::io;
+use std::io::ErrorKind;
+
+/// Why a map was not written, or not all of it.
+#[derive(Clone, Copy, Debug, PartialEq, Eq)]
+pub enum MapStop {
+    /// A name could not be read, or memory for a row's text was refused.
+    Stopped(MapFault),
+
+    /// Nobody reads it any more.
+    Closed,
+
+    /// A write failed.
+    Put,
+}
+
+impl From<MapFault> for MapStop {
+    fn from(fault: MapFault) -> MapStop {
+        MapStop::Stopped(fault)
+    }
+}
+
+impl From<AllocError> for MapStop {
+    fn from(_error: AllocError) -> MapStop {
+        MapStop::Stopped(MapFault::OutOfMemory)
+    }
+}
+
+impl From<io::Error> for MapStop {
+    fn from(error: io::Error) -> MapStop {
+        match error.kind() {
+            ErrorKind::OutOfMemory => MapStop::Stopped(MapFault::OutOfMemory),
+            ErrorKind::BrokenPipe => MapStop::Closed,
+            _ => MapStop::Put,
+        }
+    }
+}

@@ -1,0 +1,145 @@
+//! The map of an image's file, as lines or as a picture.
+
+use crate::check_program::is_pipe;
+use crate::main_program::{DONE, FAILED, REFUSED, RequestFault, WRONG_LINE, tell};
+use crate::safe_path::{SafePath, Writing, writing_of};
+use std::fs;
+use std::io::{BufWriter, Write};
+use std::rt::Files;
+use uimg_base::{FileSource, Source};
+use uimg_engine::{Fault, is_same_file};
+use uimg_map::{Map, MapFault, MapStop, map_of, put_lines, put_picture};
+use uimg_words::MapRequest;
+
+/// Writes the map of the image of a request: lines on `out`, or a picture as a file that gets its name
+/// when it is whole. It answers the status; a fault is told by a line on `err`, where the image is
+/// refused when its map is written.
+pub(crate) fn map_image<R: Files + AllocGlobal, W: Write, V: Write>(
+    rt: &R,
+    request: &MapRequest<'_>,
+    out: &mut W,
+    err: &mut V,
+) -> u8 {
+    if is_pipe(rt, request.image) {
+        return tell(err, &RequestFault::CannotRead(request.image), FAILED);
+    }
+    let Ok(mut source) = FileSource::open(rt, request.image) else {
+        return tell(err, &RequestFault::CannotRead(request.image), FAILED);
+    };
+    let map = match map_of(rt.alloc(), &mut source) {
+        Ok(map) => map,
+        Err(fault) => return tell(err, &fault, FAILED),
+    };
+    let ended = match request.picture {
+        Some(path) if is_same_file(rt, path, request.image) => {
+            return tell(err, &RequestFault::WritesWhatIsRead(path), WRONG_LINE);
+        }
+        Some(path) => draw(rt, path, &mut source, &map),
+        None => print(rt, &mut source, &map, out),
+    };
+    tell_ended(ended, map.fault, err)
+}
+
+// Why a map was not written.
+#[derive(Drop)]
+enum Stop<'a> {
+    // The picture cannot be written at this path.
+    CannotWrite(&'a str),
+
+    // A read, a write or memory failed, or nobody reads the lines any more.
+    Stopped(MapStop),
+}
+
+fn tell_ended<V: Write>(ended: Result<(), Stop<'_>>, fault: Option<MapFault>, err: &mut V) -> u8 {
+    match (ended, fault) {
+        (Ok(()), None) => DONE,
+        (Ok(()), Some(fault)) => tell(err, &fault, REFUSED),
+        (Err(Stop::CannotWrite(path)), _) => tell(err, &RequestFault::CannotWrite(path), FAILED),
+        (Err(Stop::Stopped(MapStop::Closed)), _) => FAILED,
+        (Err(Stop::Stopped(MapStop::Put)), _) => tell(err, &Fault::Put, FAILED),
+        (Err(Stop::Stopped(MapStop::Stopped(fault))), _) => tell(err, &fault, FAILED),
+    }
+}
+
+// Prints a map as lines.
+fn print<'a, R: Files + AllocGlobal, S: Source, W: Write>(
+    rt: &R,
+    source: &mut S,
+    map: &Map,
+    out: &mut W,
+) -> Result<(), Stop<'a>> {
+    let Ok(mut gathered) = BufWriter::new(rt.alloc(), out) else {
+        return Err(Stop::Stopped(MapStop::Stopped(MapFault::OutOfMemory)));
+    };
+    let put = match put_lines(rt.alloc(), source, map, &mut gathered) {
+        Ok(()) => gathered.flush().map_err(MapStop::from),
+        Err(stop) => Err(stop),
+    };
+    // A failed write leaves text in it, and its drop would try once more to write that.
+    let (_, _) = gathered.into_parts();
+    put.map_err(Stop::Stopped)
+}
+
+// Writes a map as the picture at a path: beside it first, if a file can be there.
+fn draw<'a, R: Files + AllocGlobal, S: Source>(
+    rt: &R,
+    path: &'a str,
+    source: &mut S,
+    map: &Map,
+) -> Result<(), Stop<'a>> {
+    match writing_of(rt, path) {
+        Ok(Writing::Beside(safe)) => draw_beside(rt, path, &safe, source, map),
+        Ok(Writing::InPlace | Writing::Pipe) => match fs::create(rt, path) {
+            Ok(file) => draw_into(rt, path, file, source, map),
+            Err(_) => Err(Stop::CannotWrite(path)),
+        },
+        Ok(Writing::Nowhere) => Err(Stop::CannotWrite(path)),
+        Err(_) => Err(Stop::Stopped(MapStop::Stopped(MapFault::OutOfMemory))),
+    }
+}
+
+// Writes a picture at a new path, and gives it the path that it is to have. One that is not whole is
+// removed.
+fn draw_beside<'a, R: Files + AllocGlobal, S: Source>(
+    rt: &R,
+    path: &'a str,
+    safe: &SafePath,
+    source: &mut S,
+    map: &Map,
+) -> Result<(), Stop<'a>> {
+    let Ok(file) = fs::File::create_new(rt, safe.new.as_str()) else {
+        return Err(Stop::CannotWrite(path));
+    };
+    let drawn = draw_into(rt, path, file, source, map);
+    if drawn.is_ok() && fs::rename(rt, safe.new.as_str(), safe.whole.as_str()).is_ok() {
+        return Ok(());
+    }
+    let _ = fs::remove_file(rt, safe.new.as_str());
+    match drawn {
+        Ok(()) => Err(Stop::CannotWrite(path)),
+        Err(stop) => Err(stop),
+    }
+}
+
+// Writes a picture to a file.
+fn draw_into<'a, R: Files + AllocGlobal, S: Source>(
+    rt: &R,
+    path: &'a str,
+    file: R::File,
+    source: &mut S,
+    map: &Map,
+) -> Result<(), Stop<'a>> {
+    let Ok(mut gathered) = BufWriter::new(rt.alloc(), file) else {
+        return Err(Stop::Stopped(MapStop::Stopped(MapFault::OutOfMemory)));
+    };
+    let put = match put_picture(rt.alloc(), source, map, &mut gathered) {
+        Ok(()) => gathered.flush().map_err(MapStop::from),
+        Err(stop) => Err(stop),
+    };
+    let (_, _) = gathered.into_parts();
+    match put {
+        Ok(()) => Ok(()),
+        Err(MapStop::Stopped(fault)) => Err(Stop::Stopped(MapStop::Stopped(fault))),
+        Err(_) => Err(Stop::CannotWrite(path)),
+    }
+}

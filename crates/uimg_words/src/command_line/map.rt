@@ -1,0 +1,37 @@
+//! The words of `map`.
+
+use super::help_notes::MAP_NOTES;
+use super::image;
+use clap::{Arg, ArgAction, ArgMatches};
+use std::alloc::{AllocError, Global};
+
+/// The map of an image's file.
+#[derive(Drop)]
+pub struct MapRequest<'a> {
+    /// The path of the file that gets it as a picture, if it is not to be written as lines.
+    pub picture: Option<&'a str>,
+
+    /// The path of the image.
+    pub image: &'a str,
+}
+
+pub(super) fn command<'a>(alloc: Global) -> Result<clap::Command<'a>, AllocError> {
+    clap::Command::new(alloc, "map")
+        .about("Show what lies where in the file of an image, whole or broken")
+        .after_help(MAP_NOTES)
+        .arg(
+            Arg::new(alloc, "svg")
+                .long("svg")
+                .action(ArgAction::Set)
+                .value_name("file")
+                .help("Write a picture to this file, in place of lines"),
+        )?
+        .arg(image(alloc, "The image"))
+}
+
+pub(super) fn request<'a>(matches: &ArgMatches<'a>) -> MapRequest<'a> {
+    MapRequest {
+        picture: matches.get_str("svg"),
+        image: matches.get_str("image").unwrap_or(""),
+    }
+}
