@@ -179,13 +179,13 @@ listed_data only honest h n d e f w m from mid to a b z last same v kind there i
     let cut : parts_in only true bytes ≡ Ok p.parts = all_cut only p.table p.bytes q.piece p.parts n p.long p.some p.cut there in
     let again : Holds z (p.table ++ zeros) = ended p.table (p.sizes [] fresh) in
     let ending : Holds w.sum (p.table ++ zeros) → Holds last bytes = λ holds.
-        subst (λ (xs : List ℕ). Holds last xs) (append_assoc (p.table ++ zeros) p.bytes q.piece ∙ append_assoc p.table zeros (p.bytes ++ q.piece))
-        (q.summed ((p.table ++ zeros) ++ p.bytes) (p.summed (p.table ++ zeros) holds)) in
+    subst (λ (xs : List ℕ). Holds last xs) (append_assoc (p.table ++ zeros) p.bytes q.piece ∙ append_assoc p.table zeros (p.bytes ++ q.piece))
+    (q.summed ((p.table ++ zeros) ++ p.bytes) (p.summed (p.table ++ zeros) holds)) in
     let right : IsTrue d.honest → bytes ≡ payload d.bytes h = λ true_one.
-        let at_e = subst (λ (x : Bool). IsTrue x) (sym de.honest) true_one in
-        let at_f = subst (λ (x : Bool). IsTrue x) (sym df.honest) true_one in
-        all_right d e f p.table p.bytes q.piece n h.size m.at de df inside fits (counts true_one) place within (p.read at_e)
-        (p.right at_e ∙ ap (λ (k : ℕ). slice e.bytes (64 + k) (length p.bytes)) start) (q.right at_f) in
+    let at_e = subst (λ (x : Bool). IsTrue x) (sym de.honest) true_one in
+    let at_f = subst (λ (x : Bool). IsTrue x) (sym df.honest) true_one in
+    all_right d e f p.table p.bytes q.piece n h.size m.at de df inside fits (counts true_one) place within (p.read at_e)
+    (p.right at_e ∙ ap (λ (k : ℕ). slice e.bytes (64 + k) (length p.bytes)) start) (q.right at_f) in
     taken_by only honest h d from to (same && (v == h.dcrc))
     (λ both_are.
     let each = both_true same (v == h.dcrc) both_are in
@@ -202,9 +202,9 @@ listed_data only honest h n d e f w m from mid to a b z last same v kind there i
     (λ one_fails true_one.
     let at_e = subst (λ (x : Bool). IsTrue x) (sym de.honest) true_one in
     let was : first.piece ≡ p.table ++ zeros =
-        first.right true_one ∙ ap (λ (k : ℕ). slice d.bytes 64 k) (omega arith) ∙ slice-add d.bytes 64 (4 * n) 4
-        ∙ ap (λ (xs : List ℕ). xs ++ slice d.bytes (64 + 4 * n) 4) (sym (p.read at_e ∙ ap (λ (xs : List ℕ). slice xs 64 (4 * n)) de.bytes))
-        ∙ ap (λ (xs : List ℕ). p.table ++ xs) (after_table d.bytes h.size n inside fits (counts true_one)) in
+    first.right true_one ∙ ap (λ (k : ℕ). slice d.bytes 64 k) (omega arith) ∙ slice-add d.bytes 64 (4 * n) 4
+    ∙ ap (λ (xs : List ℕ). xs ++ slice d.bytes (64 + 4 * n) 4) (sym (p.read at_e ∙ ap (λ (xs : List ℕ). slice xs 64 (4 * n)) de.bytes))
+    ∙ ap (λ (xs : List ℕ). p.table ++ xs) (after_table d.bytes h.size n inside fits (counts true_one)) in
     let holds : Holds w.sum (p.table ++ zeros) = subst (λ (xs : List ℕ). Holds w.sum xs) was (first.summed [] begun) in
     let is : same ≡ true = equal (p.table ++ zeros) (subst (λ (s : Crc). Holds s (p.table ++ zeros)) (sym copied) holds) again in
     record {
@@ -231,17 +231,17 @@ told_as X told Read e = tt
 told_as X told Put e = tt
 
 -- data of a type with parts of which one is refused
-pub listed_fault : {X : Type 0} (made : Result X Fault) (only : Option ℕ) (honest : Bool) (h : Header) (n : ℕ) (d e : Device) (w : Walk) (from to : List Part) (r : Result Bool Fault) (fault : Fault) → r ≡ Err fault → has_parts h.kind ≡ true → is_there only n ≡ true → 64 + h.size ≤ length d.bytes → 4 * (n + 1) ≤ h.size → w.at ≡ 4 * (n + 1) → SameDevice d e → (IsTrue d.honest → (part_sizes (payload d.bytes h) ≡ Ok (sizes (payload d.bytes h))) × (n ≡ length (sizes (payload d.bytes h)))) → (IsTrue e.honest → n ≡ length (sizes (slice e.bytes 64 h.size)) → RefusesBy {X = X} (parts_by (sizes (slice e.bytes 64 h.size)) (slice e.bytes (64 + w.at) (h.size - w.at))) (Err fault)) → TakesData only honest h d r from to
-listed_fault {X} made only honest h n d e w from to r fault is kind there inside fits start same counts refused =
+pub listed_fault : {X : Type 0} (made : Result X Fault) (only : Option ℕ) (honest : Bool) (h : Header) (n : ℕ) (d e : Device) (at : ℕ) (from to : List Part) (r : Result Bool Fault) (fault : Fault) → r ≡ Err fault → has_parts h.kind ≡ true → is_there only n ≡ true → 64 + h.size ≤ length d.bytes → 4 * (n + 1) ≤ h.size → at ≡ 4 * (n + 1) → SameDevice d e → (IsTrue d.honest → (part_sizes (payload d.bytes h) ≡ Ok (sizes (payload d.bytes h))) × (n ≡ length (sizes (payload d.bytes h)))) → (IsTrue e.honest → n ≡ length (sizes (slice e.bytes 64 h.size)) → RefusesBy {X = X} (parts_by (sizes (slice e.bytes 64 h.size)) (slice e.bytes (64 + at) (h.size - at))) (Err fault)) → TakesData only honest h d r from to
+listed_fault {X} made only honest h n d e at from to r fault is kind there inside fits start same counts refused =
     let file = payload d.bytes h in
     subst (λ (x : Result Bool Fault). TakesData only honest h d x from to) (sym is)
-    (by_told only honest h d from to fault (parts_by (sizes file) (slice d.bytes (64 + w.at) (h.size - w.at)))
+    (by_told only honest h d from to fault (parts_by (sizes file) (slice d.bytes (64 + at) (h.size - at)))
     (λ true_one.
     let at_e = subst (λ (x : Bool). IsTrue x) (sym same.honest) true_one in
     let few = ap (λ (xs : List ℕ). length (sizes (slice xs 64 h.size))) same.bytes in
     let found = refused at_e ((counts true_one).1 ∙ sym few) in
-    told_as X _ fault (subst (λ (xs : List ℕ). RefusesBy {X = X} (parts_by (sizes (slice xs 64 h.size)) (slice xs (64 + w.at) (h.size - w.at))) (Err fault)) same.bytes found))
+    told_as X _ fault (subst (λ (xs : List ℕ). RefusesBy {X = X} (parts_by (sizes (slice xs 64 h.size)) (slice xs (64 + at) (h.size - at))) (Err fault)) same.bytes found))
     (λ true_one.
     let c = counts true_one in
-    let behind : drop (4 * (length (sizes file) + 1)) file ≡ slice d.bytes (64 + w.at) (h.size - w.at) = ap (λ (k : ℕ). drop (4 * (k + 1)) file) (sym c.1) ∙ behind_table d.bytes h.size n fits ∙ ap (λ (k : ℕ). slice d.bytes (64 + k) (h.size - k)) (sym start) in
+    let behind : drop (4 * (length (sizes file) + 1)) file ≡ slice d.bytes (64 + at) (h.size - at) = ap (λ (k : ℕ). drop (4 * (k + 1)) file) (sym c.1) ∙ behind_table d.bytes h.size n fits ∙ ap (λ (k : ℕ). slice d.bytes (64 + k) (h.size - k)) (sym start) in
     rw (kind, c.0, sym c.1, there) (ap (λ (xs : List ℕ). parts_by (sizes file) xs) (ap (λ (k : ℕ). drop (4 * (k + 1)) file) c.1 ∙ behind))))

@@ -18,3 +18,4 @@ pub mod TakingLaws
 pub mod CuttingLaws
 pub mod WalkLaws
 pub mod DataLaws
+pub mod UnpackLaws

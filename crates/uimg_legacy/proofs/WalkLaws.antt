@@ -91,10 +91,11 @@ sizes_split image table size n inside fits there e =
     let len = length-sizes d in
     let first : take n (sizes d) ≡ words table = take-take n _ (words d) (omega (arith, len, there)) ∙ sym (words-slice d 0 n) ∙ ap words (slice-slice image 64 size 0 (4 * n) (omega (arith, fits)) ∙ sym e) in
     let next : suc n ≡ n + 1 = omega arith in
-    let here : get_or (sizes d) n 0 ≡ be32 image (64 + 4 * n) = table_words image size inside n there in
-    (drop (n + 1) (sizes d),
-    sym (take-append-drop n (sizes d)) ∙ ap (λ (ws : List ℕ). ws ++ drop n (sizes d)) first
-    ∙ ap (λ (ws : List ℕ). words table ++ ws) (drop-cons (sizes d) n 0 there ∙ ap (λ (w : ℕ). w ∷ drop (suc n) (sizes d)) here ∙ ap (λ (k : ℕ). be32 image (64 + 4 * n) ∷ drop k (sizes d)) next))
+    let here : get_or (sizes d) n 0 ≡ be32 image (64 + 4 * n) = table_words image size inside n there in (
+      drop (n + 1) (sizes d),
+      sym (take-append-drop n (sizes d)) ∙ ap (λ (ws : List ℕ). ws ++ drop n (sizes d)) first
+          ∙ ap (λ (ws : List ℕ). words table ++ ws) (drop-cons (sizes d) n 0 there ∙ ap (λ (w : ℕ). w ∷ drop (suc n) (sizes d)) here ∙ ap (λ (k : ℕ). be32 image (64 + 4 * n) ∷ drop k (sizes d)) next),
+    )
 
 -- by the fault
 by_fault : (X : Type 0) (fault : Fault) (at size word : ℕ) (told : Result (List (List ℕ)) LegacyFault) → RefusesNext {X = X} at size word (Err fault) → (size < at + word → told ≡ Err of.PartOutside) → (word ≡ 0 → told ≡ Err of.BadDataCrc) → RefusesBy {X = X} told (Err fault)

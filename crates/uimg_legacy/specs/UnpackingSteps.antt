@@ -108,6 +108,12 @@ TakesData only honest h d (Err (Legacy fault)) from to = IsTrue d.honest → par
 TakesData only honest h d (Err Read) from to = ⊤
 TakesData only honest h d (Err Put) from to = ⊤
 
+-- What is held was kept, if the data's CRC is right, and else nothing, or nothing where that failed.
+abbrev pub Settles : {E : Type 0} → Bool → Result Bool E → List Part → List Part → List Part → Type 0
+Settles true (Ok kept) held old new = (kept ≡ true) × (new ≡ old ++ held)
+Settles false (Ok kept) held old new = (kept ≡ false) × (new ≡ old)
+Settles right (Err fault) held old new = new ≡ old
+
 -- the most that is asked for: the header, the data, and of a table of sizes twice as many bytes as it has
 abbrev pub unpack_reads : List ℕ → Result Header LegacyFault → ℕ
 unpack_reads image (Ok h) = data_read image h + 8 * (sizes_read_with (has_parts h.kind) (payload image h) + 1)

@@ -4,7 +4,7 @@ ghost use Rattle.std.specs.Prelude.{◌≡◌, ◌+◌, ◌≤◌, [], false, le
 ghost use Rattle.uimg_base.specs.Using.{UsesAtMost};
 ghost use Rattle.uimg_legacy.specs.Faults.{is_read, is_of_making};
 ghost use Rattle.uimg_legacy.specs.Unpacking.{AreRight, Unpacks, KeepsRight, unpack_of};
-ghost use Rattle.uimg_legacy.specs.UnpackingSteps.{unpack_work};
+ghost use Rattle.uimg_legacy.specs.UnpackingSteps.{Settles, unpack_work};
 
 mod copies;
 mod mem_parts;
@@ -24,6 +24,8 @@ use uimg_base::{PutFault, Room, Source};
 // The parts that are held are kept, if the data's CRC is right, or thrown away.
 fn settle<T: PartTaker>(right: bool, dcrc: u32, taker: &mut T) -> Result<bool, PutFault>
     requires { IsTrue right → IsTrue T.honest → AreRight dcrc (T.held taker.old) }
+    ensures { IsTrue T.honest → Settles right result
+        (T.held taker.old) (T.kept taker.old) (T.kept taker.new) }
 {
     if right {
         taker.keep(dcrc)?;

@@ -150,7 +150,17 @@ fn take_next<S: Source, A: Allocator, T: PartTaker>(
     walk.sizes.feed(&word);
     let all = u64::min(up4(len), left);
     let (asked, at) = (is_asked(only, number), 64 + walk.at);
-    take_padded(source, room, &mut walk.sum, asked, number, at, len, all, taker)?;
+    take_padded(
+        source,
+        room,
+        &mut walk.sum,
+        asked,
+        number,
+        at,
+        len,
+        all,
+        taker,
+    )?;
     walk.at += all;
     Ok(())
 }

@@ -32,7 +32,7 @@ loop-counted-preserved g c =
           let more = found ∙ sizes_window image c.args.size c.loop-counted.counted c.min-next.result (omega arith) (inv.sizes honest) in
           omega (arith, more, inv.sizes honest);
       summed = subst (λ (n : ℕ). SumsPiece (g.S.Source.device c.args.source.now) 64 n c.args.sum.now c.sum_sizes.new.sum) (omega (arith, c.in_ok-found.ensures.reads.bound))
-      (more_summed _ _ 64 (4 * c.loop-counted.counted) _ _ _ _ inv.same inv.summed c.in_ok-found.ensures.summed);
+          (more_summed _ _ 64 (4 * c.loop-counted.counted) _ _ _ _ inv.same inv.summed c.in_ok-found.ensures.summed);
     }
 
 pub returns-clause-reads : goal.returns-clause-reads
