@@ -1,10 +1,10 @@
 -- The data that were summed, and the parts that they have.
-use Rattle.std.proofs.Common.{◌≡◌, ◌≢◌, ◌≤◌, ◌<◌, ◌+◌, ◌-◌, ◌*◌, ℕ, zero, suc, List, [], ◌∷◌, ◌++◌, length, length-append, take, drop, get_or, min, Bool, true, false, true≢false, not, ◌==◌, ◌&&◌, ◌||◌, nat_lt, IsTrue, Option, Some, None, Result, Ok, Err, refl, ap, sym, subst, ◌∙◌, arith}
+use Rattle.std.proofs.Common.{◌≡◌, ◌≢◌, ◌≤◌, ◌<◌, ◌+◌, ◌-◌, ◌*◌, ℕ, zero, suc, List, [], ◌∷◌, ◌++◌, length, length-append, take, drop, get_or, Bool, true, false, true≢false, not, ◌==◌, ◌&&◌, ◌||◌, IsTrue, Option, Some, None, Result, Ok, Err, refl, ap, sym, subst, ◌∙◌, arith}
 use Rattle.std.specs.List.{AllByRecursion, list_any, before_first, prefix_len}
 use Rattle.std.proofs.Math.Dec.{eqb-suc-zero}
-use Rattle.std.proofs.lemmas.Bool.{ltb-true, lt-ltb, eq-eqb, eqb-true, not-false}
+use Rattle.std.proofs.lemmas.Bool.{ltb-true, eq-eqb, eqb-true, not-false}
 use Rattle.std.proofs.lemmas.List.{append_assoc, append-nil, drop_at, drop-take, drop-drop}
-use Rattle.std.proofs.lemmas.List.Sums.{prefix_len-le-length, prefix_len_stops}
+use Rattle.std.proofs.lemmas.List.Sums.{prefix_len_stops}
 use Rattle.uimg_sums.specs.Crc.{crc}
 use Rattle.uimg_sums.specs.declared.crc.Crc.{Crc}
 use Rattle.uimg_sums.specs.CrcSums.{Holds}
@@ -14,7 +14,6 @@ use Rattle.uimg_base.specs.Device.{Device, SameDevice}
 use Rattle.uimg_base.proofs.Slices.{slice-add, length-slice}
 use Rattle.uimg_legacy.specs.declared.header.Header.{Header}
 use Rattle.uimg_legacy.specs.declared.fault.LegacyFault.{LegacyFault}
-use Rattle.uimg_legacy.specs.declared.fault.LegacyFault.TheVariants.{NoSuchPart}
 use Rattle.uimg_legacy.specs.declared.fault.Fault.{Fault}
 use Rattle.uimg_legacy.specs.declared.fault.Fault.TheVariants.{Legacy, Read, Put}
 use Rattle.uimg_legacy.specs.declared.unpacking.takes.Walk.{Walk}

@@ -1,5 +1,5 @@
 -- Parts that are taken, each with the bytes behind it.
-use Rattle.std.proofs.Common.{◌≡◌, ◌≤◌, ◌+◌, ◌-◌, ℕ, List, [], ◌++◌, length, take, drop, length-append, Bool, true, IsTrue, Option, Some, None, refl, ap, sym, subst, ◌∙◌, arith}
+use Rattle.std.proofs.Common.{◌≡◌, ◌≤◌, ◌+◌, ◌-◌, ℕ, List, [], ◌++◌, length, take, drop, length-append, Bool, IsTrue, Option, Some, None, ap, sym, subst, ◌∙◌, arith}
 use Rattle.std.specs.Io.KnownBytes.{Appends}
 use Rattle.std.proofs.lemmas.List.{append_assoc, take-take, take-append-le, take_all}
 use Rattle.uimg_sums.specs.declared.crc.Crc.{Crc}

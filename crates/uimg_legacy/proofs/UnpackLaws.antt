@@ -1,5 +1,5 @@
 -- What is kept of an image, and what is told of it.
-use Rattle.std.proofs.Common.{◌≡◌, ◌≤◌, ◌<◌, ◌+◌, ◌*◌, ◌^◌, ℕ, List, [], ◌∷◌, ◌++◌, length, length-append, take, drop, Bool, true, false, true≢false, ◌==◌, nat_lt, IsTrue, Option, Some, None, Result, Ok, Err, refl, ap, sym, subst, ◌∙◌, arith}
+use Rattle.std.proofs.Common.{◌≡◌, ◌≤◌, ◌<◌, ◌+◌, ◌*◌, ◌^◌, ℕ, List, [], ◌++◌, length, length-append, Bool, true, false, true≢false, ◌==◌, nat_lt, IsTrue, Option, Some, None, Result, Ok, Err, refl, ap, sym, subst, ◌∙◌, arith}
 use Rattle.std.proofs.lemmas.Bool.{lt-ltb, le-ltb, eq-eqb}
 use Rattle.std.proofs.lemmas.List.{take_all, drop_at}
 use Rattle.uimg_sums.specs.Crc.{crc}
@@ -13,8 +13,8 @@ use Rattle.uimg_legacy.specs.Header.{header, spelled, spelled_with}
 use Rattle.uimg_legacy.specs.Image.{payload}
 use Rattle.uimg_legacy.specs.Parts.{has_parts}
 use Rattle.uimg_legacy.specs.Work.{data_read, sizes_read_with}
-use Rattle.uimg_legacy.specs.Unpacking.{Part, chosen, parts_in, kept_if, data_there, unpacked, unpack_of, Keeps, KeepsSome, AreRight, Unpacks, KeepsRight}
-use Rattle.uimg_legacy.specs.UnpackingSteps.{HoldsParts, IsWrong, TakesData, Settles, unpack_work}
+use Rattle.uimg_legacy.specs.Unpacking.{Part, chosen, parts_in, data_there, unpacked, unpack_of, AreRight, Unpacks, KeepsRight}
+use Rattle.uimg_legacy.specs.UnpackingSteps.{TakesData, Settles, unpack_work}
 use Rattle.uimg_legacy.proofs.HeaderLaws.{fields-spelled, header-spelled, length-spelled}
 use Rattle.uimg_legacy.proofs.ReadsBackLaw.{head-append, header_from}
 

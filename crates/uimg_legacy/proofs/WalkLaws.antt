@@ -1,10 +1,9 @@
 -- The parts that were taken, one after another.
-use Rattle.std.proofs.Common.{◌≡◌, ◌≢◌, ◌≤◌, ◌<◌, ◌+◌, ◌-◌, ◌*◌, ℕ, suc, List, [], ◌∷◌, ◌++◌, length, length-append, take, drop, get_or, min, Bool, IsTrue, Option, Result, Ok, Err, refl, ap, sym, subst, ◌∙◌, add-one, arith}
+use Rattle.std.proofs.Common.{◌≡◌, ◌≤◌, ◌<◌, ◌+◌, ◌-◌, ◌*◌, ℕ, suc, List, [], ◌∷◌, ◌++◌, length, length-append, take, drop, get_or, Bool, IsTrue, Option, Result, Err, refl, ap, sym, subst, ◌∙◌, arith}
 use Rattle.std.specs.Prelude.{sum_by}
 use Rattle.std.proofs.Math.Seq.{drop-cons}
 use Rattle.std.proofs.lemmas.List.{append_assoc, append-nil, take-append-drop, take-take}
-use Rattle.std.proofs.lemmas.List.Sums.{prefix_len-le-length, sum_by_push}
-use Rattle.uimg_sums.specs.declared.crc.Crc.{Crc}
+use Rattle.std.proofs.lemmas.List.Sums.{sum_by_push}
 use Rattle.uimg_sums.specs.CrcSums.{Holds}
 use Rattle.uimg_texts.specs.Numbers.{be32, up4}
 use Rattle.uimg_texts.specs.Slices.{slice}
@@ -19,9 +18,9 @@ use Rattle.uimg_legacy.specs.Words.{words}
 use Rattle.uimg_legacy.specs.Parts.{sizes}
 use Rattle.uimg_legacy.specs.Unpacking.{Part, part_if, is_asked, chosen, parts_by}
 use Rattle.uimg_legacy.specs.UnpackingSteps.{TakesNext, Walked, RefusesNext, RefusesBy}
-use Rattle.uimg_legacy.proofs.PartsLaws.{slice-slice, length-sizes, length-words, table_words, sizes-at, sizes_end}
+use Rattle.uimg_legacy.proofs.PartsLaws.{slice-slice, length-sizes, table_words, sizes-at, sizes_end}
 use Rattle.uimg_legacy.proofs.ChunkLaws.{words-slice, sizes-le-words}
-use Rattle.uimg_legacy.proofs.CuttingLaws.{cut_none, cut_more, cut_outside, chosen_none, chosen_more, words_none, words_then, word_of, count_words, some_more, positive}
+use Rattle.uimg_legacy.proofs.CuttingLaws.{cut_none, cut_more, cut_outside, chosen_none, chosen_more, words_then, word_of, some_more, positive}
 
 -- none were taken
 pub walked_none : (only : Option ℕ) (honest : Bool) (size : ℕ) (d : Device) (w : Walk) (from : List Part) → w.at ≤ size → Walked only honest 0 size d w w from from

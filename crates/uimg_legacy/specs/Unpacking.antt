@@ -1,5 +1,5 @@
 -- The parts of a legacy image, all of them, as they are taken out of it.
-use Rattle.std.specs.Prelude.{◌≡◌, ⊤, ℕ, suc, ◌+◌, ◌*◌, List, [], ◌∷◌, ◌++◌, length, take, drop, nat_lt, ◌==◌, if◌then◌else◌, Option, Some, None, Result, Ok, Err, Bool, true, false}
+use Rattle.std.specs.Prelude.{◌≡◌, ℕ, suc, ◌+◌, ◌*◌, List, [], ◌∷◌, ◌++◌, length, take, drop, nat_lt, ◌==◌, if◌then◌else◌, Option, Some, None, Result, Ok, Err, Bool, true, false}
 use Rattle.uimg_texts.specs.Numbers.{up4}
 use Rattle.uimg_sums.specs.Crc.{crc}
 use Rattle.uimg_base.specs.Results.{◌>>=◌}

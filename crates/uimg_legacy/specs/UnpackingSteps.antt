@@ -1,5 +1,5 @@
 -- What the steps did that take the parts of an image out of it, over any device.
-use Rattle.std.specs.Prelude.{◌≡◌, ◌≢◌, ⊤, ℕ, ◌+◌, ◌-◌, ◌*◌, ◌<◌, ◌≤◌, min, List, [], ◌∷◌, ◌++◌, length, take, sum_by, nat_lt, ◌==◌, Option, Bool, true, false, Result, Ok, Err, IsTrue, is_err}
+use Rattle.std.specs.Prelude.{◌≡◌, ◌≢◌, ⊤, ℕ, ◌+◌, ◌-◌, ◌*◌, ◌<◌, ◌≤◌, min, List, ◌++◌, length, take, sum_by, ◌==◌, Option, Bool, true, false, Result, Ok, Err, IsTrue}
 use Rattle.std.specs.List.{AllByRecursion}
 use Rattle.uimg_texts.specs.Slices.{slice}
 use Rattle.uimg_texts.specs.Numbers.{be32, up4}

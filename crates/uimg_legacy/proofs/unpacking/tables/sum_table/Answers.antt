@@ -1,4 +1,4 @@
-use Rattle.std.proofs.Common.{rules, ◌∙◌, ◌*◌, ◌+◌, ℕ, subst, refl, arith}
+use Rattle.std.proofs.Common.{rules, ◌∙◌, ◌*◌, ℕ, subst, refl, arith}
 use Rattle.uimg_legacy.specs.UnpackingSteps.{SumsPiece}
 use Rattle.uimg_legacy.proofs.SumLaws.{nothing_summed, more_summed}
 use Rattle.uimg_texts.specs.Slices.{slice}

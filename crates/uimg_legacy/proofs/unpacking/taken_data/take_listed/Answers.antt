@@ -1,6 +1,5 @@
-use Rattle.std.proofs.Common.{rules, ◌≡◌, ◌∙◌, true, sym, refl, arith}
+use Rattle.std.proofs.Common.{rules, ◌≡◌, ◌∙◌, true, sym, refl}
 use Rattle.std.specs.Prelude.{Err}
-use Rattle.uimg_legacy.specs.Parts.{has_parts}
 use Rattle.uimg_legacy.specs.Unpacking.{is_there}
 use Rattle.uimg_legacy.proofs.SourceLaws.{same_still}
 use Rattle.uimg_legacy.proofs.DataLaws.{listed_data, listed_fault}

@@ -1,6 +1,6 @@
 use Rattle.std.proofs.Common.{◌≡◌, ◌∙◌, true, sym}
 use Rattle.uimg_legacy.specs.Unpacking.{is_there}
-use Rattle.uimg_legacy.proofs.DataLaws.{whole_data, listed_data}
+use Rattle.uimg_legacy.proofs.DataLaws.{whole_data}
 use Rattle.uimg_legacy.proofs.unpacking.taken_data.take_whole.Goals as goal
 
 pub returns-clause-taken : goal.returns-clause-taken

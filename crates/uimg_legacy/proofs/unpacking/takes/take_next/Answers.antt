@@ -1,5 +1,4 @@
-use Rattle.std.proofs.Common.{rules, ◌≡◌, ◌∙◌, ◌+◌, ◌*◌, sym, arith}
-use Rattle.uimg_texts.specs.Numbers.{be32}
+use Rattle.std.proofs.Common.{rules, ◌∙◌, ◌+◌, ◌*◌, sym, arith}
 use Rattle.uimg_legacy.proofs.TakingLaws.{word_at, padded_as}
 use Rattle.uimg_legacy.proofs.unpacking.takes.take_next.Goals as goal
 
