@@ -19,3 +19,4 @@ pub mod CuttingLaws
 pub mod WalkLaws
 pub mod DataLaws
 pub mod UnpackLaws
+pub mod ExtractedLaws

@@ -1,7 +1,9 @@
 -- The parts of a legacy image, all of them, as they are taken out of it.
-use Rattle.std.specs.Prelude.{◌≡◌, ℕ, suc, ◌+◌, ◌*◌, List, [], ◌∷◌, ◌++◌, length, take, drop, nat_lt, ◌==◌, if◌then◌else◌, Option, Some, None, Result, Ok, Err, Bool, true, false}
+use Rattle.std.specs.Prelude.{◌≡◌, ⊤, ℕ, suc, ◌+◌, ◌*◌, List, [], ◌∷◌, ◌++◌, length, take, drop, nat_lt, ◌==◌, if◌then◌else◌, Option, Some, None, Result, Ok, Err, Bool, true, false}
 use Rattle.uimg_texts.specs.Numbers.{up4}
 use Rattle.uimg_sums.specs.Crc.{crc}
+use Rattle.std.specs.List.{AllByRecursion}
+use Rattle.uimg_base.specs.Outcome.{done, told}
 use Rattle.uimg_base.specs.Results.{◌>>=◌}
 use Rattle.uimg_legacy.specs.declared.header.Header.{Header}
 use Rattle.uimg_legacy.specs.declared.fault.LegacyFault.{LegacyFault}
@@ -11,6 +13,7 @@ use Rattle.uimg_legacy.specs.declared.fault.Fault.TheVariants.{Legacy, Read, Put
 use Rattle.uimg_legacy.specs.Header.{header as header_of}
 use Rattle.uimg_legacy.specs.Image.{payload}
 use Rattle.uimg_legacy.specs.Parts.{has_parts, part_sizes}
+use Rattle.uimg_legacy.specs.Extraction.{extract_of}
 
 -- a part of an image: its number, and its bytes
 pub record Part : Type 0 where
@@ -115,3 +118,15 @@ abbrev pub KeepsRight : Option ℕ → Result Bool Fault → List Part → List 
 KeepsRight only (Ok true) old new = KeepsSome only old new
 KeepsRight only (Ok false) old new = new ≡ old
 KeepsRight only (Err fault) old new = new ≡ old
+
+-- Parts were kept behind others, and each is what an extraction from its position writes.
+pub record KeepsExtracted (image : List ℕ) (old new : List Part) : Type 0 where
+  pub parts : List Part
+  pub kept : new ≡ old ++ parts
+  pub each : AllByRecursion (λ part. extract_of image part.number ≡ told part.bytes done) parts
+
+-- the same of an answer that parts are kept
+abbrev pub Extracts : List ℕ → Result Bool Fault → List Part → List Part → Type 0
+Extracts image (Ok true) old new = KeepsExtracted image old new
+Extracts image (Ok false) old new = ⊤
+Extracts image (Err fault) old new = ⊤

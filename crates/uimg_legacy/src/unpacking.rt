@@ -3,7 +3,7 @@
 ghost use Rattle.std.specs.Prelude.{◌≡◌, ◌+◌, ◌≤◌, [], false, length, IsTrue, OnOk};
 ghost use Rattle.uimg_base.specs.Using.{UsesAtMost};
 ghost use Rattle.uimg_legacy.specs.Faults.{is_read, is_of_making};
-ghost use Rattle.uimg_legacy.specs.Unpacking.{AreRight, Unpacks, KeepsRight, unpack_of};
+ghost use Rattle.uimg_legacy.specs.Unpacking.{AreRight, Unpacks, KeepsRight, Extracts, unpack_of};
 ghost use Rattle.uimg_legacy.specs.UnpackingSteps.{Settles, unpack_work};
 
 mod copies;
@@ -64,6 +64,8 @@ pub fn unpack<S: Source, A: Allocator, T: PartTaker>(
         KeepsRight only result (T.kept taker.old) (T.kept taker.new) }
     ensures told { IsTrue (S.device source.old).honest → IsTrue T.honest → Unpacks result
         (unpack_of only (S.device source.old).bytes) (T.kept taker.old) (T.kept taker.new) }
+    ensures extracts { IsTrue (S.device source.old).honest → IsTrue T.honest → Extracts
+        (S.device source.old).bytes result (T.kept taker.old) (T.kept taker.new) }
 {
     room.clear();
     let header = read_header(source)?;

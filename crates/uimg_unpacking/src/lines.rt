@@ -72,11 +72,10 @@ pub(crate) fn put_overlapping<W: Write>(out: &mut W, name: &NodeName) -> io::Res
 }
 
 /// Writes the line of a part that is kept: its file, its size, and the checksum of the data that it is of.
-pub(crate) fn put_part<W: Write>(
-    out: &mut W,
-    number: u32,
-    size: u64,
-    dcrc: u32,
-) -> io::Result<()> {
-    writeln!(out, "image-{number}: {size} {}, data crc32 {dcrc:08x}", bytes(size))
+pub(crate) fn put_part<W: Write>(out: &mut W, number: u32, size: u64, dcrc: u32) -> io::Result<()> {
+    writeln!(
+        out,
+        "image-{number}: {size} {}, data crc32 {dcrc:08x}",
+        bytes(size)
+    )
 }

@@ -108,20 +108,25 @@ impl<'a, R: Files + AllocGlobal, W: Write + Drop> PartFolder<'a, R, W> {
         }
     }
 
+    // Gives the file of a part its name, and tells of it.
+    fn name(&mut self, number: u32, dcrc: u32) -> Result<(), Trouble> {
+        let (path, whole) = (self.path(number)?, self.whole(number)?);
+        let Ok(found) = fs::metadata(self.rt, path.as_str()) else {
+            return Err(Trouble::CannotWrite(whole));
+        };
+        let replaces = self.folder.is_forced;
+        if give_name(self.rt, path.as_str(), whole.as_str(), replaces).is_err() {
+            return Err(Trouble::CannotWrite(whole));
+        }
+        self.first = number.saturating_add(1);
+        put_part(&mut self.out, number, found.len(), dcrc)?;
+        Ok(())
+    }
+
     // Gives the files their names, and tells of each.
     fn finish(&mut self, dcrc: u32) -> Result<(), Trouble> {
-        while self.first < self.behind {
-            let number = self.first;
-            let (path, whole) = (self.path(number)?, self.whole(number)?);
-            let Ok(found) = fs::metadata(self.rt, path.as_str()) else {
-                return Err(Trouble::CannotWrite(whole));
-            };
-            let replaces = self.folder.is_forced;
-            if give_name(self.rt, path.as_str(), whole.as_str(), replaces).is_err() {
-                return Err(Trouble::CannotWrite(whole));
-            }
-            self.first = number + 1;
-            put_part(&mut self.out, number, found.len(), dcrc)?;
+        for number in self.first..self.behind {
+            self.name(number, dcrc)?;
         }
         self.out.flush()?;
         Ok(())

@@ -1,6 +1,7 @@
 use Rattle.std.proofs.Common.{rules, ◌≡◌, ℕ, List, length, refl, ap, arith}
-use Rattle.std.specs.Prelude.{Err}
+use Rattle.std.specs.Prelude.{Ok, Err}
 use Rattle.uimg_legacy.proofs.SourceLaws.{honest_still, same_still}
+use Rattle.uimg_legacy.proofs.ExtractedLaws.{extracts}
 use Rattle.uimg_legacy.proofs.UnpackLaws.{is_spelled, unpack_truncated, are_right, keeps_right, unpacks, stops, work_known}
 use Rattle.uimg_legacy.proofs.unpacking.unpack.Goals as goal
 
@@ -66,3 +67,6 @@ returns-clause-told g c = λ honest known.
     let same = same_still c.read_header.ensures.uses.same c.size.ensures.same in
     let long = ap (λ (xs : List ℕ). length xs) c.read_header.ensures.uses.same.bytes in
     unpacks c.settle.result c.args.only g.T.PartTaker.honest c.in_ok-header.header _ _ c.in_ok-right.right c.in_ok-settle.field-0 _ _ _ _ _ same honest (c.in_ok-header.ensures.gives honest) (omega (arith, c.in_ok-size.ensures.length, long, c.if-branch-header.false)) known (c.requires known) c.in_ok-right.ensures.taken (c.take_data.ensures.kept known) (c.in_ok-settle.ensures known)
+
+pub returns-clause-extracts : goal.returns-clause-extracts
+returns-clause-extracts g c = λ honest known. extracts c.args.only _ (Ok c.in_ok-settle.field-0) _ _ (returns-clause-told g c honest known)
