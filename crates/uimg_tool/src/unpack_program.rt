@@ -56,7 +56,7 @@ fn unpack_legacy<R: Files + AllocGlobal, S: Source, W: Write + Drop, V: Write>(
     out: &mut W,
     err: &mut V,
 ) -> u8 {
-    match unpack_parts(rt, asked, source, out) {
+    match unpack_parts(rt, asked, source, &mut *out) {
         PartsEnded::Kept => DONE,
         PartsEnded::Weak => tell_weak(path, out, err),
         PartsEnded::Stopped(fault) => tell_stopped(Fault::from(fault), err),
