@@ -44,11 +44,11 @@ fn settle<T: PartTaker>(right: bool, dcrc: u32, taker: &mut T) -> Result<bool, P
 /// twice, once for the sum and once to be cut by, and where both readings have not the same sum nothing is
 /// kept. So what is kept are the parts of an image with right checksums, whatever the source answers.
 ///
-/// Refusals are `TooShort`, `BadMagic`, `BadHeaderCrc`, `Truncated`, `NoTableEnd` and `NoSuchPart`, in this
-/// order and all before the taker is told of anything; then `PartOutside`, when such a part is come to. That the data's
-/// checksum is wrong is found last, since they are summed as they are written, and is no refusal but the
-/// answer `false`. `BadDataCrc` comes where a size of the table is 0 when it is read again. `Read` comes
-/// exactly where a read failed, and `Put` where the taker or a shelf of its did.
+/// Refusals are `TooShort`, `BadMagic`, `BadHeaderCrc`, `Truncated`, `NoTableEnd` and `NoSuchPart`, in
+/// this order and all before the taker is told of anything, and then `PartOutside`, when the part is come
+/// to. That the data's checksum is wrong is found last, as they are summed while they are written; it is
+/// no refusal but the answer `false`. `BadDataCrc` comes where a size of the table is 0 when it is read
+/// again. `Read` comes exactly where a read failed, and `Put` where the taker or a shelf of its did.
 pub fn unpack<S: Source, A: Allocator, T: PartTaker>(
     only: Option<u32>,
     source: &mut S,

@@ -24,6 +24,8 @@ pub(crate) struct PartFolder<'a, R: Files + AllocGlobal, W: Write + Drop> {
     // second.
     first: u32,
     behind: u32,
+    // The number of the part that is being written.
+    writing: Option<u32>,
     trouble: Option<Trouble>,
 }
 
@@ -37,6 +39,7 @@ impl<'a, R: Files + AllocGlobal, W: Write + Drop> PartFolder<'a, R, W> {
             begun: None,
             first: 0,
             behind: 0,
+            writing: None,
             trouble: None,
         }
     }
@@ -44,21 +47,29 @@ impl<'a, R: Files + AllocGlobal, W: Write + Drop> PartFolder<'a, R, W> {
     /// Removes the files that did not get their names, and the folder that they stand in. It gives what
     /// went wrong, where this is known.
     pub(crate) fn end(self) -> Option<Trouble> {
+        let unwritten = self.unwritten();
+        if let Some(begun) = &self.begun {
+            remove_files(self.rt, begun.as_str(), self.first, self.behind);
+        }
         let PartFolder {
-            rt,
+            rt: _rt,
             folder: _folder,
             out: _out,
-            begun,
-            first,
-            behind,
+            begun: _begun,
+            first: _first,
+            behind: _behind,
+            writing: _writing,
             trouble,
         } = self;
-        let Some(begun) = begun else {
-            return trouble;
-        };
-        match remove_files(rt, begun.as_str(), first, behind) {
-            Ok(()) => trouble,
-            Err(found) => trouble.or(Some(found)),
+        trouble.or(unwritten)
+    }
+
+    // That the file of the part that is being written cannot be.
+    fn unwritten(&self) -> Option<Trouble> {
+        let number = self.writing?;
+        match self.whole(number) {
+            Ok(whole) => Some(Trouble::CannotWrite(whole)),
+            Err(trouble) => Some(trouble),
         }
     }
 
@@ -89,6 +100,7 @@ impl<'a, R: Files + AllocGlobal, W: Write + Drop> PartFolder<'a, R, W> {
             return Err(Trouble::CannotWrite(self.whole(number)?));
         };
         self.behind = number.saturating_add(1);
+        self.writing = Some(number);
         Ok(NewFile::new(BufWriter::new(self.rt.alloc(), file)?))
     }
 
@@ -101,11 +113,12 @@ impl<'a, R: Files + AllocGlobal, W: Write + Drop> PartFolder<'a, R, W> {
     }
 
     // Closes the file of a part.
-    fn close(&self, number: u32, file: NewFile<R>) -> Result<(), Trouble> {
-        match file.close() {
-            Ok(_size) => Ok(()),
-            Err(_) => Err(Trouble::CannotWrite(self.whole(number)?)),
+    fn close(&mut self, number: u32, file: NewFile<R>) -> Result<(), Trouble> {
+        if file.close().is_err() {
+            return Err(Trouble::CannotWrite(self.whole(number)?));
         }
+        self.writing = None;
+        Ok(())
     }
 
     // Gives the file of a part its name, and tells of it.
@@ -160,19 +173,15 @@ impl<'a, R: Files + AllocGlobal, W: Write + Drop> PartFolder<'a, R, W> {
     }
 }
 
-// Removes the files of these numbers in a folder, and the folder.
-fn remove_files<R: Files + AllocGlobal>(
-    rt: &R,
-    begun: &str,
-    first: u32,
-    behind: u32,
-) -> Result<(), Trouble> {
+// Removes the files of these numbers in a folder, and the folder. Those that cannot be removed, or whose
+// paths find no memory, are left.
+fn remove_files<R: Files + AllocGlobal>(rt: &R, begun: &str, first: u32, behind: u32) {
     for number in first..behind {
-        let path = format!(in rt.alloc(); "{begun}/{number}")?;
-        let _ = fs::remove_file(rt, path.as_str());
+        if let Ok(path) = format!(in rt.alloc(); "{begun}/{number}") {
+            let _ = fs::remove_file(rt, path.as_str());
+        }
     }
     let _ = fs::remove_dir(rt, begun);
-    Ok(())
 }
 
 impl<'a, R: Files + AllocGlobal, W: Write + Drop> PartTaker for PartFolder<'a, R, W> {
