@@ -11,7 +11,7 @@ Helps
     dumpimage  List an image, or extract a part of it
     verify     Check the checksums and hashes of an image, and report each
     check      Check many images, with a line for each
-    unpack     Put the payloads of a FIT image in a folder, where their hashes are right
+    unpack     Put the payloads of an image in a folder, where their hashes are right
     map        Show what lies where in the file of an image, whole or broken
   
   Options:
@@ -191,7 +191,7 @@ No words are a wrong line: the help goes to standard error.
     dumpimage  List an image, or extract a part of it
     verify     Check the checksums and hashes of an image, and report each
     check      Check many images, with a line for each
-    unpack     Put the payloads of a FIT image in a folder, where their hashes are right
+    unpack     Put the payloads of an image in a folder, where their hashes are right
     map        Show what lies where in the file of an image, whole or broken
   
   Options:

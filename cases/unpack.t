@@ -1,5 +1,8 @@
-The payloads of a FIT image are put in a folder
-===============================================
+The payloads of an image are put in a folder
+============================================
+
+Of a FIT image
+--------------
 
   $ files="$TESTDIR/files"
 
@@ -106,7 +109,7 @@ A strength that is needed:
 
 Names that are no names of files, and names that stand twice, also in other letters:
 
-  $ rm -r out && mkdir out && cp "$files/abc-kernel.img" . && fit 'a,b { data = [31]; }; c { data = [32]; }; C { data = [33]; }; image-2 { data = [34]; };'
+  $ rm -r out && mkdir out && fit 'a,b { data = [31]; }; c { data = [32]; }; C { data = [33]; }; image-2 { data = [34]; };'
   $ uimg unpack -C out k.itb
   a\x2cb: 1 byte as image-0, unhashed
   c: 1 byte, unhashed
@@ -157,8 +160,8 @@ Refusals come before anything is written:
   $ uimg unpack -C out no-images.itb
   uimg: F1 no images
   [1]
-  $ uimg unpack -C out abc-kernel.img
-  uimg: B2 bad magic at 0
+  $ head -c 100 /dev/zero > neither && uimg unpack -C out neither
+  uimg: L2 bad magic
   [1]
   $ ls -A out
   $ fit 'abcde { data = [61]; };' && uimg unpack -C none k.itb
@@ -225,3 +228,179 @@ Nobody reads the lines, and no place for them:
   [3]
   $ ls -A out
   a
+
+Of a legacy image
+-----------------
+
+Its parts, or its data where it has no parts, with the checksum of the data (0x352441c2, of `abc`):
+
+  $ rm -r out && mkdir out && cp "$files/abc-kernel.img" "$files/three-part-multi.img" "$files/no-table-end.img" "$files/part-outside.img" .
+  $ uimg unpack -C out abc-kernel.img && ls -A out && cat out/image-0 && echo
+  image-0: 3 bytes, data crc32 352441c2
+  image-0
+  abc
+  $ rm out/* && uimg unpack -C out three-part-multi.img
+  image-0: 3 bytes, data crc32 9350b6ea
+  image-1: 4 bytes, data crc32 9350b6ea
+  image-2: 5 bytes, data crc32 9350b6ea
+  $ ls -A out && for part in 0 1 2; do cat out/image-$part && echo; done
+  image-0
+  image-1
+  image-2
+  abc
+  defg
+  hijkl
+  $ printf 'echo hi\n' > boot.cmd && uimg mkimage -A arm -T script -C none -d boot.cmd boot.scr > listing && rm out/* && uimg unpack -C out boot.scr > lines && cut -c1-28 lines && cat out/image-0
+  image-0: 8 bytes, data crc32
+  echo hi
+  $ printf '' > empty && SOURCE_DATE_EPOCH=0 uimg mkimage -A arm -T kernel -C none -d empty empty.img > listing && rm out/* && uimg unpack -C out empty.img && wc -c < out/image-0
+  image-0: 0 bytes, data crc32 00000000
+  0
+
+What dumpimage gives of each position is the same:
+
+  $ rm out/* && uimg unpack -C out three-part-multi.img > lines && for part in 0 1 2; do uimg dumpimage -p $part -o part three-part-multi.img && cmp part out/image-$part; done
+
+One alone, and one that there is not:
+
+  $ rm out/* && uimg unpack --only image-1 -C out three-part-multi.img && ls -A out && cat out/image-1 && echo
+  image-1: 4 bytes, data crc32 9350b6ea
+  image-1
+  defg
+  $ for name in image-3 image-01 image- image-4294967296 image--1 image-+1 kernel 1; do uimg unpack --only $name -C out three-part-multi.img; done
+  uimg: L8 no such part
+  uimg: L8 no such part
+  uimg: L8 no such part
+  uimg: L8 no such part
+  uimg: L8 no such part
+  uimg: L8 no such part
+  uimg: L8 no such part
+  uimg: L8 no such part
+  [1]
+  $ ls -A out
+  image-1
+
+A strength that is needed:
+
+  $ rm out/* && uimg unpack --need-hash sha256 -C out three-part-multi.img
+  three-part-multi.img: weak crc32
+  [1]
+  $ ls -A out && uimg unpack --need-hash crc32 -C out abc-kernel.img
+  image-0: 3 bytes, data crc32 352441c2
+  $ uimg unpack --need-hash sha256 neither
+  uimg: L2 bad magic
+  [1]
+
+Nothing is written where one of the files is there:
+
+  $ rm out/* && echo old > out/image-2 && uimg unpack -C out three-part-multi.img
+  uimg: out/image-2 is there already, and only a file is replaced, by --force
+  [3]
+  $ ls -A out && cat out/image-2
+  image-2
+  old
+  $ uimg unpack --force -C out three-part-multi.img > lines && cat out/image-2 && echo
+  hijkl
+  $ rm out/* && mkdir out/image-1 && uimg unpack --force -C out three-part-multi.img
+  uimg: out/image-1 is there already, and only a file is replaced, by --force
+  [3]
+  $ ls -A out
+  image-1
+
+Nor is the image written over:
+
+  $ rm -r out && mkdir out && cp three-part-multi.img out/image-1 && uimg unpack --force -C out out/image-1
+  uimg: out/image-1 would be written while it is read
+  [2]
+  $ cmp three-part-multi.img out/image-1 && ls -A out
+  image-1
+
+Data that are changed are no files, and with --force files of before are none any more; so for each byte of them: of the table,
+of a part and of what stands between parts:
+
+  $ rm out/* && cp three-part-multi.img changed.img && patch changed.img defg defh && uimg unpack -C out changed.img
+  uimg: L5 bad data CRC
+  [1]
+  $ ls -A out && echo old > out/image-1 && echo old > out/image-3 && uimg unpack --force -C out changed.img
+  uimg: L5 bad data CRC
+  [1]
+  $ ls -A out && rm out/*
+  image-3
+  $ echo old > out/image-1 && uimg unpack --only image-0 --force -C out changed.img
+  uimg: L5 bad data CRC
+  [1]
+  $ ls -A out && rm out/*
+  image-1
+  $ for place in $(seq 64 92); do cp three-part-multi.img changed.img; printf x | dd of=changed.img bs=1 seek=$place conv=notrunc status=none; uimg unpack -C out changed.img; done 2>&1 | sort | uniq -c | tr -s ' '
+   13 uimg: L5 bad data CRC
+   4 uimg: L6 no table end
+   12 uimg: L7 part outside
+  $ ls -A out
+
+Refusals of the header and of the table, and a cut image, leave none either:
+
+  $ for name in no-table-end part-outside; do uimg unpack -C out $name.img; done
+  uimg: L6 no table end
+  uimg: L7 part outside
+  [1]
+  $ cp three-part-multi.img changed.img && printf x | dd of=changed.img bs=1 seek=40 conv=notrunc status=none && uimg unpack -C out changed.img
+  uimg: L3 bad header CRC
+  [1]
+  $ head -c 92 three-part-multi.img > cut.img && uimg unpack -C out cut.img
+  uimg: L4 truncated
+  [1]
+  $ head -c 63 three-part-multi.img > cut.img && uimg unpack -C out cut.img
+  uimg: L1 too short
+  [1]
+  $ ls -A out
+  $ uimg unpack -C none three-part-multi.img
+  uimg: cannot write none/image-0
+  [3]
+
+Bytes behind the data are no part of them:
+
+  $ cat three-part-multi.img boot.cmd > longer.img && uimg unpack --only image-2 -C out longer.img && cat out/image-2 && echo
+  image-2: 5 bytes, data crc32 9350b6ea
+  hijkl
+
+Files that stand where those without their names would are left; no more than a hundred places are tried:
+
+  $ rm out/* && mkdir out/.uimg-new1 && echo old > out/.uimg-new2 && uimg unpack -C out abc-kernel.img && ls -A out
+  image-0: 3 bytes, data crc32 352441c2
+  .uimg-new1
+  .uimg-new2
+  image-0
+  $ rm -r out && mkdir out && for number in $(seq 100); do echo > out/.uimg-new$number; done && uimg unpack -C out abc-kernel.img
+  uimg: cannot write out/image-0
+  [3]
+
+A write that fails leaves no file, nor a line that nobody reads a folder:
+
+  $ rm -r out && mkdir out && head -c 3000000 /dev/zero > zeros && uimg mkimage -A arm -T kernel -C none -d zeros large.img > listing
+  $ (ulimit -f 1000; trap '' XFSZ; uimg unpack -C out large.img)
+  uimg: cannot write out/image-0
+  [3]
+  $ ls -A out
+  $ (sleep 0.1; uimg unpack -C out abc-kernel.img; echo $? > status) | true; sleep 0.5; cat status
+  3
+  $ ls -A out && rm out/* && uimg unpack -C out abc-kernel.img > /dev/full
+  image-0
+  uimg: write failed
+  [3]
+  $ ls -A out
+  image-0
+
+More sizes than the window has, read again a window at a time:
+
+  $ rm -r out && mkdir out && python3 - <<'END'
+  > import struct, zlib
+  > parts = [bytes([65 + number % 26]) * (1 + number % 3) for number in range(3000)]
+  > data = b"".join(struct.pack(">I", len(part)) for part in parts) + bytes(4) + b"".join(part + bytes(-len(part) % 4) for part in parts)
+  > head = struct.pack(">7I4B32s", 0x27051956, 0, 0, len(data), 0, 0, zlib.crc32(data), 5, 7, 4, 0, b"many")
+  > head = head[:4] + struct.pack(">I", zlib.crc32(head)) + head[8:]
+  > open("many.img", "wb").write(head + data)
+  > END
+  $ uimg unpack -C out many.img | tail -n 1 | cut -c1-29 && ls -A out | wc -l && cat out/image-2999 && echo
+  image-2999: 3 bytes, data crc
+  3000
+  JJJ

@@ -13,3 +13,10 @@ pub mod TableLaws
 pub mod PlacedPartsLaws
 pub mod ReadsBackLaw
 pub mod BuildingLaws
+pub mod SumLaws
+pub mod TakingLaws
+pub mod CuttingLaws
+pub mod WalkLaws
+pub mod DataLaws
+pub mod UnpackLaws
+pub mod ExtractedLaws

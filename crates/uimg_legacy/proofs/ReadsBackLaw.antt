@@ -21,7 +21,7 @@ use Rattle.uimg_legacy.proofs.TableLaws.{parts-table}
 use Rattle.uimg_legacy.proofs.PlacedPartsLaws.{part_inside, part-slice}
 
 -- the head of 64 bytes is that of an image that begins with them
-head-append : (bytes rest : List ℕ) → length bytes ≡ 64 → head (bytes ++ rest) ≡ head bytes
+pub head-append : (bytes rest : List ℕ) → length bytes ≡ 64 → head (bytes ++ rest) ≡ head bytes
 unfolding head
 head-append bytes rest len =
     let all = length-append bytes rest in
@@ -35,7 +35,7 @@ with_cases bytes true h e = (refl, cc)
 with_cases bytes false h e = absurd (cc)
 
 -- the header of a head, or its fault
-abbrev header_from : Result (List ℕ) LegacyFault → Result Header LegacyFault
+abbrev pub header_from : Result (List ℕ) LegacyFault → Result Header LegacyFault
 header_from found = do
   bytes ← found
   header_with bytes (has_right_crc bytes)

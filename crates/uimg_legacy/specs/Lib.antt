@@ -16,3 +16,6 @@ pub mod PartSteps
 pub mod Building
 pub mod BuildingSteps
 pub mod ReadsBack
+pub mod Unpacking
+pub mod UnpackingSteps
+pub mod MemParts

@@ -17,6 +17,7 @@ mod options;
 mod parts;
 mod report;
 mod table;
+mod unpacking;
 
 pub use building::build;
 pub use checking::check;
@@ -28,3 +29,4 @@ pub use listing::list;
 pub use options::Options;
 pub use parts::has_parts;
 pub use report::verify;
+pub use unpacking::{MemPart, MemParts, PartTaker, unpack};

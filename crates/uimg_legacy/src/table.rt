@@ -10,7 +10,7 @@ use std::alloc::Allocator;
 use uimg_base::{Room, Source, SourceFault, number_at, up4};
 
 // How many words of the bytes stand before the first zero word.
-fn leading_sizes(bytes: &[u8]) -> usize
+pub(crate) fn leading_sizes(bytes: &[u8]) -> usize
     ensures bound { 4 * result ≤ length bytes.now }
     ensures count { result ≡ length (sizes bytes.now) }
 {

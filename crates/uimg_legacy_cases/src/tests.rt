@@ -10,4 +10,5 @@ mod images;
 mod large_parts;
 mod long_parts;
 mod long_table;
+mod unpacking;
 mod zeros;

@@ -4,3 +4,4 @@ pub mod CrcSteps
 pub mod Algorithms
 pub mod AnySum
 pub mod Bundle
+pub mod CrcSums

@@ -1,10 +1,11 @@
 //! CRC-32.
 
-ghost use Rattle.std.specs.Prelude.{◌≡◌, ◌<◌, ℕ, List};
+ghost use Rattle.std.specs.Prelude.{◌≡◌, ◌<◌, ℕ, List, true, IsTrue};
 ghost use Rattle.std.specs.List.{AllByRecursion};
 ghost use Rattle.std.specs.Int.{to_be_bytes, w32};
 ghost use Rattle.uimg_sums.specs.Crc.{crc};
 ghost use Rattle.uimg_sums.specs.CrcSteps.{register_of};
+ghost use Rattle.uimg_sums.specs.CrcSums.{Holds};
 
 use crate::crc_steps::{byte_steps_of, word_steps_of};
 use crate::sums::Summer;
@@ -22,14 +23,33 @@ pub struct Crc {
 impl Crc {
     /// The CRC of what was fed.
     pub fn value(&self) -> u32
-        ensures { (fed : List ℕ) → ⟦<Crc as Summer>⟧.holds self.now fed → result ≡ crc fed }
+        ensures { (fed : List ℕ) → Holds self.now fed → result ≡ crc fed }
     {
         !self.register
+    }
+
+    /// The same sum once more, which is fed on its own from here on.
+    pub fn copied(&self) -> Crc
+        ensures { result ≡ self.now }
+    {
+        Crc {
+            register: self.register,
+        }
+    }
+
+    /// Whether the two are the same sum, whatever else both are fed: what may have been fed to one of them
+    /// may then have been fed to the other. Those that were fed the same are.
+    pub fn is_same(&self, other: &Crc) -> bool
+        ensures other { IsTrue result →
+            (fed : List ℕ) → Holds other.now fed → Holds self.now fed }
+        ensures same { (fed : List ℕ) → Holds self.now fed → Holds other.now fed → result ≡ true }
+    {
+        self.register == other.register
     }
 }
 
 impl Summer for Crc {
-    ghost holds = { λ s fed. (s.register ≡ register_of fed) × AllByRecursion (λ b. b < 256) fed };
+    ghost holds = { λ s fed. Holds s fed };
 
     ghost digest = { λ fed. to_be_bytes w32 (crc fed) };
 

@@ -4,13 +4,15 @@ use crate::check_program::is_pipe;
 use crate::main_program::{DONE, FAILED, REFUSED, RequestFault, WRONG_LINE, status_of, tell};
 use std::io::{BufWriter, Write};
 use std::rt::Files;
-use uimg_base::FileSource;
-use uimg_engine::Fault;
-use uimg_unpacking::{Ended, FileId, Folder, Trouble, Unpacking, unpack};
+use uimg_base::{FileSource, Source};
+use uimg_engine::{Fault, Format, is_fit};
+use uimg_unpacking::{
+    Ended, FileId, Folder, PartsEnded, Printed, Trouble, Unpacking, unpack, unpack_parts,
+};
 use uimg_words::UnpackRequest;
 
-/// Unpacks the image of a request, with a line for each payload on `out`. It answers the status; a fault
-/// is told by a line on `err`.
+/// Unpacks the image of a request, with a line for each payload or part on `out`. The first four bytes
+/// tell its format. It answers the status; a fault is told by a line on `err`.
 pub(crate) fn unpack_image<R: Files + AllocGlobal, W: Write, V: Write>(
     rt: &R,
     request: &UnpackRequest<'_>,
@@ -35,10 +37,40 @@ pub(crate) fn unpack_image<R: Files + AllocGlobal, W: Write, V: Write>(
         only: request.only,
         need: request.need,
     };
-    let ended = unpack(rt, &asked, &mut source, &mut gathered);
+    let status = match is_fit(Format::Guess, &mut source) {
+        Ok(true) => tell_ended(unpack(rt, &asked, &mut source, &mut gathered), err),
+        Ok(false) => unpack_legacy(rt, request.image, &asked, &mut source, &mut gathered, err),
+        Err(fault) => tell(err, &RequestFault::Stopped(Fault::from(fault)), FAILED),
+    };
     // A failed write leaves text in it, and its drop would try once more to write that.
     let (_, _) = gathered.into_parts();
-    tell_ended(ended, err)
+    status
+}
+
+// Unpacks a legacy image.
+fn unpack_legacy<R: Files + AllocGlobal, S: Source, W: Write + Drop, V: Write>(
+    rt: &R,
+    path: &str,
+    asked: &Unpacking<'_>,
+    source: &mut S,
+    out: &mut W,
+    err: &mut V,
+) -> u8 {
+    match unpack_parts(rt, asked, source, &mut *out) {
+        PartsEnded::Kept => DONE,
+        PartsEnded::Weak => tell_weak(path, out, err),
+        PartsEnded::Stopped(fault) => tell_stopped(Fault::from(fault), err),
+        PartsEnded::Troubled(trouble) => tell_trouble(trouble, err),
+    }
+}
+
+// Tells that a legacy image has CRC-32 alone.
+fn tell_weak<W: Write, V: Write>(path: &str, out: &mut W, err: &mut V) -> u8 {
+    let told = writeln!(out, "{}: weak crc32", Printed(path.as_bytes()));
+    match told.and_then(|()| out.flush()) {
+        Ok(()) => REFUSED,
+        Err(error) => tell_trouble(Trouble::from(error), err),
+    }
 }
 
 fn tell_ended<V: Write>(ended: Ended, err: &mut V) -> u8 {
@@ -46,17 +78,20 @@ fn tell_ended<V: Write>(ended: Ended, err: &mut V) -> u8 {
         Ended::Kept => DONE,
         Ended::Refused => REFUSED,
         Ended::NoImage => tell(err, &"no image has a hash, as there is none", REFUSED),
-        Ended::Stopped(fault) => {
-            let fault = RequestFault::Stopped(Fault::from(fault));
-            tell(err, &fault, status_of(&fault))
-        }
-        Ended::Troubled(Trouble::Closed) => FAILED,
-        Ended::Troubled(trouble) => {
-            let status = match trouble {
-                Trouble::IsImage(_) => WRONG_LINE,
-                _ => FAILED,
-            };
-            tell(err, &trouble, status)
-        }
+        Ended::Stopped(fault) => tell_stopped(Fault::from(fault), err),
+        Ended::Troubled(trouble) => tell_trouble(trouble, err),
+    }
+}
+
+fn tell_stopped<V: Write>(fault: Fault, err: &mut V) -> u8 {
+    let fault = RequestFault::Stopped(fault);
+    tell(err, &fault, status_of(&fault))
+}
+
+fn tell_trouble<V: Write>(trouble: Trouble, err: &mut V) -> u8 {
+    match trouble {
+        Trouble::Closed => FAILED,
+        Trouble::IsImage(_) => tell(err, &trouble, WRONG_LINE),
+        _ => tell(err, &trouble, FAILED),
     }
 }

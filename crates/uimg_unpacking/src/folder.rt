@@ -1,4 +1,4 @@
-//! The folder that payloads are put in, and the paths of their files.
+//! The folder that payloads and parts are put in, and the paths of their files.
 
 use crate::trouble::Trouble;
 use std::alloc::AllocError;
@@ -72,6 +72,21 @@ impl<'a> Folder<'a> {
             let path = format!(in rt.alloc(); "{}/.uimg-new{number}", self.path)?;
             if let Ok(file) = fs::File::create_new(rt, path.as_str()) {
                 return Ok(Some((file, path)));
+            }
+        }
+        Ok(None)
+    }
+
+    /// The path of a folder of it that is made, at the first of the same paths where nothing is. There is
+    /// none where no folder can be made. Memory for the path may be refused.
+    pub(crate) fn new_folder<R: Files + AllocGlobal>(
+        &self,
+        rt: &R,
+    ) -> Result<Option<String>, AllocError> {
+        for number in 1..=TRIED {
+            let path = format!(in rt.alloc(); "{}/.uimg-new{number}", self.path)?;
+            if fs::create_dir(rt, path.as_str()).is_ok() {
+                return Ok(Some(path));
             }
         }
         Ok(None)

@@ -1,4 +1,5 @@
-//! The payloads of a FIT image, put in a folder as files. `unpack` is the one call.
+//! The payloads of a FIT image and the parts of a legacy one, put in a folder as files. `unpack` and
+//! `unpack_parts` are the two calls.
 #![tactic(auto)]
 
 mod file_names;
@@ -7,12 +8,15 @@ mod folder_taker;
 mod lines;
 mod names;
 mod new_file;
+mod part_folder;
+mod part_unpacking;
 mod printed;
 mod trouble;
 mod unpacking;
 
 pub use file_names::is_file_name;
 pub use folder::{FileId, Folder};
+pub use part_unpacking::{PartsEnded, unpack_parts};
 pub use printed::{Printed, PrintedWord};
 pub use trouble::Trouble;
 pub use unpacking::{Ended, Unpacking, unpack};

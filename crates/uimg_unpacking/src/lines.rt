@@ -1,4 +1,4 @@
-//! The lines that tell what became of payloads.
+//! The lines that tell what became of payloads and parts.
 
 use crate::printed::PrintedWord;
 use std::io;
@@ -28,8 +28,7 @@ pub(crate) fn put_kept<W: Write>(
     size: u64,
     vouched: Option<Vouched>,
 ) -> io::Result<()> {
-    let bytes = if size == 1 { "byte" } else { "bytes" };
-    write!(out, "{}: {size} {bytes}", PrintedWord(name.bytes()))?;
+    write!(out, "{}: {size} {}", PrintedWord(name.bytes()), bytes(size))?;
     if name.bytes() != file.as_bytes() {
         write!(out, " as {file}")?;
     }
@@ -37,6 +36,11 @@ pub(crate) fn put_kept<W: Write>(
         Some(vouched) => put_vouched(out, vouched),
         None => out.write_all(b", unhashed\n"),
     }
+}
+
+// The unit of a size.
+fn bytes(size: u64) -> &'static str {
+    if size == 1 { "byte" } else { "bytes" }
 }
 
 fn put_vouched<W: Write>(out: &mut W, vouched: Vouched) -> io::Result<()> {
@@ -65,4 +69,13 @@ pub(crate) fn put_refused<W: Write>(
 /// Writes the line of an image with whose payload they overlap.
 pub(crate) fn put_overlapping<W: Write>(out: &mut W, name: &NodeName) -> io::Result<()> {
     writeln!(out, "{}: overlapping", PrintedWord(name.bytes()))
+}
+
+/// Writes the line of a part that is kept: its file, its size, and the checksum of the data that it is of.
+pub(crate) fn put_part<W: Write>(out: &mut W, number: u32, size: u64, dcrc: u32) -> io::Result<()> {
+    writeln!(
+        out,
+        "image-{number}: {size} {}, data crc32 {dcrc:08x}",
+        bytes(size)
+    )
 }

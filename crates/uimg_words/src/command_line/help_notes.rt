@@ -121,16 +121,21 @@ same); else it is image-N, N counted from 0 (kernel: 3 bytes as image-1, ..).
 Nothing is written where one of the files is there already, unless --force
 replaces them; then a file whose new payload is refused is removed. In names,
 control characters, \\, spaces, colons and commas are written \\xNN.
-Signatures and the hashes of configurations are not checked. Parts of a legacy
-image are taken out by dumpimage -p.
+Signatures and the hashes of configurations are not checked.
+
+Of a legacy image all parts are kept, or where it has none its data, if the
+checksum of the data is right; until then they stand in a folder .uimg-new1:
+  image-0: 3 bytes, data crc32 352441c2  It is kept; the data are right by this
+  kernel.img: weak crc32                 None is kept: --need-hash is stronger
 
 Examples:
   uimg unpack -C /srv/tftp --need-hash sha256 kernel.itb
   uimg unpack --only ramdisk kernel.itb
+  uimg unpack --only image-1 uImage
 
 Exit status:
-  0  All payloads that were asked for are kept
-  1  A payload is refused, there is no such image, or the image is refused
+  0  All payloads or parts that were asked for are kept
+  1  A payload is refused, there is no such image or part, or the image is refused
   2  The command line is wrong, or a file would be the image
   3  A file cannot be opened, is there already or cannot be written, or memory failed";
 

@@ -12,7 +12,7 @@ pub struct UnpackRequest<'a> {
     /// The folder that its payloads are put in.
     pub folder: &'a str,
 
-    /// The name of the image whose payload is asked for alone, if not all are.
+    /// The name of the image whose payload, or of the file whose part, is asked for alone, if not all are.
     pub only: Option<&'a str>,
 
     /// The algorithm that is needed at least, if there is one.
@@ -27,7 +27,7 @@ pub struct UnpackRequest<'a> {
 
 pub(super) fn command<'a>(alloc: Global) -> Result<clap::Command<'a>, AllocError> {
     clap::Command::new(alloc, "unpack")
-        .about("Put the payloads of a FIT image in a folder, where their hashes are right")
+        .about("Put the payloads of an image in a folder, where their hashes are right")
         .after_help(UNPACK_NOTES)
         .arg(value(alloc, "folder", 'C', "Put the files in this folder"))?
         .arg(
@@ -35,7 +35,7 @@ pub(super) fn command<'a>(alloc: Global) -> Result<clap::Command<'a>, AllocError
                 .long("only")
                 .action(ArgAction::Set)
                 .value_name("name")
-                .help("Take the payload of the image of this name alone"),
+                .help("Take the payload of the image of this name alone, or one part: image-0"),
         )?
         .arg(
             Arg::new(alloc, "need-hash")

@@ -1,0 +1,11 @@
+use Rattle.std.proofs.Common.{◌≡◌, IsTrue}
+use Rattle.uimg_legacy.proofs.unpacking.taken_data.claim_parts.Given as goal
+
+-- the lists are what they were
+abbrev pub invariant-loop-number : goal.invariant-loop-number
+invariant-loop-number g l =
+    let taker = g.T.PartTaker in
+    record {
+      held : IsTrue taker.honest → taker.held l.taker ≡ taker.held l.fn.taker;
+      kept : IsTrue taker.honest → taker.kept l.taker ≡ taker.kept l.fn.taker;
+    }

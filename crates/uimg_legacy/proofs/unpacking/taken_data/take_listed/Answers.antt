@@ -1,0 +1,20 @@
+use Rattle.std.proofs.Common.{rules, ◌≡◌, ◌∙◌, true, sym, refl}
+use Rattle.std.specs.Prelude.{Err}
+use Rattle.uimg_legacy.specs.Unpacking.{is_there}
+use Rattle.uimg_legacy.proofs.SourceLaws.{same_still}
+use Rattle.uimg_legacy.proofs.DataLaws.{listed_data, listed_fault}
+use Rattle.uimg_legacy.proofs.unpacking.taken_data.take_listed.Goals as goal
+
+pub returns-in_err-take_parts-clause-taken : goal.returns-in_err-take_parts-clause-taken
+returns-in_err-take_parts-clause-taken g c =
+    let there : is_there c.args.only c.in_ok-count.count ≡ true = sym c.is_there.ensures ∙ c.if-not-is_there.false in
+    let fault = c.in_err-take_parts.field-0.0 in
+    let is : c.from_residual-in_err-take_parts.result ≡ Err fault = search rules in
+    listed_fault c.take_parts.result c.args.only g.T.PartTaker.honest c.args.header.now c.in_ok-count.count (g.S.Source.device c.args.source.now) _ _ _ _ c.from_residual-in_err-take_parts.result fault is c.requires.kind there c.requires.data c.in_ok-count.ensures.inside refl c.sum_table.ensures.reads.uses.same c.in_ok-count.ensures.reads.answer c.in_err-take_parts.ensures.refused
+
+pub returns-clause-taken : goal.returns-clause-taken
+returns-clause-taken g c =
+    let there : is_there c.args.only c.in_ok-count.count ≡ true = sym c.is_there.ensures ∙ c.if-not-is_there.false in
+    let first = c.sum_table.ensures.reads.uses.same in
+    listed_data c.args.only g.T.PartTaker.honest c.args.header.now c.in_ok-count.count _ _ _ _ _ _ _ _ _ _ _ _ c.is_same-same.result c.value-crc.result c.requires.kind there c.requires.data c.in_ok-count.ensures.inside first (same_still first c.take_parts.ensures.uses.same)
+    c.start-sum.ensures c.in_ok-count.ensures.summed c.copied-table.ensures refl c.start.ensures c.in_ok-take_parts.ensures.taken c.claim_parts.ensures.held c.in_ok-sum_range.ensures.summed c.feed.ensures c.is_same-same.ensures.other c.is_same-same.ensures.same c.value-crc.ensures (λ honest. (c.in_ok-count.ensures.reads.answer honest).1)

@@ -1,0 +1,39 @@
+use Rattle.std.proofs.Common.{rules, ◌≡◌, ◌∙◌, refl, arith}
+use Rattle.std.specs.Prelude.{Err}
+use Rattle.uimg_legacy.proofs.SourceLaws.{same_still}
+use Rattle.uimg_legacy.proofs.WalkLaws.{walked_none, walked_more, refused_next}
+use Rattle.uimg_legacy.proofs.unpacking.takes.take_parts.Goals as goal
+
+pub loop-number-init : goal.loop-number-init
+loop-number-init g c = record {
+  same = record { bytes = refl; honest = refl };
+  failures = refl;
+  paid = omega arith;
+  within = omega (arith, c.requires.table, c.requires.place);
+  room = refl;
+  kept = λ known. refl;
+  taken = walked_none c.args.only g.T.PartTaker.honest c.args.size _ _ _ (omega (arith, c.requires.table, c.requires.place));
+}
+
+pub loop-number-preserved : goal.loop-number-preserved
+loop-number-preserved g c =
+    let inv = c.loop-number.invariant in
+    let next = c.in_ok-take_next.ensures.taken in
+    record {
+      same = same_still inv.same c.take_next.ensures.uses.same;
+      failures = omega (arith, c.in_ok-take_next.ensures.uses.failures, inv.failures);
+      paid = omega (arith, c.in_ok-take_next.ensures.paid, inv.paid);
+      within = omega (arith, next.place);
+      room = c.take_next.ensures.room ∙ inv.room;
+      kept = λ known. c.take_next.ensures.kept known ∙ inv.kept known;
+      taken = walked_more c.args.only g.T.PartTaker.honest c.loop-number.number c.args.size _ _ _ _ _ _ _ _ inv.same inv.taken next;
+    }
+
+pub returns-in_err-take_next-clause-refused : goal.returns-in_err-take_next-clause-refused
+returns-in_err-take_next-clause-refused g c = λ honest counts.
+    let d = g.S.Source.device c.args.source.now in
+    let inv = c.loop-number.invariant in
+    let n = c.loop-number.number in
+    let fault = c.in_err-take_next.field-0.0 in
+    let is : c.from_residual.result ≡ Err fault = search rules in
+    refused_next c.args.only g.T.PartTaker.honest n c.args.count c.args.size d _ c.args.walk.now c.loop-number.walk _ _ c.from_residual.result fault is inv.same honest c.requires.data c.loop-number-test.true c.requires.table c.requires.place counts inv.taken c.in_err-take_next.ensures.refused

@@ -1,0 +1,132 @@
+-- The parts of a legacy image, all of them, as they are taken out of it.
+use Rattle.std.specs.Prelude.{◌≡◌, ⊤, ℕ, suc, ◌+◌, ◌*◌, List, [], ◌∷◌, ◌++◌, length, take, drop, nat_lt, ◌==◌, if◌then◌else◌, Option, Some, None, Result, Ok, Err, Bool, true, false}
+use Rattle.uimg_texts.specs.Numbers.{up4}
+use Rattle.uimg_sums.specs.Crc.{crc}
+use Rattle.std.specs.List.{AllByRecursion}
+use Rattle.uimg_base.specs.Outcome.{done, told}
+use Rattle.uimg_base.specs.Results.{◌>>=◌}
+use Rattle.uimg_legacy.specs.declared.header.Header.{Header}
+use Rattle.uimg_legacy.specs.declared.fault.LegacyFault.{LegacyFault}
+use Rattle.uimg_legacy.specs.declared.fault.LegacyFault.TheVariants.{Truncated, PartOutside, NoSuchPart}
+use Rattle.uimg_legacy.specs.declared.fault.Fault.{Fault}
+use Rattle.uimg_legacy.specs.declared.fault.Fault.TheVariants.{Legacy, Read, Put}
+use Rattle.uimg_legacy.specs.Header.{header as header_of}
+use Rattle.uimg_legacy.specs.Image.{payload}
+use Rattle.uimg_legacy.specs.Parts.{has_parts, part_sizes}
+use Rattle.uimg_legacy.specs.Extraction.{extract_of}
+
+-- a part of an image: its number, and its bytes
+pub record Part : Type 0 where
+  pub number : ℕ
+  pub bytes : List ℕ
+
+-- a part before others, unless these are refused
+abbrev pub before : List ℕ → Result (List (List ℕ)) LegacyFault → Result (List (List ℕ)) LegacyFault
+before part (Ok parts) = Ok (part ∷ parts)
+before part (Err fault) = Err fault
+
+-- The parts of these sizes, one after another, each from a multiple of 4 on. None ends after the bytes.
+unfoldable pub parts_by : List ℕ → List ℕ → Result (List (List ℕ)) LegacyFault
+parts_by [] bytes = Ok []
+parts_by (size ∷ more) bytes =
+    if nat_lt (length bytes) size then Err PartOutside
+    else before (take size bytes) (parts_by more (drop (up4 size) bytes))
+
+-- whether there is a part of the number that is asked for, if one is
+abbrev pub is_there : Option ℕ → ℕ → Bool
+is_there None count = true
+is_there (Some number) count = nat_lt number count
+
+abbrev pub if_there : {X : Type 0} → Option ℕ → ℕ → Result X LegacyFault → Result X LegacyFault
+if_there only count found = if is_there only count then found else Err NoSuchPart
+
+-- The parts of the data of a type that has them, which stand behind the table and its zero word; of another type the data.
+abbrev pub parts_in : Option ℕ → Bool → List ℕ → Result (List (List ℕ)) LegacyFault
+parts_in only true bytes = do
+  table ← part_sizes bytes
+  if_there only (length table) (parts_by table (drop (4 * (length table + 1)) bytes))
+parts_in only false bytes = if_there only 1 (Ok (bytes ∷ []))
+
+-- whether a part is asked for, where all are or that of one number
+abbrev pub is_asked : Option ℕ → ℕ → Bool
+is_asked None number = true
+is_asked (Some asked) number = asked == number
+
+-- a part that is asked for, or none
+abbrev pub part_if : Bool → ℕ → List ℕ → List Part
+part_if true number bytes = record { number = number; bytes = bytes } ∷ []
+part_if false number bytes = []
+
+-- those that are asked for, numbered from a number on
+unfoldable pub chosen : Option ℕ → ℕ → List (List ℕ) → List Part
+chosen only number [] = []
+chosen only number (bytes ∷ more) = part_if (is_asked only number) number bytes ++ chosen only (suc number) more
+
+-- the data after the header, if the image has them
+unfoldable pub data_there : List ℕ → Header → Result (List ℕ) LegacyFault
+data_there image h = if nat_lt (length image) (64 + h.size) then Err Truncated else Ok (payload image h)
+
+-- the parts that are asked for, where the data's CRC is that in the header
+abbrev pub kept_if : Bool → List Part → Option (List Part)
+kept_if true parts = Some parts
+kept_if false parts = None
+
+-- the same of the data of an image with this header, or the first of: no table end, no such part, part outside
+abbrev pub unpacked : Option ℕ → Header → List ℕ → Result (Option (List Part)) LegacyFault
+unpacked only h bytes = do
+  parts ← parts_in only (has_parts h.kind) bytes
+  Ok (kept_if (crc bytes == h.dcrc) (chosen only 0 parts))
+
+-- What is taken out of an image, or the first of: too short, bad magic, bad header CRC, truncated, and those of its data.
+abbrev pub unpack_of : Option ℕ → List ℕ → Result (Option (List Part)) LegacyFault
+unpack_of only image = do
+  h ← header_of image
+  bytes ← data_there image h
+  unpacked only h bytes
+
+-- Parts of an image were kept behind others.
+pub record Keeps (told : Result (Option (List Part)) LegacyFault) (old new : List Part) : Type 0 where
+  pub parts : List Part
+  pub is : told ≡ Ok (Some parts)
+  pub kept : new ≡ old ++ parts
+
+-- What an answer tells of an image, with what was kept before and after. Where the image is refused, its data's CRC is not
+-- right or a device failed, nothing is kept.
+abbrev pub Unpacks : Result Bool Fault → Result (Option (List Part)) LegacyFault → List Part → List Part → Type 0
+Unpacks (Ok true) told old new = Keeps told old new
+Unpacks (Ok false) told old new = (told ≡ Ok None) × (new ≡ old)
+Unpacks (Err (Legacy fault)) told old new = (told ≡ Err fault) × (new ≡ old)
+Unpacks (Err Read) told old new = new ≡ old
+Unpacks (Err Put) told old new = new ≡ old
+
+-- What is kept, whatever the source answered: the parts of some image, whose checksums are right.
+pub record KeepsSome (only : Option ℕ) (old new : List Part) : Type 0 where
+  pub image : List ℕ
+  pub keeps : Keeps (unpack_of only image) old new
+
+-- Parts that were held are those of some image, whose checksums are right: this is its data's.
+pub record AreRight (dcrc : ℕ) (held : List Part) : Type 0 where
+  pub only : Option ℕ
+  pub image : List ℕ
+  pub h : Header
+  pub read : header_of image ≡ Ok h
+  pub sum : h.dcrc ≡ dcrc
+  pub told : unpack_of only image ≡ Ok (Some held)
+
+-- the same of an answer; but where all was right, nothing is kept
+abbrev pub KeepsRight : Option ℕ → Result Bool Fault → List Part → List Part → Type 0
+KeepsRight only (Ok true) old new = KeepsSome only old new
+KeepsRight only (Ok false) old new = new ≡ old
+KeepsRight only (Err fault) old new = new ≡ old
+
+-- Parts were kept behind others, and each is what an extraction from its position writes.
+pub record KeepsExtracted (image : List ℕ) (old new : List Part) : Type 0 where
+  pub parts : List Part
+  pub kept : new ≡ old ++ parts
+  pub each : AllByRecursion (λ part. extract_of image part.number ≡ told part.bytes done) parts
+
+-- the same of an answer that parts are kept
+abbrev pub Extracts : List ℕ → Result Bool Fault → List Part → List Part → Type 0
+Extracts image (Ok true) old new = KeepsExtracted image old new
+Extracts image (Ok false) old new = ⊤
+Extracts image (Err fault) old new = ⊤

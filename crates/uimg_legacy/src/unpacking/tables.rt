@@ -1,0 +1,67 @@
+//! The table of sizes, counted while it is summed.
+
+ghost use Rattle.std.specs.Prelude.{◌≡◌, ◌+◌, ◌*◌, ◌≤◌, length, min, IfOk};
+ghost use Rattle.uimg_base.specs.Using.{UsesAtMost};
+ghost use Rattle.uimg_texts.specs.Slices.{slice};
+ghost use Rattle.uimg_legacy.specs.Parts.{sizes};
+ghost use Rattle.uimg_legacy.specs.Reading.{Reads, ReadsWords, window};
+ghost use Rattle.uimg_legacy.specs.Tables.{CountsSizes};
+ghost use Rattle.uimg_legacy.specs.UnpackingSteps.{SumsPiece};
+
+use crate::fault::{Fault, LegacyFault};
+use crate::table::leading_sizes;
+use std::alloc::Allocator;
+use uimg_base::{Crc, Room, Source, SourceFault, Summer};
+
+// Counts the words of a window of the data that stand before its first zero word, and sums them and that.
+fn sum_sizes<S: Source, A: Allocator>(
+    source: &mut S,
+    room: &mut Room<A>,
+    first: u32,
+    count: u32,
+    sum: &mut Crc,
+) -> Result<u32, SourceFault>
+    requires range { 64 + 4 * (first + count) ≤ length (S.device source.old).bytes }
+    requires window { count ≤ 2048 }
+    ensures reads { ReadsWords count count
+        (λ image. length (sizes (window image first count))) result
+        (S.device source.old) (S.device source.new) room.old room.new }
+    ensures summed { IfOk result (λ n. SumsPiece (S.device source.old) (64 + 4 * first)
+        (4 * min (n + 1) count) sum.old sum.new) }
+{
+    let window = &mut room.window()[..4 * count as usize];
+    source.fill_at(64 + 4 * first as u64, window)?;
+    let found = leading_sizes(window);
+    let summed = usize::min(found + 1, count as usize);
+    sum.feed(&window[..4 * summed]);
+    Ok(found as u32)
+}
+
+// How many sizes stand before the zero word that ends the table, as `count_sizes` counts them. The table
+// is summed, with that word and nothing behind it.
+pub(super) fn sum_table<S: Source, A: Allocator>(
+    source: &mut S,
+    room: &mut Room<A>,
+    size: u32,
+    sum: &mut Crc,
+) -> Result<u32, Fault>
+    requires { 64 + size ≤ length (S.device source.old).bytes }
+    ensures reads { Reads (UsesAtMost (8 * (length (sizes (slice (S.device source.old).bytes 64 size))
+        + 1))) (λ image. CountsSizes (slice image 64 size)) result
+        (S.device source.old) (S.device source.new) room.old room.new }
+    ensures inside { IfOk result (λ n. 4 * (n + 1) ≤ size) }
+    ensures summed { IfOk result
+        (λ n. SumsPiece (S.device source.old) 64 (4 * (n + 1)) sum.old sum.new) }
+{
+    let words = size / 4;
+    let mut counted = 0;
+    while counted < words {
+        let next = u32::min(u32::min(counted + 1, 2048), words - counted);
+        let found = sum_sizes(source, room, counted, next, sum)?;
+        counted += found;
+        if found < next {
+            return Ok(counted);
+        }
+    }
+    Err(Fault::Legacy(LegacyFault::NoTableEnd))
+}

@@ -1,0 +1,136 @@
+//! The parts of the data are taken, and the data summed.
+
+ghost use Rattle.std.specs.Prelude.{◌≡◌, ◌+◌, ◌*◌, ◌≤◌, length, true, false, IsTrue};
+ghost use Rattle.uimg_base.specs.Using.{UsesAtMost};
+ghost use Rattle.uimg_legacy.specs.Faults.{is_read, is_of_making};
+ghost use Rattle.uimg_legacy.specs.Image.{payload};
+ghost use Rattle.uimg_legacy.specs.Parts.{has_parts, sizes};
+ghost use Rattle.uimg_legacy.specs.Work.{sizes_read_with};
+ghost use Rattle.uimg_legacy.specs.Unpacking.{is_there};
+ghost use Rattle.uimg_legacy.specs.UnpackingSteps.{TakesData};
+
+use crate::fault::{Fault, LegacyFault};
+use crate::header::Header;
+use crate::parts::has_parts;
+use crate::unpacking::copies::sum_range;
+use crate::unpacking::part_taker::PartTaker;
+use crate::unpacking::tables::sum_table;
+use crate::unpacking::takes::{Walk, take_part, take_parts};
+use std::alloc::Allocator;
+use uimg_base::{Crc, PutFault, Room, Source, Summer};
+
+// Whether there is a part of the number that is asked for, if one is.
+fn is_there(only: Option<u32>, count: u32) -> bool
+    ensures { result ≡ is_there only count }
+{
+    match only {
+        Some(number) => number < count,
+        None => true,
+    }
+}
+
+// Claims the parts that are asked for.
+fn claim_parts<T: PartTaker>(only: Option<u32>, count: u32, taker: &mut T) -> Result<(), PutFault>
+    ensures held { IsTrue T.honest → T.held taker.new ≡ T.held taker.old }
+    ensures kept { IsTrue T.honest → T.kept taker.new ≡ T.kept taker.old }
+{
+    if let Some(number) = only {
+        return taker.claim(number);
+    }
+    for number in 0..count {
+        taker.claim(number)?;
+    }
+    Ok(())
+}
+
+// Takes the data of a type that has no parts as one.
+fn take_whole<S: Source, A: Allocator, T: PartTaker>(
+    source: &mut S,
+    room: &mut Room<A>,
+    header: &Header,
+    only: Option<u32>,
+    taker: &mut T,
+) -> Result<bool, Fault>
+    requires data { 64 + header.now.size ≤ length (S.device source.old).bytes }
+    requires kind { has_parts header.now.kind ≡ false }
+    ensures uses { UsesAtMost header.now.size (is_read result)
+        (S.device source.old) (S.device source.new) }
+    ensures room { room.new ≡ room.old }
+    ensures no_making { is_of_making result ≡ false }
+    ensures kept { IsTrue T.honest → T.kept taker.new ≡ T.kept taker.old }
+    ensures taken { TakesData only T.honest header.now (S.device source.old) result
+        (T.held taker.old) (T.held taker.new) }
+{
+    if !is_there(only, 1) {
+        return Err(Fault::Legacy(LegacyFault::NoSuchPart));
+    }
+    taker.claim(0)?;
+    let mut sum = Crc::start();
+    take_part(source, room, &mut sum, 0, 64, header.size as u64, taker)?;
+    Ok(sum.value() == header.dcrc)
+}
+
+// Takes the parts of a type that has them. The sum goes on behind the table as it was read first, and
+// counts where the sizes had the same sum when they were read again.
+fn take_listed<S: Source, A: Allocator, T: PartTaker>(
+    source: &mut S,
+    room: &mut Room<A>,
+    header: &Header,
+    only: Option<u32>,
+    taker: &mut T,
+) -> Result<bool, Fault>
+    requires data { 64 + header.now.size ≤ length (S.device source.old).bytes }
+    requires kind { has_parts header.now.kind ≡ true }
+    ensures uses { UsesAtMost (header.now.size
+        + 8 * (length (sizes (payload (S.device source.old).bytes header.now)) + 1)) (is_read result)
+        (S.device source.old) (S.device source.new) }
+    ensures room { room.new ≡ room.old }
+    ensures no_making { is_of_making result ≡ false }
+    ensures kept { IsTrue T.honest → T.kept taker.new ≡ T.kept taker.old }
+    ensures taken { TakesData only T.honest header.now (S.device source.old) result
+        (T.held taker.old) (T.held taker.new) }
+{
+    let mut sum = Crc::start();
+    let count = sum_table(source, room, header.size, &mut sum)?;
+    if !is_there(only, count) {
+        return Err(Fault::Legacy(LegacyFault::NoSuchPart));
+    }
+    claim_parts(only, count, taker)?;
+    let table = sum.copied();
+    let mut walk = Walk {
+        at: 4 * (count as u64 + 1),
+        sum,
+        sizes: Crc::start(),
+    };
+    take_parts(source, room, count, header.size, only, &mut walk, taker)?;
+    let left = header.size as u64 - walk.at;
+    sum_range(&mut walk.sum, source, room.window(), 64 + walk.at, left)?;
+    walk.sizes.feed(&[0; 4]);
+    let (same, crc) = (table.is_same(&walk.sizes), walk.sum.value());
+    Ok(same & (crc == header.dcrc))
+}
+
+// Takes the parts of the data that are asked for. It answers whether the data's CRC is that in the header.
+pub(super) fn take_data<S: Source, A: Allocator, T: PartTaker>(
+    source: &mut S,
+    room: &mut Room<A>,
+    header: &Header,
+    only: Option<u32>,
+    taker: &mut T,
+) -> Result<bool, Fault>
+    requires { 64 + header.now.size ≤ length (S.device source.old).bytes }
+    ensures uses { UsesAtMost (header.now.size + 8 * (sizes_read_with (has_parts header.now.kind)
+        (payload (S.device source.old).bytes header.now) + 1)) (is_read result)
+        (S.device source.old) (S.device source.new) }
+    ensures room { room.new ≡ room.old }
+    ensures no_making { is_of_making result ≡ false }
+    ensures kept { IsTrue T.honest → T.kept taker.new ≡ T.kept taker.old }
+    ensures taken { TakesData only T.honest header.now (S.device source.old) result
+        (T.held taker.old) (T.held taker.new) }
+{
+    if has_parts(header.kind) {
+        take_listed(source, room, header, only, taker)
+    } else {
+        take_whole(source, room, header, only, taker)
+    }
+}
