@@ -23,8 +23,8 @@ fn begins_as_blob<S: Source>(source: &mut S) -> Result<bool, SourceFault>
     Ok(number_at(&magic, 0) == BLOB_MAGIC)
 }
 
-// Whether a file is read as a FIT image: where that is asked for, or its first bytes tell it.
-pub(crate) fn is_fit<S: Source>(format: Format, source: &mut S) -> Result<bool, SourceFault>
+/// Whether a file is read as a FIT image: where that is asked for, or its first bytes tell it.
+pub fn is_fit<S: Source>(format: Format, source: &mut S) -> Result<bool, SourceFault>
     ensures uses { Asks 4 (is_err result) (S.device source.old) (S.device source.new) }
     ensures asked_for { format ≡ Format.Legacy → IfOk result (λ fit. fit ≡ false) }
     ensures told { IsTrue (S.device source.old).honest →

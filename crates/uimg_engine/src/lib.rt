@@ -23,6 +23,7 @@ pub use disk_files::DiskFiles;
 pub use engine::run;
 pub use fault::Fault;
 pub use finding::{Checked, check};
+pub use formats::is_fit;
 pub use in_memory::{locate_in_memory, make_in_memory, run_in_memory};
 pub use locating::locate;
 pub use making::{build_image, make};

@@ -16,3 +16,4 @@ pub mod PartSteps
 pub mod Building
 pub mod BuildingSteps
 pub mod ReadsBack
+pub mod Placing

@@ -15,6 +15,7 @@ mod measure;
 mod one_part;
 mod options;
 mod parts;
+mod placing;
 mod report;
 mod table;
 
@@ -27,4 +28,5 @@ pub use header::{HEADER_LEN, Header, header_bytes, name_field, read_header};
 pub use listing::list;
 pub use options::Options;
 pub use parts::has_parts;
+pub use placing::{PartsFault, locate_parts};
 pub use report::verify;

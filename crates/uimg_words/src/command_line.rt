@@ -4,6 +4,7 @@ mod check;
 mod complaints;
 mod dumpimage;
 mod help_notes;
+mod info;
 mod mkimage;
 mod unpack;
 mod verify;
@@ -13,6 +14,7 @@ use clap::error::ErrorKind;
 use clap::{Arg, ArgAction, ArgMatches};
 use complaints::complaint;
 use help_notes::PROGRAM_NOTES;
+pub use info::InfoRequest;
 use std::alloc::{AllocError, Global};
 use thiserror::Error;
 use uimg_requests::{MakeRequest, RunRequest, VERSION};
@@ -29,6 +31,9 @@ pub enum Asked<'a> {
 
     /// The unpacking of an image.
     Unpack(UnpackRequest<'a>),
+
+    /// The facts of an image.
+    Info(InfoRequest<'a>),
 }
 
 /// What is asked for about an image, or a text.
@@ -125,6 +130,7 @@ fn request_of<'a>(
     let request = match matches.subcommand() {
         Some(("check", own)) => return Ok(Asked::Check(check::request(alloc, own)?)),
         Some(("unpack", own)) => return Ok(Asked::Unpack(unpack::request(own)?)),
+        Some(("info", own)) => return Ok(Asked::Info(info::request(own))),
         Some(("dumpimage", own)) => Request::Run(dumpimage::request(own)?),
         Some(("mkimage", own)) => mkimage::request(alloc, own, epoch, now)?,
         Some((_, own)) => Request::Run(verify::request(own)),
@@ -162,7 +168,8 @@ fn commands<'a>(alloc: Global) -> Result<clap::Command<'a>, AllocError> {
         .subcommand(dumpimage::command(alloc)?)?
         .subcommand(verify::command(alloc)?)?
         .subcommand(check::command(alloc)?)?
-        .subcommand(unpack::command(alloc)?)
+        .subcommand(unpack::command(alloc)?)?
+        .subcommand(info::command(alloc)?)
 }
 
 // An option with a value.

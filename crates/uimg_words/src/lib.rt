@@ -3,4 +3,6 @@
 
 mod command_line;
 
-pub use command_line::{Asked, CheckRequest, Request, UnpackRequest, WordsFault, read_words};
+pub use command_line::{
+    Asked, CheckRequest, InfoRequest, Request, UnpackRequest, WordsFault, read_words,
+};

@@ -1,0 +1,5 @@
+mod ObjectLaws
+mod PieceLaws
+mod SoundLaws
+mod StepLaws
+mod TextLaws
