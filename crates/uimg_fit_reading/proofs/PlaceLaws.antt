@@ -14,12 +14,6 @@ use Rattle.uimg_fit_base.specs.declared.fault.FitFault.TheVariants.{DataOutside}
 use Rattle.uimg_fit_base.specs.Files.{cell}
 use Rattle.uimg_fit_base.specs.Places.{external, embedded, or_else, place, bytes_at, payload}
 
--- what is decided by the cells of an image is its place
-pub place_is : (file : List ℕ) (image : NodeOf Spot) (base : ℕ) (size position offset : Option ℕ) (value : Option Span)
-    → base ≡ up4 (be32 file 4) → size ≡ cell image.own (codes "data-size") → position ≡ cell image.own (codes "data-position") → offset ≡ cell image.own (codes "data-offset")
-    → value ≡ option_map value_span (first image.own (codes "data"))
-    → or_else (external 0 position size) (external base offset size) (embedded value) ≡ place file image
-place_is file image base size position offset value b s p o v = rw b (rw s (rw p (rw o (rw v refl))))
 
 inside_of : (file : List ℕ) (p : Span) → p.place + p.length ≤ length file → bytes_at file p ≡ Ok (slice file p.place p.length)
 unfolding bytes_at

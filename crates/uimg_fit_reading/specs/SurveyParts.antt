@@ -13,7 +13,7 @@ use Rattle.uimg_fit_reading.specs.Survey.{read_survey, survey_of}
 use Rattle.uimg_blob.specs.Faults.{refuses_memory}
 use Rattle.uimg_fit_base.specs.declared.fault.Fault.TheVariants as of
 
--- A value that is there ends in a file of so many bytes.
+-- A value that is there ends within so many bytes.
 abbrev pub Ends : ℕ → Option Span → Type 0
 Ends size value = IfSome value (λ s. s.place + s.length ≤ size)
 
@@ -48,21 +48,22 @@ pub record ConfigurationInside (size : ℕ) (facts : ConfigurationFacts) : Type 
   pub fdt : Ends size facts.fdt
   pub loadables : Ends size facts.loadables
 
+-- Each value ends in the blob, and this in the file.
 pub record SurveyInside (size : ℕ) (facts : Survey) : Type 0 where
   pub blob : facts.totalsize ≤ size
-  pub description : Ends size facts.description
-  pub timestamp : Ends size facts.timestamp
-  pub images : All (ImageInside size) facts.images.items
-  pub preferred : Ends size facts.preferred
-  pub configurations : All (ConfigurationInside size) facts.configurations.items
+  pub description : Ends facts.totalsize facts.description
+  pub timestamp : Ends facts.totalsize facts.timestamp
+  pub images : All (ImageInside facts.totalsize) facts.images.items
+  pub preferred : Ends facts.totalsize facts.preferred
+  pub configurations : All (ConfigurationInside facts.totalsize) facts.configurations.items
 
 -- the answer is that a read failed
-abbrev pub is_unread : Result Survey SurveyFault → Bool
+abbrev pub is_unread : {X : Type 0} → Result X SurveyFault → Bool
 is_unread (Err (Stopped of.Read)) = true
 is_unread _ = false
 
 -- the answer is that memory for the table of nodes was refused
-abbrev pub lacks_room : Result Survey SurveyFault → Bool
+abbrev pub lacks_room : {X : Type 0} → Result X SurveyFault → Bool
 lacks_room (Err (Stopped (of.Blob fault at))) = refuses_memory fault
 lacks_room _ = false
 

@@ -20,6 +20,7 @@ pub use counting::count_images;
 pub use extraction::{extract, locate};
 pub use listing::list;
 pub use named::{locate_name, locate_named};
+pub use places::find_payload;
 pub use report::{is_vouched, verify};
 pub use surveying::{
     ConfigurationFacts, HashFacts, ImageFacts, PayloadFacts, Survey, SurveyFault, survey,

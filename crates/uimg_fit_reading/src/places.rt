@@ -9,12 +9,14 @@ ghost use Rattle.uimg_blob.specs.Spots.{Spot};
 ghost use Rattle.uimg_fit_base.specs.Faults.{is_read, is_put, is_out_of_memory, of_making, is_of_making};
 ghost use Rattle.uimg_fit_base.specs.Files.{number_in};
 ghost use Rattle.uimg_fit_reading.specs.Nodes.{IsRead, IsNode, HasNode};
+ghost use Rattle.uimg_fit_reading.specs.Survey.{place_said, read_payload};
+ghost use Rattle.uimg_fit_reading.specs.SurveyParts.{PayloadInside};
 ghost use Rattle.uimg_fit_base.specs.Places.{external, or_else, embedded, place, TellsPlace};
 
-use crate::nodes::value_of;
+use crate::surveying::{PayloadFacts, payload_facts};
 use std::alloc::Allocator;
 use uimg_base::{Room, Source, SourceFault, Span, number_at, up4};
-use uimg_blob::{Blob, Key};
+use uimg_blob::Blob;
 use uimg_fit_base::{Fault, FitFault};
 
 // The number of a value that has four bytes.
@@ -68,6 +70,37 @@ pub(crate) fn decide(
     payload.ok_or(FitFault::NoData)
 }
 
+/// Where the payload of an image stands, by what it says, in a file whose blob has a total size: at its
+/// `data-position` from the file's start, else at its `data-offset` from the blob's end, rounded up to a
+/// multiple of 4, each with its `data-size`, else where its `data` stands. A cell that has not four bytes
+/// counts as missing.
+///
+/// There may be no such place (`NoData`), and one that is told may lie outside the file.
+pub fn find_payload<S: Source>(
+    source: &mut S,
+    totalsize: u32,
+    facts: &PayloadFacts,
+) -> Result<Result<Span, FitFault>, SourceFault>
+    requires values { PayloadInside totalsize facts.now }
+    requires blob { totalsize ≤ length (S.device source.old).bytes }
+    ensures uses { Asks 12 (is_err result) (S.device source.old) (S.device source.new) }
+    ensures small { IfOk result (λ found. IfOk found (λ p. (p.place < 2 ^ 41) × (p.length < 2 ^ 32))) }
+    ensures no_making { IfOk result (λ found. IfErr found (λ fault. of_making fault ≡ false)) }
+    ensures place { IsTrue (S.device source.old).honest → IfOk result (λ p.
+        p ≡ place_said totalsize (read_payload (S.device source.old).bytes facts.now)) }
+{
+    let size = cell(source, facts.size)?;
+    let position = cell(source, facts.position)?;
+    let offset = cell(source, facts.offset)?;
+    Ok(decide(
+        up4(totalsize as u64),
+        size,
+        position,
+        offset,
+        facts.embedded,
+    ))
+}
+
 // The place of an image's payload, or that it has none.
 pub(crate) fn find_place<S: Source, A: Allocator>(
     source: &mut S,
@@ -84,17 +117,8 @@ pub(crate) fn find_place<S: Source, A: Allocator>(
         IsNode t in_images image found →
         IfOk result (λ p. p ≡ place (S.device source.old).bytes found) }
 {
-    let size = cell(source, value_of(blob, room, image, Key::DataSize))?;
-    let position = cell(source, value_of(blob, room, image, Key::DataPosition))?;
-    let offset = cell(source, value_of(blob, room, image, Key::DataOffset))?;
-    let payload = value_of(blob, room, image, Key::Data);
-    Ok(decide(
-        up4(blob.totalsize() as u64),
-        size,
-        position,
-        offset,
-        payload,
-    ))
+    let facts = payload_facts(blob, room, image);
+    find_payload(source, blob.totalsize(), &facts)
 }
 
 // The place of an image's payload that ends in the source.

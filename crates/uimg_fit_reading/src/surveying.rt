@@ -21,6 +21,7 @@ mod gathered_nodes;
 
 use crate::images::first_image;
 use crate::nodes::{child_of, configurations_of, root_value, value_of};
+pub(crate) use crate::surveying::gathered_nodes::payload_facts;
 use crate::surveying::gathered_nodes::{gather_configurations, gather_images};
 use crate::tree::read_tree;
 pub use facts::{ConfigurationFacts, HashFacts, ImageFacts, PayloadFacts, Survey};

@@ -2,6 +2,7 @@
 
 use std::alloc::AllocError;
 use thiserror::Error;
+use uimg_base::SourceFault;
 use uimg_fit_base::{Fault, FitFault};
 
 /// Why there is no survey. Its text is the line that the program prints.
@@ -35,6 +36,18 @@ impl From<FitFault> for SurveyFault {
 
     fn from(fault: FitFault) -> SurveyFault {
         SurveyFault::Stopped(Fault::Fit(fault))
+    }
+}
+
+impl From<SourceFault> for SurveyFault {
+    ghost use Rattle.std.specs.Prelude.{◌≡◌};
+    ghost use Rattle.uimg_fit_base.specs.declared.fault.Fault.TheVariants.{Read};
+    ghost use Rattle.uimg_fit_reading.specs.declared.surveying.fault.SurveyFault.TheVariants.{Stopped};
+
+    ghost from_gives = { λ _ e. e ≡ Stopped Read };
+
+    fn from(_fault: SourceFault) -> SurveyFault {
+        SurveyFault::Stopped(Fault::Read)
     }
 }
 

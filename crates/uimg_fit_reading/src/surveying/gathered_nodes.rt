@@ -55,7 +55,7 @@ fn gather_hashes<A: Allocator>(
 }
 
 // What an image says of the place of its payload.
-fn payload_facts<A: Allocator>(blob: &Blob, room: &Room<A>, image: usize) -> PayloadFacts
+pub(crate) fn payload_facts<A: Allocator>(blob: &Blob, room: &Room<A>, image: usize) -> PayloadFacts
     requires { image < length room.now.entries }
     ensures inside { (size : ℕ) → InFile size blob.now room.now.entries → PayloadInside size result }
     ensures said { AtLevel blob.now room.now.entries in_images image (λ file found.

@@ -1,0 +1,8 @@
+//! Names of images and of configurations that a FIT image gives and does not have. `find_missing` is the one call.
+#![tactic(auto)]
+
+mod missing;
+mod names;
+mod reads;
+
+pub use missing::{Missing, find_missing};

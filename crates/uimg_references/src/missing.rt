@@ -1,0 +1,173 @@
+//! The first name that is given and not there.
+
+ghost use Rattle.std.specs.Prelude.{◌≡◌, ◌+◌, ℕ, List, length, map, drop, IsTrue, IfOk};
+ghost use Rattle.std.specs.List.{All, find};
+ghost use Rattle.std.specs.Option.{option_map};
+ghost use Rattle.uimg_base.specs.Using.{Uses};
+ghost use Rattle.uimg_fit_base.specs.Files.{bytes_in};
+ghost use Rattle.uimg_fit_reading.specs.Survey.{read_configuration, read_survey};
+ghost use Rattle.uimg_fit_reading.specs.SurveyParts.{Ends, ConfigurationInside, SurveyInside, is_unread};
+ghost use Rattle.uimg_fit_reading.specs.Values.{pieces};
+ghost use Rattle.uimg_references.specs.Names.{HasNames, is_lost};
+ghost use Rattle.uimg_references.specs.References.{read_missing, missing_under, missing_of, first_missing, missing_in};
+
+use crate::names::{configuration_names, image_names};
+use crate::reads::read_bytes;
+use std::alloc::Global;
+use std::collections::BTreeSet;
+use uimg_base::{Source, Span, before_nul};
+use uimg_blob::Key;
+use uimg_fit_reading::{ConfigurationFacts, Survey, SurveyFault};
+
+/// A name that is given, and that no image, or no configuration, has.
+#[derive(Drop)]
+pub struct Missing {
+    /// Where the name of the configuration stands that gives it. There is none of the default, which the
+    /// node `configurations` gives.
+    pub configuration: Option<Span>,
+
+    /// The property that gives it: `Default`, `Kernel`, `Ramdisk`, `Fdt` or `Loadables`.
+    pub key: Key,
+
+    /// The name.
+    pub name: Vec<u8>,
+}
+
+// The bytes behind a text and the NUL that ends it.
+fn behind(bytes: &[u8], text: usize) -> &[u8]
+    ensures { result.now ≡ drop (text + 1) bytes.now }
+{
+    if text < bytes.len() {
+        &bytes[text + 1..]
+    } else {
+        &[]
+    }
+}
+
+// The first text of a value that is none of some names.
+fn lost_in<'a>(names: &BTreeSet<Vec<u8>>, value: &'a [u8]) -> Option<&'a [u8]>
+    ensures { (list : List (List ℕ)) → HasNames names.now list →
+        option_map (λ text. text.now) result ≡ find (is_lost list) (pieces value.now) }
+{
+    let mut rest = value;
+    while !rest.is_empty() {
+        let text = before_nul(rest);
+        if !names.contains(text) {
+            return Some(text);
+        }
+        rest = behind(rest, text.len());
+    }
+    None
+}
+
+// The first text of a property's value that is none of some names, if there is one.
+fn missing_under<S: Source>(
+    alloc: Global,
+    source: &mut S,
+    names: &BTreeSet<Vec<u8>>,
+    configuration: Option<Span>,
+    key: Key,
+    value: Option<Span>,
+) -> Result<Option<Missing>, SurveyFault>
+    requires { Ends (length (S.device source.old).bytes) value }
+    ensures uses { Uses (is_unread result) (S.device source.old) (S.device source.new) }
+    ensures told { IsTrue (S.device source.old).honest → (list : List (List ℕ)) →
+        HasNames names.now list → IfOk result (λ found.
+        option_map (read_missing (S.device source.old).bytes) found
+        ≡ missing_under list (bytes_in (S.device source.old).bytes configuration) key
+          (bytes_in (S.device source.old).bytes value)) }
+{
+    let Some(span) = value else {
+        return Ok(None);
+    };
+    let bytes = read_bytes(alloc, source, span)?;
+    match lost_in(names, bytes.as_slice()) {
+        Some(name) => Ok(Some(Missing {
+            configuration,
+            key,
+            name: Vec::from_slice(alloc, name)?,
+        })),
+        None => Ok(None),
+    }
+}
+
+// The first name that a configuration gives and no image has.
+fn missing_of<S: Source>(
+    alloc: Global,
+    source: &mut S,
+    images: &BTreeSet<Vec<u8>>,
+    configuration: &ConfigurationFacts,
+) -> Result<Option<Missing>, SurveyFault>
+    requires { ConfigurationInside (length (S.device source.old).bytes) configuration.now }
+    ensures uses { Uses (is_unread result) (S.device source.old) (S.device source.new) }
+    ensures told { IsTrue (S.device source.old).honest → (list : List (List ℕ)) →
+        HasNames images.now list → IfOk result (λ found.
+        option_map (read_missing (S.device source.old).bytes) found
+        ≡ missing_of list (read_configuration (S.device source.old).bytes configuration.now)) }
+{
+    let name = Some(configuration.name);
+    let kernel = missing_under(alloc, source, images, name, Key::Kernel, configuration.kernel)?;
+    if kernel.is_some() {
+        return Ok(kernel);
+    }
+    let ramdisk = missing_under(alloc, source, images, name, Key::Ramdisk, configuration.ramdisk)?;
+    if ramdisk.is_some() {
+        return Ok(ramdisk);
+    }
+    let fdt = missing_under(alloc, source, images, name, Key::Fdt, configuration.fdt)?;
+    if fdt.is_some() {
+        return Ok(fdt);
+    }
+    missing_under(alloc, source, images, name, Key::Loadables, configuration.loadables)
+}
+
+// The first name that some configurations give and no image has.
+fn first_missing<S: Source>(
+    alloc: Global,
+    source: &mut S,
+    images: &BTreeSet<Vec<u8>>,
+    configurations: &[ConfigurationFacts],
+) -> Result<Option<Missing>, SurveyFault>
+    requires { All (ConfigurationInside (length (S.device source.old).bytes)) configurations.now }
+    ensures uses { Uses (is_unread result) (S.device source.old) (S.device source.new) }
+    ensures told { IsTrue (S.device source.old).honest → (list : List (List ℕ)) →
+        HasNames images.now list → IfOk result (λ found.
+        option_map (read_missing (S.device source.old).bytes) found
+        ≡ first_missing list
+          (map (read_configuration (S.device source.old).bytes) configurations.now)) }
+{
+    for configuration in configurations {
+        let found = missing_of(alloc, source, images, configuration)?;
+        if found.is_some() {
+            return Ok(found);
+        }
+    }
+    Ok(None)
+}
+
+/// The first name that a FIT image gives and does not have: its default where no configuration has this
+/// name, or else a name under `kernel`, `ramdisk`, `fdt` or `loadables` of a configuration, in this order,
+/// that no image has. The configurations come in their order, and of a value each of its texts is a name.
+///
+/// The names and one value at a time are held in memory, `OutOfMemory` where it was refused. `Stopped` has
+/// a failed read, and no other fault.
+pub fn find_missing<S: Source>(
+    alloc: Global,
+    source: &mut S,
+    survey: &Survey,
+) -> Result<Option<Missing>, SurveyFault>
+    requires { SurveyInside (length (S.device source.old).bytes) survey.now }
+    ensures uses { Uses (is_unread result) (S.device source.old) (S.device source.new) }
+    ensures told { IsTrue (S.device source.old).honest → IfOk result (λ found.
+        option_map (read_missing (S.device source.old).bytes) found
+        ≡ missing_in (read_survey (S.device source.old).bytes survey.now)) }
+{
+    let configurations = survey.configurations.as_slice();
+    let names = configuration_names(alloc, source, configurations)?;
+    let preferred = missing_under(alloc, source, &names, None, Key::Default, survey.preferred)?;
+    if preferred.is_some() {
+        return Ok(preferred);
+    }
+    let images = image_names(alloc, source, survey.images.as_slice())?;
+    first_missing(alloc, source, &images, configurations)
+}

@@ -1,0 +1,69 @@
+//! The names that a FIT image has, as a set.
+
+ghost use Rattle.std.specs.Prelude.{◌≡◌, ◌||◌, ◌+◌, ◌≤◌, ℕ, List, length, map, IsTrue, IfOk};
+ghost use Rattle.std.specs.Result.{OnOk};
+ghost use Rattle.std.specs.List.{All, list_any};
+ghost use Rattle.std.specs.Str.{bytes_eq};
+ghost use Rattle.uimg_base.specs.Using.{Uses};
+ghost use Rattle.uimg_fit_reading.specs.SurveyParts.{is_unread, ImageInside, ConfigurationInside};
+ghost use Rattle.uimg_references.specs.Names.{has, name_in, image_name_in, configuration_name_in, HasNames};
+ghost use Rattle.uimg_texts.specs.Slices.{slice};
+
+use crate::reads::read_bytes;
+use std::alloc::Global;
+use std::collections::BTreeSet;
+use uimg_base::{Source, Span};
+use uimg_fit_reading::{ConfigurationFacts, ImageFacts, SurveyFault};
+
+// Adds the name at a span to some.
+fn add_name<S: Source>(
+    alloc: Global,
+    source: &mut S,
+    span: Span,
+    names: &mut BTreeSet<Vec<u8>>,
+) -> Result<(), SurveyFault>
+    requires { span.place + span.length ≤ length (S.device source.old).bytes }
+    ensures uses { Uses (is_unread result) (S.device source.old) (S.device source.new) }
+    ensures told { IsTrue (S.device source.old).honest → OnOk result ((name : List ℕ) →
+        has names.new name ≡ (bytes_eq name (name_in (S.device source.old).bytes span) || has names.old name)) }
+{
+    let name = read_bytes(alloc, source, span)?;
+    names.insert(name)?;
+    Ok(())
+}
+
+// The names of images.
+pub(crate) fn image_names<S: Source>(
+    alloc: Global,
+    source: &mut S,
+    images: &[ImageFacts],
+) -> Result<BTreeSet<Vec<u8>>, SurveyFault>
+    requires { All (ImageInside (length (S.device source.old).bytes)) images.now }
+    ensures uses { Uses (is_unread result) (S.device source.old) (S.device source.new) }
+    ensures told { IsTrue (S.device source.old).honest → IfOk result (λ names.
+        HasNames names (map (image_name_in (S.device source.old).bytes) images.now)) }
+{
+    let mut names = BTreeSet::new(alloc);
+    for image in images {
+        add_name(alloc, source, image.name, &mut names)?;
+    }
+    Ok(names)
+}
+
+// The names of configurations.
+pub(crate) fn configuration_names<S: Source>(
+    alloc: Global,
+    source: &mut S,
+    configurations: &[ConfigurationFacts],
+) -> Result<BTreeSet<Vec<u8>>, SurveyFault>
+    requires { All (ConfigurationInside (length (S.device source.old).bytes)) configurations.now }
+    ensures uses { Uses (is_unread result) (S.device source.old) (S.device source.new) }
+    ensures told { IsTrue (S.device source.old).honest → IfOk result (λ names.
+        HasNames names (map (configuration_name_in (S.device source.old).bytes) configurations.now)) }
+{
+    let mut names = BTreeSet::new(alloc);
+    for configuration in configurations {
+        add_name(alloc, source, configuration.name, &mut names)?;
+    }
+    Ok(names)
+}

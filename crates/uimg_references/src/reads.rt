@@ -1,0 +1,26 @@
+//! Values are read into memory.
+
+ghost use Rattle.std.specs.Prelude.{◌≡◌, ◌+◌, ◌≤◌, length, IsTrue, IfOk};
+ghost use Rattle.uimg_base.specs.Using.{Asks};
+ghost use Rattle.uimg_fit_reading.specs.SurveyParts.{is_unread};
+ghost use Rattle.uimg_texts.specs.Slices.{slice};
+
+use std::alloc::Global;
+use uimg_base::{Source, Span};
+use uimg_fit_reading::SurveyFault;
+
+// The bytes at a span.
+pub(crate) fn read_bytes<S: Source>(
+    alloc: Global,
+    source: &mut S,
+    span: Span,
+) -> Result<Vec<u8>, SurveyFault>
+    requires { span.place + span.length ≤ length (S.device source.old).bytes }
+    ensures uses { Asks span.length (is_unread result) (S.device source.old) (S.device source.new) }
+    ensures told { IsTrue (S.device source.old).honest → IfOk result (λ bytes.
+        bytes.items ≡ slice (S.device source.old).bytes span.place span.length) }
+{
+    let mut bytes = Vec::from_elem(alloc, 0, span.length as usize)?;
+    source.fill_at(span.place, bytes.as_mut_slice())?;
+    Ok(bytes)
+}
