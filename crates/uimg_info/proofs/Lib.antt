@@ -1,3 +1,5 @@
+mod InformLaws
+mod InsideLaws
 mod ObjectLaws
 mod PieceLaws
 mod SoundLaws

@@ -5,7 +5,7 @@ use Rattle.uimg_base.specs.declared.spans.Span.{Span}
 use Rattle.uimg_fit_base.specs.declared.fault.FitFault.{FitFault}
 use Rattle.uimg_fit_reading.specs.Survey.{Said, ImageSaid, HashSaid, ConfigurationSaid, place_said}
 use Rattle.uimg_info.specs.Members.{Member, object_of, array_of, facts_members, number_member, string_member}
-use Rattle.uimg_info.specs.Fit.{hash_facts, image_facts, configuration_facts, root_facts, fault_members, place_members, hash_json, configuration_json, image_members, image_json, head_members, fit_members, fit_json}
+use Rattle.uimg_info.specs.Fit.{hash_facts, image_facts, configuration_facts, root_facts, fault_members, outside, place_members, hash_json, configuration_json, image_members, image_json, head_members, fit_members, fit_json}
 use Rattle.uimg_info.proofs.SoundLaws.{Sound, AreSound, append_sound, number_sound, items_sound, facts_sound}
 
 string_sound : (d : ℕ) (name s : List ℕ) → AreSound d (string_member name s)
@@ -14,19 +14,16 @@ string_sound d name s = (tt, tt)
 fault_sound : (d : ℕ) (code message : List ℕ) → AreSound d (fault_members code message)
 fault_sound d code message = (tt, (tt, tt))
 
-outside_sound : (d : ℕ) (b : Bool) → AreSound d (if b then fault_members (codes "F3") (codes "F3 data outside") else [])
+outside_sound : (d : ℕ) (b : Bool) → AreSound d (outside b)
 outside_sound d true = fault_sound d (codes "F3") (codes "F3 data outside")
 outside_sound d false = tt
 
 place_sound : (d size : ℕ) (found : Result Span FitFault) → AreSound d (place_members size found)
-unfolding place_members
 place_sound d size (Err fault) = fault_sound d (codes "F2") (codes "F2 no data")
 place_sound d size (Ok place) =
-    append_sound d (number_member (codes "offset") place.place)
-    (number_member (codes "data-size") place.length ++ (if nat_lt size (place.place + place.length) then fault_members (codes "F3") (codes "F3 data outside") else []))
-    (number_sound d (codes "offset") place.place)
-    (append_sound d (number_member (codes "data-size") place.length) (if nat_lt size (place.place + place.length) then fault_members (codes "F3") (codes "F3 data outside") else [])
-    (number_sound d (codes "data-size") place.length) (outside_sound d (nat_lt size (place.place + place.length))))
+    let after : List Member = outside (nat_lt size (place.place + place.length)) in
+    append_sound d (number_member (codes "offset") place.place) (number_member (codes "data-size") place.length ++ after) (number_sound d (codes "offset") place.place)
+    (append_sound d (number_member (codes "data-size") place.length) after (number_sound d (codes "data-size") place.length) (outside_sound d (nat_lt size (place.place + place.length))))
 
 image_sound : (size totalsize : ℕ) (image : ImageSaid) → Sound 4 (image_json size totalsize image)
 image_sound size totalsize image =

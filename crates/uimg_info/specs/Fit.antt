@@ -1,5 +1,5 @@
 -- The object of JSON that tells what a FIT image says.
-use Rattle.std.specs.Prelude.{ℕ, ◌+◌, List, [], ◌∷◌, ◌++◌, map, codes, decimal, nat_lt, if◌then◌else◌, length, Option, Some, None, Result, Ok, Err}
+use Rattle.std.specs.Prelude.{ℕ, ◌+◌, List, [], ◌∷◌, ◌++◌, map, codes, decimal, nat_lt, Bool, true, false, length, Option, Some, None, Result, Ok, Err}
 use Rattle.json.specs.Json.{Json}
 use Rattle.uimg_base.specs.declared.spans.Span.{Span}
 use Rattle.uimg_base.specs.Results.{◌>>=◌}
@@ -53,12 +53,19 @@ root_facts said =
 abbrev pub fault_members : List ℕ → List ℕ → List Member
 fault_members code message = string_member (codes "fault") code ++ string_member (codes "message") message
 
--- where the payload of an image stands in a file of so many bytes, or that it has none; of one that ends after the file both
-unfoldable pub place_members : ℕ → Result Span FitFault → List Member
+-- where a payload stands, in a file of so many bytes; of one that ends after the file that too
+abbrev pub outside : Bool → List Member
+outside true = fault_members (codes "F3") (codes "F3 data outside")
+outside false = []
+
+abbrev pub span_members : ℕ → Span → List Member
+span_members size place =
+    number_member (codes "offset") place.place ++ (number_member (codes "data-size") place.length ++ outside (nat_lt size (place.place + place.length)))
+
+-- the same of an image, or that it has no payload
+abbrev pub place_members : ℕ → Result Span FitFault → List Member
+place_members size (Ok place) = span_members size place
 place_members size (Err fault) = fault_members (codes "F2") (codes "F2 no data")
-place_members size (Ok place) =
-    number_member (codes "offset") place.place ++ (number_member (codes "data-size") place.length
-    ++ (if nat_lt size (place.place + place.length) then fault_members (codes "F3") (codes "F3 data outside") else []))
 
 abbrev pub hash_json : HashSaid → Json
 hash_json hash = object_of (facts_members (hash_facts hash))

@@ -4,8 +4,9 @@ ghost use Rattle.std.specs.Prelude.{◌≡◌, ◌+◌, ◌≤◌, length, map, 
 ghost use Rattle.std.specs.List.{All};
 ghost use Rattle.uimg_texts.specs.Slices.{slice};
 ghost use Rattle.uimg_base.specs.Using.{Uses};
+ghost use Rattle.uimg_fit_reading.specs.SurveyParts.{is_unread};
 ghost use Rattle.uimg_info.specs.Members.{tokens_of, value_members, fact_members, facts_members};
-ghost use Rattle.uimg_info.specs.Steps.{is_unread, Puts, RowInside, read_row};
+ghost use Rattle.uimg_info.specs.Steps.{IsOwn, Puts, RowInside, read_row};
 
 use crate::kinds::Kind;
 use crate::members::{put_length, put_value};
@@ -19,15 +20,7 @@ use uimg_fit_reading::SurveyFault;
 const MOST: u64 = 65536;
 
 /// A fact: the name of its member, what its value is, and where the value stands, if it is there.
-#[derive(Clone, Copy)]
-pub(crate) struct Row<'a> {
-    /// The name of its member.
-    pub(crate) name: &'a str,
-    /// What its value is.
-    pub(crate) kind: Kind,
-    /// Where its value stands.
-    pub(crate) value: Option<Span>,
-}
+pub(crate) type Row<'a> = (&'a str, Kind, Option<Span>);
 
 // The bytes at a span.
 fn read_bytes<S: Source>(
@@ -37,6 +30,7 @@ fn read_bytes<S: Source>(
 ) -> Result<Vec<u8>, SurveyFault>
     requires { span.place + span.length ≤ length (S.device source.old).bytes }
     ensures uses { Uses (is_unread result) (S.device source.old) (S.device source.new) }
+    ensures own { IsOwn result }
     ensures bytes { IsTrue (S.device source.old).honest →
         IfOk result (λ bytes. bytes.items ≡ slice (S.device source.old).bytes span.place span.length) }
 {
@@ -84,8 +78,9 @@ fn put_row<S: Source>(
     ensures { Puts result (S.device source.old) (S.device source.new) writer.old writer.new
         (tokens_of (fact_members (read_row (S.device source.old).bytes row.now))) }
 {
-    match row.value {
-        Some(span) => put_span(alloc, source, writer, row.kind, row.name, span),
+    let (name, kind, value) = *row;
+    match value {
+        Some(span) => put_span(alloc, source, writer, kind, name, span),
         None => Ok(()),
     }
 }

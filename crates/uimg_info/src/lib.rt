@@ -2,6 +2,10 @@
 #![tactic(auto)]
 
 mod facts;
+mod fit;
+
 mod kinds;
 mod members;
+mod texts;
 
+pub use texts::fit_text;

@@ -13,3 +13,4 @@ pub mod TableLaws
 pub mod PlacedPartsLaws
 pub mod ReadsBackLaw
 pub mod BuildingLaws
+pub mod PlacingLaws

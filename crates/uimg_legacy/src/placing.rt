@@ -1,6 +1,6 @@
 //! Where all parts of an image stand.
 
-ghost use Rattle.std.specs.Prelude.{◌≡◌, ◌+◌, ◌*◌, ◌≤◌, length, IsTrue, false};
+ghost use Rattle.std.specs.Prelude.{◌≡◌, ◌+◌, ◌*◌, ◌≤◌, [], ◌∷◌, length, IsTrue, IfOk};
 ghost use Rattle.uimg_texts.specs.Slices.{slice};
 ghost use Rattle.uimg_base.specs.Using.{Asks, UsesAtMost};
 ghost use Rattle.uimg_legacy.specs.Parts.{sizes};
@@ -78,22 +78,24 @@ fn place_parts<S: Source>(
     let mut parts = Vec::new(alloc);
     let mut start = 4 * (count as u64 + 1);
     for i in 0..count {
-        let len = size_at(source, i)? as u64;
-        if start + len > size as u64 {
+        let len = size_at(source, i)?;
+        if start + len as u64 > size as u64 {
             return Err(PartsFault::Stopped(Fault::Legacy(LegacyFault::PartOutside)));
         }
         parts.push(Span {
             place: 64 + start,
-            length: len,
+            length: len as u64,
         })?;
-        let rounded = up4(len);
+        let rounded = up4(len as u64);
         start += rounded;
     }
     Ok(parts)
 }
 
 // Where the only part of an image stands that has no table.
-fn only_part(alloc: Global, size: u32) -> Result<Vec<Span>, PartsFault> {
+fn only_part(alloc: Global, size: u32) -> Result<Vec<Span>, AllocError>
+    ensures { IfOk result (λ parts. parts.items ≡ record { place = 64; length = size } ∷ []) }
+{
     let mut parts = Vec::new(alloc);
     parts.push(Span {
         place: 64,
@@ -106,6 +108,7 @@ fn only_part(alloc: Global, size: u32) -> Result<Vec<Span>, PartsFault> {
 /// multi and script, and else the data. The checksum of the data is not looked at. Refusals are
 /// `Truncated`, `NoTableEnd` and `PartOutside`, in this order; `Read` where a read failed, `OutOfMemory`
 /// where memory for the places was refused, 16 bytes for each.
+#[tactic(auto, unfolding(crate::specs::Placing::places_of))]
 pub fn locate_parts<S: Source, A: Allocator>(
     alloc: Global,
     source: &mut S,
@@ -122,7 +125,7 @@ pub fn locate_parts<S: Source, A: Allocator>(
         return Err(PartsFault::Stopped(Fault::Legacy(LegacyFault::Truncated)));
     }
     if !has_parts(header.kind) {
-        return only_part(alloc, header.size);
+        return Ok(only_part(alloc, header.size)?);
     }
     let count = count_sizes(source, room, header.size)?;
     place_parts(alloc, source, header.size, count)

@@ -11,6 +11,6 @@ invariant-loop-row g l =
     let file = (device l.fn.source).bytes in
     record {
       uses : Uses false (device l.fn.source) (device l.source);
-      before : IsTrue (device l.fn.source).honest → l.writer.before ≡ l.fn.writer.before;
+      before : l.writer.before ≡ l.fn.writer.before;
       all : IsTrue (device l.fn.source).honest → l.writer.tokens ++ tokens_of (facts_members (map (read_row file) (drop l.row-index l.rows))) ≡ l.fn.writer.tokens ++ tokens_of (facts_members (map (read_row file) l.rows));
     }
