@@ -12,6 +12,7 @@ Helps
     verify     Check the checksums and hashes of an image, and report each
     check      Check many images, with a line for each
     unpack     Put the payloads of a FIT image in a folder, where their hashes are right
+    info       Tell the facts of an image as JSON, for scripts
   
   Options:
         --version  Print the name and the version
@@ -191,6 +192,7 @@ No words are a wrong line: the help goes to standard error.
     verify     Check the checksums and hashes of an image, and report each
     check      Check many images, with a line for each
     unpack     Put the payloads of a FIT image in a folder, where their hashes are right
+    info       Tell the facts of an image as JSON, for scripts
   
   Options:
         --version  Print the name and the version

@@ -1,5 +1,6 @@
 mod InformLaws
 mod InsideLaws
+mod LegacyLaws
 mod ObjectLaws
 mod PieceLaws
 mod SoundLaws

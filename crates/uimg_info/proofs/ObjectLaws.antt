@@ -48,6 +48,7 @@ fit_sound path size said =
     let configurations : Json = array_of (map configuration_json said.configurations) in
     let arrays : List Member = (codes "images", images) ∷ (codes "configurations", configurations) ∷ [] in
     append_sound 5 (head_members path size said.totalsize) (facts_members (root_facts said) ++ arrays) (head_sound 5 path size said.totalsize)
-    (append_sound 5 (facts_members (root_facts said)) arrays (facts_sound 4 (root_facts said))
-    (items_sound 4 (image_json size said.totalsize) (image_sound size said.totalsize) said.images,
-    (items_sound 4 configuration_json (λ configuration. facts_sound 2 (configuration_facts configuration)) said.configurations, tt)))
+    (append_sound 5 (facts_members (root_facts said)) arrays (facts_sound 4 (root_facts said)) (
+      items_sound 4 (image_json size said.totalsize) (image_sound size said.totalsize) said.images,
+      (items_sound 4 configuration_json (λ configuration. facts_sound 2 (configuration_facts configuration)) said.configurations, tt),
+    ))

@@ -28,15 +28,22 @@ codes_members h =
     ++ (code_members Kind (codes "type") (codes "type-code") h.kind
     ++ code_members Compression (codes "compression") (codes "compression-code") h.comp))
 
+-- what is told of the header behind its name
+abbrev pub header_members : Header → List Member
+header_members h = numbers_members h ++ (codes_members h ++ number_member (codes "data-size") h.size)
+
 abbrev pub part_json : Span → Json
 part_json part = object_of (number_member (codes "offset") part.place ++ number_member (codes "size") part.length)
+
+-- what is told of each image that is read
+abbrev pub legacy_head : List ℕ → ℕ → List Member
+legacy_head path size =
+    string_member (codes "path") path ++ (number_member (codes "status") 0 ++ (string_member (codes "format") (codes "legacy") ++ number_member (codes "size") size))
 
 -- the object of a file of so many bytes, that stands at a path and has this header and these parts
 abbrev pub legacy_members : List ℕ → ℕ → Header → List Span → List Member
 legacy_members path size h parts =
-    string_member (codes "path") path ++ (number_member (codes "status") 0 ++ (string_member (codes "format") (codes "legacy")
-    ++ (number_member (codes "size") size ++ (text_members (codes "name") (text h.name) ++ (numbers_members h ++ (codes_members h
-    ++ (number_member (codes "data-size") h.size ++ (codes "parts", array_of (map part_json parts)) ∷ [])))))))
+    legacy_head path size ++ (text_members (codes "name") (text h.name) ++ (header_members h ++ (codes "parts", array_of (map part_json parts)) ∷ []))
 
 abbrev pub legacy_json : List ℕ → ℕ → Header → List Span → Json
 legacy_json path size h parts = object_of (legacy_members path size h parts)

@@ -23,11 +23,7 @@ const MOST: u64 = 65536;
 pub(crate) type Row<'a> = (&'a str, Kind, Option<Span>);
 
 // The bytes at a span.
-fn read_bytes<S: Source>(
-    alloc: Global,
-    source: &mut S,
-    span: Span,
-) -> Result<Vec<u8>, SurveyFault>
+fn read_bytes<S: Source>(alloc: Global, source: &mut S, span: Span) -> Result<Vec<u8>, SurveyFault>
     requires { span.place + span.length ≤ length (S.device source.old).bytes }
     ensures uses { Uses (is_unread result) (S.device source.old) (S.device source.new) }
     ensures own { IsOwn result }

@@ -252,12 +252,7 @@ fn put_configurations<S: Source>(
 }
 
 // Writes what is told of each image.
-fn put_head(
-    writer: &mut Writer,
-    path: &str,
-    size: u64,
-    totalsize: u32,
-) -> Result<(), AllocError>
+fn put_head(writer: &mut Writer, path: &str, size: u64, totalsize: u32) -> Result<(), AllocError>
     ensures { Appends result writer.old writer.new
         (tokens_of (head_members path.now size totalsize)) }
 {
@@ -306,7 +301,14 @@ pub(crate) fn put_fit<S: Source>(
     put_head(writer, path, size, survey.totalsize)?;
     put_root(alloc, source, writer, survey)?;
     writer.key("images")?;
-    put_images(alloc, source, writer, size, survey.totalsize, survey.images.as_slice())?;
+    put_images(
+        alloc,
+        source,
+        writer,
+        size,
+        survey.totalsize,
+        survey.images.as_slice(),
+    )?;
     writer.key("configurations")?;
     put_configurations(alloc, source, writer, survey.configurations.as_slice())?;
     writer.end_object()?;

@@ -1,13 +1,15 @@
 //! The object that tells what a legacy image says.
 
-ghost use Rattle.std.specs.Prelude.{◌≡◌, [], ◌∷◌, codes, map, IfOk, Some};
+ghost use Rattle.std.specs.Prelude.{◌≡◌, codes, map, true, IfOk, Some};
 ghost use Rattle.std.specs.Str.{IsUtf8};
 ghost use Rattle.json.specs.Json.{document};
 ghost use Rattle.json.specs.Print.{print};
 ghost use Rattle.json.specs.Tree.{json_tokens};
 ghost use Rattle.uimg_json.specs.Objects.{is_one_line};
-ghost use Rattle.uimg_info.specs.Legacy.{code_members, numbers_members, codes_members, part_json, legacy_json};
-ghost use Rattle.uimg_info.specs.Members.{array_of, tokens_of};
+ghost use Rattle.uimg_texts.specs.Numbers.{be32};
+ghost use Rattle.uimg_legacy.specs.Header.{spelled};
+ghost use Rattle.uimg_info.specs.Legacy.{code_members, numbers_members, codes_members, header_members, part_json, legacy_head, legacy_json};
+ghost use Rattle.uimg_info.specs.Members.{array_of, number_member, tokens_of};
 ghost use Rattle.uimg_info.specs.Steps.{Appends};
 
 use crate::members::{put_number, put_string, put_text};
@@ -29,7 +31,17 @@ fn put_code(
         (tokens_of (code_members field name.now of_code.now code)) }
 {
     put_string(writer, name, Naming::Profile.code_text(field, code))?;
-    put_number(writer, of_code, code as u64)
+    put_number(writer, of_code, code as u64)?;
+    Ok(())
+}
+
+// Writes the checksum of a header.
+fn put_crc(writer: &mut Writer, header: &Header) -> Result<(), AllocError>
+    ensures { Appends result writer.old writer.new
+        (tokens_of (number_member (codes "header-crc") (be32 (spelled header.now) 4))) }
+{
+    let crc = number_at(&header_bytes(header), 4);
+    put_number(writer, "header-crc", crc as u64)
 }
 
 // Writes the numbers of a header.
@@ -39,8 +51,9 @@ fn put_numbers(writer: &mut Writer, header: &Header) -> Result<(), AllocError>
     put_number(writer, "time", header.time as u64)?;
     put_number(writer, "load", header.load as u64)?;
     put_number(writer, "entry", header.ep as u64)?;
-    put_number(writer, "header-crc", number_at(&header_bytes(header), 4) as u64)?;
-    put_number(writer, "data-crc", header.dcrc as u64)
+    put_crc(writer, header)?;
+    put_number(writer, "data-crc", header.dcrc as u64)?;
+    Ok(())
 }
 
 // Writes the codes of a header.
@@ -48,9 +61,32 @@ fn put_codes(writer: &mut Writer, header: &Header) -> Result<(), AllocError>
     ensures { Appends result writer.old writer.new (tokens_of (codes_members header.now)) }
 {
     put_code(writer, Field::System, "os", "os-code", header.os)?;
-    put_code(writer, Field::Architecture, "arch", "arch-code", header.arch)?;
+    put_code(
+        writer,
+        Field::Architecture,
+        "arch",
+        "arch-code",
+        header.arch,
+    )?;
     put_code(writer, Field::Kind, "type", "type-code", header.kind)?;
-    put_code(writer, Field::Compression, "compression", "compression-code", header.comp)
+    put_code(
+        writer,
+        Field::Compression,
+        "compression",
+        "compression-code",
+        header.comp,
+    )?;
+    Ok(())
+}
+
+// Writes what is told of a header behind its name.
+fn put_header(writer: &mut Writer, header: &Header) -> Result<(), AllocError>
+    ensures { Appends result writer.old writer.new (tokens_of (header_members header.now)) }
+{
+    put_numbers(writer, header)?;
+    put_codes(writer, header)?;
+    put_number(writer, "data-size", header.size as u64)?;
+    Ok(())
 }
 
 // Writes where a part stands.
@@ -77,6 +113,17 @@ fn put_parts(writer: &mut Writer, parts: &[Span]) -> Result<(), AllocError>
     Ok(())
 }
 
+// Writes what is told of each image that is read.
+fn put_head(writer: &mut Writer, path: &str, size: u64) -> Result<(), AllocError>
+    ensures { Appends result writer.old writer.new (tokens_of (legacy_head path.now size)) }
+{
+    put_string(writer, "path", path)?;
+    put_number(writer, "status", 0)?;
+    put_string(writer, "format", "legacy")?;
+    put_number(writer, "size", size)?;
+    Ok(())
+}
+
 // Writes the object of a legacy image.
 fn put_legacy(
     alloc: Global,
@@ -90,14 +137,9 @@ fn put_legacy(
         (json_tokens (legacy_json path.now size header.now parts.now)) }
 {
     writer.begin_object()?;
-    put_string(writer, "path", path)?;
-    put_number(writer, "status", 0)?;
-    put_string(writer, "format", "legacy")?;
-    put_number(writer, "size", size)?;
+    put_head(writer, path, size)?;
     put_text(alloc, writer, "name", before_nul(&header.name))?;
-    put_numbers(writer, header)?;
-    put_codes(writer, header)?;
-    put_number(writer, "data-size", header.size as u64)?;
+    put_header(writer, header)?;
     writer.key("parts")?;
     put_parts(writer, parts)?;
     writer.end_object()?;

@@ -3,9 +3,10 @@
 
 mod facts;
 mod fit;
-
 mod kinds;
+mod legacy;
 mod members;
 mod texts;
 
+pub use legacy::legacy_text;
 pub use texts::fit_text;

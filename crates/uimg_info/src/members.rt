@@ -46,11 +46,7 @@ pub(crate) fn put_number(writer: &mut Writer, name: &str, number: u64) -> Result
 }
 
 // Writes a number that may be missing.
-fn put_number_if(
-    writer: &mut Writer,
-    name: &str,
-    number: Option<u64>,
-) -> Result<(), AllocError>
+fn put_number_if(writer: &mut Writer, name: &str, number: Option<u64>) -> Result<(), AllocError>
     ensures { Appends result writer.old writer.new (tokens_of (number_if name.now number)) }
 {
     match number {
@@ -171,12 +167,7 @@ fn put_pieces(
 }
 
 // Writes texts, with their bytes beside them where one is not UTF-8.
-fn put_texts(
-    alloc: Global,
-    writer: &mut Writer,
-    name: &str,
-    bytes: &[u8],
-) -> Result<(), AllocError>
+fn put_texts(alloc: Global, writer: &mut Writer, name: &str, bytes: &[u8]) -> Result<(), AllocError>
     ensures { Appends result writer.old writer.new
         (tokens_of (texts_members name.now (pieces bytes.now))) }
 {

@@ -1,6 +1,6 @@
 //! Where all parts of an image stand.
 
-ghost use Rattle.std.specs.Prelude.{◌≡◌, ◌+◌, ◌*◌, ◌≤◌, [], ◌∷◌, length, IsTrue, IfOk};
+ghost use Rattle.std.specs.Prelude.{◌≡◌, ◌+◌, ◌*◌, ◌≤◌, [], ◌∷◌, ◌++◌, length, IsTrue, IfOk, OnOk};
 ghost use Rattle.uimg_texts.specs.Slices.{slice};
 ghost use Rattle.uimg_base.specs.Using.{Asks, UsesAtMost};
 ghost use Rattle.uimg_legacy.specs.Parts.{sizes};
@@ -59,6 +59,14 @@ impl From<AllocError> for PartsFault {
     }
 }
 
+// Appends where a part stands.
+fn push_part(parts: &mut Vec<Span>, part: Span) -> Result<(), AllocError>
+    ensures { OnOk result (parts.new.items ≡ parts.old.items ++ part ∷ []) }
+{
+    parts.push(part)?;
+    Ok(())
+}
+
 // Where the parts of a table of so many sizes stand, up to the first that ends after the data.
 fn place_parts<S: Source>(
     alloc: Global,
@@ -82,10 +90,11 @@ fn place_parts<S: Source>(
         if start + len as u64 > size as u64 {
             return Err(PartsFault::Stopped(Fault::Legacy(LegacyFault::PartOutside)));
         }
-        parts.push(Span {
+        let part = Span {
             place: 64 + start,
             length: len as u64,
-        })?;
+        };
+        push_part(&mut parts, part)?;
         let rounded = up4(len as u64);
         start += rounded;
     }

@@ -21,7 +21,7 @@ returns-clause-told g c = λ honest.
     let size : c.in-Ok.size ≡ length file = sized.length ∙ ap (λ (f : List ℕ). length f) first.uses.same.bytes in
     let is : info_of path file ≡ Ok (fit_json path (length file) said) = ap (λ (r : Result Said Fault). r >>= (λ s. Ok (fit_json path (length file) s))) (first.told honest) in
     let told =
-        subst (λ (n : ℕ). IfOk c.survey_text.result (λ (text : Vec ℕ Global). text.items ≡ print (json_tokens (fit_json path n said)))) size
-        (subst (λ (f : List ℕ). IfOk c.survey_text.result (λ (text : Vec ℕ Global). text.items ≡ print (json_tokens (fit_json path c.in-Ok.size (read_survey f survey))))) same
-        (c.survey_text.ensures.text honest_now)) in
+    subst (λ (n : ℕ). IfOk c.survey_text.result (λ (text : Vec ℕ Global). text.items ≡ print (json_tokens (fit_json path n said)))) size
+    (subst (λ (f : List ℕ). IfOk c.survey_text.result (λ (text : Vec ℕ Global). text.items ≡ print (json_tokens (fit_json path c.in-Ok.size (read_survey f survey))))) same
+    (c.survey_text.ensures.text honest_now)) in
     informs (λ (text : Vec ℕ Global). text.items) path file c.survey_text.result (fit_json path (length file) said) is c.survey_text.ensures.own told

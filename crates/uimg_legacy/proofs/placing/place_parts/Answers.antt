@@ -28,7 +28,9 @@ loop-i-init g c = record {
   told = λ honest count.
       let data_of = slice (g.S.Source.device c.args.source.now).bytes 64 c.args.size in
       let all : c.args.count ≡ c.args.count - 0 = omega arith in
-      before_none (places data_of (sizes data_of) c.args.count 0) ∙ ap (λ (n : ℕ). before [] (places data_of (sizes data_of) n 0)) all;
+      let none : c.new-parts.result.items ≡ [] = search rules in
+      before_none (places data_of (sizes data_of) c.args.count 0) ∙ ap (λ (n : ℕ). before [] (places data_of (sizes data_of) n 0)) all
+      ∙ ap (λ (l : List Span). before l (places data_of (sizes data_of) (c.args.count - 0) 0)) (sym none);
 }
 
 pub returns-then-start-len-clause-told : goal.returns-then-start-len-clause-told
