@@ -132,7 +132,8 @@ Exit status:
   3  A file cannot be opened, is there already or cannot be written, or memory failed";
 
 /// The notes of info.
-pub(super) const INFO_NOTES: &str = "One line is written, an object. Of a FIT image it has path, status, format, size,
+pub(super) const INFO_NOTES: &str =
+    "One line is written, an object. Of a FIT image it has path, status, format, size,
 totalsize, description, timestamp, default, images and configurations; an image
 has name, description, type, arch, os, compression, load, entry, offset and
 data-size (where its payload stands), hashes, and where it has no payload in the
