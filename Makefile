@@ -48,7 +48,7 @@ lib-test: lib/libuimg.a bin/uimg
 	@scripts/needs.sh python3 cc
 	@python3 scripts/lib_test.py bin/uimg lib
 
-## make json-test   holds what `uimg check --json` writes of many images to the schema of docs/JSON.md, with python3-jsonschema
+## make json-test   holds what `uimg check --json` and `uimg info` write of many images to the schemas of docs/JSON.md, with python3-jsonschema
 json-test: bin/uimg
 	@scripts/needs.sh python3
 	@python3 scripts/json_test.py bin/uimg

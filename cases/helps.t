@@ -13,6 +13,7 @@ Helps
     check      Check many images, with a line for each
     unpack     Put the payloads of an image in a folder, where their hashes are right
     map        Show what lies where in the file of an image, whole or broken
+    info       Tell the facts of an image as JSON, for scripts
   
   Options:
         --version  Print the name and the version
@@ -193,6 +194,7 @@ No words are a wrong line: the help goes to standard error.
     check      Check many images, with a line for each
     unpack     Put the payloads of an image in a folder, where their hashes are right
     map        Show what lies where in the file of an image, whole or broken
+    info       Tell the facts of an image as JSON, for scripts
   
   Options:
         --version  Print the name and the version

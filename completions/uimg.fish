@@ -34,3 +34,6 @@ complete -c uimg -n '__fish_seen_subcommand_from unpack' -l only -x -d 'Take the
 complete -c uimg -n '__fish_seen_subcommand_from unpack' -l need-hash -x -a 'crc32 md5 sha1 sha256 sha384 sha512' -d 'Ask for a hash by this algorithm or a stronger one'
 complete -c uimg -n '__fish_seen_subcommand_from unpack' -l force -d 'Replace files that are there'
 complete -c uimg -n '__fish_seen_subcommand_from unpack' -s h -d 'Print help'
+complete -c uimg -n __fish_use_subcommand -f -a info -d 'Tell the facts of an image as JSON, for scripts'
+complete -c uimg -n '__fish_seen_subcommand_from info' -l json -d 'Write an object of JSON, as is done without it too'
+complete -c uimg -n '__fish_seen_subcommand_from info' -s h -d 'Print help'

@@ -1,9 +1,10 @@
 #!/usr/bin/env python3
-"""json_test.py PROGRAM: what `PROGRAM check --json` writes, held to the schema of docs/JSON.md.
+"""json_test.py PROGRAM: what `PROGRAM check --json` and `PROGRAM info` write, held to the schemas of docs/JSON.md.
 
 It checks all files of examples/ and cases/files/, FIT images of a fixed seed, whole and damaged, and some whose names
 are hostile. Each line has to be JSON without a control character and without a member that comes twice, to be valid
-by the schema, and to tell the path and just the line of text of the same image. It needs jsonschema, and says so where
+by the schema, and to tell the path and just the line of text of the same image, or of `info` just what a reader of
+device trees in here finds in it (and of a refused image what a check tells). It needs jsonschema, and says so where
 no Python here has it. The last line is 'N passed, M failed'."""
 import base64
 import glob
@@ -12,6 +13,7 @@ import json
 import os
 import random
 import re
+import struct
 import subprocess
 import sys
 import tempfile
@@ -34,10 +36,10 @@ HASHES = [b"hash\"\n", b"hash\xff\xc3", b"hash\\u", b"hash\xc2\xa0", b"hash\x08\
 PATHS = [b'a"b', b"new\nline", b"back\\slash", b"\xff\xfe", b"\xe2\x80\xa8sep", b"\x01\x1b[31m", b"caf\xc3\xa9", b"\xed\xa0\x80", b"tab\t", b"%s{}$(x)"]  # fmt: skip
 
 
-def schema_of(path):
-    """The schema that stands in a document."""
+def schemas_of(path):
+    """The schemas that stand in a document."""
     with open(path) as file:
-        return json.loads(re.search(r"^```json\n(.*?)^```$", file.read(), re.M | re.S)[1])
+        return [json.loads(text) for text in re.findall(r"^```json\n(.*?)^```$", file.read(), re.M | re.S)]
 
 
 def digest(algo, data):
@@ -187,6 +189,186 @@ def try_all(program, paths, validator, options):
     return failures, all_told
 
 
+class Tree:
+    """The nodes of a blob, each a name, its properties in their order and its children."""
+
+    def __init__(self, image):
+        self.image = image
+        _, self.total, self.at, self.strings = struct.unpack(">4I", image[:16])
+        self.root = None
+        while self.root is None:
+            word = self.word()
+            self.root = self.node() if word == 1 else None
+
+    def word(self):
+        self.at += 4
+        return struct.unpack(">I", self.image[self.at - 4 : self.at])[0]
+
+    def node(self):
+        end = self.image.index(0, self.at)
+        name, own, below = self.image[self.at : end], {}, []
+        self.at = (end + 4) // 4 * 4
+        while (word := self.word()) != 2:
+            if word == 1:
+                below.append(self.node())
+            elif word == 3:
+                length, key = self.word(), self.strings + self.word()
+                own.setdefault(self.image[key : self.image.index(0, key)].decode(), (self.at, length))
+                self.at = (self.at + length + 3) // 4 * 4
+        return name, own, below
+
+
+class Facts:
+    """What a FIT image says, as `info` has to tell it."""
+
+    def __init__(self, path, image):
+        tree = Tree(image)
+        self.image, self.total = image, tree.total
+        name, own, below = tree.root
+        images, configurations = (next((node for node in below if node[0] == key), (b"", {}, [])) for key in (b"images", b"configurations"))
+        self.told = {"path": path.decode(), "status": 0, "format": "fit", "size": len(image), "totalsize": tree.total}
+        self.text(self.told, own, "description")
+        self.number(self.told, own, "timestamp", (4,))
+        self.text(self.told, configurations[1], "default")
+        self.told["images"] = [self.image_facts(node) for node in images[2]]
+        self.told["configurations"] = [self.configuration(node) for node in configurations[2]]
+
+    def value(self, own, key):
+        at, length = own[key]
+        return self.image[at : at + length]
+
+    def spell(self, told, key, text):
+        told[key] = text.decode("utf-8", "replace")
+        if told[key].encode() != text:
+            told[f"{key}_base64"] = base64.b64encode(text).decode()
+
+    def is_told(self, told, own, key):
+        if key in own and own[key][1] > 65536:
+            told[f"{key}_length"] = own[key][1]
+        return key in own and own[key][1] <= 65536
+
+    def text(self, told, own, key):
+        if self.is_told(told, own, key):
+            self.spell(told, key, self.value(own, key).split(b"\0")[0])
+
+    def texts(self, told, own, key):
+        if self.is_told(told, own, key):
+            value = self.value(own, key)
+            texts = value[: -1 if value.endswith(b"\0") else None].split(b"\0") if value else []
+            told[key] = [text.decode("utf-8", "replace") for text in texts]
+            if [text.encode() for text in told[key]] != texts:
+                told[f"{key}_base64"] = [base64.b64encode(text).decode() for text in texts]
+
+    def number(self, told, own, key, lengths):
+        if key in own and own[key][1] in lengths:
+            told[key] = int.from_bytes(self.value(own, key), "big")
+
+    def place(self, told, own):
+        cells = {}
+        for key in ("data-position", "data-offset", "data-size"):
+            self.number(cells, own, key, (4,))
+        if "data-position" in cells and "data-size" in cells:
+            at, size = cells["data-position"], cells["data-size"]
+        elif "data-offset" in cells and "data-size" in cells:
+            at, size = (self.total + 3) // 4 * 4 + cells["data-offset"], cells["data-size"]
+        elif "data" in own:
+            at, size = own["data"]
+        else:
+            told.update({"fault": "F2", "message": "F2 no data"})
+            return
+        told.update({"offset": at, "data-size": size})
+        if at + size > len(self.image):
+            told.update({"fault": "F3", "message": "F3 data outside"})
+
+    def hash(self, node):
+        told = {}
+        self.spell(told, "name", node[0])
+        self.text(told, node[1], "algo")
+        if self.is_told(told, node[1], "value"):
+            told["value"] = self.value(node[1], "value").hex()
+        return told
+
+    def image_facts(self, node):
+        told = {}
+        self.spell(told, "name", node[0])
+        for key in ("description", "type", "arch", "os", "compression"):
+            self.text(told, node[1], key)
+        for key in ("load", "entry"):
+            self.number(told, node[1], key, (4, 8))
+        self.place(told, node[1])
+        told["hashes"] = [self.hash(child) for child in node[2] if child[0].startswith(b"hash")]
+        return told
+
+    def configuration(self, node):
+        told = {}
+        self.spell(told, "name", node[0])
+        for key in ("description", "kernel", "ramdisk"):
+            self.text(told, node[1], key)
+        for key in ("fdt", "loadables"):
+            self.texts(told, node[1], key)
+        return told
+
+
+def legacy_facts(path, image):
+    """What a legacy image says, but for what a listing calls its codes."""
+    _, head, time, size, load, entry, data, os_code, arch, kind, comp, name = struct.unpack(">7I4B32s", image[:64])
+    told = {"path": path.decode(), "status": 0, "format": "legacy", "size": len(image), "time": time, "load": load, "entry": entry}
+    told.update({"header-crc": head, "data-crc": data, "os-code": os_code, "arch-code": arch, "type-code": kind})
+    told.update({"compression-code": comp, "data-size": size, "parts": [{"offset": 64, "size": size}]})
+    Facts.spell(None, told, "name", name.split(b"\0")[0])
+    if kind in (4, 6):
+        words = struct.unpack(f">{size // 4}I", image[64 : 64 + size // 4 * 4])
+        sizes = words[: words.index(0)]
+        starts = [64 + 4 * (len(sizes) + 1) + sum((one + 3) // 4 * 4 for one in sizes[:i]) for i in range(len(sizes))]
+        told["parts"] = [{"offset": at, "size": one} for at, one in zip(starts, sizes)]
+    return told
+
+
+def judge_facts(program, path, validator):
+    """Raises an error where the line of `info` of an image is not what it has to be."""
+    end = subprocess.run([program, "info", "--json", path], capture_output=True)
+    plain = subprocess.run([program, "info", path], capture_output=True)
+    assert (end.stdout, end.returncode) == (plain.stdout, plain.returncode), "--json makes a difference"
+    assert end.stderr == b"", f"on standard error: {end.stderr!r}"
+    line, _, rest = end.stdout.partition(b"\n")
+    assert rest == b"" and not re.search(rb"[\0-\x1f]", line), "it is not one line"
+    told = json.loads(line.decode(), object_pairs_hook=once)
+    validator.validate(told)
+    assert told["status"] == end.returncode, "it has another status"
+    if told["status"]:
+        checked = subprocess.run([program, "check", "--json", path], capture_output=True).stdout
+        assert checked == end.stdout or told["fault"] in ("L6", "L7"), f"a check tells {checked!r}"
+        return told
+    with open(path, "rb") as file:
+        image = file.read()
+    if told["format"] == "fit":
+        assert told == Facts(path, image).told, f"it says {Facts(path, image).told}"
+    else:
+        own = legacy_facts(path, image)
+        names = {key: told[key] for key in ("os", "arch", "type", "compression")}
+        assert told == {**own, **names}, f"it says {own}"
+        listing = subprocess.run([program, "dumpimage", "-l", path], capture_output=True).stdout.decode("utf-8", "replace")
+        line = f"Image Type:   {names['arch']} {names['os']} {names['type']} ({names['compression']})"
+        assert listing == "" or line in listing.splitlines(), f"the listing has another type than {line}"
+    return told
+
+
+def try_facts(program, paths, validator):
+    """Holds `info` of each of these paths to the schema. It gives the number of failures, and what was told."""
+    failures, told = 0, []
+    for path in paths:
+        try:
+            path.decode()
+        except UnicodeDecodeError:
+            continue
+        try:
+            told.append(judge_facts(program, path, validator))
+        except Exception as error:
+            print(f"info {path!r}: {(str(error).splitlines() or [repr(error)])[0]}")
+            failures += 1
+    return failures, told
+
+
 def main():
     program = os.path.abspath(sys.argv[1])
     try:
@@ -196,18 +378,22 @@ def main():
             os.execv(SYSTEM_PYTHON, [SYSTEM_PYTHON, *sys.argv])
         print("json_test: skipped, since no Python here has jsonschema (apt install python3-jsonschema)")
         return 0
-    schema = schema_of(os.path.join(TOP, "docs", "JSON.md"))
-    jsonschema.Draft202012Validator.check_schema(schema)
-    validator = jsonschema.Draft202012Validator(schema)
+    schemas = schemas_of(os.path.join(TOP, "docs", "JSON.md"))
+    for schema in schemas:
+        jsonschema.Draft202012Validator.check_schema(schema)
+    validator, of_facts = (jsonschema.Draft202012Validator(schema) for schema in schemas)
     failures, told = 0, []
     with tempfile.TemporaryDirectory() as folder:
         paths = listed() + made(folder)
         for options in ([], ["--need", "crc32"], ["--need", "sha256"]):
             failed, some = try_all(program, paths, validator, options)
             failures, told = failures + failed, told + some
+        failed, facts = try_facts(program, [path for path in paths if path], of_facts)
+        failures += failed
     verdicts = sorted({one["verdict"] for one in told})
     print(f"{len(told)} lines, verdicts: {' '.join(verdicts)}; {len({one.get('fault') for one in told}) - 1} faults")
-    print(f"{len(told)} passed, {failures} failed")
+    print(f"info: {len(facts)} lines, {sum(one['status'] == 0 for one in facts)} with facts")
+    print(f"{len(told) + len(facts)} passed, {failures} failed")
     return 1 if failures else 0
 
 

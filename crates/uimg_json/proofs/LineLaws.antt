@@ -13,7 +13,7 @@ use Rattle.uimg_json.specs.declared.objects.Value.TheVariants.{Text, Number}
 use Rattle.uimg_json.specs.Objects.{members_of, object_of, is_one_line}
 
 -- two such texts are one
-joined : (xs ys : List ℕ) → is_one_line xs ≡ true → is_one_line ys ≡ true → is_one_line (xs ++ ys) ≡ true
+pub joined : (xs ys : List ℕ) → is_one_line xs ≡ true → is_one_line ys ≡ true → is_one_line (xs ++ ys) ≡ true
 joined xs ys p q = list_all-append _ xs ys ∙ ap₂ (λ (a b : Bool). a && b) p q
 
 -- the escapes of the bytes below n are such texts
@@ -41,7 +41,7 @@ all_escaped : (s : List ℕ) → is_one_line (escape s) ≡ true
 all_escaped [] = refl
 all_escaped (x ∷ xs) = joined (escape_byte x) (escape xs) (escaped x) (all_escaped xs)
 
-in_quotes : (s : List ℕ) → is_one_line (quoted s) ≡ true
+pub in_quotes : (s : List ℕ) → is_one_line (quoted s) ≡ true
 in_quotes s = joined (34 ∷ []) (escape s ++ 34 ∷ []) refl (joined (escape s) (34 ∷ []) (all_escaped s) refl)
 
 -- the digits of a number
@@ -63,7 +63,7 @@ some_digits (suc k) n rest h =
     let more = joined (digit_glyph false (n % 10) ∷ []) rest (glyph (n % 10)) h in
     digits_before (n / 10 == 0) k (n / 10) (digit_glyph false (n % 10) ∷ rest) more (some_digits k (n / 10) (digit_glyph false (n % 10) ∷ rest) more)
 
-number : (n : ℕ) → is_one_line (decimal n) ≡ true
+pub number : (n : ℕ) → is_one_line (decimal n) ≡ true
 unfolding digits
 number n = some_digits 64 n [] refl
 
@@ -73,7 +73,7 @@ comma true = refl
 comma false = refl
 
 -- one token before others
-token_then : (after : Bool) (t : Token) (ts : List Token) → is_one_line (token_text t) ≡ true → is_one_line (print_from (ends t) ts) ≡ true → is_one_line (print_from after (t ∷ ts)) ≡ true
+pub token_then : (after : Bool) (t : Token) (ts : List Token) → is_one_line (token_text t) ≡ true → is_one_line (print_from (ends t) ts) ≡ true → is_one_line (print_from after (t ∷ ts)) ≡ true
 unfolding print_from
 token_then after t ts p q = joined (separator after t) (token_text t ++ print_from (ends t) ts) (comma (after && begins t)) (joined (token_text t) (print_from (ends t) ts) p q)
 

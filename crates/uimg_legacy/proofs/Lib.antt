@@ -20,3 +20,4 @@ pub mod WalkLaws
 pub mod DataLaws
 pub mod UnpackLaws
 pub mod ExtractedLaws
+pub mod PlacingLaws

@@ -19,3 +19,4 @@ pub mod ReadsBack
 pub mod Unpacking
 pub mod UnpackingSteps
 pub mod MemParts
+pub mod Placing

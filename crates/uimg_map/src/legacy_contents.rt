@@ -10,10 +10,7 @@ use uimg_legacy::{Fault, HEADER_LEN, Header, LegacyFault, has_parts, read_header
 
 /// Adds what stands in the file of a legacy image: the header and the data, of the types multi and script
 /// the table of sizes and the parts, or else the place of the header's fault. The data are not read.
-pub(crate) fn add_legacy<S: Source>(
-    source: &mut S,
-    contents: &mut Contents,
-) -> Result<(), MapFault>
+pub(crate) fn add_legacy<S: Source>(source: &mut S, contents: &mut Contents) -> Result<(), MapFault>
     ensures same { SameDevice (S.device source.old) (S.device source.new) }
     ensures size { contents.new.size ≡ contents.old.size }
 {

@@ -7,6 +7,7 @@ mod check_answers;
 mod check_json;
 mod check_lines;
 mod check_program;
+mod info_program;
 mod main_program;
 mod making;
 mod map_program;

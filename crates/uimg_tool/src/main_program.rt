@@ -1,6 +1,7 @@
 //! The function `program`, the whole program: it opens the files that a command line names, has its
 //! request carried out, and turns the end into a line and an exit status.
 use crate::check_program::check_images;
+use crate::info_program::tell_facts;
 use crate::making::make_image;
 use crate::map_program::map_image;
 use crate::old_program::program_by_old_name;
@@ -83,6 +84,7 @@ pub fn program<R: Files + AllocGlobal, W: Write, V: Write>(
         Ok(Asked::Check(request)) => check_images(rt, &request, out, err),
         Ok(Asked::Unpack(request)) => unpack_image(rt, &request, out, err),
         Ok(Asked::Map(request)) => map_image(rt, &request, out, err),
+        Ok(Asked::Info(request)) => tell_facts(rt, &request, out, err),
         Err(fault) => tell_words_fault(&fault, err),
     }
 }

@@ -4,6 +4,7 @@ mod check;
 mod complaints;
 mod dumpimage;
 mod help_notes;
+mod info;
 mod map;
 mod mkimage;
 mod unpack;
@@ -14,6 +15,7 @@ use clap::error::ErrorKind;
 use clap::{Arg, ArgAction, ArgMatches};
 use complaints::complaint;
 use help_notes::PROGRAM_NOTES;
+pub use info::InfoRequest;
 pub use map::MapRequest;
 use std::alloc::{AllocError, Global};
 use thiserror::Error;
@@ -34,6 +36,9 @@ pub enum Asked<'a> {
 
     /// The map of an image's file.
     Map(MapRequest<'a>),
+
+    /// The facts of an image.
+    Info(InfoRequest<'a>),
 }
 
 /// What is asked for about an image, or a text.
@@ -131,6 +136,7 @@ fn request_of<'a>(
         Some(("check", own)) => return Ok(Asked::Check(check::request(alloc, own)?)),
         Some(("unpack", own)) => return Ok(Asked::Unpack(unpack::request(own)?)),
         Some(("map", own)) => return Ok(Asked::Map(map::request(own))),
+        Some(("info", own)) => return Ok(Asked::Info(info::request(own))),
         Some(("dumpimage", own)) => Request::Run(dumpimage::request(own)?),
         Some(("mkimage", own)) => mkimage::request(alloc, own, epoch, now)?,
         Some((_, own)) => Request::Run(verify::request(own)),
@@ -170,6 +176,7 @@ fn commands<'a>(alloc: Global) -> Result<clap::Command<'a>, AllocError> {
         .subcommand(check::command(alloc)?)?
         .subcommand(unpack::command(alloc)?)?
         .subcommand(map::command(alloc)?)
+        .subcommand(info::command(alloc)?)
 }
 
 // An option with a value.

@@ -4,5 +4,5 @@
 mod command_line;
 
 pub use command_line::{
-    Asked, CheckRequest, MapRequest, Request, UnpackRequest, WordsFault, read_words,
+    Asked, CheckRequest, InfoRequest, MapRequest, Request, UnpackRequest, WordsFault, read_words,
 };

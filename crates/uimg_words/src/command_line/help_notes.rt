@@ -163,3 +163,25 @@ Exit status:
   1  It was written too, and the image is refused, or something ends outside the file
   2  The command line is wrong, or the picture would be the image
   3  A file cannot be opened or written, or a read or memory failed";
+
+/// The notes of info.
+pub(super) const INFO_NOTES: &str =
+    "One line is written, an object. Of a FIT image it has path, status, format, size,
+totalsize, description, timestamp, default, images and configurations; an image
+has name, description, type, arch, os, compression, load, entry, offset and
+data-size (where its payload stands), hashes, and where it has no payload in the
+file fault and message. Of a legacy image it has path, status, format, size, name,
+time, load, entry, header-crc, data-crc, os, arch, type and compression, each with
+its code, data-size and parts. What is missing in the image is left out. An image
+that is refused, or cannot be read, has the line that check --json has of it.
+Hashes and the checksums of a legacy image's data are told, and not checked.
+
+Examples:
+  uimg info kernel.itb
+  uimg info kernel.itb | jq -r '.images[] | select(.type == \"kernel\") | .load'
+
+Exit status:
+  0  The facts are told
+  1  The image is refused
+  2  The command line is wrong
+  3  The file cannot be opened, or a read, a write or memory failed";

@@ -1,0 +1,109 @@
+-- The object of JSON that tells what a FIT image says.
+use Rattle.std.specs.Prelude.{ℕ, ◌+◌, List, [], ◌∷◌, ◌++◌, map, codes, decimal, nat_lt, Bool, true, false, length, Option, Some, None, Result, Ok, Err}
+use Rattle.json.specs.Json.{Json}
+use Rattle.uimg_base.specs.declared.spans.Span.{Span}
+use Rattle.uimg_base.specs.Results.{◌>>=◌}
+use Rattle.uimg_fit_base.specs.declared.fault.Fault.{Fault}
+use Rattle.uimg_fit_base.specs.declared.fault.FitFault.{FitFault}
+use Rattle.uimg_fit_reading.specs.Survey.{Said, ImageSaid, HashSaid, ConfigurationSaid, place_said, survey_of}
+use Rattle.uimg_info.specs.Members.{Member, Fact, object_of, array_of, facts_members, string_member, number_member}
+use Rattle.uimg_info.specs.declared.kinds.Kind.TheVariants.{Text, Texts, Digest, Cell, Address}
+
+-- what a hash node says
+abbrev pub hash_facts : HashSaid → List Fact
+hash_facts hash =
+    record { name = codes "name"; kind = Text; value = Some hash.name }
+    ∷ record { name = codes "algo"; kind = Text; value = hash.algo }
+    ∷ record { name = codes "value"; kind = Digest; value = hash.value }
+    ∷ []
+
+-- what an image says, but for its payload and its hash nodes
+abbrev pub image_facts : ImageSaid → List Fact
+image_facts image =
+    record { name = codes "name"; kind = Text; value = Some image.name }
+    ∷ record { name = codes "description"; kind = Text; value = image.description }
+    ∷ record { name = codes "type"; kind = Text; value = image.kind }
+    ∷ record { name = codes "arch"; kind = Text; value = image.arch }
+    ∷ record { name = codes "os"; kind = Text; value = image.os }
+    ∷ record { name = codes "compression"; kind = Text; value = image.compression }
+    ∷ record { name = codes "load"; kind = Address; value = image.load }
+    ∷ record { name = codes "entry"; kind = Address; value = image.entry }
+    ∷ []
+
+-- what a configuration says
+abbrev pub configuration_facts : ConfigurationSaid → List Fact
+configuration_facts configuration =
+    record { name = codes "name"; kind = Text; value = Some configuration.name }
+    ∷ record { name = codes "description"; kind = Text; value = configuration.description }
+    ∷ record { name = codes "kernel"; kind = Text; value = configuration.kernel }
+    ∷ record { name = codes "ramdisk"; kind = Text; value = configuration.ramdisk }
+    ∷ record { name = codes "fdt"; kind = Texts; value = configuration.fdt }
+    ∷ record { name = codes "loadables"; kind = Texts; value = configuration.loadables }
+    ∷ []
+
+-- what the root says, and which configuration is the default
+abbrev pub root_facts : Said → List Fact
+root_facts said =
+    record { name = codes "description"; kind = Text; value = said.description }
+    ∷ record { name = codes "timestamp"; kind = Cell; value = said.timestamp }
+    ∷ record { name = codes "default"; kind = Text; value = said.preferred }
+    ∷ []
+
+-- a fault of a payload
+abbrev pub fault_members : List ℕ → List ℕ → List Member
+fault_members code message = string_member (codes "fault") code ++ string_member (codes "message") message
+
+-- where a payload stands, in a file of so many bytes; of one that ends after the file that too
+abbrev pub outside : Bool → List Member
+outside true = fault_members (codes "F3") (codes "F3 data outside")
+outside false = []
+
+abbrev pub span_members : ℕ → Span → List Member
+span_members size place =
+    number_member (codes "offset") place.place ++ (number_member (codes "data-size") place.length ++ outside (nat_lt size (place.place + place.length)))
+
+-- the same of an image, or that it has no payload
+abbrev pub place_members : ℕ → Result Span FitFault → List Member
+place_members size (Ok place) = span_members size place
+place_members size (Err fault) = fault_members (codes "F2") (codes "F2 no data")
+
+abbrev pub hash_json : HashSaid → Json
+hash_json hash = object_of (facts_members (hash_facts hash))
+
+abbrev pub configuration_json : ConfigurationSaid → Json
+configuration_json configuration = object_of (facts_members (configuration_facts configuration))
+
+-- an image in a file of so many bytes, whose blob has a total size
+abbrev pub image_members : ℕ → ℕ → ImageSaid → List Member
+image_members size totalsize image =
+    facts_members (image_facts image) ++ (place_members size (place_said totalsize image.payload)
+    ++ (codes "hashes", array_of (map hash_json image.hashes)) ∷ [])
+
+abbrev pub image_json : ℕ → ℕ → ImageSaid → Json
+image_json size totalsize image = object_of (image_members size totalsize image)
+
+-- what is told of each image that is read
+abbrev pub head_members : List ℕ → ℕ → ℕ → List Member
+head_members path size totalsize =
+    string_member (codes "path") path ++ (number_member (codes "status") 0 ++ (string_member (codes "format") (codes "fit")
+    ++ (number_member (codes "size") size ++ number_member (codes "totalsize") totalsize)))
+
+-- the object of what a file of so many bytes says, that stands at a path
+abbrev pub fit_members : List ℕ → ℕ → Said → List Member
+fit_members path size said =
+    head_members path size said.totalsize ++ (facts_members (root_facts said)
+    ++ ((codes "images", array_of (map (image_json size said.totalsize) said.images))
+    ∷ (codes "configurations", array_of (map configuration_json said.configurations)) ∷ []))
+
+abbrev pub fit_json : List ℕ → ℕ → Said → Json
+fit_json path size said = object_of (fit_members path size said)
+
+-- the object of a file at a path, or its first fault
+abbrev pub info_of : List ℕ → List ℕ → Result Json Fault
+info_of path file = do
+  said ← survey_of file
+  Ok (fit_json path (length file) said)
+
+abbrev pub ok_of : Result Json Fault → Option Json
+ok_of (Ok j) = Some j
+ok_of (Err fault) = None

@@ -1,0 +1,49 @@
+-- The object of JSON that tells what the header of a legacy image says, and where its parts stand.
+use Rattle.std.specs.Prelude.{ℕ, List, [], ◌∷◌, ◌++◌, map, codes}
+use Rattle.json.specs.Json.{Json}
+use Rattle.uimg_texts.specs.Nul.{text}
+use Rattle.uimg_texts.specs.Numbers.{be32}
+use Rattle.uimg_base.specs.declared.spans.Span.{Span}
+use Rattle.uimg_names.specs.declared.field.Field.{Field}
+use Rattle.uimg_names.specs.declared.field.Field.TheVariants.{Architecture, System, Kind, Compression}
+use Rattle.uimg_names.specs.declared.naming.Naming.TheVariants.{Profile}
+use Rattle.uimg_names.specs.Naming.{code_text}
+use Rattle.uimg_legacy.specs.declared.header.Header.{Header}
+use Rattle.uimg_legacy.specs.Header.{spelled}
+use Rattle.uimg_info.specs.Members.{Member, object_of, array_of, string_member, number_member, text_members}
+
+-- what a code is called in a listing, and the code
+abbrev pub code_members : Field → List ℕ → List ℕ → ℕ → List Member
+code_members field name of_code code = string_member name (code_text Profile field code) ++ number_member of_code code
+
+abbrev pub numbers_members : Header → List Member
+numbers_members h =
+    number_member (codes "time") h.time ++ (number_member (codes "load") h.load ++ (number_member (codes "entry") h.ep
+    ++ (number_member (codes "header-crc") (be32 (spelled h) 4) ++ number_member (codes "data-crc") h.dcrc)))
+
+abbrev pub codes_members : Header → List Member
+codes_members h =
+    code_members System (codes "os") (codes "os-code") h.os
+    ++ (code_members Architecture (codes "arch") (codes "arch-code") h.arch
+    ++ (code_members Kind (codes "type") (codes "type-code") h.kind
+    ++ code_members Compression (codes "compression") (codes "compression-code") h.comp))
+
+-- what is told of the header behind its name
+abbrev pub header_members : Header → List Member
+header_members h = numbers_members h ++ (codes_members h ++ number_member (codes "data-size") h.size)
+
+abbrev pub part_json : Span → Json
+part_json part = object_of (number_member (codes "offset") part.place ++ number_member (codes "size") part.length)
+
+-- what is told of each image that is read
+abbrev pub legacy_head : List ℕ → ℕ → List Member
+legacy_head path size =
+    string_member (codes "path") path ++ (number_member (codes "status") 0 ++ (string_member (codes "format") (codes "legacy") ++ number_member (codes "size") size))
+
+-- the object of a file of so many bytes, that stands at a path and has this header and these parts
+abbrev pub legacy_members : List ℕ → ℕ → Header → List Span → List Member
+legacy_members path size h parts =
+    legacy_head path size ++ (text_members (codes "name") (text h.name) ++ (header_members h ++ (codes "parts", array_of (map part_json parts)) ∷ []))
+
+abbrev pub legacy_json : List ℕ → ℕ → Header → List Span → Json
+legacy_json path size h parts = object_of (legacy_members path size h parts)

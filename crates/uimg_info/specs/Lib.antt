@@ -1,0 +1,4 @@
+pub mod Fit
+pub mod Legacy
+pub mod Members
+pub mod Steps

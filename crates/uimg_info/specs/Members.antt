@@ -1,0 +1,123 @@
+-- Members of an object of JSON (RFC 8259), and what the values of properties are as such.
+use Rattle.std.specs.Prelude.{ℕ, List, [], ◌∷◌, ◌++◌, map, length, codes, decimal, Bool, true, false, nat_lt, ◌==◌, if◌then◌else◌, Option, Some, None}
+use Rattle.std.specs.Int.{from_be_bytes, w32, w64}
+use Rattle.std.specs.List.{flat_map, list_all}
+use Rattle.std.specs.Str.{is_utf8}
+use Rattle.std.specs.Str.Lossy.{utf8_lossy}
+use Rattle.base64.specs.Engines.{standard}
+use Rattle.base64.specs.GeneralPurpose.{encode_of}
+use Rattle.hex.specs.Hex.{encode_lower}
+use Rattle.json.specs.Json.{Json, object, array, string, number, Items, no_items, item, Members, no_members, member}
+use Rattle.json.specs.Token.{Token}
+use Rattle.json.specs.Tree.{json_tokens}
+use Rattle.uimg_texts.specs.Nul.{text}
+use Rattle.uimg_fit_reading.specs.Values.{pieces}
+use Rattle.uimg_info.specs.declared.kinds.Kind.{Kind}
+use Rattle.uimg_info.specs.declared.kinds.Kind.TheVariants.{Text, Texts, Digest, Cell, Address}
+
+-- a member: its name and its value
+abbrev pub Member : Type 0
+Member = List ℕ × Json
+
+-- the members of an object, in their order
+abbrev pub members_of : List Member → Members
+members_of [] = no_members
+members_of (m ∷ ms) = member m.0 m.1 (members_of ms)
+
+abbrev pub object_of : List Member → Json
+object_of ms = object (members_of ms)
+
+-- the items of an array, in their order
+abbrev pub items_of : List Json → Items
+items_of [] = no_items
+items_of (j ∷ js) = item j (items_of js)
+
+abbrev pub array_of : List Json → Json
+array_of js = array (items_of js)
+
+-- the tokens of members, without those of the object that has them
+abbrev pub member_tokens : Member → List Token
+member_tokens m = Token.key m.0 ∷ json_tokens m.1
+
+abbrev pub tokens_of : List Member → List Token
+tokens_of = flat_map member_tokens
+
+-- a string
+abbrev pub string_member : List ℕ → List ℕ → List Member
+string_member name s = (name, string s) ∷ []
+
+-- a number that is there
+abbrev pub number_member : List ℕ → ℕ → List Member
+number_member name n = (name, number (decimal n)) ∷ []
+
+abbrev pub number_if : List ℕ → Option ℕ → List Member
+number_if name None = []
+number_if name (Some n) = number_member name n
+
+-- a text: its bytes by base64 (RFC 4648, section 4), or as UTF-8, with U+FFFD in place of what is not
+abbrev pub spelled : Bool → List ℕ → Json
+spelled true t = string (encode_of standard t)
+spelled false t = string (utf8_lossy t)
+
+-- the name of the member beside, that has the bytes of what is not UTF-8
+abbrev pub of_bytes : List ℕ → List ℕ
+of_bytes name = name ++ codes "_base64"
+
+-- the member beside, where it is needed
+abbrev pub beside : Bool → List ℕ → Json → List Member
+beside true name bytes = []
+beside false name bytes = (of_bytes name, bytes) ∷ []
+
+abbrev pub text_members : List ℕ → List ℕ → List Member
+text_members name t = (name, spelled false t) ∷ beside (is_utf8 t) name (spelled true t)
+
+abbrev pub texts_members : List ℕ → List (List ℕ) → List Member
+texts_members name ts =
+    (name, array_of (map (spelled false) ts)) ∷ beside (list_all is_utf8 ts) name (array_of (map (spelled true) ts))
+
+-- the number of a cell
+unfoldable pub cell_number : List ℕ → Option ℕ
+cell_number value = if length value == 4 then Some (from_be_bytes w32 value) else None
+
+-- the number of an address of one cell or of two
+unfoldable pub address_number : List ℕ → Option ℕ
+address_number value =
+    if length value == 4 then Some (from_be_bytes w32 value)
+    else if length value == 8 then Some (from_be_bytes w64 value)
+    else None
+
+-- what a value is told as, by its kind
+abbrev pub told_as : Kind → List ℕ → List ℕ → List Member
+told_as Text name value = text_members name (text value)
+told_as Texts name value = texts_members name (pieces value)
+told_as Digest name value = (name, string (encode_lower value)) ∷ []
+told_as Cell name value = number_if name (cell_number value)
+told_as Address name value = number_if name (address_number value)
+
+-- the most bytes of a value that is told
+abbrev pub most : ℕ
+most = 65536
+
+-- what is told of a value of more bytes: how many these are, where it would not be a number
+abbrev pub length_of : Kind → List ℕ → ℕ → List Member
+length_of Text name n = number_member (name ++ codes "_length") n
+length_of Texts name n = number_member (name ++ codes "_length") n
+length_of Digest name n = number_member (name ++ codes "_length") n
+length_of Cell name n = []
+length_of Address name n = []
+
+-- what is told of a value that is there
+unfoldable pub value_members : Kind → List ℕ → List ℕ → List Member
+value_members kind name value = if nat_lt most (length value) then length_of kind name (length value) else told_as kind name value
+
+-- a fact: the name of its member, what its value is, and the value where it is there
+pub record Fact : Type 0 where
+  pub name : List ℕ
+  pub kind : Kind
+  pub value : Option (List ℕ)
+
+unfoldable pub fact_members : Fact → List Member
+fact_members fact = elim fact.value as (λ _. List Member) [ None ↦ [] | Some value ↦ value_members fact.kind fact.name value ]
+
+abbrev pub facts_members : List Fact → List Member
+facts_members = flat_map fact_members

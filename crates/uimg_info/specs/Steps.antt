@@ -1,0 +1,67 @@
+-- What the steps of writing an object do.
+use Rattle.std.specs.Prelude.{◌≡◌, ◌++◌, ℕ, ⊤, List, Bool, true, false, Result, Ok, Err, OnOk, IfErr, IsTrue, Option}
+use Rattle.std.specs.Borrow.{Bor}
+use Rattle.json.specs.Json.{Json}
+use Rattle.json.specs.Print.{print}
+use Rattle.json.specs.Token.{Token}
+use Rattle.json.specs.Tree.{json_tokens}
+use Rattle.json.specs.Written.{Written}
+use Rattle.uimg_base.specs.Device.{Device}
+use Rattle.uimg_base.specs.Using.{Uses}
+use Rattle.uimg_base.specs.declared.spans.Span.{Span}
+use Rattle.uimg_blob.specs.Faults.{refuses_memory}
+use Rattle.uimg_fit_base.specs.Files.{bytes_in}
+use Rattle.uimg_fit_base.specs.declared.fault.Fault.TheVariants as of
+use Rattle.uimg_fit_reading.specs.SurveyParts.{Ends, is_unread}
+use Rattle.uimg_fit_reading.specs.declared.surveying.fault.SurveyFault.{SurveyFault}
+use Rattle.uimg_fit_reading.specs.declared.surveying.fault.SurveyFault.TheVariants.{Stopped, OutOfMemory}
+use Rattle.uimg_info.specs.Fit.{info_of}
+use Rattle.uimg_info.specs.Members.{Fact}
+use Rattle.uimg_info.specs.declared.kinds.Kind.{Kind}
+
+-- Tokens were appended.
+pub record Appended (old new : Written) (tokens : List Token) : Type 0 where
+  pub tokens_now : new.tokens ≡ old.tokens ++ tokens
+  pub before : new.before ≡ old.before
+
+-- They were, unless memory was refused.
+abbrev pub Appends : {X E : Type 0} → Result X E → Written → Written → List Token → Type 0
+Appends result old new tokens = OnOk result (Appended old new tokens)
+
+-- a fault of a step itself: a read failed, or memory was refused
+abbrev pub is_own : SurveyFault → Bool
+is_own (Stopped of.Read) = true
+is_own OutOfMemory = true
+is_own _ = false
+
+abbrev pub IsOwn : {X : Type 0} → Result X SurveyFault → Type 0
+IsOwn result = IfErr result (λ fault. is_own fault ≡ true)
+
+-- A failure of the device was counted exactly where a read failed, and of an honest one the tokens were appended, unless the step
+-- failed.
+pub record Puts {X : Type 0} (result : Result X SurveyFault) (d e : Device) (old new : Written) (tokens : List Token) : Type 0 where
+  pub uses : Uses (is_unread result) d e
+  pub own : IsOwn result
+  pub before : OnOk result (new.before ≡ old.before)
+  pub told : IsTrue d.honest → Appends result old new tokens
+
+-- a fact as a row of the program's: the name of its member, what its value is, and where the value stands
+abbrev pub Row : Type 0
+Row = Bor (List ℕ) × Kind × Option Span
+
+-- Its value, if it is there, ends in a file of so many bytes.
+abbrev pub RowInside : ℕ → Row → Type 0
+RowInside size row = Ends size row.2
+
+-- the fact that a row tells of a file
+abbrev pub read_row : List ℕ → Row → Fact
+read_row file row = record { name = row.0.now; kind = row.1; value = bytes_in file row.2 }
+
+-- An answer is the text of the object of a file at a path, or the file's first fault, unless a read failed or memory was refused.
+abbrev pub Informs : {X : Type 0} → (X → List ℕ) → List ℕ → List ℕ → Result X SurveyFault → Type 0
+Informs view path file (Ok text) = (j : Json) × (info_of path file ≡ Ok j) × (view text ≡ print (json_tokens j))
+Informs view path file (Err (Stopped (of.Blob fault at))) = refuses_memory fault ≡ false → info_of path file ≡ Err (of.Blob fault at)
+Informs view path file (Err (Stopped (of.Fit fault))) = info_of path file ≡ Err (of.Fit fault)
+Informs view path file (Err (Stopped of.Read)) = ⊤
+Informs view path file (Err (Stopped of.Put)) = ⊥
+Informs view path file (Err OutOfMemory) = ⊤

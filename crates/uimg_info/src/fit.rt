@@ -1,0 +1,316 @@
+//! The object that tells what a FIT image says.
+
+ghost use Rattle.std.specs.Prelude.{◌≡◌, ◌+◌, ◌^◌, ◌<◌, ◌≤◌, length, map, IsTrue, IfOk};
+ghost use Rattle.std.specs.List.{All};
+ghost use Rattle.json.specs.Tree.{json_tokens};
+ghost use Rattle.uimg_base.specs.Using.{Uses};
+ghost use Rattle.uimg_fit_reading.specs.Survey.{read_hash, read_payload, read_image, read_configuration, read_survey, place_said};
+ghost use Rattle.uimg_fit_reading.specs.SurveyParts.{HashInside, PayloadInside, ImageInside, ConfigurationInside, SurveyInside, is_unread};
+ghost use Rattle.uimg_info.specs.Fit.{fault_members, span_members, place_members, image_facts, root_facts, hash_json, image_json, configuration_json, head_members, fit_json};
+ghost use Rattle.uimg_info.specs.Members.{object_of, array_of, tokens_of, facts_members};
+ghost use Rattle.uimg_info.specs.Steps.{Appends, IsOwn, Puts, RowInside, read_row};
+
+use crate::facts::{Row, put_rows};
+use crate::kinds::Kind::{Address, Cell, Digest, Text, Texts};
+use crate::members::{put_number, put_string};
+use json::Writer;
+use std::alloc::{AllocError, Global};
+use uimg_base::{Source, Span};
+use uimg_fit_base::{Fault, FitFault};
+use uimg_fit_reading::{
+    ConfigurationFacts, HashFacts, ImageFacts, PayloadFacts, Survey, SurveyFault, find_payload,
+};
+
+// Writes the object of some facts.
+fn put_object<S: Source>(
+    alloc: Global,
+    source: &mut S,
+    writer: &mut Writer,
+    rows: &[Row<'_>],
+) -> Result<(), SurveyFault>
+    requires { All (RowInside (length (S.device source.old).bytes)) rows.now }
+    ensures { Puts result (S.device source.old) (S.device source.new) writer.old writer.new
+        (json_tokens (object_of
+        (facts_members (map (read_row (S.device source.old).bytes) rows.now)))) }
+{
+    writer.begin_object()?;
+    put_rows(alloc, source, writer, rows)?;
+    writer.end_object()?;
+    Ok(())
+}
+
+// Writes a hash node.
+fn put_hash<S: Source>(
+    alloc: Global,
+    source: &mut S,
+    writer: &mut Writer,
+    facts: &HashFacts,
+) -> Result<(), SurveyFault>
+    requires { HashInside (length (S.device source.old).bytes) facts.now }
+    ensures { Puts result (S.device source.old) (S.device source.new) writer.old writer.new
+        (json_tokens (hash_json (read_hash (S.device source.old).bytes facts.now))) }
+{
+    let rows = [
+        ("name", Text, Some(facts.name)),
+        ("algo", Text, facts.algo),
+        ("value", Digest, facts.value),
+    ];
+    put_object(alloc, source, writer, &rows)
+}
+
+// Writes the array of the hash nodes.
+fn put_hashes<S: Source>(
+    alloc: Global,
+    source: &mut S,
+    writer: &mut Writer,
+    hashes: &[HashFacts],
+) -> Result<(), SurveyFault>
+    requires { All (HashInside (length (S.device source.old).bytes)) hashes.now }
+    ensures { Puts result (S.device source.old) (S.device source.new) writer.old writer.new
+        (json_tokens (array_of
+        (map hash_json (map (read_hash (S.device source.old).bytes) hashes.now)))) }
+{
+    writer.begin_array()?;
+    for hash in hashes {
+        put_hash(alloc, source, writer, hash)?;
+    }
+    writer.end_array()?;
+    Ok(())
+}
+
+// Writes a fault of a payload.
+fn put_fault(writer: &mut Writer, code: &str, message: &str) -> Result<(), AllocError>
+    ensures { Appends result writer.old writer.new
+        (tokens_of (fault_members code.now message.now)) }
+{
+    put_string(writer, "fault", code)?;
+    put_string(writer, "message", message)?;
+    Ok(())
+}
+
+// Writes where a payload stands in a file of so many bytes.
+fn put_span(writer: &mut Writer, size: u64, place: Span) -> Result<(), AllocError>
+    requires { place.place + place.length < 2 ^ 64 }
+    ensures { Appends result writer.old writer.new (tokens_of (span_members size place)) }
+{
+    put_number(writer, "offset", place.place)?;
+    put_number(writer, "data-size", place.length)?;
+    if place.place + place.length <= size {
+        return Ok(());
+    }
+    put_fault(writer, "F3", "F3 data outside")?;
+    Ok(())
+}
+
+// Writes where a payload stands in a file of so many bytes, or that there is none.
+fn put_place(
+    writer: &mut Writer,
+    size: u64,
+    found: Result<Span, FitFault>,
+) -> Result<(), AllocError>
+    requires { IfOk found (λ p. p.place + p.length < 2 ^ 64) }
+    ensures { Appends result writer.old writer.new (tokens_of (place_members size found)) }
+{
+    match found {
+        Ok(place) => put_span(writer, size, place),
+        Err(_) => put_fault(writer, "F2", "F2 no data"),
+    }
+}
+
+// Writes what an image says, but for its payload and its hash nodes.
+fn put_image_rows<S: Source>(
+    alloc: Global,
+    source: &mut S,
+    writer: &mut Writer,
+    facts: &ImageFacts,
+) -> Result<(), SurveyFault>
+    requires { ImageInside (length (S.device source.old).bytes) facts.now }
+    ensures { Puts result (S.device source.old) (S.device source.new) writer.old writer.new
+        (tokens_of (facts_members (image_facts (read_image (S.device source.old).bytes facts.now)))) }
+{
+    let rows = [
+        ("name", Text, Some(facts.name)),
+        ("description", Text, facts.description),
+        ("type", Text, facts.kind),
+        ("arch", Text, facts.arch),
+        ("os", Text, facts.os),
+        ("compression", Text, facts.compression),
+        ("load", Address, facts.load),
+        ("entry", Address, facts.entry),
+    ];
+    put_rows(alloc, source, writer, &rows)
+}
+
+// Where the payload of an image stands, or that it has none.
+fn place_of<S: Source>(
+    source: &mut S,
+    totalsize: u32,
+    facts: &PayloadFacts,
+) -> Result<Result<Span, FitFault>, SurveyFault>
+    requires values { PayloadInside totalsize facts.now }
+    requires blob { totalsize ≤ length (S.device source.old).bytes }
+    ensures uses { Uses (is_unread result) (S.device source.old) (S.device source.new) }
+    ensures own { IsOwn result }
+    ensures small { IfOk result (λ found. IfOk found (λ p. p.place + p.length < 2 ^ 64)) }
+    ensures place { IsTrue (S.device source.old).honest → IfOk result (λ found.
+        found ≡ place_said totalsize (read_payload (S.device source.old).bytes facts.now)) }
+{
+    match find_payload(source, totalsize, facts) {
+        Ok(found) => Ok(found),
+        Err(_) => Err(SurveyFault::Stopped(Fault::Read)),
+    }
+}
+
+// Writes an image of a file of so many bytes, whose blob has a total size.
+fn put_image<S: Source>(
+    alloc: Global,
+    source: &mut S,
+    writer: &mut Writer,
+    size: u64,
+    totalsize: u32,
+    facts: &ImageFacts,
+) -> Result<(), SurveyFault>
+    requires inside { ImageInside totalsize facts.now }
+    requires blob { totalsize ≤ length (S.device source.old).bytes }
+    ensures { Puts result (S.device source.old) (S.device source.new) writer.old writer.new
+        (json_tokens (image_json size totalsize (read_image (S.device source.old).bytes facts.now))) }
+{
+    writer.begin_object()?;
+    put_image_rows(alloc, source, writer, facts)?;
+    let place = place_of(source, totalsize, &facts.payload)?;
+    put_place(writer, size, place)?;
+    writer.key("hashes")?;
+    put_hashes(alloc, source, writer, facts.hashes.as_slice())?;
+    writer.end_object()?;
+    Ok(())
+}
+
+// Writes the array of the images.
+fn put_images<S: Source>(
+    alloc: Global,
+    source: &mut S,
+    writer: &mut Writer,
+    size: u64,
+    totalsize: u32,
+    images: &[ImageFacts],
+) -> Result<(), SurveyFault>
+    requires inside { All (ImageInside totalsize) images.now }
+    requires blob { totalsize ≤ length (S.device source.old).bytes }
+    ensures { Puts result (S.device source.old) (S.device source.new) writer.old writer.new
+        (json_tokens (array_of (map (image_json size totalsize)
+        (map (read_image (S.device source.old).bytes) images.now)))) }
+{
+    writer.begin_array()?;
+    for image in images {
+        put_image(alloc, source, writer, size, totalsize, image)?;
+    }
+    writer.end_array()?;
+    Ok(())
+}
+
+// Writes a configuration.
+fn put_configuration<S: Source>(
+    alloc: Global,
+    source: &mut S,
+    writer: &mut Writer,
+    facts: &ConfigurationFacts,
+) -> Result<(), SurveyFault>
+    requires { ConfigurationInside (length (S.device source.old).bytes) facts.now }
+    ensures { Puts result (S.device source.old) (S.device source.new) writer.old writer.new
+        (json_tokens (configuration_json
+        (read_configuration (S.device source.old).bytes facts.now))) }
+{
+    let rows = [
+        ("name", Text, Some(facts.name)),
+        ("description", Text, facts.description),
+        ("kernel", Text, facts.kernel),
+        ("ramdisk", Text, facts.ramdisk),
+        ("fdt", Texts, facts.fdt),
+        ("loadables", Texts, facts.loadables),
+    ];
+    put_object(alloc, source, writer, &rows)
+}
+
+// Writes the array of the configurations.
+fn put_configurations<S: Source>(
+    alloc: Global,
+    source: &mut S,
+    writer: &mut Writer,
+    configurations: &[ConfigurationFacts],
+) -> Result<(), SurveyFault>
+    requires { All (ConfigurationInside (length (S.device source.old).bytes)) configurations.now }
+    ensures { Puts result (S.device source.old) (S.device source.new) writer.old writer.new
+        (json_tokens (array_of (map configuration_json
+        (map (read_configuration (S.device source.old).bytes) configurations.now)))) }
+{
+    writer.begin_array()?;
+    for configuration in configurations {
+        put_configuration(alloc, source, writer, configuration)?;
+    }
+    writer.end_array()?;
+    Ok(())
+}
+
+// Writes what is told of each image.
+fn put_head(writer: &mut Writer, path: &str, size: u64, totalsize: u32) -> Result<(), AllocError>
+    ensures { Appends result writer.old writer.new
+        (tokens_of (head_members path.now size totalsize)) }
+{
+    put_string(writer, "path", path)?;
+    put_number(writer, "status", 0)?;
+    put_string(writer, "format", "fit")?;
+    put_number(writer, "size", size)?;
+    put_number(writer, "totalsize", totalsize as u64)?;
+    Ok(())
+}
+
+// Writes what the root says, and which configuration is the default.
+fn put_root<S: Source>(
+    alloc: Global,
+    source: &mut S,
+    writer: &mut Writer,
+    survey: &Survey,
+) -> Result<(), SurveyFault>
+    requires { SurveyInside (length (S.device source.old).bytes) survey.now }
+    ensures { Puts result (S.device source.old) (S.device source.new) writer.old writer.new
+        (tokens_of (facts_members (root_facts (read_survey (S.device source.old).bytes survey.now)))) }
+{
+    let rows = [
+        ("description", Text, survey.description),
+        ("timestamp", Cell, survey.timestamp),
+        ("default", Text, survey.preferred),
+    ];
+    put_rows(alloc, source, writer, &rows)
+}
+
+/// Writes the object of what a file of so many bytes says.
+pub(crate) fn put_fit<S: Source>(
+    alloc: Global,
+    source: &mut S,
+    writer: &mut Writer,
+    path: &str,
+    size: u64,
+    survey: &Survey,
+) -> Result<(), SurveyFault>
+    requires { SurveyInside (length (S.device source.old).bytes) survey.now }
+    ensures { Puts result (S.device source.old) (S.device source.new) writer.old writer.new
+        (json_tokens (fit_json path.now size
+        (read_survey (S.device source.old).bytes survey.now))) }
+{
+    writer.begin_object()?;
+    put_head(writer, path, size, survey.totalsize)?;
+    put_root(alloc, source, writer, survey)?;
+    writer.key("images")?;
+    put_images(
+        alloc,
+        source,
+        writer,
+        size,
+        survey.totalsize,
+        survey.images.as_slice(),
+    )?;
+    writer.key("configurations")?;
+    put_configurations(alloc, source, writer, survey.configurations.as_slice())?;
+    writer.end_object()?;
+    Ok(())
+}

@@ -1,0 +1,168 @@
+//! The object that tells what a legacy image says.
+
+ghost use Rattle.std.specs.Prelude.{◌≡◌, codes, map, true, IfOk, Some};
+ghost use Rattle.std.specs.Str.{IsUtf8};
+ghost use Rattle.json.specs.Json.{document};
+ghost use Rattle.json.specs.Print.{print};
+ghost use Rattle.json.specs.Tree.{json_tokens};
+ghost use Rattle.uimg_json.specs.Objects.{is_one_line};
+ghost use Rattle.uimg_texts.specs.Numbers.{be32};
+ghost use Rattle.uimg_legacy.specs.Header.{spelled};
+ghost use Rattle.uimg_info.specs.Legacy.{code_members, numbers_members, codes_members, header_members, part_json, legacy_head, legacy_json};
+ghost use Rattle.uimg_info.specs.Members.{array_of, number_member, tokens_of};
+ghost use Rattle.uimg_info.specs.Steps.{Appends};
+
+use crate::members::{put_number, put_string, put_text};
+use json::Writer;
+use std::alloc::{AllocError, Global};
+use uimg_base::{Span, before_nul, number_at};
+use uimg_legacy::{Header, header_bytes};
+use uimg_names::{Field, Naming};
+
+// Writes what a code is called in a listing, and the code.
+fn put_code(
+    writer: &mut Writer,
+    field: Field,
+    name: &str,
+    of_code: &str,
+    code: u8,
+) -> Result<(), AllocError>
+    ensures { Appends result writer.old writer.new
+        (tokens_of (code_members field name.now of_code.now code)) }
+{
+    put_string(writer, name, Naming::Profile.code_text(field, code))?;
+    put_number(writer, of_code, code as u64)?;
+    Ok(())
+}
+
+// Writes the checksum of a header.
+fn put_crc(writer: &mut Writer, header: &Header) -> Result<(), AllocError>
+    ensures { Appends result writer.old writer.new
+        (tokens_of (number_member (codes "header-crc") (be32 (spelled header.now) 4))) }
+{
+    let crc = number_at(&header_bytes(header), 4);
+    put_number(writer, "header-crc", crc as u64)
+}
+
+// Writes the numbers of a header.
+fn put_numbers(writer: &mut Writer, header: &Header) -> Result<(), AllocError>
+    ensures { Appends result writer.old writer.new (tokens_of (numbers_members header.now)) }
+{
+    put_number(writer, "time", header.time as u64)?;
+    put_number(writer, "load", header.load as u64)?;
+    put_number(writer, "entry", header.ep as u64)?;
+    put_crc(writer, header)?;
+    put_number(writer, "data-crc", header.dcrc as u64)?;
+    Ok(())
+}
+
+// Writes the codes of a header.
+fn put_codes(writer: &mut Writer, header: &Header) -> Result<(), AllocError>
+    ensures { Appends result writer.old writer.new (tokens_of (codes_members header.now)) }
+{
+    put_code(writer, Field::System, "os", "os-code", header.os)?;
+    put_code(
+        writer,
+        Field::Architecture,
+        "arch",
+        "arch-code",
+        header.arch,
+    )?;
+    put_code(writer, Field::Kind, "type", "type-code", header.kind)?;
+    put_code(
+        writer,
+        Field::Compression,
+        "compression",
+        "compression-code",
+        header.comp,
+    )?;
+    Ok(())
+}
+
+// Writes what is told of a header behind its name.
+fn put_header(writer: &mut Writer, header: &Header) -> Result<(), AllocError>
+    ensures { Appends result writer.old writer.new (tokens_of (header_members header.now)) }
+{
+    put_numbers(writer, header)?;
+    put_codes(writer, header)?;
+    put_number(writer, "data-size", header.size as u64)?;
+    Ok(())
+}
+
+// Writes where a part stands.
+fn put_part(writer: &mut Writer, part: Span) -> Result<(), AllocError>
+    ensures { Appends result writer.old writer.new (json_tokens (part_json part)) }
+{
+    writer.begin_object()?;
+    put_number(writer, "offset", part.place)?;
+    put_number(writer, "size", part.length)?;
+    writer.end_object()?;
+    Ok(())
+}
+
+// Writes the array of the parts.
+fn put_parts(writer: &mut Writer, parts: &[Span]) -> Result<(), AllocError>
+    ensures { Appends result writer.old writer.new
+        (json_tokens (array_of (map part_json parts.now))) }
+{
+    writer.begin_array()?;
+    for part in parts {
+        put_part(writer, *part)?;
+    }
+    writer.end_array()?;
+    Ok(())
+}
+
+// Writes what is told of each image that is read.
+fn put_head(writer: &mut Writer, path: &str, size: u64) -> Result<(), AllocError>
+    ensures { Appends result writer.old writer.new (tokens_of (legacy_head path.now size)) }
+{
+    put_string(writer, "path", path)?;
+    put_number(writer, "status", 0)?;
+    put_string(writer, "format", "legacy")?;
+    put_number(writer, "size", size)?;
+    Ok(())
+}
+
+// Writes the object of a legacy image.
+fn put_legacy(
+    alloc: Global,
+    writer: &mut Writer,
+    path: &str,
+    size: u64,
+    header: &Header,
+    parts: &[Span],
+) -> Result<(), AllocError>
+    ensures { Appends result writer.old writer.new
+        (json_tokens (legacy_json path.now size header.now parts.now)) }
+{
+    writer.begin_object()?;
+    put_head(writer, path, size)?;
+    put_text(alloc, writer, "name", before_nul(&header.name))?;
+    put_header(writer, header)?;
+    writer.key("parts")?;
+    put_parts(writer, parts)?;
+    writer.end_object()?;
+    Ok(())
+}
+
+/// The text of the object that tells what the header of a legacy image says, of a file of so many bytes
+/// at a path, and where its parts stand. It is one line, without its end.
+pub fn legacy_text(
+    alloc: Global,
+    path: &str,
+    size: u64,
+    header: &Header,
+    parts: &[Span],
+) -> Result<Vec<u8>, AllocError>
+    ensures text { IfOk result (λ text. text.items
+        ≡ print (json_tokens (legacy_json path.now size header.now parts.now))) }
+    ensures reads_back { IfOk result (λ text. document text.items
+        ≡ Some (legacy_json path.now size header.now parts.now)) }
+    ensures utf8 { IfOk result (λ text. IsUtf8 text.items) }
+    ensures one_line { IfOk result (λ text. is_one_line text.items ≡ true) }
+{
+    let mut writer = Writer::new(Vec::new(alloc));
+    put_legacy(alloc, &mut writer, path, size, header, parts)?;
+    Ok(writer.into_inner())
+}

@@ -1,0 +1,260 @@
+//! Members of objects, by the kinds of values that properties have.
+
+ghost use Rattle.std.specs.Prelude.{◌≡◌, ◌<◌, ◌++◌, [], ◌∷◌, length, map, Bool, true, false};
+ghost use Rattle.std.specs.List.{list_all};
+ghost use Rattle.std.specs.Str.{is_utf8};
+ghost use Rattle.json.specs.Token.{Token};
+ghost use Rattle.json.specs.Tree.{json_tokens};
+ghost use Rattle.uimg_fit_reading.specs.Values.{pieces};
+ghost use Rattle.uimg_info.specs.Members.{spelled, array_of, of_bytes, tokens_of, string_member, number_member, number_if, text_members, texts_members, told_as, length_of, cell_number, address_number};
+ghost use Rattle.uimg_info.specs.Steps.{Appends};
+
+use crate::kinds::Kind;
+use base64::engine::general_purpose::STANDARD;
+use byteorder::{BigEndian, ByteOrder};
+use json::Writer;
+use std::alloc::{AllocError, Global};
+use uimg_base::{before_nul, first_nul};
+use uimg_json::spell;
+
+// Writes the key of a name that another word ends.
+fn put_key(alloc: Global, writer: &mut Writer, name: &str, end: &str) -> Result<(), AllocError>
+    ensures { Appends result writer.old writer.new (Token.key (name.now ++ end.now) ∷ []) }
+{
+    let mut key = String::from_str(alloc, name)?;
+    key.push_str(end)?;
+    writer.key(key.as_str())?;
+    Ok(())
+}
+
+/// Writes a string.
+pub(crate) fn put_string(writer: &mut Writer, name: &str, text: &str) -> Result<(), AllocError>
+    ensures { Appends result writer.old writer.new (tokens_of (string_member name.now text.now)) }
+{
+    writer.key(name)?;
+    writer.string(text)?;
+    Ok(())
+}
+
+/// Writes a number.
+pub(crate) fn put_number(writer: &mut Writer, name: &str, number: u64) -> Result<(), AllocError>
+    ensures { Appends result writer.old writer.new (tokens_of (number_member name.now number)) }
+{
+    writer.key(name)?;
+    writer.u64(number)?;
+    Ok(())
+}
+
+// Writes a number that may be missing.
+fn put_number_if(writer: &mut Writer, name: &str, number: Option<u64>) -> Result<(), AllocError>
+    ensures { Appends result writer.old writer.new (tokens_of (number_if name.now number)) }
+{
+    match number {
+        Some(number) => put_number(writer, name, number),
+        None => Ok(()),
+    }
+}
+
+// Writes the bytes of what is not UTF-8, by base64.
+fn put_base64(
+    alloc: Global,
+    writer: &mut Writer,
+    name: &str,
+    base64: &str,
+) -> Result<(), AllocError>
+    ensures { Appends result writer.old writer.new
+        (tokens_of (string_member (of_bytes name.now) base64.now)) }
+{
+    put_key(alloc, writer, name, "_base64")?;
+    writer.string(base64)?;
+    Ok(())
+}
+
+/// Writes a text, with its bytes beside it where it is not UTF-8.
+pub(crate) fn put_text(
+    alloc: Global,
+    writer: &mut Writer,
+    name: &str,
+    text: &[u8],
+) -> Result<(), AllocError>
+    ensures { Appends result writer.old writer.new (tokens_of (text_members name.now text.now)) }
+{
+    let spelled = spell(alloc, text)?;
+    put_string(writer, name, spelled.text.as_str())?;
+    match &spelled.base64 {
+        Some(base64) => {
+            put_base64(alloc, writer, name, base64.as_str())?;
+            Ok(())
+        }
+        None => Ok(()),
+    }
+}
+
+// The bytes before the first NUL, and those behind it.
+fn cut(bytes: &[u8]) -> (&[u8], &[u8])
+    requires { 0 < length bytes.now }
+    ensures pieces { pieces bytes.now ≡ result.0.now ∷ pieces result.1.now }
+    ensures fewer { length result.1.now < length bytes.now }
+{
+    match first_nul(bytes) {
+        Some(end) => (&bytes[..end], &bytes[end + 1..]),
+        None => (bytes, &bytes[bytes.len()..]),
+    }
+}
+
+// Whether bytes are UTF-8.
+fn is_utf8(bytes: &[u8]) -> bool
+    ensures { result ≡ is_utf8 bytes.now }
+{
+    match str::from_utf8(bytes) {
+        Ok(_) => true,
+        Err(_) => false,
+    }
+}
+
+// Whether each of some texts is UTF-8.
+fn are_utf8(bytes: &[u8]) -> bool
+    ensures { result ≡ list_all is_utf8 (pieces bytes.now) }
+{
+    let mut rest = bytes;
+    while !rest.is_empty() {
+        let (piece, behind) = cut(rest);
+        if !is_utf8(piece) {
+            return false;
+        }
+        rest = behind;
+    }
+    true
+}
+
+// Writes a text as a value, or its bytes.
+fn put_piece(
+    alloc: Global,
+    writer: &mut Writer,
+    piece: &[u8],
+    as_bytes: bool,
+) -> Result<(), AllocError>
+    ensures { Appends result writer.old writer.new (json_tokens (spelled as_bytes piece.now)) }
+{
+    let text = if as_bytes {
+        STANDARD.encode(alloc, piece)?
+    } else {
+        String::from_utf8_lossy(alloc, piece)?
+    };
+    writer.string(text.as_str())?;
+    Ok(())
+}
+
+// Writes the array of some texts, or of their bytes.
+fn put_pieces(
+    alloc: Global,
+    writer: &mut Writer,
+    bytes: &[u8],
+    as_bytes: bool,
+) -> Result<(), AllocError>
+    ensures { Appends result writer.old writer.new
+        (json_tokens (array_of (map (spelled as_bytes) (pieces bytes.now)))) }
+{
+    writer.begin_array()?;
+    let mut rest = bytes;
+    while !rest.is_empty() {
+        let (piece, behind) = cut(rest);
+        put_piece(alloc, writer, piece, as_bytes)?;
+        rest = behind;
+    }
+    writer.end_array()?;
+    Ok(())
+}
+
+// Writes texts, with their bytes beside them where one is not UTF-8.
+fn put_texts(alloc: Global, writer: &mut Writer, name: &str, bytes: &[u8]) -> Result<(), AllocError>
+    ensures { Appends result writer.old writer.new
+        (tokens_of (texts_members name.now (pieces bytes.now))) }
+{
+    writer.key(name)?;
+    put_pieces(alloc, writer, bytes, false)?;
+    if are_utf8(bytes) {
+        return Ok(());
+    }
+    put_key(alloc, writer, name, "_base64")?;
+    put_pieces(alloc, writer, bytes, true)?;
+    Ok(())
+}
+
+// Writes bytes in hexadecimal.
+fn put_digest(
+    alloc: Global,
+    writer: &mut Writer,
+    name: &str,
+    value: &[u8],
+) -> Result<(), AllocError>
+    ensures { Appends result writer.old writer.new
+        (tokens_of (told_as Kind.Digest name.now value.now)) }
+{
+    let digits = hex::encode(alloc, value)?;
+    writer.key(name)?;
+    writer.string(digits.as_str())?;
+    Ok(())
+}
+
+// The number of a cell.
+#[tactic(auto, unfolding(crate::specs::Members::cell_number))]
+fn cell_number(value: &[u8]) -> Option<u64>
+    ensures { result ≡ cell_number value.now }
+{
+    if value.len() == 4 {
+        return Some(BigEndian::read_u32(value) as u64);
+    }
+    None
+}
+
+// The number of an address of one cell or of two.
+#[tactic(auto, unfolding(crate::specs::Members::address_number))]
+fn address_number(value: &[u8]) -> Option<u64>
+    ensures { result ≡ address_number value.now }
+{
+    if value.len() == 4 {
+        return Some(BigEndian::read_u32(value) as u64);
+    }
+    if value.len() == 8 {
+        return Some(BigEndian::read_u64(value));
+    }
+    None
+}
+
+/// Writes a value as a member, by its kind.
+pub(crate) fn put_value(
+    alloc: Global,
+    writer: &mut Writer,
+    kind: Kind,
+    name: &str,
+    value: &[u8],
+) -> Result<(), AllocError>
+    ensures { Appends result writer.old writer.new (tokens_of (told_as kind name.now value.now)) }
+{
+    match kind {
+        Kind::Text => put_text(alloc, writer, name, before_nul(value)),
+        Kind::Texts => put_texts(alloc, writer, name, value),
+        Kind::Digest => put_digest(alloc, writer, name, value),
+        Kind::Cell => put_number_if(writer, name, cell_number(value)),
+        Kind::Address => put_number_if(writer, name, address_number(value)),
+    }
+}
+
+/// Writes how many bytes a value has that is too long to be told, unless it would be a number.
+pub(crate) fn put_length(
+    alloc: Global,
+    writer: &mut Writer,
+    kind: Kind,
+    name: &str,
+    length: u64,
+) -> Result<(), AllocError>
+    ensures { Appends result writer.old writer.new (tokens_of (length_of kind name.now length)) }
+{
+    if matches!(kind, Kind::Cell | Kind::Address) {
+        return Ok(());
+    }
+    put_key(alloc, writer, name, "_length")?;
+    writer.u64(length)?;
+    Ok(())
+}

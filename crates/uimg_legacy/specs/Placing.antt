@@ -1,0 +1,55 @@
+-- Where all parts of an image stand in its file.
+use Rattle.std.specs.Prelude.{◌≡◌, ℕ, zero, suc, ◌+◌, ⊤, List, [], ◌∷◌, ◌++◌, length, slice_index, nat_lt, if◌then◌else◌, Result, Ok, Err, Bool, true, false}
+use Rattle.uimg_base.specs.Results.{◌>>=◌}
+use Rattle.uimg_base.specs.declared.spans.Span.{Span}
+use Rattle.uimg_legacy.specs.declared.fault.LegacyFault.{LegacyFault}
+use Rattle.uimg_legacy.specs.declared.fault.LegacyFault.TheVariants.{PartOutside, Truncated}
+use Rattle.uimg_legacy.specs.declared.fault.Fault.TheVariants as of
+use Rattle.uimg_legacy.specs.declared.header.Header.{Header}
+use Rattle.uimg_legacy.specs.declared.placing.PartsFault.{PartsFault}
+use Rattle.uimg_legacy.specs.declared.placing.PartsFault.TheVariants.{Stopped, OutOfMemory}
+use Rattle.uimg_legacy.specs.Image.{payload}
+use Rattle.uimg_legacy.specs.Parts.{has_parts, part_sizes, start, is_outside}
+
+-- the place of the part of a number: its start, counted from the file's beginning
+abbrev pub place_of : List ℕ → ℕ → Span
+place_of table i = record { place = 64 + start table i; length = slice_index table i }
+
+-- a place before those behind it
+abbrev pub before : List Span → Result (List Span) LegacyFault → Result (List Span) LegacyFault
+before ps (Ok qs) = Ok (ps ++ qs)
+before ps (Err fault) = Err fault
+
+-- a place, unless the part ends after the data
+abbrev pub place_step : Bool → Span → Result (List Span) LegacyFault → Result (List Span) LegacyFault
+place_step true p rest = Err PartOutside
+place_step false p rest = before (p ∷ []) rest
+
+-- the places of so many parts from one on, unless one of them ends after the data
+unfoldable pub places : List ℕ → List ℕ → ℕ → ℕ → Result (List Span) LegacyFault
+places payload table zero i = Ok []
+places payload table (suc n) i = place_step (is_outside payload table i) (place_of table i) (places payload table n (i + 1))
+
+-- of a type that has parts those of its table, of another its data
+abbrev pub places_in : Bool → List ℕ → ℕ → Result (List Span) LegacyFault
+places_in true payload size = do
+  table ← part_sizes payload
+  places payload table (length table) 0
+places_in false payload size = Ok (record { place = 64; length = size } ∷ [])
+
+-- of an image with this header, if its data are there
+unfoldable pub places_of : List ℕ → Header → Result (List Span) LegacyFault
+places_of image h = if nat_lt (length image) (64 + h.size) then Err Truncated else places_in (has_parts h.kind) (payload image h) h.size
+
+-- the answer is that a read failed
+abbrev pub is_unread : {X : Type 0} → Result X PartsFault → Bool
+is_unread (Err (Stopped of.Read)) = true
+is_unread _ = false
+
+-- An answer is the places or the fault of a definition, unless a read failed or memory was refused.
+abbrev pub GivesPlaces : {X : Type 0} → (X → List Span) → Result X PartsFault → Result (List Span) LegacyFault → Type 0
+GivesPlaces view (Ok x) r = r ≡ Ok (view x)
+GivesPlaces view (Err (Stopped (of.Legacy fault))) r = r ≡ Err fault
+GivesPlaces view (Err (Stopped of.Read)) r = ⊤
+GivesPlaces view (Err (Stopped of.Put)) r = ⊥
+GivesPlaces view (Err OutOfMemory) r = ⊤

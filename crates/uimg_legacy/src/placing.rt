@@ -1,0 +1,141 @@
+//! Where all parts of an image stand.
+
+ghost use Rattle.std.specs.Prelude.{◌≡◌, ◌+◌, ◌*◌, ◌≤◌, [], ◌∷◌, ◌++◌, length, IsTrue, IfOk, OnOk};
+ghost use Rattle.uimg_texts.specs.Slices.{slice};
+ghost use Rattle.uimg_base.specs.Using.{Asks, UsesAtMost};
+ghost use Rattle.uimg_legacy.specs.Parts.{sizes};
+ghost use Rattle.uimg_legacy.specs.Placing.{places, places_of, is_unread, GivesPlaces};
+ghost use Rattle.uimg_legacy.specs.Work.{table_work};
+
+use crate::fault::{Fault, LegacyFault};
+use crate::header::Header;
+use crate::parts::{count_sizes, has_parts, size_at};
+use std::alloc::{AllocError, Allocator, Global};
+use thiserror::Error;
+use uimg_base::{Room, Source, SourceFault, Span, up4};
+
+/// Why the parts of an image are not told. Its text is the line that the program prints.
+#[derive(Clone, Copy, Debug, PartialEq, Eq, Error)]
+pub enum PartsFault {
+    /// The image is refused, or a read failed.
+    #[error("{0}")]
+    Stopped(Fault),
+    /// Memory for the places was refused.
+    #[error("out of memory")]
+    OutOfMemory,
+}
+
+impl From<Fault> for PartsFault {
+    ghost use Rattle.std.specs.Prelude.{◌≡◌};
+    ghost use Rattle.uimg_legacy.specs.declared.placing.PartsFault.TheVariants.{Stopped};
+
+    ghost from_gives = { λ f e. e ≡ Stopped f };
+
+    fn from(fault: Fault) -> PartsFault {
+        PartsFault::Stopped(fault)
+    }
+}
+
+impl From<SourceFault> for PartsFault {
+    ghost use Rattle.std.specs.Prelude.{◌≡◌};
+    ghost use Rattle.uimg_legacy.specs.declared.fault.Fault.TheVariants.{Read};
+    ghost use Rattle.uimg_legacy.specs.declared.placing.PartsFault.TheVariants.{Stopped};
+
+    ghost from_gives = { λ _ e. e ≡ Stopped Read };
+
+    fn from(_fault: SourceFault) -> PartsFault {
+        PartsFault::Stopped(Fault::Read)
+    }
+}
+
+impl From<AllocError> for PartsFault {
+    ghost use Rattle.std.specs.Prelude.{◌≡◌};
+    ghost use Rattle.uimg_legacy.specs.declared.placing.PartsFault.TheVariants.{OutOfMemory};
+
+    ghost from_gives = { λ _ e. e ≡ OutOfMemory };
+
+    fn from(_fault: AllocError) -> PartsFault {
+        PartsFault::OutOfMemory
+    }
+}
+
+// Appends where a part stands.
+fn push_part(parts: &mut Vec<Span>, part: Span) -> Result<(), AllocError>
+    ensures { OnOk result (parts.new.items ≡ parts.old.items ++ part ∷ []) }
+{
+    parts.push(part)?;
+    Ok(())
+}
+
+// Where the parts of a table of so many sizes stand, up to the first that ends after the data.
+fn place_parts<S: Source>(
+    alloc: Global,
+    source: &mut S,
+    size: u32,
+    count: u32,
+) -> Result<Vec<Span>, PartsFault>
+    requires data { 64 + size ≤ length (S.device source.old).bytes }
+    requires table { 4 * (count + 1) ≤ size }
+    ensures uses { Asks (4 * count) (is_unread result) (S.device source.old) (S.device source.new) }
+    ensures told { IsTrue (S.device source.old).honest →
+        count ≡ length (sizes (slice (S.device source.old).bytes 64 size)) →
+        GivesPlaces (λ parts. parts.items) result (places
+        (slice (S.device source.old).bytes 64 size)
+        (sizes (slice (S.device source.old).bytes 64 size)) count 0) }
+{
+    let mut parts = Vec::new(alloc);
+    let mut start = 4 * (count as u64 + 1);
+    for i in 0..count {
+        let len = size_at(source, i)?;
+        if start + len as u64 > size as u64 {
+            return Err(PartsFault::Stopped(Fault::Legacy(LegacyFault::PartOutside)));
+        }
+        let part = Span {
+            place: 64 + start,
+            length: len as u64,
+        };
+        push_part(&mut parts, part)?;
+        let rounded = up4(len as u64);
+        start += rounded;
+    }
+    Ok(parts)
+}
+
+// Where the only part of an image stands that has no table.
+fn only_part(alloc: Global, size: u32) -> Result<Vec<Span>, AllocError>
+    ensures { IfOk result (λ parts. parts.items ≡ record { place = 64; length = size } ∷ []) }
+{
+    let mut parts = Vec::new(alloc);
+    parts.push(Span {
+        place: 64,
+        length: size as u64,
+    })?;
+    Ok(parts)
+}
+
+/// Where the parts of an image with this header stand: those that its table has sizes of, for the types
+/// multi and script, and else the data. The checksum of the data is not looked at. Refusals are
+/// `Truncated`, `NoTableEnd` and `PartOutside`, in this order; `Read` where a read failed, `OutOfMemory`
+/// where memory for the places was refused, 16 bytes for each.
+#[tactic(auto, unfolding(crate::specs::Placing::places_of))]
+pub fn locate_parts<S: Source, A: Allocator>(
+    alloc: Global,
+    source: &mut S,
+    room: &mut Room<A>,
+    header: &Header,
+) -> Result<Vec<Span>, PartsFault>
+    ensures uses { UsesAtMost (table_work header.now (S.device source.old).bytes) (is_unread result)
+        (S.device source.old) (S.device source.new) }
+    ensures room { room.new ≡ room.old }
+    ensures told { IsTrue (S.device source.old).honest → GivesPlaces (λ parts. parts.items) result
+        (places_of (S.device source.old).bytes header.now) }
+{
+    if source.size()? < 64 + header.size as u64 {
+        return Err(PartsFault::Stopped(Fault::Legacy(LegacyFault::Truncated)));
+    }
+    if !has_parts(header.kind) {
+        return Ok(only_part(alloc, header.size)?);
+    }
+    let count = count_sizes(source, room, header.size)?;
+    place_parts(alloc, source, header.size, count)
+}

@@ -1,0 +1,122 @@
+//! The facts of an image, as a line of JSON.
+
+use crate::check_answers::Answer;
+use crate::check_json::json_text;
+use crate::check_program::is_pipe;
+use crate::main_program::{DONE, FAILED, RequestFault, tell};
+use std::alloc::{AllocError, Global};
+use std::io::{ErrorKind, Write};
+use std::rt::Files;
+use uimg_base::{FileSource, Room, Source};
+use uimg_engine::{Fault, Format, is_fit};
+use uimg_fit_reading::SurveyFault;
+use uimg_info::{fit_text, legacy_text};
+use uimg_legacy::{PartsFault, locate_parts, read_header};
+use uimg_words::InfoRequest;
+
+/// Writes the facts of the image of a request as a line on `out`, or why there are none. It answers the
+/// status; want of memory and a line that cannot be written are told by a line on `err`.
+pub(crate) fn tell_facts<R: Files + AllocGlobal, W: Write, V: Write>(
+    rt: &R,
+    request: &InfoRequest<'_>,
+    out: &mut W,
+    err: &mut V,
+) -> u8 {
+    match line_of(rt, request.image) {
+        Ok((line, status)) => put_line(line.as_slice(), status, out, err),
+        Err(_) => tell(err, &RequestFault::OutOfMemory, FAILED),
+    }
+}
+
+// Writes a line. It answers the status, or that of a failure.
+fn put_line<W: Write, V: Write>(line: &[u8], status: u8, out: &mut W, err: &mut V) -> u8 {
+    match out.write_all(line) {
+        Ok(()) => status,
+        Err(error) if error.kind() == ErrorKind::BrokenPipe => FAILED,
+        Err(_) => tell(err, &RequestFault::Stopped(Fault::Put), FAILED),
+    }
+}
+
+// Why there are no facts of an image.
+enum Stop {
+    // The image is refused, or cannot be read.
+    Told(Answer<'static>),
+
+    // Memory ran out.
+    NoMemory,
+}
+
+impl From<AllocError> for Stop {
+    fn from(_error: AllocError) -> Stop {
+        Stop::NoMemory
+    }
+}
+
+impl From<Fault> for Stop {
+    fn from(fault: Fault) -> Stop {
+        Stop::Told(Answer::Stopped(fault))
+    }
+}
+
+impl From<SurveyFault> for Stop {
+    fn from(fault: SurveyFault) -> Stop {
+        match fault {
+            SurveyFault::Stopped(fault) => Stop::from(Fault::from(fault)),
+            SurveyFault::OutOfMemory => Stop::NoMemory,
+        }
+    }
+}
+
+impl From<PartsFault> for Stop {
+    fn from(fault: PartsFault) -> Stop {
+        match fault {
+            PartsFault::Stopped(fault) => Stop::from(Fault::from(fault)),
+            PartsFault::OutOfMemory => Stop::NoMemory,
+        }
+    }
+}
+
+// The line of an image and its status.
+fn line_of<R: Files + AllocGlobal>(rt: &R, path: &str) -> Result<(Vec<u8>, u8), AllocError> {
+    let (mut line, status) = match facts_of(rt, path) {
+        Ok(text) => (text, DONE),
+        Err(Stop::NoMemory) => return Err(AllocError),
+        Err(Stop::Told(answer)) => (
+            json_text(rt.alloc(), path.as_bytes(), &answer)?,
+            answer.status(),
+        ),
+    };
+    line.push(b'\n')?;
+    Ok((line, status))
+}
+
+// The object of the facts of the image at a path.
+fn facts_of<R: Files + AllocGlobal>(rt: &R, path: &str) -> Result<Vec<u8>, Stop> {
+    if is_pipe(rt, path) {
+        return Err(Stop::Told(Answer::Unread));
+    }
+    let Ok(mut source) = FileSource::open(rt, path) else {
+        return Err(Stop::Told(Answer::Unread));
+    };
+    let mut room = Room::new(rt.alloc());
+    match is_fit(Format::Guess, &mut source) {
+        Ok(true) => Ok(fit_text(rt.alloc(), path, &mut source, &mut room)?),
+        Ok(false) => legacy_facts(rt.alloc(), path, &mut source, &mut room),
+        Err(_) => Err(Stop::from(Fault::Read)),
+    }
+}
+
+// The object of the facts of a legacy image.
+fn legacy_facts<S: Source>(
+    alloc: Global,
+    path: &str,
+    source: &mut S,
+    room: &mut Room<Global>,
+) -> Result<Vec<u8>, Stop> {
+    let header = read_header(source).map_err(Fault::from)?;
+    let parts = locate_parts(alloc, source, room, &header)?;
+    let Ok(size) = source.size() else {
+        return Err(Stop::from(Fault::Read));
+    };
+    Ok(legacy_text(alloc, path, size, &header, parts.as_slice())?)
+}
