@@ -175,7 +175,7 @@ fn commands<'a>(alloc: Global) -> Result<clap::Command<'a>, AllocError> {
         .subcommand(verify::command(alloc)?)?
         .subcommand(check::command(alloc)?)?
         .subcommand(unpack::command(alloc)?)?
-        .subcommand(map::command(alloc)?)
+        .subcommand(map::command(alloc)?)?
         .subcommand(info::command(alloc)?)
 }
 
