@@ -365,7 +365,7 @@ Bytes behind the data are no part of them:
 
 Files that stand where those without their names would are left; no more than a hundred places are tried:
 
-  $ rm out/* && mkdir out/.uimg-new1 && echo old > out/.uimg-new2 && uimg unpack -C out abc-kernel.img && ls -A out
+  $ rm out/* && mkdir out/.uimg-new1 && echo old > out/.uimg-new2 && uimg unpack -C out abc-kernel.img && ls -A out | LC_ALL=C sort
   image-0: 3 bytes, data crc32 352441c2
   .uimg-new1
   .uimg-new2
