@@ -2,7 +2,7 @@
 _uimg() {
     local current=${COMP_WORDS[COMP_CWORD]} previous=${COMP_WORDS[COMP_CWORD - 1]}
     if test "$COMP_CWORD" = 1; then
-        COMPREPLY=($(compgen -W 'mkimage dumpimage verify check unpack --help --version' -- "$current"))
+        COMPREPLY=($(compgen -W 'mkimage dumpimage verify check unpack map --help --version' -- "$current"))
         return
     fi
     case "${COMP_WORDS[1]}" in
@@ -44,6 +44,11 @@ _uimg() {
                 --need-hash) COMPREPLY=($(compgen -W 'crc32 md5 sha1 sha256 sha384 sha512' -- "$current")); return ;;
             esac
             test "${current#-}" = "$current" || { COMPREPLY=($(compgen -W '-C --only --need-hash --force -h' -- "$current")); return; }
+            ;;
+        map)
+            case "$previous" in
+            esac
+            test "${current#-}" = "$current" || { COMPREPLY=($(compgen -W '--svg -h' -- "$current")); return; }
             ;;
     esac
     compopt -o default

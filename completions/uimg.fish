@@ -34,3 +34,6 @@ complete -c uimg -n '__fish_seen_subcommand_from unpack' -l only -x -d 'Take the
 complete -c uimg -n '__fish_seen_subcommand_from unpack' -l need-hash -x -a 'crc32 md5 sha1 sha256 sha384 sha512' -d 'Ask for a hash by this algorithm or a stronger one'
 complete -c uimg -n '__fish_seen_subcommand_from unpack' -l force -d 'Replace files that are there'
 complete -c uimg -n '__fish_seen_subcommand_from unpack' -s h -d 'Print help'
+complete -c uimg -n __fish_use_subcommand -f -a map -d 'Show what lies where in the file of an image, whole or broken'
+complete -c uimg -n '__fish_seen_subcommand_from map' -l svg -r -d 'Write a picture to this file, in place of lines'
+complete -c uimg -n '__fish_seen_subcommand_from map' -s h -d 'Print help'
