@@ -290,7 +290,7 @@ A file that cannot be read, a full device, and lines that nobody reads:
   $ (sleep 0.5; uimg map image.itb 2> said; echo "status $?" >> said) | true; cat said
   status 3
   $ uimg map
-  uimg: error: the following required arguments were not provided:
+  error: the following required arguments were not provided:
     <image>
   
   Usage: uimg map <image>

@@ -2,7 +2,11 @@
 _uimg() {
     local current=${COMP_WORDS[COMP_CWORD]} previous=${COMP_WORDS[COMP_CWORD - 1]}
     if test "$COMP_CWORD" = 1; then
+<<<<<<< A
         COMPREPLY=($(compgen -W 'mkimage dumpimage verify check unpack info --help --version' -- "$current"))
+=======
+        COMPREPLY=($(compgen -W 'mkimage dumpimage verify check unpack map --help --version' -- "$current"))
+>>>>>>> B
         return
     fi
     case "${COMP_WORDS[1]}" in
@@ -49,6 +53,11 @@ _uimg() {
             case "$previous" in
             esac
             test "${current#-}" = "$current" || { COMPREPLY=($(compgen -W '--json -h' -- "$current")); return; }
+            ;;
+        map)
+            case "$previous" in
+            esac
+            test "${current#-}" = "$current" || { COMPREPLY=($(compgen -W '--svg -h' -- "$current")); return; }
             ;;
     esac
     compopt -o default
