@@ -1,5 +1,5 @@
 -- What is told of a file whose survey was made.
-use Rattle.std.proofs.Common.{◌≡◌, ◌≤◌, List, ℕ, Result, Ok, Err, IfOk, true, false, sym, refl, arith}
+use Rattle.std.proofs.Common.{◌≡◌, List, ℕ, Result, Ok, Err, IfOk, false, sym, refl}
 use Rattle.json.specs.Json.{Json}
 use Rattle.json.specs.Print.{print}
 use Rattle.json.specs.Tree.{json_tokens}

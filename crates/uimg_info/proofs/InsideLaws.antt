@@ -1,6 +1,5 @@
 -- Values that end in a blob end in its file.
 use Rattle.std.proofs.Common.{ℕ, ◌≤◌, Option, Some, None, arith}
-use Rattle.std.specs.List.{All}
 use Rattle.std.proofs.lemmas.List.Elements.{All-weaker}
 use Rattle.uimg_base.specs.declared.spans.Span.{Span}
 use Rattle.uimg_fit_reading.specs.declared.surveying.facts.HashFacts.{HashFacts}

@@ -1,13 +1,11 @@
 -- The object of a legacy image is sound.
 use Rattle.std.proofs.Common.{ℕ, List, [], ◌∷◌, ◌++◌, map, codes}
-use Rattle.json.specs.Json.{Json}
 use Rattle.uimg_base.specs.declared.spans.Span.{Span}
-use Rattle.uimg_names.specs.declared.field.Field.{Field}
 use Rattle.uimg_texts.specs.Nul.{text}
 use Rattle.uimg_legacy.specs.declared.header.Header.{Header}
 use Rattle.uimg_json.proofs.LineLaws as line
-use Rattle.uimg_info.specs.Members.{Member, array_of, number_member, text_members}
-use Rattle.uimg_info.specs.Legacy.{code_members, numbers_members, codes_members, header_members, part_json, legacy_head, legacy_members, legacy_json}
+use Rattle.uimg_info.specs.Members.{Member, array_of, text_members}
+use Rattle.uimg_info.specs.Legacy.{header_members, part_json, legacy_head, legacy_json}
 use Rattle.uimg_info.proofs.SoundLaws.{Sound, AreSound, append_sound, text_sound, items_sound}
 
 part_sound : (part : Span) → Sound 1 (part_json part)

@@ -1,11 +1,11 @@
 -- The objects of images are sound.
-use Rattle.std.proofs.Common.{◌≡◌, ℕ, zero, suc, ◌+◌, Bool, true, false, List, [], ◌∷◌, ◌++◌, map, nat_lt, if◌then◌else◌, codes, Result, Ok, Err, refl}
+use Rattle.std.proofs.Common.{ℕ, ◌+◌, Bool, true, false, List, [], ◌∷◌, ◌++◌, map, nat_lt, codes, Result, Ok, Err}
 use Rattle.json.specs.Json.{Json}
 use Rattle.uimg_base.specs.declared.spans.Span.{Span}
 use Rattle.uimg_fit_base.specs.declared.fault.FitFault.{FitFault}
-use Rattle.uimg_fit_reading.specs.Survey.{Said, ImageSaid, HashSaid, ConfigurationSaid, place_said}
-use Rattle.uimg_info.specs.Members.{Member, object_of, array_of, facts_members, number_member, string_member}
-use Rattle.uimg_info.specs.Fit.{hash_facts, image_facts, configuration_facts, root_facts, fault_members, outside, place_members, hash_json, configuration_json, image_members, image_json, head_members, fit_members, fit_json}
+use Rattle.uimg_fit_reading.specs.Survey.{Said, ImageSaid, place_said}
+use Rattle.uimg_info.specs.Members.{Member, array_of, facts_members, number_member, string_member}
+use Rattle.uimg_info.specs.Fit.{hash_facts, image_facts, configuration_facts, root_facts, fault_members, outside, place_members, hash_json, configuration_json, image_json, head_members, fit_json}
 use Rattle.uimg_info.proofs.SoundLaws.{Sound, AreSound, append_sound, number_sound, items_sound, facts_sound}
 
 string_sound : (d : ℕ) (name s : List ℕ) → AreSound d (string_member name s)

@@ -1,7 +1,7 @@
 -- Values that nest little, and whose text is one line.
-use Rattle.std.proofs.Common.{◌≡◌, ℕ, zero, suc, ◌≤◌, Bool, true, false, List, [], ◌∷◌, ◌++◌, map, Some, None, Option, option_and_then, codes, nat_lt, length, if◌then◌else◌, refl, ap, sym, ◌∙◌, append_assoc, append-nil, arith, decimal}
+use Rattle.std.proofs.Common.{◌≡◌, ℕ, zero, suc, ◌≤◌, Bool, true, false, List, [], ◌∷◌, ◌++◌, map, Some, None, Option, option_and_then, codes, nat_lt, length, if◌then◌else◌, refl, ap, sym, ◌∙◌, append_assoc, append-nil, arith}
 use Rattle.std.specs.Prelude.{⊤}
-use Rattle.std.specs.List.{flat_map, list_all}
+use Rattle.std.specs.List.{list_all}
 use Rattle.std.specs.Str.{is_utf8}
 use Rattle.json.specs.Json.{Json, null, boolean, number, string, array, object, Items, no_items, item, Members, no_members, member, document, max_depth, value, if_last}
 use Rattle.json.specs.Lex.{tokens}
@@ -11,7 +11,7 @@ use Rattle.json.specs.Tree.{json_tokens, items_tokens, members_tokens, depth, it
 use Rattle.json.proofs.Printed.Trees.{value-json_tokens}
 use Rattle.uimg_json.specs.Objects.{is_one_line}
 use Rattle.uimg_json.proofs.LineLaws as line
-use Rattle.uimg_info.specs.Members.{Member, Fact, members_of, items_of, object_of, array_of, number_member, number_if, string_member, spelled, of_bytes, beside, text_members, texts_members, told_as, length_of, value_members, fact_members, facts_members, cell_number, address_number, most}
+use Rattle.uimg_info.specs.Members.{Member, Fact, members_of, items_of, array_of, number_member, number_if, spelled, beside, text_members, texts_members, told_as, length_of, value_members, fact_members, facts_members, cell_number, address_number, most}
 use Rattle.uimg_info.specs.declared.kinds.Kind.{Kind}
 use Rattle.uimg_info.specs.declared.kinds.Kind.TheVariants.{Text, Texts, Digest, Cell, Address}
 

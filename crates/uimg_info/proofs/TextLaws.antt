@@ -1,17 +1,15 @@
 -- Texts, with their bytes beside them where they are not UTF-8.
-use Rattle.std.proofs.Common.{◌≡◌, List, [], ◌∷◌, ◌++◌, ℕ, map, Bool, true, false, Option, Some, None, ap, sym, ◌∙◌}
+use Rattle.std.proofs.Common.{◌≡◌, List, [], ◌∷◌, ℕ, Bool, true, false, Option, Some, None, ap, sym, ◌∙◌}
 use Rattle.std.specs.Prelude.{option_map}
-use Rattle.std.specs.List.{list_all}
 use Rattle.std.specs.Str.{IsUtf8, is_utf8}
 use Rattle.std.specs.Str.Lossy.{utf8_lossy}
 use Rattle.std.proofs.lemmas.Str.{IsUtf8-from_is_utf8, is_utf8-from_IsUtf8}
 use Rattle.base64.specs.Engines.{standard}
 use Rattle.base64.specs.GeneralPurpose.{encode_of}
 use Rattle.json.specs.Token.{Token}
-use Rattle.json.specs.Tree.{json_tokens}
 use Rattle.json.specs.Written.{Written}
 use Rattle.uimg_blob.proofs.PhaseLaws.{some_none, true_false, by_bool}
-use Rattle.uimg_info.specs.Members.{spelled, beside, of_bytes, array_of, string_member, text_members, texts_members, tokens_of}
+use Rattle.uimg_info.specs.Members.{spelled, beside, of_bytes, string_member, text_members, tokens_of}
 use Rattle.uimg_info.specs.Steps.{Appended}
 use Rattle.uimg_info.proofs.StepLaws.{then_appended, appended_as}
 

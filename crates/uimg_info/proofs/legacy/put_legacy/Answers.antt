@@ -1,4 +1,4 @@
-use Rattle.std.proofs.Common.{◌≡◌, List, ℕ, map, codes, ap, sym, ◌∙◌, ◌++◌, ◌∷◌, []}
+use Rattle.std.proofs.Common.{List, ℕ, map, codes, ap, sym, ◌∙◌, ◌++◌, ◌∷◌, []}
 use Rattle.json.specs.Token.{Token}
 use Rattle.uimg_texts.specs.Nul.{text}
 use Rattle.uimg_info.specs.Legacy.{header_members, part_json, legacy_head, legacy_members}
