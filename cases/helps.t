@@ -12,8 +12,8 @@ Helps
     verify     Check the checksums and hashes of an image, and report each
     check      Check many images, with a line for each
     unpack     Put the payloads of an image in a folder, where their hashes are right
-    map        Show what lies where in the file of an image, whole or broken
     info       Tell the facts of an image as JSON, for scripts
+    map        Show what lies where in the file of an image, whole or broken
   
   Options:
         --version  Print the name and the version
@@ -142,6 +142,7 @@ Helps
   
   Options:
         --need <algo>        Ask for a hash by this algorithm or a stronger one
+        --strict             Ask for a hash of each image, and for what configurations name
         --files-from <file>  Check the images that this file names too, a line each
     -0                       End each name of that file by a NUL
         --json               Write an object of JSON for each image
@@ -156,19 +157,22 @@ Helps
     bad          This hash of an image is not right, or a checksum is not
     malformed    This hash of an image has no algorithm, or no value of its length
     unsupported  This hash of an image has an unknown algorithm
-    weak         This image has no hash as strong as --need, or is a legacy image
-    empty        There is no image in the FIT, where --need is given
+    weak         This image has no hash as strong as --need, or is a legacy image;
+                 --strict alone asks for any hash
+    empty        There is no image in the FIT, where --need or --strict is given
+    missing      With --strict: this configuration, or the default, gives this name,
+                 and no image, or no configuration, has it
     overlapping  With this image there are more bytes to hash than the file has
     refused      The image is refused by this fault
     failed       The file cannot be opened, or a read or memory failed
   Control characters and \ are written \xNN in a name. The names of --files-from -
   are those of standard input. With --json a line is an object: path, status,
   verdict (the word), and what is known of format, images, hashes, checksums, algo,
-  image, hash, fault, message and offset.
+  image, hash, configuration, property, name, fault, message and offset.
   Signatures and the hashes of configurations are not checked.
   
   Examples:
-    uimg check --need sha256 kernel.itb rescue.itb
+    uimg check --strict --need sha256 kernel.itb rescue.itb
     find /srv/images -name '*.itb' -print0 | uimg check -0 --files-from -
   
   Exit status: the greatest of all lines
@@ -193,8 +197,8 @@ No words are a wrong line: the help goes to standard error.
     verify     Check the checksums and hashes of an image, and report each
     check      Check many images, with a line for each
     unpack     Put the payloads of an image in a folder, where their hashes are right
-    map        Show what lies where in the file of an image, whole or broken
     info       Tell the facts of an image as JSON, for scripts
+    map        Show what lies where in the file of an image, whole or broken
   
   Options:
         --version  Print the name and the version

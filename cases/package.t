@@ -8,7 +8,7 @@ The completions have the commands, options and short names that the helps print:
   $ "$top/scripts/completions.py" "$(command -v uimg)" --check
   $ complete_at() { bash -c '. "$0"; COMP_WORDS=("$@"); COMP_CWORD=$(($# - 1)); _uimg 2> /dev/null; echo "${COMPREPLY[@]}"' "$top/completions/uimg.bash" "$@"; }
   $ complete_at uimg ''
-  mkimage dumpimage verify check unpack map info --help --version
+  mkimage dumpimage verify check unpack info map --help --version
   $ complete_at uimg mkimage -A arm
   arm arm64
   $ complete_at uimg dumpimage -T f

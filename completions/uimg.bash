@@ -2,11 +2,7 @@
 _uimg() {
     local current=${COMP_WORDS[COMP_CWORD]} previous=${COMP_WORDS[COMP_CWORD - 1]}
     if test "$COMP_CWORD" = 1; then
-<<<<<<< A
-        COMPREPLY=($(compgen -W 'mkimage dumpimage verify check unpack info --help --version' -- "$current"))
-=======
-        COMPREPLY=($(compgen -W 'mkimage dumpimage verify check unpack map --help --version' -- "$current"))
->>>>>>> B
+        COMPREPLY=($(compgen -W 'mkimage dumpimage verify check unpack info map --help --version' -- "$current"))
         return
     fi
     case "${COMP_WORDS[1]}" in
@@ -39,7 +35,7 @@ _uimg() {
             case "$previous" in
                 --need) COMPREPLY=($(compgen -W 'crc32 md5 sha1 sha256 sha384 sha512' -- "$current")); return ;;
             esac
-            test "${current#-}" = "$current" || { COMPREPLY=($(compgen -W '--need --files-from -0 --json -h' -- "$current")); return; }
+            test "${current#-}" = "$current" || { COMPREPLY=($(compgen -W '--need --strict --files-from -0 --json -h' -- "$current")); return; }
             ;;
         unpack)
             case "$previous" in

@@ -24,6 +24,7 @@ complete -c uimg -n __fish_use_subcommand -f -a verify -d 'Check the checksums a
 complete -c uimg -n '__fish_seen_subcommand_from verify' -s h -d 'Print help'
 complete -c uimg -n __fish_use_subcommand -f -a check -d 'Check many images, with a line for each'
 complete -c uimg -n '__fish_seen_subcommand_from check' -l need -x -a 'crc32 md5 sha1 sha256 sha384 sha512' -d 'Ask for a hash by this algorithm or a stronger one'
+complete -c uimg -n '__fish_seen_subcommand_from check' -l strict -d 'Ask for a hash of each image, and for what configurations name'
 complete -c uimg -n '__fish_seen_subcommand_from check' -l files-from -r -d 'Check the images that this file names too, a line each'
 complete -c uimg -n '__fish_seen_subcommand_from check' -s 0 -d 'End each name of that file by a NUL'
 complete -c uimg -n '__fish_seen_subcommand_from check' -l json -d 'Write an object of JSON for each image'

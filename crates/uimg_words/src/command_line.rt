@@ -175,8 +175,8 @@ fn commands<'a>(alloc: Global) -> Result<clap::Command<'a>, AllocError> {
         .subcommand(verify::command(alloc)?)?
         .subcommand(check::command(alloc)?)?
         .subcommand(unpack::command(alloc)?)?
-        .subcommand(map::command(alloc)?)?
-        .subcommand(info::command(alloc)?)
+        .subcommand(info::command(alloc)?)?
+        .subcommand(map::command(alloc)?)
 }
 
 // An option with a value.
