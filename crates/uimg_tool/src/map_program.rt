@@ -77,7 +77,10 @@ fn print<'a, R: Files + AllocGlobal, S: Source, W: Write>(
     };
     // A failed write leaves text in it, and its drop would try once more to write that.
     let (_, _) = gathered.into_parts();
-    put.map_err(Stop::Stopped)
+    match put {
+        Ok(()) => Ok(()),
+        Err(stop) => Err(Stop::Stopped(stop)),
+    }
 }
 
 // Writes a map as the picture at a path: beside it first, if a file can be there.
