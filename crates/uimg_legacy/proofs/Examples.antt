@@ -16,7 +16,7 @@ use Rattle.uimg_legacy.specs.Parts.{has_parts, sizes, part_sizes, start, is_outs
 use Rattle.uimg_legacy.specs.Report.{verify_of}
 use Rattle.uimg_legacy.specs.Extraction.{listed_part, single, extract_of}
 use Rattle.uimg_legacy.specs.Building.{joined, size_table, has_empty, data_to_build, legacy_built}
-use Rattle.uimg_names.specs.declared.naming.Naming.TheVariants.{Profile, All}
+use Rattle.uimg_names.specs.declared.naming.Naming.TheVariants.{Profile}
 use Rattle.uimg_names.specs.Naming.{code_text}
 use Rattle.uimg_legacy.specs.Listing.{name_line, time_line, type_line, load_line, entry_line, head_text, part_line, part_lines, list_of}
 
