@@ -244,7 +244,7 @@ kernel, ramdisk, fdt and loadables:
   $ missing 'c { loadables = [ff 0a 00]; };'
   k.itb: ok 2 payloads, 2 hashes
   k.itb: missing c loadables \xff\x0a
-  {"path":"k.itb","status":1,"verdict":"missing","format":"fit","configuration":"c","property":"loadables","name":"\ufffd\n","name_base64":"/wo="}
+  {"path":"k.itb","status":1,"verdict":"missing","format":"fit","configuration":"c","property":"loadables","name":"\xef\xbf\xbd\\n","name_base64":"/wo="} (esc)
   [1]
 
 A value that is empty names nothing; an image without a hash is weak, and one without images is empty:
