@@ -1,62 +1,38 @@
-//! What images say of themselves, and the first name that is not there.
+//! How much images say of themselves.
 
 use super::answers::is_said;
 use super::images::image;
 use std::alloc::{AllocError, Global};
 use std::test::Fail;
 use uimg_base::{FuseSource, MemSource, Room, Source};
-use uimg_fit_reading::{Survey, SurveyFault, find_payload, survey};
-use uimg_references::find_missing;
+use uimg_fit_reading::{SurveyFault, survey};
 
-// How many hash nodes the first image of a survey has, and where its payload stands.
-fn first_image<S: Source>(
-    alloc: Global,
-    source: &mut S,
-    facts: &Survey,
-) -> Result<Result<String, AllocError>, SurveyFault> {
-    let Some(image) = facts.images.as_slice().first() else {
-        return Ok(format!(in alloc; "no image"));
+// How many images there are, how many hash nodes the first of them has, and how many configurations.
+fn counts<S: Source>(alloc: Global, source: &mut S) -> Result<(usize, usize, usize), SurveyFault> {
+    let mut room = Room::new(alloc);
+    let facts = survey(alloc, source, &mut room)?;
+    let hashes = match facts.images.as_slice().first() {
+        Some(image) => image.hashes.len(),
+        None => 0,
     };
-    let hashes = image.hashes.len();
-    match find_payload(source, facts.totalsize, &image.payload)? {
-        Ok(span) => Ok(format!(in alloc; "{hashes} hashes, {} at {}", span.length, span.place)),
-        Err(fault) => Ok(format!(in alloc; "{hashes} hashes, {fault}")),
-    }
-}
-
-// What is said of an image: how many images and configurations it has, its first image, and what is missing.
-fn said<S: Source>(
-    alloc: Global,
-    source: &mut S,
-) -> Result<Result<String, AllocError>, SurveyFault> {
-    let facts = survey(alloc, source, &mut Room::new(alloc))?;
-    let counts = (facts.images.len(), facts.configurations.len());
-    let first = first_image(alloc, source, &facts)??;
-    let missing = find_missing(alloc, source, &facts)?;
-    let (property, length) = match &missing {
-        Some(missing) => (missing.reference.name(), missing.name.len()),
-        None => ("nothing", 0),
-    };
-    Ok(format!(in alloc;
-        "{} and {}; {first}; {property} {length}",
-        counts.0, counts.1
-    ))
+    Ok((facts.images.len(), hashes, facts.configurations.len()))
 }
 
 fn answer<S: Source>(alloc: Global, source: &mut S) -> Result<String, AllocError> {
-    match said(alloc, source) {
-        Ok(said) => said,
+    match counts(alloc, source) {
+        Ok((images, hashes, configurations)) => {
+            format!(in alloc; "{images}, {hashes}, {configurations}")
+        }
         Err(fault) => format!(in alloc; "{fault}"),
     }
 }
 
-// Images by their names, and what is said of them: the first two are those of dtc and mkimage, whose
-// places of payloads are told where they are made.
+// Images by their names, and what is said of them: the first two are as dtc and mkimage make them.
 const ROWS: [(&str, &str); 6] = [
-    ("four-hash-fit", "1 and 1; 4 hashes, 3 at 168; nothing 0"),
-    ("five-hash-fit", "1 and 1; 5 hashes, 3 at 168; nothing 0"),
-    ("lists", "1 and 1; 0 hashes, F2 no data; default 4"),
-    ("words", "2 and 0; 7 hashes, 3 at 96; nothing 0"),
+    ("four-hash-fit", "1, 4, 1"),
+    ("five-hash-fit", "1, 5, 1"),
+    ("lists", "1, 0, 1"),
+    ("words", "2, 7, 0"),
     ("bare", "F1 no images"),
     ("short", "B1 too short at 0"),
 ];
@@ -80,14 +56,9 @@ fn surveys_whose_reads_fail(rt: HostRuntime) -> Result<(), Fail> {
     let mut whole = false;
     for calls in 0..256u64 {
         let mut source = FuseSource::new(MemSource::new(&fit), calls);
-        match said(alloc, &mut source) {
-            Ok(_) => whole = true,
-            Err(fault) => {
-                assert!(rt; !whole, "{calls} calls");
-                let found = format!(in alloc; "{fault}");
-                is_said(&rt, found, "read failed", "calls", calls);
-            }
-        }
+        let is_whole = counts(alloc, &mut source).is_ok();
+        assert!(rt; is_whole || !whole, "{calls} calls");
+        whole |= is_whole;
     }
     assert!(rt; whole);
     Ok(())
