@@ -53,6 +53,11 @@ keyed key.Kernel = refl
 keyed key.Ramdisk = refl
 keyed key.Fdt = refl
 keyed key.Loadables = refl
+keyed key.Firmware = refl
+keyed key.Fpga = refl
+keyed key.Setup = refl
+keyed key.Standalone = refl
+keyed key.Script = refl
 
 no_key : (name : List ℕ) → None ≡ key_named name → (k : Key) → bytes_eq name (name_of k) ≡ false
 no_key name h k = by_bool (bytes_eq name (name_of k))

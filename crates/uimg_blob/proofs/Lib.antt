@@ -20,3 +20,6 @@ pub mod IndexLaws
 pub mod CostLaws
 pub mod LinkLaws
 pub mod PlaceLaws
+pub mod OwnLaws
+pub mod PropertyLaws
+pub mod TellLaws

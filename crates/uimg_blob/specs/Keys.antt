@@ -5,7 +5,7 @@ use Rattle.std.specs.List.{list_any}
 use Rattle.std.specs.Option.{option_map}
 use Rattle.std.specs.Str.{bytes_eq}
 use Rattle.uimg_blob.specs.declared.keys.Key.{Key}
-use Rattle.uimg_blob.specs.declared.keys.Key.TheVariants.{Description, Timestamp, Data, Kind, Arch, Os, Compression, Load, Entry, DataSize, DataOffset, DataPosition, Algo, Value, Default, Kernel, Ramdisk, Fdt, Loadables}
+use Rattle.uimg_blob.specs.declared.keys.Key.TheVariants.{Description, Timestamp, Data, Kind, Arch, Os, Compression, Load, Entry, DataSize, DataOffset, DataPosition, Algo, Value, Default, Kernel, Ramdisk, Fdt, Loadables, Firmware, Fpga, Setup, Standalone, Script}
 
 -- the name of a key's property
 abbrev pub name_of : Key → List ℕ
@@ -28,13 +28,19 @@ name_of Kernel = codes "kernel"
 name_of Ramdisk = codes "ramdisk"
 name_of Fdt = codes "fdt"
 name_of Loadables = codes "loadables"
+name_of Firmware = codes "firmware"
+name_of Fpga = codes "fpga"
+name_of Setup = codes "setup"
+name_of Standalone = codes "standalone"
+name_of Script = codes "script"
 
 -- all keys
 abbrev pub all_keys : List Key
 all_keys =
     Description ∷ Timestamp ∷ Data ∷ Kind ∷ Arch ∷ Os ∷ Compression
     ∷ Load ∷ Entry ∷ DataSize ∷ DataOffset ∷ DataPosition ∷ Algo ∷ Value
-    ∷ Default ∷ Kernel ∷ Ramdisk ∷ Fdt ∷ Loadables ∷ []
+    ∷ Default ∷ Kernel ∷ Ramdisk ∷ Fdt ∷ Loadables
+    ∷ Firmware ∷ Fpga ∷ Setup ∷ Standalone ∷ Script ∷ []
 
 -- a name and its key
 pub record KeyRow : Type 0 where

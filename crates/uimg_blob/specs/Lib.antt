@@ -22,3 +22,6 @@ pub mod Entering
 pub mod Passes
 pub mod Acting
 pub mod Plain
+pub mod Places
+pub mod Owns
+pub mod Properties

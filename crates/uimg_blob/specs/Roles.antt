@@ -4,7 +4,7 @@ use Rattle.std.specs.Prelude.{ℕ, ◌==◌, ◌||◌, List, [], ◌∷◌, Bool
 use Rattle.std.specs.List.{starts_with}
 use Rattle.std.specs.Str.{bytes_eq}
 use Rattle.uimg_blob.specs.declared.keys.Key.{Key}
-use Rattle.uimg_blob.specs.declared.keys.Key.TheVariants.{Description, Timestamp, Data, Kind, Arch, Os, Compression, Load, Entry, DataSize, DataOffset, DataPosition, Algo, Value, Default, Kernel, Ramdisk, Fdt, Loadables}
+use Rattle.uimg_blob.specs.declared.keys.Key.TheVariants.{Description, Timestamp, Data, Kind, Arch, Os, Compression, Load, Entry, DataSize, DataOffset, DataPosition, Algo, Value, Default, Kernel, Ramdisk, Fdt, Loadables, Firmware, Fpga, Setup, Standalone, Script}
 use Rattle.uimg_blob.specs.declared.roles.Role.{Role}
 use Rattle.uimg_blob.specs.declared.roles.Role.TheVariants.{Root, Images, Image, Hash, Configurations, Configuration, Other}
 
@@ -69,7 +69,7 @@ keys_of Images = []
 keys_of Image = Description ∷ Data ∷ Kind ∷ Arch ∷ Os ∷ Compression ∷ Load ∷ Entry ∷ DataSize ∷ DataOffset ∷ DataPosition ∷ []
 keys_of Hash = Algo ∷ Value ∷ []
 keys_of Configurations = Default ∷ []
-keys_of Configuration = Description ∷ Kernel ∷ Ramdisk ∷ Fdt ∷ Loadables ∷ []
+keys_of Configuration = Description ∷ Kernel ∷ Ramdisk ∷ Fdt ∷ Loadables ∷ Firmware ∷ Fpga ∷ Setup ∷ Standalone ∷ Script ∷ []
 keys_of Other = []
 
 abbrev pub is_images_role : Role → Bool

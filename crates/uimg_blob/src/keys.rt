@@ -44,10 +44,20 @@ pub enum Key {
     Fdt,
     /// `loadables`: names of images.
     Loadables,
+    /// `firmware`: an image's name.
+    Firmware,
+    /// `fpga`: an image's name.
+    Fpga,
+    /// `setup`: an image's name.
+    Setup,
+    /// `standalone`: an image's name.
+    Standalone,
+    /// `script`: an image's name.
+    Script,
 }
 
 // The names of the properties that FIT gives a meaning.
-const NAMES: [(&str, Key); 19] = [
+const NAMES: [(&str, Key); 24] = [
     ("description", Key::Description),
     ("timestamp", Key::Timestamp),
     ("data", Key::Data),
@@ -67,6 +77,11 @@ const NAMES: [(&str, Key); 19] = [
     ("ramdisk", Key::Ramdisk),
     ("fdt", Key::Fdt),
     ("loadables", Key::Loadables),
+    ("firmware", Key::Firmware),
+    ("fpga", Key::Fpga),
+    ("setup", Key::Setup),
+    ("standalone", Key::Standalone),
+    ("script", Key::Script),
 ];
 
 // The key of the first row of a name.

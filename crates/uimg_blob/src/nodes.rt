@@ -130,7 +130,7 @@ impl Blob {
     /// `Timestamp` are kept; of an image `Description`, `Data`, `Kind`, `Arch`, `Os`, `Compression`,
     /// `Load`, `Entry`, `DataSize`, `DataOffset` and `DataPosition`; of a hash node `Algo` and `Value`;
     /// of the node `configurations` `Default`; of a configuration `Description`, `Kernel`, `Ramdisk`,
-    /// `Fdt` and `Loadables`.
+    /// `Fdt`, `Loadables`, `Firmware`, `Fpga`, `Setup`, `Standalone` and `Script`.
     pub fn value<A: Allocator>(&self, room: &Room<A>, node: usize, key: Key) -> Option<Span>
         requires { node < length room.now.entries }
         ensures value { OfRow self.now room.now.entries node

@@ -76,6 +76,11 @@ fn configuration_slot(key: Key) -> Option<usize>
         Key::Ramdisk => Some(2),
         Key::Fdt => Some(3),
         Key::Loadables => Some(4),
+        Key::Firmware => Some(5),
+        Key::Fpga => Some(6),
+        Key::Setup => Some(7),
+        Key::Standalone => Some(8),
+        Key::Script => Some(9),
         _ => None,
     }
 }

@@ -1,12 +1,13 @@
 //! The tokens of the structure block, as they are read.
 
-ghost use Rattle.std.specs.Prelude.{◌≡◌, ℕ, ◌+◌, ◌^◌, ◌<◌, ◌≤◌, length};
+ghost use Rattle.std.specs.Prelude.{◌≡◌, ℕ, ◌+◌, ◌^◌, ◌<◌, ◌≤◌, length, IfOk, IfErr};
 ghost use Rattle.std.specs.Option.{option_map};
 ghost use Rattle.uimg_texts.specs.Nul.{before_nul};
 ghost use Rattle.uimg_blob.specs.Extents.{IsInside, blocks_of};
 ghost use Rattle.uimg_blob.specs.Keys.{key_named};
 ghost use Rattle.uimg_blob.specs.Tokens.{reach, begins, property, prop};
-ghost use Rattle.uimg_blob.specs.ReadTokens.{IsReadAs, IsSound, Stands, Answers, ReadsToken, ReadsTokenAt};
+ghost use Rattle.uimg_blob.specs.Places.{IsHead, HeadWithin};
+ghost use Rattle.uimg_blob.specs.ReadTokens.{IsReadAs, IsSound, IsOfToken, Stands, Answers, ReadsToken, ReadsTokenAt};
 
 use crate::extent::Extent;
 use crate::fault::BlobFault;
@@ -17,13 +18,13 @@ use std::alloc::Allocator;
 use uimg_base::{Room, Source, SourceFault, first_nul};
 
 // The tokens of the structure block (Devicetree Specification, section 5.4.1).
-const FDT_BEGIN_NODE: u32 = 1;
+pub(crate) const FDT_BEGIN_NODE: u32 = 1;
 
-const FDT_END_NODE: u32 = 2;
+pub(crate) const FDT_END_NODE: u32 = 2;
 
-const FDT_PROP: u32 = 3;
+pub(crate) const FDT_PROP: u32 = 3;
 
-const FDT_NOP: u32 = 4;
+pub(crate) const FDT_NOP: u32 = 4;
 
 const FDT_END: u32 = 9;
 
@@ -110,6 +111,43 @@ fn read_key<S: Source, A: Allocator>(
     Ok(key_in(&window[..length]))
 }
 
+/// What a property's token says of it.
+#[derive(Clone, Copy)]
+pub(crate) struct Head {
+    /// How many bytes its value has.
+    pub(crate) length: u32,
+    /// Where its name begins, among the strings.
+    pub(crate) name: u64,
+}
+
+// What the token of a property says. The fault is `Truncated` where the structure block ends inside
+// the property, and `BadPropertyName` where its name does not begin among the strings.
+pub(crate) fn read_head<S: Source>(
+    source: &mut S,
+    extent: Extent,
+    at: u64,
+) -> Result<Result<Head, BlobFault>, SourceFault>
+    requires inside { IsInside extent (length (S.device source.old).bytes) }
+    requires place { at < 2 ^ 40 }
+    ensures head { Answers 8 result (λ bytes head. IsHead bytes extent at head)
+        (S.device source.old) (S.device source.new) }
+    ensures bound { IfOk result (λ head. IfOk head (λ h. HeadWithin extent at h)) }
+    ensures sound { IfOk result (λ head. IfErr head (λ fault. IsOfToken fault)) }
+{
+    if extent.structure_end < at + 12 {
+        return Ok(Err(BlobFault::Truncated));
+    }
+    let (length, name) = read_pair(source, at + 4)?;
+    if extent.structure_end < at + 12 + length as u64 {
+        return Ok(Err(BlobFault::Truncated));
+    }
+    if name as u64 >= extent.strings_size {
+        return Ok(Err(BlobFault::BadPropertyName));
+    }
+    let name = extent.strings + name as u64;
+    Ok(Ok(Head { length, name }))
+}
+
 // What is read of a property's token: the fault is `Truncated` where the structure block ends inside
 // it, and `BadPropertyName` where its name is not among the strings.
 fn read_property<S: Source, A: Allocator>(
@@ -124,19 +162,16 @@ fn read_property<S: Source, A: Allocator>(
         extent.structure_end at result (S.device source.old) (S.device source.new)
         room.old room.new }
 {
-    if extent.structure_end < at + 12 {
-        return Ok(ReadToken::BadProp(BlobFault::Truncated));
-    }
-    let (length, name) = read_pair(source, at + 4)?;
-    if extent.structure_end < at + 12 + length as u64 {
-        return Ok(ReadToken::BadProp(BlobFault::Truncated));
-    }
-    if name as u64 >= extent.strings_size {
-        return Ok(ReadToken::BadProp(BlobFault::BadPropertyName));
-    }
+    let head = match read_head(source, extent, at)? {
+        Ok(head) => head,
+        Err(fault) => return Ok(ReadToken::BadProp(fault)),
+    };
     let strings_end = extent.strings + extent.strings_size;
-    match read_key(source, room, extent.strings + name as u64, strings_end)? {
-        Some(key) => Ok(ReadToken::Prop { length, key }),
+    match read_key(source, room, head.name, strings_end)? {
+        Some(key) => Ok(ReadToken::Prop {
+            length: head.length,
+            key,
+        }),
         None => Ok(ReadToken::BadProp(BlobFault::BadPropertyName)),
     }
 }

@@ -10,6 +10,7 @@ mod large_rows;
 mod made;
 mod name_rows;
 mod node_rows;
+mod property_rows;
 mod refused_rows;
 mod sample_rows;
 mod size_rows;

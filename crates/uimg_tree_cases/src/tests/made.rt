@@ -69,12 +69,13 @@ d00dfeed 00000260 00000038 00000208 00000028 00000011 00000010 00000000
 const DIGITS: [&str; 10] = ["0", "1", "2", "3", "4", "5", "6", "7", "8", "9"];
 
 // All properties that FIT gives a meaning, and their names: what `ALL` and `KEYS` in a script stand for.
-const ALL: [u32; 19] = [
-    0, 12, 22, 27, 32, 37, 40, 52, 57, 63, 73, 85, 99, 104, 110, 118, 125, 133, 137,
+const ALL: [u32; 24] = [
+    0, 12, 22, 27, 32, 37, 40, 52, 57, 63, 73, 85, 99, 104, 110, 118, 125, 133, 137, 147, 156, 161,
+    167, 178,
 ];
 
 const KEYS: &str =
-    "description;timestamp;data;type;arch;os;compression;load;entry;data-size;data-offset;data-position;algo;value;default;kernel;ramdisk;fdt;loadables;";
+    "description;timestamp;data;type;arch;os;compression;load;entry;data-size;data-offset;data-position;algo;value;default;kernel;ramdisk;fdt;loadables;firmware;fpga;setup;standalone;script;";
 
 /// A number of one digit, `?` for a greater one, and `-` for none.
 pub(super) fn shown(number: Option<usize>) -> &'static str {

@@ -9,7 +9,7 @@ use uimg_base::{MemSource, Room, Span};
 use uimg_blob::{Blob, Key, index};
 
 // The keys, in the order of the documentation, by the names of their properties.
-const KEYS: [(&str, Key); 19] = [
+const KEYS: [(&str, Key); 24] = [
     ("description", Key::Description),
     ("timestamp", Key::Timestamp),
     ("data", Key::Data),
@@ -29,6 +29,11 @@ const KEYS: [(&str, Key); 19] = [
     ("ramdisk", Key::Ramdisk),
     ("fdt", Key::Fdt),
     ("loadables", Key::Loadables),
+    ("firmware", Key::Firmware),
+    ("fpga", Key::Fpga),
+    ("setup", Key::Setup),
+    ("standalone", Key::Standalone),
+    ("script", Key::Script),
 ];
 
 // The key of a property's name.
@@ -100,7 +105,7 @@ fn looked_up(
 }
 
 // A name, a blob, the number of a node, the look-up, and what it gives.
-const ROWS: [(&str, &str, usize, &str, &str); 88] = [
+const ROWS: [(&str, &str, usize, &str, &str); 95] = [
     ("four-hash-fit", "demo", 0, "links", "1 - -"),
     ("four-hash-fit", "demo", 1, "links", "2 7 -"),
     ("four-hash-fit", "demo", 2, "links", "3 - -"),
@@ -314,6 +319,41 @@ const ROWS: [(&str, &str, usize, &str, &str); 88] = [
         "loadables",
         "104+1",
     ),
+    (
+        "each key",
+        "+,+configurations,+a,0=x,-,-,-/firmware;",
+        2,
+        "firmware",
+        "104+1",
+    ),
+    (
+        "each key",
+        "+,+configurations,+a,0=x,-,-,-/fpga;",
+        2,
+        "fpga",
+        "104+1",
+    ),
+    (
+        "each key",
+        "+,+configurations,+a,0=x,-,-,-/setup;",
+        2,
+        "setup",
+        "104+1",
+    ),
+    (
+        "each key",
+        "+,+configurations,+a,0=x,-,-,-/standalone;",
+        2,
+        "standalone",
+        "104+1",
+    ),
+    (
+        "each key",
+        "+,+configurations,+a,0=x,-,-,-/script;",
+        2,
+        "script",
+        "104+1",
+    ),
     ("other names", "+,+images,+a,0=x,-,-,-/;", 2, "kept", ""),
     ("other names", "+,+images,+a,0=x,-,-,-/Data;", 2, "kept", ""),
     ("other names", "+,+images,+a,0=x,-,-,-/dat;", 2, "kept", ""),
@@ -327,6 +367,20 @@ const ROWS: [(&str, &str, usize, &str, &str); 88] = [
     (
         "other names",
         "+,+images,+a,0=x,-,-,-/loadable;",
+        2,
+        "kept",
+        "",
+    ),
+    (
+        "other names",
+        "+,+configurations,+a,0=x,-,-,-/firm;",
+        2,
+        "kept",
+        "",
+    ),
+    (
+        "other names",
+        "+,+configurations,+a,0=x,-,-,-/scripts;",
         2,
         "kept",
         "",
@@ -379,7 +433,7 @@ const ROWS: [(&str, &str, usize, &str, &str); 88] = [
         "+,+configurations,+a,ALL,-,-,-/KEYS",
         2,
         "kept",
-        "description kernel ramdisk fdt loadables ",
+        "description kernel ramdisk fdt loadables firmware fpga setup standalone script ",
     ),
     ("what a role keeps", "+,+a,ALL,-,-/KEYS", 1, "kept", ""),
     (
