@@ -1,4 +1,5 @@
 pub mod Examples
+pub mod FullSurveyLaws
 pub mod ImageLaws
 pub mod CellLaws
 pub mod PlanLaws

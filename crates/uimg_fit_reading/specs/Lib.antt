@@ -1,3 +1,4 @@
+pub mod FullSurvey
 pub mod Plans
 pub mod Puts
 pub mod HashReports

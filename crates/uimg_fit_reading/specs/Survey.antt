@@ -46,7 +46,7 @@ pub record ImageSaid : Type 0 where
   pub payload : PayloadSaid
   pub hashes : List HashSaid
 
--- What a configuration says.
+-- What a configuration says, and the names of the nodes below it.
 pub record ConfigurationSaid : Type 0 where
   pub name : List ℕ
   pub description : Option (List ℕ)
@@ -54,6 +54,12 @@ pub record ConfigurationSaid : Type 0 where
   pub ramdisk : Option (List ℕ)
   pub fdt : Option (List ℕ)
   pub loadables : Option (List ℕ)
+  pub firmware : Option (List ℕ)
+  pub fpga : Option (List ℕ)
+  pub setup : Option (List ℕ)
+  pub standalone : Option (List ℕ)
+  pub script : Option (List ℕ)
+  pub nodes : List (List ℕ)
 
 -- What a FIT image says.
 pub record Said : Type 0 where
@@ -95,6 +101,9 @@ image_said image = record {
   hashes = map hash_said (hashes image);
 }
 
+abbrev pub node_name : NodeOf Spot → List ℕ
+node_name node = node.name
+
 -- of a configuration
 abbrev pub configuration_said : NodeOf Spot → ConfigurationSaid
 configuration_said configuration = record {
@@ -104,6 +113,12 @@ configuration_said configuration = record {
   ramdisk = bytes_of configuration.own (codes "ramdisk");
   fdt = bytes_of configuration.own (codes "fdt");
   loadables = bytes_of configuration.own (codes "loadables");
+  firmware = bytes_of configuration.own (codes "firmware");
+  fpga = bytes_of configuration.own (codes "fpga");
+  setup = bytes_of configuration.own (codes "setup");
+  standalone = bytes_of configuration.own (codes "standalone");
+  script = bytes_of configuration.own (codes "script");
+  nodes = map node_name (listed configuration.below);
 }
 
 -- of the node `configurations`, if there is one
@@ -134,6 +149,9 @@ survey_of file = do
   Ok (said_of file t found)
 
 -- What stands in a file where facts tell.
+abbrev pub read_name : List ℕ → Span → List ℕ
+read_name file name = slice file name.place name.length
+
 abbrev pub read_hash : List ℕ → HashFacts → HashSaid
 read_hash file facts = record {
   name = slice file facts.name.place facts.name.length;
@@ -171,6 +189,12 @@ read_configuration file facts = record {
   ramdisk = bytes_in file facts.ramdisk;
   fdt = bytes_in file facts.fdt;
   loadables = bytes_in file facts.loadables;
+  firmware = bytes_in file facts.firmware;
+  fpga = bytes_in file facts.fpga;
+  setup = bytes_in file facts.setup;
+  standalone = bytes_in file facts.standalone;
+  script = bytes_in file facts.script;
+  nodes = map (read_name file) facts.nodes.items;
 }
 
 abbrev pub read_survey : List ℕ → Survey → Said

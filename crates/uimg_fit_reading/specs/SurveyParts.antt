@@ -1,5 +1,5 @@
 -- What is said of a survey beside what it tells.
-use Rattle.std.specs.Prelude.{◌≡◌, ◌≤◌, ◌+◌, ℕ, ⊤, List, IfSome, Option, Result, Ok, Err, Bool, true, false}
+use Rattle.std.specs.Prelude.{◌≡◌, ◌≤◌, ◌+◌, ℕ, ⊤, List, IfSome, IfErr, Option, Result, Ok, Err, Bool, true, false}
 use Rattle.std.specs.List.{All}
 use Rattle.uimg_base.specs.declared.spans.Span.{Span}
 use Rattle.uimg_fit_reading.specs.declared.surveying.facts.HashFacts.{HashFacts}
@@ -8,7 +8,7 @@ use Rattle.uimg_fit_reading.specs.declared.surveying.facts.ImageFacts.{ImageFact
 use Rattle.uimg_fit_reading.specs.declared.surveying.facts.ConfigurationFacts.{ConfigurationFacts}
 use Rattle.uimg_fit_reading.specs.declared.surveying.facts.Survey.{Survey}
 use Rattle.uimg_fit_reading.specs.declared.surveying.fault.SurveyFault.{SurveyFault}
-use Rattle.uimg_fit_reading.specs.declared.surveying.fault.SurveyFault.TheVariants.{Stopped, OutOfMemory}
+use Rattle.uimg_fit_reading.specs.declared.surveying.fault.SurveyFault.TheVariants.{Stopped, OutOfMemory, Changed}
 use Rattle.uimg_fit_reading.specs.Survey.{read_survey, survey_of}
 use Rattle.uimg_blob.specs.Faults.{refuses_memory}
 use Rattle.uimg_fit_base.specs.declared.fault.Fault.TheVariants as of
@@ -16,6 +16,10 @@ use Rattle.uimg_fit_base.specs.declared.fault.Fault.TheVariants as of
 -- A value that is there ends within so many bytes.
 abbrev pub Ends : ℕ → Option Span → Type 0
 Ends size value = IfSome value (λ s. s.place + s.length ≤ size)
+
+-- A name that ends there.
+abbrev pub NameInside : ℕ → Span → Type 0
+NameInside size name = name.place + name.length ≤ size
 
 pub record HashInside (size : ℕ) (facts : HashFacts) : Type 0 where
   pub name : facts.name.place + facts.name.length ≤ size
@@ -47,6 +51,12 @@ pub record ConfigurationInside (size : ℕ) (facts : ConfigurationFacts) : Type 
   pub ramdisk : Ends size facts.ramdisk
   pub fdt : Ends size facts.fdt
   pub loadables : Ends size facts.loadables
+  pub firmware : Ends size facts.firmware
+  pub fpga : Ends size facts.fpga
+  pub setup : Ends size facts.setup
+  pub standalone : Ends size facts.standalone
+  pub script : Ends size facts.script
+  pub nodes : All (NameInside size) facts.nodes.items
 
 -- Each value ends in the blob, and this in the file.
 pub record SurveyInside (size : ℕ) (facts : Survey) : Type 0 where
@@ -67,6 +77,11 @@ abbrev pub lacks_room : {X : Type 0} → Result X SurveyFault → Bool
 lacks_room (Err (Stopped (of.Blob fault at))) = refuses_memory fault
 lacks_room _ = false
 
+-- the answer is that the source changed
+abbrev pub is_changed : {X : Type 0} → Result X SurveyFault → Bool
+is_changed (Err Changed) = true
+is_changed _ = false
+
 -- An answer is what the file says, or its first fault, unless a read failed or memory was refused.
 abbrev pub Surveys : List ℕ → Result Survey SurveyFault → Type 0
 Surveys file (Ok survey) = survey_of file ≡ Ok (read_survey file survey)
@@ -75,3 +90,13 @@ Surveys file (Err (Stopped (of.Fit fault))) = survey_of file ≡ Err (of.Fit fau
 Surveys file (Err (Stopped of.Read)) = ⊤
 Surveys file (Err (Stopped of.Put)) = ⊥
 Surveys file (Err OutOfMemory) = ⊤
+Surveys file (Err Changed) = ⊥
+
+-- a fault of the reading itself: a read failed, or memory was refused
+abbrev pub is_own : SurveyFault → Bool
+is_own (Stopped of.Read) = true
+is_own OutOfMemory = true
+is_own _ = false
+
+abbrev pub IsOwn : {X : Type 0} → Result X SurveyFault → Type 0
+IsOwn result = IfErr result (λ fault. is_own fault ≡ true)

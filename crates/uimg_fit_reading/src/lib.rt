@@ -23,6 +23,7 @@ pub use named::{locate_name, locate_named};
 pub use places::find_payload;
 pub use report::{is_vouched, verify};
 pub use surveying::{
-    ConfigurationFacts, HashFacts, ImageFacts, PayloadFacts, Survey, SurveyFault, survey,
+    ConfigurationFacts, FullSurvey, HashFacts, ImageFacts, PayloadFacts, Survey, SurveyFault,
+    read_bytes, survey, survey_with_properties,
 };
 pub use unpacking::{MemTake, MemTaker, NodeName, Refusal, Taker, Unpacked, Vouched, unpack};

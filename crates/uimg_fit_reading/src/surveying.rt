@@ -1,6 +1,6 @@
 //! What a FIT image says of itself is gathered, without its payloads.
 
-ghost use Rattle.std.specs.Prelude.{◌≡◌, ◌<◌, ℕ, List, length, false, IsTrue, IfOk, IfSome};
+ghost use Rattle.std.specs.Prelude.{◌≡◌, ◌+◌, ◌<◌, ℕ, List, length, false, IsTrue, IfOk, IfSome};
 ghost use Rattle.uimg_base.specs.Using.{UsesAtMost};
 ghost use Rattle.uimg_blob.specs.Counts.{index_cost};
 ghost use Rattle.uimg_blob.specs.Grammar.{Siblings};
@@ -8,9 +8,10 @@ ghost use Rattle.uimg_blob.specs.LookUps.{NodeOf, images, configurations};
 ghost use Rattle.uimg_blob.specs.Roles.{in_images};
 ghost use Rattle.uimg_blob.specs.Spots.{Spot, spots};
 ghost use Rattle.uimg_fit_reading.specs.Nodes.{Indexed, InFile, IsRead, AreFrom};
+ghost use Rattle.uimg_fit_reading.specs.FullSurvey.{properties_of, properties_cost, read_properties, FullInside, survey_in};
 ghost use Rattle.uimg_fit_reading.specs.Rooms.{TakesNodes};
 ghost use Rattle.uimg_fit_reading.specs.Survey.{said_of, read_survey, preferred_in, configurations_in, read_configuration, survey_of};
-ghost use Rattle.uimg_fit_reading.specs.SurveyParts.{Ends, ConfigurationInside, SurveyInside, is_unread, lacks_room, Surveys};
+ghost use Rattle.uimg_fit_reading.specs.SurveyParts.{Ends, ConfigurationInside, SurveyInside, is_unread, lacks_room, is_changed, Surveys};
 ghost use Rattle.std.specs.List.{All};
 ghost use Rattle.std.specs.Prelude.{map};
 ghost use Rattle.uimg_fit_base.specs.Files.{bytes_in};
@@ -18,17 +19,21 @@ ghost use Rattle.uimg_fit_base.specs.Files.{bytes_in};
 mod facts;
 mod fault;
 mod gathered_nodes;
+mod listed_properties;
+mod values;
 
 use crate::images::first_image;
 use crate::nodes::{child_of, configurations_of, root_value, value_of};
 pub(crate) use crate::surveying::gathered_nodes::payload_facts;
 use crate::surveying::gathered_nodes::{gather_configurations, gather_images};
+use crate::surveying::listed_properties::configuration_properties;
 use crate::tree::read_tree;
-pub use facts::{ConfigurationFacts, HashFacts, ImageFacts, PayloadFacts, Survey};
+pub use facts::{ConfigurationFacts, FullSurvey, HashFacts, ImageFacts, PayloadFacts, Survey};
 pub use fault::SurveyFault;
 use std::alloc::{AllocError, Allocator, Global};
 use uimg_base::{Room, Source, Span};
 use uimg_blob::{Blob, Key};
+pub use values::read_bytes;
 
 // The default and what the configurations say, if there are any.
 fn configurations<A: Allocator>(
@@ -60,6 +65,7 @@ fn gather<A: Allocator>(
 ) -> Result<Survey, AllocError>
     requires within { IfSome first (λ i. i < length room.now.entries) }
     requires indexed { Indexed blob.now room.now.entries }
+    ensures totalsize { IfOk result (λ survey. survey.totalsize ≡ blob.now.totalsize) }
     ensures inside { (size : ℕ) → InFile size blob.now room.now.entries →
         IfOk result (SurveyInside size) }
     ensures said { (file : List ℕ) (t : Siblings) → IsRead file blob.now room.now.entries t →
@@ -78,12 +84,13 @@ fn gather<A: Allocator>(
     })
 }
 
-/// What a FIT image says of itself: of its root, its images with their hash nodes, and its configurations,
-/// all but the payloads. Each value is told as the place where it stands, and no value is read.
+/// What a FIT image says of itself: of its root, its images with their hash nodes, and its configurations
+/// with the names of the nodes below them, all but the payloads. Each value is told as the place where it
+/// stands, and no value is read.
 ///
 /// Refusals are those of the blob, then `NoImages`. The room holds the nodes meanwhile, and refuses memory
-/// as it does for a listing; `OutOfMemory` comes where memory for what is gathered was refused, some 250
-/// bytes for an image or a configuration and 80 for a hash node.
+/// as it does for a listing; `OutOfMemory` comes where memory for what is gathered was refused, some 300
+/// bytes for an image or a configuration, 80 for a hash node and 16 for a node below a configuration.
 pub fn survey<S: Source, A: Allocator>(
     alloc: Global,
     source: &mut S,
@@ -93,9 +100,44 @@ pub fn survey<S: Source, A: Allocator>(
         (S.device source.old) (S.device source.new) }
     ensures room { TakesNodes (S.device source.old) (lacks_room result) room.old room.new }
     ensures inside { IfOk result (SurveyInside (length (S.device source.old).bytes)) }
+    ensures unchanged { is_changed result ≡ false }
     ensures told { IsTrue (S.device source.old).honest → Surveys (S.device source.old).bytes result }
 {
     let blob = read_tree(source, room)?;
     let first = first_image(&blob, room)?;
     Ok(gather(alloc, &blob, room, first)?)
+}
+
+/// What `survey` tells, and for each configuration, in the same order, where its properties stand, in their
+/// order, those of no known key too.
+///
+/// The properties are read from the structure block again, behind what `survey` asks for: an honest source
+/// is asked for at most 44 bytes for each configuration, 268 for each of its properties and 4 for each NOP
+/// of the blob. No value is read.
+///
+/// Refusals are those of `survey`. `Stopped` with `Read` comes exactly where a read failed, `OutOfMemory`
+/// also where memory for the places was refused, 32 bytes for each property, and `Changed` only where the
+/// source has not the blob that was indexed.
+pub fn survey_with_properties<S: Source, A: Allocator>(
+    alloc: Global,
+    source: &mut S,
+    room: &mut Room<A>,
+) -> Result<FullSurvey, SurveyFault>
+    ensures uses { UsesAtMost (index_cost (S.device source.old).bytes + properties_cost (S.device source.old).bytes)
+        (is_unread result) (S.device source.old) (S.device source.new) }
+    ensures room { TakesNodes (S.device source.old) (lacks_room result) room.old room.new }
+    ensures inside { IfOk result (FullInside (length (S.device source.old).bytes)) }
+    ensures told { IsTrue (S.device source.old).honest →
+        Surveys (S.device source.old).bytes (survey_in result) }
+    ensures properties { IsTrue (S.device source.old).honest → IfOk result (λ full.
+        map (read_properties (S.device source.old).bytes) full.properties.items
+        ≡ properties_of (S.device source.old).bytes) }
+{
+    let blob = read_tree(source, room)?;
+    let first = first_image(&blob, room)?;
+    let survey = gather(alloc, &blob, room, first)?;
+    match configuration_properties(alloc, source, &blob, room) {
+        Ok(properties) => Ok(FullSurvey { survey, properties }),
+        Err(fault) => Err(fault),
+    }
 }

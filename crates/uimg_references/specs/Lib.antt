@@ -1,3 +1,4 @@
+pub mod Given
 pub mod Names
 pub mod Properties
 pub mod References

@@ -7,7 +7,8 @@ use Rattle.uimg_fit_reading.specs.Survey.{Said, ConfigurationSaid}
 use Rattle.uimg_fit_reading.specs.Values.{pieces}
 use Rattle.uimg_references.specs.declared.missing.Missing.{Missing}
 use Rattle.uimg_references.specs.declared.reference.Reference.{Reference}
-use Rattle.uimg_references.specs.declared.reference.Reference.TheVariants.{Default, Kernel, Ramdisk, Fdt, Loadables}
+use Rattle.uimg_references.specs.declared.reference.Reference.TheVariants.{Default}
+use Rattle.uimg_references.specs.Given.{given_by}
 use Rattle.uimg_references.specs.Names.{is_lost}
 
 -- A name that is given: by which configuration, or by the node of all of them, and under which property.
@@ -30,12 +31,14 @@ abbrev pub first_of : Option MissingSaid → Option MissingSaid → Option Missi
 first_of (Some found) later = Some found
 first_of None later = later
 
+-- the first of the values of some properties
+abbrev pub missing_among : List (List ℕ) → Option (List ℕ) → List (Reference × Option (List ℕ)) → Option MissingSaid
+missing_among names giver [] = None
+missing_among names giver (given ∷ more) = first_of (missing_under names giver given.0 given.1) (missing_among names giver more)
+
 -- the first name of a configuration that no image has
 abbrev pub missing_of : List (List ℕ) → ConfigurationSaid → Option MissingSaid
-missing_of images c =
-    first_of (missing_under images (Some c.name) Kernel c.kernel)
-    (first_of (missing_under images (Some c.name) Ramdisk c.ramdisk)
-    (first_of (missing_under images (Some c.name) Fdt c.fdt) (missing_under images (Some c.name) Loadables c.loadables)))
+missing_of images c = missing_among images (Some c.name) (given_by c)
 
 -- of some configurations
 abbrev pub first_missing : List (List ℕ) → List ConfigurationSaid → Option MissingSaid

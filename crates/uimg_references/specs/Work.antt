@@ -1,13 +1,20 @@
 -- The most bytes that are asked for: each name and each value once.
-use Rattle.std.specs.Prelude.{ℕ, ◌+◌}
+use Rattle.std.specs.Prelude.{ℕ, ◌+◌, Option}
 use Rattle.std.specs.List.{sum_by}
+use Rattle.uimg_base.specs.declared.spans.Span.{Span}
 use Rattle.uimg_fit_reading.specs.declared.surveying.facts.ConfigurationFacts.{ConfigurationFacts}
 use Rattle.uimg_fit_reading.specs.declared.surveying.facts.Survey.{Survey}
 use Rattle.uimg_fit_reading.specs.Heads.{span_size}
+use Rattle.uimg_references.specs.declared.reference.Reference.{Reference}
+use Rattle.uimg_references.specs.Given.{given_facts}
+
+-- of a value that is given
+abbrev pub given_size : Reference × Option Span → ℕ
+given_size given = span_size given.1
 
 -- of the values of a configuration
 abbrev pub values_size : ConfigurationFacts → ℕ
-values_size c = span_size c.kernel + span_size c.ramdisk + span_size c.fdt + span_size c.loadables
+values_size c = sum_by given_size (given_facts c)
 
 -- of all
 abbrev pub missing_work : Survey → ℕ

@@ -3,7 +3,6 @@
 
 mod missing;
 mod names;
-mod reads;
 mod reference;
 
 pub use missing::{Missing, find_missing};

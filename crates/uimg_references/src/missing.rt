@@ -7,19 +7,19 @@ ghost use Rattle.uimg_base.specs.Using.{Asks};
 ghost use Rattle.uimg_fit_base.specs.Files.{bytes_in};
 ghost use Rattle.uimg_fit_reading.specs.Heads.{span_size};
 ghost use Rattle.uimg_fit_reading.specs.Survey.{read_configuration, read_survey};
-ghost use Rattle.uimg_fit_reading.specs.SurveyParts.{Ends, ConfigurationInside, SurveyInside, is_unread};
+ghost use Rattle.uimg_fit_reading.specs.SurveyParts.{Ends, IsOwn, ConfigurationInside, SurveyInside, is_unread};
 ghost use Rattle.uimg_fit_reading.specs.Values.{pieces};
+ghost use Rattle.uimg_references.specs.Given.{given_facts, read_given, GivenInside};
 ghost use Rattle.uimg_references.specs.Names.{HasNames, is_lost};
-ghost use Rattle.uimg_references.specs.Work.{values_size, missing_work};
-ghost use Rattle.uimg_references.specs.References.{read_missing, missing_under, missing_of, first_missing, missing_in};
+ghost use Rattle.uimg_references.specs.Work.{given_size, values_size, missing_work};
+ghost use Rattle.uimg_references.specs.References.{read_missing, missing_under, missing_among, missing_of, first_missing, missing_in};
 
 use crate::names::{configuration_names, image_names};
-use crate::reads::read_bytes;
 use crate::reference::Reference;
 use std::alloc::Global;
 use std::collections::BTreeSet;
 use uimg_base::{Source, Span, before_nul};
-use uimg_fit_reading::{ConfigurationFacts, Survey, SurveyFault};
+use uimg_fit_reading::{ConfigurationFacts, Survey, SurveyFault, read_bytes};
 
 /// A name that is given, and that no image, or no configuration, has.
 #[derive(Drop)]
@@ -73,6 +73,7 @@ fn missing_under<S: Source>(
 ) -> Result<Option<Missing>, SurveyFault>
     requires { Ends (length (S.device source.old).bytes) value }
     ensures uses { Asks (span_size value) (is_unread result) (S.device source.old) (S.device source.new) }
+    ensures own { IsOwn result }
     ensures told { IsTrue (S.device source.old).honest → (list : List (List ℕ)) →
         HasNames names.now list → IfOk result (λ found.
         option_map (read_missing (S.device source.old).bytes) found
@@ -93,6 +94,49 @@ fn missing_under<S: Source>(
     }
 }
 
+// The properties of a configuration whose values name images, in the order in which they are looked at.
+fn given_by(configuration: &ConfigurationFacts) -> [(Reference, Option<Span>); 9]
+    ensures { result ≡ given_facts configuration.now }
+{
+    [
+        (Reference::Kernel, configuration.kernel),
+        (Reference::Ramdisk, configuration.ramdisk),
+        (Reference::Fdt, configuration.fdt),
+        (Reference::Loadables, configuration.loadables),
+        (Reference::Firmware, configuration.firmware),
+        (Reference::Fpga, configuration.fpga),
+        (Reference::Setup, configuration.setup),
+        (Reference::Standalone, configuration.standalone),
+        (Reference::Script, configuration.script),
+    ]
+}
+
+// The first text of the values of some properties that is none of some names, if there is one.
+fn missing_among<S: Source>(
+    alloc: Global,
+    source: &mut S,
+    names: &BTreeSet<Vec<u8>>,
+    configuration: Option<Span>,
+    properties: &[(Reference, Option<Span>)],
+) -> Result<Option<Missing>, SurveyFault>
+    requires { All (GivenInside (length (S.device source.old).bytes)) properties.now }
+    ensures uses { Asks (sum_by given_size properties.now) (is_unread result) (S.device source.old) (S.device source.new) }
+    ensures own { IsOwn result }
+    ensures told { IsTrue (S.device source.old).honest → (list : List (List ℕ)) →
+        HasNames names.now list → IfOk result (λ found.
+        option_map (read_missing (S.device source.old).bytes) found
+        ≡ missing_among list (bytes_in (S.device source.old).bytes configuration)
+        (map (read_given (S.device source.old).bytes) properties.now)) }
+{
+    for (reference, value) in properties {
+        let found = missing_under(alloc, source, names, configuration, *reference, *value)?;
+        if found.is_some() {
+            return Ok(found);
+        }
+    }
+    Ok(None)
+}
+
 // The first name that a configuration gives and no image has.
 fn missing_of<S: Source>(
     alloc: Global,
@@ -102,53 +146,14 @@ fn missing_of<S: Source>(
 ) -> Result<Option<Missing>, SurveyFault>
     requires { ConfigurationInside (length (S.device source.old).bytes) configuration.now }
     ensures uses { Asks (values_size configuration.now) (is_unread result) (S.device source.old) (S.device source.new) }
+    ensures own { IsOwn result }
     ensures told { IsTrue (S.device source.old).honest → (list : List (List ℕ)) →
         HasNames images.now list → IfOk result (λ found.
         option_map (read_missing (S.device source.old).bytes) found
         ≡ missing_of list (read_configuration (S.device source.old).bytes configuration.now)) }
 {
-    let name = Some(configuration.name);
-    let kernel = missing_under(
-        alloc,
-        source,
-        images,
-        name,
-        Reference::Kernel,
-        configuration.kernel,
-    )?;
-    if kernel.is_some() {
-        return Ok(kernel);
-    }
-    let ramdisk = missing_under(
-        alloc,
-        source,
-        images,
-        name,
-        Reference::Ramdisk,
-        configuration.ramdisk,
-    )?;
-    if ramdisk.is_some() {
-        return Ok(ramdisk);
-    }
-    let fdt = missing_under(
-        alloc,
-        source,
-        images,
-        name,
-        Reference::Fdt,
-        configuration.fdt,
-    )?;
-    if fdt.is_some() {
-        return Ok(fdt);
-    }
-    missing_under(
-        alloc,
-        source,
-        images,
-        name,
-        Reference::Loadables,
-        configuration.loadables,
-    )
+    let given = given_by(configuration);
+    missing_among(alloc, source, images, Some(configuration.name), &given)
 }
 
 // The first name that some configurations give and no image has.
@@ -160,6 +165,7 @@ fn first_missing<S: Source>(
 ) -> Result<Option<Missing>, SurveyFault>
     requires { All (ConfigurationInside (length (S.device source.old).bytes)) configurations.now }
     ensures uses { Asks (sum_by values_size configurations.now) (is_unread result) (S.device source.old) (S.device source.new) }
+    ensures own { IsOwn result }
     ensures told { IsTrue (S.device source.old).honest → (list : List (List ℕ)) →
         HasNames images.now list → IfOk result (λ found.
         option_map (read_missing (S.device source.old).bytes) found
@@ -176,11 +182,12 @@ fn first_missing<S: Source>(
 }
 
 /// The first name that a FIT image gives and does not have: its default where no configuration has this
-/// name, or else a name under `kernel`, `ramdisk`, `fdt` or `loadables` of a configuration, in this order,
-/// that no image has. The configurations come in their order, and of a value each of its texts is a name.
+/// name, or else a name under `kernel`, `ramdisk`, `fdt`, `loadables`, `firmware`, `fpga`, `setup`,
+/// `standalone` or `script` of a configuration, in this order, that no image has. The configurations come
+/// in their order, and of a value each of its texts is a name.
 ///
-/// Each name, and each value up to the one that is told, is read once. The names and one value at a time are held in memory, `OutOfMemory` where it was refused. `Stopped` has
-/// a failed read, and no other fault.
+/// Each name, and each value up to the one that is told, is read once. The names and one value at a time
+/// are held in memory, `OutOfMemory` where it was refused. `Stopped` has a failed read, and no other fault.
 pub fn find_missing<S: Source>(
     alloc: Global,
     source: &mut S,
@@ -188,6 +195,7 @@ pub fn find_missing<S: Source>(
 ) -> Result<Option<Missing>, SurveyFault>
     requires { SurveyInside (length (S.device source.old).bytes) survey.now }
     ensures uses { Asks (missing_work survey.now) (is_unread result) (S.device source.old) (S.device source.new) }
+    ensures own { IsOwn result }
     ensures told { IsTrue (S.device source.old).honest → IfOk result (λ found.
         option_map (read_missing (S.device source.old).bytes) found
         ≡ missing_in (read_survey (S.device source.old).bytes survey.now)) }

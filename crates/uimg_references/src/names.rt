@@ -5,15 +5,14 @@ ghost use Rattle.std.specs.Result.{OnOk};
 ghost use Rattle.std.specs.List.{All, list_any, sum_by};
 ghost use Rattle.std.specs.Str.{bytes_eq};
 ghost use Rattle.uimg_base.specs.Using.{Asks};
-ghost use Rattle.uimg_fit_reading.specs.SurveyParts.{is_unread, ImageInside, ConfigurationInside};
+ghost use Rattle.uimg_fit_reading.specs.SurveyParts.{is_unread, IsOwn, ImageInside, ConfigurationInside};
 ghost use Rattle.uimg_references.specs.Names.{has, name_in, image_name_in, configuration_name_in, HasNames};
 ghost use Rattle.uimg_texts.specs.Slices.{slice};
 
-use crate::reads::read_bytes;
 use std::alloc::Global;
 use std::collections::BTreeSet;
 use uimg_base::{Source, Span};
-use uimg_fit_reading::{ConfigurationFacts, ImageFacts, SurveyFault};
+use uimg_fit_reading::{ConfigurationFacts, ImageFacts, SurveyFault, read_bytes};
 
 // Adds the name at a span to some.
 fn add_name<S: Source>(
@@ -24,6 +23,7 @@ fn add_name<S: Source>(
 ) -> Result<(), SurveyFault>
     requires { span.place + span.length ≤ length (S.device source.old).bytes }
     ensures uses { Asks span.length (is_unread result) (S.device source.old) (S.device source.new) }
+    ensures own { IsOwn result }
     ensures told { IsTrue (S.device source.old).honest → OnOk result ((name : List ℕ) →
         has names.new name ≡ (bytes_eq name (name_in (S.device source.old).bytes span) || has names.old name)) }
 {
@@ -42,6 +42,7 @@ pub(crate) fn image_names<S: Source>(
 ) -> Result<BTreeSet<Vec<u8>>, SurveyFault>
     requires { All (ImageInside (length (S.device source.old).bytes)) images.now }
     ensures uses { Asks (sum_by (λ i. i.name.length) images.now) (is_unread result) (S.device source.old) (S.device source.new) }
+    ensures own { IsOwn result }
     ensures told { IsTrue (S.device source.old).honest → IfOk result (λ names.
         HasNames names (map (image_name_in (S.device source.old).bytes) images.now)) }
 {
@@ -60,6 +61,7 @@ pub(crate) fn configuration_names<S: Source>(
 ) -> Result<BTreeSet<Vec<u8>>, SurveyFault>
     requires { All (ConfigurationInside (length (S.device source.old).bytes)) configurations.now }
     ensures uses { Asks (sum_by (λ c. c.name.length) configurations.now) (is_unread result) (S.device source.old) (S.device source.new) }
+    ensures own { IsOwn result }
     ensures told { IsTrue (S.device source.old).honest → IfOk result (λ names.
         HasNames names (map (configuration_name_in (S.device source.old).bytes) configurations.now)) }
 {

@@ -16,6 +16,16 @@ pub enum Reference {
     Fdt,
     /// `loadables`: names of images.
     Loadables,
+    /// `firmware`: an image's name.
+    Firmware,
+    /// `fpga`: an image's name.
+    Fpga,
+    /// `setup`: an image's name.
+    Setup,
+    /// `standalone`: an image's name.
+    Standalone,
+    /// `script`: an image's name.
+    Script,
 }
 
 impl Reference {
@@ -29,6 +39,11 @@ impl Reference {
             Reference::Ramdisk => "ramdisk",
             Reference::Fdt => "fdt",
             Reference::Loadables => "loadables",
+            Reference::Firmware => "firmware",
+            Reference::Fpga => "fpga",
+            Reference::Setup => "setup",
+            Reference::Standalone => "standalone",
+            Reference::Script => "script",
         }
     }
 }

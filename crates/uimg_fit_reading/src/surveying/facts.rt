@@ -1,6 +1,7 @@
 //! What a FIT image says of itself, as the places of the values in its file.
 
 use uimg_base::Span;
+use uimg_blob::PropertyPlace;
 
 /// What a hash node says.
 #[derive(Clone, Copy, Debug, PartialEq, Eq)]
@@ -52,7 +53,7 @@ pub struct PayloadFacts {
 }
 
 /// What a configuration says.
-#[derive(Clone, Copy, Debug, PartialEq, Eq)]
+#[derive(Drop)]
 pub struct ConfigurationFacts {
     /// Its name.
     pub name: Span,
@@ -66,6 +67,18 @@ pub struct ConfigurationFacts {
     pub fdt: Option<Span>,
     /// `loadables`: names of images.
     pub loadables: Option<Span>,
+    /// `firmware`: an image's name.
+    pub firmware: Option<Span>,
+    /// `fpga`: an image's name.
+    pub fpga: Option<Span>,
+    /// `setup`: an image's name.
+    pub setup: Option<Span>,
+    /// `standalone`: an image's name.
+    pub standalone: Option<Span>,
+    /// `script`: an image's name.
+    pub script: Option<Span>,
+    /// The names of the nodes below it, its hashes and signatures, in their order.
+    pub nodes: Vec<Span>,
 }
 
 /// What a FIT image says of itself. Of properties that come twice in a node the first counts.
@@ -83,4 +96,13 @@ pub struct Survey {
     pub preferred: Option<Span>,
     /// The configurations, in their order.
     pub configurations: Vec<ConfigurationFacts>,
+}
+
+/// What a FIT image says of itself, and where the properties of its configurations stand.
+#[derive(Drop)]
+pub struct FullSurvey {
+    /// What it says.
+    pub survey: Survey,
+    /// For each configuration, in their order, where its properties stand, in their order.
+    pub properties: Vec<Vec<PropertyPlace>>,
 }

@@ -14,6 +14,9 @@ pub enum SurveyFault {
     /// Memory for what is gathered was refused.
     #[error("out of memory")]
     OutOfMemory,
+    /// The source has not the blob that was indexed. It comes only of `survey_with_properties`.
+    #[error("changed while it was read")]
+    Changed,
 }
 
 impl From<Fault> for SurveyFault {

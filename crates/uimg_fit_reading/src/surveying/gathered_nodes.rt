@@ -4,16 +4,16 @@ ghost use Rattle.std.specs.Prelude.{◌≡◌, ◌<◌, ℕ, List, length, map, 
 ghost use Rattle.std.specs.List.{All};
 ghost use Rattle.uimg_blob.specs.Grammar.{Siblings};
 ghost use Rattle.uimg_blob.specs.LookUps.{NodeOf, hashes};
-ghost use Rattle.uimg_blob.specs.Roles.{in_image, in_images, in_configurations, is_hash};
+ghost use Rattle.uimg_blob.specs.Roles.{in_image, in_images, in_configurations, elsewhere, is_hash};
 ghost use Rattle.uimg_blob.specs.Spots.{Spot};
 ghost use Rattle.uimg_fit_reading.specs.Nodes.{Indexed, InFile, IsRead, IsNode, AreFrom, AtLevel, HashesAt};
-ghost use Rattle.uimg_fit_reading.specs.Survey.{hash_said, payload_said, image_said, configuration_said, read_hash, read_payload, read_image, read_configuration};
-ghost use Rattle.uimg_fit_reading.specs.SurveyParts.{HashInside, PayloadInside, ImageInside, ConfigurationInside};
+ghost use Rattle.uimg_fit_reading.specs.Survey.{hash_said, payload_said, image_said, configuration_said, node_name, read_name, read_hash, read_payload, read_image, read_configuration};
+ghost use Rattle.uimg_fit_reading.specs.SurveyParts.{NameInside, HashInside, PayloadInside, ImageInside, ConfigurationInside};
 
-use crate::nodes::{first_hash, name_of, next_hash, next_of, value_of};
+use crate::nodes::{child_of, first_hash, name_of, next_hash, next_of, value_of};
 use crate::surveying::facts::{ConfigurationFacts, HashFacts, ImageFacts, PayloadFacts};
 use std::alloc::{AllocError, Allocator, Global};
-use uimg_base::Room;
+use uimg_base::{Room, Span};
 use uimg_blob::{Blob, Key};
 
 // What a hash node says.
@@ -122,26 +122,59 @@ pub(super) fn gather_images<A: Allocator>(
     Ok(facts)
 }
 
+// The names of the nodes from one on, below a configuration.
+fn gather_names<A: Allocator>(
+    alloc: Global,
+    blob: &Blob,
+    room: &Room<A>,
+    first: Option<usize>,
+) -> Result<Vec<Span>, AllocError>
+    requires within { IfSome first (λ i. i < length room.now.entries) }
+    requires indexed { Indexed blob.now room.now.entries }
+    ensures inside { (size : ℕ) → InFile size blob.now room.now.entries →
+        IfOk result (λ names. All (NameInside size) names.items) }
+    ensures said { (file : List ℕ) (t : Siblings) → IsRead file blob.now room.now.entries t →
+        (found : List (NodeOf Spot)) → AreFrom t elsewhere first found →
+        IfOk result (λ names. map (read_name file) names.items ≡ map node_name found) }
+{
+    let mut names = Vec::new(alloc);
+    let mut next = first;
+    while let Some(node) = next {
+        names.push(name_of(blob, room, node))?;
+        next = next_of(blob, room, node);
+    }
+    Ok(names)
+}
+
 // What a configuration says.
 fn configuration_facts<A: Allocator>(
+    alloc: Global,
     blob: &Blob,
     room: &Room<A>,
     configuration: usize,
-) -> ConfigurationFacts
-    requires { configuration < length room.now.entries }
+) -> Result<ConfigurationFacts, AllocError>
+    requires within { configuration < length room.now.entries }
+    requires indexed { Indexed blob.now room.now.entries }
     ensures inside { (size : ℕ) → InFile size blob.now room.now.entries →
-        ConfigurationInside size result }
+        IfOk result (ConfigurationInside size) }
     ensures said { AtLevel blob.now room.now.entries in_configurations configuration (λ file found.
-        read_configuration file result ≡ configuration_said found) }
+        IfOk result (λ facts. read_configuration file facts ≡ configuration_said found)) }
 {
-    ConfigurationFacts {
+    let nodes = gather_names(alloc, blob, room, child_of(blob, room, configuration))?;
+    Ok(ConfigurationFacts {
         name: name_of(blob, room, configuration),
         description: value_of(blob, room, configuration, Key::Description),
         kernel: value_of(blob, room, configuration, Key::Kernel),
         ramdisk: value_of(blob, room, configuration, Key::Ramdisk),
         fdt: value_of(blob, room, configuration, Key::Fdt),
         loadables: value_of(blob, room, configuration, Key::Loadables),
-    }
+        firmware: value_of(blob, room, configuration, Key::Firmware),
+        fpga: value_of(blob, room, configuration, Key::Fpga),
+        setup: value_of(blob, room, configuration, Key::Setup),
+        standalone: value_of(blob, room, configuration, Key::Standalone),
+        script: value_of(blob, room, configuration, Key::Script),
+        nodes,
+    })
 }
 
 // What the configurations from one on say.
@@ -163,7 +196,7 @@ pub(super) fn gather_configurations<A: Allocator>(
     let mut facts = Vec::new(alloc);
     let mut next = first;
     while let Some(configuration) = next {
-        facts.push(configuration_facts(blob, room, configuration))?;
+        facts.push(configuration_facts(alloc, blob, room, configuration)?)?;
         next = next_of(blob, room, configuration);
     }
     Ok(facts)

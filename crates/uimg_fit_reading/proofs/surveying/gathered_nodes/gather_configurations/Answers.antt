@@ -17,13 +17,13 @@ loop-next-preserved g c = record {
   within = search rules;
   inside = λ size ends.
       subst (λ (l : List ConfigurationFacts). All (ConfigurationInside size) l) (sym c.in_ok-push.ensures.items)
-      (All-push (ConfigurationInside size) c.loop-next.facts.items c.configuration_facts.result (c.loop-next.invariant.inside size ends) (c.configuration_facts.ensures.inside size ends));
+      (All-push (ConfigurationInside size) c.loop-next.facts.items c.in_ok-configuration_facts.field-0 (c.loop-next.invariant.inside size ends) (c.in_ok-configuration_facts.ensures.inside size ends));
   left = λ file t read all from.
       let k = c.loop-next.invariant.left file t read all from in
       let begins = subst (λ (o : Option ℕ). AreFrom t in_configurations o k.left) c.in-Some.is k.at in
       let f = front t in_configurations c.in-Some.configuration k.left begins in
-      one_gathered (AreFrom t in_configurations) (read_configuration file) configuration_said all c.loop-next.facts.items _ c.configuration_facts.result _ _ k f.image f.more f.are
-      (c.configuration_facts.ensures.said file t read f.image f.node) c.in_ok-push.ensures.items
+      one_gathered (AreFrom t in_configurations) (read_configuration file) configuration_said all c.loop-next.facts.items _ c.in_ok-configuration_facts.field-0 _ _ k f.image f.more f.are
+      (c.in_ok-configuration_facts.ensures.said file t read f.image f.node) c.in_ok-push.ensures.items
       (c.next_of-next.ensures.next t read.indexed in_configurations f.image f.more (subst (λ (l : List (NodeOf Spot)). AreFrom t in_configurations (Some c.in-Some.configuration) l) f.are begins));
 }
 
