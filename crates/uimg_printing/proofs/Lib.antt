@@ -1,0 +1,2 @@
+mod PrintingLaws
+pub mod ShownLaws

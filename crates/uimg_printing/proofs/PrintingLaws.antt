@@ -1,0 +1,25 @@
+-- How a name is printed.
+use Rattle.std.proofs.Common.{◌≡◌, ℕ, zero, suc, ◌+◌, ◌/◌, ◌%◌, ◌<◌, ◌≤◌, ◌==◌, Bool, true, false, cond, not, ◌&&◌, ◌||◌, nat_lt, nat_le, if◌then◌else◌, List, [], ◌∷◌, ◌++◌, inl, inr, refl, ap, ap₂, sym, ◌∙◌, arith, codes}
+use Rattle.std.specs.Prelude.{chars, encode_utf8}
+use Rattle.std.specs.Fmt.{digit_glyph}
+use Rattle.std.specs.List.{flat_map, list_all}
+use Rattle.std.specs.Str.{IsUtf8, is_utf8}
+use Rattle.std.proofs.lemmas.Bool.{and_parts, cases_lt, le-leb, lt-ltb}
+use Rattle.std.proofs.lemmas.List.Folds.{list_all-append}
+use Rattle.std.proofs.lemmas.Str.{IsUtf8-from_is_utf8}
+use Rattle.uimg_printing.specs.Printing.{byte_text, letter_text, odd_text, printed, is_shown}
+
+pub by_bool : {P : Type 0} (b : Bool) → (b ≡ true → P) → (b ≡ false → P) → P
+by_bool true p q = p refl
+by_bool false p q = q refl
+
+pub utf8_not : (t : List ℕ) → ¬ (IsUtf8 t) → is_utf8 t ≡ false
+utf8_not t bad = by_bool (is_utf8 t) (λ e. absurd (bad (IsUtf8-from_is_utf8 t e))) (λ e. e)
+
+pub printed_letters : (is_word : Bool) (name : List ℕ) → is_utf8 name ≡ true → printed is_word name ≡ flat_map (letter_text is_word) (chars name)
+unfolding printed
+printed_letters is_word name is = ap (λ (b : Bool). if b then flat_map (letter_text is_word) (chars name) else flat_map (odd_text is_word) name) is
+
+pub printed_odd : (is_word : Bool) (name : List ℕ) → is_utf8 name ≡ false → printed is_word name ≡ flat_map (odd_text is_word) name
+unfolding printed
+printed_odd is_word name is = ap (λ (b : Bool). if b then flat_map (letter_text is_word) (chars name) else flat_map (odd_text is_word) name) is

@@ -1,0 +1,13 @@
+use Rattle.std.proofs.Common.{◌≡◌, ℕ, List, ◌++◌, chars, IsUtf8}
+use Rattle.std.specs.Fmt.{HasWritten, IsPlainFormatter}
+use Rattle.std.specs.List.{flat_map}
+use Rattle.std.specs.Str.Iter.{chars_rest}
+use Rattle.uimg_printing.specs.Printing.{letter_text}
+use Rattle.uimg_printing.proofs.printed.put_text.Given as goal
+
+abbrev pub invariant-loop-letter : goal.invariant-loop-letter
+invariant-loop-letter g l =
+    IsUtf8 (chars_rest l.rest)
+    × (IsPlainFormatter l.fn.f
+    → (done : List ℕ) × HasWritten g.W.Write.write_str_gives l.fn.f done l.f
+    × (done ++ flat_map (letter_text l.is_word) (chars (chars_rest l.rest)) ≡ flat_map (letter_text l.is_word) (chars l.fn.text)))

@@ -1,0 +1,55 @@
+//! Numbers of things, and bytes in hexadecimal.
+
+ghost use Rattle.std.specs.Prelude.{◌≡◌, Some};
+ghost use Rattle.std.specs.Fmt.{WritesOnOk};
+ghost use Rattle.std.specs.List.{flat_map};
+ghost use Rattle.uimg_printing.specs.Counting.{counted};
+ghost use Rattle.uimg_printing.specs.Printing.{digits_of};
+
+use crate::digits::put_digits;
+use std::fmt;
+use std::fmt::{Display, Formatter, Write};
+
+/// A number of things, with their noun: `1 hash`, `2 hashes`.
+#[derive(Clone, Copy, Debug)]
+pub struct Counted {
+    /// How many they are.
+    pub count: u64,
+
+    /// The noun of one.
+    pub one: &'static str,
+
+    /// That of another number.
+    pub many: &'static str,
+}
+
+impl Display for Counted {
+    ghost output = { λ it. Some (counted it.count it.one.now it.many.now) };
+
+    #[tactic(auto, unfolding(crate::specs::Counting::counted))]
+    fn fmt<W: Write>(&self, f: &mut Formatter<W>) -> fmt::Result {
+        let word = if self.count == 1 { self.one } else { self.many };
+        write!(f, "{} {word}", self.count)
+    }
+}
+
+/// Bytes in hexadecimal, two small digits each.
+#[derive(Clone, Copy, Debug)]
+pub struct Hexadecimal<'a>(pub &'a [u8]);
+
+impl<'a> Display for Hexadecimal<'a> {
+    ghost output = { λ it. Some (flat_map digits_of it.0.now) };
+
+    fn fmt<W: Write>(&self, f: &mut Formatter<W>) -> fmt::Result {
+        put_all(self.0, f)
+    }
+}
+
+fn put_all<W: Write>(bytes: &[u8], f: &mut Formatter<W>) -> fmt::Result
+    ensures { WritesOnOk W.Write.write_str_gives f.old result (flat_map digits_of bytes.now) f.new }
+{
+    for byte in bytes {
+        put_digits(*byte, f)?;
+    }
+    Ok(())
+}
