@@ -1,2 +1,4 @@
 pub mod LineLaws
-mod ObjectLaws
+pub mod SoundLaws
+pub mod StepLaws
+pub mod TextLaws

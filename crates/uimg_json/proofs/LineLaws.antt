@@ -2,15 +2,12 @@
 use Rattle.std.proofs.Common.{◌≡◌, ℕ, zero, suc, ◌+◌, ◌/◌, ◌%◌, ◌<◌, ◌==◌, Bool, true, false, cond, ◌&&◌, nat_lt, if◌then◌else◌, List, [], ◌∷◌, ◌++◌, inl, inr, refl, ap, ap₂, ◌∙◌, arith, decimal}
 use Rattle.std.proofs.lemmas.Bool.{and_parts, cases_lt, cases_eq, le-leb}
 use Rattle.std.proofs.lemmas.List.Folds.{list_all-append}
-use Rattle.std.specs.Borrow.{Bor}
 use Rattle.std.specs.Fmt.{digit_glyph, digits, digits_onto}
 use Rattle.json.specs.Token.{Token}
 use Rattle.json.specs.Print.{escape_byte, escape, quoted, token_text, separator, begins, ends, print, print_from}
 use Rattle.json.specs.Tree.{json_tokens, members_tokens}
 use Rattle.json.proofs.Printed.Strings.{escape_byte_plain}
-use Rattle.uimg_json.specs.declared.objects.Value.{Value}
-use Rattle.uimg_json.specs.declared.objects.Value.TheVariants.{Text, Number}
-use Rattle.uimg_json.specs.Objects.{members_of, object_of, is_one_line}
+use Rattle.uimg_json.specs.Objects.{is_one_line}
 
 -- two such texts are one
 pub joined : (xs ys : List ℕ) → is_one_line xs ≡ true → is_one_line ys ≡ true → is_one_line (xs ++ ys) ≡ true
@@ -76,19 +73,3 @@ comma false = refl
 pub token_then : (after : Bool) (t : Token) (ts : List Token) → is_one_line (token_text t) ≡ true → is_one_line (print_from (ends t) ts) ≡ true → is_one_line (print_from after (t ∷ ts)) ≡ true
 unfolding print_from
 token_then after t ts p q = joined (separator after t) (token_text t ++ print_from (ends t) ts) (comma (after && begins t)) (joined (token_text t) (print_from (ends t) ts) p q)
-
-members : (after : Bool) (ms : List (Bor (List ℕ) × Value)) → is_one_line (print_from after (members_tokens (members_of ms))) ≡ true
-unfolding print_from
-members after [] = token_then after Token.end_object [] refl refl
-members after ((name, Text text) ∷ ms) =
-    let left = members_tokens (members_of ms) in
-    let value = token_then false (Token.string text.now) left (in_quotes text.now) (members true ms) in
-    token_then after (Token.key name.now) (Token.string text.now ∷ left) (joined (quoted name.now) (58 ∷ []) (in_quotes name.now) refl) value
-members after ((name, Number n) ∷ ms) =
-    let left = members_tokens (members_of ms) in
-    let value = token_then false (Token.number (decimal n)) left (number n) (members true ms) in
-    token_then after (Token.key name.now) (Token.number (decimal n) ∷ left) (joined (quoted name.now) (58 ∷ []) (in_quotes name.now) refl) value
-
--- the text of an object
-pub one_line : (ms : List (Bor (List ℕ) × Value)) → is_one_line (print (json_tokens (object_of ms))) ≡ true
-one_line ms = token_then false Token.begin_object (members_tokens (members_of ms)) refl (members false ms)

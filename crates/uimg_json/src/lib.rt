@@ -1,8 +1,8 @@
-//! Objects of JSON: texts and numbers under names, and names that need not be UTF-8.
+//! Objects of JSON, member by member, and names that need not be UTF-8.
 #![tactic(auto)]
 
-mod objects;
+mod members;
 mod spelling;
 
-pub use objects::{Value, object_text};
+pub use members::{put_key, put_number, put_number_if, put_string, put_text};
 pub use spelling::{Spelling, spell};
