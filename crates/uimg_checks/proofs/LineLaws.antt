@@ -1,0 +1,89 @@
+-- A line has no control character of ASCII, if none of the answer's own text is one.
+use Rattle.std.proofs.Common.{◌≡◌, ℕ, ◌==◌, Bool, true, false, if◌then◌else◌, List, [], ◌∷◌, ◌++◌, Option, Some, None, Result, Ok, Err, IfOk, refl, ap, ◌∙◌, codes, decimal}
+use Rattle.std.specs.Borrow.{Bor}
+use Rattle.uimg_printing.specs.Counting.{counted}
+use Rattle.uimg_printing.specs.Printing.{printed, is_shown}
+use Rattle.uimg_printing.proofs.ShownLaws.{joined, shown, counted_shown}
+use Rattle.uimg_fit_base.specs.declared.verdicts.Verdict.{Verdict}
+use Rattle.uimg_fit_base.specs.declared.verdicts.Verdict.TheVariants as told
+use Rattle.uimg_fit_base.specs.Report.{word_text}
+use Rattle.uimg_checks.specs.declared.answer.Answer.{Answer}
+use Rattle.uimg_checks.specs.declared.answer.Answer.TheVariants.{Right, Unhashed, Wrong, Weak, Overlapping, Empty, Missing, RightChecksums, BadChecksum, WeakChecksums, Refused, Failed}
+use Rattle.uimg_checks.specs.Answers.{word_of}
+use Rattle.uimg_checks.specs.Lines.{nodes_text, some_unchecked, unchecked_text, named, named_if, details_of, line_of, own_text}
+
+one_of : (b : Bool) (x y : List ℕ) → is_shown x ≡ true → is_shown y ≡ true → is_shown (if b then x else y) ≡ true
+one_of true x y p q = p
+one_of false x y p q = q
+
+nodes_shown : (n : ℕ) → is_shown (nodes_text n) ≡ true
+nodes_shown n =
+    let nodes = counted n (codes "node") (codes "nodes") in
+    joined (codes ", " ++ nodes) (codes " of configurations unchecked") (joined (codes ", ") nodes refl (counted_shown n (codes "node") (codes "nodes") refl refl)) refl
+
+some_shown : (n : ℕ) → is_shown (some_unchecked n) ≡ true
+unfolding some_unchecked
+some_shown n = one_of (n == 0) [] (nodes_text n) refl (nodes_shown n)
+
+unchecked_shown : (unchecked : Option ℕ) → is_shown (unchecked_text unchecked) ≡ true
+unchecked_shown None = refl
+unchecked_shown (Some n) = some_shown n
+
+named_shown : (name : List ℕ) → is_shown (named name) ≡ true
+named_shown name = joined (codes " ") (printed false name) refl (shown false name)
+
+named_if_shown : (name : Option (Bor (List ℕ))) → is_shown (named_if name) ≡ true
+named_if_shown None = refl
+named_if_shown (Some name) = named_shown name.now
+
+details_shown : (answer : Answer) → is_shown (own_text answer) ≡ true → is_shown (details_of answer) ≡ true
+details_shown (Right images hashes unchecked) own =
+    let payloads = counted images (codes "payload") (codes "payloads") in
+    let nodes = counted hashes (codes "hash") (codes "hashes") in
+    let first = joined (codes " ") payloads refl (counted_shown images (codes "payload") (codes "payloads") refl refl) in
+    let second = joined (codes " " ++ payloads ++ codes ", ") nodes (joined (codes " " ++ payloads) (codes ", ") first refl) (counted_shown hashes (codes "hash") (codes "hashes") refl refl) in
+    joined (codes " " ++ payloads ++ codes ", " ++ nodes) (unchecked_text unchecked) second (unchecked_shown unchecked)
+details_shown (Unhashed image) own = named_shown image.now
+details_shown (Wrong verdict image hash) own = joined (named image.now) (named hash.now) (named_shown image.now) (named_shown hash.now)
+details_shown (Weak image) own = named_shown image.now
+details_shown (Overlapping image) own = named_shown image.now
+details_shown Empty own = refl
+details_shown (Missing configuration property name) own =
+    let giver = joined (named_if configuration) (codes " ") (named_if_shown configuration) refl in
+    joined (named_if configuration ++ codes " " ++ property.now) (named name.now) (joined (named_if configuration ++ codes " ") property.now giver own) (named_shown name.now)
+details_shown RightChecksums own = refl
+details_shown BadChecksum own = refl
+details_shown WeakChecksums own = refl
+details_shown (Refused stop) own = joined (codes " ") stop.message.now refl own
+details_shown (Failed stop) own = joined (codes " ") stop.message.now refl own
+
+verdict_shown : (verdict : Verdict) → is_shown (word_text verdict) ≡ true
+verdict_shown told.Malformed = refl
+verdict_shown told.Unsupported = refl
+verdict_shown told.Right = refl
+verdict_shown told.Wrong = refl
+
+word_shown : (answer : Answer) → is_shown (word_of answer) ≡ true
+word_shown (Right images hashes unchecked) = refl
+word_shown (Unhashed image) = refl
+word_shown (Wrong verdict image hash) = verdict_shown verdict
+word_shown (Weak image) = refl
+word_shown (Overlapping image) = refl
+word_shown Empty = refl
+word_shown (Missing configuration property name) = refl
+word_shown RightChecksums = refl
+word_shown BadChecksum = refl
+word_shown WeakChecksums = refl
+word_shown (Refused stop) = refl
+word_shown (Failed stop) = refl
+
+pub line_shown : (path : List ℕ) (answer : Answer) → is_shown (own_text answer) ≡ true → is_shown (line_of path answer) ≡ true
+line_shown path answer own =
+    let first = joined (printed false path) (codes ": ") (shown false path) refl in
+    joined (printed false path ++ codes ": " ++ word_of answer) (details_of answer)
+    (joined (printed false path ++ codes ": ") (word_of answer) first (word_shown answer)) (details_shown answer own)
+
+-- a text that is made of a line
+pub shown_as : {X E : Type 0} (text_of : X → List ℕ) (r : Result X E) (line : List ℕ) → is_shown line ≡ true → IfOk r (λ text. text_of text ≡ line) → IfOk r (λ text. is_shown (text_of text) ≡ true)
+shown_as text_of (Ok text) line shown same = ap is_shown same ∙ shown
+shown_as text_of (Err fault) line shown same = tt

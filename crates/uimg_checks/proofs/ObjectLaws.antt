@@ -1,0 +1,63 @@
+-- The object of an image that was checked is sound.
+use Rattle.std.proofs.Common.{ℕ, List, [], ◌∷◌, ◌++◌, codes, Option, Some, None}
+use Rattle.std.specs.Borrow.{Bor}
+use Rattle.uimg_json.specs.Members.{Member, string_member, number_member, number_if, text_members}
+use Rattle.uimg_json.proofs.SoundLaws.{Sound, AreSound, append_sound, number_sound, number_if_sound, string_sound, text_sound}
+use Rattle.uimg_checks.specs.declared.answer.Answer.{Answer}
+use Rattle.uimg_checks.specs.declared.answer.Answer.TheVariants.{Right, Unhashed, Wrong, Weak, Overlapping, Empty, Missing, RightChecksums, BadChecksum, WeakChecksums, Refused, Failed}
+use Rattle.uimg_checks.specs.declared.answer.Format.{Format}
+use Rattle.uimg_checks.specs.declared.answer.Stop.{Stop}
+use Rattle.uimg_checks.specs.Answers.{status_of, word_of}
+use Rattle.uimg_checks.specs.Objects.{name_of, format_if, string_if, name_if, format_of, stop_members, about, head_members, check_json}
+
+format_sound : (format : Option Format) → AreSound 0 (format_if format)
+format_sound None = tt
+format_sound (Some format) = string_sound 0 (codes "format") (name_of format)
+
+string_if_sound : (key : List ℕ) (text : Option (Bor (List ℕ))) → AreSound 0 (string_if key text)
+string_if_sound key None = tt
+string_if_sound key (Some text) = string_sound 0 key text.now
+
+name_if_sound : (key : List ℕ) (name : Option (Bor (List ℕ))) → AreSound 0 (name_if key name)
+name_if_sound key None = tt
+name_if_sound key (Some name) = text_sound 0 key name.now
+
+stop_sound : (stop : Stop) → AreSound 0 (stop_members stop)
+stop_sound stop =
+    let message : List Member = string_member (codes "message") stop.message.now in
+    let offset : List Member = number_if (codes "offset") stop.offset in
+    append_sound 0 (string_if (codes "fault") stop.code) (message ++ offset) (string_if_sound (codes "fault") stop.code)
+    (append_sound 0 message offset (string_sound 0 (codes "message") stop.message.now) (number_if_sound 0 (codes "offset") stop.offset))
+
+about_sound : (answer : Answer) → AreSound 0 (about answer)
+about_sound (Right images hashes unchecked) =
+    append_sound 0 (number_member (codes "images") images) (number_member (codes "hashes") hashes ++ number_if (codes "unchecked") unchecked)
+    (number_sound 0 (codes "images") images)
+    (append_sound 0 (number_member (codes "hashes") hashes) (number_if (codes "unchecked") unchecked) (number_sound 0 (codes "hashes") hashes) (number_if_sound 0 (codes "unchecked") unchecked))
+about_sound (Unhashed image) = text_sound 0 (codes "image") image.now
+about_sound (Wrong word image hash) =
+    append_sound 0 (text_members (codes "image") image.now) (text_members (codes "hash") hash.now) (text_sound 0 (codes "image") image.now) (text_sound 0 (codes "hash") hash.now)
+about_sound (Weak image) = text_sound 0 (codes "image") image.now
+about_sound (Overlapping image) = text_sound 0 (codes "image") image.now
+about_sound Empty = tt
+about_sound (Missing configuration property name) =
+    let names : List Member = text_members (codes "name") name.now in
+    append_sound 0 (name_if (codes "configuration") configuration) (string_member (codes "property") property.now ++ names) (name_if_sound (codes "configuration") configuration)
+    (append_sound 0 (string_member (codes "property") property.now) names (string_sound 0 (codes "property") property.now) (text_sound 0 (codes "name") name.now))
+about_sound RightChecksums = number_sound 0 (codes "checksums") 2
+about_sound BadChecksum = tt
+about_sound WeakChecksums = string_sound 0 (codes "algo") (codes "crc32")
+about_sound (Refused stop) = stop_sound stop
+about_sound (Failed stop) = stop_sound stop
+
+head_sound : (path : List ℕ) (answer : Answer) → AreSound 0 (head_members path answer)
+head_sound path answer =
+    let status : List Member = number_member (codes "status") (status_of answer) in
+    let word : List Member = string_member (codes "verdict") (word_of answer) in
+    let format : List Member = format_if (format_of answer) in
+    append_sound 0 (text_members (codes "path") path) (status ++ (word ++ format)) (text_sound 0 (codes "path") path)
+    (append_sound 0 status (word ++ format) (number_sound 0 (codes "status") (status_of answer))
+    (append_sound 0 word format (string_sound 0 (codes "verdict") (word_of answer)) (format_sound (format_of answer))))
+
+pub check_sound : (path : List ℕ) (answer : Answer) → Sound 1 (check_json path answer)
+check_sound path answer = append_sound 0 (head_members path answer) (about answer) (head_sound path answer) (about_sound answer)

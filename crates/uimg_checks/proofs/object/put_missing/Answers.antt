@@ -1,0 +1,10 @@
+use Rattle.std.proofs.Common.{codes, ◌++◌, sym}
+use Rattle.uimg_json.specs.Members.{string_member, text_members}
+use Rattle.uimg_json.proofs.StepLaws.{one, after, appended_as, object_appended, tokens_append}
+use Rattle.uimg_checks.specs.Objects.{name_if, about, head_members}
+use Rattle.uimg_checks.proofs.object.put_missing.Goals as goal
+
+pub returns : goal.returns
+returns c =
+    appended_as _ _ _ _ (sym (tokens_append (name_if (codes "configuration") c.args.configuration) (string_member (codes "property") c.args.property.now ++ text_members (codes "name") c.args.name.now)))
+    (after c.in_ok-put_name_if.ensures (after c.in_ok-put_string.ensures c.in_ok-put_text.ensures))

@@ -1,0 +1,10 @@
+use Rattle.std.proofs.Common.{codes, ◌++◌, sym}
+use Rattle.uimg_json.specs.Members.{string_member, text_members}
+use Rattle.uimg_json.proofs.StepLaws.{one, after, appended_as, object_appended, tokens_append}
+use Rattle.uimg_checks.specs.Objects.{name_if, about, head_members}
+use Rattle.uimg_checks.proofs.object.put_wrong.Goals as goal
+
+pub returns : goal.returns
+returns c =
+    appended_as _ _ _ _ (sym (tokens_append (text_members (codes "image") c.args.image.now) (text_members (codes "hash") c.args.hash.now)))
+    (after c.in_ok-put_text.ensures c.in_ok-put_text-2.ensures)

@@ -1,0 +1,152 @@
+//! The line of an image that was checked.
+
+ghost use Rattle.std.specs.Prelude.{◌≡◌, ◌++◌, Some, codes, true, IfOk};
+ghost use Rattle.std.specs.String.{string_bytes};
+ghost use Rattle.uimg_printing.specs.Printing.{is_shown};
+ghost use Rattle.std.specs.Fmt.{WritesOnOk};
+ghost use Rattle.uimg_checks.specs.Lines.{unchecked_text, nodes_text, some_unchecked, named, named_if, details_of, line_of, own_text};
+
+use crate::answer::Answer;
+use std::alloc::{AllocError, Global};
+use std::fmt;
+use std::fmt::{Display, Formatter, Write};
+use uimg_printing::{Counted, Printed};
+
+/// The line of the image at a path, without its end. It begins with the path and the word of what was
+/// found. Names and the path stand in it as `Printed` has them, so that none makes a line of its own.
+#[derive(Clone, Copy, Debug)]
+pub struct Line<'a> {
+    /// The path.
+    pub path: &'a [u8],
+
+    /// What is told of the image.
+    pub answer: Answer<'a>,
+}
+
+impl<'a> Display for Line<'a> {
+    ghost output = { λ line. Some (line_of line.path.now line.answer) };
+
+    fn fmt<W: Write>(&self, f: &mut Formatter<W>) -> fmt::Result {
+        write!(f, "{}: {}", Printed(self.path), self.answer.word())?;
+        put_details(&self.answer, f)
+    }
+}
+
+// Writes what stands behind the word.
+fn put_details<W: Write>(answer: &Answer<'_>, f: &mut Formatter<W>) -> fmt::Result
+    ensures { WritesOnOk W.Write.write_str_gives f.old result (details_of answer.now) f.new }
+{
+    match *answer {
+        Answer::Right {
+            images,
+            hashes,
+            unchecked,
+        } => put_counts(images, hashes, unchecked, f),
+        Answer::Unhashed(image) | Answer::Weak(image) | Answer::Overlapping(image) => {
+            put_named(image, f)
+        }
+        Answer::Wrong { image, hash, .. } => {
+            put_named(image, f)?;
+            put_named(hash, f)
+        }
+        Answer::Empty => Ok(()),
+        Answer::Missing {
+            configuration,
+            property,
+            name,
+        } => put_missing(configuration, property, name, f),
+        Answer::RightChecksums => f.write_str(" 2 checksums"),
+        Answer::BadChecksum => f.write_str(" checksum"),
+        Answer::WeakChecksums => f.write_str(" crc32"),
+        Answer::Refused(stop) | Answer::Failed(stop) => write!(f, " {}", stop.message),
+    }
+}
+
+// Writes the counts of an image that is right.
+fn put_counts<W: Write>(
+    images: u64,
+    hashes: u64,
+    unchecked: Option<u64>,
+    f: &mut Formatter<W>,
+) -> fmt::Result
+    ensures { WritesOnOk W.Write.write_str_gives f.old result
+        (details_of (Answer.Right images hashes unchecked)) f.new }
+{
+    let payloads = Counted {
+        count: images,
+        one: "payload",
+        many: "payloads",
+    };
+    let nodes = Counted {
+        count: hashes,
+        one: "hash",
+        many: "hashes",
+    };
+    write!(f, " {payloads}, {nodes}")?;
+    match unchecked {
+        Some(count) => put_unchecked(count, f),
+        None => Ok(()),
+    }
+}
+
+// Writes how many nodes of configurations there are.
+fn put_nodes<W: Write>(count: u64, f: &mut Formatter<W>) -> fmt::Result
+    ensures { WritesOnOk W.Write.write_str_gives f.old result (nodes_text count) f.new }
+{
+    let nodes = Counted {
+        count,
+        one: "node",
+        many: "nodes",
+    };
+    write!(f, ", {nodes} of configurations unchecked")
+}
+
+// The same, if there are some.
+#[tactic(auto, unfolding(crate::specs::Lines::some_unchecked))]
+fn put_unchecked<W: Write>(count: u64, f: &mut Formatter<W>) -> fmt::Result
+    ensures { WritesOnOk W.Write.write_str_gives f.old result (some_unchecked count) f.new }
+{
+    if count == 0 {
+        return Ok(());
+    }
+    put_nodes(count, f)
+}
+
+// Writes a name behind a space.
+fn put_named<W: Write>(name: &[u8], f: &mut Formatter<W>) -> fmt::Result
+    ensures { WritesOnOk W.Write.write_str_gives f.old result (named name.now) f.new }
+{
+    write!(f, " {}", Printed(name))
+}
+
+// Writes a name that is missing, and who gives it.
+fn put_missing<W: Write>(
+    configuration: Option<&[u8]>,
+    property: &str,
+    name: &[u8],
+    f: &mut Formatter<W>,
+) -> fmt::Result
+    ensures { WritesOnOk W.Write.write_str_gives f.old result
+        (named_if configuration.entry ++ codes " " ++ property.now ++ named name.now) f.new }
+{
+    if let Some(configuration) = configuration {
+        put_named(configuration, f)?;
+    }
+    write!(f, " {property}")?;
+    put_named(name, f)
+}
+
+/// The text of the line of the image at a path, without its end. No byte of it is a control character of
+/// ASCII, whatever the path and the names are, if none of the answer's own text is: so it is one line.
+/// Memory for it may be refused.
+pub fn line_text(alloc: Global, path: &[u8], answer: &Answer<'_>) -> Result<String, AllocError>
+    ensures text { IfOk result (λ text. string_bytes text ≡ line_of path.now answer.now) }
+    ensures shown { is_shown (own_text answer.now) ≡ true →
+        IfOk result (λ text. is_shown (string_bytes text) ≡ true) }
+{
+    let line = Line {
+        path,
+        answer: *answer,
+    };
+    format!(in alloc; "{line}")
+}

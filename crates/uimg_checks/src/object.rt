@@ -1,0 +1,208 @@
+//! The object of an image that was checked.
+
+ghost use Rattle.std.specs.Prelude.{◌≡◌, ◌++◌, codes, true, Some, IfOk};
+ghost use Rattle.std.specs.Str.{IsUtf8};
+ghost use Rattle.json.specs.Json.{document};
+ghost use Rattle.json.specs.Print.{print};
+ghost use Rattle.json.specs.Tree.{json_tokens};
+ghost use Rattle.uimg_json.specs.Members.{tokens_of, string_member, text_members};
+ghost use Rattle.uimg_json.specs.Objects.{is_one_line};
+ghost use Rattle.uimg_json.specs.Steps.{Appends};
+ghost use Rattle.uimg_checks.specs.Objects.{name_of, format_if, string_if, name_if, format_of, stop_members, about, head_members, check_json};
+
+use crate::answer::{Answer, Format, Stop};
+use json::Writer;
+use std::alloc::{AllocError, Global};
+use uimg_json::{put_number, put_number_if, put_string, put_text};
+
+impl Format {
+    // Its name.
+    fn name(self) -> &'static str
+        ensures { result.now ≡ name_of self }
+    {
+        match self {
+            Format::Fit => "fit",
+            Format::Legacy => "legacy",
+        }
+    }
+}
+
+// The format of an image, where it is known.
+fn format_of(answer: &Answer<'_>) -> Option<Format>
+    ensures { result ≡ format_of answer.now }
+{
+    match *answer {
+        Answer::RightChecksums | Answer::BadChecksum | Answer::WeakChecksums => {
+            Some(Format::Legacy)
+        }
+        Answer::Refused(stop) | Answer::Failed(stop) => stop.format,
+        _ => Some(Format::Fit),
+    }
+}
+
+// Writes the format, where it is known.
+fn put_format(writer: &mut Writer, format: Option<Format>) -> Result<(), AllocError>
+    ensures { Appends result writer.old writer.new (tokens_of (format_if format)) }
+{
+    match format {
+        Some(format) => put_string(writer, "format", format.name()),
+        None => Ok(()),
+    }
+}
+
+// Writes a string that may be missing.
+fn put_string_if(writer: &mut Writer, key: &str, text: Option<&str>) -> Result<(), AllocError>
+    ensures { Appends result writer.old writer.new (tokens_of (string_if key.now text.entry)) }
+{
+    match text {
+        Some(text) => put_string(writer, key, text),
+        None => Ok(()),
+    }
+}
+
+// Writes a name that may be missing.
+fn put_name_if(
+    alloc: Global,
+    writer: &mut Writer,
+    key: &str,
+    name: Option<&[u8]>,
+) -> Result<(), AllocError>
+    ensures { Appends result writer.old writer.new (tokens_of (name_if key.now name.entry)) }
+{
+    match name {
+        Some(name) => put_text(alloc, writer, key, name),
+        None => Ok(()),
+    }
+}
+
+// Writes why an image is refused, or a check failed.
+fn put_stop(writer: &mut Writer, stop: Stop<'_>) -> Result<(), AllocError>
+    ensures { Appends result writer.old writer.new (tokens_of (stop_members stop.entry)) }
+{
+    put_string_if(writer, "fault", stop.code)?;
+    put_string(writer, "message", stop.message)?;
+    put_number_if(writer, "offset", stop.offset)?;
+    Ok(())
+}
+
+// Writes the counts of an image that is right.
+fn put_counts(
+    writer: &mut Writer,
+    images: u64,
+    hashes: u64,
+    unchecked: Option<u64>,
+) -> Result<(), AllocError>
+    ensures { Appends result writer.old writer.new
+        (tokens_of (about (Answer.Right images hashes unchecked))) }
+{
+    put_number(writer, "images", images)?;
+    put_number(writer, "hashes", hashes)?;
+    put_number_if(writer, "unchecked", unchecked)?;
+    Ok(())
+}
+
+// Writes a name that is missing, and who gives it.
+fn put_missing(
+    alloc: Global,
+    writer: &mut Writer,
+    configuration: Option<&[u8]>,
+    property: &str,
+    name: &[u8],
+) -> Result<(), AllocError>
+    ensures { Appends result writer.old writer.new
+        (tokens_of (name_if (codes "configuration") configuration.entry
+        ++ (string_member (codes "property") property.now ++ text_members (codes "name") name.now))) }
+{
+    put_name_if(alloc, writer, "configuration", configuration)?;
+    put_string(writer, "property", property)?;
+    put_text(alloc, writer, "name", name)?;
+    Ok(())
+}
+
+// Writes the names of a hash node that is not right.
+fn put_wrong(
+    alloc: Global,
+    writer: &mut Writer,
+    image: &[u8],
+    hash: &[u8],
+) -> Result<(), AllocError>
+    ensures { Appends result writer.old writer.new
+        (tokens_of (text_members (codes "image") image.now ++ text_members (codes "hash") hash.now)) }
+{
+    put_text(alloc, writer, "image", image)?;
+    put_text(alloc, writer, "hash", hash)?;
+    Ok(())
+}
+
+// Writes what an answer is about.
+fn put_about(alloc: Global, writer: &mut Writer, answer: &Answer<'_>) -> Result<(), AllocError>
+    ensures { Appends result writer.old writer.new (tokens_of (about answer.now)) }
+{
+    match *answer {
+        Answer::Right {
+            images,
+            hashes,
+            unchecked,
+        } => put_counts(writer, images, hashes, unchecked),
+        Answer::Unhashed(image) | Answer::Weak(image) | Answer::Overlapping(image) => {
+            put_text(alloc, writer, "image", image)
+        }
+        Answer::Wrong { image, hash, .. } => put_wrong(alloc, writer, image, hash),
+        Answer::Missing {
+            configuration,
+            property,
+            name,
+        } => put_missing(alloc, writer, configuration, property, name),
+        Answer::RightChecksums => put_number(writer, "checksums", 2),
+        Answer::WeakChecksums => put_string(writer, "algo", "crc32"),
+        Answer::Empty | Answer::BadChecksum => Ok(()),
+        Answer::Refused(stop) | Answer::Failed(stop) => put_stop(writer, stop),
+    }
+}
+
+// Writes what each object begins with.
+fn put_head(
+    alloc: Global,
+    writer: &mut Writer,
+    path: &[u8],
+    answer: &Answer<'_>,
+) -> Result<(), AllocError>
+    ensures { Appends result writer.old writer.new (tokens_of (head_members path.now answer.now)) }
+{
+    put_text(alloc, writer, "path", path)?;
+    put_number(writer, "status", answer.status() as u64)?;
+    put_string(writer, "verdict", answer.word())?;
+    put_format(writer, format_of(answer))?;
+    Ok(())
+}
+
+// Writes the object of an image.
+fn put_object(
+    alloc: Global,
+    writer: &mut Writer,
+    path: &[u8],
+    answer: &Answer<'_>,
+) -> Result<(), AllocError>
+    ensures { Appends result writer.old writer.new (json_tokens (check_json path.now answer.now)) }
+{
+    writer.begin_object()?;
+    put_head(alloc, writer, path, answer)?;
+    put_about(alloc, writer, answer)?;
+    writer.end_object()?;
+    Ok(())
+}
+
+/// The text of the object of the image at a path, without the end of a line. Read as JSON it is just
+/// this object; it is UTF-8 and one line, whatever the path and the names are. Memory for it may be
+/// refused.
+pub fn object_text(alloc: Global, path: &[u8], answer: &Answer<'_>) -> Result<Vec<u8>, AllocError>
+    ensures text { IfOk result (λ text. text.items ≡ print (json_tokens (check_json path.now answer.now))) }
+    ensures reads_back { IfOk result (λ text.
+        document text.items ≡ Some (check_json path.now answer.now)) }
+    ensures utf8 { IfOk result (λ text. IsUtf8 text.items) }
+    ensures one_line { IfOk result (λ text. is_one_line text.items ≡ true) }
+{
+    let mut writer = Writer::new(Vec::new(alloc));
+    put_object(alloc, &mut writer, path, answer)?;
+    Ok(writer.into_inner())
+}
