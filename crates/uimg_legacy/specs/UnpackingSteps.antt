@@ -17,7 +17,7 @@ use Rattle.uimg_legacy.specs.declared.unpacking.takes.Walk.{Walk}
 use Rattle.uimg_legacy.specs.Words.{words}
 use Rattle.uimg_legacy.specs.Image.{payload}
 use Rattle.uimg_legacy.specs.Header.{header}
-use Rattle.uimg_legacy.specs.Parts.{has_parts}
+use Rattle.uimg_legacy.specs.Parts.{has_parts, sizes}
 use Rattle.uimg_legacy.specs.Work.{data_read, sizes_read_with}
 use Rattle.uimg_legacy.specs.Unpacking.{Part, part_if, is_asked, chosen, parts_by, parts_in}
 
@@ -83,6 +83,12 @@ pub record Walked (only : Option ℕ) (honest : Bool) (count size : ℕ) (d : De
 abbrev pub RefusesBy : {X Y : Type 0} → Result Y LegacyFault → Result X Fault → Type 0
 RefusesBy told (Err (Legacy fault)) = told ≡ Err fault
 RefusesBy told result = ⊤
+
+-- The first fault of the parts that stand from a place of the data on, whose table has so many sizes.
+abbrev pub RefusesFrom : {X : Type 0} → ℕ → ℕ → ℕ → List ℕ → Result X Fault → Type 0
+RefusesFrom count size at file result =
+    count ≡ length (sizes (slice file 64 size))
+    → RefusesBy (parts_by (sizes (slice file 64 size)) (slice file (64 + at) (size - at))) result
 
 -- The parts of some data are held, of which this is the CRC: those of the device, if it is honest.
 pub record HoldsParts (only : Option ℕ) (honest : Bool) (h : Header) (d : Device) (from to : List Part) : Type 0 where

@@ -3,7 +3,7 @@
 ghost use Rattle.std.specs.Prelude.{[]};
 
 use crate::folder::{Folder, is_there};
-use crate::lines::{put_kept, put_refused};
+use crate::lines::Line;
 use crate::names::Names;
 use crate::new_file::{NewFile, give_name};
 use crate::trouble::Trouble;
@@ -118,7 +118,13 @@ impl<'a, R: Files + AllocGlobal, W: Write + Drop> FolderTaker<'a, R, W> {
         if give_name(self.rt, path, whole, self.folder.is_forced).is_err() {
             return self.cannot_write();
         }
-        put_kept(&mut self.out, name, begun.name.as_str(), size, vouched)?;
+        let line = Line::Kept {
+            name,
+            file: begun.name.as_str(),
+            size,
+            vouched,
+        };
+        writeln!(self.out, "{line}")?;
         self.begun = None;
         self.out.flush()?;
         Ok(())
@@ -136,7 +142,7 @@ impl<'a, R: Files + AllocGlobal, W: Write + Drop> FolderTaker<'a, R, W> {
             }
         }
         self.begun = None;
-        put_refused(&mut self.out, name, refusal)?;
+        writeln!(self.out, "{}", Line::Refused(name, refusal))?;
         self.out.flush()?;
         Ok(())
     }

@@ -10,13 +10,11 @@ mod names;
 mod new_file;
 mod part_folder;
 mod part_unpacking;
-mod printed;
 mod trouble;
 mod unpacking;
 
 pub use file_names::is_file_name;
 pub use folder::{FileId, Folder};
 pub use part_unpacking::{PartsEnded, unpack_parts};
-pub use printed::{Printed, PrintedWord};
 pub use trouble::Trouble;
 pub use unpacking::{Ended, Unpacking, unpack};

@@ -1,14 +1,72 @@
 //! The lines that tell what became of payloads and parts.
 
-use crate::printed::PrintedWord;
-use std::io;
-use std::io::Write;
+ghost use Rattle.std.specs.Prelude.{◌≡◌, Some};
+ghost use Rattle.std.specs.Fmt.{WritesOnOk};
+ghost use Rattle.uimg_fit_reading.specs.Unpacking.{bytes_of};
+ghost use Rattle.uimg_printing.specs.Counting.{counted};
+ghost use Rattle.uimg_unpacking.specs.Lines.{algo_name, bytes_text, as_text, vouched_text, crc_bytes, crc_text, kept_line, part_line, refusal_text, line_of};
+
+use std::fmt;
+use std::fmt::{Display, Formatter, Write};
 use uimg_base::Algo;
 use uimg_fit_base::word_text;
 use uimg_fit_reading::{NodeName, Refusal, Vouched};
+use uimg_printing::{Counted, Hexadecimal, PrintedWord};
+
+/// The line of a payload or of a part, without its end. Names stand in it as `PrintedWord` has them.
+#[derive(Clone, Copy, Debug)]
+pub(crate) enum Line<'a> {
+    /// A payload is kept.
+    Kept {
+        /// The name of its image.
+        name: &'a NodeName,
+        /// The name of its file.
+        file: &'a str,
+        /// How many bytes it has.
+        size: u64,
+        /// What vouches for it.
+        vouched: Option<Vouched>,
+    },
+
+    /// The payload of the image of this name is refused.
+    Refused(&'a NodeName, Refusal),
+
+    /// With the payload of the image of this name they have more bytes than the file.
+    Overlapping(&'a NodeName),
+
+    /// A part is kept, of data of this checksum.
+    Part {
+        /// Its position.
+        number: u32,
+        /// How many bytes it has.
+        size: u64,
+        /// The checksum of the data.
+        dcrc: u32,
+    },
+}
+
+impl<'a> Display for Line<'a> {
+    ghost output = { λ line. Some (line_of line) };
+
+    fn fmt<W: Write>(&self, f: &mut Formatter<W>) -> fmt::Result {
+        match *self {
+            Line::Kept {
+                name,
+                file,
+                size,
+                vouched,
+            } => put_kept(name, file, size, vouched, f),
+            Line::Refused(name, refusal) => put_refused(name, refusal, f),
+            Line::Overlapping(name) => write!(f, "{}: overlapping", PrintedWord(name.bytes())),
+            Line::Part { number, size, dcrc } => put_part(number, size, dcrc, f),
+        }
+    }
+}
 
 // The name of an algorithm.
-fn algo_text(algo: Algo) -> &'static str {
+fn algo_name(algo: Algo) -> &'static str
+    ensures { result.now ≡ algo_name algo }
+{
     match algo {
         Algo::Crc32 => "crc32",
         Algo::Md5 => "md5",
@@ -19,63 +77,97 @@ fn algo_text(algo: Algo) -> &'static str {
     }
 }
 
-/// Writes the line of a payload that is kept: the name of its image, its size, its file where that has
-/// another name, and what vouches for it.
-pub(crate) fn put_kept<W: Write>(
-    out: &mut W,
+// A number of bytes.
+fn bytes(count: u64) -> Counted
+    ensures { counted result.count result.one.now result.many.now ≡ bytes_text count }
+{
+    Counted {
+        count,
+        one: "byte",
+        many: "bytes",
+    }
+}
+
+// Writes the line of a payload that is kept: the name of its image, its size, its file where that has
+// another name, and what vouches for it.
+fn put_kept<W: Write>(
     name: &NodeName,
     file: &str,
     size: u64,
     vouched: Option<Vouched>,
-) -> io::Result<()> {
-    write!(out, "{}: {size} {}", PrintedWord(name.bytes()), bytes(size))?;
-    if name.bytes() != file.as_bytes() {
-        write!(out, " as {file}")?;
+    f: &mut Formatter<W>,
+) -> fmt::Result
+    ensures { WritesOnOk W.Write.write_str_gives f.old result
+        (kept_line (bytes_of name.now) file.now size vouched) f.new }
+{
+    write!(f, "{}: {}", PrintedWord(name.bytes()), bytes(size))?;
+    put_file(name.bytes(), file, f)?;
+    put_vouched(vouched, f)
+}
+
+// Writes the name of a file, where it is another than that of the image.
+#[tactic(auto, unfolding(crate::specs::Lines::as_text))]
+fn put_file<W: Write>(name: &[u8], file: &str, f: &mut Formatter<W>) -> fmt::Result
+    ensures { WritesOnOk W.Write.write_str_gives f.old result (as_text name.now file.now) f.new }
+{
+    if name == file.as_bytes() {
+        return Ok(());
     }
+    write!(f, " as {file}")
+}
+
+// Writes what vouches for a payload.
+fn put_vouched<W: Write>(vouched: Option<Vouched>, f: &mut Formatter<W>) -> fmt::Result
+    ensures { WritesOnOk W.Write.write_str_gives f.old result (vouched_text vouched) f.new }
+{
     match vouched {
-        Some(vouched) => put_vouched(out, vouched),
-        None => out.write_all(b", unhashed\n"),
+        Some(vouched) => {
+            let digest = &vouched.digest[..vouched.algo.len()];
+            write!(f, ", {} {}", algo_name(vouched.algo), Hexadecimal(digest))
+        }
+        None => f.write_str(", unhashed"),
     }
 }
 
-// The unit of a size.
-fn bytes(size: u64) -> &'static str {
-    if size == 1 { "byte" } else { "bytes" }
-}
-
-fn put_vouched<W: Write>(out: &mut W, vouched: Vouched) -> io::Result<()> {
-    write!(out, ", {} ", algo_text(vouched.algo))?;
-    for byte in &vouched.digest[..vouched.algo.len()] {
-        write!(out, "{byte:02x}")?;
-    }
-    out.write_all(b"\n")
-}
-
-/// Writes the line of a payload that is refused.
-pub(crate) fn put_refused<W: Write>(
-    out: &mut W,
-    name: &NodeName,
-    refusal: Refusal,
-) -> io::Result<()> {
+// Writes the line of a payload that is refused.
+fn put_refused<W: Write>(name: &NodeName, refusal: Refusal, f: &mut Formatter<W>) -> fmt::Result
+    ensures { WritesOnOk W.Write.write_str_gives f.old result
+        (refusal_text (bytes_of name.now) refusal) f.new }
+{
+    let name = PrintedWord(name.bytes());
     match refusal {
         Refusal::Wrong { hash, word } => {
-            let (name, hash) = (PrintedWord(name.bytes()), PrintedWord(hash.bytes()));
-            writeln!(out, "{name}: {} {hash}", word_text(word))
+            write!(
+                f,
+                "{name}: {} {}",
+                word_text(word),
+                PrintedWord(hash.bytes())
+            )
         }
-        Refusal::Weak => writeln!(out, "{}: weak", PrintedWord(name.bytes())),
+        Refusal::Weak => write!(f, "{name}: weak"),
     }
 }
 
-/// Writes the line of an image with whose payload they overlap.
-pub(crate) fn put_overlapping<W: Write>(out: &mut W, name: &NodeName) -> io::Result<()> {
-    writeln!(out, "{}: overlapping", PrintedWord(name.bytes()))
+// The bytes of a checksum.
+#[tactic(auto, unfolding(crate::specs::Lines::crc_bytes))]
+fn crc_bytes(dcrc: u32) -> [u8; 4]
+    ensures { result ≡ crc_bytes dcrc }
+{
+    dcrc.to_be_bytes()
 }
 
-/// Writes the line of a part that is kept: its file, its size, and the checksum of the data that it is of.
-pub(crate) fn put_part<W: Write>(out: &mut W, number: u32, size: u64, dcrc: u32) -> io::Result<()> {
-    writeln!(
-        out,
-        "image-{number}: {size} {}, data crc32 {dcrc:08x}",
-        bytes(size)
-    )
+// Writes the checksum of the data that a part is of.
+fn put_crc<W: Write>(dcrc: u32, f: &mut Formatter<W>) -> fmt::Result
+    ensures { WritesOnOk W.Write.write_str_gives f.old result (crc_text dcrc) f.new }
+{
+    let crc = crc_bytes(dcrc);
+    write!(f, ", data crc32 {}", Hexadecimal(crc.as_slice()))
+}
+
+// Writes the line of a part that is kept: its file, its size, and the checksum of the data that it is of.
+fn put_part<W: Write>(number: u32, size: u64, dcrc: u32, f: &mut Formatter<W>) -> fmt::Result
+    ensures { WritesOnOk W.Write.write_str_gives f.old result (part_line number size dcrc) f.new }
+{
+    write!(f, "image-{number}: {}", bytes(size))?;
+    put_crc(dcrc, f)
 }

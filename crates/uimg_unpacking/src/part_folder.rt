@@ -3,7 +3,7 @@
 ghost use Rattle.std.specs.Prelude.{[]};
 
 use crate::folder::{Folder, is_there};
-use crate::lines::put_part;
+use crate::lines::Line;
 use crate::new_file::{NewFile, give_name};
 use crate::trouble::Trouble;
 use std::fs;
@@ -132,7 +132,12 @@ impl<'a, R: Files + AllocGlobal, W: Write + Drop> PartFolder<'a, R, W> {
             return Err(Trouble::CannotWrite(whole));
         }
         self.first = number.saturating_add(1);
-        put_part(&mut self.out, number, found.len(), dcrc)?;
+        let line = Line::Part {
+            number,
+            size: found.len(),
+            dcrc,
+        };
+        writeln!(self.out, "{line}")?;
         Ok(())
     }
 

@@ -2,7 +2,7 @@
 
 use crate::folder::Folder;
 use crate::folder_taker::FolderTaker;
-use crate::lines::put_overlapping;
+use crate::lines::Line;
 use crate::trouble::Trouble;
 use std::io::Write;
 use std::rt::Files;
@@ -94,7 +94,7 @@ fn taken(asked: &Unpacking<'_>, all: bool, count: usize) -> Ended {
 }
 
 fn overlapping<W: Write + Drop>(mut out: W, name: &NodeName) -> Ended {
-    let told = put_overlapping(&mut out, name).and_then(|()| out.flush());
+    let told = writeln!(out, "{}", Line::Overlapping(name)).and_then(|()| out.flush());
     match told {
         Ok(()) => Ended::Refused,
         Err(error) => Ended::Troubled(Trouble::from(error)),

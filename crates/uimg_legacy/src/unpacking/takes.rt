@@ -3,11 +3,9 @@
 ghost use Rattle.std.specs.Prelude.{◌≡◌, ◌+◌, ◌-◌, ◌*◌, ◌≤◌, length, false, IsTrue, OnOk, true};
 ghost use Rattle.uimg_base.specs.Using.{Asks};
 ghost use Rattle.uimg_texts.specs.Numbers.{be32};
-ghost use Rattle.uimg_texts.specs.Slices.{slice};
 ghost use Rattle.uimg_legacy.specs.Faults.{is_read, is_refused, is_of_making};
-ghost use Rattle.uimg_legacy.specs.Parts.{sizes};
-ghost use Rattle.uimg_legacy.specs.Unpacking.{is_asked, parts_by};
-ghost use Rattle.uimg_legacy.specs.UnpackingSteps.{TakesPart, TakesPadded, TakesNext, Walked, RefusesNext, RefusesBy};
+ghost use Rattle.uimg_legacy.specs.Unpacking.{is_asked};
+ghost use Rattle.uimg_legacy.specs.UnpackingSteps.{TakesPart, TakesPadded, TakesNext, Walked, RefusesNext, RefusesFrom};
 
 use crate::fault::{Fault, LegacyFault};
 use crate::unpacking::copies::{sum_range, take_range};
@@ -188,9 +186,7 @@ pub(super) fn take_parts<S: Source, A: Allocator, T: PartTaker>(
     ensures taken { OnOk result (Walked only T.honest count size (S.device source.old)
         walk.old walk.new (T.held taker.old) (T.held taker.new)) }
     ensures refused { IsTrue (S.device source.old).honest →
-        count ≡ length (sizes (slice (S.device source.old).bytes 64 size)) →
-        RefusesBy (parts_by (sizes (slice (S.device source.old).bytes 64 size))
-        (slice (S.device source.old).bytes (64 + walk.old.at) (size - walk.old.at))) result }
+        RefusesFrom count size walk.old.at (S.device source.old).bytes result }
 {
     for number in 0..count {
         take_next(source, room, number, size, only, walk, taker)?;

@@ -1,0 +1,63 @@
+-- The lines of payloads and parts that are unpacked.
+use Rattle.std.specs.Prelude.{ℕ, List, [], ◌++◌, take, codes, decimal, true, if◌then◌else◌, Option, Some, None}
+use Rattle.std.specs.Int.{to_be_bytes, w32}
+use Rattle.std.specs.List.{flat_map}
+use Rattle.std.specs.Str.{bytes_eq}
+use Rattle.uimg_sums.specs.Algorithms.{digest_size}
+use Rattle.uimg_sums.specs.declared.algo.Algo.{Algo}
+use Rattle.uimg_sums.specs.declared.algo.Algo.TheVariants.{Crc32, Md5, Sha1, Sha256, Sha384, Sha512}
+use Rattle.uimg_fit_base.specs.Report.{word_text}
+use Rattle.uimg_fit_reading.specs.Unpacking.{bytes_of}
+use Rattle.uimg_fit_reading.specs.declared.unpacking.node_names.NodeName.{NodeName}
+use Rattle.uimg_fit_reading.specs.declared.unpacking.taker.Refusal.{Refusal}
+use Rattle.uimg_fit_reading.specs.declared.unpacking.taker.Refusal.TheVariants.{Wrong, Weak}
+use Rattle.uimg_fit_reading.specs.declared.unpacking.taker.Vouched.{Vouched}
+use Rattle.uimg_printing.specs.Counting.{counted}
+use Rattle.uimg_printing.specs.Printing.{digits_of, printed}
+use Rattle.uimg_unpacking.specs.declared.lines.Line.{Line}
+use Rattle.uimg_unpacking.specs.declared.lines.Line.TheVariants.{Kept, Refused, Overlapping, Part}
+
+-- the name of an algorithm
+abbrev pub algo_name : Algo → List ℕ
+algo_name Crc32 = codes "crc32"
+algo_name Md5 = codes "md5"
+algo_name Sha1 = codes "sha1"
+algo_name Sha256 = codes "sha256"
+algo_name Sha384 = codes "sha384"
+algo_name Sha512 = codes "sha512"
+
+abbrev pub bytes_text : ℕ → List ℕ
+bytes_text n = counted n (codes "byte") (codes "bytes")
+
+-- the name of a file, where it is another than that of the image
+unfoldable pub as_text : List ℕ → List ℕ → List ℕ
+as_text name file = if bytes_eq name file then [] else codes " as " ++ file
+
+-- the strongest algorithm that vouches for a payload, and the digest by it
+abbrev pub vouched_text : Option Vouched → List ℕ
+vouched_text None = codes ", unhashed"
+vouched_text (Some v) = codes ", " ++ algo_name v.algo ++ codes " " ++ flat_map digits_of (take (digest_size v.algo) v.digest)
+
+-- the bytes of a checksum, the highest first
+unfoldable pub crc_bytes : ℕ → List ℕ
+crc_bytes dcrc = to_be_bytes w32 dcrc
+
+-- the line of a payload that is kept, of one that is refused, and of a part
+abbrev pub kept_line : List ℕ → List ℕ → ℕ → Option Vouched → List ℕ
+kept_line name file size vouched = printed true name ++ codes ": " ++ bytes_text size ++ as_text name file ++ vouched_text vouched
+
+abbrev pub refusal_text : List ℕ → Refusal → List ℕ
+refusal_text name (Wrong hash word) = printed true name ++ codes ": " ++ word_text word ++ codes " " ++ printed true (bytes_of hash)
+refusal_text name Weak = printed true name ++ codes ": weak"
+
+abbrev pub crc_text : ℕ → List ℕ
+crc_text dcrc = codes ", data crc32 " ++ flat_map digits_of (crc_bytes dcrc)
+
+abbrev pub part_line : ℕ → ℕ → ℕ → List ℕ
+part_line number size dcrc = codes "image-" ++ decimal number ++ codes ": " ++ bytes_text size ++ crc_text dcrc
+
+abbrev pub line_of : Line → List ℕ
+line_of (Kept name file size vouched) = kept_line (bytes_of name.now) file.now size vouched
+line_of (Refused name refusal) = refusal_text (bytes_of name.now) refusal
+line_of (Overlapping name) = printed true (bytes_of name.now) ++ codes ": overlapping"
+line_of (Part number size dcrc) = part_line number size dcrc
