@@ -4,3 +4,9 @@ mod CoverLaws
 mod ArrangeLaws
 mod BarLaws
 mod ReservationsLaws
+mod ContentsLaws
+mod TableLaws
+mod PartsLaws
+mod FitLaws
+mod LegacyLaws
+mod Examples

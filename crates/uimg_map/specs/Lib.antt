@@ -6,4 +6,11 @@ pub mod Bars
 pub mod Numbers
 pub mod Reservations
 pub mod Blocks
+pub mod Faults
+pub mod Found
+pub mod Contents
+pub mod FitContents
+pub mod LegacyContents
+pub mod Tables
 pub mod Maps
+pub mod Work

@@ -1,10 +1,30 @@
 -- The map of an image's file.
-use Rattle.std.specs.Prelude.{List}
+use Rattle.std.specs.Prelude.{◌≡◌, ℕ, List, length, map, nat_lt, ◌==◌, if◌then◌else◌, Bool, false}
+use Rattle.uimg_texts.specs.Numbers.{be32}
 use Rattle.uimg_map.specs.declared.map.Map.{Map}
 use Rattle.uimg_map.specs.declared.thing.Thing.{Thing}
 use Rattle.uimg_map.specs.Arranging.{Arranges}
+use Rattle.uimg_map.specs.Contents.{numbered}
+use Rattle.uimg_map.specs.FitContents.{fit_contents}
+use Rattle.uimg_map.specs.Found.{Told, read_label}
+use Rattle.uimg_map.specs.LegacyContents.{legacy_contents}
 
 -- its rows are those of some things in a file of its size
 pub record IsMap (map : Map) : Type 0 where
   pub things : List Thing
   pub rows : Arranges map.size things map.rows.items
+
+-- a file begins as a devicetree blob does
+unfoldable pub begins_as_blob : List ℕ → Bool
+begins_as_blob file = if nat_lt (length file) 4 then false else be32 file 0 == 0xd00dfeed
+
+-- what is found in a file: of a FIT image where it begins as a blob, and else of a legacy image
+abbrev pub contents_of : List ℕ → Told
+contents_of file = if begins_as_blob file then fit_contents file else legacy_contents file
+
+-- A map is that of a file: its rows are those of what is found in the file, whose i-th thing has the number i; the i-th label,
+-- read in the file, says what this is; and the fault is the first that is found.
+pub record IsMapOf (file : List ℕ) (found : Map) : Type 0 where
+  pub rows : Arranges (length file) (numbered 0 (contents_of file).found) found.rows.items
+  pub labels : map (read_label file) found.labels.items ≡ map (λ f. f.what) (contents_of file).found
+  pub first : found.fault ≡ (contents_of file).fault

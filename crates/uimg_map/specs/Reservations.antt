@@ -1,5 +1,5 @@
 -- The memory reservation block of a devicetree blob (Devicetree Specification, section 5.3).
-use Rattle.std.specs.Prelude.{◌≡◌, ◌≤◌, ◌<◌, ℕ, ◌+◌, ◌*◌, List, length, replicate, ◌==◌, Option, Some, None, Bool, true, false}
+use Rattle.std.specs.Prelude.{◌≡◌, ◌≤◌, ◌<◌, ℕ, zero, suc, ◌+◌, ◌-◌, ◌*◌, ◌/◌, List, length, replicate, if◌then◌else◌, Option, Some, None, Bool, true, false}
 use Rattle.std.specs.Str.{bytes_eq}
 use Rattle.uimg_texts.specs.Slices.{slice}
 
@@ -23,3 +23,12 @@ pub record EndsBehind (file : List ℕ) (place end : ℕ) : Type 0 where
 abbrev pub EndsBlock : List ℕ → ℕ → Option ℕ → Type 0
 EndsBlock file place (Some end) = EndsBehind file place end
 EndsBlock file place None = (count : ℕ) → place + 16 * count ≤ length file → GoesOn file place count
+
+-- Where it ends, if it does: behind the first entry of zeros among so many entries from a place on ..
+unfoldable pub end_among : ℕ → List ℕ → ℕ → Option ℕ
+end_among zero file at = None
+end_among (suc count) file at = if zeros (slice file at 16) then Some (at + 16) else end_among count file (at + 16)
+
+-- .. and among all that a file has from a place on.
+unfoldable pub block_end : List ℕ → ℕ → Option ℕ
+block_end file place = end_among ((length file - place) / 16) file place

@@ -1,6 +1,8 @@
 //! What stands in the file of an image, as it is gathered.
 
-ghost use Rattle.std.specs.Prelude.{◌≡◌};
+ghost use Rattle.std.specs.Prelude.{◌≡◌, [], None, List, ℕ};
+ghost use Rattle.uimg_map.specs.Contents.{Grows, Adds};
+ghost use Rattle.uimg_map.specs.Found.{read_label, thing, refused, refused_at, refused_behind};
 
 use crate::fault::MapFault;
 use crate::thing::Thing;
@@ -63,7 +65,10 @@ pub(crate) struct Contents {
 impl Contents {
     /// Nothing yet, of a file of so many bytes.
     pub(crate) fn new(alloc: Global, size: u64) -> Contents
-        ensures { result.size ≡ size }
+        ensures size { result.size ≡ size }
+        ensures things { result.things.items ≡ [] }
+        ensures labels { result.labels.items ≡ [] }
+        ensures fault { result.fault ≡ None }
     {
         Contents {
             size,
@@ -75,7 +80,7 @@ impl Contents {
 
     /// Adds what stands from a place up to an end.
     pub(crate) fn add(&mut self, place: u64, end: u64, label: Label) -> Result<(), MapFault>
-        ensures { self.new.size ≡ self.old.size }
+        ensures { Adds (λ file. thing (read_label file label) place end) result self.old self.new }
     {
         let number = self.labels.len();
         self.labels.push(label)?;
@@ -85,18 +90,29 @@ impl Contents {
 
     /// Adds a fault that has a place, which is why the image is refused.
     pub(crate) fn refuse_at(&mut self, place: u64, fault: MapFault) -> Result<(), MapFault>
-        ensures { self.new.size ≡ self.old.size }
+        ensures { Adds (λ _. refused_at place fault) result self.old self.new }
     {
+        self.add(place, place, Label::Fault(fault))?;
         self.refuse(fault);
-        self.add(place, place, Label::Fault(fault))
+        Ok(())
     }
 
     /// Tells why the image is refused, where that was not told before.
     pub(crate) fn refuse(&mut self, fault: MapFault)
-        ensures { self.new.size ≡ self.old.size }
+        ensures { (file : List ℕ) → Grows file (refused fault) self.old self.new }
     {
         if self.fault.is_none() {
             self.fault = Some(fault);
+        }
+    }
+
+    /// Tells why the image is refused where something ends behind the file.
+    #[tactic(auto, unfolding(crate::specs::Found::refused_behind))]
+    pub(crate) fn refuse_behind(&mut self, end: u64, fault: MapFault)
+        ensures { (file : List ℕ) → Grows file (refused_behind self.old.size end fault) self.old self.new }
+    {
+        if end > self.size {
+            self.refuse(fault);
         }
     }
 }

@@ -3,7 +3,6 @@
 use std::alloc::{AllocError, AllocFailed};
 use thiserror::Error;
 use uimg_base::SourceFault;
-use uimg_fit_reading::SurveyFault;
 
 /// Why there is no map, or why the image that it is of is refused. Its text is the line that the program
 /// prints.
@@ -27,39 +26,35 @@ pub enum MapFault {
 }
 
 impl From<SourceFault> for MapFault {
+    ghost use Rattle.std.specs.Prelude.{◌≡◌};
+    ghost use Rattle.uimg_map.specs.declared.fault.MapFault.TheVariants.{Read};
+
+    ghost from_gives = { λ _ e. e ≡ Read };
+
     fn from(_fault: SourceFault) -> MapFault {
         MapFault::Read
     }
 }
 
 impl From<AllocError> for MapFault {
+    ghost use Rattle.std.specs.Prelude.{◌≡◌};
+    ghost use Rattle.uimg_map.specs.declared.fault.MapFault.TheVariants.{OutOfMemory};
+
+    ghost from_gives = { λ _ e. e ≡ OutOfMemory };
+
     fn from(_error: AllocError) -> MapFault {
         MapFault::OutOfMemory
     }
 }
 
 impl<X: Drop> From<AllocFailed<X>> for MapFault {
+    ghost use Rattle.std.specs.Prelude.{◌≡◌};
+    ghost use Rattle.uimg_map.specs.declared.fault.MapFault.TheVariants.{OutOfMemory};
+
+    ghost from_gives = { λ _ e. e ≡ OutOfMemory };
+
     fn from(failed: AllocFailed<X>) -> MapFault {
         drop(failed);
         MapFault::OutOfMemory
-    }
-}
-
-impl From<SurveyFault> for MapFault {
-    fn from(fault: SurveyFault) -> MapFault {
-        match fault {
-            SurveyFault::Stopped(uimg_fit_base::Fault::Read) => MapFault::Read,
-            SurveyFault::Stopped(fault) => MapFault::Fit(fault),
-            SurveyFault::OutOfMemory => MapFault::OutOfMemory,
-        }
-    }
-}
-
-impl From<uimg_legacy::Fault> for MapFault {
-    fn from(fault: uimg_legacy::Fault) -> MapFault {
-        match fault {
-            uimg_legacy::Fault::Read => MapFault::Read,
-            fault => MapFault::Legacy(fault),
-        }
     }
 }

@@ -1,8 +1,17 @@
 //! What stands in the file of a FIT image.
 
-ghost use Rattle.std.specs.Prelude.{◌≡◌, length};
-ghost use Rattle.uimg_base.specs.Device.{SameDevice};
-ghost use Rattle.uimg_fit_reading.specs.SurveyParts.{SurveyInside};
+ghost use Rattle.std.specs.Prelude.{◌≡◌, ◌≤◌, ◌<◌, ◌+◌, ◌*◌, ◌^◌, length, map, ℕ, List, Ok, Err, IfErr, IsTrue, OnOk};
+ghost use Rattle.uimg_blob.specs.Counts.{index_cost};
+ghost use Rattle.uimg_blob.specs.Faults.{refuses_memory};
+ghost use Rattle.uimg_fit_reading.specs.Survey.{read_image, survey_of};
+ghost use Rattle.uimg_fit_reading.specs.declared.surveying.facts.Survey.{Survey};
+ghost use Rattle.uimg_fit_reading.specs.SurveyParts.{ImageInside, SurveyInside, is_unread, Surveys};
+ghost use Rattle.uimg_map.specs.Contents.{Grows, Adds, Gathers};
+ghost use Rattle.uimg_map.specs.Faults.{is_read, stops};
+ghost use Rattle.uimg_map.specs.FitContents.{blocks_told, is_value, what_payload, payload_told, image_told, images_told, survey_told, fit_contents};
+ghost use Rattle.uimg_map.specs.Found.{read_label};
+ghost use Rattle.uimg_map.specs.Numbers.{numbers_in};
+ghost use Rattle.uimg_map.specs.Work.{images_in, fit_work};
 
 use crate::blocks::blocks_of;
 use crate::contents::{Contents, Label};
@@ -13,15 +22,7 @@ use std::alloc::Global;
 use uimg_base::{Room, Source, Span};
 use uimg_blob::BlobFault;
 use uimg_fit_base::{Fault, FitFault};
-use uimg_fit_reading::{ImageFacts, Survey, SurveyFault, find_payload, survey};
-
-// The blocks of a blob, by their numbers.
-const BLOCKS: [Label; 4] = [
-    Label::Header,
-    Label::Reservations,
-    Label::Structure,
-    Label::Strings,
-];
+use uimg_fit_reading::{ImageFacts, PayloadFacts, Survey, SurveyFault, find_payload, survey};
 
 /// Adds what stands in the file of a FIT image: the header and the blocks that it names, where the file
 /// begins as a blob and has a header, and the payloads, or else the place of the blob's fault.
@@ -30,38 +31,93 @@ pub(crate) fn add_fit<S: Source>(
     source: &mut S,
     contents: &mut Contents,
 ) -> Result<(), MapFault>
-    ensures same { SameDevice (S.device source.old) (S.device source.new) }
-    ensures size { contents.new.size ≡ contents.old.size }
+    requires { contents.old.size ≡ length (S.device source.old).bytes }
+    ensures { Gathers fit_work fit_contents result (S.device source.old) (S.device source.new)
+        contents.old contents.new }
 {
     add_blocks(source, contents)?;
-    let mut room = Room::new(alloc);
-    match survey(alloc, source, &mut room) {
-        Ok(survey) => add_payloads(source, &survey, contents),
-        Err(SurveyFault::Stopped(Fault::Blob(fault, at))) if fault != BlobFault::OutOfMemory => {
-            contents.refuse_at(at, MapFault::Fit(Fault::Blob(fault, at)))
-        }
-        Err(SurveyFault::Stopped(Fault::Fit(fault))) => {
-            contents.refuse(MapFault::Fit(Fault::Fit(fault)));
-            Ok(())
-        }
-        Err(fault) => Err(MapFault::from(fault)),
-    }
+    add_surveyed(alloc, source, contents)?;
+    Ok(())
 }
 
 // Adds the header and the blocks of a blob, if it has a header.
 fn add_blocks<S: Source>(source: &mut S, contents: &mut Contents) -> Result<(), MapFault>
-    ensures same { SameDevice (S.device source.old) (S.device source.new) }
-    ensures size { contents.new.size ≡ contents.old.size }
+    requires { contents.old.size ≡ length (S.device source.old).bytes }
+    ensures { Gathers (λ file. 40 + length file) (λ file. blocks_told file (numbers_in file)) result
+        (S.device source.old) (S.device source.new) contents.old contents.new }
 {
     let Some(numbers) = read_numbers(source)? else {
         return Ok(());
     };
     let end = end_of_reservations(source, numbers.reservations)?;
-    let blocks = blocks_of(&numbers, end, contents.size);
-    for (block, label) in blocks.iter().zip(&BLOCKS) {
-        contents.add(block.place, block.end, *label)?;
-    }
+    let [header, reservations, structure, strings] = blocks_of(&numbers, end, contents.size);
+    contents.add(header.place, header.end, Label::Header)?;
+    contents.add(reservations.place, reservations.end, Label::Reservations)?;
+    contents.add(structure.place, structure.end, Label::Structure)?;
+    contents.add(strings.place, strings.end, Label::Strings)?;
     Ok(())
+}
+
+// Adds the payloads, or why the image is refused.
+fn add_surveyed<S: Source>(
+    alloc: Global,
+    source: &mut S,
+    contents: &mut Contents,
+) -> Result<(), MapFault>
+    requires { contents.old.size ≡ length (S.device source.old).bytes }
+    ensures { Gathers (λ file. index_cost file + 12 * images_in (survey_of file))
+        (λ file. survey_told (length file) (survey_of file)) result
+        (S.device source.old) (S.device source.new) contents.old contents.new }
+{
+    let mut room = Room::new(alloc);
+    match survey(alloc, source, &mut room) {
+        Ok(survey) => {
+            add_payloads(source, &survey, contents)?;
+            Ok(())
+        }
+        Err(SurveyFault::Stopped(fault)) => {
+            add_refused(fault, contents)?;
+            Ok(())
+        }
+        Err(SurveyFault::OutOfMemory) => Err(MapFault::OutOfMemory),
+        Err(SurveyFault::Changed) => unreachable!(),
+    }
+}
+
+// Adds why a FIT image is refused, or gives up where that is not for the image.
+fn add_refused(fault: Fault, contents: &mut Contents) -> Result<(), MapFault>
+    ensures size { contents.new.size ≡ contents.old.size }
+    ensures read { is_read result ≡ is_unread {X = Survey} (Err (SurveyFault.Stopped fault)) }
+    ensures grows { (file : List ℕ) → Surveys file (Err (SurveyFault.Stopped fault)) →
+        OnOk result (Grows file (survey_told contents.old.size (survey_of file)) contents.old contents.new) }
+    ensures stops { (file : List ℕ) → Surveys file (Err (SurveyFault.Stopped fault)) →
+        IfErr result (λ fault. IsTrue (stops fault)) }
+{
+    match fault {
+        Fault::Blob(blob, at) => {
+            if refuses_memory(blob) {
+                return Err(MapFault::Fit(Fault::Blob(blob, at)));
+            }
+            contents.refuse_at(at, MapFault::Fit(Fault::Blob(blob, at)))?;
+            Ok(())
+        }
+        Fault::Fit(fault) => {
+            contents.refuse(MapFault::Fit(Fault::Fit(fault)));
+            Ok(())
+        }
+        Fault::Read => Err(MapFault::Read),
+        Fault::Put => Err(MapFault::Fit(Fault::Put)),
+    }
+}
+
+// Whether a fault of a blob is that memory was refused.
+fn refuses_memory(fault: BlobFault) -> bool
+    ensures { result ≡ refuses_memory fault }
+{
+    match fault {
+        BlobFault::OutOfMemory => true,
+        _ => false,
+    }
 }
 
 // Adds the payloads of the images of a survey.
@@ -70,31 +126,73 @@ fn add_payloads<S: Source>(
     survey: &Survey,
     contents: &mut Contents,
 ) -> Result<(), MapFault>
-    requires { SurveyInside (length (S.device source.old).bytes) survey.now }
-    ensures same { SameDevice (S.device source.old) (S.device source.new) }
-    ensures size { contents.new.size ≡ contents.old.size }
+    requires survey { SurveyInside (length (S.device source.old).bytes) survey.now }
+    requires size { contents.old.size ≡ length (S.device source.old).bytes }
+    ensures { Gathers (λ _. 12 * length survey.now.images.items)
+        (λ file. images_told (length file) survey.now.totalsize (map (read_image file) survey.now.images.items))
+        result (S.device source.old) (S.device source.new) contents.old contents.new }
 {
     for image in &survey.images {
-        match find_payload(source, survey.totalsize, &image.payload)? {
-            Ok(span) => add_payload(image, span, contents)?,
-            Err(fault) => contents.refuse(MapFault::Fit(Fault::Fit(fault))),
-        }
+        add_image(source, survey.totalsize, image, contents)?;
     }
     Ok(())
 }
 
-// Adds the payload of an image.
-fn add_payload(image: &ImageFacts, span: Span, contents: &mut Contents) -> Result<(), MapFault>
-    ensures { contents.new.size ≡ contents.old.size }
+// Adds the payload of an image, or that it has none.
+fn add_image<S: Source>(
+    source: &mut S,
+    totalsize: u32,
+    image: &ImageFacts,
+    contents: &mut Contents,
+) -> Result<(), MapFault>
+    requires image { ImageInside totalsize image.now }
+    requires blob { totalsize ≤ length (S.device source.old).bytes }
+    requires size { contents.old.size ≡ length (S.device source.old).bytes }
+    ensures { Gathers (λ _. 12) (λ file. image_told (length file) totalsize (read_image file image.now))
+        result (S.device source.old) (S.device source.new) contents.old contents.new }
 {
-    let end = span.place.saturating_add(span.length);
-    if end > contents.size {
-        contents.refuse(MapFault::Fit(Fault::Fit(FitFault::DataOutside)));
+    match find_payload(source, totalsize, &image.payload)? {
+        Ok(span) => {
+            add_payload(image, span, contents)?;
+            Ok(())
+        }
+        Err(fault) => {
+            contents.refuse(MapFault::Fit(Fault::Fit(fault)));
+            Ok(())
+        }
     }
-    let label = if image.payload.embedded == Some(span) {
+}
+
+// Adds the payload of an image that has this place.
+fn add_payload(image: &ImageFacts, span: Span, contents: &mut Contents) -> Result<(), MapFault>
+    requires { (span.place < 2 ^ 41) × (span.length < 2 ^ 32) }
+    ensures { Adds (λ file. payload_told contents.old.size (read_image file image.now) (Ok span)) result
+        contents.old contents.new }
+{
+    let end = span.place + span.length;
+    contents.add(span.place, end, payload_label(image, span))?;
+    contents.refuse_behind(end, MapFault::Fit(Fault::Fit(FitFault::DataOutside)));
+    Ok(())
+}
+
+// What the payload of an image is that has this place.
+fn payload_label(image: &ImageFacts, span: Span) -> Label
+    ensures { (file : List ℕ) → read_label file result ≡ what_payload (read_image file image.now) span }
+{
+    if is_value(&image.payload, span) {
         Label::Embedded(image.name)
     } else {
         Label::Payload(image.name)
-    };
-    contents.add(span.place, end, label)
+    }
+}
+
+// Whether what stands there is the value of `data`.
+#[tactic(auto, unfolding(crate::specs::FitContents::is_value))]
+fn is_value(payload: &PayloadFacts, span: Span) -> bool
+    ensures { result ≡ is_value payload.now.embedded span }
+{
+    match payload.embedded {
+        Some(value) => value.place == span.place && value.length == span.length,
+        None => false,
+    }
 }

@@ -1,84 +1,156 @@
 //! What stands in the file of a legacy image.
 
-ghost use Rattle.std.specs.Prelude.{◌≡◌};
-ghost use Rattle.uimg_base.specs.Device.{SameDevice};
+ghost use Rattle.std.specs.Prelude.{◌≡◌, ◌≤◌, ◌<◌, ◌+◌, ◌*◌, ◌^◌, length, ℕ, List, nat_lt, true, Some, IfOk, IsTrue, is_err};
+ghost use Rattle.uimg_base.specs.Using.{Asks, UsesAtMost};
+ghost use Rattle.uimg_legacy.specs.Image.{payload};
+ghost use Rattle.uimg_legacy.specs.Parts.{has_parts, sizes, part_sizes};
+ghost use Rattle.uimg_map.specs.Contents.{Adds, Gathers};
+ghost use Rattle.uimg_map.specs.LegacyContents.{legacy_fault, is_bad_crc, refused_header, header_told, padding_told, part_told, parts_told, endless_told, table_told, data_told, legacy_contents};
+ghost use Rattle.uimg_map.specs.Tables.{word_at, count_in};
+ghost use Rattle.uimg_map.specs.Work.{legacy_work, table_work};
+ghost use Rattle.uimg_texts.specs.Slices.{slice};
 
 use crate::contents::{Contents, Label};
 use crate::fault::MapFault;
-use uimg_base::{Source, number_at, up4};
+use uimg_base::{Source, SourceFault, number_at, up4};
 use uimg_legacy::{Fault, HEADER_LEN, Header, LegacyFault, has_parts, read_header};
 
 /// Adds what stands in the file of a legacy image: the header and the data, of the types multi and script
 /// the table of sizes and the parts, or else the place of the header's fault. The data are not read.
 pub(crate) fn add_legacy<S: Source>(source: &mut S, contents: &mut Contents) -> Result<(), MapFault>
-    ensures same { SameDevice (S.device source.old) (S.device source.new) }
-    ensures size { contents.new.size ≡ contents.old.size }
+    requires { contents.old.size ≡ length (S.device source.old).bytes }
+    ensures { Gathers legacy_work legacy_contents result (S.device source.old) (S.device source.new)
+        contents.old contents.new }
 {
     match read_header(source) {
-        Ok(header) => add_data(source, &header, contents),
-        Err(Fault::Legacy(fault)) => add_refused(fault, contents),
-        Err(fault) => Err(MapFault::from(fault)),
+        Ok(header) => {
+            add_header(header.size, contents)?;
+            add_data(source, &header, contents)?;
+            Ok(())
+        }
+        Err(Fault::Legacy(fault)) => {
+            add_refused(fault, contents)?;
+            Ok(())
+        }
+        Err(Fault::Read) => Err(MapFault::Read),
+        Err(Fault::Put) => Err(MapFault::Legacy(Fault::Put)),
     }
 }
 
-// Where in the file the fault of a header is.
-fn place_of(fault: LegacyFault) -> u64 {
-    match fault {
-        LegacyFault::BadHeaderCrc => 4,
-        _ => 0,
-    }
+// Why a legacy image is refused.
+fn legacy_fault(fault: LegacyFault) -> MapFault
+    ensures { result ≡ legacy_fault fault }
+{
+    MapFault::Legacy(Fault::Legacy(fault))
 }
 
 // Adds the header of an image, where there is one, and its fault.
 fn add_refused(fault: LegacyFault, contents: &mut Contents) -> Result<(), MapFault>
-    ensures { contents.new.size ≡ contents.old.size }
+    ensures { Adds (λ _. refused_header fault) result contents.old contents.new }
 {
-    if fault == LegacyFault::BadHeaderCrc {
+    if is_bad_crc(fault) {
         contents.add(0, HEADER_LEN as u64, Label::Header)?;
+        contents.refuse_at(4, legacy_fault(fault))?;
+        return Ok(());
     }
-    contents.refuse_at(place_of(fault), legacy_fault(fault))
+    contents.refuse_at(0, legacy_fault(fault))?;
+    Ok(())
 }
 
-// Adds the header and the data that it tells of.
+// Whether a fault of a header is that its CRC is wrong.
+fn is_bad_crc(fault: LegacyFault) -> bool
+    ensures { result ≡ is_bad_crc fault }
+{
+    match fault {
+        LegacyFault::BadHeaderCrc => true,
+        _ => false,
+    }
+}
+
+// Adds the header of data of so many bytes.
+fn add_header(size: u32, contents: &mut Contents) -> Result<(), MapFault>
+    ensures { Adds (λ _. header_told contents.old.size size) result contents.old contents.new }
+{
+    contents.add(0, HEADER_LEN as u64, Label::Header)?;
+    contents.refuse_behind(end_of(size), legacy_fault(LegacyFault::Truncated));
+    Ok(())
+}
+
+// Where data of so many bytes end.
+fn end_of(size: u32) -> u64
+    ensures { result ≡ 64 + size }
+{
+    HEADER_LEN as u64 + size as u64
+}
+
+// Adds the data of a header.
 fn add_data<S: Source>(
     source: &mut S,
     header: &Header,
     contents: &mut Contents,
 ) -> Result<(), MapFault>
-    ensures same { SameDevice (S.device source.old) (S.device source.new) }
-    ensures size { contents.new.size ≡ contents.old.size }
+    requires { contents.old.size ≡ length (S.device source.old).bytes }
+    ensures { Gathers (λ file. table_work (has_parts header.now.kind) (payload file header.now))
+        (λ file. data_told file header.now (has_parts header.now.kind)) result
+        (S.device source.old) (S.device source.new) contents.old contents.new }
 {
-    let start = HEADER_LEN as u64;
-    let end = start + header.size as u64;
-    contents.add(0, start, Label::Header)?;
-    if end > contents.size {
-        contents.refuse(legacy_fault(LegacyFault::Truncated));
-    }
     if !has_parts(header.kind) {
-        return contents.add(start, end, Label::Data);
+        contents.add(HEADER_LEN as u64, end_of(header.size), Label::Data)?;
+        return Ok(());
     }
-    match count_sizes(source, header.size / 4)? {
-        Some(count) => add_parts(source, count, header.size, contents),
+    add_table(source, header.size, contents)?;
+    Ok(())
+}
+
+// Adds the table of sizes of data of so many bytes, and the parts.
+fn add_table<S: Source>(source: &mut S, size: u32, contents: &mut Contents) -> Result<(), MapFault>
+    requires { contents.old.size ≡ length (S.device source.old).bytes }
+    ensures { Gathers (λ file. table_work true (slice file 64 size))
+        (λ file. table_told (length file) size (part_sizes (slice file 64 size))) result
+        (S.device source.old) (S.device source.new) contents.old contents.new }
+{
+    match count_sizes(source, size)? {
+        Some(count) => {
+            contents.add(HEADER_LEN as u64, first_part(count), Label::Table)?;
+            add_parts(source, count, size, contents)?;
+            Ok(())
+        }
         None => {
-            contents.add(start, end, Label::Table)?;
-            if end > contents.size {
-                return Ok(());
-            }
-            contents.refuse_at(end, legacy_fault(LegacyFault::NoTableEnd))
+            add_endless(size, contents)?;
+            Ok(())
         }
     }
 }
 
-// Why a legacy image is refused.
-fn legacy_fault(fault: LegacyFault) -> MapFault {
-    MapFault::Legacy(Fault::Legacy(fault))
+// Where the first part begins, behind so many sizes and the zero word.
+fn first_part(count: u32) -> u64
+    ensures { result ≡ 64 + 4 * (count + 1) }
+{
+    HEADER_LEN as u64 + 4 * (count as u64 + 1)
 }
 
-// How many of so many words stand before the first zero word, if the file has one among them.
-fn count_sizes<S: Source>(source: &mut S, words: u32) -> Result<Option<u32>, MapFault>
-    ensures { SameDevice (S.device source.old) (S.device source.new) }
+// Adds the table of data of so many bytes that has no end.
+fn add_endless(size: u32, contents: &mut Contents) -> Result<(), MapFault>
+    ensures { Adds (λ _. endless_told contents.old.size size LegacyFault.NoTableEnd) result
+        contents.old contents.new }
 {
-    for number in 0..words {
+    let end = end_of(size);
+    contents.add(HEADER_LEN as u64, end, Label::Table)?;
+    if end > contents.size {
+        return Ok(());
+    }
+    contents.refuse_at(end, legacy_fault(LegacyFault::NoTableEnd))?;
+    Ok(())
+}
+
+// How many words of data of so many bytes stand before the first zero word, if the file has one among them.
+fn count_sizes<S: Source>(source: &mut S, size: u32) -> Result<Option<u32>, SourceFault>
+    ensures uses { UsesAtMost (4 * length (sizes (slice (S.device source.old).bytes 64 size)) + 4) (is_err result)
+        (S.device source.old) (S.device source.new) }
+    ensures count { IsTrue (S.device source.old).honest →
+        IfOk result (λ count. count ≡ count_in (part_sizes (slice (S.device source.old).bytes 64 size))) }
+{
+    for number in 0..size / 4 {
         match size_at(source, number)? {
             Some(0) => return Ok(Some(number)),
             Some(_) => {}
@@ -89,12 +161,15 @@ fn count_sizes<S: Source>(source: &mut S, words: u32) -> Result<Option<u32>, Map
 }
 
 // The word of a number behind the header, if the file has it.
-fn size_at<S: Source>(source: &mut S, number: u32) -> Result<Option<u32>, MapFault>
-    ensures { SameDevice (S.device source.old) (S.device source.new) }
+#[tactic(auto, unfolding(crate::specs::Tables::word_at, uimg_texts::specs::Numbers::be32))]
+fn size_at<S: Source>(source: &mut S, number: u32) -> Result<Option<u32>, SourceFault>
+    ensures uses { Asks 4 (is_err result) (S.device source.old) (S.device source.new) }
+    ensures word { IsTrue (S.device source.old).honest →
+        IfOk result (λ word. word ≡ word_at (S.device source.old).bytes number) }
 {
     let at = HEADER_LEN as u64 + 4 * number as u64;
     let size = source.size()?;
-    if size < 4 || size - 4 < at {
+    if size < at + 4 {
         return Ok(None);
     }
     let mut word = [0; 4];
@@ -102,7 +177,7 @@ fn size_at<S: Source>(source: &mut S, number: u32) -> Result<Option<u32>, MapFau
     Ok(Some(number_at(&word, 0)))
 }
 
-// Adds the table of so many sizes, and the parts up to the first that ends after the data, which have so
+// Adds the parts of a table of so many sizes, up to the first that ends behind the data, which have so
 // many bytes.
 fn add_parts<S: Source>(
     source: &mut S,
@@ -110,26 +185,64 @@ fn add_parts<S: Source>(
     size: u32,
     contents: &mut Contents,
 ) -> Result<(), MapFault>
-    ensures same { SameDevice (S.device source.old) (S.device source.new) }
-    ensures size { contents.new.size ≡ contents.old.size }
+    requires { IsTrue (S.device source.old).honest →
+        count_in (part_sizes (slice (S.device source.old).bytes 64 size)) ≡ Some count }
+    ensures { Gathers (λ _. 4 * count)
+        (λ file. parts_told (64 + size) (64 + 4 * (count + 1)) 0 (sizes (slice file 64 size))) result
+        (S.device source.old) (S.device source.new) contents.old contents.new }
 {
-    let start = HEADER_LEN as u64;
-    let end = start + size as u64;
-    let mut at = start + 4 * (count as u64 + 1);
-    contents.add(start, at, Label::Table)?;
+    let end = end_of(size);
+    let mut at = first_part(count);
     for number in 0..count {
-        let Some(size) = size_at(source, number)? else {
-            return Ok(());
+        let size = match size_at(source, number)? {
+            Some(size) => size,
+            None => return Ok(()),
         };
-        let stop = at + size as u64;
-        contents.add(at, stop, Label::Part(number))?;
-        if stop > end {
-            return contents.refuse_at(at, legacy_fault(LegacyFault::PartOutside));
+        if add_part(number, at, size, number + 1 >= count, end, contents)? {
+            return Ok(());
         }
-        at = up4(stop);
-        if stop < at && number + 1 < count {
-            contents.add(stop, at, Label::Padding)?;
-        }
+        at = up4(at + size as u64);
     }
+    Ok(())
+}
+
+// Adds a part of data that end at a place, and the bytes up to the next part, if it is not the last. Tells
+// whether it ends behind the data, which is a fault.
+fn add_part(
+    number: u32,
+    at: u64,
+    size: u32,
+    is_last: bool,
+    end: u64,
+    contents: &mut Contents,
+) -> Result<bool, MapFault>
+    requires { at < 2 ^ 36 }
+    ensures adds { Adds (λ _. part_told (nat_lt end (at + size)) at number size is_last) result
+        contents.old contents.new }
+    ensures outside { IfOk result (λ outside. outside ≡ nat_lt end (at + size)) }
+{
+    let stop = at + size as u64;
+    contents.add(at, stop, Label::Part(number))?;
+    if stop > end {
+        contents.refuse_at(at, legacy_fault(LegacyFault::PartOutside))?;
+        return Ok(true);
+    }
+    add_padding(stop, is_last, contents)?;
+    Ok(false)
+}
+
+// Adds the bytes from the end of a part up to the next part, if it is not the last.
+fn add_padding(stop: u64, is_last: bool, contents: &mut Contents) -> Result<(), MapFault>
+    requires { stop < 2 ^ 37 }
+    ensures { Adds (λ _. padding_told stop is_last) result contents.old contents.new }
+{
+    if is_last {
+        return Ok(());
+    }
+    let next = up4(stop);
+    if next <= stop {
+        return Ok(());
+    }
+    contents.add(stop, next, Label::Padding)?;
     Ok(())
 }

@@ -1,8 +1,11 @@
 //! The map of an image's file.
 
-ghost use Rattle.std.specs.Prelude.{◌≡◌, length, IfOk};
-ghost use Rattle.uimg_base.specs.Device.{SameDevice};
-ghost use Rattle.uimg_map.specs.Maps.{IsMap};
+ghost use Rattle.std.specs.Prelude.{◌≡◌, length, is_err, IfOk, IfErr, IsTrue};
+ghost use Rattle.uimg_base.specs.Using.{Asks, UsesAtMost};
+ghost use Rattle.uimg_map.specs.Contents.{Gathers};
+ghost use Rattle.uimg_map.specs.Faults.{is_read, stops};
+ghost use Rattle.uimg_map.specs.Maps.{begins_as_blob, contents_of, IsMap, IsMapOf};
+ghost use Rattle.uimg_map.specs.Work.{map_work};
 
 use crate::arranging::arrange;
 use crate::contents::{Contents, Label};
@@ -68,18 +71,22 @@ impl Map {
 /// that a payload or a part ends behind the file is a fault too. Neither payloads nor data are read.
 ///
 /// There is none where a read failed, or memory for the nodes of a FIT image, for what stands in the file
-/// or for the rows was refused: some 500 bytes for an image, 300 for a part.
+/// or for the rows was refused: some 500 bytes for an image, 300 for a part. Of a FIT image the bytes that
+/// are asked for are at most those of the header's numbers and of the reservation block, which ends in the
+/// file, those of the index and 12 for an image; of a legacy one those of the header, 8 for each size in
+/// its table and 4 for the word behind them; of both the four that tell the format.
 pub fn map_of<S: Source>(alloc: Global, source: &mut S) -> Result<Map, MapFault>
-    ensures same { SameDevice (S.device source.old) (S.device source.new) }
+    ensures uses { UsesAtMost (map_work (S.device source.old).bytes) (is_read result)
+        (S.device source.old) (S.device source.new) }
     ensures size { IfOk result (λ map. map.size ≡ length (S.device source.old).bytes) }
     ensures rows { IfOk result IsMap }
+    ensures found { IsTrue (S.device source.old).honest →
+        IfOk result (IsMapOf (S.device source.old).bytes) }
+    ensures stops { IsTrue (S.device source.old).honest →
+        IfErr result (λ fault. IsTrue (stops fault)) }
 {
     let mut contents = Contents::new(alloc, source.size()?);
-    if begins_as_blob(source)? {
-        add_fit(alloc, source, &mut contents)?;
-    } else {
-        add_legacy(source, &mut contents)?;
-    }
+    add_contents(alloc, source, &mut contents)?;
     let Contents {
         size,
         things,
@@ -95,9 +102,30 @@ pub fn map_of<S: Source>(alloc: Global, source: &mut S) -> Result<Map, MapFault>
     })
 }
 
+// Adds what stands in the file of an image.
+fn add_contents<S: Source>(
+    alloc: Global,
+    source: &mut S,
+    contents: &mut Contents,
+) -> Result<(), MapFault>
+    requires { contents.old.size ≡ length (S.device source.old).bytes }
+    ensures { Gathers map_work contents_of result (S.device source.old) (S.device source.new)
+        contents.old contents.new }
+{
+    if begins_as_blob(source)? {
+        add_fit(alloc, source, contents)?;
+        return Ok(());
+    }
+    add_legacy(source, contents)?;
+    Ok(())
+}
+
 // Whether a file begins as a blob does.
+#[tactic(auto, unfolding(crate::specs::Maps::begins_as_blob, uimg_texts::specs::Numbers::be32))]
 fn begins_as_blob<S: Source>(source: &mut S) -> Result<bool, SourceFault>
-    ensures { SameDevice (S.device source.old) (S.device source.new) }
+    ensures uses { Asks 4 (is_err result) (S.device source.old) (S.device source.new) }
+    ensures told { IsTrue (S.device source.old).honest →
+        IfOk result (λ begins. begins ≡ begins_as_blob (S.device source.old).bytes) }
 {
     if source.size()? < 4 {
         return Ok(false);

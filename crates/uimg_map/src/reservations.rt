@@ -1,7 +1,7 @@
 //! Where the memory reservation block of a devicetree blob ends.
 
 ghost use Rattle.std.specs.Prelude.{◌≡◌, ◌+◌, ◌≤◌, length, is_err, IfOk, IfSome, IsTrue};
-ghost use Rattle.uimg_base.specs.Using.{Asks, Uses};
+ghost use Rattle.uimg_base.specs.Using.{Asks};
 ghost use Rattle.uimg_map.specs.Reservations.{zeros, EndsBlock};
 ghost use Rattle.uimg_texts.specs.Slices.{slice};
 
@@ -24,12 +24,13 @@ fn is_last<S: Source>(source: &mut S, at: u64) -> Result<bool, SourceFault>
 
 /// Where the memory reservation block of a blob ends that begins at a place (Devicetree Specification,
 /// section 5.3): behind the first entry of zeros only. There is no end where the source ends before such
-/// an entry does. An entry is read at a time.
+/// an entry does. An entry is read at a time, and no more is asked for than the source has.
 pub fn end_of_reservations<S: Source>(
     source: &mut S,
     place: u32,
 ) -> Result<Option<u64>, SourceFault>
-    ensures uses { Uses (is_err result) (S.device source.old) (S.device source.new) }
+    ensures uses { Asks (length (S.device source.old).bytes) (is_err result)
+        (S.device source.old) (S.device source.new) }
     ensures found { IsTrue (S.device source.old).honest →
         IfOk result (EndsBlock (S.device source.old).bytes place) }
 {

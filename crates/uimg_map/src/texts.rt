@@ -7,7 +7,7 @@ use crate::row::Row;
 use crate::thing::Thing;
 use std::alloc::Global;
 use uimg_base::{Source, Span};
-use uimg_unpacking::PrintedWord;
+use uimg_printing::PrintedWord;
 
 // The most bytes that a name of a node has.
 const NAME_LEN: usize = 255;

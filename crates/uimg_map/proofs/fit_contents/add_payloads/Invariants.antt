@@ -1,12 +1,22 @@
-use Rattle.std.proofs.Common.{◌≡◌}
+use Rattle.std.proofs.Common.{◌≡◌, ◌≤◌, ◌+◌, ◌*◌, length, map, drop, IsTrue}
 use Rattle.uimg_base.specs.Device.{SameDevice}
+use Rattle.uimg_fit_reading.specs.Survey.{read_image}
+use Rattle.uimg_map.specs.declared.contents.Contents.{Contents}
+use Rattle.uimg_map.specs.Contents.{Grows}
+use Rattle.uimg_map.specs.FitContents.{images_told}
 use Rattle.uimg_map.proofs.fit_contents.add_payloads.Given as goal
 
--- the source and the size of the file stay what they were
+-- what is found of the images that are left makes what is found of all
 abbrev pub invariant-loop-image : goal.invariant-loop-image
 invariant-loop-image g l =
     let device = g.S.Source.device in
+    let file = (device l.fn.source).bytes in
     record {
       same : SameDevice (device l.fn.source) (device l.source);
+      asked : IsTrue (device l.fn.source).honest → (device l.source).asked ≤ (device l.fn.source).asked + 12 * l.image-index;
+      failures : (device l.source).failures ≡ (device l.fn.source).failures;
       size : l.contents.size ≡ l.fn.contents.size;
+      left : IsTrue (device l.fn.source).honest → (all : Contents)
+          → Grows file (images_told (length file) l.survey.totalsize (map (read_image file) (drop l.image-index l.survey.images.items))) l.contents all
+          → Grows file (images_told (length file) l.survey.totalsize (map (read_image file) l.survey.images.items)) l.fn.contents all;
     }

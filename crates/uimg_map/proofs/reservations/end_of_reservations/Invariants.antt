@@ -1,4 +1,4 @@
-use Rattle.std.proofs.Common.{◌≡◌, ◌-◌, length, IsTrue}
+use Rattle.std.proofs.Common.{◌≡◌, ◌≤◌, ◌+◌, ◌-◌, max, length, IsTrue}
 use Rattle.uimg_base.specs.Device.{SameDevice}
 use Rattle.uimg_map.proofs.ReservationsLaws.{Passed}
 use Rattle.uimg_map.proofs.reservations.end_of_reservations.Given as goal
@@ -10,6 +10,8 @@ invariant-loop-at g l =
     record {
       same : SameDevice (device l.fn.source) (device l.source);
       failures : (device l.source).failures ≡ (device l.fn.source).failures;
+      within : l.at ≤ max l.place l.size;
+      asked : (device l.source).asked + l.place ≤ (device l.fn.source).asked + l.at;
       size : l.size ≡ length (device l.fn.source).bytes;
       passed : IsTrue (device l.fn.source).honest → Passed (device l.fn.source).bytes l.place l.at;
     }
