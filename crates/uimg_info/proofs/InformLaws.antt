@@ -5,15 +5,16 @@ use Rattle.json.specs.Print.{print}
 use Rattle.json.specs.Tree.{json_tokens}
 use Rattle.uimg_blob.proofs.PhaseLaws.{true_false}
 use Rattle.uimg_fit_base.specs.declared.fault.Fault.TheVariants as of
-use Rattle.uimg_fit_reading.specs.SurveyParts.{lacks_room}
+use Rattle.uimg_fit_reading.specs.SurveyParts.{lacks_room, IsOwn}
 use Rattle.uimg_fit_reading.specs.declared.surveying.fault.SurveyFault.{SurveyFault}
-use Rattle.uimg_fit_reading.specs.declared.surveying.fault.SurveyFault.TheVariants.{Stopped, OutOfMemory}
+use Rattle.uimg_fit_reading.specs.declared.surveying.fault.SurveyFault.TheVariants.{Stopped, OutOfMemory, Changed}
 use Rattle.uimg_info.specs.Fit.{info_of}
-use Rattle.uimg_info.specs.Steps.{IsOwn, Informs}
+use Rattle.uimg_info.specs.Steps.{Informs}
 
 pub informs : {X : Type 0} (view : X → List ℕ) (path file : List ℕ) (r : Result X SurveyFault) (j : Json) → info_of path file ≡ Ok j → IsOwn r → IfOk r (λ x. view x ≡ print (json_tokens j)) → Informs view path file r
 informs view path file (Ok x) j e own told = (j, e, told)
 informs view path file (Err OutOfMemory) j e own told = tt
+informs view path file (Err Changed) j e own told = absurd (true_false (sym own))
 informs view path file (Err (Stopped of.Read)) j e own told = tt
 informs view path file (Err (Stopped of.Put)) j e own told = absurd (true_false (sym own))
 informs view path file (Err (Stopped (of.Blob fault at))) j e own told = absurd (true_false (sym own))
@@ -22,6 +23,7 @@ informs view path file (Err (Stopped (of.Fit fault))) j e own told = absurd (tru
 pub own_room : {X : Type 0} (r : Result X SurveyFault) → IsOwn r → lacks_room r ≡ false
 own_room (Ok x) own = refl
 own_room (Err OutOfMemory) own = refl
+own_room (Err Changed) own = refl
 own_room (Err (Stopped of.Read)) own = refl
 own_room (Err (Stopped of.Put)) own = refl
 own_room (Err (Stopped (of.Blob fault at))) own = absurd (true_false (sym own))

@@ -1,12 +1,15 @@
 -- Values that end in a blob end in its file.
-use Rattle.std.proofs.Common.{ℕ, ◌≤◌, Option, Some, None, arith}
+use Rattle.std.proofs.Common.{ℕ, ◌≤◌, Option, Some, None, Vec, arith}
 use Rattle.std.proofs.lemmas.List.Elements.{All-weaker}
 use Rattle.uimg_base.specs.declared.spans.Span.{Span}
+use Rattle.uimg_blob.specs.declared.places.PropertyPlace.{PropertyPlace}
+use Rattle.uimg_blob.specs.Places.{EndsBy}
+use Rattle.uimg_fit_reading.specs.FullSurvey.{PlacesInside}
 use Rattle.uimg_fit_reading.specs.declared.surveying.facts.HashFacts.{HashFacts}
 use Rattle.uimg_fit_reading.specs.declared.surveying.facts.PayloadFacts.{PayloadFacts}
 use Rattle.uimg_fit_reading.specs.declared.surveying.facts.ImageFacts.{ImageFacts}
 use Rattle.uimg_fit_reading.specs.declared.surveying.facts.ConfigurationFacts.{ConfigurationFacts}
-use Rattle.uimg_fit_reading.specs.SurveyParts.{Ends, HashInside, PayloadInside, ImageInside, ConfigurationInside}
+use Rattle.uimg_fit_reading.specs.SurveyParts.{Ends, NameInside, HashInside, PayloadInside, ImageInside, ConfigurationInside}
 
 pub ends_more : (m n : ℕ) (v : Option Span) → m ≤ n → Ends m v → Ends n v
 ends_more m n None h e = tt
@@ -49,4 +52,14 @@ configuration_more m n facts h i = record {
   ramdisk = ends_more m n facts.ramdisk h i.ramdisk;
   fdt = ends_more m n facts.fdt h i.fdt;
   loadables = ends_more m n facts.loadables h i.loadables;
+  firmware = ends_more m n facts.firmware h i.firmware;
+  fpga = ends_more m n facts.fpga h i.fpga;
+  setup = ends_more m n facts.setup h i.setup;
+  standalone = ends_more m n facts.standalone h i.standalone;
+  script = ends_more m n facts.script h i.script;
+  nodes = All-weaker (NameInside m) (NameInside n) (λ name is. omega (arith, h, is)) facts.nodes.items i.nodes;
 }
+
+pub places_more : {Z : Type 0} (m n : ℕ) (places : Vec PropertyPlace Z) → m ≤ n → PlacesInside m places → PlacesInside n places
+places_more m n places h all =
+    All-weaker (EndsBy m) (EndsBy n) (λ place e. record { name = omega (arith, h, e.name); value = omega (arith, h, e.value); short = e.short }) places.items all

@@ -1,8 +1,10 @@
+mod EntryLaws
 mod InformLaws
 mod InsideLaws
 mod LegacyLaws
 mod ObjectLaws
 mod PieceLaws
+mod PropertyLaws
 mod SoundLaws
 mod StepLaws
-mod TextLaws
+mod WorkLaws

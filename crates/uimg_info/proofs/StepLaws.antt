@@ -1,68 +1,13 @@
--- Steps of writing, one after another.
-use Rattle.std.proofs.Common.{◌≡◌, ◌≤◌, ◌<◌, ◌+◌, ℕ, codes, false, Bool, List, [], ◌∷◌, ◌++◌, ap, sym, ◌∙◌, refl, append_assoc, append-nil, decimal}
-use Rattle.std.specs.List.{flat_map}
-use Rattle.std.proofs.lemmas.Grind.{flat_map-append}
+-- Where a payload stands, as it is written.
+use Rattle.std.proofs.Common.{◌≡◌, ◌≤◌, ◌<◌, ◌+◌, ℕ, codes, Bool, ◌∷◌, ◌++◌, ap, sym, decimal}
 use Rattle.std.proofs.lemmas.Bool.{lt-ltb, le-ltb}
-use Rattle.uimg_base.specs.Device.{Device}
-use Rattle.uimg_base.specs.Using.{Uses}
 use Rattle.uimg_base.specs.declared.spans.Span.{Span}
-use Rattle.json.specs.Json.{Json}
 use Rattle.json.specs.Token.{Token}
-use Rattle.json.specs.Tree.{json_tokens, items_tokens, members_tokens}
 use Rattle.json.specs.Written.{Written}
-use Rattle.uimg_info.specs.Members.{Member, members_of, items_of, object_of, array_of, member_tokens, tokens_of, number_member}
+use Rattle.uimg_json.specs.Members.{tokens_of, number_member}
+use Rattle.uimg_json.specs.Steps.{Appended}
+use Rattle.uimg_json.proofs.StepLaws.{appended_as}
 use Rattle.uimg_info.specs.Fit.{span_members, outside, fault_members}
-use Rattle.uimg_info.specs.Steps.{Appended}
-
-pub then_appended : (s t u : Written) (a b : List Token) → Appended s t a → Appended t u b → Appended s u (a ++ b)
-then_appended s t u a b p q = record {
-  tokens_now = q.tokens_now ∙ ap (λ (l : List Token). l ++ b) p.tokens_now ∙ append_assoc s.tokens a b;
-  before = q.before ∙ p.before;
-}
-
-pub appended_as : (s t : Written) (a b : List Token) → a ≡ b → Appended s t a → Appended s t b
-appended_as s t a b e p = record { tokens_now = p.tokens_now ∙ ap (λ (l : List Token). s.tokens ++ l) e; before = p.before }
-
--- the tokens of an object and of an array
-pub members_tokens_of : (ms : List Member) → members_tokens (members_of ms) ≡ tokens_of ms ++ Token.end_object ∷ []
-members_tokens_of [] = refl
-members_tokens_of (m ∷ ms) =
-    ap (λ (l : List Token). Token.key m.0 ∷ (json_tokens m.1 ++ l)) (members_tokens_of ms)
-    ∙ sym (append_assoc (member_tokens m) (tokens_of ms) (Token.end_object ∷ []))
-
-pub items_tokens_of : (js : List Json) → items_tokens (items_of js) ≡ flat_map json_tokens js ++ Token.end_array ∷ []
-items_tokens_of [] = refl
-items_tokens_of (j ∷ js) =
-    ap (λ (l : List Token). json_tokens j ++ l) (items_tokens_of js)
-    ∙ sym (append_assoc (json_tokens j) (flat_map json_tokens js) (Token.end_array ∷ []))
-
-pub tokens_append : (a b : List Member) → tokens_of (a ++ b) ≡ tokens_of a ++ tokens_of b
-tokens_append a b = flat_map-append member_tokens a b
-
--- an object whose members were written between its braces
-pub object_appended : (s t u v : Written) (ms : List Member) → Appended s t (Token.begin_object ∷ []) → Appended t u (tokens_of ms) → Appended u v (Token.end_object ∷ []) → Appended s v (json_tokens (object_of ms))
-object_appended s t u v ms p q r =
-    appended_as s v _ _ (ap (λ (l : List Token). Token.begin_object ∷ l) (sym (members_tokens_of ms)))
-    (then_appended s t v _ _ p (then_appended t u v _ _ q r))
-
-pub array_appended : (s t u v : Written) (js : List Json) → Appended s t (Token.begin_array ∷ []) → Appended t u (flat_map json_tokens js) → Appended u v (Token.end_array ∷ []) → Appended s v (json_tokens (array_of js))
-array_appended s t u v js p q r =
-    appended_as s v _ _ (ap (λ (l : List Token). Token.begin_array ∷ l) (sym (items_tokens_of js)))
-    (then_appended s t v _ _ p (then_appended t u v _ _ q r))
-
--- one token
-pub one : {s t : Written} {k : Token} → t.tokens ≡ s.tokens ++ k ∷ [] → t.before ≡ s.before → Appended s t (k ∷ [])
-one e b = record { tokens_now = e; before = b }
-
-pub after : {s t u : Written} {a b : List Token} → Appended s t a → Appended t u b → Appended s u (a ++ b)
-after {s} {t} {u} {a} {b} p q = then_appended s t u a b p q
-
--- a read after another
-pub uses_then : {d e f : Device} → Uses false d e → Uses false e f → Uses false d f
-uses_then p q = record {
-  same = record { bytes = q.same.bytes ∙ p.same.bytes; honest = q.same.honest ∙ p.same.honest };
-  failures = q.failures ∙ p.failures;
-}
 
 -- where a payload stands
 pub span_inside : (s t : Written) (size : ℕ) (place : Span) → place.place + place.length ≤ size
@@ -74,16 +19,3 @@ pub span_outside : (s t : Written) (size : ℕ) (place : Span) → size < place.
     → Appended s t (tokens_of (number_member (codes "offset") place.place) ++ (tokens_of (number_member (codes "data-size") place.length) ++ tokens_of (fault_members (codes "F3") (codes "F3 data outside")))) → Appended s t (tokens_of (span_members size place))
 span_outside s t size place h p =
     appended_as s t _ _ (ap (λ (b : Bool). Token.key (codes "offset") ∷ Token.number (decimal place.place) ∷ Token.key (codes "data-size") ∷ Token.number (decimal place.length) ∷ tokens_of (outside b)) (sym (lt-ltb size (place.place + place.length) h))) p
-
--- the tokens of members that end with one or two of given values
-pub tokens_one : (a b : List Member) (name : List ℕ) (j : Json) → tokens_of (a ++ (b ++ (name, j) ∷ [])) ≡ tokens_of a ++ (tokens_of b ++ Token.key name ∷ json_tokens j)
-tokens_one a b name j =
-    tokens_append a (b ++ (name, j) ∷ [])
-    ∙ ap (λ (l : List Token). tokens_of a ++ l) (tokens_append b ((name, j) ∷ []) ∙ ap (λ (l : List Token). tokens_of b ++ Token.key name ∷ l) (append-nil (json_tokens j)))
-
-pub tokens_two : (a b : List Member) (n m : List ℕ) (j k : Json)
-    → tokens_of (a ++ (b ++ (n, j) ∷ (m, k) ∷ [])) ≡ tokens_of a ++ (tokens_of b ++ ((Token.key n ∷ json_tokens j) ++ (Token.key m ∷ json_tokens k)))
-tokens_two a b n m j k =
-    tokens_append a (b ++ (n, j) ∷ (m, k) ∷ [])
-    ∙ ap (λ (l : List Token). tokens_of a ++ l) (tokens_append b ((n, j) ∷ (m, k) ∷ [])
-    ∙ ap (λ (l : List Token). tokens_of b ++ ((Token.key n ∷ json_tokens j) ++ (Token.key m ∷ l))) (append-nil (json_tokens k)))

@@ -3,10 +3,15 @@ use Rattle.std.specs.Prelude.{ℕ, ◌+◌, List, [], ◌∷◌, ◌++◌, map, 
 use Rattle.json.specs.Json.{Json}
 use Rattle.uimg_base.specs.declared.spans.Span.{Span}
 use Rattle.uimg_base.specs.Results.{◌>>=◌}
+use Rattle.uimg_blob.specs.Plain.{NamedOf}
 use Rattle.uimg_fit_base.specs.declared.fault.Fault.{Fault}
 use Rattle.uimg_fit_base.specs.declared.fault.FitFault.{FitFault}
+use Rattle.uimg_fit_reading.specs.FullSurvey.{properties_of}
 use Rattle.uimg_fit_reading.specs.Survey.{Said, ImageSaid, HashSaid, ConfigurationSaid, place_said, survey_of}
-use Rattle.uimg_info.specs.Members.{Member, Fact, object_of, array_of, facts_members, string_member, number_member}
+use Rattle.uimg_info.specs.declared.reservations.Reservation.{Reservation}
+use Rattle.uimg_info.specs.Reservations.{reservations_of, reservations_members}
+use Rattle.uimg_json.specs.Members.{Member, object_of, array_of, string_member, number_member}
+use Rattle.uimg_info.specs.Members.{Fact, facts_members}
 use Rattle.uimg_info.specs.declared.kinds.Kind.TheVariants.{Text, Texts, Digest, Cell, Address}
 
 -- what a hash node says
@@ -30,7 +35,7 @@ image_facts image =
     ∷ record { name = codes "entry"; kind = Address; value = image.entry }
     ∷ []
 
--- what a configuration says
+-- what a configuration says, but for the nodes below it
 abbrev pub configuration_facts : ConfigurationSaid → List Fact
 configuration_facts configuration =
     record { name = codes "name"; kind = Text; value = Some configuration.name }
@@ -39,7 +44,16 @@ configuration_facts configuration =
     ∷ record { name = codes "ramdisk"; kind = Text; value = configuration.ramdisk }
     ∷ record { name = codes "fdt"; kind = Texts; value = configuration.fdt }
     ∷ record { name = codes "loadables"; kind = Texts; value = configuration.loadables }
+    ∷ record { name = codes "firmware"; kind = Text; value = configuration.firmware }
+    ∷ record { name = codes "fpga"; kind = Text; value = configuration.fpga }
+    ∷ record { name = codes "setup"; kind = Text; value = configuration.setup }
+    ∷ record { name = codes "standalone"; kind = Text; value = configuration.standalone }
+    ∷ record { name = codes "script"; kind = Text; value = configuration.script }
     ∷ []
+
+-- what is told of a node below a configuration, and of a property: its name
+abbrev pub node_facts : List ℕ → List Fact
+node_facts name = record { name = codes "name"; kind = Text; value = Some name } ∷ []
 
 -- what the root says, and which configuration is the default
 abbrev pub root_facts : Said → List Fact
@@ -48,6 +62,10 @@ root_facts said =
     ∷ record { name = codes "timestamp"; kind = Cell; value = said.timestamp }
     ∷ record { name = codes "default"; kind = Text; value = said.preferred }
     ∷ []
+
+-- the same, and the memory that is reserved
+abbrev pub root_members : Option (List Reservation) → Said → List Member
+root_members reserved said = facts_members (root_facts said) ++ reservations_members reserved
 
 -- a fault of a payload
 abbrev pub fault_members : List ℕ → List ℕ → List Member
@@ -70,8 +88,30 @@ place_members size (Err fault) = fault_members (codes "F2") (codes "F2 no data")
 abbrev pub hash_json : HashSaid → Json
 hash_json hash = object_of (facts_members (hash_facts hash))
 
-abbrev pub configuration_json : ConfigurationSaid → Json
-configuration_json configuration = object_of (facts_members (configuration_facts configuration))
+abbrev pub node_json : List ℕ → Json
+node_json name = object_of (facts_members (node_facts name))
+
+-- a property: its name, and how many bytes its value has
+abbrev pub property_members : NamedOf Span → List Member
+property_members property = facts_members (node_facts property.name) ++ number_member (codes "size") property.value.length
+
+abbrev pub property_json : NamedOf Span → Json
+property_json property = object_of (property_members property)
+
+-- a configuration that has these properties
+abbrev pub configuration_members : ConfigurationSaid → List (NamedOf Span) → List Member
+configuration_members configuration properties =
+    facts_members (configuration_facts configuration)
+    ++ ((codes "nodes", array_of (map node_json configuration.nodes)) ∷ (codes "properties", array_of (map property_json properties)) ∷ [])
+
+abbrev pub configuration_json : ConfigurationSaid → List (NamedOf Span) → Json
+configuration_json configuration properties = object_of (configuration_members configuration properties)
+
+-- configurations, each with its properties
+abbrev pub configurations_json : List ConfigurationSaid → List (List (NamedOf Span)) → List Json
+configurations_json [] lists = []
+configurations_json (configuration ∷ configurations) [] = []
+configurations_json (configuration ∷ configurations) (properties ∷ lists) = configuration_json configuration properties ∷ configurations_json configurations lists
 
 -- an image in a file of so many bytes, whose blob has a total size
 abbrev pub image_members : ℕ → ℕ → ImageSaid → List Member
@@ -88,21 +128,21 @@ head_members path size totalsize =
     string_member (codes "path") path ++ (number_member (codes "status") 0 ++ (string_member (codes "format") (codes "fit")
     ++ (number_member (codes "size") size ++ number_member (codes "totalsize") totalsize)))
 
--- the object of what a file of so many bytes says, that stands at a path
-abbrev pub fit_members : List ℕ → ℕ → Said → List Member
-fit_members path size said =
-    head_members path size said.totalsize ++ (facts_members (root_facts said)
+-- the object of what a file of so many bytes says, that stands at a path, and whose configurations have these properties
+abbrev pub fit_members : List ℕ → ℕ → Option (List Reservation) → Said → List (List (NamedOf Span)) → List Member
+fit_members path size reserved said properties =
+    head_members path size said.totalsize ++ (root_members reserved said
     ++ ((codes "images", array_of (map (image_json size said.totalsize) said.images))
-    ∷ (codes "configurations", array_of (map configuration_json said.configurations)) ∷ []))
+    ∷ (codes "configurations", array_of (configurations_json said.configurations properties)) ∷ []))
 
-abbrev pub fit_json : List ℕ → ℕ → Said → Json
-fit_json path size said = object_of (fit_members path size said)
+abbrev pub fit_json : List ℕ → ℕ → Option (List Reservation) → Said → List (List (NamedOf Span)) → Json
+fit_json path size reserved said properties = object_of (fit_members path size reserved said properties)
 
 -- the object of a file at a path, or its first fault
 abbrev pub info_of : List ℕ → List ℕ → Result Json Fault
 info_of path file = do
   said ← survey_of file
-  Ok (fit_json path (length file) said)
+  Ok (fit_json path (length file) (reservations_of file said.totalsize) said (properties_of file))
 
 abbrev pub ok_of : Result Json Fault → Option Json
 ok_of (Ok j) = Some j

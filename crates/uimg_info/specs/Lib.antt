@@ -2,3 +2,5 @@ pub mod Fit
 pub mod Legacy
 pub mod Members
 pub mod Steps
+pub mod Work
+pub mod Reservations

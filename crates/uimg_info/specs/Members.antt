@@ -1,4 +1,4 @@
--- Members of an object of JSON (RFC 8259), and what the values of properties are as such.
+-- What the values of properties are as members of an object of JSON.
 use Rattle.std.specs.Prelude.{ℕ, List, [], ◌∷◌, ◌++◌, map, length, codes, decimal, Bool, true, false, nat_lt, ◌==◌, if◌then◌else◌, Option, Some, None}
 use Rattle.std.specs.Int.{from_be_bytes, w32, w64}
 use Rattle.std.specs.List.{flat_map, list_all}
@@ -14,62 +14,7 @@ use Rattle.uimg_texts.specs.Nul.{text}
 use Rattle.uimg_fit_reading.specs.Values.{pieces}
 use Rattle.uimg_info.specs.declared.kinds.Kind.{Kind}
 use Rattle.uimg_info.specs.declared.kinds.Kind.TheVariants.{Text, Texts, Digest, Cell, Address}
-
--- a member: its name and its value
-abbrev pub Member : Type 0
-Member = List ℕ × Json
-
--- the members of an object, in their order
-abbrev pub members_of : List Member → Members
-members_of [] = no_members
-members_of (m ∷ ms) = member m.0 m.1 (members_of ms)
-
-abbrev pub object_of : List Member → Json
-object_of ms = object (members_of ms)
-
--- the items of an array, in their order
-abbrev pub items_of : List Json → Items
-items_of [] = no_items
-items_of (j ∷ js) = item j (items_of js)
-
-abbrev pub array_of : List Json → Json
-array_of js = array (items_of js)
-
--- the tokens of members, without those of the object that has them
-abbrev pub member_tokens : Member → List Token
-member_tokens m = Token.key m.0 ∷ json_tokens m.1
-
-abbrev pub tokens_of : List Member → List Token
-tokens_of = flat_map member_tokens
-
--- a string
-abbrev pub string_member : List ℕ → List ℕ → List Member
-string_member name s = (name, string s) ∷ []
-
--- a number that is there
-abbrev pub number_member : List ℕ → ℕ → List Member
-number_member name n = (name, number (decimal n)) ∷ []
-
-abbrev pub number_if : List ℕ → Option ℕ → List Member
-number_if name None = []
-number_if name (Some n) = number_member name n
-
--- a text: its bytes by base64 (RFC 4648, section 4), or as UTF-8, with U+FFFD in place of what is not
-abbrev pub spelled : Bool → List ℕ → Json
-spelled true t = string (encode_of standard t)
-spelled false t = string (utf8_lossy t)
-
--- the name of the member beside, that has the bytes of what is not UTF-8
-abbrev pub of_bytes : List ℕ → List ℕ
-of_bytes name = name ++ codes "_base64"
-
--- the member beside, where it is needed
-abbrev pub beside : Bool → List ℕ → Json → List Member
-beside true name bytes = []
-beside false name bytes = (of_bytes name, bytes) ∷ []
-
-abbrev pub text_members : List ℕ → List ℕ → List Member
-text_members name t = (name, spelled false t) ∷ beside (is_utf8 t) name (spelled true t)
+use Rattle.uimg_json.specs.Members.{Member, array_of, number_member, number_if, spelled, of_bytes, beside, text_members}
 
 abbrev pub texts_members : List ℕ → List (List ℕ) → List Member
 texts_members name ts =

@@ -1,46 +1,33 @@
 -- What the steps of writing an object do.
-use Rattle.std.specs.Prelude.{◌≡◌, ◌++◌, ℕ, ⊤, List, Bool, true, false, Result, Ok, Err, OnOk, IfErr, IsTrue, Option}
+use Rattle.std.specs.Prelude.{◌≡◌, ◌++◌, ℕ, ⊤, List, Bool, true, false, Result, Ok, Err, OnOk, IfErr, IsTrue, Option, map}
 use Rattle.std.specs.Borrow.{Bor}
 use Rattle.json.specs.Json.{Json}
 use Rattle.json.specs.Print.{print}
 use Rattle.json.specs.Token.{Token}
 use Rattle.json.specs.Tree.{json_tokens}
 use Rattle.json.specs.Written.{Written}
+use Rattle.uimg_json.specs.Steps.{Appends}
 use Rattle.uimg_base.specs.Device.{Device}
-use Rattle.uimg_base.specs.Using.{Uses}
+use Rattle.uimg_base.specs.Using.{Asks}
 use Rattle.uimg_base.specs.declared.spans.Span.{Span}
 use Rattle.uimg_blob.specs.Faults.{refuses_memory}
 use Rattle.uimg_fit_base.specs.Files.{bytes_in}
 use Rattle.uimg_fit_base.specs.declared.fault.Fault.TheVariants as of
-use Rattle.uimg_fit_reading.specs.SurveyParts.{Ends, is_unread}
+use Rattle.uimg_fit_reading.specs.SurveyParts.{Ends, IsOwn, is_unread}
 use Rattle.uimg_fit_reading.specs.declared.surveying.fault.SurveyFault.{SurveyFault}
-use Rattle.uimg_fit_reading.specs.declared.surveying.fault.SurveyFault.TheVariants.{Stopped, OutOfMemory}
-use Rattle.uimg_info.specs.Fit.{info_of}
+use Rattle.uimg_fit_reading.specs.declared.surveying.fault.SurveyFault.TheVariants.{Stopped, OutOfMemory, Changed}
+use Rattle.uimg_info.specs.Fit.{info_of, fit_json}
+use Rattle.uimg_info.specs.Reservations.{reservations_of}
+use Rattle.uimg_fit_reading.specs.Survey.{read_survey}
+use Rattle.uimg_fit_reading.specs.FullSurvey.{read_properties}
+use Rattle.uimg_fit_reading.specs.declared.surveying.facts.FullSurvey.{FullSurvey}
 use Rattle.uimg_info.specs.Members.{Fact}
 use Rattle.uimg_info.specs.declared.kinds.Kind.{Kind}
 
--- Tokens were appended.
-pub record Appended (old new : Written) (tokens : List Token) : Type 0 where
-  pub tokens_now : new.tokens ≡ old.tokens ++ tokens
-  pub before : new.before ≡ old.before
-
--- They were, unless memory was refused.
-abbrev pub Appends : {X E : Type 0} → Result X E → Written → Written → List Token → Type 0
-Appends result old new tokens = OnOk result (Appended old new tokens)
-
--- a fault of a step itself: a read failed, or memory was refused
-abbrev pub is_own : SurveyFault → Bool
-is_own (Stopped of.Read) = true
-is_own OutOfMemory = true
-is_own _ = false
-
-abbrev pub IsOwn : {X : Type 0} → Result X SurveyFault → Type 0
-IsOwn result = IfErr result (λ fault. is_own fault ≡ true)
-
--- A failure of the device was counted exactly where a read failed, and of an honest one the tokens were appended, unless the step
--- failed.
-pub record Puts {X : Type 0} (result : Result X SurveyFault) (d e : Device) (old new : Written) (tokens : List Token) : Type 0 where
-  pub uses : Uses (is_unread result) d e
+-- At most so many bytes were asked for, and a failure of the device was counted exactly where a read failed; of an honest one the
+-- tokens were appended, unless the step failed.
+pub record Puts {X : Type 0} (most : ℕ) (result : Result X SurveyFault) (d e : Device) (old new : Written) (tokens : List Token) : Type 0 where
+  pub uses : Asks most (is_unread result) d e
   pub own : IsOwn result
   pub before : OnOk result (new.before ≡ old.before)
   pub told : IsTrue d.honest → Appends result old new tokens
@@ -65,3 +52,9 @@ Informs view path file (Err (Stopped (of.Fit fault))) = info_of path file ≡ Er
 Informs view path file (Err (Stopped of.Read)) = ⊤
 Informs view path file (Err (Stopped of.Put)) = ⊥
 Informs view path file (Err OutOfMemory) = ⊤
+Informs view path file (Err Changed) = ⊥
+
+-- the object that the places of a survey tell in a file of so many bytes, that stands at a path
+abbrev pub read_json : List ℕ → ℕ → List ℕ → FullSurvey → Json
+read_json path size file full =
+    fit_json path size (reservations_of file full.survey.totalsize) (read_survey file full.survey) (map (read_properties file) full.properties.items)

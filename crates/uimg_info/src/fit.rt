@@ -1,43 +1,32 @@
 //! The object that tells what a FIT image says.
 
 ghost use Rattle.std.specs.Prelude.{◌≡◌, ◌+◌, ◌^◌, ◌<◌, ◌≤◌, length, map, IsTrue, IfOk};
-ghost use Rattle.std.specs.List.{All};
+ghost use Rattle.std.specs.List.{All, sum_by};
 ghost use Rattle.json.specs.Tree.{json_tokens};
-ghost use Rattle.uimg_base.specs.Using.{Uses};
-ghost use Rattle.uimg_fit_reading.specs.Survey.{read_hash, read_payload, read_image, read_configuration, read_survey, place_said};
-ghost use Rattle.uimg_fit_reading.specs.SurveyParts.{HashInside, PayloadInside, ImageInside, ConfigurationInside, SurveyInside, is_unread};
-ghost use Rattle.uimg_info.specs.Fit.{fault_members, span_members, place_members, image_facts, root_facts, hash_json, image_json, configuration_json, head_members, fit_json};
-ghost use Rattle.uimg_info.specs.Members.{object_of, array_of, tokens_of, facts_members};
-ghost use Rattle.uimg_info.specs.Steps.{Appends, IsOwn, Puts, RowInside, read_row};
+ghost use Rattle.uimg_base.specs.Using.{Asks};
+ghost use Rattle.uimg_fit_reading.specs.FullSurvey.{read_properties, FullInside};
+ghost use Rattle.uimg_fit_reading.specs.Survey.{read_hash, read_payload, read_image, read_survey, place_said};
+ghost use Rattle.uimg_fit_reading.specs.SurveyParts.{HashInside, PayloadInside, ImageInside, SurveyInside, is_unread, IsOwn};
+ghost use Rattle.uimg_info.specs.Fit.{fault_members, span_members, place_members, image_facts, root_members, hash_json, image_json, head_members, fit_json};
+ghost use Rattle.uimg_json.specs.Members.{array_of, tokens_of};
+ghost use Rattle.uimg_info.specs.Members.{facts_members};
+ghost use Rattle.uimg_info.specs.Reservations.{reservations_of};
+ghost use Rattle.uimg_json.specs.Steps.{Appends};
+ghost use Rattle.uimg_info.specs.Steps.{Puts};
+ghost use Rattle.uimg_info.specs.Work.{hash_size, image_rows_size, image_size, root_size, full_size};
 
-use crate::facts::{Row, put_rows};
-use crate::kinds::Kind::{Address, Cell, Digest, Text, Texts};
-use crate::members::{put_number, put_string};
+use crate::configurations::put_configurations;
+use crate::facts::{put_object, put_rows};
+use crate::kinds::Kind::{Address, Cell, Digest, Text};
+use crate::reservations::put_reservations;
 use json::Writer;
 use std::alloc::{AllocError, Global};
 use uimg_base::{Source, Span};
 use uimg_fit_base::{Fault, FitFault};
 use uimg_fit_reading::{
-    ConfigurationFacts, HashFacts, ImageFacts, PayloadFacts, Survey, SurveyFault, find_payload,
+    FullSurvey, HashFacts, ImageFacts, PayloadFacts, Survey, SurveyFault, find_payload,
 };
-
-// Writes the object of some facts.
-fn put_object<S: Source>(
-    alloc: Global,
-    source: &mut S,
-    writer: &mut Writer,
-    rows: &[Row<'_>],
-) -> Result<(), SurveyFault>
-    requires { All (RowInside (length (S.device source.old).bytes)) rows.now }
-    ensures { Puts result (S.device source.old) (S.device source.new) writer.old writer.new
-        (json_tokens (object_of
-        (facts_members (map (read_row (S.device source.old).bytes) rows.now)))) }
-{
-    writer.begin_object()?;
-    put_rows(alloc, source, writer, rows)?;
-    writer.end_object()?;
-    Ok(())
-}
+use uimg_json::{put_number, put_string};
 
 // Writes a hash node.
 fn put_hash<S: Source>(
@@ -47,7 +36,7 @@ fn put_hash<S: Source>(
     facts: &HashFacts,
 ) -> Result<(), SurveyFault>
     requires { HashInside (length (S.device source.old).bytes) facts.now }
-    ensures { Puts result (S.device source.old) (S.device source.new) writer.old writer.new
+    ensures { Puts (hash_size facts.now) result (S.device source.old) (S.device source.new) writer.old writer.new
         (json_tokens (hash_json (read_hash (S.device source.old).bytes facts.now))) }
 {
     let rows = [
@@ -66,7 +55,7 @@ fn put_hashes<S: Source>(
     hashes: &[HashFacts],
 ) -> Result<(), SurveyFault>
     requires { All (HashInside (length (S.device source.old).bytes)) hashes.now }
-    ensures { Puts result (S.device source.old) (S.device source.new) writer.old writer.new
+    ensures { Puts (sum_by hash_size hashes.now) result (S.device source.old) (S.device source.new) writer.old writer.new
         (json_tokens (array_of
         (map hash_json (map (read_hash (S.device source.old).bytes) hashes.now)))) }
 {
@@ -125,7 +114,7 @@ fn put_image_rows<S: Source>(
     facts: &ImageFacts,
 ) -> Result<(), SurveyFault>
     requires { ImageInside (length (S.device source.old).bytes) facts.now }
-    ensures { Puts result (S.device source.old) (S.device source.new) writer.old writer.new
+    ensures { Puts (image_rows_size facts.now) result (S.device source.old) (S.device source.new) writer.old writer.new
         (tokens_of (facts_members (image_facts (read_image (S.device source.old).bytes facts.now)))) }
 {
     let rows = [
@@ -149,7 +138,7 @@ fn place_of<S: Source>(
 ) -> Result<Result<Span, FitFault>, SurveyFault>
     requires values { PayloadInside totalsize facts.now }
     requires blob { totalsize ≤ length (S.device source.old).bytes }
-    ensures uses { Uses (is_unread result) (S.device source.old) (S.device source.new) }
+    ensures uses { Asks 12 (is_unread result) (S.device source.old) (S.device source.new) }
     ensures own { IsOwn result }
     ensures small { IfOk result (λ found. IfOk found (λ p. p.place + p.length < 2 ^ 64)) }
     ensures place { IsTrue (S.device source.old).honest → IfOk result (λ found.
@@ -162,6 +151,7 @@ fn place_of<S: Source>(
 }
 
 // Writes an image of a file of so many bytes, whose blob has a total size.
+#[tactic(auto, unfolding(crate::specs::Work::image_size))]
 fn put_image<S: Source>(
     alloc: Global,
     source: &mut S,
@@ -172,7 +162,7 @@ fn put_image<S: Source>(
 ) -> Result<(), SurveyFault>
     requires inside { ImageInside totalsize facts.now }
     requires blob { totalsize ≤ length (S.device source.old).bytes }
-    ensures { Puts result (S.device source.old) (S.device source.new) writer.old writer.new
+    ensures { Puts (image_size facts.now) result (S.device source.old) (S.device source.new) writer.old writer.new
         (json_tokens (image_json size totalsize (read_image (S.device source.old).bytes facts.now))) }
 {
     writer.begin_object()?;
@@ -196,56 +186,13 @@ fn put_images<S: Source>(
 ) -> Result<(), SurveyFault>
     requires inside { All (ImageInside totalsize) images.now }
     requires blob { totalsize ≤ length (S.device source.old).bytes }
-    ensures { Puts result (S.device source.old) (S.device source.new) writer.old writer.new
+    ensures { Puts (sum_by image_size images.now) result (S.device source.old) (S.device source.new) writer.old writer.new
         (json_tokens (array_of (map (image_json size totalsize)
         (map (read_image (S.device source.old).bytes) images.now)))) }
 {
     writer.begin_array()?;
     for image in images {
         put_image(alloc, source, writer, size, totalsize, image)?;
-    }
-    writer.end_array()?;
-    Ok(())
-}
-
-// Writes a configuration.
-fn put_configuration<S: Source>(
-    alloc: Global,
-    source: &mut S,
-    writer: &mut Writer,
-    facts: &ConfigurationFacts,
-) -> Result<(), SurveyFault>
-    requires { ConfigurationInside (length (S.device source.old).bytes) facts.now }
-    ensures { Puts result (S.device source.old) (S.device source.new) writer.old writer.new
-        (json_tokens (configuration_json
-        (read_configuration (S.device source.old).bytes facts.now))) }
-{
-    let rows = [
-        ("name", Text, Some(facts.name)),
-        ("description", Text, facts.description),
-        ("kernel", Text, facts.kernel),
-        ("ramdisk", Text, facts.ramdisk),
-        ("fdt", Texts, facts.fdt),
-        ("loadables", Texts, facts.loadables),
-    ];
-    put_object(alloc, source, writer, &rows)
-}
-
-// Writes the array of the configurations.
-fn put_configurations<S: Source>(
-    alloc: Global,
-    source: &mut S,
-    writer: &mut Writer,
-    configurations: &[ConfigurationFacts],
-) -> Result<(), SurveyFault>
-    requires { All (ConfigurationInside (length (S.device source.old).bytes)) configurations.now }
-    ensures { Puts result (S.device source.old) (S.device source.new) writer.old writer.new
-        (json_tokens (array_of (map configuration_json
-        (map (read_configuration (S.device source.old).bytes) configurations.now)))) }
-{
-    writer.begin_array()?;
-    for configuration in configurations {
-        put_configuration(alloc, source, writer, configuration)?;
     }
     writer.end_array()?;
     Ok(())
@@ -264,7 +211,7 @@ fn put_head(writer: &mut Writer, path: &str, size: u64, totalsize: u32) -> Resul
     Ok(())
 }
 
-// Writes what the root says, and which configuration is the default.
+// Writes what the root says, which configuration is the default, and the memory that is reserved.
 fn put_root<S: Source>(
     alloc: Global,
     source: &mut S,
@@ -272,15 +219,18 @@ fn put_root<S: Source>(
     survey: &Survey,
 ) -> Result<(), SurveyFault>
     requires { SurveyInside (length (S.device source.old).bytes) survey.now }
-    ensures { Puts result (S.device source.old) (S.device source.new) writer.old writer.new
-        (tokens_of (facts_members (root_facts (read_survey (S.device source.old).bytes survey.now)))) }
+    ensures { Puts (root_size survey.now) result (S.device source.old) (S.device source.new) writer.old writer.new
+        (tokens_of (root_members (reservations_of (S.device source.old).bytes survey.now.totalsize)
+        (read_survey (S.device source.old).bytes survey.now))) }
 {
     let rows = [
         ("description", Text, survey.description),
         ("timestamp", Cell, survey.timestamp),
         ("default", Text, survey.preferred),
     ];
-    put_rows(alloc, source, writer, &rows)
+    put_rows(alloc, source, writer, &rows)?;
+    put_reservations(alloc, source, writer, survey.totalsize)?;
+    Ok(())
 }
 
 /// Writes the object of what a file of so many bytes says.
@@ -290,13 +240,16 @@ pub(crate) fn put_fit<S: Source>(
     writer: &mut Writer,
     path: &str,
     size: u64,
-    survey: &Survey,
+    full: &FullSurvey,
 ) -> Result<(), SurveyFault>
-    requires { SurveyInside (length (S.device source.old).bytes) survey.now }
-    ensures { Puts result (S.device source.old) (S.device source.new) writer.old writer.new
+    requires { FullInside (length (S.device source.old).bytes) full.now }
+    ensures { Puts (full_size full.now) result (S.device source.old) (S.device source.new) writer.old writer.new
         (json_tokens (fit_json path.now size
-        (read_survey (S.device source.old).bytes survey.now))) }
+        (reservations_of (S.device source.old).bytes full.now.survey.totalsize)
+        (read_survey (S.device source.old).bytes full.now.survey)
+        (map (read_properties (S.device source.old).bytes) full.now.properties.items))) }
 {
+    let survey = &full.survey;
     writer.begin_object()?;
     put_head(writer, path, size, survey.totalsize)?;
     put_root(alloc, source, writer, survey)?;
@@ -310,7 +263,13 @@ pub(crate) fn put_fit<S: Source>(
         survey.images.as_slice(),
     )?;
     writer.key("configurations")?;
-    put_configurations(alloc, source, writer, survey.configurations.as_slice())?;
+    put_configurations(
+        alloc,
+        source,
+        writer,
+        survey.configurations.as_slice(),
+        full.properties.as_slice(),
+    )?;
     writer.end_object()?;
     Ok(())
 }

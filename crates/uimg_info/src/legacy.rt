@@ -9,13 +9,13 @@ ghost use Rattle.uimg_json.specs.Objects.{is_one_line};
 ghost use Rattle.uimg_texts.specs.Numbers.{be32};
 ghost use Rattle.uimg_legacy.specs.Header.{spelled};
 ghost use Rattle.uimg_info.specs.Legacy.{code_members, numbers_members, codes_members, header_members, part_json, legacy_head, legacy_json};
-ghost use Rattle.uimg_info.specs.Members.{array_of, number_member, tokens_of};
-ghost use Rattle.uimg_info.specs.Steps.{Appends};
+ghost use Rattle.uimg_json.specs.Members.{array_of, number_member, tokens_of};
+ghost use Rattle.uimg_json.specs.Steps.{Appends};
 
-use crate::members::{put_number, put_string, put_text};
 use json::Writer;
 use std::alloc::{AllocError, Global};
 use uimg_base::{Span, before_nul, number_at};
+use uimg_json::{put_number, put_string, put_text};
 use uimg_legacy::{Header, header_bytes};
 use uimg_names::{Field, Naming};
 

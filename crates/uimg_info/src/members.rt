@@ -6,8 +6,9 @@ ghost use Rattle.std.specs.Str.{is_utf8};
 ghost use Rattle.json.specs.Token.{Token};
 ghost use Rattle.json.specs.Tree.{json_tokens};
 ghost use Rattle.uimg_fit_reading.specs.Values.{pieces};
-ghost use Rattle.uimg_info.specs.Members.{spelled, array_of, of_bytes, tokens_of, string_member, number_member, number_if, text_members, texts_members, told_as, length_of, cell_number, address_number};
-ghost use Rattle.uimg_info.specs.Steps.{Appends};
+ghost use Rattle.uimg_json.specs.Members.{spelled, array_of, of_bytes, tokens_of, string_member, number_member, number_if, text_members};
+ghost use Rattle.uimg_info.specs.Members.{texts_members, told_as, length_of, cell_number, address_number};
+ghost use Rattle.uimg_json.specs.Steps.{Appends};
 
 use crate::kinds::Kind;
 use base64::engine::general_purpose::STANDARD;
@@ -15,80 +16,7 @@ use byteorder::{BigEndian, ByteOrder};
 use json::Writer;
 use std::alloc::{AllocError, Global};
 use uimg_base::{before_nul, first_nul};
-use uimg_json::spell;
-
-// Writes the key of a name that another word ends.
-fn put_key(alloc: Global, writer: &mut Writer, name: &str, end: &str) -> Result<(), AllocError>
-    ensures { Appends result writer.old writer.new (Token.key (name.now ++ end.now) ∷ []) }
-{
-    let mut key = String::from_str(alloc, name)?;
-    key.push_str(end)?;
-    writer.key(key.as_str())?;
-    Ok(())
-}
-
-/// Writes a string.
-pub(crate) fn put_string(writer: &mut Writer, name: &str, text: &str) -> Result<(), AllocError>
-    ensures { Appends result writer.old writer.new (tokens_of (string_member name.now text.now)) }
-{
-    writer.key(name)?;
-    writer.string(text)?;
-    Ok(())
-}
-
-/// Writes a number.
-pub(crate) fn put_number(writer: &mut Writer, name: &str, number: u64) -> Result<(), AllocError>
-    ensures { Appends result writer.old writer.new (tokens_of (number_member name.now number)) }
-{
-    writer.key(name)?;
-    writer.u64(number)?;
-    Ok(())
-}
-
-// Writes a number that may be missing.
-fn put_number_if(writer: &mut Writer, name: &str, number: Option<u64>) -> Result<(), AllocError>
-    ensures { Appends result writer.old writer.new (tokens_of (number_if name.now number)) }
-{
-    match number {
-        Some(number) => put_number(writer, name, number),
-        None => Ok(()),
-    }
-}
-
-// Writes the bytes of what is not UTF-8, by base64.
-fn put_base64(
-    alloc: Global,
-    writer: &mut Writer,
-    name: &str,
-    base64: &str,
-) -> Result<(), AllocError>
-    ensures { Appends result writer.old writer.new
-        (tokens_of (string_member (of_bytes name.now) base64.now)) }
-{
-    put_key(alloc, writer, name, "_base64")?;
-    writer.string(base64)?;
-    Ok(())
-}
-
-/// Writes a text, with its bytes beside it where it is not UTF-8.
-pub(crate) fn put_text(
-    alloc: Global,
-    writer: &mut Writer,
-    name: &str,
-    text: &[u8],
-) -> Result<(), AllocError>
-    ensures { Appends result writer.old writer.new (tokens_of (text_members name.now text.now)) }
-{
-    let spelled = spell(alloc, text)?;
-    put_string(writer, name, spelled.text.as_str())?;
-    match &spelled.base64 {
-        Some(base64) => {
-            put_base64(alloc, writer, name, base64.as_str())?;
-            Ok(())
-        }
-        None => Ok(()),
-    }
-}
+use uimg_json::{put_key, put_number, put_number_if, put_text};
 
 // The bytes before the first NUL, and those behind it.
 fn cut(bytes: &[u8]) -> (&[u8], &[u8])

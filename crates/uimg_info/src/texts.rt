@@ -6,19 +6,20 @@ ghost use Rattle.json.specs.Json.{document};
 ghost use Rattle.json.specs.Print.{print};
 ghost use Rattle.json.specs.Tree.{json_tokens};
 ghost use Rattle.uimg_json.specs.Objects.{is_one_line};
-ghost use Rattle.uimg_base.specs.Using.{Uses};
+ghost use Rattle.uimg_base.specs.Using.{Asks, UsesAtMost};
 ghost use Rattle.uimg_fit_reading.specs.Rooms.{TakesNodes};
-ghost use Rattle.uimg_fit_reading.specs.Survey.{read_survey};
-ghost use Rattle.uimg_fit_reading.specs.SurveyParts.{SurveyInside, is_unread, lacks_room};
-ghost use Rattle.uimg_info.specs.Fit.{fit_json, info_of, ok_of};
-ghost use Rattle.uimg_info.specs.Steps.{IsOwn, Informs};
+ghost use Rattle.uimg_fit_reading.specs.FullSurvey.{FullInside};
+ghost use Rattle.uimg_fit_reading.specs.SurveyParts.{is_unread, lacks_room, IsOwn};
+ghost use Rattle.uimg_info.specs.Fit.{info_of, ok_of};
+ghost use Rattle.uimg_info.specs.Steps.{Informs, read_json};
+ghost use Rattle.uimg_info.specs.Work.{full_size, info_work};
 
 use crate::fit::put_fit;
 use json::Writer;
 use std::alloc::{Allocator, Global};
 use uimg_base::{Room, Source};
 use uimg_fit_base::Fault;
-use uimg_fit_reading::{Survey, SurveyFault, survey};
+use uimg_fit_reading::{FullSurvey, SurveyFault, survey_with_properties};
 
 // The text of the object of what a file of so many bytes says.
 fn survey_text<S: Source>(
@@ -26,39 +27,40 @@ fn survey_text<S: Source>(
     path: &str,
     source: &mut S,
     size: u64,
-    survey: &Survey,
+    full: &FullSurvey,
 ) -> Result<Vec<u8>, SurveyFault>
-    requires { SurveyInside (length (S.device source.old).bytes) survey.now }
-    ensures uses { Uses (is_unread result) (S.device source.old) (S.device source.new) }
+    requires { FullInside (length (S.device source.old).bytes) full.now }
+    ensures uses { Asks (full_size full.now) (is_unread result) (S.device source.old) (S.device source.new) }
     ensures own { IsOwn result }
     ensures text { IsTrue (S.device source.old).honest → IfOk result (λ text. text.items
-        ≡ print (json_tokens (fit_json path.now size
-        (read_survey (S.device source.old).bytes survey.now)))) }
+        ≡ print (json_tokens (read_json path.now size (S.device source.old).bytes full.now))) }
     ensures reads_back { IsTrue (S.device source.old).honest → IfOk result (λ text.
-        document text.items ≡ Some (fit_json path.now size
-        (read_survey (S.device source.old).bytes survey.now))) }
+        document text.items ≡ Some (read_json path.now size (S.device source.old).bytes full.now)) }
     ensures utf8 { IfOk result (λ text. IsUtf8 text.items) }
     ensures one_line { IsTrue (S.device source.old).honest →
         IfOk result (λ text. is_one_line text.items ≡ true) }
 {
     let mut writer = Writer::new(Vec::new(alloc));
-    put_fit(alloc, source, &mut writer, path, size, survey)?;
+    put_fit(alloc, source, &mut writer, path, size, full)?;
     Ok(writer.into_inner())
 }
 
 /// The text of the object that tells what a FIT image says, of a file at a path. Read as JSON it is just
 /// this object; it is UTF-8 and one line, without its end.
 ///
-/// Refusals are those of `survey`. The values are read one by one, each at most once and none of more than
-/// 65,536 bytes, and no payload is. The room holds the nodes while they are surveyed. `OutOfMemory` comes
-/// where memory was refused for what is gathered, for a value or for the text.
+/// Refusals are those of `survey_with_properties`. The values are read one by one, each at most once and
+/// none of more than 65,536 bytes, and no payload is: so no more is asked for than that costs, the values
+/// and the names of the properties have, 12 bytes for each image, and 65,540 for the memory reservation
+/// block. The room holds the nodes while they are surveyed. `OutOfMemory` comes where memory was refused
+/// for what is gathered, for a value or for the text.
 pub fn fit_text<S: Source, A: Allocator>(
     alloc: Global,
     path: &str,
     source: &mut S,
     room: &mut Room<A>,
 ) -> Result<Vec<u8>, SurveyFault>
-    ensures uses { Uses (is_unread result) (S.device source.old) (S.device source.new) }
+    ensures uses { UsesAtMost (info_work (S.device source.old).bytes) (is_unread result)
+        (S.device source.old) (S.device source.new) }
     ensures room { TakesNodes (S.device source.old) (lacks_room result) room.old room.new }
     ensures told { IsTrue (S.device source.old).honest →
         Informs (λ text. text.items) path.now (S.device source.old).bytes result }
@@ -68,9 +70,9 @@ pub fn fit_text<S: Source, A: Allocator>(
     ensures one_line { IsTrue (S.device source.old).honest →
         IfOk result (λ text. is_one_line text.items ≡ true) }
 {
-    let survey = survey(alloc, source, room)?;
+    let full = survey_with_properties(alloc, source, room)?;
     let Ok(size) = source.size() else {
         return Err(SurveyFault::Stopped(Fault::Read));
     };
-    survey_text(alloc, path, source, size, &survey)
+    survey_text(alloc, path, source, size, &full)
 }

@@ -1,9 +1,11 @@
-use Rattle.std.proofs.Common.{◌≡◌, ◌++◌, drop, map, false, IsTrue}
+use Rattle.std.proofs.Common.{◌≡◌, ◌≤◌, ◌+◌, ◌++◌, take, drop, map, IsTrue}
 use Rattle.json.specs.Tree.{json_tokens, items_tokens}
-use Rattle.uimg_base.specs.Using.{Uses}
+use Rattle.uimg_base.specs.Device.{SameDevice}
+use Rattle.std.specs.List.{sum_by}
 use Rattle.uimg_fit_reading.specs.Survey.{read_hash}
 use Rattle.uimg_info.specs.Fit.{hash_json}
-use Rattle.uimg_info.specs.Members.{items_of, array_of}
+use Rattle.uimg_json.specs.Members.{items_of, array_of}
+use Rattle.uimg_info.specs.Work.{hash_size}
 use Rattle.uimg_info.proofs.fit.put_hashes.Given as goal
 
 -- with those that are left, all are there
@@ -12,7 +14,9 @@ invariant-loop-hash g l =
     let device = g.S.Source.device in
     let file = (device l.fn.source).bytes in
     record {
-      uses : Uses false (device l.fn.source) (device l.source);
+      same : SameDevice (device l.fn.source) (device l.source);
+      asked : (device l.source).asked ≤ (device l.fn.source).asked + sum_by hash_size (take l.hash-index l.hashes);
+      failures : (device l.source).failures ≡ (device l.fn.source).failures;
       before : l.writer.before ≡ l.fn.writer.before;
       all : IsTrue (device l.fn.source).honest → l.writer.tokens ++ items_tokens (items_of (map hash_json (map (read_hash file) (drop l.hash-index l.hashes)))) ≡ l.fn.writer.tokens ++ json_tokens (array_of (map hash_json (map (read_hash file) l.hashes)));
     }

@@ -6,7 +6,7 @@ use Rattle.json.specs.Tree.{json_tokens}
 use Rattle.uimg_json.specs.Objects.{is_one_line}
 use Rattle.uimg_info.specs.Legacy.{legacy_json}
 use Rattle.uimg_info.proofs.LegacyLaws.{legacy_sound}
-use Rattle.uimg_info.proofs.SoundLaws.{one_line, reads_back}
+use Rattle.uimg_json.proofs.SoundLaws.{one_line, reads_back}
 use Rattle.uimg_info.proofs.legacy.legacy_text.Goals as goal
 
 pub returns-clause-reads_back : goal.returns-clause-reads_back

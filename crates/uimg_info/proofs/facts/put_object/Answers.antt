@@ -1,6 +1,6 @@
 use Rattle.std.proofs.Common.{◌∙◌}
-use Rattle.uimg_info.proofs.StepLaws.{one, object_appended}
-use Rattle.uimg_info.proofs.fit.put_object.Goals as goal
+use Rattle.uimg_json.proofs.StepLaws.{one, object_appended}
+use Rattle.uimg_info.proofs.facts.put_object.Goals as goal
 
 pub returns : goal.returns
 returns g c = record {

@@ -1,0 +1,13 @@
+use Rattle.std.proofs.Common.{◌≡◌, ◌++◌, length}
+use Rattle.std.specs.Option.{option_map}
+use Rattle.uimg_info.specs.Reservations.{entries_in}
+use Rattle.uimg_info.proofs.reservations.entries_in.Given as goal
+
+-- with the entries that are left, all are there
+abbrev pub invariant-loop-rest : goal.invariant-loop-rest
+invariant-loop-rest l = record {
+  all : option_map (λ es. l.entries.items ++ es) (entries_in l.rest) ≡ entries_in l.bytes;
+}
+
+abbrev pub decreases-loop-rest : goal.decreases-loop-rest
+decreases-loop-rest l = length l.rest

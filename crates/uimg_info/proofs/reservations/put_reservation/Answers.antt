@@ -1,0 +1,11 @@
+use Rattle.std.proofs.Common.{codes, ◌++◌}
+use Rattle.uimg_json.specs.Members.{number_member}
+use Rattle.uimg_json.proofs.StepLaws.{one, after, object_appended}
+use Rattle.uimg_info.proofs.reservations.put_reservation.Goals as goal
+
+pub returns : goal.returns
+returns c =
+    object_appended _ _ _ _ (number_member (codes "address") c.args.entry.address ++ number_member (codes "size") c.args.entry.size)
+    (one c.in_ok-begin_object.ensures.ok c.begin_object.ensures.room.0)
+    (after c.in_ok-put_number.ensures c.in_ok-put_number-2.ensures)
+    (one c.in_ok-end_object.ensures.ok c.end_object.ensures.room.0)

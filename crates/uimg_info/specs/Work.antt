@@ -1,0 +1,100 @@
+-- The most bytes that are asked for: each value once, twelve for the place of a payload, the memory reservation block, and the
+-- properties of the configurations with their names.
+use Rattle.std.specs.Prelude.{ℕ, ◌+◌, List, [], ◌∷◌, Option, Some, length, Result, Ok, Err, Vec}
+use Rattle.std.specs.List.{sum_by}
+use Rattle.std.specs.Option.{option_map_or}
+use Rattle.uimg_base.specs.declared.spans.Span.{Span}
+use Rattle.uimg_blob.specs.Counts.{index_cost}
+use Rattle.uimg_blob.specs.Plain.{NamedOf}
+use Rattle.uimg_blob.specs.declared.places.PropertyPlace.{PropertyPlace}
+use Rattle.uimg_fit_base.specs.declared.fault.Fault.{Fault}
+use Rattle.uimg_fit_reading.specs.FullSurvey.{properties_of, properties_cost}
+use Rattle.uimg_fit_reading.specs.Heads.{span_size}
+use Rattle.uimg_fit_reading.specs.Survey.{HashSaid, ImageSaid, ConfigurationSaid, Said, survey_of}
+use Rattle.uimg_fit_reading.specs.declared.surveying.facts.HashFacts.{HashFacts}
+use Rattle.uimg_fit_reading.specs.declared.surveying.facts.ImageFacts.{ImageFacts}
+use Rattle.uimg_fit_reading.specs.declared.surveying.facts.ConfigurationFacts.{ConfigurationFacts}
+use Rattle.uimg_fit_reading.specs.declared.surveying.facts.Survey.{Survey}
+use Rattle.uimg_fit_reading.specs.declared.surveying.facts.FullSurvey.{FullSurvey}
+use Rattle.uimg_info.specs.Fit.{hash_facts, image_facts, configuration_facts, root_facts}
+use Rattle.uimg_info.specs.Members.{Fact}
+use Rattle.uimg_info.specs.Steps.{Row}
+
+-- how many bytes a value has, if there is one
+abbrev pub value_size : Option (List ℕ) → ℕ
+value_size value = option_map_or (λ bytes. length bytes) value 0
+
+abbrev pub fact_size : Fact → ℕ
+fact_size fact = value_size fact.value
+
+-- the same of the rows of a program
+abbrev pub row_size : Row → ℕ
+row_size row = span_size row.2
+
+-- what a file says of hash nodes, images and configurations, and of all
+abbrev pub hash_said_size : HashSaid → ℕ
+hash_said_size hash = sum_by fact_size (hash_facts hash)
+
+abbrev pub image_said_size : ImageSaid → ℕ
+image_said_size image = sum_by fact_size (image_facts image) + (12 + sum_by hash_said_size image.hashes)
+
+abbrev pub configuration_said_size : ConfigurationSaid → ℕ
+configuration_said_size configuration =
+    sum_by fact_size (configuration_facts configuration) + sum_by (λ name. length name) configuration.nodes
+
+abbrev pub said_size : Said → ℕ
+said_size said =
+    (sum_by fact_size (root_facts said) + 65540)
+    + (sum_by image_said_size said.images + sum_by configuration_said_size said.configurations)
+
+-- how many bytes the names of properties have
+abbrev pub names_size : List (NamedOf Span) → ℕ
+names_size properties = sum_by (λ property. length property.name) properties
+
+-- the same by the places of the values
+abbrev pub sizes : List (Option Span) → ℕ
+sizes spans = sum_by span_size spans
+
+abbrev pub hash_size : HashFacts → ℕ
+hash_size hash = sizes (Some hash.name ∷ hash.algo ∷ hash.value ∷ [])
+
+abbrev pub image_rows_size : ImageFacts → ℕ
+image_rows_size i = sizes (Some i.name ∷ i.description ∷ i.kind ∷ i.arch ∷ i.os ∷ i.compression ∷ i.load ∷ i.entry ∷ [])
+
+unfoldable pub image_size : ImageFacts → ℕ
+image_size image = image_rows_size image + (12 + sum_by hash_size image.hashes.items)
+
+abbrev pub configuration_rows_size : ConfigurationFacts → ℕ
+configuration_rows_size c =
+    sizes (Some c.name ∷ c.description ∷ c.kernel ∷ c.ramdisk ∷ c.fdt ∷ c.loadables ∷ c.firmware ∷ c.fpga ∷ c.setup ∷ c.standalone ∷ c.script ∷ [])
+
+abbrev pub node_size : Span → ℕ
+node_size name = name.length
+
+unfoldable pub configuration_size : ConfigurationFacts → ℕ
+configuration_size c = configuration_rows_size c + sum_by node_size c.nodes.items
+
+abbrev pub root_size : Survey → ℕ
+root_size survey = sizes (survey.description ∷ survey.timestamp ∷ survey.preferred ∷ []) + 65540
+
+abbrev pub survey_size : Survey → ℕ
+survey_size survey =
+    root_size survey + (sum_by image_size survey.images.items + sum_by configuration_size survey.configurations.items)
+
+abbrev pub property_size : PropertyPlace → ℕ
+property_size place = place.name.length
+
+abbrev pub list_size : {Z : Type 0} → Vec PropertyPlace Z → ℕ
+list_size places = sum_by property_size places.items
+
+abbrev pub full_size : FullSurvey → ℕ
+full_size full = survey_size full.survey + sum_by list_size full.properties.items
+
+-- what is asked for behind the index, where a file is not refused
+abbrev pub size_if : Result Said Fault → ℕ
+size_if (Ok said) = said_size said
+size_if (Err fault) = 0
+
+-- for the facts of a file: its index, the properties of its configurations and their names, and each value of what it says
+abbrev pub info_work : List ℕ → ℕ
+info_work file = index_cost file + properties_cost file + sum_by names_size (properties_of file) + size_if (survey_of file)

@@ -1,0 +1,178 @@
+//! What configurations say, as objects.
+
+ghost use Rattle.std.specs.Prelude.{◌+◌, ◌<◌, length, map};
+ghost use Rattle.std.specs.List.{All, sum_by};
+ghost use Rattle.json.specs.Tree.{json_tokens};
+ghost use Rattle.uimg_blob.specs.Places.{read_place, EndsBy};
+ghost use Rattle.uimg_fit_reading.specs.FullSurvey.{read_properties, PlacesInside};
+ghost use Rattle.uimg_fit_reading.specs.Survey.{read_name, read_configuration};
+ghost use Rattle.uimg_fit_reading.specs.SurveyParts.{NameInside, ConfigurationInside};
+ghost use Rattle.uimg_info.specs.Fit.{configuration_facts, node_json, property_json, configuration_json, configurations_json};
+ghost use Rattle.uimg_json.specs.Members.{array_of, tokens_of};
+ghost use Rattle.uimg_info.specs.Members.{facts_members};
+ghost use Rattle.uimg_info.specs.Steps.{Puts};
+ghost use Rattle.uimg_info.specs.Work.{node_size, configuration_rows_size, configuration_size, property_size, list_size};
+
+use crate::facts::{put_object, put_rows};
+use crate::kinds::Kind::{Text, Texts};
+use json::Writer;
+use std::alloc::Global;
+use uimg_base::{Source, Span};
+use uimg_blob::PropertyPlace;
+use uimg_fit_reading::{ConfigurationFacts, SurveyFault};
+use uimg_json::put_number;
+
+// Writes the name of a node.
+fn put_node<S: Source>(
+    alloc: Global,
+    source: &mut S,
+    writer: &mut Writer,
+    name: Span,
+) -> Result<(), SurveyFault>
+    requires { NameInside (length (S.device source.old).bytes) name }
+    ensures { Puts (node_size name) result (S.device source.old) (S.device source.new)
+        writer.old writer.new (json_tokens (node_json (read_name (S.device source.old).bytes name))) }
+{
+    put_object(alloc, source, writer, &[("name", Text, Some(name))])
+}
+
+// Writes the array of the nodes below a configuration.
+fn put_nodes<S: Source>(
+    alloc: Global,
+    source: &mut S,
+    writer: &mut Writer,
+    nodes: &[Span],
+) -> Result<(), SurveyFault>
+    requires { All (NameInside (length (S.device source.old).bytes)) nodes.now }
+    ensures { Puts (sum_by node_size nodes.now) result (S.device source.old) (S.device source.new)
+        writer.old writer.new (json_tokens (array_of
+        (map node_json (map (read_name (S.device source.old).bytes) nodes.now)))) }
+{
+    writer.begin_array()?;
+    for node in nodes {
+        put_node(alloc, source, writer, *node)?;
+    }
+    writer.end_array()?;
+    Ok(())
+}
+
+// Writes a property: its name, and how many bytes its value has.
+fn put_property<S: Source>(
+    alloc: Global,
+    source: &mut S,
+    writer: &mut Writer,
+    place: PropertyPlace,
+) -> Result<(), SurveyFault>
+    requires { EndsBy (length (S.device source.old).bytes) place }
+    ensures { Puts (property_size place) result (S.device source.old) (S.device source.new)
+        writer.old writer.new (json_tokens (property_json (read_place (S.device source.old).bytes place))) }
+{
+    writer.begin_object()?;
+    put_rows(alloc, source, writer, &[("name", Text, Some(place.name))])?;
+    put_number(writer, "size", place.value.length)?;
+    writer.end_object()?;
+    Ok(())
+}
+
+// Writes the array of the properties of a configuration.
+fn put_properties<S: Source>(
+    alloc: Global,
+    source: &mut S,
+    writer: &mut Writer,
+    properties: &[PropertyPlace],
+) -> Result<(), SurveyFault>
+    requires { All (EndsBy (length (S.device source.old).bytes)) properties.now }
+    ensures { Puts (sum_by property_size properties.now) result (S.device source.old) (S.device source.new)
+        writer.old writer.new (json_tokens (array_of
+        (map property_json (map (read_place (S.device source.old).bytes) properties.now)))) }
+{
+    writer.begin_array()?;
+    for property in properties {
+        put_property(alloc, source, writer, *property)?;
+    }
+    writer.end_array()?;
+    Ok(())
+}
+
+// Writes what a configuration says, but for the nodes below it and its properties.
+fn put_configuration_rows<S: Source>(
+    alloc: Global,
+    source: &mut S,
+    writer: &mut Writer,
+    facts: &ConfigurationFacts,
+) -> Result<(), SurveyFault>
+    requires { ConfigurationInside (length (S.device source.old).bytes) facts.now }
+    ensures { Puts (configuration_rows_size facts.now) result (S.device source.old) (S.device source.new)
+        writer.old writer.new (tokens_of (facts_members (configuration_facts
+        (read_configuration (S.device source.old).bytes facts.now)))) }
+{
+    let rows = [
+        ("name", Text, Some(facts.name)),
+        ("description", Text, facts.description),
+        ("kernel", Text, facts.kernel),
+        ("ramdisk", Text, facts.ramdisk),
+        ("fdt", Texts, facts.fdt),
+        ("loadables", Texts, facts.loadables),
+        ("firmware", Text, facts.firmware),
+        ("fpga", Text, facts.fpga),
+        ("setup", Text, facts.setup),
+        ("standalone", Text, facts.standalone),
+        ("script", Text, facts.script),
+    ];
+    put_rows(alloc, source, writer, &rows)
+}
+
+// Writes a configuration and its properties.
+#[tactic(auto, unfolding(crate::specs::Work::configuration_size))]
+fn put_configuration<S: Source>(
+    alloc: Global,
+    source: &mut S,
+    writer: &mut Writer,
+    facts: &ConfigurationFacts,
+    properties: &[PropertyPlace],
+) -> Result<(), SurveyFault>
+    requires facts { ConfigurationInside (length (S.device source.old).bytes) facts.now }
+    requires properties { All (EndsBy (length (S.device source.old).bytes)) properties.now }
+    ensures { Puts (configuration_size facts.now + sum_by property_size properties.now) result
+        (S.device source.old) (S.device source.new) writer.old writer.new (json_tokens (configuration_json
+        (read_configuration (S.device source.old).bytes facts.now)
+        (map (read_place (S.device source.old).bytes) properties.now))) }
+{
+    writer.begin_object()?;
+    put_configuration_rows(alloc, source, writer, facts)?;
+    writer.key("nodes")?;
+    put_nodes(alloc, source, writer, facts.nodes.as_slice())?;
+    writer.key("properties")?;
+    put_properties(alloc, source, writer, properties)?;
+    writer.end_object()?;
+    Ok(())
+}
+
+/// Writes the array of the configurations, each with its properties.
+pub(crate) fn put_configurations<S: Source>(
+    alloc: Global,
+    source: &mut S,
+    writer: &mut Writer,
+    configurations: &[ConfigurationFacts],
+    properties: &[Vec<PropertyPlace>],
+) -> Result<(), SurveyFault>
+    requires facts { All (ConfigurationInside (length (S.device source.old).bytes)) configurations.now }
+    requires properties { All (PlacesInside (length (S.device source.old).bytes)) properties.now }
+    ensures { Puts (sum_by configuration_size configurations.now + sum_by list_size properties.now) result
+        (S.device source.old) (S.device source.new) writer.old writer.new (json_tokens (array_of
+        (configurations_json (map (read_configuration (S.device source.old).bytes) configurations.now)
+        (map (read_properties (S.device source.old).bytes) properties.now)))) }
+{
+    writer.begin_array()?;
+    for i in 0..configurations.len().min(properties.len()) {
+        put_configuration(
+            alloc,
+            source,
+            writer,
+            &configurations[i],
+            properties[i].as_slice(),
+        )?;
+    }
+    writer.end_array()?;
+    Ok(())
+}

@@ -1,0 +1,184 @@
+//! The memory that a blob reserves.
+
+ghost use Rattle.std.specs.Prelude.{◌≡◌, Some, ◌+◌, ◌-◌, ◌≤◌, min, length, drop, map, is_err, IsTrue, IfOk};
+ghost use Rattle.std.specs.Option.{option_map};
+ghost use Rattle.json.specs.Tree.{json_tokens};
+ghost use Rattle.uimg_base.specs.Using.{Asks};
+ghost use Rattle.uimg_texts.specs.Numbers.{be32};
+ghost use Rattle.uimg_texts.specs.Slices.{slice};
+ghost use Rattle.uimg_json.specs.Members.{array_of, tokens_of};
+ghost use Rattle.uimg_info.specs.Reservations.{entry_of, is_end, entries_in, reservations_of, reservation_json, reservations_members};
+ghost use Rattle.uimg_json.specs.Steps.{Appends};
+ghost use Rattle.uimg_fit_reading.specs.SurveyParts.{IsOwn, is_unread};
+ghost use Rattle.uimg_info.specs.Steps.{Puts};
+
+use byteorder::{BigEndian, ByteOrder};
+use json::Writer;
+use std::alloc::{AllocError, Global};
+use uimg_base::{Source, SourceFault, Span, number_at};
+use uimg_fit_base::Fault;
+use uimg_fit_reading::{SurveyFault, read_bytes};
+use uimg_json::put_number;
+
+// How many bytes an entry has.
+const ENTRY_LEN: usize = 16;
+
+// How many bytes are read of a block.
+const MOST: u32 = 65536;
+
+/// Memory that is reserved.
+#[derive(Clone, Copy, Debug, PartialEq, Eq)]
+pub(crate) struct Reservation {
+    address: u64,
+    size: u64,
+}
+
+// The entry that bytes begin with.
+fn entry_of(bytes: &[u8]) -> Reservation
+    requires { 16 ≤ length bytes.now }
+    ensures { result ≡ entry_of bytes.now }
+{
+    Reservation {
+        address: BigEndian::read_u64(&bytes[..8]),
+        size: BigEndian::read_u64(&bytes[8..16]),
+    }
+}
+
+// Whether an entry ends the list.
+fn is_end(entry: Reservation) -> bool
+    ensures { result ≡ is_end entry }
+{
+    entry.address == 0 && entry.size == 0
+}
+
+// The bytes behind the entry that bytes begin with.
+fn behind(bytes: &[u8]) -> &[u8]
+    requires { 16 ≤ length bytes.now }
+    ensures { result.now ≡ drop 16 bytes.now }
+{
+    &bytes[ENTRY_LEN..]
+}
+
+// The entries before the one that ends them, if it is there.
+fn entries_in(alloc: Global, bytes: &[u8]) -> Result<Option<Vec<Reservation>>, AllocError>
+    ensures { IfOk result (λ found.
+        option_map (λ entries. entries.items) found ≡ entries_in bytes.now) }
+{
+    let mut entries = Vec::new(alloc);
+    let mut rest = bytes;
+    while rest.len() >= ENTRY_LEN {
+        let entry = entry_of(rest);
+        if is_end(entry) {
+            return Ok(Some(entries));
+        }
+        entries.push(entry)?;
+        rest = behind(rest);
+    }
+    Ok(None)
+}
+
+// Where the block begins, by the header.
+#[tactic(auto, unfolding(uimg_texts::specs::Numbers::be32))]
+fn place_of<S: Source>(source: &mut S) -> Result<u32, SourceFault>
+    requires { 20 ≤ length (S.device source.old).bytes }
+    ensures uses { Asks 4 (is_err result) (S.device source.old) (S.device source.new) }
+    ensures place { IsTrue (S.device source.old).honest →
+        IfOk result (λ n. n ≡ be32 (S.device source.old).bytes 16) }
+{
+    let mut word = [0; 4];
+    source.fill_at(16, &mut word)?;
+    Ok(number_at(&word, 0))
+}
+
+// The entries of the block of a file whose blob has a total size.
+#[tactic(auto, unfolding(crate::specs::Reservations::reservations_of))]
+fn read_reservations<S: Source>(
+    alloc: Global,
+    source: &mut S,
+    totalsize: u32,
+) -> Result<Option<Vec<Reservation>>, SurveyFault>
+    requires { totalsize ≤ length (S.device source.old).bytes }
+    ensures uses { Asks 65540 (is_unread result) (S.device source.old) (S.device source.new) }
+    ensures own { IsOwn result }
+    ensures told { IsTrue (S.device source.old).honest → IfOk result (λ found.
+        option_map (λ entries. entries.items) found
+        ≡ reservations_of (S.device source.old).bytes totalsize) }
+{
+    if totalsize < 20 {
+        return Ok(None);
+    }
+    let Ok(place) = place_of(source) else {
+        return Err(SurveyFault::Stopped(Fault::Read));
+    };
+    if place >= totalsize {
+        return Ok(None);
+    }
+    let span = Span {
+        place: place as u64,
+        length: u32::min(MOST, totalsize - place) as u64,
+    };
+    let bytes = read_bytes(alloc, source, span)?;
+    Ok(entries_in(alloc, bytes.as_slice())?)
+}
+
+// Writes an entry.
+fn put_reservation(writer: &mut Writer, entry: Reservation) -> Result<(), AllocError>
+    ensures { Appends result writer.old writer.new (json_tokens (reservation_json entry)) }
+{
+    writer.begin_object()?;
+    put_number(writer, "address", entry.address)?;
+    put_number(writer, "size", entry.size)?;
+    writer.end_object()?;
+    Ok(())
+}
+
+// Writes the array of the entries.
+fn put_entries(writer: &mut Writer, entries: &[Reservation]) -> Result<(), AllocError>
+    ensures { Appends result writer.old writer.new
+        (json_tokens (array_of (map reservation_json entries.now))) }
+{
+    writer.begin_array()?;
+    for entry in entries {
+        put_reservation(writer, *entry)?;
+    }
+    writer.end_array()?;
+    Ok(())
+}
+
+// Writes the entries under their name.
+fn put_list(writer: &mut Writer, entries: &[Reservation]) -> Result<(), AllocError>
+    ensures { Appends result writer.old writer.new
+        (tokens_of (reservations_members (Some entries.now))) }
+{
+    writer.key("reservations")?;
+    put_entries(writer, entries)?;
+    Ok(())
+}
+
+// The same, if the block has an end that is told.
+fn put_found(writer: &mut Writer, found: Option<Vec<Reservation>>) -> Result<(), AllocError>
+    ensures { Appends result writer.old writer.new
+        (tokens_of (reservations_members (option_map (λ entries. entries.items) found))) }
+{
+    match found {
+        Some(entries) => put_list(writer, entries.as_slice()),
+        None => Ok(()),
+    }
+}
+
+/// Writes the entries of the memory reservation block of a file whose blob has a total size, if the block
+/// ends within the blob and has 4095 entries at most.
+pub(crate) fn put_reservations<S: Source>(
+    alloc: Global,
+    source: &mut S,
+    writer: &mut Writer,
+    totalsize: u32,
+) -> Result<(), SurveyFault>
+    requires { totalsize ≤ length (S.device source.old).bytes }
+    ensures { Puts 65540 result (S.device source.old) (S.device source.new) writer.old writer.new
+        (tokens_of (reservations_members (reservations_of (S.device source.old).bytes totalsize))) }
+{
+    let found = read_reservations(alloc, source, totalsize)?;
+    put_found(writer, found)?;
+    Ok(())
+}
