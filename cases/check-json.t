@@ -60,6 +60,28 @@ FIT images:
   {"path":"k.itb","status":1,"verdict":"empty","format":"fit"}
   [1]
 
+With --strict an image that is right has a count of the nodes of its configurations, which are not checked, and no other answer has:
+
+  $ fit2() {
+  >     images='a { data = "abc"; hash-1 { algo = "crc32"; }; };'
+  >     echo "/dts-v1/; / { description = \"d\"; images { $images }; configurations { $1 }; };" > k.its
+  >     SOURCE_DATE_EPOCH=0 uimg mkimage -f k.its k.itb > /dev/null
+  > }
+  $ fit2 'c { kernel = "a"; hash-1 { algo = "sha1"; }; signature-1 { algo = "sha1,rsa2048"; }; }; d { script = "a"; };'
+  $ uimg check --json k.itb && uimg check --json --strict k.itb kernel.img
+  {"path":"k.itb","status":0,"verdict":"ok","format":"fit","images":1,"hashes":1}
+  {"path":"k.itb","status":0,"verdict":"ok","format":"fit","images":1,"hashes":1,"unchecked":2}
+  {"path":"kernel.img","status":0,"verdict":"ok","format":"legacy","checksums":2}
+  $ fit2 'c { kernel = "a"; };' && uimg check --json --strict k.itb four-hash-fit.itb
+  {"path":"k.itb","status":0,"verdict":"ok","format":"fit","images":1,"hashes":1,"unchecked":0}
+  {"path":"four-hash-fit.itb","status":0,"verdict":"ok","format":"fit","images":1,"hashes":4,"unchecked":0}
+  $ fit2 'c { kernel = "a"; script = "b"; signature { }; };' && uimg check --json --strict k.itb
+  {"path":"k.itb","status":1,"verdict":"missing","format":"fit","configuration":"c","property":"script","name":"b"}
+  [1]
+  $ fit2 'c { kernel = "a"; signature { }; };' && uimg check --json --strict --need md5 k.itb
+  {"path":"k.itb","status":1,"verdict":"weak","format":"fit","image":"a"}
+  [1]
+
 A fault of the blob has its place. The version stands at 20, and the first token, behind the header of 40 bytes and an empty list of reservations of 16, at 56; 5 is no token:
 
   $ fit 'a { data = "abc"; };' && cp k.itb version.itb && cell version.itb 23 16

@@ -204,7 +204,7 @@ Wrong lines:
   kernel.img: ok 2 checksums
 
 With --strict an image needs a hash, and what configurations name has to be there: the default first, then each configuration's
-kernel, ramdisk, fdt and loadables:
+kernel, ramdisk, fdt, loadables, firmware, fpga, setup, standalone and script:
 
   $ fit2() {
   >     images='kernel { data = "k"; hash-1 { algo = "crc32"; }; }; board { data = "f"; hash-1 { algo = "sha1"; }; };'
@@ -246,6 +246,55 @@ kernel, ramdisk, fdt and loadables:
   k.itb: missing c loadables \xff\x0a
   {"path":"k.itb","status":1,"verdict":"missing","format":"fit","configuration":"c","property":"loadables","name":"\xef\xbf\xbd\\n","name_base64":"/wo="} (esc)
   [1]
+
+  $ fit2 'c { firmware = "kernel"; fpga = "board"; setup = "kernel"; standalone = "board", "kernel"; script = "kernel"; };'
+  $ uimg check --strict k.itb
+  k.itb: ok 2 payloads, 2 hashes
+  $ for name in firmware fpga setup standalone script; do missing "c { $name = \"board\", \"gone\"; };" | sed -n 2,3p; done
+  k.itb: missing c firmware gone
+  {"path":"k.itb","status":1,"verdict":"missing","format":"fit","configuration":"c","property":"firmware","name":"gone"}
+  k.itb: missing c fpga gone
+  {"path":"k.itb","status":1,"verdict":"missing","format":"fit","configuration":"c","property":"fpga","name":"gone"}
+  k.itb: missing c setup gone
+  {"path":"k.itb","status":1,"verdict":"missing","format":"fit","configuration":"c","property":"setup","name":"gone"}
+  k.itb: missing c standalone gone
+  {"path":"k.itb","status":1,"verdict":"missing","format":"fit","configuration":"c","property":"standalone","name":"gone"}
+  k.itb: missing c script gone
+  {"path":"k.itb","status":1,"verdict":"missing","format":"fit","configuration":"c","property":"script","name":"gone"}
+
+They are looked at in this order, whatever order they stand in, and other properties are not looked at:
+
+  $ told() { missing "c { script = \"s\"; standalone = \"a\"; setup = \"e\"; fpga = \"p\"; firmware = \"f\"; loadables = $1; };" | sed -n 2p; }
+  $ told '"l"'; told '"kernel"'
+  k.itb: missing c loadables l
+  k.itb: missing c firmware f
+  $ told() { missing "c { script = \"s\"; standalone = $3; setup = $2; fpga = $1; firmware = \"kernel\"; };" | sed -n 2p; }
+  $ told '"p"' '"e"' '"a"'; told '"board"' '"e"' '"a"'; told '"board"' '"board"' '"a"'; told '"board"' '"board"' '"board"'
+  k.itb: missing c fpga p
+  k.itb: missing c setup e
+  k.itb: missing c standalone a
+  k.itb: missing c script s
+  $ fit2 'c { kernel = "kernel"; compatible = "gone"; uboot = "gone"; scripts = "gone"; firm = "gone"; };' && uimg check --strict k.itb
+  k.itb: ok 2 payloads, 2 hashes
+
+Hash nodes and signatures of configurations are not checked, and --strict counts them where the image is right. Nodes below these
+are not counted, nor are those of images:
+
+  $ signature='signature-1 { algo = "sha256,rsa2048"; key-name-hint = "dev"; };'
+  $ fit2 "c { kernel = \"kernel\"; hash-1 { algo = \"sha1\"; value = <1>; }; $signature }; d { fdt = \"board\"; };"
+  $ uimg check k.itb && uimg check --strict k.itb kernel.img
+  k.itb: ok 2 payloads, 2 hashes
+  k.itb: ok 2 payloads, 2 hashes, 2 nodes of configurations unchecked
+  kernel.img: ok 2 checksums
+  $ fit2 "c { $signature }; d { $signature }; e { $signature hash { }; }; " && uimg check --strict k.itb
+  k.itb: ok 2 payloads, 2 hashes, 4 nodes of configurations unchecked
+  $ fit2 'c { kernel = "kernel"; signature { below { further { }; }; }; };' && uimg check --strict --need crc32 k.itb
+  k.itb: ok 2 payloads, 2 hashes, 1 node of configurations unchecked
+  $ fit2 "c { kernel = \"gone\"; $signature };" && uimg check --strict k.itb
+  k.itb: missing c kernel gone
+  [1]
+  $ fit "a { data = \"abc\"; hash-1 { algo = \"crc32\"; }; $signature };" && uimg check --strict k.itb
+  k.itb: ok 1 payload, 1 hash
 
 A value that is empty names nothing; an image without a hash is weak, and one without images is empty:
 

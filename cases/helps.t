@@ -152,7 +152,9 @@ Helps
     <algo>  crc32 md5 sha1 sha256 sha384 sha512
   
   A line for each image: its path, and what was found first.
-    ok           Each hash is right, or both checksums of a legacy image are
+    ok           Each hash is right, or both checksums of a legacy image are; with
+                 --strict a FIT's line ends with how many nodes its configurations
+                 have, if any: 2 nodes of configurations unchecked
     unhashed     The same, but this image of a FIT has no hash
     bad          This hash of an image is not right, or a checksum is not
     malformed    This hash of an image has no algorithm, or no value of its length
@@ -160,16 +162,19 @@ Helps
     weak         This image has no hash as strong as --need, or is a legacy image;
                  --strict alone asks for any hash
     empty        There is no image in the FIT, where --need or --strict is given
-    missing      With --strict: this configuration, or the default, gives this name,
-                 and no image, or no configuration, has it
+    missing      With --strict: this configuration gives this name, by kernel, ramdisk,
+                 fdt, loadables, firmware, fpga, setup, standalone or script, and no
+                 image has it; or the default, and no configuration has it
     overlapping  With this image there are more bytes to hash than the file has
     refused      The image is refused by this fault
     failed       The file cannot be opened, or a read or memory failed
   Control characters and \ are written \xNN in a name. The names of --files-from -
   are those of standard input. With --json a line is an object: path, status,
-  verdict (the word), and what is known of format, images, hashes, checksums, algo,
-  image, hash, configuration, property, name, fault, message and offset.
-  Signatures and the hashes of configurations are not checked.
+  verdict (the word), and what is known of format, images, hashes, unchecked,
+  checksums, algo, image, hash, configuration, property, name, fault, message and
+  offset.
+  Signatures and the hashes of configurations are not checked; --strict counts those
+  of configurations.
   
   Examples:
     uimg check --strict --need sha256 kernel.itb rescue.itb

@@ -28,7 +28,7 @@ A FIT image with two images and a configuration. Addresses have one cell or two;
   >     one { description = "c"; kernel = "kernel"; ramdisk = "initrd"; fdt = "dtb", "overlay"; loadables = "a", "", "b"; };
   > };'
   $ uimg info --json k.itb
-  {"path":"k.itb","status":0,"format":"fit","size":708,"totalsize":708,"description":"d","timestamp":1700000000,"default":"one","images":[{"name":"kernel","description":"k","type":"kernel","arch":"arm64","os":"linux","compression":"none","load":524288,"entry":6442450944,"offset":148,"data-size":4,"hashes":[{"name":"hash-1","algo":"crc32","value":"a75d6850"},{"name":"hash-2","algo":"md5","value":"147a664a2ca9410911e61986d3f0d52a"}]},{"name":"dtb","type":"flat_dt","offset":404,"data-size":2,"hashes":[]}],"configurations":[{"name":"one","description":"c","kernel":"kernel","ramdisk":"initrd","fdt":["dtb","overlay"],"loadables":["a","","b"]}]}
+  {"path":"k.itb","status":0,"format":"fit","size":708,"totalsize":708,"description":"d","timestamp":1700000000,"default":"one","reservations":[],"images":[{"name":"kernel","description":"k","type":"kernel","arch":"arm64","os":"linux","compression":"none","load":524288,"entry":6442450944,"offset":148,"data-size":4,"hashes":[{"name":"hash-1","algo":"crc32","value":"a75d6850"},{"name":"hash-2","algo":"md5","value":"147a664a2ca9410911e61986d3f0d52a"}]},{"name":"dtb","type":"flat_dt","offset":404,"data-size":2,"hashes":[]}],"configurations":[{"name":"one","description":"c","kernel":"kernel","ramdisk":"initrd","fdt":["dtb","overlay"],"loadables":["a","","b"],"nodes":[],"properties":[{"name":"description","size":2},{"name":"kernel","size":7},{"name":"ramdisk","size":7},{"name":"fdt","size":12},{"name":"loadables","size":5}]}]}
   $ uimg info k.itb > plain && uimg info --json k.itb | cmp - plain
   $ dd if=k.itb bs=1 skip=148 count=4 status=none | od -An -c
      a   b   c  \0
@@ -39,20 +39,20 @@ Payloads behind the blob, and from a position on:
 
   $ fit 'images { a { data = "abc"; }; b { data = "defgh"; }; };' -E
   $ uimg info k.itb
-  {"path":"k.itb","status":0,"format":"fit","size":264,"totalsize":252,"description":"d","timestamp":1700000000,"images":[{"name":"a","offset":252,"data-size":4,"hashes":[]},{"name":"b","offset":256,"data-size":6,"hashes":[]}],"configurations":[]}
+  {"path":"k.itb","status":0,"format":"fit","size":264,"totalsize":252,"description":"d","timestamp":1700000000,"reservations":[],"images":[{"name":"a","offset":252,"data-size":4,"hashes":[]},{"name":"b","offset":256,"data-size":6,"hashes":[]}],"configurations":[]}
   $ tail -c 12 k.itb | od -An -c
      a   b   c  \0   d   e   f   g   h  \0  \0  \0
   $ fit 'images { a { data = "abc"; }; };' -E -p 1000
   $ uimg info k.itb
-  {"path":"k.itb","status":0,"format":"fit","size":4100,"totalsize":212,"description":"d","timestamp":1700000000,"images":[{"name":"a","offset":4096,"data-size":4,"hashes":[]}],"configurations":[]}
+  {"path":"k.itb","status":0,"format":"fit","size":4100,"totalsize":212,"description":"d","timestamp":1700000000,"reservations":[],"images":[{"name":"a","offset":4096,"data-size":4,"hashes":[]}],"configurations":[]}
 
 No payload, and one that ends after the file; an extraction would refuse them:
 
   $ uimg info "$files/no-data.itb" | sed "s|$files/||"
-  {"path":"no-data.itb","status":0,"format":"fit","size":164,"totalsize":160,"images":[{"name":"a","fault":"F2","message":"F2 no data","hashes":[]}],"configurations":[]}
+  {"path":"no-data.itb","status":0,"format":"fit","size":164,"totalsize":160,"reservations":[],"images":[{"name":"a","fault":"F2","message":"F2 no data","hashes":[]}],"configurations":[]}
   $ fit 'images { a { data = "abcd"; hash-1 { algo = "crc32"; }; }; };' -E
   $ head -c -4 k.itb > cut.itb && uimg info cut.itb
-  {"path":"cut.itb","status":0,"format":"fit","size":276,"totalsize":272,"description":"d","timestamp":1700000000,"images":[{"name":"a","offset":272,"data-size":5,"fault":"F3","message":"F3 data outside","hashes":[{"name":"hash-1","algo":"crc32","value":"b85f4db2"}]}],"configurations":[]}
+  {"path":"cut.itb","status":0,"format":"fit","size":276,"totalsize":272,"description":"d","timestamp":1700000000,"reservations":[],"images":[{"name":"a","offset":272,"data-size":5,"fault":"F3","message":"F3 data outside","hashes":[{"name":"hash-1","algo":"crc32","value":"b85f4db2"}]}],"configurations":[]}
   $ uimg check cut.itb
   cut.itb: refused F3 data outside
   [1]
@@ -62,7 +62,7 @@ Hashes are told and not compared:
   $ fit 'images { a { data = "abcd"; hash-1 { algo = "crc32"; }; }; };'
   $ at=$(grep -abo abcd k.itb | cut -d: -f 1) && cell k.itb $at 65
   $ uimg info k.itb && uimg check k.itb
-  {"path":"k.itb","status":0,"format":"fit","size":244,"totalsize":244,"description":"d","timestamp":1700000000,"images":[{"name":"a","offset":128,"data-size":5,"hashes":[{"name":"hash-1","algo":"crc32","value":"b85f4db2"}]}],"configurations":[]}
+  {"path":"k.itb","status":0,"format":"fit","size":244,"totalsize":244,"description":"d","timestamp":1700000000,"reservations":[],"images":[{"name":"a","offset":128,"data-size":5,"hashes":[{"name":"hash-1","algo":"crc32","value":"b85f4db2"}]}],"configurations":[]}
   k.itb: bad a hash-1
   [1]
 
@@ -72,7 +72,7 @@ Texts: up to the first NUL, with what RFC 8259 wants escaped. A text that is not
   $ fit 'images { k { data = "a"; description = /incbin/("text"); type = [00]; arch = [61 e4 ff]; os; }; };
   > configurations { c { fdt = [61 00 62 ff 00 00]; loadables = [61 00 00 62]; kernel = [c3]; ramdisk = [e2 80 a8]; }; };'
   $ uimg info k.itb
-  {"path":"k.itb","status":0,"format":"fit","size":404,"totalsize":404,"description":"d","timestamp":1700000000,"images":[{"name":"k","description":"say \\"no\\" \\\\ \\n\\t\\u001b/\x7f","type":"","arch":"a\xef\xbf\xbd\xef\xbf\xbd","arch_base64":"YeT/","os":"","offset":128,"data-size":2,"hashes":[]}],"configurations":[{"name":"c","kernel":"\xef\xbf\xbd","kernel_base64":"ww==","ramdisk":"\xe2\x80\xa8","fdt":["a","b\xef\xbf\xbd",""],"fdt_base64":["YQ==","Yv8=",""],"loadables":["a","","b"]}]} (esc)
+  {"path":"k.itb","status":0,"format":"fit","size":404,"totalsize":404,"description":"d","timestamp":1700000000,"reservations":[],"images":[{"name":"k","description":"say \\"no\\" \\\\ \\n\\t\\u001b/\x7f","type":"","arch":"a\xef\xbf\xbd\xef\xbf\xbd","arch_base64":"YeT/","os":"","offset":128,"data-size":2,"hashes":[]}],"configurations":[{"name":"c","kernel":"\xef\xbf\xbd","kernel_base64":"ww==","ramdisk":"\xe2\x80\xa8","fdt":["a","b\xef\xbf\xbd",""],"fdt_base64":["YQ==","Yv8=",""],"loadables":["a","","b"],"nodes":[],"properties":[{"name":"fdt","size":6},{"name":"loadables","size":4},{"name":"kernel","size":1},{"name":"ramdisk","size":3}]}]} (esc)
 
 A name that is not UTF-8, or has control characters:
 
@@ -83,17 +83,46 @@ A name that is not UTF-8, or has control characters:
   > open("bytes.itb", "wb").write(image.replace(b"kernel\0", b"k\xe4\xff\xfen\t\0", 1))
   > END
   $ uimg info name.itb
-  {"path":"name.itb","status":0,"format":"fit","size":180,"totalsize":180,"description":"d","timestamp":1700000000,"images":[{"name":"\\"\\n\\\\\x7f\\u001b/","offset":132,"data-size":2,"hashes":[]}],"configurations":[]} (esc)
+  {"path":"name.itb","status":0,"format":"fit","size":180,"totalsize":180,"description":"d","timestamp":1700000000,"reservations":[],"images":[{"name":"\\"\\n\\\\\x7f\\u001b/","offset":132,"data-size":2,"hashes":[]}],"configurations":[]} (esc)
   $ uimg info bytes.itb
-  {"path":"bytes.itb","status":0,"format":"fit","size":180,"totalsize":180,"description":"d","timestamp":1700000000,"images":[{"name":"k\xef\xbf\xbd\xef\xbf\xbd\xef\xbf\xbdn\\t","name_base64":"a+T//m4J","offset":132,"data-size":2,"hashes":[]}],"configurations":[]} (esc)
+  {"path":"bytes.itb","status":0,"format":"fit","size":180,"totalsize":180,"description":"d","timestamp":1700000000,"reservations":[],"images":[{"name":"k\xef\xbf\xbd\xef\xbf\xbd\xef\xbf\xbdn\\t","name_base64":"a+T//m4J","offset":132,"data-size":2,"hashes":[]}],"configurations":[]} (esc)
+
+Configurations may name images by nine properties, and the nodes below them, their hashes and signatures, are told by name. Memory that the blob reserves is told up to the entry of zeros; here the block is moved to a payload that has two entries, then so that the blob ends before the list does:
+
+  $ fit 'images { a { data = <0 0x1000 0 0x200 0x1 0x80000000 0xffffffff 0xffffffff 0 0 0 0>; }; };
+  > configurations { c { firmware = "a"; fpga = "b"; setup = "s"; standalone = "t"; script = "u", "v"; other = "x";
+  >     signature-1 { algo = "sha256,rsa2048"; }; hash-1 { algo = "sha1"; }; }; };'
+  $ uimg info k.itb | grep -o '"configurations.*'
+  "configurations":[{"name":"c","firmware":"a","fpga":"b","setup":"s","standalone":"t","script":"u","nodes":[{"name":"signature-1"},{"name":"hash-1"}],"properties":[{"name":"firmware","size":2},{"name":"fpga","size":2},{"name":"setup","size":2},{"name":"standalone","size":2},{"name":"script","size":4},{"name":"other","size":2}]}]}
+  $ at=$(uimg info k.itb | grep -o '"offset":[0-9]*' | cut -d: -f 2) && cell k.itb 16 0 0 0 $at && uimg info k.itb | grep -o '"reservations.*}],"images'
+  "reservations":[{"address":4096,"size":512},{"address":6442450944,"size":18446744073709551615}],"images
+  $ cell k.itb 16 0 0 0 $((at + 40)) && uimg info k.itb | grep -c reservations
+  0
+  [1]
+  $ cell k.itb 16 255 255 255 255 && uimg info k.itb | grep -c reservations
+  0
+  [1]
 
 Numbers that have another length than they should are left out, and of twins the first counts:
 
   $ fit 'timestamp = <1 2>; images { a { data = "a"; load = [01]; entry = <1 2 3>; }; };'
   $ uimg info k.itb
-  {"path":"k.itb","status":0,"format":"fit","size":228,"totalsize":228,"description":"d","timestamp":1700000000,"images":[{"name":"a","offset":128,"data-size":2,"hashes":[]}],"configurations":[]}
+  {"path":"k.itb","status":0,"format":"fit","size":228,"totalsize":228,"description":"d","timestamp":1700000000,"reservations":[],"images":[{"name":"a","offset":128,"data-size":2,"hashes":[]}],"configurations":[]}
   $ uimg info "$files/two-cell-addresses.itb" | sed "s|$files/||"
-  {"path":"two-cell-addresses.itb","status":0,"format":"fit","size":768,"totalsize":768,"description":"demo","timestamp":0,"default":"conf","images":[{"name":"kernel","description":"k","type":"kernel","arch":"arm64","os":"linux","compression":"none","load":6442450944,"entry":524288,"offset":168,"data-size":3,"hashes":[{"name":"hash-1","algo":"crc32","value":"352441c2"},{"name":"hash-2","algo":"md5","value":"900150983cd24fb0d6963f7d28e17f72"},{"name":"hash-3","algo":"sha1","value":"a9993e364706816aba3e25717850c26c9cd0d89d"},{"name":"hash-4","algo":"sha256","value":"ba7816bf8f01cfea414140de5dae2223b00361a396177a9cb410ff61f20015ad"}]}],"configurations":[{"name":"conf","description":"c","kernel":"kernel"}]}
+  {"path":"two-cell-addresses.itb","status":0,"format":"fit","size":768,"totalsize":768,"description":"demo","timestamp":0,"default":"conf","reservations":[],"images":[{"name":"kernel","description":"k","type":"kernel","arch":"arm64","os":"linux","compression":"none","load":6442450944,"entry":524288,"offset":168,"data-size":3,"hashes":[{"name":"hash-1","algo":"crc32","value":"352441c2"},{"name":"hash-2","algo":"md5","value":"900150983cd24fb0d6963f7d28e17f72"},{"name":"hash-3","algo":"sha1","value":"a9993e364706816aba3e25717850c26c9cd0d89d"},{"name":"hash-4","algo":"sha256","value":"ba7816bf8f01cfea414140de5dae2223b00361a396177a9cb410ff61f20015ad"}]}],"configurations":[{"name":"conf","description":"c","kernel":"kernel","nodes":[],"properties":[{"name":"description","size":2},{"name":"kernel","size":7}]}]}
+
+Of a configuration all properties are told, those without a meaning too, in the order of the file and twins each by itself, with how many bytes their values have; a name is spelled as any other:
+
+  $ fit 'images { k { data = "a"; }; };
+  > configurations { c { compatible = "a,b", "c"; kernel = "k"; own,flag; lengths = <1 2>; kernel = "other"; hash-1 { algo = "sha1"; }; }; d { }; };'
+  $ uimg info k.itb | grep -o '"configurations":.*'
+  "configurations":[{"name":"c","kernel":"k","nodes":[{"name":"hash-1"}],"properties":[{"name":"compatible","size":6},{"name":"kernel","size":2},{"name":"own,flag","size":0},{"name":"lengths","size":8},{"name":"kernel","size":6}]},{"name":"d","nodes":[],"properties":[]}]}
+  $ python3 - <<'END'
+  > image = open("k.itb", "rb").read()
+  > open("named.itb", "wb").write(image.replace(b"compatible\0", b"c\xe4mpatibl\n\0", 1))
+  > END
+  $ uimg info named.itb | grep -ao '"properties":[^}]*}' | head -n 1
+  "properties":[{"name":"c\xef\xbf\xbdmpatibl\\n","name_base64":"Y+RtcGF0aWJsCg==","size":6} (esc)
 
 A value of more than 65536 bytes is told by its length alone, and one of 65536 is told:
 
@@ -101,7 +130,7 @@ A value of more than 65536 bytes is told by its length alone, and one of 65536 i
   $ fit 'images { a { data = "a"; description = /incbin/("most"); type = /incbin/("more"); load = /incbin/("more"); hash-1 { algo = "crc32"; }; }; };
   > configurations { c { fdt = /incbin/("more"); loadables = /incbin/("most"); }; };'
   $ uimg info k.itb | python3 -c 'import sys; sys.stdout.write(sys.stdin.read().replace("x" * 65536, "(65536 times x)"))'
-  {"path":"k.itb","status":0,"format":"fit","size":328052,"totalsize":328052,"description":"d","timestamp":1700000000,"images":[{"name":"a","description":"(65536 times x)","type_length":65537,"offset":128,"data-size":2,"hashes":[{"name":"hash-1","algo":"crc32","value":"3d3f4819"}]}],"configurations":[{"name":"c","fdt_length":65537,"loadables":["(65536 times x)"]}]}
+  {"path":"k.itb","status":0,"format":"fit","size":328052,"totalsize":328052,"description":"d","timestamp":1700000000,"reservations":[],"images":[{"name":"a","description":"(65536 times x)","type_length":65537,"offset":128,"data-size":2,"hashes":[{"name":"hash-1","algo":"crc32","value":"3d3f4819"}]}],"configurations":[{"name":"c","fdt_length":65537,"loadables":["(65536 times x)"],"nodes":[],"properties":[{"name":"fdt","size":65537},{"name":"loadables","size":65536}]}]}
 
 Refused images have the line of a check, and its status:
 
@@ -240,10 +269,11 @@ Wrong lines:
     -h, --help  Print help
   
   One line is written, an object. Of a FIT image it has path, status, format, size,
-  totalsize, description, timestamp, default, images and configurations; an image
-  has name, description, type, arch, os, compression, load, entry, offset and
-  data-size (where its payload stands), hashes, and where it has no payload in the
-  file fault and message. Of a legacy image it has path, status, format, size, name,
+  totalsize, description, timestamp, default, reservations, images and
+  configurations; an image has name, description, type, arch, os, compression, load,
+  entry, offset and data-size (where its payload stands), hashes, and where it has no
+  payload in the file fault and message; a configuration what its properties name,
+  nodes and properties. Of a legacy image it has path, status, format, size, name,
   time, load, entry, header-crc, data-crc, os, arch, type and compression, each with
   its code, data-size and parts. What is missing in the image is left out. An image
   that is refused, or cannot be read, has the line that check --json has of it.

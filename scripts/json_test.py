@@ -84,6 +84,20 @@ def shared():
     return fits.fit([fits.image(name, place, [("crc32", digest("crc32", data))]) for name in ("one", "two")]) + data
 
 
+def with_configurations(pick):
+    """A FIT image whose hash is right, with configurations that have nodes and further properties, some of them twice or
+    by a name that is not UTF-8, and of which some name no image."""
+    images = [fits.image("kernel", fits.prop("data", b"abc"), [("crc32", digest("crc32", b"abc"))])]
+    below = []
+    for number in range(pick.choice([0, 1, 2, 5])):
+        given = fits.text(pick.choice(["kernel", "fdt", "loadables"]), pick.choice(["kernel"] * 9 + ["gone"]))
+        nodes = [fits.node(f"hash-{child}", fits.text("algo", "sha1")) for child in range(pick.choice([0, 0, 1, 3]))]
+        more = [fits.prop(pick.choice(["value", "default", "estamp"]), pick.randbytes(pick.choice([0, 1, 5]))) for _ in range(pick.choice([0, 1, 3]))]
+        below.append(fits.node(f"conf-{number}", given, *more, *nodes))
+    whole = fits.blob(fits.node("", fits.node("images", *images), fits.node("configurations", *below)))
+    return whole.replace(b"estamp\0", pick.choice(IMAGES) + b"\0", 1)
+
+
 def write(folder, name, data):
     path = os.path.join(os.fsencode(folder), name)
     with open(path, "wb") as file:
@@ -99,6 +113,7 @@ def made(folder):
     paths += [write(folder, b"names-%d.itb" % number, with_names(*pair)) for number, pair in enumerate(pairs)]
     paths += [write(folder, name, fit_of(pick)) for name in PATHS]
     paths.append(write(folder, b"shared.itb", shared()))
+    paths += [write(folder, b"named-%d.itb" % number, with_configurations(pick)) for number in range(40)]
     return paths + [os.fsencode(folder), os.path.join(os.fsencode(folder), b"none"), b""]
 
 
@@ -144,17 +159,29 @@ def text_of(told):
     verdict = told["verdict"]
     if "images" in told:
         counts = [(told["images"], "payload", "payloads"), (told["hashes"], "hash", "hashes")]
+        if told.get("unchecked"):
+            counts.append((told["unchecked"], "node of configurations unchecked", "nodes of configurations unchecked"))
         rest = ", ".join(f"{count} {one if count == 1 else many}" for count, one, many in counts)
     elif "checksums" in told:
         rest = f"{told['checksums']} checksums"
     elif "image" in told:
         rest = " ".join(spelled(bytes_of(told, key)) for key in ("image", "hash") if key in told)
+    elif "property" in told:
+        rest = " ".join(spelled(bytes_of(told, key)) for key in ("configuration", "property", "name") if key in told)
     else:
         rest = told.get("message") or told.get("algo") or ("checksum" if verdict == "bad" else "")
     return f"{spelled(bytes_of(told, 'path'))}: {verdict} {rest}".rstrip(" ")
 
 
-def judge(line, text, path, validator):
+def unchecked_of(path):
+    """How many nodes the configurations of a FIT image have."""
+    with open(path, "rb") as file:
+        below = Tree(file.read()).root[2]
+    configurations = next((node[2] for node in below if node[0] == b"configurations"), [])
+    return sum(len(configuration[2]) for configuration in configurations)
+
+
+def judge(line, text, path, validator, options):
     """Raises an error where a line is not what it has to be beside the line of text."""
     assert not re.search(rb"[\0-\x1f]", line), "it has a control character"
     told = json.loads(line.decode(), object_pairs_hook=once)
@@ -165,6 +192,9 @@ def judge(line, text, path, validator):
         assert told["message"].startswith(told["fault"] + " "), "the fault is not that of its line"
     if "offset" in told:
         assert told["message"].endswith(f" at {told['offset']}"), "the offset is not that of the line"
+    assert ("unchecked" in told) == ("images" in told and "--strict" in options), "a count lacks, or is too much"
+    if "unchecked" in told:
+        assert told["unchecked"] == unchecked_of(path), f"{unchecked_of(path)} nodes are not checked"
     return told
 
 
@@ -179,7 +209,7 @@ def try_all(program, paths, validator, options):
         failures += 1
     for line, text, path in zip(lines, texts, named):
         try:
-            all_told.append(judge(line, text, path, validator))
+            all_told.append(judge(line, text, path, validator, options))
         except Exception as error:
             print(f"{path!r}: {str(error).splitlines()[0]}\n    {line!r}")
             failures += 1
@@ -190,7 +220,7 @@ def try_all(program, paths, validator, options):
 
 
 class Tree:
-    """The nodes of a blob, each a name, its properties in their order and its children."""
+    """The nodes of a blob, each a name, its properties by their names, its children, and all its properties in their order."""
 
     def __init__(self, image):
         self.image = image
@@ -206,16 +236,17 @@ class Tree:
 
     def node(self):
         end = self.image.index(0, self.at)
-        name, own, below = self.image[self.at : end], {}, []
+        name, own, below, properties = self.image[self.at : end], {}, [], []
         self.at = (end + 4) // 4 * 4
         while (word := self.word()) != 2:
             if word == 1:
                 below.append(self.node())
             elif word == 3:
                 length, key = self.word(), self.strings + self.word()
-                own.setdefault(self.image[key : self.image.index(0, key)].decode(), (self.at, length))
+                properties.append((self.image[key : self.image.index(0, key)], length))
+                own.setdefault(properties[-1][0].decode("latin-1"), (self.at, length))
                 self.at = (self.at + length + 3) // 4 * 4
-        return name, own, below
+        return name, own, below, properties
 
 
 class Facts:
@@ -224,14 +255,26 @@ class Facts:
     def __init__(self, path, image):
         tree = Tree(image)
         self.image, self.total = image, tree.total
-        name, own, below = tree.root
-        images, configurations = (next((node for node in below if node[0] == key), (b"", {}, [])) for key in (b"images", b"configurations"))
+        _, own, below, _ = tree.root
+        images, configurations = (next((node for node in below if node[0] == key), (b"", {}, [], [])) for key in (b"images", b"configurations"))
         self.told = {"path": path.decode(), "status": 0, "format": "fit", "size": len(image), "totalsize": tree.total}
         self.text(self.told, own, "description")
         self.number(self.told, own, "timestamp", (4,))
         self.text(self.told, configurations[1], "default")
+        self.reservations()
         self.told["images"] = [self.image_facts(node) for node in images[2]]
         self.told["configurations"] = [self.configuration(node) for node in configurations[2]]
+
+    def reservations(self):
+        """The entries of the block up to one of zeros, if it has one within the blob and 65,536 bytes."""
+        at = int.from_bytes(self.image[16:20], "big")
+        block, entries = self.image[at : min(at + 65536, self.total)], []
+        for start in range(0, len(block) - 15, 16):
+            entry = struct.unpack(">2Q", block[start : start + 16])
+            if entry == (0, 0):
+                self.told["reservations"] = entries
+                return
+            entries.append({"address": entry[0], "size": entry[1]})
 
     def value(self, own, key):
         at, length = own[key]
@@ -302,10 +345,17 @@ class Facts:
     def configuration(self, node):
         told = {}
         self.spell(told, "name", node[0])
-        for key in ("description", "kernel", "ramdisk"):
+        for key in ("description", "kernel", "ramdisk", "firmware", "fpga", "setup", "standalone", "script"):
             self.text(told, node[1], key)
         for key in ("fdt", "loadables"):
             self.texts(told, node[1], key)
+        told["nodes"] = [self.name(child[0]) for child in node[2]]
+        told["properties"] = [{**self.name(name), "size": size} for name, size in node[3]]
+        return told
+
+    def name(self, name):
+        told = {}
+        self.spell(told, "name", name)
         return told
 
 
@@ -385,7 +435,7 @@ def main():
     failures, told = 0, []
     with tempfile.TemporaryDirectory() as folder:
         paths = listed() + made(folder)
-        for options in ([], ["--need", "crc32"], ["--need", "sha256"]):
+        for options in ([], ["--need", "crc32"], ["--need", "sha256"], ["--strict"]):
             failed, some = try_all(program, paths, validator, options)
             failures, told = failures + failed, told + some
         failed, facts = try_facts(program, [path for path in paths if path], of_facts)

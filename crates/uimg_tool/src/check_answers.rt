@@ -1,119 +1,80 @@
-//! What is told of an image that was checked.
+//! What is told of an image, by the end of its check.
 
-use crate::main_program::{DONE, FAILED, REFUSED, RequestFault, status_of};
+ghost use Rattle.std.specs.Prelude.{◌≤◌, IfSome};
+
+use crate::main_program::{REFUSED, RequestFault, status_of};
 use std::alloc::Global;
 use uimg_base::{Source, Span};
+use uimg_checks::{Answer, Format, Stop};
 use uimg_engine::{Checked, Fault};
-use uimg_fit_base::word_text;
+use uimg_fit_base::Verdict;
 use uimg_fit_reading::Finding;
 use uimg_references::Missing;
 
 /// The most bytes that a name of a node has.
 const NAME_LEN: usize = 255;
 
-/// The bytes of the names that an answer has.
+/// The file cannot be opened.
+pub(crate) const UNREAD: Answer<'static> = Answer::Failed(Stop {
+    message: "cannot read",
+    code: None,
+    format: None,
+    offset: None,
+});
+
+/// The file has another blob when it is read again.
+pub(crate) const CHANGED: Answer<'static> = Answer::Failed(Stop {
+    message: "changed while it was read",
+    code: None,
+    format: None,
+    offset: None,
+});
+
+/// Memory for what is told was refused.
+const NO_MEMORY: Answer<'static> = Answer::Failed(Stop {
+    message: "out of memory",
+    code: None,
+    format: None,
+    offset: None,
+});
+
+/// The bytes of the names that an answer has, and the line of a fault.
 #[derive(Drop)]
 pub(crate) struct Names {
+    alloc: Global,
     image: [u8; NAME_LEN],
     hash: [u8; NAME_LEN],
     missing: Vec<u8>,
+    message: String,
 }
 
 impl Names {
     /// Room for the names of an answer.
     pub(crate) fn new(alloc: Global) -> Names {
         Names {
+            alloc,
             image: [0; NAME_LEN],
             hash: [0; NAME_LEN],
             missing: Vec::new(alloc),
+            message: String::new(alloc),
         }
     }
 }
 
-/// What is told of an image.
-#[derive(Clone, Copy)]
-pub(crate) enum Answer<'a> {
-    /// Each hash of a FIT's images is right, and each image has one.
-    Right {
-        images: usize,
-        hashes: usize,
-    },
-
-    /// This is found of an image of a FIT, or of a hash node of it.
-    About {
-        word: &'static str,
-        status: u8,
-        image: &'a [u8],
-        hash: Option<&'a [u8]>,
-    },
-
-    /// There is no image in a FIT, and a strength is needed.
-    Empty,
-
-    /// A name is given that is not there: by a configuration, or else as the default.
-    Missing {
-        configuration: Option<&'a [u8]>,
-        property: &'static str,
-        name: &'a [u8],
-    },
-
-    /// The checksums of a legacy image are right.
-    RightChecksums,
-
-    /// A checksum of a legacy image is not right.
-    BadChecksum,
-
-    /// The checksums of a legacy image are not strong enough.
-    WeakChecksums,
-
-    /// The image is refused, or a read or memory failed.
-    Stopped(Fault),
-
-    /// The file cannot be opened.
-    Unread,
-}
-
-impl<'a> Answer<'a> {
-    /// The exit status.
-    pub(crate) fn status(&self) -> u8 {
-        match *self {
-            Answer::Right { .. } | Answer::RightChecksums => DONE,
-            Answer::About { status, .. } => status,
-            Answer::Empty | Answer::Missing { .. } => REFUSED,
-            Answer::BadChecksum | Answer::WeakChecksums => REFUSED,
-            Answer::Stopped(fault) => status_of(&RequestFault::Stopped(fault)),
-            Answer::Unread => FAILED,
-        }
-    }
-
-    /// The word that says what was found.
-    pub(crate) fn word(&self) -> &'static str {
-        match *self {
-            Answer::Right { .. } | Answer::RightChecksums => "ok",
-            Answer::About { word, .. } => word,
-            Answer::Empty => "empty",
-            Answer::Missing { .. } => "missing",
-            Answer::BadChecksum => "bad",
-            Answer::WeakChecksums => "weak",
-            Answer::Stopped(_) if self.status() == REFUSED => "refused",
-            Answer::Stopped(_) | Answer::Unread => "failed",
-        }
-    }
-}
-
-/// What is told by the end of a check. The names are read from the source, and a failed read is told in
-/// their place.
+/// What is told by the end of a check, and by how many nodes of configurations were counted. The names are
+/// read from the source, and a failed read is told in their place.
 pub(crate) fn answer_of<'a, S: Source>(
     end: Result<Checked, Fault>,
+    unchecked: Option<u64>,
     source: &mut S,
     names: &'a mut Names,
 ) -> Answer<'a> {
     match end {
-        Ok(Checked::Fit(finding)) => answer_of_fit(finding, source, names),
+        Ok(Checked::Fit(finding)) => answer_of_fit(finding, unchecked, source, names),
         Ok(Checked::Right) => Answer::RightChecksums,
         Ok(Checked::Damaged) => Answer::BadChecksum,
         Ok(Checked::Weak) => Answer::WeakChecksums,
-        Err(fault) => Answer::Stopped(fault),
+        Err(fault) => answer_of_fault(fault, names),
     }
 }
 
@@ -128,98 +89,139 @@ pub(crate) fn answer_of_missing<'a, S: Source>(
         reference,
         name,
     } = missing;
-    let Names {
-        image: bytes,
-        missing: kept,
-        ..
-    } = names;
-    *kept = name;
-    let configuration = match configuration {
-        Some(place) => match name_at(source, place, bytes) {
-            Some(found) => Some(found),
-            None => return Answer::Stopped(Fault::Read),
-        },
-        None => None,
+    names.missing = name;
+    let Some(place) = configuration else {
+        return Answer::Missing {
+            configuration: None,
+            property: reference.name(),
+            name: names.missing.as_slice(),
+        };
+    };
+    let Some(length) = read_name(source, place, &mut names.image) else {
+        return answer_of_fault(Fault::Read, names);
     };
     Answer::Missing {
-        configuration,
+        configuration: Some(&names.image[..length]),
         property: reference.name(),
-        name: kept.as_slice(),
+        name: names.missing.as_slice(),
+    }
+}
+
+/// What is told of a fault.
+pub(crate) fn answer_of_fault<'a>(fault: Fault, names: &'a mut Names) -> Answer<'a> {
+    let Ok(message) = format!(in names.alloc; "{fault}") else {
+        return NO_MEMORY;
+    };
+    names.message = message;
+    let message = names.message.as_str();
+    let stop = Stop {
+        message,
+        code: code_of(fault, message),
+        format: format_of(fault),
+        offset: offset_of(fault),
+    };
+    if status_of(&RequestFault::Stopped(fault)) == REFUSED {
+        Answer::Refused(stop)
+    } else {
+        Answer::Failed(stop)
+    }
+}
+
+// The letter and number that the line of a fault begins with, if it does.
+fn code_of(fault: Fault, message: &str) -> Option<&str> {
+    match fault {
+        Fault::Legacy(_) | Fault::Blob(_, _) | Fault::Fit(_) | Fault::Its(_) => {
+            message.split_ascii_whitespace().next()
+        }
+        _ => None,
+    }
+}
+
+// The format of the image, where a fault tells it.
+fn format_of(fault: Fault) -> Option<Format> {
+    match fault {
+        Fault::Blob(_, _) | Fault::Fit(_) => Some(Format::Fit),
+        Fault::Legacy(_) => Some(Format::Legacy),
+        _ => None,
+    }
+}
+
+// The place of a fault, where it has one.
+fn offset_of(fault: Fault) -> Option<u64> {
+    match fault {
+        Fault::Blob(_, offset) => Some(offset),
+        _ => None,
     }
 }
 
 fn answer_of_fit<'a, S: Source>(
     finding: Finding,
+    unchecked: Option<u64>,
     source: &mut S,
     names: &'a mut Names,
 ) -> Answer<'a> {
     match finding {
-        Finding::Right { images, hashes } => Answer::Right { images, hashes },
-        Finding::Unhashed(image) => about_image("unhashed", DONE, source, image, names),
-        Finding::Wrong { image, hash, word } => {
-            about_hash(word_text(word), source, image, hash, names)
+        Finding::Right { images, hashes } => Answer::Right {
+            images: images as u64,
+            hashes: hashes as u64,
+            unchecked,
+        },
+        Finding::Wrong { image, hash, word } => about_hash(word, source, image, hash, names),
+        Finding::Unhashed(image) | Finding::Weak(image) | Finding::Overlapping(image) => {
+            about_image(finding, source, image, names)
         }
-        Finding::Weak(image) => about_image("weak", REFUSED, source, image, names),
-        Finding::Overlapping(image) => about_image("overlapping", REFUSED, source, image, names),
         Finding::NoImage => Answer::Empty,
     }
 }
 
+// What is told of an image.
 fn about_image<'a, S: Source>(
-    word: &'static str,
-    status: u8,
+    finding: Finding,
     source: &mut S,
     image: Span,
     names: &'a mut Names,
 ) -> Answer<'a> {
-    match name_at(source, image, &mut names.image) {
-        Some(image) => Answer::About {
-            word,
-            status,
-            image,
-            hash: None,
-        },
-        None => Answer::Stopped(Fault::Read),
+    let Some(length) = read_name(source, image, &mut names.image) else {
+        return answer_of_fault(Fault::Read, names);
+    };
+    let name = &names.image[..length];
+    match finding {
+        Finding::Weak(_) => Answer::Weak(name),
+        Finding::Overlapping(_) => Answer::Overlapping(name),
+        _ => Answer::Unhashed(name),
     }
 }
 
+// What is told of a hash node that is not right.
 fn about_hash<'a, S: Source>(
-    word: &'static str,
+    word: Verdict,
     source: &mut S,
     image: Span,
     hash: Span,
     names: &'a mut Names,
 ) -> Answer<'a> {
-    let Names {
-        image: image_bytes,
-        hash: hash_bytes,
-        ..
-    } = names;
-    let (Some(image), Some(hash)) = (
-        name_at(source, image, image_bytes),
-        name_at(source, hash, hash_bytes),
+    let (Some(length), Some(hash_length)) = (
+        read_name(source, image, &mut names.image),
+        read_name(source, hash, &mut names.hash),
     ) else {
-        return Answer::Stopped(Fault::Read);
+        return answer_of_fault(Fault::Read, names);
     };
-    Answer::About {
+    Answer::Wrong {
         word,
-        status: REFUSED,
-        image,
-        hash: Some(hash),
+        image: &names.image[..length],
+        hash: &names.hash[..hash_length],
     }
 }
 
-// The bytes of a name, if they can be read.
-fn name_at<'a, S: Source>(
-    source: &mut S,
-    name: Span,
-    bytes: &'a mut [u8; NAME_LEN],
-) -> Option<&'a [u8]> {
+// How many bytes of a name were read, if it could be.
+fn read_name<S: Source>(source: &mut S, name: Span, bytes: &mut [u8; NAME_LEN]) -> Option<usize>
+    ensures { IfSome result (λ length. length ≤ 255) }
+{
     let length = u64::min(name.length, NAME_LEN as u64) as usize;
     let size = source.size().ok()?;
     if name.place > size || size - name.place < length as u64 {
         return None;
     }
     source.fill_at(name.place, &mut bytes[..length]).ok()?;
-    Some(&bytes[..length])
+    Some(length)
 }

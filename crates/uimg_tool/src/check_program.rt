@@ -1,8 +1,6 @@
 //! The check of many images, with a line for each.
 
-use crate::check_answers::{Answer, Names, answer_of, answer_of_missing};
-use crate::check_json::json_text;
-use crate::check_lines::put_line;
+use crate::check_answers::{CHANGED, Names, UNREAD, answer_of, answer_of_fault, answer_of_missing};
 use crate::main_program::{DONE, FAILED, RequestFault, tell};
 use std::alloc::{AllocError, Global};
 use std::io::{BufRead, BufReader, BufWriter, ErrorKind, Write};
@@ -10,8 +8,9 @@ use std::os::unix::fs::FileTypeExt;
 use std::rt::Files;
 use std::{fs, io};
 use uimg_base::{FileSource, Room, Source};
+use uimg_checks::{Answer, line_text, object_text};
 use uimg_engine::{Checked, Fault, check};
-use uimg_fit_reading::{Finding, SurveyFault, survey};
+use uimg_fit_reading::{ConfigurationFacts, Finding, SurveyFault, survey};
 use uimg_references::{Missing, find_missing};
 use uimg_words::CheckRequest;
 
@@ -145,16 +144,17 @@ impl<'a, W: Write> Checks<'a, W> {
         let mut names = Names::new(rt.alloc());
         let answer = match str::from_utf8(path) {
             Ok(path) => self.answer(rt, request, path, &mut names),
-            Err(_) => Answer::Unread,
+            Err(_) => UNREAD,
         };
         self.greatest = u8::max(self.greatest, answer.status());
         if request.as_json {
-            let text = json_text(rt.alloc(), path, &answer)?;
+            let text = object_text(rt.alloc(), path, &answer)?;
             self.out.write_all(text.as_slice())?;
-            self.out.write_all(b"\n")?;
         } else {
-            put_line(path, &answer, &mut self.out)?;
+            let text = line_text(rt.alloc(), path, &answer)?;
+            self.out.write_all(text.as_bytes())?;
         }
+        self.out.write_all(b"\n")?;
         self.out.flush()?;
         Ok(())
     }
@@ -168,32 +168,46 @@ impl<'a, W: Write> Checks<'a, W> {
         names: &'n mut Names,
     ) -> Answer<'n> {
         if is_pipe(rt, path) {
-            return Answer::Unread;
+            return UNREAD;
         }
         let Ok(mut source) = FileSource::open(rt, path) else {
-            return Answer::Unread;
+            return UNREAD;
         };
         let end = check(request.need, &mut source, &mut self.room);
+        let mut unchecked = None;
         if request.is_strict && matches!(end, Ok(Checked::Fit(Finding::Right { .. }))) {
-            match missing_name(rt.alloc(), &mut source, &mut self.room) {
-                Ok(Some(missing)) => return answer_of_missing(missing, &mut source, names),
-                Ok(None) => {}
-                Err(SurveyFault::Stopped(fault)) => return Answer::Stopped(Fault::from(fault)),
-                Err(SurveyFault::OutOfMemory) => return Answer::Stopped(Fault::OutOfMemory),
+            match look_further(rt.alloc(), &mut source, &mut self.room) {
+                Ok((Some(missing), _)) => return answer_of_missing(missing, &mut source, names),
+                Ok((None, nodes)) => unchecked = Some(nodes as u64),
+                Err(SurveyFault::Stopped(fault)) => {
+                    return answer_of_fault(Fault::from(fault), names);
+                }
+                Err(SurveyFault::OutOfMemory) => return answer_of_fault(Fault::OutOfMemory, names),
+                Err(SurveyFault::Changed) => return CHANGED,
             }
         }
-        answer_of(end, &mut source, names)
+        answer_of(end, unchecked, &mut source, names)
     }
 }
 
-// The first name that a FIT image gives and does not have.
-fn missing_name<S: Source>(
+// The first name that a FIT image gives and does not have, and how many nodes its configurations have.
+fn look_further<S: Source>(
     alloc: Global,
     source: &mut S,
     room: &mut Room<Global>,
-) -> Result<Option<Missing>, SurveyFault> {
+) -> Result<(Option<Missing>, usize), SurveyFault> {
     let facts = survey(alloc, source, room)?;
-    find_missing(alloc, source, &facts)
+    let missing = find_missing(alloc, source, &facts)?;
+    Ok((missing, count_nodes(facts.configurations.as_slice())))
+}
+
+// How many nodes there are below some configurations.
+fn count_nodes(configurations: &[ConfigurationFacts]) -> usize {
+    let mut count: usize = 0;
+    for configuration in configurations {
+        count = count.saturating_add(configuration.nodes.len());
+    }
+    count
 }
 
 /// Whether a path leads to a pipe, whose open would wait for somebody who writes to it.

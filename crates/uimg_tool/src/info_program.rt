@@ -1,13 +1,13 @@
 //! The facts of an image, as a line of JSON.
 
-use crate::check_answers::Answer;
-use crate::check_json::json_text;
+use crate::check_answers::{CHANGED, Names, UNREAD, answer_of_fault};
 use crate::check_program::is_pipe;
 use crate::main_program::{DONE, FAILED, RequestFault, tell};
 use std::alloc::{AllocError, Global};
 use std::io::{ErrorKind, Write};
 use std::rt::Files;
 use uimg_base::{FileSource, Room, Source};
+use uimg_checks::object_text;
 use uimg_engine::{Fault, Format, is_fit};
 use uimg_fit_reading::SurveyFault;
 use uimg_info::{fit_text, legacy_text};
@@ -39,8 +39,14 @@ fn put_line<W: Write, V: Write>(line: &[u8], status: u8, out: &mut W, err: &mut 
 
 // Why there are no facts of an image.
 enum Stop {
-    // The image is refused, or cannot be read.
-    Told(Answer<'static>),
+    // The file cannot be opened.
+    Unread,
+
+    // The image is refused, or a read failed.
+    Refused(Fault),
+
+    // The file has another blob when it is read again.
+    Changed,
 
     // Memory ran out.
     NoMemory,
@@ -54,7 +60,7 @@ impl From<AllocError> for Stop {
 
 impl From<Fault> for Stop {
     fn from(fault: Fault) -> Stop {
-        Stop::Told(Answer::Stopped(fault))
+        Stop::Refused(fault)
     }
 }
 
@@ -63,6 +69,7 @@ impl From<SurveyFault> for Stop {
         match fault {
             SurveyFault::Stopped(fault) => Stop::from(Fault::from(fault)),
             SurveyFault::OutOfMemory => Stop::NoMemory,
+            SurveyFault::Changed => Stop::Changed,
         }
     }
 }
@@ -78,25 +85,29 @@ impl From<PartsFault> for Stop {
 
 // The line of an image and its status.
 fn line_of<R: Files + AllocGlobal>(rt: &R, path: &str) -> Result<(Vec<u8>, u8), AllocError> {
-    let (mut line, status) = match facts_of(rt, path) {
-        Ok(text) => (text, DONE),
+    let mut names = Names::new(rt.alloc());
+    let answer = match facts_of(rt, path) {
+        Ok(mut text) => {
+            text.push(b'\n')?;
+            return Ok((text, DONE));
+        }
         Err(Stop::NoMemory) => return Err(AllocError),
-        Err(Stop::Told(answer)) => (
-            json_text(rt.alloc(), path.as_bytes(), &answer)?,
-            answer.status(),
-        ),
+        Err(Stop::Unread) => UNREAD,
+        Err(Stop::Changed) => CHANGED,
+        Err(Stop::Refused(fault)) => answer_of_fault(fault, &mut names),
     };
-    line.push(b'\n')?;
-    Ok((line, status))
+    let mut text = object_text(rt.alloc(), path.as_bytes(), &answer)?;
+    text.push(b'\n')?;
+    Ok((text, answer.status()))
 }
 
 // The object of the facts of the image at a path.
 fn facts_of<R: Files + AllocGlobal>(rt: &R, path: &str) -> Result<Vec<u8>, Stop> {
     if is_pipe(rt, path) {
-        return Err(Stop::Told(Answer::Unread));
+        return Err(Stop::Unread);
     }
     let Ok(mut source) = FileSource::open(rt, path) else {
-        return Err(Stop::Told(Answer::Unread));
+        return Err(Stop::Unread);
     };
     let mut room = Room::new(rt.alloc());
     match is_fit(Format::Guess, &mut source) {

@@ -4,8 +4,6 @@
 mod auto_program;
 mod body_source;
 mod check_answers;
-mod check_json;
-mod check_lines;
 mod check_program;
 mod info_program;
 mod main_program;

@@ -6,9 +6,8 @@ use std::io::{BufWriter, Write};
 use std::rt::Files;
 use uimg_base::{FileSource, Source};
 use uimg_engine::{Fault, Format, is_fit};
-use uimg_unpacking::{
-    Ended, FileId, Folder, PartsEnded, Printed, Trouble, Unpacking, unpack, unpack_parts,
-};
+use uimg_printing::Printed;
+use uimg_unpacking::{Ended, FileId, Folder, PartsEnded, Trouble, Unpacking, unpack, unpack_parts};
 use uimg_words::UnpackRequest;
 
 /// Unpacks the image of a request, with a line for each payload or part on `out`. The first four bytes

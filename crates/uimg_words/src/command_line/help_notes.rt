@@ -72,7 +72,9 @@ pub(super) const CHECK_NOTES: &str = "Algorithms, from the weakest to the strong
   <algo>  crc32 md5 sha1 sha256 sha384 sha512
 
 A line for each image: its path, and what was found first.
-  ok           Each hash is right, or both checksums of a legacy image are
+  ok           Each hash is right, or both checksums of a legacy image are; with
+               --strict a FIT's line ends with how many nodes its configurations
+               have, if any: 2 nodes of configurations unchecked
   unhashed     The same, but this image of a FIT has no hash
   bad          This hash of an image is not right, or a checksum is not
   malformed    This hash of an image has no algorithm, or no value of its length
@@ -80,16 +82,19 @@ A line for each image: its path, and what was found first.
   weak         This image has no hash as strong as --need, or is a legacy image;
                --strict alone asks for any hash
   empty        There is no image in the FIT, where --need or --strict is given
-  missing      With --strict: this configuration, or the default, gives this name,
-               and no image, or no configuration, has it
+  missing      With --strict: this configuration gives this name, by kernel, ramdisk,
+               fdt, loadables, firmware, fpga, setup, standalone or script, and no
+               image has it; or the default, and no configuration has it
   overlapping  With this image there are more bytes to hash than the file has
   refused      The image is refused by this fault
   failed       The file cannot be opened, or a read or memory failed
 Control characters and \\ are written \\xNN in a name. The names of --files-from -
 are those of standard input. With --json a line is an object: path, status,
-verdict (the word), and what is known of format, images, hashes, checksums, algo,
-image, hash, configuration, property, name, fault, message and offset.
-Signatures and the hashes of configurations are not checked.
+verdict (the word), and what is known of format, images, hashes, unchecked,
+checksums, algo, image, hash, configuration, property, name, fault, message and
+offset.
+Signatures and the hashes of configurations are not checked; --strict counts those
+of configurations.
 
 Examples:
   uimg check --strict --need sha256 kernel.itb rescue.itb
@@ -167,10 +172,11 @@ Exit status:
 /// The notes of info.
 pub(super) const INFO_NOTES: &str =
     "One line is written, an object. Of a FIT image it has path, status, format, size,
-totalsize, description, timestamp, default, images and configurations; an image
-has name, description, type, arch, os, compression, load, entry, offset and
-data-size (where its payload stands), hashes, and where it has no payload in the
-file fault and message. Of a legacy image it has path, status, format, size, name,
+totalsize, description, timestamp, default, reservations, images and
+configurations; an image has name, description, type, arch, os, compression, load,
+entry, offset and data-size (where its payload stands), hashes, and where it has no
+payload in the file fault and message; a configuration what its properties name,
+nodes and properties. Of a legacy image it has path, status, format, size, name,
 time, load, entry, header-crc, data-crc, os, arch, type and compression, each with
 its code, data-size and parts. What is missing in the image is left out. An image
 that is refused, or cannot be read, has the line that check --json has of it.
