@@ -9,6 +9,7 @@ pub mod Results
 pub mod Named
 pub mod Writing
 pub mod Using
+pub mod Lent
 pub mod Streams
 pub mod Ahead
 pub mod Shelves
