@@ -21,13 +21,13 @@ use Rattle.uimg_legacy.specs.Words.{words}
 use Rattle.uimg_legacy.specs.Image.{payload}
 use Rattle.uimg_legacy.specs.Parts.{has_parts, sizes, part_sizes}
 use Rattle.uimg_legacy.specs.Unpacking.{Part, part_if, is_asked, is_there, chosen, parts_by, parts_in}
-use Rattle.uimg_legacy.specs.UnpackingSteps.{SumsPiece, TakesPart, Walked, RefusesBy, HoldsParts, IsWrong, TakesData}
+use Rattle.uimg_legacy.specs.UnpackingSteps.{SumsPieceBetween, TakesPartBetween, Walked, RefusesBy, HoldsParts, IsWrong, TakesDataBetween}
 use Rattle.uimg_legacy.proofs.PartsLaws.{length-sizes, length-words, words-at, slice-slice}
 use Rattle.uimg_legacy.proofs.TakingLaws.{word_at}
 use Rattle.uimg_legacy.proofs.CuttingLaws.{words_then, count_words, cut_longer}
 
 -- whether the sum is right, by cases
-pub taken_by : (only : Option ℕ) (honest : Bool) (h : Header) (d : Device) (from to : List Part) (b : Bool) → (b ≡ true → HoldsParts only honest h d from to) → (b ≡ false → IsTrue d.honest → IsWrong only h d.bytes) → TakesData only honest h d (Ok b) from to
+pub taken_by : (only : Option ℕ) (honest : Bool) (h : Header) (d : Device) (from to : List Part) (b : Bool) → (b ≡ true → HoldsParts only honest h d from to) → (b ≡ false → IsTrue d.honest → IsWrong only h d.bytes) → TakesDataBetween only honest h d (Ok b) from to
 taken_by only honest h d from to true right wrong = right refl
 taken_by only honest h d from to false right wrong = wrong refl
 
@@ -37,7 +37,7 @@ asked_first None e = refl
 asked_first (Some n) e = eq-eqb n 0 (omega (arith, ltb-true n 1 e))
 
 -- data of a type without parts
-pub whole_data : (only : Option ℕ) (honest : Bool) (h : Header) (d : Device) (from mid to : List Part) (a sum : Crc) (v : ℕ) → has_parts h.kind ≡ false → is_there only 1 ≡ true → Holds a [] → TakesPart true honest 0 d 64 h.size a sum mid to → (IsTrue honest → mid ≡ from) → ((fed : List ℕ) → Holds sum fed → v ≡ crc fed) → TakesData only honest h d (Ok (v == h.dcrc)) from to
+pub whole_data : (only : Option ℕ) (honest : Bool) (h : Header) (d : Device) (from mid to : List Part) (a sum : Crc) (v : ℕ) → has_parts h.kind ≡ false → is_there only 1 ≡ true → Holds a [] → TakesPartBetween true honest 0 d 64 h.size a sum mid to → (IsTrue honest → mid ≡ from) → ((fed : List ℕ) → Holds sum fed → v ≡ crc fed) → TakesDataBetween only honest h d (Ok (v == h.dcrc)) from to
 unfolding chosen
 whole_data only honest h d from mid to a sum v kind there begun p before value =
     let piece = p.sums.piece in
@@ -167,7 +167,7 @@ is_true true e = refl
 is_true false e = absurd (true≢false (sym e))
 
 -- data of a type with parts
-pub listed_data : (only : Option ℕ) (honest : Bool) (h : Header) (n : ℕ) (d e f : Device) (w m : Walk) (from mid to : List Part) (a b z last : Crc) (same : Bool) (v : ℕ) → has_parts h.kind ≡ true → is_there only n ≡ true → 64 + h.size ≤ length d.bytes → 4 * (n + 1) ≤ h.size → SameDevice d e → SameDevice d f → Holds a [] → SumsPiece d 64 (4 * (n + 1)) a w.sum → b ≡ w.sum → w.at ≡ 4 * (n + 1) → Holds w.sizes [] → Walked only honest n h.size e w m mid to → (IsTrue honest → mid ≡ from) → SumsPiece f (64 + m.at) (h.size - m.at) m.sum last → ((fed : List ℕ) → Holds m.sizes fed → Holds z (fed ++ zeros)) → (IsTrue same → (fed : List ℕ) → Holds z fed → Holds b fed) → ((fed : List ℕ) → Holds b fed → Holds z fed → same ≡ true) → ((fed : List ℕ) → Holds last fed → v ≡ crc fed) → (IsTrue d.honest → n ≡ length (sizes (payload d.bytes h))) → TakesData only honest h d (Ok (same && (v == h.dcrc))) from to
+pub listed_data : (only : Option ℕ) (honest : Bool) (h : Header) (n : ℕ) (d e f : Device) (w m : Walk) (from mid to : List Part) (a b z last : Crc) (same : Bool) (v : ℕ) → has_parts h.kind ≡ true → is_there only n ≡ true → 64 + h.size ≤ length d.bytes → 4 * (n + 1) ≤ h.size → SameDevice d e → SameDevice d f → Holds a [] → SumsPieceBetween d 64 (4 * (n + 1)) a w.sum → b ≡ w.sum → w.at ≡ 4 * (n + 1) → Holds w.sizes [] → Walked only honest n h.size e w m mid to → (IsTrue honest → mid ≡ from) → SumsPieceBetween f (64 + m.at) (h.size - m.at) m.sum last → ((fed : List ℕ) → Holds m.sizes fed → Holds z (fed ++ zeros)) → (IsTrue same → (fed : List ℕ) → Holds z fed → Holds b fed) → ((fed : List ℕ) → Holds b fed → Holds z fed → same ≡ true) → ((fed : List ℕ) → Holds last fed → v ≡ crc fed) → (IsTrue d.honest → n ≡ length (sizes (payload d.bytes h))) → TakesDataBetween only honest h d (Ok (same && (v == h.dcrc))) from to
 listed_data only honest h n d e f w m from mid to a b z last same v kind there inside fits de df begun first copied start fresh p before q ended other equal value counts =
     let bytes = all_of p.table p.bytes q.piece in
     let place : m.at ≡ 4 * (n + 1) + length p.bytes = omega (arith, p.place, start) in
@@ -219,7 +219,7 @@ behind_table image size n fits =
     let whole : from + (size - from) ≡ size = omega (arith, fits) in
     sym (ap (λ (k : ℕ). drop from (take k (drop 64 image))) whole) ∙ drop-take from (size - from) (drop 64 image) ∙ ap (λ (xs : List ℕ). take (size - from) xs) (drop-drop from 64 image)
 
-by_told : (only : Option ℕ) (honest : Bool) (h : Header) (d : Device) (from to : List Part) (fault : Fault) (told : Result (List (List ℕ)) LegacyFault) → (IsTrue d.honest → RefusesBy {X = Bool} told (Err fault)) → (IsTrue d.honest → parts_in only (has_parts h.kind) (payload d.bytes h) ≡ told) → TakesData only honest h d (Err fault) from to
+by_told : (only : Option ℕ) (honest : Bool) (h : Header) (d : Device) (from to : List Part) (fault : Fault) (told : Result (List (List ℕ)) LegacyFault) → (IsTrue d.honest → RefusesBy {X = Bool} told (Err fault)) → (IsTrue d.honest → parts_in only (has_parts h.kind) (payload d.bytes h) ≡ told) → TakesDataBetween only honest h d (Err fault) from to
 by_told only honest h d from to (Legacy fault) told refused same = λ true_one. same true_one ∙ refused true_one
 by_told only honest h d from to Read told refused same = tt
 by_told only honest h d from to Put told refused same = tt
@@ -230,10 +230,10 @@ told_as X told Read e = tt
 told_as X told Put e = tt
 
 -- data of a type with parts of which one is refused
-pub listed_fault : {X : Type 0} (made : Result X Fault) (only : Option ℕ) (honest : Bool) (h : Header) (n : ℕ) (d e : Device) (at : ℕ) (from to : List Part) (r : Result Bool Fault) (fault : Fault) → r ≡ Err fault → has_parts h.kind ≡ true → is_there only n ≡ true → 64 + h.size ≤ length d.bytes → 4 * (n + 1) ≤ h.size → at ≡ 4 * (n + 1) → SameDevice d e → (IsTrue d.honest → (part_sizes (payload d.bytes h) ≡ Ok (sizes (payload d.bytes h))) × (n ≡ length (sizes (payload d.bytes h)))) → (IsTrue e.honest → n ≡ length (sizes (slice e.bytes 64 h.size)) → RefusesBy {X = X} (parts_by (sizes (slice e.bytes 64 h.size)) (slice e.bytes (64 + at) (h.size - at))) (Err fault)) → TakesData only honest h d r from to
+pub listed_fault : {X : Type 0} (made : Result X Fault) (only : Option ℕ) (honest : Bool) (h : Header) (n : ℕ) (d e : Device) (at : ℕ) (from to : List Part) (r : Result Bool Fault) (fault : Fault) → r ≡ Err fault → has_parts h.kind ≡ true → is_there only n ≡ true → 64 + h.size ≤ length d.bytes → 4 * (n + 1) ≤ h.size → at ≡ 4 * (n + 1) → SameDevice d e → (IsTrue d.honest → (part_sizes (payload d.bytes h) ≡ Ok (sizes (payload d.bytes h))) × (n ≡ length (sizes (payload d.bytes h)))) → (IsTrue e.honest → n ≡ length (sizes (slice e.bytes 64 h.size)) → RefusesBy {X = X} (parts_by (sizes (slice e.bytes 64 h.size)) (slice e.bytes (64 + at) (h.size - at))) (Err fault)) → TakesDataBetween only honest h d r from to
 listed_fault {X} made only honest h n d e at from to r fault is kind there inside fits start same counts refused =
     let file = payload d.bytes h in
-    subst (λ (x : Result Bool Fault). TakesData only honest h d x from to) (sym is)
+    subst (λ (x : Result Bool Fault). TakesDataBetween only honest h d x from to) (sym is)
     (by_told only honest h d from to fault (parts_by (sizes file) (slice d.bytes (64 + at) (h.size - at)))
     (λ true_one.
     let at_e = subst (λ (x : Bool). IsTrue x) (sym same.honest) true_one in

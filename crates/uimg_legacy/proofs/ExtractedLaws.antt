@@ -19,7 +19,7 @@ use Rattle.uimg_legacy.specs.Header.{header}
 use Rattle.uimg_legacy.specs.Image.{payload, has_right_data, legacy}
 use Rattle.uimg_legacy.specs.Parts.{has_parts, sizes, part_sizes, start, is_outside}
 use Rattle.uimg_legacy.specs.Extraction.{listed_part, single, part_of_data, extract_of}
-use Rattle.uimg_legacy.specs.Unpacking.{Part, parts_by, parts_in, part_if, is_asked, is_there, chosen, kept_if, data_there, unpacked, unpack_of, Unpacks, Extracts}
+use Rattle.uimg_legacy.specs.Unpacking.{Part, parts_by, parts_in, part_if, is_asked, is_there, chosen, kept_if, data_there, unpacked, unpack_of, UnpacksBetween, ExtractsBetween}
 use Rattle.uimg_legacy.proofs.PartsLaws.{sizes-at, sizes_end}
 use Rattle.uimg_legacy.proofs.ChunkLaws.{sizes-le-words}
 use Rattle.uimg_legacy.proofs.CuttingLaws.{cut_first, positive}
@@ -158,7 +158,7 @@ are_extracted only image parts e =
     ∙ one_extracted image h.0 i (get_or ps.0 i []) h.1 there.0 right (each_in only (has_parts h.0.kind) (payload image h.0) ps.0 i cut inside)))
 
 -- and of an answer
-pub extracts : (only : Option ℕ) (image : List ℕ) (r : Result Bool Fault) (old new : List Part) → Unpacks r (unpack_of only image) old new → Extracts image r old new
+pub extracts : (only : Option ℕ) (image : List ℕ) (r : Result Bool Fault) (old new : List Part) → UnpacksBetween r (unpack_of only image) old new → ExtractsBetween image r old new
 extracts only image (Ok true) old new k = record { parts = k.parts; kept = k.kept; each = are_extracted only image k.parts k.is }
 extracts only image (Ok false) old new k = tt
 extracts only image (Err fault) old new k = tt

@@ -9,9 +9,9 @@ use Rattle.uimg_base.specs.Device.{Device, SameDevice}
 use Rattle.uimg_base.specs.Sink.{Sink}
 use Rattle.uimg_base.proofs.SinkLaws.{all_then}
 use Rattle.uimg_base.proofs.Slices.{slice-add}
-use Rattle.uimg_legacy.specs.UnpackingSteps.{SumsPiece, TakesPiece}
+use Rattle.uimg_legacy.specs.UnpackingSteps.{SumsPieceBetween, TakesPieceBetween}
 
-pub nothing_summed : (d : Device) (at : ℕ) (sum : Crc) → SumsPiece d at 0 sum sum
+pub nothing_summed : (d : Device) (at : ℕ) (sum : Crc) → SumsPieceBetween d at 0 sum sum
 nothing_summed d at sum = record {
   piece = [];
   size = refl;
@@ -19,7 +19,7 @@ nothing_summed d at sum = record {
   right = λ honest. refl;
 }
 
-pub more_summed : (d e : Device) (at n k : ℕ) (a b c : Crc) → SameDevice d e → SumsPiece d at n a b → SumsPiece e (at + n) k b c → SumsPiece d at (n + k) a c
+pub more_summed : (d e : Device) (at n k : ℕ) (a b c : Crc) → SameDevice d e → SumsPieceBetween d at n a b → SumsPieceBetween e (at + n) k b c → SumsPieceBetween d at (n + k) a c
 more_summed d e at n k a b c same p q = record {
   piece = p.piece ++ q.piece;
   size = length-append p.piece q.piece ∙ omega (arith, p.size, q.size);
@@ -30,11 +30,11 @@ more_summed d e at n k a b c same p q = record {
       ap (λ (xs : List ℕ). xs ++ q.piece) (p.right honest) ∙ ap (λ (xs : List ℕ). slice d.bytes at n ++ xs) next ∙ sym (slice-add d.bytes at n k);
 }
 
-pub nothing_taken : (d : Device) (at : ℕ) (sum : Crc) (s : Sink) → TakesPiece d at 0 sum sum s s
+pub nothing_taken : (d : Device) (at : ℕ) (sum : Crc) (s : Sink) → TakesPieceBetween d at 0 sum sum s s
 unfolding nothing_summed
 nothing_taken d at sum s = record { sums = nothing_summed d at sum; wrote = record { appended = Appends-nil s.contents } }
 
-pub more_taken : (d e : Device) (at n k : ℕ) (a b c : Crc) (s m t : Sink) → SameDevice d e → TakesPiece d at n a b s m → TakesPiece e (at + n) k b c m t → TakesPiece d at (n + k) a c s t
+pub more_taken : (d e : Device) (at n k : ℕ) (a b c : Crc) (s m t : Sink) → SameDevice d e → TakesPieceBetween d at n a b s m → TakesPieceBetween e (at + n) k b c m t → TakesPieceBetween d at (n + k) a c s t
 unfolding more_summed
 more_taken d e at n k a b c s m t same p q = record {
   sums = more_summed d e at n k a b c same p.sums q.sums;

@@ -10,7 +10,7 @@ use Rattle.uimg_texts.specs.Numbers.{be32}
 use Rattle.uimg_base.specs.Device.{Device, SameDevice}
 use Rattle.uimg_base.proofs.Slices.{slice-add}
 use Rattle.uimg_legacy.specs.Unpacking.{Part, part_if}
-use Rattle.uimg_legacy.specs.UnpackingSteps.{SumsPiece, TakesPart, TakesPadded}
+use Rattle.uimg_legacy.specs.UnpackingSteps.{SumsPieceBetween, TakesPartBetween, TakesPaddedBetween}
 
 -- the word at a place
 pub word_at : (bytes word : List ℕ) (at : ℕ) → word ≡ slice bytes at 4 → be32 word 0 ≡ be32 bytes at
@@ -18,7 +18,7 @@ unfolding be32
 word_at bytes word at e = ap (λ (xs : List ℕ). from_be_bytes w32 (take 4 xs)) e ∙ ap (λ (xs : List ℕ). from_be_bytes w32 xs) (take-take 4 4 (drop at bytes) (omega arith))
 
 -- the same piece, of the device as it was before, by other names of its places
-pub padded_as : (asked wanted honest : Bool) (number : ℕ) (d e : Device) (at len size all whole : ℕ) (a b : Crc) (from to : List Part) → SameDevice d e → asked ≡ wanted → len ≡ size → all ≡ whole → TakesPadded asked honest number e at len all a b from to → TakesPadded wanted honest number d at size whole a b from to
+pub padded_as : (asked wanted honest : Bool) (number : ℕ) (d e : Device) (at len size all whole : ℕ) (a b : Crc) (from to : List Part) → SameDevice d e → asked ≡ wanted → len ≡ size → all ≡ whole → TakesPaddedBetween asked honest number e at len all a b from to → TakesPaddedBetween wanted honest number d at size whole a b from to
 padded_as asked wanted honest number d e at len size all whole a b from to same ask sized summed p = record {
   sums = record {
     piece = p.sums.piece;
@@ -44,7 +44,7 @@ pub first_of : (xs ys : List ℕ) (n : ℕ) → length xs ≡ n → take n (xs +
 first_of xs ys n e = take-append-le n xs ys (omega (arith, e)) ∙ take_all n xs (omega (arith, e))
 
 -- a part, and the bytes behind it
-pub padded : (asked honest : Bool) (number : ℕ) (d e : Device) (at len all : ℕ) (a b c : Crc) (from to : List Part) → SameDevice d e → len ≤ all → TakesPart asked honest number d at len a b from to → SumsPiece e (at + len) (all - len) b c → TakesPadded asked honest number d at len all a c from to
+pub padded : (asked honest : Bool) (number : ℕ) (d e : Device) (at len all : ℕ) (a b c : Crc) (from to : List Part) → SameDevice d e → len ≤ all → TakesPartBetween asked honest number d at len a b from to → SumsPieceBetween e (at + len) (all - len) b c → TakesPaddedBetween asked honest number d at len all a c from to
 padded asked honest number d e at len all a b c from to same h p q =
     let whole : len + (all - len) ≡ all = omega arith in
     record {

@@ -13,8 +13,8 @@ use Rattle.uimg_legacy.specs.Header.{header, spelled, spelled_with}
 use Rattle.uimg_legacy.specs.Image.{payload}
 use Rattle.uimg_legacy.specs.Parts.{has_parts}
 use Rattle.uimg_legacy.specs.Work.{data_read, sizes_read_with}
-use Rattle.uimg_legacy.specs.Unpacking.{Part, chosen, parts_in, data_there, unpacked, unpack_of, AreRight, Unpacks, KeepsRight}
-use Rattle.uimg_legacy.specs.UnpackingSteps.{TakesData, Settles, unpack_work}
+use Rattle.uimg_legacy.specs.Unpacking.{Part, chosen, parts_in, data_there, unpacked, unpack_of, AreRight, UnpacksBetween, KeepsRightBetween}
+use Rattle.uimg_legacy.specs.UnpackingSteps.{TakesDataBetween, SettlesBetween, unpack_work}
 use Rattle.uimg_legacy.proofs.HeaderLaws.{fields-spelled, header-spelled, length-spelled}
 use Rattle.uimg_legacy.proofs.ReadsBackLaw.{head-append, header_from}
 
@@ -59,7 +59,7 @@ image_of only h bytes parts is long sum cut =
     (read, unpack_known only (spelled h ++ bytes) h read (omega (arith, all, is.long, long)) ∙ ap (λ (xs : List ℕ). unpacked only h xs) body ∙ right_data only h bytes parts sum cut)
 
 -- what is held is right
-pub are_right : (only : Option ℕ) (honest : Bool) (h : Header) (d : Device) (right : Bool) (from to : List Part) → IsSpelled h → IsTrue honest → from ≡ [] → TakesData only honest h d (Ok right) from to → IsTrue right → AreRight h.dcrc to
+pub are_right : (only : Option ℕ) (honest : Bool) (h : Header) (d : Device) (right : Bool) (from to : List Part) → IsSpelled h → IsTrue honest → from ≡ [] → TakesDataBetween only honest h d (Ok right) from to → IsTrue right → AreRight h.dcrc to
 are_right only honest h d true from to is known none p yes_right =
     let image = image_of only h p.bytes p.parts is p.long p.sum p.cut in
     record {
@@ -73,24 +73,24 @@ are_right only honest h d true from to is known none p yes_right =
 are_right only honest h d false from to is known none p yes_right = absurd (true≢false (sym yes_right))
 
 -- what is kept, of any device
-pub keeps_right : {E : Type 0} (made : Result Bool E) (only : Option ℕ) (honest : Bool) (h : Header) (d : Device) (right kept : Bool) (from to old mid new : List Part) → IsSpelled h → IsTrue honest → from ≡ [] → TakesData only honest h d (Ok right) from to → mid ≡ old → Settles {E = E} right (Ok kept) to mid new → KeepsRight only (Ok kept) old new
+pub keeps_right : {E : Type 0} (made : Result Bool E) (only : Option ℕ) (honest : Bool) (h : Header) (d : Device) (right kept : Bool) (from to old mid new : List Part) → IsSpelled h → IsTrue honest → from ≡ [] → TakesDataBetween only honest h d (Ok right) from to → mid ≡ old → SettlesBetween {E = E} right (Ok kept) to mid new → KeepsRightBetween only (Ok kept) old new
 keeps_right made only honest h d true kept from to old mid new is known none p before s =
     let image = image_of only h p.bytes p.parts is p.long p.sum p.cut in
     let held : to ≡ chosen only 0 p.parts = p.held known ∙ ap (λ (ps : List Part). ps ++ chosen only 0 p.parts) none in
-    subst (λ (b : Bool). KeepsRight only (Ok b) old new) (sym s.0) (record {
+    subst (λ (b : Bool). KeepsRightBetween only (Ok b) old new) (sym s.0) (record {
       image = spelled h ++ p.bytes;
       keeps = record { parts = chosen only 0 p.parts; is = image.1; kept = s.1 ∙ ap (λ (ps : List Part). ps ++ to) before ∙ ap (λ (ps : List Part). old ++ ps) held };
     })
 keeps_right made only honest h d false kept from to old mid new is known none p before s =
-    subst (λ (b : Bool). KeepsRight only (Ok b) old new) (sym s.0) (s.1 ∙ before)
+    subst (λ (b : Bool). KeepsRightBetween only (Ok b) old new) (sym s.0) (s.1 ∙ before)
 
 -- what is told of an honest device
-pub unpacks : {E : Type 0} (made : Result Bool E) (only : Option ℕ) (honest : Bool) (h : Header) (d e : Device) (right kept : Bool) (from to old mid new : List Part) → SameDevice d e → IsTrue d.honest → header d.bytes ≡ Ok h → 64 + h.size ≤ length d.bytes → IsTrue honest → from ≡ [] → TakesData only honest h e (Ok right) from to → mid ≡ old → Settles {E = E} right (Ok kept) to mid new → Unpacks (Ok kept) (unpack_of only d.bytes) old new
+pub unpacks : {E : Type 0} (made : Result Bool E) (only : Option ℕ) (honest : Bool) (h : Header) (d e : Device) (right kept : Bool) (from to old mid new : List Part) → SameDevice d e → IsTrue d.honest → header d.bytes ≡ Ok h → 64 + h.size ≤ length d.bytes → IsTrue honest → from ≡ [] → TakesDataBetween only honest h e (Ok right) from to → mid ≡ old → SettlesBetween {E = E} right (Ok kept) to mid new → UnpacksBetween (Ok kept) (unpack_of only d.bytes) old new
 unpacks made only honest h d e true kept from to old mid new same true_one read inside known none p before s =
     let at_e = subst (λ (b : Bool). IsTrue b) (sym same.honest) true_one in
     let body : p.bytes ≡ payload d.bytes h = p.right at_e ∙ ap (λ (xs : List ℕ). payload xs h) same.bytes in
     let held : to ≡ chosen only 0 p.parts = p.held known ∙ ap (λ (ps : List Part). ps ++ chosen only 0 p.parts) none in
-    subst (λ (b : Bool). Unpacks (Ok b) (unpack_of only d.bytes) old new) (sym s.0) (record {
+    subst (λ (b : Bool). UnpacksBetween (Ok b) (unpack_of only d.bytes) old new) (sym s.0) (record {
       parts = chosen only 0 p.parts;
       is = unpack_known only d.bytes h read inside ∙ ap (λ (xs : List ℕ). unpacked only h xs) (sym body) ∙ right_data only h p.bytes p.parts p.sum p.cut;
       kept = s.1 ∙ ap (λ (ps : List Part). ps ++ to) before ∙ ap (λ (ps : List Part). old ++ ps) held;
@@ -99,20 +99,20 @@ unpacks made only honest h d e false kept from to old mid new same true_one read
     let at_e = subst (λ (b : Bool). IsTrue b) (sym same.honest) true_one in
     let w = p at_e in
     let told : unpacked only h (payload e.bytes h) ≡ Ok None = rw (w.cut, w.wrong) refl in
-    subst (λ (b : Bool). Unpacks (Ok b) (unpack_of only d.bytes) old new) (sym s.0)
+    subst (λ (b : Bool). UnpacksBetween (Ok b) (unpack_of only d.bytes) old new) (sym s.0)
     (unpack_known only d.bytes h read inside ∙ ap (λ (xs : List ℕ). unpacked only h (payload xs h)) (sym same.bytes) ∙ told, s.1 ∙ before)
 
 -- what is told where data are refused
 refused_data : (only : Option ℕ) (h : Header) (bytes : List ℕ) (fault : LegacyFault) → parts_in only (has_parts h.kind) bytes ≡ Err fault → unpacked only h bytes ≡ Err fault
 refused_data only h bytes fault e = rw e refl
 
-pub stops : (only : Option ℕ) (honest : Bool) (h : Header) (d e : Device) (r : Result Bool Fault) (fault : Fault) (from to old new : List Part) → r ≡ Err fault → SameDevice d e → IsTrue d.honest → header d.bytes ≡ Ok h → 64 + h.size ≤ length d.bytes → TakesData only honest h e (Err fault) from to → new ≡ old → Unpacks r (unpack_of only d.bytes) old new
+pub stops : (only : Option ℕ) (honest : Bool) (h : Header) (d e : Device) (r : Result Bool Fault) (fault : Fault) (from to old new : List Part) → r ≡ Err fault → SameDevice d e → IsTrue d.honest → header d.bytes ≡ Ok h → 64 + h.size ≤ length d.bytes → TakesDataBetween only honest h e (Err fault) from to → new ≡ old → UnpacksBetween r (unpack_of only d.bytes) old new
 stops only honest h d e r (Legacy fault) from to old new is same true_one read inside p kept =
     let at_e = subst (λ (b : Bool). IsTrue b) (sym same.honest) true_one in
-    subst (λ (x : Result Bool Fault). Unpacks x (unpack_of only d.bytes) old new) (sym is)
+    subst (λ (x : Result Bool Fault). UnpacksBetween x (unpack_of only d.bytes) old new) (sym is)
     (unpack_known only d.bytes h read inside ∙ ap (λ (xs : List ℕ). unpacked only h (payload xs h)) (sym same.bytes) ∙ refused_data only h (payload e.bytes h) fault (p at_e), kept)
-stops only honest h d e r Read from to old new is same true_one read inside p kept = subst (λ (x : Result Bool Fault). Unpacks x (unpack_of only d.bytes) old new) (sym is) kept
-stops only honest h d e r Put from to old new is same true_one read inside p kept = subst (λ (x : Result Bool Fault). Unpacks x (unpack_of only d.bytes) old new) (sym is) kept
+stops only honest h d e r Read from to old new is same true_one read inside p kept = subst (λ (x : Result Bool Fault). UnpacksBetween x (unpack_of only d.bytes) old new) (sym is) kept
+stops only honest h d e r Put from to old new is same true_one read inside p kept = subst (λ (x : Result Bool Fault). UnpacksBetween x (unpack_of only d.bytes) old new) (sym is) kept
 
 -- the most that is asked for
 pub work_known : (d e : Device) (h : Header) → SameDevice d e → header d.bytes ≡ Ok h → 64 + h.size ≤ length d.bytes → unpack_work d.bytes ≡ 64 + (h.size + 8 * (sizes_read_with (has_parts h.kind) (payload e.bytes h) + 1))

@@ -17,7 +17,7 @@ use Rattle.uimg_legacy.specs.declared.fault.Fault.TheVariants.{Legacy, Read, Put
 use Rattle.uimg_legacy.specs.Words.{words}
 use Rattle.uimg_legacy.specs.Parts.{sizes}
 use Rattle.uimg_legacy.specs.Unpacking.{Part, part_if, is_asked, chosen, parts_by}
-use Rattle.uimg_legacy.specs.UnpackingSteps.{TakesNext, Walked, RefusesNext, RefusesBy}
+use Rattle.uimg_legacy.specs.UnpackingSteps.{TakesNextBetween, Walked, RefusesNext, RefusesBy}
 use Rattle.uimg_legacy.proofs.PartsLaws.{slice-slice, length-sizes, table_words, sizes-at, sizes_end}
 use Rattle.uimg_legacy.proofs.ChunkLaws.{words-slice, sizes-le-words}
 use Rattle.uimg_legacy.proofs.CuttingLaws.{cut_none, cut_more, cut_outside, chosen_none, chosen_more, words_then, word_of, some_more, positive}
@@ -43,7 +43,7 @@ walked_none only honest size d w from inside = record {
 }
 
 -- and one more
-pub walked_more : (only : Option ℕ) (honest : Bool) (n size : ℕ) (d e : Device) (w m x : Walk) (from mid to : List Part) → SameDevice d e → Walked only honest n size d w m from mid → TakesNext only honest n size e m x mid to → Walked only honest (n + 1) size d w x from to
+pub walked_more : (only : Option ℕ) (honest : Bool) (n size : ℕ) (d e : Device) (w m x : Walk) (from mid to : List Part) → SameDevice d e → Walked only honest n size d w m from mid → TakesNextBetween only honest n size e m x mid to → Walked only honest (n + 1) size d w x from to
 walked_more only honest n size d e w m x from mid to same p q =
     let s = be32 q.word 0 in
     let piece = q.taken.sums.piece in

@@ -1,11 +1,12 @@
 -- What the steps of building an image answer.
 use Rattle.std.specs.Prelude.{◌≡◌, ℕ, ⊤, List, length, Result, Ok, Err}
 use Rattle.uimg_legacy.specs.declared.header.Header.{Header}
+use Rattle.uimg_legacy.specs.declared.options.Options.{Options}
 use Rattle.uimg_legacy.specs.declared.fault.Fault.{Fault}
 use Rattle.uimg_legacy.specs.declared.fault.Fault.TheVariants.{Legacy}
 use Rattle.uimg_legacy.specs.Header.{header, spelled}
 use Rattle.uimg_legacy.specs.Parts.{has_parts}
-use Rattle.uimg_legacy.specs.Building.{data_of, data_to_build}
+use Rattle.uimg_legacy.specs.Building.{data_of, data_for, data_to_build, header_for}
 
 -- An answer is the size of the data, or the fault of parts that are refused, unless a device failed.
 abbrev pub Measures : ℕ → List (List ℕ) → Result ℕ Fault → Type 0
@@ -17,3 +18,7 @@ Measures kind parts (Err _) = ⊤
 pub record IsHead (bytes : List ℕ) (h : Header) : Type 0 where
   pub spelled : bytes ≡ spelled h
   pub read : header bytes ≡ Ok h
+
+-- these are the bytes of the header of the data that are built from parts
+abbrev pub IsHeadFor : Options → List (List ℕ) → List ℕ → Type 0
+IsHeadFor options parts bytes = IsHead bytes (header_for options (data_for options.kind parts))

@@ -1,5 +1,5 @@
 -- What the answers of this crate say.
-use Rattle.std.specs.Prelude.{◌≡◌, Result, Ok, Err, Option, Some, None, ⊤, Bool, true, false}
+use Rattle.std.specs.Prelude.{◌≡◌, ℕ, List, Result, Ok, Err, Option, Some, None, ⊤, Bool, true, false}
 use Rattle.uimg_base.specs.Outcome.{End, done, not_right, refused}
 use Rattle.uimg_base.specs.declared.status.Status.{Status}
 use Rattle.uimg_base.specs.declared.status.Status.TheVariants.{Done, NotRight}
@@ -54,6 +54,10 @@ abbrev pub Gives : {X Y : Type 0} → (X → Y) → Result X Fault → Result Y 
 Gives view (Ok x) r = r ≡ Ok (view x)
 Gives view (Err (Legacy fault)) r = r ≡ Err fault
 Gives view (Err _) r = ⊤
+
+-- the same of what a definition finds in the bytes of an image
+abbrev pub GivesBy : {X : Type 0} → (List ℕ → Result X LegacyFault) → List ℕ → Result X Fault → Type 0
+GivesBy definition image result = Gives (λ x. x) result (definition image)
 
 -- a failed copy is a failed read or a failed write
 abbrev pub fault_of : MoveFault → Fault

@@ -9,6 +9,7 @@ pub mod Work
 pub mod Listing
 pub mod Faults
 pub mod Reading
+pub mod Commands
 pub mod Counting
 pub mod Checking
 pub mod Devices
@@ -16,6 +17,7 @@ pub mod PartSteps
 pub mod Building
 pub mod BuildingSteps
 pub mod ReadsBack
+pub mod Builds
 pub mod Unpacking
 pub mod UnpackingSteps
 pub mod MemParts

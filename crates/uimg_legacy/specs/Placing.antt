@@ -1,5 +1,8 @@
 -- Where all parts of an image stand in its file.
-use Rattle.std.specs.Prelude.{◌≡◌, ℕ, zero, suc, ◌+◌, ⊤, List, [], ◌∷◌, ◌++◌, length, slice_index, nat_lt, if◌then◌else◌, Result, Ok, Err, Bool, true, false}
+use Rattle.std.specs.Prelude.{◌≡◌, ℕ, zero, suc, ◌+◌, ⊤, List, [], ◌∷◌, ◌++◌, length, slice_index, nat_lt, if◌then◌else◌, Result, Ok, Err, Bool, true, false, IsTrue}
+use Rattle.uimg_texts.specs.Slices.{slice}
+use Rattle.uimg_base.specs.Lent.{Lent}
+use Rattle.uimg_base.specs.Device.{Device}
 use Rattle.uimg_base.specs.Results.{◌>>=◌}
 use Rattle.uimg_base.specs.declared.spans.Span.{Span}
 use Rattle.uimg_legacy.specs.declared.fault.LegacyFault.{LegacyFault}
@@ -9,7 +12,7 @@ use Rattle.uimg_legacy.specs.declared.header.Header.{Header}
 use Rattle.uimg_legacy.specs.declared.placing.PartsFault.{PartsFault}
 use Rattle.uimg_legacy.specs.declared.placing.PartsFault.TheVariants.{Stopped, OutOfMemory}
 use Rattle.uimg_legacy.specs.Image.{payload}
-use Rattle.uimg_legacy.specs.Parts.{has_parts, part_sizes, start, is_outside}
+use Rattle.uimg_legacy.specs.Parts.{has_parts, sizes, part_sizes, start, is_outside}
 
 -- the place of the part of a number: its start, counted from the file's beginning
 abbrev pub place_of : List ℕ → ℕ → Span
@@ -53,3 +56,10 @@ GivesPlaces view (Err (Stopped (of.Legacy fault))) r = r ≡ Err fault
 GivesPlaces view (Err (Stopped of.Read)) r = ⊤
 GivesPlaces view (Err (Stopped of.Put)) r = ⊥
 GivesPlaces view (Err OutOfMemory) r = ⊤
+
+-- Of an honest source whose table has so many sizes, the answer is the places of its parts, or their fault.
+abbrev pub TellsPlaces : {S X : Type 0} → (X → List Span) → ℕ → ℕ → Result X PartsFault → (S → Device) → Lent S → Type 0
+TellsPlaces view size count result device source = IsTrue (device source.entry.now).honest
+    → count ≡ length (sizes (slice (device source.entry.now).bytes 64 size))
+    → GivesPlaces view result (places (slice (device source.entry.now).bytes 64 size)
+    (sizes (slice (device source.entry.now).bytes 64 size)) count 0)

@@ -1,6 +1,8 @@
 -- What the steps that read an image did, and what they answer.
-use Rattle.std.specs.Prelude.{◌≡◌, ℕ, ◌+◌, ◌*◌, ◌≤◌, List, Result, Bool, false, IsTrue, IfOk, is_err}
+use Rattle.std.specs.Prelude.{◌≡◌, ℕ, ◌+◌, ◌*◌, ◌≤◌, List, length, take, sum_by, Result, Bool, false, IsTrue, IfOk, is_err}
 use Rattle.uimg_texts.specs.Slices.{slice}
+use Rattle.uimg_texts.specs.Numbers.{be32, up4}
+use Rattle.uimg_base.specs.Lent.{Lent}
 use Rattle.uimg_base.specs.Device.{Device, RisesIf}
 use Rattle.uimg_base.specs.Held.{Held}
 use Rattle.uimg_base.specs.Sink.{Sink}
@@ -13,41 +15,84 @@ use Rattle.uimg_legacy.specs.declared.fault.Fault.{Fault}
 use Rattle.uimg_legacy.specs.declared.header.Header.{Header}
 use Rattle.uimg_base.specs.declared.spans.Span.{Span}
 use Rattle.uimg_legacy.specs.Image.{payload, has_right_data, legacy}
-use Rattle.uimg_legacy.specs.Parts.{has_parts}
+use Rattle.uimg_legacy.specs.Words.{words}
+use Rattle.uimg_legacy.specs.Header.{spelled}
+use Rattle.uimg_legacy.specs.Parts.{has_parts, sizes}
 use Rattle.uimg_legacy.specs.Extraction.{part_of_data, part_at}
-use Rattle.uimg_legacy.specs.Listing.{tail_with}
+use Rattle.uimg_legacy.specs.Listing.{tail_with, lines_of}
 use Rattle.uimg_legacy.specs.Report.{data_report}
 use Rattle.uimg_legacy.specs.Faults.{is_read, is_put, is_of_making, end_of, Gives}
 
 -- A step that reads. The room stays as it was, no write failed, and no fault of making is answered. Of an honest device the
 -- answer is about its bytes.
-pub record Reads {X : Type 0} (used : Bool → Device → Device → Type 0) (answers : List ℕ → Result X Fault → Type 0) (result : Result X Fault) (old new : Device) (before after : Held) : Type 0 where
+pub record ReadsBetween {X : Type 0} (used : Bool → Device → Device → Type 0) (answers : List ℕ → Result X Fault → Type 0) (result : Result X Fault) (old new : Device) (before after : Held) : Type 0 where
   pub uses : used (is_read result) old new
   pub room : after ≡ before
   pub no_put : is_put result ≡ false
   pub no_making : is_of_making result ≡ false
   pub answer : IsTrue old.honest → answers old.bytes result
 
+-- The same of a source and a room that were lent. `uses` is what is said of the device, by a measure of its bytes.
+abbrev pub Reads : {S X : Type 0} → (ℕ → Bool → Device → Device → Type 0) → (List ℕ → ℕ) → (List ℕ → Result X Fault → Type 0) → Result X Fault → (S → Device) → Lent S → Lent Held → Type 0
+Reads uses work answers result device source room = ReadsBetween (uses (work (device source.entry.now).bytes)) answers result
+    (device source.entry.now) (device source.exit.now) room.entry.now room.exit.now
+
 -- A step that reads and writes. The room stays as it was, a fault was counted exactly where a write failed, and no fault of
 -- making is answered. Of an honest device it told the outcome of its bytes.
-pub record Reports (used : Bool → Device → Device → Type 0) (outcome : List ℕ → Outcome LegacyFault) (result : Result Status Fault) (old new : Device) (before after : Held) (from to : Sink) : Type 0 where
+pub record ReportsBetween (used : Bool → Device → Device → Type 0) (outcome : List ℕ → Outcome LegacyFault) (result : Result Status Fault) (old new : Device) (before after : Held) (from to : Sink) : Type 0 where
   pub uses : used (is_read result) old new
   pub room : after ≡ before
   pub faults : RisesIf (is_put result) from.faults to.faults
   pub no_making : is_of_making result ≡ false
   pub told : IsTrue old.honest → Tells (end_of result) (outcome old.bytes) from to
 
+-- the same of a source, a room and an output that were lent
+abbrev pub Reports : {S : Type 0} → (ℕ → Bool → Device → Device → Type 0) → (List ℕ → ℕ) → (List ℕ → Outcome LegacyFault) → Result Status Fault → (S → Device) → Lent S → Lent Held → Lent Sink → Type 0
+Reports uses work outcome result device source room out = ReportsBetween (uses (work (device source.entry.now).bytes)) outcome result
+    (device source.entry.now) (device source.exit.now) room.entry.now room.exit.now out.entry.now out.exit.now
+
+-- What the reading of a header did: at most its 64 bytes were asked for, no write failed, and no fault of making is answered.
+pub record ReadsHeadBetween {X : Type 0} (result : Result X Fault) (old new : Device) : Type 0 where
+  pub uses : Asks 64 (is_read result) old new
+  pub no_put : is_put result ≡ false
+  pub no_making : is_of_making result ≡ false
+
+-- the same of a source that was lent
+abbrev pub ReadsHead : {S X : Type 0} → Result X Fault → (S → Device) → Lent S → Type 0
+ReadsHead result device source = ReadsHeadBetween result (device source.entry.now) (device source.exit.now)
+
+-- The header has the spelling that the image begins with.
+abbrev pub IsSpelledIn : List ℕ → Result Header Fault → Type 0
+IsSpelledIn image result = IfOk result (λ h. spelled h ≡ take 64 image)
+
 -- So many words of the data were asked for, and the room stays as it was. The answer is at most so much, and of an honest
 -- device it is the measure of its bytes.
-pub record ReadsWords (count most : ℕ) (measure : List ℕ → ℕ) (result : Result ℕ SourceFault) (old new : Device) (before after : Held) : Type 0 where
+pub record ReadsWordsBetween (count most : ℕ) (measure : List ℕ → ℕ) (result : Result ℕ SourceFault) (old new : Device) (before after : Held) : Type 0 where
   pub uses : Asks (4 * count) (is_err result) old new
   pub room : after ≡ before
   pub bound : IfOk result (λ n. n ≤ most)
   pub value : IsTrue old.honest → IfOk result (λ n. n ≡ measure old.bytes)
 
+-- the same of a source and a room that were lent
+abbrev pub ReadsWords : {S : Type 0} → ℕ → ℕ → (List ℕ → ℕ) → Result ℕ SourceFault → (S → Device) → Lent S → Lent Held → Type 0
+ReadsWords count most measure result device source room = ReadsWordsBetween count most measure result
+    (device source.entry.now) (device source.exit.now) room.entry.now room.exit.now
+
 -- the bytes of so many words of the data, from the word of a number on
 abbrev pub window : List ℕ → ℕ → ℕ → List ℕ
 window image first count = slice image (64 + 4 * first) (4 * count)
+
+-- how many of these words stand before the first that is zero
+abbrev pub sizes_from : ℕ → ℕ → List ℕ → ℕ
+sizes_from first count image = length (sizes (window image first count))
+
+-- their sum, each rounded up to a multiple of 4
+abbrev pub rounded_from : ℕ → ℕ → List ℕ → ℕ
+rounded_from first count image = sum_by up4 (words (window image first count))
+
+-- the answer is the word at a place
+abbrev pub IsWordAt : ℕ → List ℕ → Result ℕ SourceFault → Type 0
+IsWordAt at image result = IfOk result (λ n. n ≡ be32 image at)
 
 -- what is told of the data: whether their CRC is that in the header, or why they are refused
 abbrev pub TellsRight : Header → List ℕ → Result Bool Fault → Type 0
@@ -60,6 +105,10 @@ GivesImage image result = Gives (λ h. record { header = h; payload = payload im
 -- the bytes of the image at a span
 abbrev pub bytes_at : List ℕ → Span → List ℕ
 bytes_at image span = slice image span.place span.length
+
+-- the span ends inside the file
+abbrev pub EndsInFile : {S : Type 0} → Result Span Fault → (S → Device) → Lent S → Type 0
+EndsInFile result device source = IfOk result (λ span. span.place + span.length ≤ length (device source.entry.now).bytes)
 
 -- where the part at a position stands, of an image with this header, or why it is refused
 abbrev pub FindsPart : Header → ℕ → List ℕ → Result Span Fault → Type 0
@@ -76,3 +125,9 @@ report_on h image = data_report (has_right_data image h)
 -- what stands after the six lines
 abbrev pub tail_of : Header → List ℕ → Outcome LegacyFault
 tail_of h image = tail_with (has_parts h.kind) (payload image h)
+
+-- Of an honest source whose table has so many sizes, the lines of the parts are told.
+abbrev pub TellsLines : {S : Type 0} → ℕ → ℕ → Result Status Fault → (S → Device) → Lent S → Lent Sink → Type 0
+TellsLines size count result device source out = IsTrue (device source.entry.now).honest
+    → count ≡ length (sizes (slice (device source.entry.now).bytes 64 size))
+    → Tells (end_of result) (lines_of (slice (device source.entry.now).bytes 64 size) count) out.entry.now out.exit.now

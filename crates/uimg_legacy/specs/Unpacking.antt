@@ -1,6 +1,8 @@
 -- The parts of a legacy image, all of them, as they are taken out of it.
-use Rattle.std.specs.Prelude.{◌≡◌, ⊤, ℕ, suc, ◌+◌, ◌*◌, List, [], ◌∷◌, ◌++◌, length, take, drop, nat_lt, ◌==◌, if◌then◌else◌, Option, Some, None, Result, Ok, Err, Bool, true, false}
+use Rattle.std.specs.Prelude.{◌≡◌, ⊤, ℕ, suc, ◌+◌, ◌*◌, List, [], ◌∷◌, ◌++◌, length, take, drop, nat_lt, ◌==◌, if◌then◌else◌, Option, Some, None, Result, Ok, Err, Bool, true, false, IsTrue}
 use Rattle.uimg_texts.specs.Numbers.{up4}
+use Rattle.uimg_base.specs.Lent.{Lent}
+use Rattle.uimg_base.specs.Device.{Device}
 use Rattle.uimg_sums.specs.Crc.{crc}
 use Rattle.std.specs.List.{AllByRecursion}
 use Rattle.uimg_base.specs.Outcome.{done, told}
@@ -92,12 +94,17 @@ pub record Keeps (told : Result (Option (List Part)) LegacyFault) (old new : Lis
 
 -- What an answer tells of an image, with what was kept before and after. Where the image is refused, its data's CRC is not
 -- right or a device failed, nothing is kept.
-abbrev pub Unpacks : Result Bool Fault → Result (Option (List Part)) LegacyFault → List Part → List Part → Type 0
-Unpacks (Ok true) told old new = Keeps told old new
-Unpacks (Ok false) told old new = (told ≡ Ok None) × (new ≡ old)
-Unpacks (Err (Legacy fault)) told old new = (told ≡ Err fault) × (new ≡ old)
-Unpacks (Err Read) told old new = new ≡ old
-Unpacks (Err Put) told old new = new ≡ old
+abbrev pub UnpacksBetween : Result Bool Fault → Result (Option (List Part)) LegacyFault → List Part → List Part → Type 0
+UnpacksBetween (Ok true) told old new = Keeps told old new
+UnpacksBetween (Ok false) told old new = (told ≡ Ok None) × (new ≡ old)
+UnpacksBetween (Err (Legacy fault)) told old new = (told ≡ Err fault) × (new ≡ old)
+UnpacksBetween (Err Read) told old new = new ≡ old
+UnpacksBetween (Err Put) told old new = new ≡ old
+
+-- the same of an honest source and an honest taker
+abbrev pub Unpacks : {S T : Type 0} → Option ℕ → Result Bool Fault → (S → Device) → Lent S → Bool → (T → List Part) → Lent T → Type 0
+Unpacks only result device source honest kept taker = IsTrue (device source.entry.now).honest → IsTrue honest
+    → UnpacksBetween result (unpack_of only (device source.entry.now).bytes) (kept taker.entry.now) (kept taker.exit.now)
 
 -- What is kept, whatever the source answered: the parts of some image, whose checksums are right.
 pub record KeepsSome (only : Option ℕ) (old new : List Part) : Type 0 where
@@ -114,10 +121,14 @@ pub record AreRight (dcrc : ℕ) (held : List Part) : Type 0 where
   pub told : unpack_of only image ≡ Ok (Some held)
 
 -- the same of an answer; but where all was right, nothing is kept
-abbrev pub KeepsRight : Option ℕ → Result Bool Fault → List Part → List Part → Type 0
-KeepsRight only (Ok true) old new = KeepsSome only old new
-KeepsRight only (Ok false) old new = new ≡ old
-KeepsRight only (Err fault) old new = new ≡ old
+abbrev pub KeepsRightBetween : Option ℕ → Result Bool Fault → List Part → List Part → Type 0
+KeepsRightBetween only (Ok true) old new = KeepsSome only old new
+KeepsRightBetween only (Ok false) old new = new ≡ old
+KeepsRightBetween only (Err fault) old new = new ≡ old
+
+-- the same of an honest taker
+abbrev pub KeepsRight : {T : Type 0} → Option ℕ → Result Bool Fault → Bool → (T → List Part) → Lent T → Type 0
+KeepsRight only result honest kept taker = IsTrue honest → KeepsRightBetween only result (kept taker.entry.now) (kept taker.exit.now)
 
 -- Parts were kept behind others, and each is what an extraction from its position writes.
 pub record KeepsExtracted (image : List ℕ) (old new : List Part) : Type 0 where
@@ -126,7 +137,12 @@ pub record KeepsExtracted (image : List ℕ) (old new : List Part) : Type 0 wher
   pub each : AllByRecursion (λ part. extract_of image part.number ≡ told part.bytes done) parts
 
 -- the same of an answer that parts are kept
-abbrev pub Extracts : List ℕ → Result Bool Fault → List Part → List Part → Type 0
-Extracts image (Ok true) old new = KeepsExtracted image old new
-Extracts image (Ok false) old new = ⊤
-Extracts image (Err fault) old new = ⊤
+abbrev pub ExtractsBetween : List ℕ → Result Bool Fault → List Part → List Part → Type 0
+ExtractsBetween image (Ok true) old new = KeepsExtracted image old new
+ExtractsBetween image (Ok false) old new = ⊤
+ExtractsBetween image (Err fault) old new = ⊤
+
+-- the same of an honest source and an honest taker
+abbrev pub Extracts : {S T : Type 0} → Result Bool Fault → (S → Device) → Lent S → Bool → (T → List Part) → Lent T → Type 0
+Extracts result device source honest kept taker = IsTrue (device source.entry.now).honest → IsTrue honest
+    → ExtractsBetween (device source.entry.now).bytes result (kept taker.entry.now) (kept taker.exit.now)

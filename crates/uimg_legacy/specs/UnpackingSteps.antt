@@ -1,12 +1,14 @@
 -- What the steps did that take the parts of an image out of it, over any device.
-use Rattle.std.specs.Prelude.{◌≡◌, ◌≢◌, ⊤, ℕ, ◌+◌, ◌-◌, ◌*◌, ◌<◌, ◌≤◌, min, List, ◌++◌, length, take, sum_by, ◌==◌, Option, Bool, true, false, Result, Ok, Err, IsTrue}
+use Rattle.std.specs.Prelude.{◌≡◌, ◌≢◌, ⊤, ℕ, ◌+◌, ◌-◌, ◌*◌, ◌<◌, ◌≤◌, min, List, ◌++◌, length, take, sum_by, ◌==◌, Option, Bool, true, false, Result, Ok, Err, IsTrue, OnOk}
 use Rattle.std.specs.List.{AllByRecursion}
 use Rattle.uimg_texts.specs.Slices.{slice}
 use Rattle.uimg_texts.specs.Numbers.{be32, up4}
 use Rattle.uimg_sums.specs.Crc.{crc}
 use Rattle.uimg_sums.specs.CrcSums.{Holds}
 use Rattle.uimg_sums.specs.declared.crc.Crc.{Crc}
+use Rattle.uimg_base.specs.Lent.{Lent}
 use Rattle.uimg_base.specs.Device.{Device}
+use Rattle.uimg_base.specs.Held.{Held}
 use Rattle.uimg_base.specs.Sink.{Sink, AppendsAll}
 use Rattle.uimg_legacy.specs.declared.header.Header.{Header}
 use Rattle.uimg_legacy.specs.declared.fault.LegacyFault.{LegacyFault}
@@ -14,6 +16,7 @@ use Rattle.uimg_legacy.specs.declared.fault.LegacyFault.TheVariants.{BadDataCrc,
 use Rattle.uimg_legacy.specs.declared.fault.Fault.{Fault}
 use Rattle.uimg_legacy.specs.declared.fault.Fault.TheVariants.{Legacy, Read, Put}
 use Rattle.uimg_legacy.specs.declared.unpacking.takes.Walk.{Walk}
+use Rattle.uimg_legacy.specs.Faults.{is_read, is_of_making}
 use Rattle.uimg_legacy.specs.Words.{words}
 use Rattle.uimg_legacy.specs.Image.{payload}
 use Rattle.uimg_legacy.specs.Header.{header}
@@ -21,30 +24,61 @@ use Rattle.uimg_legacy.specs.Parts.{has_parts, sizes}
 use Rattle.uimg_legacy.specs.Work.{data_read, sizes_read_with}
 use Rattle.uimg_legacy.specs.Unpacking.{Part, part_if, is_asked, chosen, parts_by, parts_in}
 
+-- A step that takes parts. The room stays as it was, no fault of making is answered, and an honest taker keeps what it kept.
+pub record TakesBetween {X : Type 0} (used : Bool → Device → Device → Type 0) (result : Result X Fault) (old new : Device) (before after : Held) (honest : Bool) (from to : List Part) : Type 0 where
+  pub uses : used (is_read result) old new
+  pub room : after ≡ before
+  pub no_making : is_of_making result ≡ false
+  pub kept : IsTrue honest → to ≡ from
+
+-- the same of a source, a room and a taker that were lent
+abbrev pub Takes : {S T X : Type 0} → (Bool → Device → Device → Type 0) → Result X Fault → (S → Device) → Lent S → Lent Held → Bool → (T → List Part) → Lent T → Type 0
+Takes used result device source room honest kept taker = TakesBetween used result
+    (device source.entry.now) (device source.exit.now) room.entry.now room.exit.now honest (kept taker.entry.now) (kept taker.exit.now)
+
 -- Some bytes were fed to a sum, those of a range of the device if it is honest.
-pub record SumsPiece (d : Device) (at len : ℕ) (old new : Crc) : Type 0 where
+pub record SumsPieceBetween (d : Device) (at len : ℕ) (old new : Crc) : Type 0 where
   pub piece : List ℕ
   pub size : length piece ≡ len
   pub summed : (fed : List ℕ) → Holds old fed → Holds new (fed ++ piece)
   pub right : IsTrue d.honest → piece ≡ slice d.bytes at len
 
+-- the same of a source and a sum that were lent
+abbrev pub SumsPiece : {S : Type 0} → ℕ → ℕ → (S → Device) → Lent S → Lent Crc → Type 0
+SumsPiece at len device source sum = SumsPieceBetween (device source.entry.now) at len sum.entry.now sum.exit.now
+
 -- The same, and they were appended to an output.
-pub record TakesPiece (d : Device) (at len : ℕ) (old new : Crc) (s t : Sink) : Type 0 where
-  pub sums : SumsPiece d at len old new
+pub record TakesPieceBetween (d : Device) (at len : ℕ) (old new : Crc) (s t : Sink) : Type 0 where
+  pub sums : SumsPieceBetween d at len old new
   pub wrote : AppendsAll s t sums.piece
 
+-- the same of a source, a sum and an output that were lent
+abbrev pub TakesPiece : {S : Type 0} → ℕ → ℕ → (S → Device) → Lent S → Lent Crc → Lent Sink → Type 0
+TakesPiece at len device source sum out = TakesPieceBetween (device source.entry.now) at len
+    sum.entry.now sum.exit.now out.entry.now out.exit.now
+
 -- Some bytes were fed to a sum, and are held as a part if one asks for it.
-pub record TakesPart (asked honest : Bool) (number : ℕ) (d : Device) (at len : ℕ) (old new : Crc) (from to : List Part) : Type 0 where
-  pub sums : SumsPiece d at len old new
+pub record TakesPartBetween (asked honest : Bool) (number : ℕ) (d : Device) (at len : ℕ) (old new : Crc) (from to : List Part) : Type 0 where
+  pub sums : SumsPieceBetween d at len old new
   pub held : IsTrue honest → to ≡ from ++ part_if asked number sums.piece
 
+-- the same where no device failed
+abbrev pub TakesPart : {X S T : Type 0} → Bool → ℕ → ℕ → ℕ → Result X Fault → (S → Device) → Lent S → Lent Crc → Bool → (T → List Part) → Lent T → Type 0
+TakesPart asked number at len result device source sum honest held taker = OnOk result (TakesPartBetween asked honest number
+    (device source.entry.now) at len sum.entry.now sum.exit.now (held taker.entry.now) (held taker.exit.now))
+
 -- Some bytes were fed to a sum, and the first of them are held as a part if one asks for it.
-pub record TakesPadded (asked honest : Bool) (number : ℕ) (d : Device) (at len all : ℕ) (old new : Crc) (from to : List Part) : Type 0 where
-  pub sums : SumsPiece d at all old new
+pub record TakesPaddedBetween (asked honest : Bool) (number : ℕ) (d : Device) (at len all : ℕ) (old new : Crc) (from to : List Part) : Type 0 where
+  pub sums : SumsPieceBetween d at all old new
   pub held : IsTrue honest → to ≡ from ++ part_if asked number (take len sums.piece)
 
+-- the same where no device failed
+abbrev pub TakesPadded : {X S T : Type 0} → Bool → ℕ → ℕ → ℕ → ℕ → Result X Fault → (S → Device) → Lent S → Lent Crc → Bool → (T → List Part) → Lent T → Type 0
+TakesPadded asked number at len all result device source sum honest held taker = OnOk result (TakesPaddedBetween asked honest number
+    (device source.entry.now) at len all sum.entry.now sum.exit.now (held taker.entry.now) (held taker.exit.now))
+
 -- The next size was read, and the part of that size taken, with the bytes up to the next multiple of 4.
-pub record TakesNext (only : Option ℕ) (honest : Bool) (number size : ℕ) (d : Device) (old new : Walk) (from to : List Part) : Type 0 where
+pub record TakesNextBetween (only : Option ℕ) (honest : Bool) (number size : ℕ) (d : Device) (old new : Walk) (from to : List Part) : Type 0 where
   pub word : List ℕ
   pub long : length word ≡ 4
   pub some : be32 word 0 ≢ 0
@@ -52,7 +86,17 @@ pub record TakesNext (only : Option ℕ) (honest : Bool) (number size : ℕ) (d 
   pub place : new.at ≡ min (old.at + up4 (be32 word 0)) size
   pub sizes : (fed : List ℕ) → Holds old.sizes fed → Holds new.sizes (fed ++ word)
   pub read : IsTrue d.honest → word ≡ slice d.bytes (64 + 4 * number) 4
-  pub taken : TakesPadded (is_asked only number) honest number d (64 + old.at) (be32 word 0) (new.at - old.at) old.sum new.sum from to
+  pub taken : TakesPaddedBetween (is_asked only number) honest number d (64 + old.at) (be32 word 0) (new.at - old.at) old.sum new.sum from to
+
+-- the same where the part is taken
+abbrev pub TakesNext : {X S T : Type 0} → Option ℕ → ℕ → ℕ → Result X Fault → (S → Device) → Lent S → Lent Walk → Bool → (T → List Part) → Lent T → Type 0
+TakesNext only number size result device source walk honest held taker = OnOk result (TakesNextBetween only honest number size
+    (device source.entry.now) walk.entry.now walk.exit.now (held taker.entry.now) (held taker.exit.now))
+
+-- Where parts are taken, no more was asked for than the bytes that were come by, and so many more.
+abbrev pub Pays : {X S : Type 0} → ℕ → Result X Fault → (S → Device) → Lent S → Lent Walk → Type 0
+Pays more result device source walk = OnOk result
+    ((device source.exit.now).asked + walk.entry.now.at ≤ (device source.entry.now).asked + (more + walk.exit.now.at))
 
 -- Why the next part is refused, if it is: it ends after the data, or its size is another one than was read before.
 abbrev pub RefusesNext : {X : Type 0} → ℕ → ℕ → ℕ → Result X Fault → Type 0
@@ -60,6 +104,10 @@ RefusesNext at size word (Err (Legacy PartOutside)) = size < at + word
 RefusesNext at size word (Err (Legacy BadDataCrc)) = word ≡ 0
 RefusesNext at size word (Err (Legacy fault)) = ⊥
 RefusesNext at size word result = ⊤
+
+-- the same of the size of a number in the table
+abbrev pub RefusesNumber : {X : Type 0} → ℕ → ℕ → ℕ → List ℕ → Result X Fault → Type 0
+RefusesNumber number size at file result = RefusesNext at size (be32 file (64 + 4 * number)) result
 
 -- The first parts were taken: `table` are the words of their sizes as they were read, and `bytes` those that the parts were
 -- taken from.
@@ -78,6 +126,11 @@ pub record Walked (only : Option ℕ) (honest : Bool) (count size : ℕ) (d : De
   pub read : IsTrue d.honest → table ≡ slice d.bytes 64 (4 * count)
   pub right : IsTrue d.honest → bytes ≡ slice d.bytes (64 + old.at) (length bytes)
   pub held : IsTrue honest → to ≡ from ++ chosen only 0 parts
+
+-- the same where the parts are taken
+abbrev pub Walks : {X S T : Type 0} → Option ℕ → ℕ → ℕ → Result X Fault → (S → Device) → Lent S → Lent Walk → Bool → (T → List Part) → Lent T → Type 0
+Walks only count size result device source walk honest held taker = OnOk result (Walked only honest count size
+    (device source.entry.now) walk.entry.now walk.exit.now (held taker.entry.now) (held taker.exit.now))
 
 -- Parts were refused as a definition tells, if they were.
 abbrev pub RefusesBy : {X Y : Type 0} → Result Y LegacyFault → Result X Fault → Type 0
@@ -107,23 +160,41 @@ pub record IsWrong (only : Option ℕ) (h : Header) (image : List ℕ) : Type 0 
   pub wrong : (crc (payload image h) == h.dcrc) ≡ false
 
 -- What an answer says of the data that were taken: whether their CRC is right, or why they are refused.
-abbrev pub TakesData : Option ℕ → Bool → Header → Device → Result Bool Fault → List Part → List Part → Type 0
-TakesData only honest h d (Ok true) from to = HoldsParts only honest h d from to
-TakesData only honest h d (Ok false) from to = IsTrue d.honest → IsWrong only h d.bytes
-TakesData only honest h d (Err (Legacy fault)) from to = IsTrue d.honest → parts_in only (has_parts h.kind) (payload d.bytes h) ≡ Err fault
-TakesData only honest h d (Err Read) from to = ⊤
-TakesData only honest h d (Err Put) from to = ⊤
+abbrev pub TakesDataBetween : Option ℕ → Bool → Header → Device → Result Bool Fault → List Part → List Part → Type 0
+TakesDataBetween only honest h d (Ok true) from to = HoldsParts only honest h d from to
+TakesDataBetween only honest h d (Ok false) from to = IsTrue d.honest → IsWrong only h d.bytes
+TakesDataBetween only honest h d (Err (Legacy fault)) from to = IsTrue d.honest → parts_in only (has_parts h.kind) (payload d.bytes h) ≡ Err fault
+TakesDataBetween only honest h d (Err Read) from to = ⊤
+TakesDataBetween only honest h d (Err Put) from to = ⊤
+
+-- the same of a source and a taker that were lent
+abbrev pub TakesData : {S T : Type 0} → Option ℕ → Header → Result Bool Fault → (S → Device) → Lent S → Bool → (T → List Part) → Lent T → Type 0
+TakesData only h result device source honest held taker = TakesDataBetween only honest h (device source.entry.now) result
+    (held taker.entry.now) (held taker.exit.now)
 
 -- What is held was kept, if the data's CRC is right, and else nothing, or nothing where that failed.
-abbrev pub Settles : {E : Type 0} → Bool → Result Bool E → List Part → List Part → List Part → Type 0
-Settles true (Ok kept) held old new = (kept ≡ true) × (new ≡ old ++ held)
-Settles false (Ok kept) held old new = (kept ≡ false) × (new ≡ old)
-Settles right (Err fault) held old new = new ≡ old
+abbrev pub SettlesBetween : {E : Type 0} → Bool → Result Bool E → List Part → List Part → List Part → Type 0
+SettlesBetween true (Ok kept) held old new = (kept ≡ true) × (new ≡ old ++ held)
+SettlesBetween false (Ok kept) held old new = (kept ≡ false) × (new ≡ old)
+SettlesBetween right (Err fault) held old new = new ≡ old
+
+-- the same of an honest taker
+abbrev pub Settles : {E T : Type 0} → Bool → Result Bool E → Bool → (T → List Part) → (T → List Part) → Lent T → Type 0
+Settles right result honest held kept taker = IsTrue honest
+    → SettlesBetween right result (held taker.entry.now) (kept taker.entry.now) (kept taker.exit.now)
 
 -- the most that is asked for: the header, the data, and of a table of sizes twice as many bytes as it has
 abbrev pub unpack_reads : List ℕ → Result Header LegacyFault → ℕ
 unpack_reads image (Ok h) = data_read image h + 8 * (sizes_read_with (has_parts h.kind) (payload image h) + 1)
 unpack_reads image (Err fault) = 0
+
+-- the most that is asked for of the data of a type that has parts
+abbrev pub listed_work : Header → List ℕ → ℕ
+listed_work h image = h.size + 8 * (length (sizes (payload image h)) + 1)
+
+-- the same of any type
+abbrev pub data_work : Header → List ℕ → ℕ
+data_work h image = h.size + 8 * (sizes_read_with (has_parts h.kind) (payload image h) + 1)
 
 abbrev pub unpack_work : List ℕ → ℕ
 unpack_work image = 64 + unpack_reads image (header image)

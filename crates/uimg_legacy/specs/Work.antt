@@ -25,6 +25,10 @@ data_read_from image (Err fault) = 0
 abbrev pub data_length : List ℕ → ℕ
 data_length image = data_read_from image (header image)
 
+-- the header and the data
+abbrev pub image_read : List ℕ → ℕ
+image_read image = 64 + data_length image
+
 -- how many sizes are read: those before the zero word, or all whole words where none is zero
 abbrev pub sizes_read_with : Bool → List ℕ → ℕ
 sizes_read_with true payload = length (sizes payload)

@@ -1,17 +1,13 @@
 //! Building: the image of its parts is written.
 
-ghost use Rattle.std.specs.Prelude.{◌≡◌, ◌≢◌, ℕ, ◌^◌, ◌<◌, List, ◌++◌, length, map, false, IsTrue, OnOk, IfOk, is_err, Ok};
-ghost use Rattle.std.specs.List.{All};
+ghost use Rattle.std.specs.Prelude.{◌≡◌, ◌≢◌, ℕ, List, ◌++◌, length, map, false};
 ghost use Rattle.uimg_sums.specs.Crc.{crc};
-ghost use Rattle.uimg_base.specs.Device.{RisesIf};
-ghost use Rattle.uimg_base.specs.Outcome.{Tells};
 ghost use Rattle.uimg_legacy.specs.Parts.{has_parts};
-ghost use Rattle.uimg_legacy.specs.Building.{data_of, data_for, data_to_build, legacy_built, build_of, header_for};
-ghost use Rattle.uimg_legacy.specs.BuildingSteps.{IsHead};
-ghost use Rattle.uimg_legacy.specs.PartSteps.{Puts};
-ghost use Rattle.uimg_legacy.specs.ReadsBack.{ReadsBack};
-ghost use Rattle.uimg_legacy.specs.Devices.{bytes_of, asked_of, AreHonest, UsesAll};
-ghost use Rattle.uimg_legacy.specs.Faults.{is_read, is_put, is_refused, built_end, Gives};
+ghost use Rattle.uimg_legacy.specs.Building.{data_of, data_for, header_for};
+ghost use Rattle.uimg_legacy.specs.BuildingSteps.{IsHeadFor};
+ghost use Rattle.uimg_legacy.specs.PartSteps.{FitWords, Puts, Finds};
+ghost use Rattle.uimg_legacy.specs.Builds.{Builds, Decides, TellsBuilt, BuildsReadable};
+ghost use Rattle.uimg_legacy.specs.Devices.{bytes_of, AreHonest};
 
 use crate::built_data::{data_crc, put_data};
 use crate::fault::Fault;
@@ -48,11 +44,9 @@ fn head_of<S: Source>(
     options: &Options,
     size: u32,
 ) -> Result<[u8; HEADER_LEN], SourceFault>
-    requires small { All (λ part. length part < 2 ^ 32) (bytes_of (map S.device parts.old)) }
+    requires small { FitWords (bytes_of (map S.device parts.old)) }
     requires size { size ≡ length (data_for options.now.kind (bytes_of (map S.device parts.old))) }
-    ensures uses { UsesAll (is_err result) (map S.device parts.old) (map S.device parts.new) }
-    ensures head { AreHonest (map S.device parts.old) → IfOk result (λ head. IsHead head
-        (header_for options.now (data_for options.now.kind (bytes_of (map S.device parts.old))))) }
+    ensures { Finds (IsHeadFor options.now) result S.device parts }
 {
     let dcrc = data_crc(parts, window, has_parts(options.kind))?;
     Ok(header_bytes(&header_for(options, size, dcrc)))
@@ -66,9 +60,8 @@ fn put_image<S: Source, W: Write>(
     has_parts: bool,
     out: &mut Out<W>,
 ) -> Result<(), Fault>
-    requires small { All (λ part. length part < 2 ^ 32) (bytes_of (map S.device parts.old)) }
-    ensures { Puts AreHonest (λ ps. head.now ++ data_of has_parts ps) result
-        S.device parts.old parts.new out.old out.new }
+    requires small { FitWords (bytes_of (map S.device parts.old)) }
+    ensures { Puts AreHonest (λ ps. head.now ++ data_of has_parts ps) result S.device parts out }
 {
     out.put_all(head)?;
     put_data(parts, window, has_parts, out)
@@ -91,21 +84,10 @@ pub fn build<S: Source, W: Write>(
 ) -> Result<(), Fault>
     requires some { length parts.old ≢ 0 }
     requires single { has_parts options.now.kind ≡ false → length parts.old ≡ 1 }
-    ensures uses { UsesAll (is_read result) (map S.device parts.old) (map S.device parts.new) }
-    ensures faults { RisesIf (is_put result) out.old.faults out.new.faults }
-    ensures decided { Gives (λ _. data_of (has_parts options.now.kind)
-        (bytes_of (map S.device parts.old))) result
-        (data_to_build options.now.kind (bytes_of (map S.device parts.old))) }
-    ensures accepted { IsTrue (is_put result) →
-        data_to_build options.now.kind (bytes_of (map S.device parts.old))
-        ≡ Ok (data_of (has_parts options.now.kind) (bytes_of (map S.device parts.old))) }
-    ensures untouched { IsTrue (is_refused result) → (out.new ≡ out.old)
-        × (asked_of (map S.device parts.new) ≡ asked_of (map S.device parts.old)) }
-    ensures told { AreHonest (map S.device parts.old) → Tells (built_end result)
-        (build_of options.now (bytes_of (map S.device parts.old))) out.old out.new }
-    ensures reads_back { AreHonest (map S.device parts.old) → OnOk result (ReadsBack
-        (legacy_built options.now (bytes_of (map S.device parts.old)))
-        (bytes_of (map S.device parts.old))) }
+    ensures builds { Builds result S.device parts out }
+    ensures decides { Decides options.now.kind (bytes_of (map S.device parts.old)) result }
+    ensures told { TellsBuilt options.now result S.device parts out }
+    ensures reads_back { BuildsReadable options.now result S.device parts }
 {
     let size = measure(parts, options.kind)?;
     let mut window = [0; WINDOW];

@@ -1,11 +1,10 @@
 //! The data of an image that is built: summed, and written.
 
-ghost use Rattle.std.specs.Prelude.{◌≡◌, ◌^◌, ◌<◌, length, map, IfOk, is_err};
-ghost use Rattle.std.specs.List.{All};
+ghost use Rattle.std.specs.Prelude.{◌≡◌, map};
 ghost use Rattle.uimg_sums.specs.Crc.{crc};
 ghost use Rattle.uimg_legacy.specs.Building.{size_table, joined, data_of};
-ghost use Rattle.uimg_legacy.specs.Devices.{bytes_of, AreHonest, UsesAll};
-ghost use Rattle.uimg_legacy.specs.PartSteps.{Feeds, Puts, AnyDevices};
+ghost use Rattle.uimg_legacy.specs.Devices.{bytes_of, AreHonest};
+ghost use Rattle.uimg_legacy.specs.PartSteps.{FitWords, Finds, Feeds, Puts, AnyDevices};
 
 use crate::fault::Fault;
 use crate::one_part::{feed_part, put_part, size_word, zeros_after};
@@ -14,9 +13,8 @@ use uimg_base::{Crc, Out, Source, SourceFault, Summer, WINDOW};
 
 // Feeds the table of sizes to a sum.
 fn feed_table<M: Summer, S: Source>(parts: &mut [S], sum: &mut M) -> Result<(), SourceFault>
-    requires small { All (λ part. length part < 2 ^ 32) (bytes_of (map S.device parts.old)) }
-    ensures { Feeds AnyDevices M.holds size_table result
-        S.device parts.old parts.new sum.old sum.new }
+    requires small { FitWords (bytes_of (map S.device parts.old)) }
+    ensures { Feeds AnyDevices M.holds size_table result S.device parts sum }
 {
     for i in 0..parts.len() {
         sum.feed(&size_word(parts, i)?);
@@ -31,7 +29,7 @@ fn feed_joined<M: Summer, S: Source>(
     window: &mut [u8; WINDOW],
     sum: &mut M,
 ) -> Result<(), SourceFault>
-    ensures { Feeds AreHonest M.holds joined result S.device parts.old parts.new sum.old sum.new }
+    ensures { Feeds AreHonest M.holds joined result S.device parts sum }
 {
     let mut remainder = 0;
     for i in 0..parts.len() {
@@ -48,9 +46,8 @@ fn feed_data<M: Summer, S: Source>(
     has_parts: bool,
     sum: &mut M,
 ) -> Result<(), SourceFault>
-    requires small { All (λ part. length part < 2 ^ 32) (bytes_of (map S.device parts.old)) }
-    ensures { Feeds AreHonest M.holds (data_of has_parts) result
-        S.device parts.old parts.new sum.old sum.new }
+    requires small { FitWords (bytes_of (map S.device parts.old)) }
+    ensures { Feeds AreHonest M.holds (data_of has_parts) result S.device parts sum }
 {
     if !has_parts {
         return feed_joined(parts, window, sum);
@@ -65,10 +62,8 @@ pub(crate) fn data_crc<S: Source>(
     window: &mut [u8; WINDOW],
     has_parts: bool,
 ) -> Result<u32, SourceFault>
-    requires small { All (λ part. length part < 2 ^ 32) (bytes_of (map S.device parts.old)) }
-    ensures uses { UsesAll (is_err result) (map S.device parts.old) (map S.device parts.new) }
-    ensures crc { AreHonest (map S.device parts.old) →
-        IfOk result (λ n. n ≡ crc (data_of has_parts (bytes_of (map S.device parts.old)))) }
+    requires small { FitWords (bytes_of (map S.device parts.old)) }
+    ensures { Finds (λ ps n. n ≡ crc (data_of has_parts ps)) result S.device parts }
 {
     let mut sum = Crc::start();
     feed_data(parts, window, has_parts, &mut sum)?;
@@ -77,8 +72,8 @@ pub(crate) fn data_crc<S: Source>(
 
 // Writes the table of sizes.
 fn put_table<S: Source, W: Write>(parts: &mut [S], out: &mut Out<W>) -> Result<(), Fault>
-    requires small { All (λ part. length part < 2 ^ 32) (bytes_of (map S.device parts.old)) }
-    ensures { Puts AnyDevices size_table result S.device parts.old parts.new out.old out.new }
+    requires small { FitWords (bytes_of (map S.device parts.old)) }
+    ensures { Puts AnyDevices size_table result S.device parts out }
 {
     for i in 0..parts.len() {
         out.put_all(&size_word(parts, i)?)?;
@@ -93,7 +88,7 @@ fn put_joined<S: Source, W: Write>(
     window: &mut [u8; WINDOW],
     out: &mut Out<W>,
 ) -> Result<(), Fault>
-    ensures { Puts AreHonest joined result S.device parts.old parts.new out.old out.new }
+    ensures { Puts AreHonest joined result S.device parts out }
 {
     let mut remainder = 0;
     for i in 0..parts.len() {
@@ -110,9 +105,8 @@ pub(crate) fn put_data<S: Source, W: Write>(
     has_parts: bool,
     out: &mut Out<W>,
 ) -> Result<(), Fault>
-    requires small { All (λ part. length part < 2 ^ 32) (bytes_of (map S.device parts.old)) }
-    ensures { Puts AreHonest (data_of has_parts) result
-        S.device parts.old parts.new out.old out.new }
+    requires small { FitWords (bytes_of (map S.device parts.old)) }
+    ensures { Puts AreHonest (data_of has_parts) result S.device parts out }
 {
     if !has_parts {
         return put_joined(parts, window, out);

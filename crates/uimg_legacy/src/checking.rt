@@ -1,9 +1,8 @@
 //! Whether an image's checksums are right, without a report.
 
-ghost use Rattle.std.specs.Prelude.{◌≡◌, [], IsTrue, false};
 ghost use Rattle.uimg_base.specs.Using.{UsesAtMost};
 ghost use Rattle.uimg_legacy.specs.Checking.{ChecksAs, Checks};
-ghost use Rattle.uimg_legacy.specs.Faults.{is_read, is_put, is_of_making};
+ghost use Rattle.uimg_legacy.specs.Commands.{Inspects, OfHonest};
 ghost use Rattle.uimg_legacy.specs.Reading.{Reads};
 ghost use Rattle.uimg_legacy.specs.Work.{verify_work};
 
@@ -15,8 +14,7 @@ use uimg_base::{Room, Source};
 
 // Whether both checksums are right.
 fn are_right<S: Source, A: Allocator>(source: &mut S, room: &mut Room<A>) -> Result<bool, Fault>
-    ensures { Reads (UsesAtMost (verify_work (S.device source.old).bytes)) Checks result
-        (S.device source.old) (S.device source.new) room.old room.new }
+    ensures { Reads UsesAtMost verify_work Checks result S.device source room }
 {
     let bytes = read_head(source)?;
     if !has_right_crc(&bytes) {
@@ -29,13 +27,8 @@ fn are_right<S: Source, A: Allocator>(source: &mut S, room: &mut Room<A>) -> Res
 /// with, without its lines. Refusals are `TooShort` and `BadMagic`, and, where the header's checksum is
 /// right, `Truncated`.
 pub fn check<S: Source, A: Allocator>(source: &mut S, room: &mut Room<A>) -> Result<bool, Fault>
-    ensures uses { UsesAtMost (verify_work (S.device source.old).bytes) (is_read result)
-        (S.device source.old) (S.device source.new) }
-    ensures room { room.new ≡ record room.old { entries = [] } }
-    ensures no_put { is_put result ≡ false }
-    ensures no_making { is_of_making result ≡ false }
-    ensures told { IsTrue (S.device source.old).honest →
-        ChecksAs (S.device source.old).bytes result }
+    ensures inspects { Inspects verify_work result S.device source room }
+    ensures told { OfHonest ChecksAs result S.device source }
 {
     room.clear();
     are_right(source, room)

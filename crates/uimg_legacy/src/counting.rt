@@ -1,9 +1,9 @@
 //! How many parts an image has.
 
-ghost use Rattle.std.specs.Prelude.{◌≡◌, ◌+◌, ◌≤◌, [], length, IsTrue, false};
+ghost use Rattle.std.specs.Prelude.{◌+◌, ◌≤◌, length};
 ghost use Rattle.uimg_base.specs.Using.{UsesAtMost};
 ghost use Rattle.uimg_legacy.specs.Counting.{CountsIn, CountsOf};
-ghost use Rattle.uimg_legacy.specs.Faults.{is_read, is_put, is_of_making};
+ghost use Rattle.uimg_legacy.specs.Commands.{Inspects, OfHonest};
 ghost use Rattle.uimg_legacy.specs.Reading.{Reads};
 ghost use Rattle.uimg_legacy.specs.Work.{list_work, table_work};
 
@@ -21,8 +21,8 @@ fn count_in_data<S: Source, A: Allocator>(
     header: &Header,
 ) -> Result<u32, Fault>
     requires { 64 + header.now.size ≤ length (S.device source.old).bytes }
-    ensures { Reads (UsesAtMost (table_work header.now (S.device source.old).bytes))
-        (CountsIn header.now) result (S.device source.old) (S.device source.new) room.old room.new }
+    ensures { Reads UsesAtMost (table_work header.now) (CountsIn header.now) result
+        S.device source room }
 {
     if !has_parts(header.kind) {
         return Ok(1);
@@ -33,8 +33,7 @@ fn count_in_data<S: Source, A: Allocator>(
 
 // How many parts an image has whose checksums are right.
 fn count_in_image<S: Source, A: Allocator>(source: &mut S, room: &mut Room<A>) -> Result<u32, Fault>
-    ensures { Reads (UsesAtMost (list_work (S.device source.old).bytes)) CountsOf
-        result (S.device source.old) (S.device source.new) room.old room.new }
+    ensures { Reads UsesAtMost list_work CountsOf result S.device source room }
 {
     let header = read_image(source, room)?;
     count_in_data(source, room, &header)
@@ -47,12 +46,8 @@ pub fn count_parts<S: Source, A: Allocator>(
     source: &mut S,
     room: &mut Room<A>,
 ) -> Result<u32, Fault>
-    ensures uses { UsesAtMost (list_work (S.device source.old).bytes) (is_read result)
-        (S.device source.old) (S.device source.new) }
-    ensures room { room.new ≡ record room.old { entries = [] } }
-    ensures no_put { is_put result ≡ false }
-    ensures no_making { is_of_making result ≡ false }
-    ensures told { IsTrue (S.device source.old).honest → CountsOf (S.device source.old).bytes result }
+    ensures inspects { Inspects list_work result S.device source room }
+    ensures told { OfHonest CountsOf result S.device source }
 {
     room.clear();
     count_in_image(source, room)

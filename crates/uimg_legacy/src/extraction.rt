@@ -1,14 +1,12 @@
 //! Extraction: one part is found, and written.
 
-ghost use Rattle.std.specs.Prelude.{◌≡◌, ◌+◌, ◌≤◌, [], length, IsTrue, IfOk, false};
-ghost use Rattle.uimg_base.specs.Device.{RisesIf};
+ghost use Rattle.std.specs.Prelude.{◌≡◌, IsTrue};
 ghost use Rattle.uimg_base.specs.Using.{UsesAtMost};
-ghost use Rattle.uimg_base.specs.Outcome.{Tells};
-ghost use Rattle.uimg_base.specs.Ranges.{ReadsAhead};
 ghost use Rattle.uimg_legacy.specs.Extraction.{extract_of};
 ghost use Rattle.uimg_legacy.specs.Work.{list_work, extract_work};
-ghost use Rattle.uimg_legacy.specs.Reading.{Reads, LocatesPart};
-ghost use Rattle.uimg_legacy.specs.Faults.{is_read, is_put, is_of_making, is_refused, end_of};
+ghost use Rattle.uimg_legacy.specs.Reading.{Reads, LocatesPart, EndsInFile};
+ghost use Rattle.uimg_legacy.specs.Faults.{is_refused};
+ghost use Rattle.uimg_legacy.specs.Commands.{Inspects, Delivers, OfHonest, TellsOf, KeepsAhead};
 
 use crate::fault::Fault;
 use crate::image::read_image;
@@ -23,9 +21,8 @@ fn locate_part<S: Source, A: Allocator>(
     room: &mut Room<A>,
     position: u32,
 ) -> Result<Span, Fault>
-    ensures reads { Reads (UsesAtMost (list_work (S.device source.old).bytes)) (LocatesPart position)
-        result (S.device source.old) (S.device source.new) room.old room.new }
-    ensures inside { IfOk result (λ span. span.place + span.length ≤ length (S.device source.old).bytes) }
+    ensures reads { Reads UsesAtMost list_work (LocatesPart position) result S.device source room }
+    ensures inside { EndsInFile result S.device source }
 {
     let header = read_image(source, room)?;
     find_part(source, room, &header, position)
@@ -39,14 +36,9 @@ pub fn locate<S: Source, A: Allocator>(
     source: &mut S,
     room: &mut Room<A>,
 ) -> Result<Span, Fault>
-    ensures uses { UsesAtMost (list_work (S.device source.old).bytes) (is_read result)
-        (S.device source.old) (S.device source.new) }
-    ensures room { room.new ≡ record room.old { entries = [] } }
-    ensures no_put { is_put result ≡ false }
-    ensures no_making { is_of_making result ≡ false }
-    ensures inside { IfOk result (λ span. span.place + span.length ≤ length (S.device source.old).bytes) }
-    ensures told { IsTrue (S.device source.old).honest →
-        LocatesPart position (S.device source.old).bytes result }
+    ensures inspects { Inspects list_work result S.device source room }
+    ensures inside { EndsInFile result S.device source }
+    ensures told { OfHonest (LocatesPart position) result S.device source }
 {
     room.clear();
     locate_part(source, room, position)
@@ -63,17 +55,11 @@ pub fn extract<S: Source, A: Allocator, W: Write>(
     room: &mut Room<A>,
     out: &mut Out<W>,
 ) -> Result<Status, Fault>
-    ensures uses { UsesAtMost (extract_work (S.device source.old).bytes position)
-        (is_read result) (S.device source.old) (S.device source.new) }
-    ensures room { room.new ≡ record room.old { entries = [] } }
-    ensures ahead { IsTrue (S.device source.old).honest → ReadsAhead
-        (list_work (S.device source.old).bytes) (S.device source.old) (S.device source.new)
-        out.old out.new (extract_of (S.device source.old).bytes position).text }
+    ensures delivers { Delivers (λ image. extract_work image position) result
+        S.device source room out }
+    ensures ahead { KeepsAhead list_work (λ image. extract_of image position) S.device source out }
     ensures untouched { IsTrue (is_refused result) → out.new ≡ out.old }
-    ensures faults { RisesIf (is_put result) out.old.faults out.new.faults }
-    ensures no_making { is_of_making result ≡ false }
-    ensures told { IsTrue (S.device source.old).honest →
-        Tells (end_of result) (extract_of (S.device source.old).bytes position) out.old out.new }
+    ensures told { TellsOf (λ image. extract_of image position) result S.device source out }
 {
     room.clear();
     let span = locate_part(source, room, position)?;

@@ -1,10 +1,11 @@
 //! The 64 bytes of a header, read and written.
 
-ghost use Rattle.std.specs.Prelude.{◌≡◌, ◌+◌, ◌≤◌, true, false, take, IsTrue, IfOk, Ok};
+ghost use Rattle.std.specs.Prelude.{◌≡◌, true, Ok};
 ghost use Rattle.uimg_texts.specs.Numbers.{be32};
 ghost use Rattle.uimg_legacy.specs.Header.{magic, head, has_right_crc, fields, header as header_of, spelled_with, spelled, name_of};
-ghost use Rattle.uimg_base.specs.Using.{Asks, Uses};
-ghost use Rattle.uimg_legacy.specs.Faults.{is_read, is_put, is_of_making, Gives};
+ghost use Rattle.uimg_legacy.specs.Commands.{OfHonest};
+ghost use Rattle.uimg_legacy.specs.Faults.{GivesBy};
+ghost use Rattle.uimg_legacy.specs.Reading.{ReadsHead, IsSpelledIn};
 
 use crate::fault::{Fault, LegacyFault};
 use byteorder::{BigEndian, ByteOrder};
@@ -45,11 +46,8 @@ pub struct Header {
 // The 64 bytes of the header, if the file has them and they begin with the magic number.
 #[tactic(auto, unfolding(crate::specs::Header::head))]
 pub(crate) fn read_head<S: Source>(source: &mut S) -> Result<[u8; HEADER_LEN], Fault>
-    ensures uses { Asks 64 (is_read result) (S.device source.old) (S.device source.new) }
-    ensures no_put { is_put result ≡ false }
-    ensures no_making { is_of_making result ≡ false }
-    ensures gives { IsTrue (S.device source.old).honest →
-        Gives (λ x. x) result (head (S.device source.old).bytes) }
+    ensures reads { ReadsHead result S.device source }
+    ensures gives { OfHonest (GivesBy head) result S.device source }
 {
     if source.size()? < HEADER_LEN as u64 {
         return Err(Fault::Legacy(LegacyFault::TooShort));
@@ -98,13 +96,9 @@ pub(crate) fn fields(bytes: &[u8; HEADER_LEN]) -> Header
 /// do not begin with `0x27051956`, `BadHeaderCrc` where the header's CRC is not that of its bytes with
 /// zeros in its place; the first of these that holds. `Read` where a read failed.
 pub fn read_header<S: Source>(source: &mut S) -> Result<Header, Fault>
-    ensures uses { Asks 64 (is_read result) (S.device source.old) (S.device source.new) }
-    ensures no_put { is_put result ≡ false }
-    ensures no_making { is_of_making result ≡ false }
-    ensures gives { IsTrue (S.device source.old).honest →
-        Gives (λ x. x) result (header_of (S.device source.old).bytes) }
-    ensures spelled { IsTrue (S.device source.old).honest →
-        IfOk result (λ h. spelled h ≡ take 64 (S.device source.old).bytes) }
+    ensures reads { ReadsHead result S.device source }
+    ensures gives { OfHonest (GivesBy header_of) result S.device source }
+    ensures spelled { OfHonest IsSpelledIn result S.device source }
 {
     let bytes = read_head(source)?;
     if !has_right_crc(&bytes) {

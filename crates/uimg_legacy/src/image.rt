@@ -2,7 +2,7 @@
 
 ghost use Rattle.std.specs.Prelude.{◌+◌, ◌≤◌, length, OnOk, IfOk};
 ghost use Rattle.uimg_base.specs.Using.{Asks, UsesAtMost};
-ghost use Rattle.uimg_legacy.specs.Work.{data_read, data_length};
+ghost use Rattle.uimg_legacy.specs.Work.{data_read, image_read};
 ghost use Rattle.uimg_legacy.specs.Reading.{Reads, TellsRight, GivesImage};
 
 use crate::fault::{Fault, LegacyFault};
@@ -17,9 +17,8 @@ pub(crate) fn has_right_data<S: Source, A: Allocator>(
     room: &mut Room<A>,
     header: &Header,
 ) -> Result<bool, Fault>
-    ensures reads { Reads (Asks (data_read (S.device source.old).bytes header.now))
-        (TellsRight header.now) result
-        (S.device source.old) (S.device source.new) room.old room.new }
+    ensures reads { Reads Asks (λ image. data_read image header.now) (TellsRight header.now) result
+        S.device source room }
     ensures inside { OnOk result (64 + header.now.size ≤ length (S.device source.old).bytes) }
 {
     let size = header.size as u64;
@@ -34,8 +33,7 @@ pub(crate) fn read_image<S: Source, A: Allocator>(
     source: &mut S,
     room: &mut Room<A>,
 ) -> Result<Header, Fault>
-    ensures reads { Reads (UsesAtMost (64 + data_length (S.device source.old).bytes)) GivesImage
-        result (S.device source.old) (S.device source.new) room.old room.new }
+    ensures reads { Reads UsesAtMost image_read GivesImage result S.device source room }
     ensures inside { IfOk result (λ h. 64 + h.size ≤ length (S.device source.old).bytes) }
 {
     let header = read_header(source)?;

@@ -1,15 +1,13 @@
 //! The listing of an image.
 
-ghost use Rattle.std.specs.Prelude.{◌≡◌, ◌+◌, ◌*◌, ◌≤◌, [], length, IsTrue, false};
+ghost use Rattle.std.specs.Prelude.{◌≡◌, ◌+◌, ◌*◌, ◌≤◌, length, false};
 ghost use Rattle.uimg_base.specs.Device.{RisesIf};
-ghost use Rattle.uimg_texts.specs.Slices.{slice};
 ghost use Rattle.uimg_base.specs.Using.{Asks, UsesAtMost};
-ghost use Rattle.uimg_base.specs.Outcome.{Tells};
-ghost use Rattle.uimg_legacy.specs.Parts.{sizes};
-ghost use Rattle.uimg_legacy.specs.Listing.{lines_of, list_of};
+ghost use Rattle.uimg_legacy.specs.Commands.{Delivers, TellsOf};
+ghost use Rattle.uimg_legacy.specs.Listing.{list_of};
 ghost use Rattle.uimg_legacy.specs.Work.{table_work, list_work};
-ghost use Rattle.uimg_legacy.specs.Reading.{Reports, tail_of};
-ghost use Rattle.uimg_legacy.specs.Faults.{is_read, is_put, is_of_making, end_of};
+ghost use Rattle.uimg_legacy.specs.Reading.{Reports, TellsLines, tail_of};
+ghost use Rattle.uimg_legacy.specs.Faults.{is_read, is_put, is_of_making};
 
 use crate::fault::{Fault, LegacyFault};
 use crate::header::Header;
@@ -33,9 +31,7 @@ fn list_parts<S: Source, W: Write>(
     ensures uses { Asks (4 * count) (is_read result) (S.device source.old) (S.device source.new) }
     ensures faults { RisesIf (is_put result) out.old.faults out.new.faults }
     ensures no_making { is_of_making result ≡ false }
-    ensures told { IsTrue (S.device source.old).honest →
-        count ≡ length (sizes (slice (S.device source.old).bytes 64 size)) → Tells (end_of result)
-        (lines_of (slice (S.device source.old).bytes 64 size) count) out.old out.new }
+    ensures told { TellsLines size count result S.device source out }
 {
     let mut start = 4 * (count as u64 + 1);
     for i in 0..count {
@@ -59,9 +55,8 @@ fn list_tail<S: Source, A: Allocator, W: Write>(
     out: &mut Out<W>,
 ) -> Result<Status, Fault>
     requires { 64 + header.now.size ≤ length (S.device source.old).bytes }
-    ensures { Reports (UsesAtMost (table_work header.now (S.device source.old).bytes))
-        (tail_of header.now) result
-        (S.device source.old) (S.device source.new) room.old room.new out.old out.new }
+    ensures { Reports UsesAtMost (table_work header.now) (tail_of header.now) result
+        S.device source room out }
 {
     if !has_parts(header.kind) {
         return Ok(Status::Done);
@@ -82,13 +77,8 @@ pub fn list<S: Source, A: Allocator, W: Write>(
     naming: Naming,
     out: &mut Out<W>,
 ) -> Result<Status, Fault>
-    ensures uses { UsesAtMost (list_work (S.device source.old).bytes)
-        (is_read result) (S.device source.old) (S.device source.new) }
-    ensures room { room.new ≡ record room.old { entries = [] } }
-    ensures faults { RisesIf (is_put result) out.old.faults out.new.faults }
-    ensures no_making { is_of_making result ≡ false }
-    ensures told { IsTrue (S.device source.old).honest →
-        Tells (end_of result) (list_of naming (S.device source.old).bytes) out.old out.new }
+    ensures delivers { Delivers list_work result S.device source room out }
+    ensures told { TellsOf (list_of naming) result S.device source out }
 {
     room.clear();
     let header = read_image(source, room)?;

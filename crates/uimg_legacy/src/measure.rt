@@ -15,7 +15,7 @@ use uimg_base::{Source, SourceFault};
 
 // Whether one of the parts is empty.
 fn has_empty<S: Source>(parts: &mut [S]) -> Result<bool, SourceFault>
-    ensures { Learns (λ ps b. b ≡ has_empty ps) result S.device parts.old parts.new }
+    ensures { Learns (λ ps b. b ≡ has_empty ps) result S.device parts }
 {
     for i in 0..parts.len() {
         if part_size(parts, i)? == 0 {
@@ -29,8 +29,7 @@ fn has_empty<S: Source>(parts: &mut [S]) -> Result<bool, SourceFault>
 // 2^32 or more may be too small.
 fn end_of_parts<S: Source>(parts: &mut [S], start: u128) -> Result<u128, SourceFault>
     requires { start % 4 ≡ 0 }
-    ensures { Learns (λ ps. SumsTo (start + length (joined ps))) result
-        S.device parts.old parts.new }
+    ensures { Learns (λ ps. SumsTo (start + length (joined ps))) result S.device parts }
 {
     let mut end = start;
     for i in 0..parts.len() {
@@ -42,8 +41,7 @@ fn end_of_parts<S: Source>(parts: &mut [S], start: u128) -> Result<u128, SourceF
 
 // Whether a part is empty.
 fn has_empty_part<S: Source>(parts: &mut [S], kind: u8) -> Result<bool, SourceFault>
-    ensures { Learns (λ ps b. b ≡ (has_parts kind && has_empty ps)) result
-        S.device parts.old parts.new }
+    ensures { Learns (λ ps b. b ≡ (has_parts kind && has_empty ps)) result S.device parts }
 {
     if has_parts(kind) {
         has_empty(parts)
@@ -55,8 +53,7 @@ fn has_empty_part<S: Source>(parts: &mut [S], kind: u8) -> Result<bool, SourceFa
 // How many bytes the data have, with the table of sizes where there is one. A size of 2^32 or more
 // may be too small.
 fn data_size<S: Source>(parts: &mut [S], kind: u8) -> Result<u128, SourceFault>
-    ensures { Learns (λ ps. SumsTo (length (data_of (has_parts kind) ps))) result
-        S.device parts.old parts.new }
+    ensures { Learns (λ ps. SumsTo (length (data_of (has_parts kind) ps))) result S.device parts }
 {
     if has_parts(kind) {
         let table = 4 * (parts.len() as u128 + 1);

@@ -26,7 +26,7 @@ pub(crate) fn zeros_after(remainder: u64) -> &'static [u8]
 // How many bytes a part has.
 pub(crate) fn part_size<S: Source>(parts: &mut [S], i: usize) -> Result<u64, SourceFault>
     requires { i < length parts.old }
-    ensures { Learns (λ ps n. n ≡ length (numbered i ps)) result S.device parts.old parts.new }
+    ensures { Learns (λ ps n. n ≡ length (numbered i ps)) result S.device parts }
 {
     parts[i].size()
 }
@@ -35,8 +35,7 @@ pub(crate) fn part_size<S: Source>(parts: &mut [S], i: usize) -> Result<u64, Sou
 pub(crate) fn size_word<S: Source>(parts: &mut [S], i: usize) -> Result<[u8; 4], SourceFault>
     requires within { i < length parts.old }
     requires small { length (numbered i (bytes_of (map S.device parts.old))) < 2 ^ 32 }
-    ensures { Learns (λ ps w. w ≡ to_be_bytes w32 (length (numbered i ps))) result
-        S.device parts.old parts.new }
+    ensures { Learns (λ ps w. w ≡ to_be_bytes w32 (length (numbered i ps))) result S.device parts }
 {
     let size = part_size(parts, i)?;
     Ok((size as u32).to_be_bytes())
@@ -50,8 +49,7 @@ pub(crate) fn feed_part<M: Summer, S: Source>(
     sum: &mut M,
 ) -> Result<u64, SourceFault>
     requires { i < length parts.old }
-    ensures feeds { Feeds AreHonest M.holds (numbered i) result
-        S.device parts.old parts.new sum.old sum.new }
+    ensures feeds { Feeds AreHonest M.holds (numbered i) result S.device parts sum }
     ensures size { IfOk result (λ n. n ≡ length (numbered i (bytes_of (map S.device parts.old)))) }
 {
     let source = &mut parts[i];
@@ -68,8 +66,7 @@ pub(crate) fn put_part<S: Source, W: Write>(
     out: &mut Out<W>,
 ) -> Result<u64, Fault>
     requires { i < length parts.old }
-    ensures puts { Puts AreHonest (numbered i) result
-        S.device parts.old parts.new out.old out.new }
+    ensures puts { Puts AreHonest (numbered i) result S.device parts out }
     ensures size { IfOk result (λ n. n ≡ length (numbered i (bytes_of (map S.device parts.old)))) }
 {
     let source = &mut parts[i];

@@ -1,13 +1,12 @@
 //! The parts of the types multi and script, and their places.
 
-ghost use Rattle.std.specs.Prelude.{◌≡◌, ◌+◌, ◌*◌, ◌≤◌, length, IsTrue, IfOk, is_err};
-ghost use Rattle.uimg_texts.specs.Slices.{slice};
-ghost use Rattle.uimg_texts.specs.Numbers.{be32};
+ghost use Rattle.std.specs.Prelude.{◌≡◌, ◌+◌, ◌*◌, ◌≤◌, length, IfOk, is_err};
 ghost use Rattle.uimg_base.specs.Using.{Asks, UsesAtMost};
-ghost use Rattle.uimg_legacy.specs.Parts.{has_parts, sizes};
+ghost use Rattle.uimg_legacy.specs.Parts.{has_parts};
 ghost use Rattle.uimg_legacy.specs.Work.{table_work};
-ghost use Rattle.uimg_legacy.specs.Tables.{CountsSizes};
-ghost use Rattle.uimg_legacy.specs.Reading.{Reads, FindsPart};
+ghost use Rattle.uimg_legacy.specs.Tables.{Counts, sizes_work};
+ghost use Rattle.uimg_legacy.specs.Commands.{OfHonest};
+ghost use Rattle.uimg_legacy.specs.Reading.{Reads, FindsPart, IsWordAt};
 
 use crate::fault::{Fault, LegacyFault};
 use crate::header::Header;
@@ -28,8 +27,7 @@ pub fn has_parts(kind: u8) -> bool
 pub(crate) fn size_at<S: Source>(source: &mut S, i: u32) -> Result<u32, SourceFault>
     requires { 64 + 4 * (i + 1) ≤ length (S.device source.old).bytes }
     ensures uses { Asks 4 (is_err result) (S.device source.old) (S.device source.new) }
-    ensures size { IsTrue (S.device source.old).honest →
-        IfOk result (λ n. n ≡ be32 (S.device source.old).bytes (64 + 4 * i)) }
+    ensures size { OfHonest (IsWordAt (64 + 4 * i)) result S.device source }
 {
     let mut word = [0; 4];
     source.fill_at(64 + 4 * i as u64, &mut word)?;
@@ -44,9 +42,7 @@ pub(crate) fn count_sizes<S: Source, A: Allocator>(
     size: u32,
 ) -> Result<u32, Fault>
     requires { 64 + size ≤ length (S.device source.old).bytes }
-    ensures reads { Reads (UsesAtMost (8 * (length (sizes (slice (S.device source.old).bytes 64 size))
-        + 1))) (λ image. CountsSizes (slice image 64 size)) result
-        (S.device source.old) (S.device source.new) room.old room.new }
+    ensures reads { Reads UsesAtMost (sizes_work size) (Counts size) result S.device source room }
     ensures inside { IfOk result (λ n. 4 * (n + 1) ≤ size) }
 {
     let words = size / 4;
@@ -71,9 +67,8 @@ pub(crate) fn find_part<S: Source, A: Allocator>(
     position: u32,
 ) -> Result<Span, Fault>
     requires { 64 + header.now.size ≤ length (S.device source.old).bytes }
-    ensures reads { Reads (UsesAtMost (table_work header.now (S.device source.old).bytes))
-        (FindsPart header.now position) result
-        (S.device source.old) (S.device source.new) room.old room.new }
+    ensures reads { Reads UsesAtMost (table_work header.now) (FindsPart header.now position) result
+        S.device source room }
     ensures inside { IfOk result (λ span. span.place + span.length ≤ 64 + header.now.size) }
 {
     if !has_parts(header.kind) {

@@ -1,10 +1,9 @@
 //! Where all parts of an image stand.
 
 ghost use Rattle.std.specs.Prelude.{◌≡◌, ◌+◌, ◌*◌, ◌≤◌, [], ◌∷◌, ◌++◌, length, IsTrue, IfOk, OnOk};
-ghost use Rattle.uimg_texts.specs.Slices.{slice};
-ghost use Rattle.uimg_base.specs.Using.{Asks, UsesAtMost};
-ghost use Rattle.uimg_legacy.specs.Parts.{sizes};
-ghost use Rattle.uimg_legacy.specs.Placing.{places, places_of, is_unread, GivesPlaces};
+ghost use Rattle.uimg_base.specs.Using.{Asks};
+ghost use Rattle.uimg_legacy.specs.Commands.{UsesWithin};
+ghost use Rattle.uimg_legacy.specs.Placing.{places_of, is_unread, GivesPlaces, TellsPlaces};
 ghost use Rattle.uimg_legacy.specs.Work.{table_work};
 
 use crate::fault::{Fault, LegacyFault};
@@ -77,11 +76,7 @@ fn place_parts<S: Source>(
     requires data { 64 + size ≤ length (S.device source.old).bytes }
     requires table { 4 * (count + 1) ≤ size }
     ensures uses { Asks (4 * count) (is_unread result) (S.device source.old) (S.device source.new) }
-    ensures told { IsTrue (S.device source.old).honest →
-        count ≡ length (sizes (slice (S.device source.old).bytes 64 size)) →
-        GivesPlaces (λ parts. parts.items) result (places
-        (slice (S.device source.old).bytes 64 size)
-        (sizes (slice (S.device source.old).bytes 64 size)) count 0) }
+    ensures told { TellsPlaces (λ parts. parts.items) size count result S.device source }
 {
     let mut parts = Vec::new(alloc);
     let mut start = 4 * (count as u64 + 1);
@@ -124,8 +119,7 @@ pub fn locate_parts<S: Source, A: Allocator>(
     room: &mut Room<A>,
     header: &Header,
 ) -> Result<Vec<Span>, PartsFault>
-    ensures uses { UsesAtMost (table_work header.now (S.device source.old).bytes) (is_unread result)
-        (S.device source.old) (S.device source.new) }
+    ensures uses { UsesWithin (table_work header.now) (is_unread result) S.device source }
     ensures room { room.new ≡ room.old }
     ensures told { IsTrue (S.device source.old).honest → GivesPlaces (λ parts. parts.items) result
         (places_of (S.device source.old).bytes header.now) }

@@ -1,13 +1,10 @@
 //! The report on an image's checksums.
 
-ghost use Rattle.std.specs.Prelude.{◌≡◌, [], IsTrue, false};
-ghost use Rattle.uimg_base.specs.Device.{RisesIf};
-ghost use Rattle.uimg_base.specs.Outcome.{Tells};
+ghost use Rattle.uimg_legacy.specs.Commands.{Delivers, TellsOf};
 ghost use Rattle.uimg_legacy.specs.Report.{verify_of};
 ghost use Rattle.uimg_legacy.specs.Reading.{Reports, report_on};
 ghost use Rattle.uimg_legacy.specs.Work.{data_read, verify_work};
-ghost use Rattle.uimg_base.specs.Using.{Asks, UsesAtMost};
-ghost use Rattle.uimg_legacy.specs.Faults.{is_read, is_put, is_of_making, end_of};
+ghost use Rattle.uimg_base.specs.Using.{Asks};
 
 use crate::fault::Fault;
 use crate::header::{Header, fields, has_right_crc, read_head};
@@ -23,8 +20,8 @@ fn report_data<S: Source, A: Allocator, W: Write>(
     header: &Header,
     out: &mut Out<W>,
 ) -> Result<Status, Fault>
-    ensures { Reports (Asks (data_read (S.device source.old).bytes header.now)) (report_on header.now)
-        result (S.device source.old) (S.device source.new) room.old room.new out.old out.new }
+    ensures { Reports Asks (λ image. data_read image header.now) (report_on header.now) result
+        S.device source room out }
 {
     if has_right_data(source, room, header)? {
         out.put_all(b"data crc32 ok\n")?;
@@ -44,13 +41,8 @@ pub fn verify<S: Source, A: Allocator, W: Write>(
     room: &mut Room<A>,
     out: &mut Out<W>,
 ) -> Result<Status, Fault>
-    ensures uses { UsesAtMost (verify_work (S.device source.old).bytes)
-        (is_read result) (S.device source.old) (S.device source.new) }
-    ensures room { room.new ≡ record room.old { entries = [] } }
-    ensures faults { RisesIf (is_put result) out.old.faults out.new.faults }
-    ensures no_making { is_of_making result ≡ false }
-    ensures told { IsTrue (S.device source.old).honest →
-        Tells (end_of result) (verify_of (S.device source.old).bytes) out.old out.new }
+    ensures delivers { Delivers verify_work result S.device source room out }
+    ensures told { TellsOf verify_of result S.device source out }
 {
     room.clear();
     let bytes = read_head(source)?;

@@ -4,7 +4,7 @@ ghost use Rattle.std.specs.Prelude.{◌≡◌, ◌+◌, ◌*◌, ◌/◌, ◌^�
 ghost use Rattle.uimg_texts.specs.Numbers.{up4};
 ghost use Rattle.uimg_legacy.specs.Words.{words};
 ghost use Rattle.uimg_legacy.specs.Parts.{sizes};
-ghost use Rattle.uimg_legacy.specs.Reading.{ReadsWords, window};
+ghost use Rattle.uimg_legacy.specs.Reading.{ReadsWords, sizes_from, rounded_from};
 
 use std::alloc::Allocator;
 use uimg_base::{Room, Source, SourceFault, number_at, up4};
@@ -32,8 +32,7 @@ pub(crate) fn count_window<S: Source, A: Allocator>(
 ) -> Result<u32, SourceFault>
     requires range { 64 + 4 * (first + count) ≤ length (S.device source.old).bytes }
     requires window { count ≤ 2048 }
-    ensures { ReadsWords count count (λ image. length (sizes (window image first count))) result
-        (S.device source.old) (S.device source.new) room.old room.new }
+    ensures { ReadsWords count count (sizes_from first count) result S.device source room }
 {
     let window = &mut room.window()[..4 * count as usize];
     source.fill_at(64 + 4 * first as u64, window)?;
@@ -64,9 +63,8 @@ fn sum_window<S: Source, A: Allocator>(
 ) -> Result<u64, SourceFault>
     requires range { 64 + 4 * (first + count) ≤ length (S.device source.old).bytes }
     requires window { count ≤ 2048 }
-    ensures { ReadsWords count (2 ^ 32 * count)
-        (λ image. sum_by up4 (words (window image first count))) result
-        (S.device source.old) (S.device source.new) room.old room.new }
+    ensures { ReadsWords count (2 ^ 32 * count) (rounded_from first count) result
+        S.device source room }
 {
     let window = &mut room.window()[..4 * count as usize];
     source.fill_at(64 + 4 * first as u64, window)?;
@@ -80,9 +78,7 @@ pub(crate) fn sum_first<S: Source, A: Allocator>(
     count: u32,
 ) -> Result<u64, SourceFault>
     requires { 64 + 4 * count ≤ length (S.device source.old).bytes }
-    ensures { ReadsWords count (2 ^ 32 * count)
-        (λ image. sum_by up4 (words (window image 0 count))) result
-        (S.device source.old) (S.device source.new) room.old room.new }
+    ensures { ReadsWords count (2 ^ 32 * count) (rounded_from 0 count) result S.device source room }
 {
     let mut sum = 0;
     let mut done = 0;

@@ -1,9 +1,8 @@
 //! The parts of an image are taken out of it, written while its data are summed.
 
-ghost use Rattle.std.specs.Prelude.{◌≡◌, ◌+◌, ◌≤◌, [], false, length, IsTrue, OnOk};
-ghost use Rattle.uimg_base.specs.Using.{UsesAtMost};
-ghost use Rattle.uimg_legacy.specs.Faults.{is_read, is_of_making};
-ghost use Rattle.uimg_legacy.specs.Unpacking.{AreRight, Unpacks, KeepsRight, Extracts, unpack_of};
+ghost use Rattle.std.specs.Prelude.{◌≡◌, [], IsTrue};
+ghost use Rattle.uimg_legacy.specs.Commands.{TakesOut};
+ghost use Rattle.uimg_legacy.specs.Unpacking.{AreRight, Unpacks, KeepsRight, Extracts};
 ghost use Rattle.uimg_legacy.specs.UnpackingSteps.{Settles, unpack_work};
 
 mod copies;
@@ -24,8 +23,7 @@ use uimg_base::{PutFault, Room, Source};
 // The parts that are held are kept, if the data's CRC is right, or thrown away.
 fn settle<T: PartTaker>(right: bool, dcrc: u32, taker: &mut T) -> Result<bool, PutFault>
     requires { IsTrue right → IsTrue T.honest → AreRight dcrc (T.held taker.old) }
-    ensures { IsTrue T.honest → Settles right result
-        (T.held taker.old) (T.kept taker.old) (T.kept taker.new) }
+    ensures { Settles right result T.honest T.held T.kept taker }
 {
     if right {
         taker.keep(dcrc)?;
@@ -56,16 +54,10 @@ pub fn unpack<S: Source, A: Allocator, T: PartTaker>(
     taker: &mut T,
 ) -> Result<bool, Fault>
     requires { IsTrue T.honest → T.held taker.old ≡ [] }
-    ensures uses { UsesAtMost (unpack_work (S.device source.old).bytes) (is_read result)
-        (S.device source.old) (S.device source.new) }
-    ensures room { room.new ≡ record room.old { entries = [] } }
-    ensures no_making { is_of_making result ≡ false }
-    ensures right { IsTrue T.honest →
-        KeepsRight only result (T.kept taker.old) (T.kept taker.new) }
-    ensures told { IsTrue (S.device source.old).honest → IsTrue T.honest → Unpacks result
-        (unpack_of only (S.device source.old).bytes) (T.kept taker.old) (T.kept taker.new) }
-    ensures extracts { IsTrue (S.device source.old).honest → IsTrue T.honest → Extracts
-        (S.device source.old).bytes result (T.kept taker.old) (T.kept taker.new) }
+    ensures takes { TakesOut unpack_work result S.device source room }
+    ensures right { KeepsRight only result T.honest T.kept taker }
+    ensures told { Unpacks only result S.device source T.honest T.kept taker }
+    ensures extracts { Extracts result S.device source T.honest T.kept taker }
 {
     room.clear();
     let header = read_header(source)?;

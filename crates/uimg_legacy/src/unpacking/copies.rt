@@ -21,7 +21,7 @@ fn sum_window<S: Source>(
     requires window { len ≤ 8192 }
     ensures uses { Uses (is_err result) (S.device source.old) (S.device source.new) }
     ensures asked { (S.device source.new).asked ≡ asked_more (S.device source.old).asked len }
-    ensures summed { OnOk result (SumsPiece (S.device source.old) at len sum.old sum.new) }
+    ensures summed { OnOk result (SumsPiece at len S.device source sum) }
 {
     let window = &mut window[..len];
     source.fill_at(at, window)?;
@@ -39,7 +39,7 @@ pub(super) fn sum_range<S: Source>(
 ) -> Result<(), SourceFault>
     requires { at + len ≤ length (S.device source.old).bytes }
     ensures uses { Asks len (is_err result) (S.device source.old) (S.device source.new) }
-    ensures summed { OnOk result (SumsPiece (S.device source.old) at len sum.old sum.new) }
+    ensures summed { OnOk result (SumsPiece at len S.device source sum) }
 {
     let mut done = 0;
     while done < len {
@@ -63,8 +63,7 @@ fn take_window<S: Source, W: Write>(
     requires window { len ≤ 8192 }
     ensures uses { Uses (is_read result) (S.device source.old) (S.device source.new) }
     ensures asked { (S.device source.new).asked ≡ asked_more (S.device source.old).asked len }
-    ensures taken { OnOk result
-        (TakesPiece (S.device source.old) at len sum.old sum.new out.old out.new) }
+    ensures taken { OnOk result (TakesPiece at len S.device source sum out) }
 {
     let window = &mut window[..len];
     if source.fill_at(at, window).is_err() {
@@ -88,8 +87,7 @@ pub(super) fn take_range<S: Source, W: Write>(
 ) -> Result<(), MoveFault>
     requires { at + len ≤ length (S.device source.old).bytes }
     ensures uses { Asks len (is_read result) (S.device source.old) (S.device source.new) }
-    ensures taken { OnOk result
-        (TakesPiece (S.device source.old) at len sum.old sum.new out.old out.new) }
+    ensures taken { OnOk result (TakesPiece at len S.device source sum out) }
 {
     let mut done = 0;
     while done < len {

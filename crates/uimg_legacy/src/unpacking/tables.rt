@@ -1,11 +1,9 @@
 //! The table of sizes, counted while it is summed.
 
-ghost use Rattle.std.specs.Prelude.{◌≡◌, ◌+◌, ◌*◌, ◌≤◌, length, min, IfOk};
+ghost use Rattle.std.specs.Prelude.{◌+◌, ◌*◌, ◌≤◌, length, min, IfOk};
 ghost use Rattle.uimg_base.specs.Using.{UsesAtMost};
-ghost use Rattle.uimg_texts.specs.Slices.{slice};
-ghost use Rattle.uimg_legacy.specs.Parts.{sizes};
-ghost use Rattle.uimg_legacy.specs.Reading.{Reads, ReadsWords, window};
-ghost use Rattle.uimg_legacy.specs.Tables.{CountsSizes};
+ghost use Rattle.uimg_legacy.specs.Reading.{Reads, ReadsWords, sizes_from};
+ghost use Rattle.uimg_legacy.specs.Tables.{Counts, sizes_work};
 ghost use Rattle.uimg_legacy.specs.UnpackingSteps.{SumsPiece};
 
 use crate::fault::{Fault, LegacyFault};
@@ -23,11 +21,9 @@ fn sum_sizes<S: Source, A: Allocator>(
 ) -> Result<u32, SourceFault>
     requires range { 64 + 4 * (first + count) ≤ length (S.device source.old).bytes }
     requires window { count ≤ 2048 }
-    ensures reads { ReadsWords count count
-        (λ image. length (sizes (window image first count))) result
-        (S.device source.old) (S.device source.new) room.old room.new }
-    ensures summed { IfOk result (λ n. SumsPiece (S.device source.old) (64 + 4 * first)
-        (4 * min (n + 1) count) sum.old sum.new) }
+    ensures reads { ReadsWords count count (sizes_from first count) result S.device source room }
+    ensures summed { IfOk result (λ n. SumsPiece (64 + 4 * first) (4 * min (n + 1) count)
+        S.device source sum) }
 {
     let window = &mut room.window()[..4 * count as usize];
     source.fill_at(64 + 4 * first as u64, window)?;
@@ -46,12 +42,9 @@ pub(super) fn sum_table<S: Source, A: Allocator>(
     sum: &mut Crc,
 ) -> Result<u32, Fault>
     requires { 64 + size ≤ length (S.device source.old).bytes }
-    ensures reads { Reads (UsesAtMost (8 * (length (sizes (slice (S.device source.old).bytes 64 size))
-        + 1))) (λ image. CountsSizes (slice image 64 size)) result
-        (S.device source.old) (S.device source.new) room.old room.new }
+    ensures reads { Reads UsesAtMost (sizes_work size) (Counts size) result S.device source room }
     ensures inside { IfOk result (λ n. 4 * (n + 1) ≤ size) }
-    ensures summed { IfOk result
-        (λ n. SumsPiece (S.device source.old) 64 (4 * (n + 1)) sum.old sum.new) }
+    ensures summed { IfOk result (λ n. SumsPiece 64 (4 * (n + 1)) S.device source sum) }
 {
     let words = size / 4;
     let mut counted = 0;

@@ -1,13 +1,10 @@
 //! The parts of the data are taken, and the data summed.
 
-ghost use Rattle.std.specs.Prelude.{◌≡◌, ◌+◌, ◌*◌, ◌≤◌, length, true, false, IsTrue};
+ghost use Rattle.std.specs.Prelude.{◌≡◌, ◌+◌, ◌≤◌, length, true, false, IsTrue};
 ghost use Rattle.uimg_base.specs.Using.{UsesAtMost};
-ghost use Rattle.uimg_legacy.specs.Faults.{is_read, is_of_making};
-ghost use Rattle.uimg_legacy.specs.Image.{payload};
-ghost use Rattle.uimg_legacy.specs.Parts.{has_parts, sizes};
-ghost use Rattle.uimg_legacy.specs.Work.{sizes_read_with};
+ghost use Rattle.uimg_legacy.specs.Parts.{has_parts};
 ghost use Rattle.uimg_legacy.specs.Unpacking.{is_there};
-ghost use Rattle.uimg_legacy.specs.UnpackingSteps.{TakesData};
+ghost use Rattle.uimg_legacy.specs.UnpackingSteps.{Takes, TakesData, listed_work, data_work};
 
 use crate::fault::{Fault, LegacyFault};
 use crate::header::Header;
@@ -53,13 +50,9 @@ fn take_whole<S: Source, A: Allocator, T: PartTaker>(
 ) -> Result<bool, Fault>
     requires data { 64 + header.now.size ≤ length (S.device source.old).bytes }
     requires kind { has_parts header.now.kind ≡ false }
-    ensures uses { UsesAtMost header.now.size (is_read result)
-        (S.device source.old) (S.device source.new) }
-    ensures room { room.new ≡ room.old }
-    ensures no_making { is_of_making result ≡ false }
-    ensures kept { IsTrue T.honest → T.kept taker.new ≡ T.kept taker.old }
-    ensures taken { TakesData only T.honest header.now (S.device source.old) result
-        (T.held taker.old) (T.held taker.new) }
+    ensures takes { Takes (UsesAtMost header.now.size) result
+        S.device source room T.honest T.kept taker }
+    ensures taken { TakesData only header.now result S.device source T.honest T.held taker }
 {
     if !is_there(only, 1) {
         return Err(Fault::Legacy(LegacyFault::NoSuchPart));
@@ -81,14 +74,9 @@ fn take_listed<S: Source, A: Allocator, T: PartTaker>(
 ) -> Result<bool, Fault>
     requires data { 64 + header.now.size ≤ length (S.device source.old).bytes }
     requires kind { has_parts header.now.kind ≡ true }
-    ensures uses { UsesAtMost (header.now.size
-        + 8 * (length (sizes (payload (S.device source.old).bytes header.now)) + 1)) (is_read result)
-        (S.device source.old) (S.device source.new) }
-    ensures room { room.new ≡ room.old }
-    ensures no_making { is_of_making result ≡ false }
-    ensures kept { IsTrue T.honest → T.kept taker.new ≡ T.kept taker.old }
-    ensures taken { TakesData only T.honest header.now (S.device source.old) result
-        (T.held taker.old) (T.held taker.new) }
+    ensures takes { Takes (UsesAtMost (listed_work header.now (S.device source.old).bytes)) result
+        S.device source room T.honest T.kept taker }
+    ensures taken { TakesData only header.now result S.device source T.honest T.held taker }
 {
     let mut sum = Crc::start();
     let count = sum_table(source, room, header.size, &mut sum)?;
@@ -119,14 +107,9 @@ pub(super) fn take_data<S: Source, A: Allocator, T: PartTaker>(
     taker: &mut T,
 ) -> Result<bool, Fault>
     requires { 64 + header.now.size ≤ length (S.device source.old).bytes }
-    ensures uses { UsesAtMost (header.now.size + 8 * (sizes_read_with (has_parts header.now.kind)
-        (payload (S.device source.old).bytes header.now) + 1)) (is_read result)
-        (S.device source.old) (S.device source.new) }
-    ensures room { room.new ≡ room.old }
-    ensures no_making { is_of_making result ≡ false }
-    ensures kept { IsTrue T.honest → T.kept taker.new ≡ T.kept taker.old }
-    ensures taken { TakesData only T.honest header.now (S.device source.old) result
-        (T.held taker.old) (T.held taker.new) }
+    ensures takes { Takes (UsesAtMost (data_work header.now (S.device source.old).bytes)) result
+        S.device source room T.honest T.kept taker }
+    ensures taken { TakesData only header.now result S.device source T.honest T.held taker }
 {
     if has_parts(header.kind) {
         take_listed(source, room, header, only, taker)

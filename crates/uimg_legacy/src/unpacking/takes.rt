@@ -1,11 +1,11 @@
 //! Parts are taken one after another, by their sizes in the table.
 
-ghost use Rattle.std.specs.Prelude.{◌≡◌, ◌+◌, ◌-◌, ◌*◌, ◌≤◌, length, false, IsTrue, OnOk, true};
+ghost use Rattle.std.specs.Prelude.{◌≡◌, ◌+◌, ◌-◌, ◌*◌, ◌≤◌, length, false, true};
 ghost use Rattle.uimg_base.specs.Using.{Asks};
-ghost use Rattle.uimg_texts.specs.Numbers.{be32};
-ghost use Rattle.uimg_legacy.specs.Faults.{is_read, is_refused, is_of_making};
+ghost use Rattle.uimg_legacy.specs.Commands.{OfHonest};
+ghost use Rattle.uimg_legacy.specs.Faults.{is_refused};
 ghost use Rattle.uimg_legacy.specs.Unpacking.{is_asked};
-ghost use Rattle.uimg_legacy.specs.UnpackingSteps.{TakesPart, TakesPadded, TakesNext, Walked, RefusesNext, RefusesFrom};
+ghost use Rattle.uimg_legacy.specs.UnpackingSteps.{Takes, TakesPart, TakesPadded, TakesNext, Pays, Walks, RefusesNumber, RefusesFrom};
 
 use crate::fault::{Fault, LegacyFault};
 use crate::unpacking::copies::{sum_range, take_range};
@@ -45,12 +45,9 @@ pub(super) fn take_part<S: Source, A: Allocator, T: PartTaker>(
     taker: &mut T,
 ) -> Result<(), Fault>
     requires { at + len ≤ length (S.device source.old).bytes }
-    ensures uses { Asks len (is_read result) (S.device source.old) (S.device source.new) }
-    ensures room { room.new ≡ room.old }
+    ensures takes { Takes (Asks len) result S.device source room T.honest T.kept taker }
     ensures accepted { is_refused result ≡ false }
-    ensures kept { IsTrue T.honest → T.kept taker.new ≡ T.kept taker.old }
-    ensures taken { OnOk result (TakesPart true T.honest number (S.device source.old) at len
-        sum.old sum.new (T.held taker.old) (T.held taker.new)) }
+    ensures taken { TakesPart true number at len result S.device source sum T.honest T.held taker }
 {
     let mut out = Out::new(taker.shelf(number)?);
     take_range(sum, source, room.window(), at, len, &mut out)?;
@@ -70,12 +67,9 @@ fn take_if<S: Source, A: Allocator, T: PartTaker>(
     taker: &mut T,
 ) -> Result<(), Fault>
     requires { at + len ≤ length (S.device source.old).bytes }
-    ensures uses { Asks len (is_read result) (S.device source.old) (S.device source.new) }
-    ensures room { room.new ≡ room.old }
+    ensures takes { Takes (Asks len) result S.device source room T.honest T.kept taker }
     ensures accepted { is_refused result ≡ false }
-    ensures kept { IsTrue T.honest → T.kept taker.new ≡ T.kept taker.old }
-    ensures taken { OnOk result (TakesPart asked T.honest number (S.device source.old) at len
-        sum.old sum.new (T.held taker.old) (T.held taker.new)) }
+    ensures taken { TakesPart asked number at len result S.device source sum T.honest T.held taker }
 {
     if asked {
         return take_part(source, room, sum, number, at, len, taker);
@@ -98,12 +92,10 @@ fn take_padded<S: Source, A: Allocator, T: PartTaker>(
 ) -> Result<(), Fault>
     requires part { len ≤ all }
     requires data { at + all ≤ length (S.device source.old).bytes }
-    ensures uses { Asks all (is_read result) (S.device source.old) (S.device source.new) }
-    ensures room { room.new ≡ room.old }
+    ensures takes { Takes (Asks all) result S.device source room T.honest T.kept taker }
     ensures accepted { is_refused result ≡ false }
-    ensures kept { IsTrue T.honest → T.kept taker.new ≡ T.kept taker.old }
-    ensures taken { OnOk result (TakesPadded asked T.honest number (S.device source.old) at len all
-        sum.old sum.new (T.held taker.old) (T.held taker.new)) }
+    ensures taken { TakesPadded asked number at len all result
+        S.device source sum T.honest T.held taker }
 {
     take_if(source, room, sum, asked, number, at, len, taker)?;
     sum_range(sum, source, room.window(), at + len, all - len)?;
@@ -123,17 +115,11 @@ fn take_next<S: Source, A: Allocator, T: PartTaker>(
     requires data { 64 + size ≤ length (S.device source.old).bytes }
     requires word { 4 * (number + 1) ≤ size }
     requires place { walk.old.at ≤ size }
-    ensures uses { Asks (4 + (size - walk.old.at)) (is_read result)
-        (S.device source.old) (S.device source.new) }
-    ensures paid { OnOk result ((S.device source.new).asked + walk.old.at
-        ≤ (S.device source.old).asked + (4 + walk.new.at)) }
-    ensures room { room.new ≡ room.old }
-    ensures no_making { is_of_making result ≡ false }
-    ensures kept { IsTrue T.honest → T.kept taker.new ≡ T.kept taker.old }
-    ensures taken { OnOk result (TakesNext only T.honest number size (S.device source.old)
-        walk.old walk.new (T.held taker.old) (T.held taker.new)) }
-    ensures refused { IsTrue (S.device source.old).honest → RefusesNext walk.old.at size
-        (be32 (S.device source.old).bytes (64 + 4 * number)) result }
+    ensures takes { Takes (Asks (4 + (size - walk.old.at))) result
+        S.device source room T.honest T.kept taker }
+    ensures paid { Pays 4 result S.device source walk }
+    ensures taken { TakesNext only number size result S.device source walk T.honest T.held taker }
+    ensures refused { OfHonest (RefusesNumber number size walk.old.at) result S.device source }
 {
     let mut word = [0; 4];
     source.fill_at(64 + 4 * number as u64, &mut word)?;
@@ -176,17 +162,11 @@ pub(super) fn take_parts<S: Source, A: Allocator, T: PartTaker>(
     requires data { 64 + size ≤ length (S.device source.old).bytes }
     requires table { 4 * (count + 1) ≤ size }
     requires place { walk.old.at ≡ 4 * (count + 1) }
-    ensures uses { Asks (4 * count + (size - walk.old.at)) (is_read result)
-        (S.device source.old) (S.device source.new) }
-    ensures paid { OnOk result ((S.device source.new).asked + walk.old.at
-        ≤ (S.device source.old).asked + (4 * count + walk.new.at)) }
-    ensures room { room.new ≡ room.old }
-    ensures no_making { is_of_making result ≡ false }
-    ensures kept { IsTrue T.honest → T.kept taker.new ≡ T.kept taker.old }
-    ensures taken { OnOk result (Walked only T.honest count size (S.device source.old)
-        walk.old walk.new (T.held taker.old) (T.held taker.new)) }
-    ensures refused { IsTrue (S.device source.old).honest →
-        RefusesFrom count size walk.old.at (S.device source.old).bytes result }
+    ensures takes { Takes (Asks (4 * count + (size - walk.old.at))) result
+        S.device source room T.honest T.kept taker }
+    ensures paid { Pays (4 * count) result S.device source walk }
+    ensures taken { Walks only count size result S.device source walk T.honest T.held taker }
+    ensures refused { OfHonest (RefusesFrom count size walk.old.at) result S.device source }
 {
     for number in 0..count {
         take_next(source, room, number, size, only, walk, taker)?;

@@ -1,4 +1,4 @@
-use Rattle.std.proofs.Common.{◌≡◌, ◌++◌, length, map, Ok, ◌∙◌, ap, sym, refl, arith}
+use Rattle.std.proofs.Common.{rules, ◌≡◌, ◌++◌, length, map, Ok, ◌∙◌, ap, sym, refl, arith}
 use Rattle.uimg_legacy.specs.Header.{header, spelled}
 use Rattle.uimg_legacy.specs.Parts.{has_parts}
 use Rattle.uimg_legacy.specs.Building.{data_for, header_for, legacy_image}
@@ -23,14 +23,18 @@ put_image-requires g c =
     let same = c.head_of.ensures.uses.same.bytes ∙ c.measure.ensures.uses.same.bytes in
     rw same (record { small = parts_small (has_parts c.args.options.now.kind) _ (omega (arith, size)) })
 
-pub returns-clause-uses : goal.returns-clause-uses
-returns-clause-uses g c = uses_then (unasked c.in_ok-size.ensures.uses) (uses_then c.in_ok-head.ensures.uses c.put_image.ensures.uses)
+pub returns-clause-builds : goal.returns-clause-builds
+returns-clause-builds g c = record {
+  uses = uses_then (unasked c.in_ok-size.ensures.uses) (uses_then c.in_ok-head.ensures.uses c.put_image.ensures.uses);
+  faults = search rules;
+  untouched = search rules;
+}
 
 -- the header's bytes, of the parts as they were at first
 head : (g : _) (c : goal.After-parts-3-1 g) → AreHonest (map g.S.Source.device c.args.parts.now) → IsHead c.in_ok-head.head (header_for c.args.options.now (data_for c.args.options.now.kind (bytes_of (map g.S.Source.device c.args.parts.now))))
 head g c honest =
     let measured = c.measure.ensures.uses.same in
-    rw measured.bytes at c.in_ok-head.ensures.head (honest_then _ _ measured honest)
+    rw measured.bytes at c.in_ok-head.ensures.answer (honest_then _ _ measured honest)
 
 pub returns-clause-told : goal.returns-clause-told
 returns-clause-told g c = λ honest.

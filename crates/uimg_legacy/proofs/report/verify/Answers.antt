@@ -12,7 +12,7 @@ returns-in_err-put_all-clause-told g c = λ honest.
 
 pub returns-in_ok-put_all-clause-told : goal.returns-in_ok-put_all-clause-told
 returns-in_ok-put_all-clause-told g c = λ honest.
-    let same = c.read_head.ensures.uses.same in
+    let same = c.read_head.ensures.reads.uses.same in
     let rest = rw same.bytes at c.report_data.ensures.told (honest_still same honest) in
     rw (c.in_ok-bytes.ensures.gives honest, sym c.if-has_right_crc.ensures, sym c.fields.ensures.fields) (Tells-after _ _ _ _ _ _ c.in_ok-put_all.ensures.writes.all rest)
 

@@ -7,66 +7,78 @@ use Rattle.uimg_legacy.proofs.unpacking.unpack.Goals as goal
 
 pub returns-then-branch-header-clause-told : goal.returns-then-branch-header-clause-told
 returns-then-branch-header-clause-told g c = λ honest known.
-    let long = ap (λ (xs : List ℕ). length xs) c.read_header.ensures.uses.same.bytes in
+    let long = ap (λ (xs : List ℕ). length xs) c.read_header.ensures.reads.uses.same.bytes in
     (unpack_truncated c.args.only _ c.in_ok-header.header (c.in_ok-header.ensures.gives honest) (omega (arith, c.in_ok-size.ensures.length, long, c.if-branch-header.true)), refl)
 
-pub returns-in_err-right-clause-uses : goal.returns-in_err-right-clause-uses
-returns-in_err-right-clause-uses g c =
-    let same = same_still c.read_header.ensures.uses.same c.size.ensures.same in
-    let long = ap (λ (xs : List ℕ). length xs) c.read_header.ensures.uses.same.bytes in
+pub returns-in_err-right-clause-takes : goal.returns-in_err-right-clause-takes
+returns-in_err-right-clause-takes g c =
+    let same = same_still c.read_header.ensures.reads.uses.same c.size.ensures.same in
+    let long = ap (λ (xs : List ℕ). length xs) c.read_header.ensures.reads.uses.same.bytes in
     record {
-      same = search rules;
-      asked = λ honest.
-          let work = work_known _ _ c.in_ok-header.header same (c.in_ok-header.ensures.gives honest) (omega (arith, c.in_ok-size.ensures.length, long, c.if-branch-header.false)) in
-          omega (arith, work, c.read_header.ensures.uses.asked, c.size.ensures.asked, c.take_data.ensures.uses.asked (honest_still same honest));
-      failures = search rules;
+      uses = record {
+        same = search rules;
+        asked = λ honest.
+            let work = work_known _ _ c.in_ok-header.header same (c.in_ok-header.ensures.gives honest) (omega (arith, c.in_ok-size.ensures.length, long, c.if-branch-header.false)) in
+            omega (arith, work, c.read_header.ensures.reads.uses.asked, c.size.ensures.asked, c.take_data.ensures.takes.uses.asked (honest_still same honest));
+        failures = search rules;
+      };
+      room = search rules;
+      no_making = search rules;
     }
 
 pub returns-in_err-right-clause-told : goal.returns-in_err-right-clause-told
 returns-in_err-right-clause-told g c = λ honest known.
-    let same = same_still c.read_header.ensures.uses.same c.size.ensures.same in
-    let long = ap (λ (xs : List ℕ). length xs) c.read_header.ensures.uses.same.bytes in
+    let same = same_still c.read_header.ensures.reads.uses.same c.size.ensures.same in
+    let long = ap (λ (xs : List ℕ). length xs) c.read_header.ensures.reads.uses.same.bytes in
     let fault = c.in_err-right.field-0.0 in
     let is : c.from_residual-in_err-right.result ≡ Err fault = search rules in
-    stops c.args.only g.T.PartTaker.honest c.in_ok-header.header _ _ c.from_residual-in_err-right.result fault _ _ _ _ is same honest (c.in_ok-header.ensures.gives honest) (omega (arith, c.in_ok-size.ensures.length, long, c.if-branch-header.false)) c.in_err-right.ensures.taken (c.take_data.ensures.kept known)
+    stops c.args.only g.T.PartTaker.honest c.in_ok-header.header _ _ c.from_residual-in_err-right.result fault _ _ _ _ is same honest (c.in_ok-header.ensures.gives honest) (omega (arith, c.in_ok-size.ensures.length, long, c.if-branch-header.false)) c.in_err-right.ensures.taken (c.take_data.ensures.takes.kept known)
 
 pub settle-requires : goal.settle-requires
 settle-requires g c = λ right known.
     are_right c.args.only g.T.PartTaker.honest c.in_ok-header.header _ c.in_ok-right.right _ _ (is_spelled c.in_ok-header.header (omega arith) (omega arith) (omega arith) (omega arith) (omega arith) (omega arith)) known (c.requires known) c.in_ok-right.ensures.taken right
 
-pub returns-in_err-settle-clause-uses : goal.returns-in_err-settle-clause-uses
-returns-in_err-settle-clause-uses g c =
-    let same = same_still c.read_header.ensures.uses.same c.size.ensures.same in
-    let long = ap (λ (xs : List ℕ). length xs) c.read_header.ensures.uses.same.bytes in
+pub returns-in_err-settle-clause-takes : goal.returns-in_err-settle-clause-takes
+returns-in_err-settle-clause-takes g c =
+    let same = same_still c.read_header.ensures.reads.uses.same c.size.ensures.same in
+    let long = ap (λ (xs : List ℕ). length xs) c.read_header.ensures.reads.uses.same.bytes in
     record {
-      same = search rules;
-      asked = λ honest.
-          let work = work_known _ _ c.in_ok-header.header same (c.in_ok-header.ensures.gives honest) (omega (arith, c.in_ok-size.ensures.length, long, c.if-branch-header.false)) in
-          omega (arith, work, c.read_header.ensures.uses.asked, c.size.ensures.asked, c.take_data.ensures.uses.asked (honest_still same honest));
-      failures = search rules;
+      uses = record {
+        same = search rules;
+        asked = λ honest.
+            let work = work_known _ _ c.in_ok-header.header same (c.in_ok-header.ensures.gives honest) (omega (arith, c.in_ok-size.ensures.length, long, c.if-branch-header.false)) in
+            omega (arith, work, c.read_header.ensures.reads.uses.asked, c.size.ensures.asked, c.take_data.ensures.takes.uses.asked (honest_still same honest));
+        failures = search rules;
+      };
+      room = search rules;
+      no_making = search rules;
     }
 
-pub returns-clause-uses : goal.returns-clause-uses
-returns-clause-uses g c =
-    let same = same_still c.read_header.ensures.uses.same c.size.ensures.same in
-    let long = ap (λ (xs : List ℕ). length xs) c.read_header.ensures.uses.same.bytes in
+pub returns-clause-takes : goal.returns-clause-takes
+returns-clause-takes g c =
+    let same = same_still c.read_header.ensures.reads.uses.same c.size.ensures.same in
+    let long = ap (λ (xs : List ℕ). length xs) c.read_header.ensures.reads.uses.same.bytes in
     record {
-      same = search rules;
-      asked = λ honest.
-          let work = work_known _ _ c.in_ok-header.header same (c.in_ok-header.ensures.gives honest) (omega (arith, c.in_ok-size.ensures.length, long, c.if-branch-header.false)) in
-          omega (arith, work, c.read_header.ensures.uses.asked, c.size.ensures.asked, c.take_data.ensures.uses.asked (honest_still same honest));
-      failures = search rules;
+      uses = record {
+        same = search rules;
+        asked = λ honest.
+            let work = work_known _ _ c.in_ok-header.header same (c.in_ok-header.ensures.gives honest) (omega (arith, c.in_ok-size.ensures.length, long, c.if-branch-header.false)) in
+            omega (arith, work, c.read_header.ensures.reads.uses.asked, c.size.ensures.asked, c.take_data.ensures.takes.uses.asked (honest_still same honest));
+        failures = search rules;
+      };
+      room = search rules;
+      no_making = search rules;
     }
 
 pub returns-clause-right : goal.returns-clause-right
 returns-clause-right g c = λ known.
-    keeps_right c.settle.result c.args.only g.T.PartTaker.honest c.in_ok-header.header _ c.in_ok-right.right c.in_ok-settle.field-0 _ _ _ _ _ (is_spelled c.in_ok-header.header (omega arith) (omega arith) (omega arith) (omega arith) (omega arith) (omega arith)) known (c.requires known) c.in_ok-right.ensures.taken (c.take_data.ensures.kept known) (c.in_ok-settle.ensures known)
+    keeps_right c.settle.result c.args.only g.T.PartTaker.honest c.in_ok-header.header _ c.in_ok-right.right c.in_ok-settle.field-0 _ _ _ _ _ (is_spelled c.in_ok-header.header (omega arith) (omega arith) (omega arith) (omega arith) (omega arith) (omega arith)) known (c.requires known) c.in_ok-right.ensures.taken (c.take_data.ensures.takes.kept known) (c.in_ok-settle.ensures known)
 
 pub returns-clause-told : goal.returns-clause-told
 returns-clause-told g c = λ honest known.
-    let same = same_still c.read_header.ensures.uses.same c.size.ensures.same in
-    let long = ap (λ (xs : List ℕ). length xs) c.read_header.ensures.uses.same.bytes in
-    unpacks c.settle.result c.args.only g.T.PartTaker.honest c.in_ok-header.header _ _ c.in_ok-right.right c.in_ok-settle.field-0 _ _ _ _ _ same honest (c.in_ok-header.ensures.gives honest) (omega (arith, c.in_ok-size.ensures.length, long, c.if-branch-header.false)) known (c.requires known) c.in_ok-right.ensures.taken (c.take_data.ensures.kept known) (c.in_ok-settle.ensures known)
+    let same = same_still c.read_header.ensures.reads.uses.same c.size.ensures.same in
+    let long = ap (λ (xs : List ℕ). length xs) c.read_header.ensures.reads.uses.same.bytes in
+    unpacks c.settle.result c.args.only g.T.PartTaker.honest c.in_ok-header.header _ _ c.in_ok-right.right c.in_ok-settle.field-0 _ _ _ _ _ same honest (c.in_ok-header.ensures.gives honest) (omega (arith, c.in_ok-size.ensures.length, long, c.if-branch-header.false)) known (c.requires known) c.in_ok-right.ensures.taken (c.take_data.ensures.takes.kept known) (c.in_ok-settle.ensures known)
 
 pub returns-clause-extracts : goal.returns-clause-extracts
 returns-clause-extracts g c = λ honest known. extracts c.args.only _ (Ok c.in_ok-settle.field-0) _ _ (returns-clause-told g c honest known)

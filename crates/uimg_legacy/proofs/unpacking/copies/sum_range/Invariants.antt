@@ -1,6 +1,6 @@
 use Rattle.std.proofs.Common.{◌≡◌, ◌≤◌, ◌-◌}
 use Rattle.uimg_base.specs.Device.{SameDevice, asked_more}
-use Rattle.uimg_legacy.specs.UnpackingSteps.{SumsPiece}
+use Rattle.uimg_legacy.specs.UnpackingSteps.{SumsPieceBetween}
 use Rattle.uimg_legacy.proofs.unpacking.copies.sum_range.Given as goal
 
 -- the first `done` bytes were asked for, summed
@@ -12,7 +12,7 @@ invariant-loop-done g l =
       same : SameDevice (device l.fn.source) (device l.source);
       asked : (device l.source).asked ≡ asked_more (device l.fn.source).asked l.done;
       failures : (device l.source).failures ≡ (device l.fn.source).failures;
-      summed : SumsPiece (device l.fn.source) l.at l.done l.fn.sum l.sum;
+      summed : SumsPieceBetween (device l.fn.source) l.at l.done l.fn.sum l.sum;
     }
 
 abbrev pub decreases-loop-done : goal.decreases-loop-done

@@ -1,5 +1,5 @@
 use Rattle.std.proofs.Common.{rules, ◌∙◌, ℕ, subst, arith}
-use Rattle.uimg_legacy.specs.UnpackingSteps.{TakesPiece}
+use Rattle.uimg_legacy.specs.UnpackingSteps.{TakesPieceBetween}
 use Rattle.uimg_legacy.proofs.SumLaws.{nothing_taken, more_taken}
 use Rattle.uimg_legacy.proofs.unpacking.copies.take_range.Goals as goal
 
@@ -24,4 +24,4 @@ loop-done-preserved g c =
     }
 
 pub returns-clause-taken : goal.returns-clause-taken
-returns-clause-taken g c = subst (λ (n : ℕ). TakesPiece (g.S.Source.device c.args.source.now) c.args.at n c.args.sum.now c.loop-done.sum c.args.out.now c.loop-done.out) (omega (arith, c.loop-done.invariant.bound)) c.loop-done.invariant.taken
+returns-clause-taken g c = subst (λ (n : ℕ). TakesPieceBetween (g.S.Source.device c.args.source.now) c.args.at n c.args.sum.now c.loop-done.sum c.args.out.now c.loop-done.out) (omega (arith, c.loop-done.invariant.bound)) c.loop-done.invariant.taken

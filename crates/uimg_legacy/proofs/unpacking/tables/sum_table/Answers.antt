@@ -1,5 +1,5 @@
 use Rattle.std.proofs.Common.{rules, ◌∙◌, ◌*◌, ℕ, subst, refl, arith}
-use Rattle.uimg_legacy.specs.UnpackingSteps.{SumsPiece}
+use Rattle.uimg_legacy.specs.UnpackingSteps.{SumsPieceBetween}
 use Rattle.uimg_legacy.proofs.SumLaws.{nothing_summed, more_summed}
 use Rattle.uimg_texts.specs.Slices.{slice}
 use Rattle.uimg_base.proofs.Slices.{length-slice}
@@ -31,7 +31,7 @@ loop-counted-preserved g c =
           let found = rw inv.same.bytes at c.in_ok-found.ensures.reads.value (honest_still inv.same honest) in
           let more = found ∙ sizes_window image c.args.size c.loop-counted.counted c.min-next.result (omega arith) (inv.sizes honest) in
           omega (arith, more, inv.sizes honest);
-      summed = subst (λ (n : ℕ). SumsPiece (g.S.Source.device c.args.source.now) 64 n c.args.sum.now c.sum_sizes.new.sum) (omega (arith, c.in_ok-found.ensures.reads.bound))
+      summed = subst (λ (n : ℕ). SumsPieceBetween (g.S.Source.device c.args.source.now) 64 n c.args.sum.now c.sum_sizes.new.sum) (omega (arith, c.in_ok-found.ensures.reads.bound))
           (more_summed _ _ 64 (4 * c.loop-counted.counted) _ _ _ _ inv.same inv.summed c.in_ok-found.ensures.summed);
     }
 
@@ -55,5 +55,5 @@ loop-counted-init g c = record {
 pub returns-then-found-next-clause-summed : goal.returns-then-found-next-clause-summed
 returns-then-found-next-clause-summed g c =
     let inv = c.loop-counted.invariant in
-    subst (λ (n : ℕ). SumsPiece (g.S.Source.device c.args.source.now) 64 n c.args.sum.now c.sum_sizes.new.sum) (omega (arith, c.in_ok-found.ensures.reads.bound))
+    subst (λ (n : ℕ). SumsPieceBetween (g.S.Source.device c.args.source.now) 64 n c.args.sum.now c.sum_sizes.new.sum) (omega (arith, c.in_ok-found.ensures.reads.bound))
     (more_summed _ _ 64 (4 * c.loop-counted.counted) _ _ _ _ inv.same inv.summed c.in_ok-found.ensures.summed)

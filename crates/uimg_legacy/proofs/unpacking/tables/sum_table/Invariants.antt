@@ -2,7 +2,7 @@ use Rattle.std.proofs.Common.{◌≡◌, ◌≤◌, ◌+◌, ◌-◌, ◌*◌, l
 use Rattle.uimg_base.specs.Device.{SameDevice}
 use Rattle.uimg_texts.specs.Slices.{slice}
 use Rattle.uimg_legacy.specs.Parts.{sizes}
-use Rattle.uimg_legacy.specs.UnpackingSteps.{SumsPiece}
+use Rattle.uimg_legacy.specs.UnpackingSteps.{SumsPieceBetween}
 use Rattle.uimg_legacy.proofs.unpacking.tables.sum_table.Given as goal
 
 -- the first words, as many as were asked for and summed, are not zero
@@ -16,7 +16,7 @@ invariant-loop-counted g l =
       asked : (device l.source).asked ≤ (device l.fn.source).asked + 4 * l.counted;
       failures : (device l.source).failures ≡ (device l.fn.source).failures;
       sizes : IsTrue (device l.fn.source).honest → l.counted ≤ length (sizes (slice (device l.fn.source).bytes 64 l.size));
-      summed : SumsPiece (device l.fn.source) 64 (4 * l.counted) l.fn.sum l.sum;
+      summed : SumsPieceBetween (device l.fn.source) 64 (4 * l.counted) l.fn.sum l.sum;
     }
 
 abbrev pub decreases-loop-counted : goal.decreases-loop-counted

@@ -20,12 +20,12 @@ loop-number-preserved g c =
     let inv = c.loop-number.invariant in
     let next = c.in_ok-take_next.ensures.taken in
     record {
-      same = same_still inv.same c.take_next.ensures.uses.same;
-      failures = omega (arith, c.in_ok-take_next.ensures.uses.failures, inv.failures);
+      same = same_still inv.same c.take_next.ensures.takes.uses.same;
+      failures = omega (arith, c.in_ok-take_next.ensures.takes.uses.failures, inv.failures);
       paid = omega (arith, c.in_ok-take_next.ensures.paid, inv.paid);
       within = omega (arith, next.place);
-      room = c.take_next.ensures.room ∙ inv.room;
-      kept = λ known. c.take_next.ensures.kept known ∙ inv.kept known;
+      room = c.take_next.ensures.takes.room ∙ inv.room;
+      kept = λ known. c.take_next.ensures.takes.kept known ∙ inv.kept known;
       taken = walked_more c.args.only g.T.PartTaker.honest c.loop-number.number c.args.size _ _ _ _ _ _ _ _ inv.same inv.taken next;
     }
 

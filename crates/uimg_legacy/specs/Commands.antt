@@ -1,0 +1,72 @@
+-- What a call did that reads an image, and what it tells of it.
+use Rattle.std.specs.Prelude.{◌≡◌, ℕ, List, [], Bool, false, Result, IsTrue}
+use Rattle.uimg_base.specs.Lent.{Lent}
+use Rattle.uimg_base.specs.Device.{Device, RisesIf}
+use Rattle.uimg_base.specs.Held.{Held}
+use Rattle.uimg_base.specs.Sink.{Sink}
+use Rattle.uimg_base.specs.Using.{UsesAtMost}
+use Rattle.uimg_base.specs.Outcome.{Outcome, Tells}
+use Rattle.uimg_base.specs.Ranges.{ReadsAhead}
+use Rattle.uimg_base.specs.declared.status.Status.{Status}
+use Rattle.uimg_legacy.specs.declared.fault.LegacyFault.{LegacyFault}
+use Rattle.uimg_legacy.specs.declared.fault.Fault.{Fault}
+use Rattle.uimg_legacy.specs.Faults.{is_read, is_put, is_of_making, end_of}
+
+-- A fact of an answer and the bytes of the source, if that is honest.
+abbrev pub OfHonest : {S X : Type 0} → (List ℕ → X → Type 0) → X → (S → Device) → Lent S → Type 0
+OfHonest fact result device source = IsTrue (device source.entry.now).honest → fact (device source.entry.now).bytes result
+
+-- The source is what it was, and a failure was counted exactly where a read failed. Of an honest one at most as many bytes
+-- were asked for as a measure of its bytes.
+abbrev pub UsesWithin : {S : Type 0} → (List ℕ → ℕ) → Bool → (S → Device) → Lent S → Type 0
+UsesWithin work failed device source = UsesAtMost (work (device source.entry.now).bytes) failed (device source.entry.now) (device source.exit.now)
+
+-- A call that only reads. Of an honest device at most so many bytes were asked for, the room has its entries dropped and is
+-- otherwise as it was, no write failed, and no fault of making is answered.
+pub record InspectsBetween {X : Type 0} (most : ℕ) (result : Result X Fault) (old new : Device) (before after : Held) : Type 0 where
+  pub uses : UsesAtMost most (is_read result) old new
+  pub room : after ≡ record before { entries = [] }
+  pub no_put : is_put result ≡ false
+  pub no_making : is_of_making result ≡ false
+
+-- the same of a source and a room that were lent, by a measure of the source's bytes
+abbrev pub Inspects : {S X : Type 0} → (List ℕ → ℕ) → Result X Fault → (S → Device) → Lent S → Lent Held → Type 0
+Inspects work result device source room = InspectsBetween (work (device source.entry.now).bytes) result
+    (device source.entry.now) (device source.exit.now) room.entry.now room.exit.now
+
+-- A call that reads and writes. Of an honest device at most so many bytes were asked for, the room has its entries dropped and
+-- is otherwise as it was, a fault was counted exactly where a write failed, and no fault of making is answered.
+pub record DeliversBetween {X : Type 0} (most : ℕ) (result : Result X Fault) (old new : Device) (before after : Held) (from to : Sink) : Type 0 where
+  pub uses : UsesAtMost most (is_read result) old new
+  pub room : after ≡ record before { entries = [] }
+  pub faults : RisesIf (is_put result) from.faults to.faults
+  pub no_making : is_of_making result ≡ false
+
+-- the same of a source, a room and an output that were lent
+abbrev pub Delivers : {S X : Type 0} → (List ℕ → ℕ) → Result X Fault → (S → Device) → Lent S → Lent Held → Lent Sink → Type 0
+Delivers work result device source room out = DeliversBetween (work (device source.entry.now).bytes) result
+    (device source.entry.now) (device source.exit.now) room.entry.now room.exit.now out.entry.now out.exit.now
+
+-- A call that reads, and gives a taker what it read. Of an honest device at most so many bytes were asked for, the room has
+-- its entries dropped and is otherwise as it was, and no fault of making is answered.
+pub record TakesOutBetween {X : Type 0} (most : ℕ) (result : Result X Fault) (old new : Device) (before after : Held) : Type 0 where
+  pub uses : UsesAtMost most (is_read result) old new
+  pub room : after ≡ record before { entries = [] }
+  pub no_making : is_of_making result ≡ false
+
+-- the same of a source and a room that were lent
+abbrev pub TakesOut : {S X : Type 0} → (List ℕ → ℕ) → Result X Fault → (S → Device) → Lent S → Lent Held → Type 0
+TakesOut work result device source room = TakesOutBetween (work (device source.entry.now).bytes) result
+    (device source.entry.now) (device source.exit.now) room.entry.now room.exit.now
+
+-- The answer tells an outcome of the bytes of an honest source: its end, after all its text, or a prefix of the text where a
+-- device failed.
+abbrev pub TellsOf : {S : Type 0} → (List ℕ → Outcome LegacyFault) → Result Status Fault → (S → Device) → Lent S → Lent Sink → Type 0
+TellsOf outcome result device source out = IsTrue (device source.entry.now).honest
+    → Tells (end_of result) (outcome (device source.entry.now).bytes) out.entry.now out.exit.now
+
+-- Of an honest source so many bytes were asked for, and beside them what was written of an outcome's text, and a window.
+abbrev pub KeepsAhead : {S : Type 0} → (List ℕ → ℕ) → (List ℕ → Outcome LegacyFault) → (S → Device) → Lent S → Lent Sink → Type 0
+KeepsAhead work outcome device source out = IsTrue (device source.entry.now).honest
+    → ReadsAhead (work (device source.entry.now).bytes) (device source.entry.now) (device source.exit.now) out.entry.now out.exit.now
+    (outcome (device source.entry.now).bytes).text
