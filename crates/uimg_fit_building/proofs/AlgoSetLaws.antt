@@ -1,5 +1,5 @@
 -- The algorithms of hash nodes that are all known are in use.
-use Rattle.std.proofs.Common.{◌≡◌, ℕ, List, [], ◌∷◌, Option, Some, None, Bool, true, false, cond, is_some, refl, ap, sym, subst, ◌∙◌}
+use Rattle.std.proofs.Common.{◌≡◌, List, [], ◌∷◌, Option, Some, None, Bool, true, false, cond, is_some, refl, ap, sym, subst}
 use Rattle.std.specs.List.{list_all, AllByRecursion}
 use Rattle.std.specs.Option.{option_and_then, IfSome}
 use Rattle.uimg_sums.specs.declared.algo.Algo.{Algo}

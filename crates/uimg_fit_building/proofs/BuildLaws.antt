@@ -24,7 +24,7 @@ use Rattle.uimg_fit_base.specs.Placements.{align_of}
 use Rattle.uimg_fit_building.specs.Behind.{images_in, padded_sizes, file_size, end_fault}
 use Rattle.uimg_fit_building.specs.BuildAnswers.{CanBuild, BuildsAnswer}
 use Rattle.uimg_fit_building.specs.Building.{placed_blob, built}
-use Rattle.uimg_fit_building.specs.BuildSteps.{of_measure, MeasuresTree, WritesText, Builds}
+use Rattle.uimg_fit_building.specs.BuildSteps.{of_measure, MeasuresTree, WritesTextBetween, BuildsBetween}
 use Rattle.uimg_fit_building.specs.Filling.{IsFilled}
 use Rattle.uimg_fit_building.specs.ReadsBack.{ReadsBack}
 use Rattle.uimg_fit_building.specs.Refusing.{is_low, build_fault}
@@ -143,7 +143,7 @@ went_well = Ok tt
 
 module _ (steady : Bool) (t : Unread) (placement : Placement) (m : FileMap) (s : Sink) where
   -- memory was refused
-  pub out_of_memory : Builds steady t placement (failed (Fit OutOfMemory)) m m s s
+  pub out_of_memory : BuildsBetween steady t placement (failed (Fit OutOfMemory)) m m s s
   out_of_memory = record {
     files = record { same = same-map m; refusals = refl };
     found = λ complete kept. refl;
@@ -155,7 +155,7 @@ module _ (steady : Bool) (t : Unread) (placement : Placement) (m : FileMap) (s :
   }
 
   -- the tree can't be measured
-  pub unmeasured : (e : Fault) → (let r : Result Plan Fault = Err e in MeasuresTree (align_of placement) r (moved_unread t placement)) → Builds steady t placement (failed e) m m s s
+  pub unmeasured : (e : Fault) → (let r : Result Plan Fault = Err e in MeasuresTree (align_of placement) r (moved_unread t placement)) → BuildsBetween steady t placement (failed e) m m s s
   unmeasured (Blob fault at) h = record {
     files = record { same = same-map m; refusals = refl };
     found = λ complete kept. refl;
@@ -202,7 +202,7 @@ module _ (steady : Bool) (t : Unread) (placement : Placement) (m : FileMap) (s :
     chosen P false false f e h k = absurd (cc)
 
     abbrev ToldBy : FitFault → Type 0
-    ToldBy f = end_fault (totalsize p) (padded_sizes (align_of placement) (images_in t)) placement ≡ Some f → Builds steady t placement (failed (Fit f)) m m s s
+    ToldBy f = end_fault (totalsize p) (padded_sizes (align_of placement) (images_in t)) placement ≡ Some f → BuildsBetween steady t placement (failed (Fit f)) m m s s
 
     low-told : ToldBy PositionTooLow
     low-told e = record {
@@ -236,10 +236,10 @@ module _ (steady : Bool) (t : Unread) (placement : Placement) (m : FileMap) (s :
       can kept = record { named = named m.bytes; fits = fault-is m.bytes kept ∙ good }
 
       abbrev Sent : Result (Unit {0}) TreeFault → Type 0
-      Sent r = WritesText steady t r m n s u (λ files. built (in_full files t) placement)
+      Sent r = WritesTextBetween steady t r m n s u (λ files. built (in_full files t) placement)
 
       -- all was written
-      pub all-sent : (IsTrue m.honest → AreKept m.bytes t) → Sent (Ok tt) → Builds steady t placement went_well m n s u
+      pub all-sent : (IsTrue m.honest → AreKept m.bytes t) → Sent (Ok tt) → BuildsBetween steady t placement went_well m n s u
       all-sent are_kept w = record {
         files = w.files;
         found = λ complete kept. refl;
@@ -254,7 +254,7 @@ module _ (steady : Bool) (t : Unread) (placement : Placement) (m : FileMap) (s :
           not-true h = absurd (cc)
 
       -- a write, a read or an open failed
-      pub not-sent : (f : TreeFault) → Sent (Err f) → Builds steady t placement (failed (of_writing f)) m n s u
+      pub not-sent : (f : TreeFault) → Sent (Err f) → BuildsBetween steady t placement (failed (of_writing f)) m n s u
       not-sent tree.Put w = record {
         files = w.files;
         found = λ complete kept. refl;
@@ -284,9 +284,9 @@ module _ (steady : Bool) (t : Unread) (placement : Placement) (m : FileMap) (s :
       }
 
 -- a refusal of a written tree, as an answer of building
-pub refused : (steady : Bool) (t : Unread) (placement : Placement) (r : Answer) (e : Fault) (m n : FileMap) (s u : Sink) → IsErrAnd r (λ x. x ≡ e) → Builds steady t placement (failed e) m n s u → Builds steady t placement r m n s u
+pub refused : (steady : Bool) (t : Unread) (placement : Placement) (r : Answer) (e : Fault) (m n : FileMap) (s u : Sink) → IsErrAnd r (λ x. x ≡ e) → BuildsBetween steady t placement (failed e) m n s u → BuildsBetween steady t placement r m n s u
 refused steady t placement (Ok x) e m n s u h b = absurd h
-refused steady t placement (Err f) e m n s u h b = subst (λ (x : Fault). Builds steady t placement (failed x) m n s u) (sym h) b
+refused steady t placement (Err f) e m n s u h b = subst (λ (x : Fault). BuildsBetween steady t placement (failed x) m n s u) (sym h) b
 
 -- where the file of a filled tree was built, it reads back
 pub on-built : (name : List ℕ) (own : List (NamedOf (List ℕ))) (below : NodesOf (List ℕ)) (placement : Placement) (r : Answer) (s u : Sink) → (let t : NodesOf (List ℕ) = a_node name own below no_node in BuildsAnswer t placement r s u)

@@ -1,6 +1,7 @@
 -- The hash nodes of an image one by one.
-use Rattle.std.proofs.Common.{◌≡◌, ◌<◌, ◌≤◌, ℕ, zero, suc, List, [], ◌∷◌, length, map, take, get_or, replicate, None, Bool, true, false, cond, refl, ◌∙◌, arith, Result, Ok, Err, OnOk}
+use Rattle.std.proofs.Common.{◌≡◌, ◌<◌, ◌≤◌, ℕ, zero, suc, List, [], ◌∷◌, length, map, take, get_or, replicate, Option, Some, None, Bool, true, false, cond, refl, ap, sym, subst, ◌∙◌, codes, arith, Result, Ok, Err, OnOk}
 use Rattle.std.specs.List.{filter, AllByRecursion}
+use Rattle.std.specs.Option.{option_map_or, IfSome}
 use Rattle.std.proofs.lemmas.List.{take_at}
 use Rattle.uimg_sums.specs.declared.algo.Algo.{Algo}
 use Rattle.uimg_sums.specs.declared.algo.Algo.TheVariants.{Crc32, Md5, Sha1, Sha256, Sha384, Sha512}
@@ -11,10 +12,12 @@ use Rattle.uimg_texts.specs.Nul.{before_nul, text}
 use Rattle.uimg_blob.specs.Roles.{is_hash}
 use Rattle.uimg_blob.specs.LookUps.{NodeOf}
 use Rattle.uimg_tree.specs.declared.tree.Node.{Node}
-use Rattle.uimg_tree.specs.Content.{Content}
+use Rattle.uimg_tree.specs.Content.{Content, bytes}
 use Rattle.uimg_fit_base.specs.declared.algo_sets.AlgoSet.{AlgoSet}
+use Rattle.uimg_fit_base.specs.AlgoSets.{has}
 use Rattle.uimg_fit_building.specs.Behind.{entry}
-use Rattle.uimg_fit_building.specs.PayloadSums.{IsCovered}
+use Rattle.uimg_fit_building.specs.Filling.{with, algo_by, with_digest_by}
+use Rattle.uimg_fit_building.specs.PayloadSums.{in_memory, IsCovered}
 
 -- a value in a file names no algorithm
 pub no_name : algo_named (text []) ≡ None
@@ -37,6 +40,15 @@ digest-fits Sha512 = omega arith
 pub on-ok : {X F : Type 0} {P Q : Type 0} (r : Result X F) → (P → Q) → OnOk r P → OnOk r Q
 on-ok (Ok x) f h = f h
 on-ok (Err e) f h = tt
+
+-- a hash node whose algorithm is in use, with the digest by it
+pub hash-filled : (set : AlgoSet) (h : NodeOf Content) (algo : Algo) (c : Content) (message : List ℕ) → algo_by in_memory h.own ≡ Some algo → IsCovered set h
+    → (has set algo ≡ true → c ≡ bytes (digest_by algo message))
+    → (let n : NodeOf Content = record h { own = with (codes "value") c h.own } in n) ≡ with_digest_by in_memory bytes message h
+hash-filled set h algo c message known covered is =
+    let valued : Content → NodeOf Content = λ v. record h { own = with (codes "value") v h.own } in
+    ap valued (is (subst (λ (o : Option Algo). IfSome o (λ a. has set a ≡ true)) known covered))
+    ∙ sym (ap (λ (o : Option Algo). option_map_or (λ a. valued (bytes (digest_by a message))) o h) known)
 
 -- a hash node among those whose algorithms are in use
 covered-step : (set : AlgoSet) (b : Bool) (h : NodeOf Content) (hs : List (NodeOf Content)) → b ≡ is_hash h.name → AllByRecursion (IsCovered set) (cond b (h ∷ hs) hs)

@@ -205,6 +205,6 @@ pub content-some : {X : Type 0} (f : X → Content) (o : Option X) (x : X) → o
 content-some f o x is = rw is refl
 
 pub children-filled : {A X : Type 0} (r : Result X FitFault) (files : List ℕ → Option (List ℕ)) (c : Content) (old new : List (Node A)) → are_known (siblings old) ≡ true → IfErr r (λ fault. fault ≡ OutOfMemory)
-    → OnOk r (map entry new ≡ map (hashed_in (bytes_in files c)) (map entry old)) → FillsHashes (λ u. siblings new) files c (siblings old) r
-children-filled (Ok x) files c old new known memory is = (known, siblings-each (hashed_in (bytes_in files c)) old new is)
+    → OnOk r (siblings new ≡ each (hashed_in (bytes_in files c)) (siblings old)) → FillsHashes (λ u. siblings new) files c (siblings old) r
+children-filled (Ok x) files c old new known memory is = (known, is)
 children-filled (Err fault) files c old new known memory is = rw memory tt

@@ -19,7 +19,7 @@ use Rattle.uimg_fit_base.specs.declared.placement.Placement.{Placement}
 use Rattle.uimg_fit_base.specs.Placements.{align_of}
 use Rattle.uimg_fit_building.specs.Behind.{behind_pieces}
 use Rattle.uimg_fit_building.specs.Building.{placed_blob, behind}
-use Rattle.uimg_fit_building.specs.BuildSteps.{WritesText}
+use Rattle.uimg_fit_building.specs.BuildSteps.{WritesTextBetween}
 use Rattle.uimg_fit_building.specs.UnreadTrees.{moved_unread}
 use Rattle.uimg_fit_building.proofs.BehindLaws.{behind-kept, behind-joined}
 use Rattle.uimg_fit_building.proofs.BuildLaws.{placed-kept, placed-size}
@@ -40,7 +40,7 @@ Text = (List ℕ → Option (List ℕ)) → List ℕ
 
 module _ (steady : Bool) (t : Unread) where
   -- the first text, and then the second
-  pub goes : (r : Answer) (m n k : FileMap) (s u v : Sink) (a b : Text) → WritesText steady t went_well m n s u a → WritesText steady t r n k u v b → WritesText steady t r m k s v (λ files. a files ++ b files)
+  pub goes : (r : Answer) (m n k : FileMap) (s u v : Sink) (a b : Text) → WritesTextBetween steady t went_well m n s u a → WritesTextBetween steady t r n k u v b → WritesTextBetween steady t r m k s v (λ files. a files ++ b files)
   goes r m n k s u v a b p q =
       let same = p.files.same in
       let later = q.files.same in
@@ -59,7 +59,7 @@ module _ (steady : Bool) (t : Unread) where
       }
 
   -- a failure in the first
-  pub stops : (f : TreeFault) (m n : FileMap) (s u : Sink) (a b : Text) → WritesText steady t (failed f) m n s u a → WritesText steady t (failed f) m n s u (λ files. a files ++ b files)
+  pub stops : (f : TreeFault) (m n : FileMap) (s u : Sink) (a b : Text) → WritesTextBetween steady t (failed f) m n s u a → WritesTextBetween steady t (failed f) m n s u (λ files. a files ++ b files)
   stops f m n s u a b p = record {
     files = p.files;
     faults = p.faults;
@@ -68,9 +68,9 @@ module _ (steady : Bool) (t : Unread) where
     written = λ honest kept. let first = p.written honest kept in record { all = first.all; prefix = prefix_first s u (a m.bytes) (b m.bytes) first.prefix };
   }
 
-  pub refused : (r : Answer) (f : TreeFault) (m n : FileMap) (s u : Sink) (a : Text) → IsErrAnd r (λ e. e ≡ f) → WritesText steady t (failed f) m n s u a → WritesText steady t r m n s u a
+  pub refused : (r : Answer) (f : TreeFault) (m n : FileMap) (s u : Sink) (a : Text) → IsErrAnd r (λ e. e ≡ f) → WritesTextBetween steady t (failed f) m n s u a → WritesTextBetween steady t r m n s u a
   refused (Ok x) f m n s u a h p = absurd h
-  refused (Err e) f m n s u a h p = subst (λ (g : TreeFault). WritesText steady t (failed g) m n s u a) (sym h) p
+  refused (Err e) f m n s u a h p = subst (λ (g : TreeFault). WritesTextBetween steady t (failed g) m n s u a) (sym h) p
 
   module _ (placement : Placement) (r : Answer) (m n : FileMap) (s u : Sink) where
     -- the blob of a tree whose payloads are placed
@@ -78,7 +78,7 @@ module _ (steady : Bool) (t : Unread) where
         → (IsTrue m.complete → AreKept m.bytes placed → is_no_file r ≡ false)
         → (IsTrue steady → IsTrue m.honest → AreKept m.bytes placed → is_read r ≡ false)
         → (IsTrue m.honest → AreKept m.bytes placed → Written (is_err r) s u (encode_by (align_of placement) (in_full m.bytes placed)))
-        → WritesText steady t r m n s u (λ files. placed_blob (in_full files t) placement)
+        → WritesTextBetween steady t r m n s u (λ files. placed_blob (in_full files t) placement)
     blob-sent placed is files faults found reads written = record {
       files = files;
       faults = faults;
@@ -93,7 +93,7 @@ module _ (steady : Bool) (t : Unread) where
         all_kept kept = subst (λ (p : Unread). AreKept m.bytes p) (sym is) (placed-kept t placement m.bytes kept)
 
     -- what stands behind it
-    pub behind-sent : (size : ℕ) → totalsize (plan_of (align_of placement) (moved_unread t placement)) ≡ size → WritesPieces steady r m n s u (behind_pieces size t placement) → WritesText steady t r m n s u (λ files. behind (in_full files t) placement)
+    pub behind-sent : (size : ℕ) → totalsize (plan_of (align_of placement) (moved_unread t placement)) ≡ size → WritesPieces steady r m n s u (behind_pieces size t placement) → WritesTextBetween steady t r m n s u (λ files. behind (in_full files t) placement)
     behind-sent size is p = record {
       files = p.files;
       faults = p.faults;

@@ -2,6 +2,7 @@
 use Rattle.std.specs.Prelude.{◌≡◌, ◌<◌, ℕ, Bool, IsTrue, List, Option, Some, None, Result, Ok, Err, ⊤, false, is_err}
 use Rattle.std.specs.Result.{OnOk}
 use Rattle.uimg_base.specs.Device.{RisesIf}
+use Rattle.uimg_base.specs.Lent.{Lent}
 use Rattle.uimg_base.specs.Named.{FileMap}
 use Rattle.uimg_base.specs.Sink.{Sink}
 use Rattle.uimg_base.specs.Writing.{Written}
@@ -16,10 +17,10 @@ use Rattle.uimg_tree.specs.Measured.{bad_name}
 use Rattle.uimg_tree.specs.UsingFiles.{UsesFiles}
 use Rattle.uimg_fit_base.specs.declared.fault.Fault.{Fault}
 use Rattle.uimg_fit_base.specs.declared.fault.Fault.TheVariants.{Blob, Fit, Read, Put}
-use Rattle.uimg_fit_base.specs.declared.fault.FitFault.TheVariants.{TooLarge, OutOfMemory, NoFile}
+use Rattle.uimg_fit_base.specs.declared.fault.FitFault.TheVariants.{TooLarge, OutOfMemory}
 use Rattle.uimg_fit_base.specs.declared.placement.Placement.{Placement}
 use Rattle.uimg_fit_building.specs.BuildAnswers.{is_no_file, is_before_writing, BuildsAnswer}
-use Rattle.uimg_fit_base.specs.Faults.{is_read, is_put, of_writing}
+use Rattle.uimg_fit_base.specs.Faults.{is_read, is_put}
 
 -- the fault of a tree that can't be measured: its blob is too large for a file, or memory was refused, or a name is bad
 abbrev pub of_measure : BlobFault → Fault
@@ -38,15 +39,18 @@ MeasuresTree align (Err Read) t = ⊥
 MeasuresTree align (Err Put) t = ⊥
 
 -- What a call did that writes a text, which depends on files, where those of a tree are kept.
-pub record WritesText {X : Type 0} (steady : Bool) (t : Unread) (answer : Result X TreeFault) (old new : FileMap) (s u : Sink) (text : (List ℕ → Option (List ℕ)) → List ℕ) : Type 0 where
+pub record WritesTextBetween {X : Type 0} (steady : Bool) (t : Unread) (answer : Result X TreeFault) (old new : FileMap) (s u : Sink) (text : (List ℕ → Option (List ℕ)) → List ℕ) : Type 0 where
   pub files : UsesFiles (writing.is_no_file answer) old new
   pub faults : RisesIf (writing.is_put answer) s.faults u.faults
   pub found : IsTrue old.complete → AreKept old.bytes t → writing.is_no_file answer ≡ false
   pub reads : IsTrue steady → IsTrue old.honest → AreKept old.bytes t → writing.is_read answer ≡ false
   pub written : IsTrue old.honest → AreKept old.bytes t → Written (is_err answer) s u (text old.bytes)
 
+abbrev pub WritesText : {F X : Type 0} → Bool → (F → FileMap) → Unread → Result X TreeFault → Lent F → Lent Sink → ((List ℕ → Option (List ℕ)) → List ℕ) → Type 0
+WritesText steady map t answer files out text = WritesTextBetween steady t answer (map files.entry.now) (map files.exit.now) out.entry.now out.exit.now text
+
 -- What building did to files and to an output.
-pub record Builds {X : Type 0} (steady : Bool) (t : Unread) (placement : Placement) (answer : Result X Fault) (old new : FileMap) (s u : Sink) : Type 0 where
+pub record BuildsBetween {X : Type 0} (steady : Bool) (t : Unread) (placement : Placement) (answer : Result X Fault) (old new : FileMap) (s u : Sink) : Type 0 where
   pub files : UsesFiles (is_no_file answer) old new
   pub found : IsTrue old.complete → AreKept old.bytes t → is_no_file answer ≡ false
   pub reads : IsTrue steady → IsTrue old.honest → AreKept old.bytes t → is_read answer ≡ false
@@ -54,3 +58,6 @@ pub record Builds {X : Type 0} (steady : Bool) (t : Unread) (placement : Placeme
   pub untouched : IsTrue (is_before_writing answer) → u ≡ s
   pub kept : IsTrue old.honest → OnOk answer (AreKept old.bytes t)
   pub told : IsTrue old.honest → AreKept old.bytes t → BuildsAnswer (in_full old.bytes t) placement answer s u
+
+abbrev pub Builds : {F X : Type 0} → Bool → (F → FileMap) → Unread → Placement → Result X Fault → Lent F → Lent Sink → Type 0
+Builds steady map t placement answer files out = BuildsBetween steady t placement answer (map files.entry.now) (map files.exit.now) out.entry.now out.exit.now

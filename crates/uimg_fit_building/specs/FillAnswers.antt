@@ -1,5 +1,6 @@
 -- What filling answers, over files that have those of the tree.
 use Rattle.std.specs.Prelude.{◌≡◌, ◌≢◌, ℕ, List, [], ◌∷◌, ◌++◌, map, Bool, true, false, IsTrue, Option, Some, None, Result, Ok, Err, codes, ⊤}
+use Rattle.uimg_base.specs.Lent.{Lent}
 use Rattle.uimg_base.specs.Named.{FileMap}
 use Rattle.uimg_tree.specs.UsingFiles.{UsesFiles}
 use Rattle.uimg_blob.specs.Plain.{with_value, with_values}
@@ -23,10 +24,13 @@ fails_to_read _ = false
 
 -- A call that opens files leaves them as they were, and counts each refused open. Where the files that are kept are there, those of
 -- a complete map refuse none, and what never fails is read.
-pub record OpensKept {X : Type 0} (never_fails : Bool) (AreThere : Type 0) (result : Result X FitFault) (old new : FileMap) : Type 0 where
+pub record OpensKeptBetween {X : Type 0} (never_fails : Bool) (AreThere : Type 0) (result : Result X FitFault) (old new : FileMap) : Type 0 where
   pub files : UsesFiles (opens_no_file result) old new
   pub found : IsTrue old.complete → AreThere → opens_no_file result ≡ false
   pub steady : IsTrue never_fails → IsTrue old.honest → AreThere → fails_to_read result ≡ false
+
+abbrev pub OpensKept : {F X : Type 0} → Bool → (F → FileMap) → ((List ℕ → Option (List ℕ)) → Type 0) → Result X FitFault → Lent F → Type 0
+OpensKept never_fails map AreThere result files = OpensKeptBetween never_fails (AreThere (map files.entry.now).bytes) result (map files.entry.now) (map files.exit.now)
 
 -- a node with the bytes of each file in its place
 abbrev pub node_in_full : (List ℕ → Option (List ℕ)) → NodeOf Content → NodeOf (List ℕ)

@@ -12,3 +12,7 @@ pub mod PayloadSums
 pub mod ImageFillings
 pub mod DigestBytes
 pub mod FillOrder
+pub mod SettingSteps
+pub mod HashSteps
+pub mod PayloadSteps
+pub mod ImageSteps

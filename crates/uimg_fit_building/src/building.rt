@@ -6,6 +6,7 @@ ghost use Rattle.uimg_tree.specs.Content.{AreKept, in_full};
 ghost use Rattle.uimg_tree.specs.Layouts.{plan_of, totalsize};
 ghost use Rattle.uimg_tree.specs.Trees.{node_of};
 ghost use Rattle.uimg_tree.specs.UsingFiles.{UsesFiles};
+ghost use Rattle.uimg_tree.specs.LentFiles.{IfHonest, IfComplete, IfSteady, IfInFull};
 ghost use Rattle.uimg_fit_building.specs.BuildAnswers.{is_no_file, is_before_writing, BuildsAnswer};
 ghost use Rattle.uimg_fit_building.specs.BuildSteps.{of_measure, MeasuresTree, WritesText, Builds};
 ghost use Rattle.uimg_fit_building.specs.Building.{built};
@@ -66,11 +67,10 @@ fn write_file<F: Files, W: Write, A: Allocator>(
     requires plan { layout.now ≡ plan_of (align_of placement) (node_of placed.now.root) }
     requires placed { node_of placed.now.root ≡ moved_unread (node_of tree.now.root) placement }
     requires high { is_low (totalsize layout.now) placement ≡ false }
-    ensures kept { IsTrue (F.map files.old).honest →
-        OnOk result (AreKept (F.map files.old).bytes (node_of tree.now.root)) }
-    ensures sent { WritesText F.Opened.steady (node_of tree.now.root) result (F.map files.old)
-        (F.map files.new) out.old out.new
-        (λ files. built (in_full files (node_of tree.now.root)) placement) }
+    ensures kept { IfHonest F.map files (λ there.
+        OnOk result (AreKept there (node_of tree.now.root))) }
+    ensures sent { WritesText F.Opened.steady F.map (node_of tree.now.root) result files out
+        (λ there. built (in_full there (node_of tree.now.root)) placement) }
 {
     write_tree(placed, layout, files, out)?;
     put_behind(layout.totalsize(), tree, placement, files, out)
@@ -86,8 +86,7 @@ fn build_placed<F: Files, W: Write, A: Allocator>(
     out: &mut Out<W>,
 ) -> Result<(), Fault>
     requires { node_of placed.now.root ≡ moved_unread (node_of tree.now.root) placement }
-    ensures { Builds F.Opened.steady (node_of tree.now.root) placement result (F.map files.old)
-        (F.map files.new) out.old out.new }
+    ensures { Builds F.Opened.steady F.map (node_of tree.now.root) placement result files out }
 {
     let layout = measure_placed(alloc, placed, placement.align())?;
     check_payloads(layout.totalsize(), tree, placement)?;
@@ -103,8 +102,7 @@ fn place_and_build<F: Files, W: Write, A: Allocator + Copy>(
     files: &mut F,
     out: &mut Out<W>,
 ) -> Result<(), Fault>
-    ensures { Builds F.Opened.steady (node_of tree.now.root) placement result (F.map files.old)
-        (F.map files.new) out.old out.new }
+    ensures { Builds F.Opened.steady F.map (node_of tree.now.root) placement result files out }
 {
     match placement {
         Placement::Inside => build_placed(alloc, tree, tree, placement, files, out),
@@ -152,24 +150,18 @@ pub fn build<F: Files, W: Write, A: Allocator + Copy>(
     out: &mut Out<W>,
 ) -> Result<(), Fault>
     ensures files { UsesFiles (is_no_file result) (F.map files.old) (F.map files.new) }
-    ensures found { IsTrue (F.map files.old).complete →
-        AreKept (F.map files.old).bytes (node_of tree.now.root) → is_no_file result ≡ false }
-    ensures steady { IsTrue F.Opened.steady → IsTrue (F.map files.old).honest →
-        AreKept (F.map files.old).bytes (node_of tree.now.root) → is_read result ≡ false }
+    ensures found { IfComplete F.map files (node_of tree.now.root) (is_no_file result ≡ false) }
+    ensures steady { IfSteady F.Opened.steady F.map files (node_of tree.now.root)
+        (is_read result ≡ false) }
     ensures faults { RisesIf (is_put result) out.old.faults out.new.faults }
     ensures untouched { IsTrue (is_before_writing result) → out.new ≡ out.old }
-    ensures kept { IsTrue (F.map files.old).honest →
-        OnOk result (AreKept (F.map files.old).bytes (node_of tree.now.root)) }
-    ensures built { IsTrue (F.map files.old).honest →
-        AreKept (F.map files.old).bytes (node_of tree.now.root) →
-        BuildsAnswer (in_full (F.map files.old).bytes (node_of tree.now.root)) placement result
-        out.old out.new }
-    ensures reads_back { IsTrue (F.map files.old).honest →
-        AreKept (F.map files.old).bytes (node_of tree.now.root) →
-        IsFilled (in_full (F.map files.old).bytes (node_of tree.now.root)) →
-        OnOk result (ReadsBack
-        (built (in_full (F.map files.old).bytes (node_of tree.now.root)) placement)
-        (in_full (F.map files.old).bytes (node_of tree.now.root))) }
+    ensures kept { IfHonest F.map files (λ there.
+        OnOk result (AreKept there (node_of tree.now.root))) }
+    // Here `t` is the tree with the bytes of its files.
+    ensures built { IfInFull F.map files (node_of tree.now.root) (λ t.
+        BuildsAnswer t placement result out.old out.new) }
+    ensures reads_back { IfInFull F.map files (node_of tree.now.root) (λ t.
+        IsFilled t → OnOk result (ReadsBack (built t placement) t)) }
 {
     place_and_build(alloc, tree, placement, files, out)
 }

@@ -1,20 +1,20 @@
 //! Filling: the timestamp and the digests of a tree are set.
 
-ghost use Rattle.std.specs.Prelude.{◌≡◌, codes, not, Some, IsTrue, IfOk, IfErr, OnOk, false};
-ghost use Rattle.std.specs.List.{prefix_len, AllByRecursion};
-ghost use Rattle.std.specs.Option.{IfSome};
+ghost use Rattle.std.specs.Prelude.{◌≡◌, codes, not, Some, IfOk, OnOk, false};
+ghost use Rattle.std.specs.List.{prefix_len};
 ghost use Rattle.std.specs.Str.{bytes_eq};
 ghost use Rattle.uimg_blob.specs.LookUps.{images, listed};
-ghost use Rattle.uimg_tree.specs.Content.{bytes, AreKept, FilesAtData};
+ghost use Rattle.uimg_tree.specs.Content.{bytes, FilesAtData};
 ghost use Rattle.uimg_tree.specs.Encoding.{word};
 ghost use Rattle.uimg_fit_building.specs.Filling.{with, each, in_first};
-ghost use Rattle.uimg_fit_base.specs.declared.fault.FitFault.TheVariants.{OutOfMemory};
 ghost use Rattle.uimg_tree.specs.Trees.{node_of, siblings};
 ghost use Rattle.uimg_tree.specs.UsingFiles.{UsesFiles};
-ghost use Rattle.uimg_fit_building.specs.FillAnswers.{opens_no_file, fails_to_read, FillsAnswer, OpensKept};
-ghost use Rattle.uimg_fit_building.specs.FillOrder.{FillsInOrder};
-ghost use Rattle.uimg_fit_building.specs.ImageFillings.{filled_over, IsKeptImage, FillsParent, FillsBelow, images_among};
+ghost use Rattle.uimg_tree.specs.LentFiles.{IfHonest, IfKept, IfComplete, IfSteady};
+ghost use Rattle.uimg_fit_building.specs.FillAnswers.{opens_no_file, fails_to_read, FillsAnswer};
+ghost use Rattle.uimg_fit_building.specs.ImageFillings.{filled_over, FillsParent, FillsBelow, images_among};
+ghost use Rattle.uimg_fit_building.specs.ImageSteps.{OpensImages, AnswersInOrder};
 ghost use Rattle.uimg_fit_building.specs.PayloadSums.{no_files};
+ghost use Rattle.uimg_fit_building.specs.SettingSteps.{Makes};
 ghost use Rattle.uimg_fit_building.specs.UnreadTrees.{filled_unread};
 ghost use Rattle.uimg_fit_building.specs.DigestBytes.{zeroed_parent, zeroed_below, zeroed_tree};
 
@@ -37,8 +37,7 @@ fn with_time<A: Allocator + Copy>(
     props: Props<A>,
     time: u32,
 ) -> Result<Props<A>, FitFault>
-    ensures set { IfOk result (λ own. own ≡ with (codes "timestamp") (bytes (word time)) props) }
-    ensures memory { IfErr result (λ fault. fault ≡ OutOfMemory) }
+    ensures { Makes result (λ own. own ≡ with (codes "timestamp") (bytes (word time)) props) }
 {
     let value = Value::Bytes(copied(alloc, &time.to_be_bytes())?);
     with_value(alloc, props, b"timestamp", value)
@@ -57,13 +56,11 @@ fn fill_parent<F: Files, A: Allocator + Copy>(
     parent: &mut Node<A>,
     files: &mut F,
 ) -> Result<(), FitFault>
-    ensures opens { OpensKept F.Opened.steady
-        (AllByRecursion (IsKeptImage (F.map files.old).bytes) (listed parent.old.children)) result
-        (F.map files.old) (F.map files.new) }
-    ensures filled { IsTrue (F.map files.old).honest → FillsParent (F.map files.old).bytes
-        parent.old parent.new result }
-    ensures order { IsTrue (F.map files.old).honest →
-        FillsInOrder (F.map files.old) F.Opened.steady (Some (listed parent.old.children)) result }
+    ensures opens { OpensImages F.Opened.steady F.map (Some (listed parent.old.children))
+        result files }
+    ensures filled { IfHonest F.map files (λ there. FillsParent there parent.old parent.new result) }
+    ensures order { AnswersInOrder F.Opened.steady F.map (Some (listed parent.old.children))
+        result files }
     ensures rest { OnOk result (zeroed_parent parent.new
         ≡ zeroed_parent (record parent.old { children = each (filled_over no_files) parent.old.children })) }
 {
@@ -80,14 +77,12 @@ fn fill_below<F: Files, A: Allocator + Copy>(
     nodes: &mut [Node<A>],
     files: &mut F,
 ) -> Result<(), FitFault>
-    ensures opens { OpensKept F.Opened.steady
-        (IfSome (images_among (siblings nodes.old))
-        (AllByRecursion (IsKeptImage (F.map files.old).bytes))) result
-        (F.map files.old) (F.map files.new) }
-    ensures filled { IsTrue (F.map files.old).honest → FillsBelow (F.map files.old).bytes
-        (siblings nodes.old) (siblings nodes.new) result }
-    ensures order { IsTrue (F.map files.old).honest →
-        FillsInOrder (F.map files.old) F.Opened.steady (images_among (siblings nodes.old)) result }
+    ensures opens { OpensImages F.Opened.steady F.map (images_among (siblings nodes.old))
+        result files }
+    ensures filled { IfHonest F.map files (λ there.
+        FillsBelow there (siblings nodes.old) (siblings nodes.new) result) }
+    ensures order { AnswersInOrder F.Opened.steady F.map (images_among (siblings nodes.old))
+        result files }
     ensures rest { OnOk result (zeroed_below (siblings nodes.new)
         ≡ zeroed_below (in_first (codes "images") (each (filled_over no_files)) (siblings nodes.old))) }
 {
@@ -121,21 +116,17 @@ pub fn fill<F: Files, A: Allocator + Copy>(
     requires { FilesAtData (node_of tree.root) }
     // The files are what they were, and `NoFile` comes exactly where they refused an open.
     ensures files { UsesFiles (opens_no_file result) (F.map files.old) (F.map files.new) }
-    ensures found { IsTrue (F.map files.old).complete →
-        AreKept (F.map files.old).bytes (node_of tree.root) → opens_no_file result ≡ false }
-    ensures steady { IsTrue F.Opened.steady → IsTrue (F.map files.old).honest →
-        AreKept (F.map files.old).bytes (node_of tree.root) → fails_to_read result ≡ false }
+    ensures found { IfComplete F.map files (node_of tree.root) (opens_no_file result ≡ false) }
+    ensures steady { IfSteady F.Opened.steady F.map files (node_of tree.root)
+        (fails_to_read result ≡ false) }
     // The tree is filled, and each file stays as it stands; or the first fault is answered.
-    ensures filled { IsTrue (F.map files.old).honest →
-        AreKept (F.map files.old).bytes (node_of tree.root) →
-        FillsAnswer (λ filled. node_of filled.root) (F.map files.old).bytes time
-        (node_of tree.root) result }
+    ensures filled { IfKept F.map files (node_of tree.root) (λ there.
+        FillsAnswer (λ filled. node_of filled.root) there time (node_of tree.root) result) }
     // Image by image, over files of any sizes: filling goes past an image with hash nodes only where
     // its file has the size that the tree keeps, and stops at the first image that it can't pass.
     // Where the files are complete, `NoFile`, and where what they open is steady, `ReadFailed`, comes
     // only if the file of that image is missing or has another size, whatever the others are.
-    ensures order { IsTrue (F.map files.old).honest →
-        FillsInOrder (F.map files.old) F.Opened.steady (images (node_of tree.root)) result }
+    ensures order { AnswersInOrder F.Opened.steady F.map (images (node_of tree.root)) result files }
     // Whatever the files answer: but for the bytes of its digests, the tree is the source's, filled.
     ensures rest { IfOk result (λ filled. zeroed_tree (node_of filled.root)
         ≡ zeroed_tree (filled_unread no_files time (node_of tree.root))) }

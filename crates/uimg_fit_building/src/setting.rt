@@ -1,6 +1,6 @@
 //! Properties are looked up, set and removed.
 
-ghost use Rattle.std.specs.Prelude.{◌≡◌, ℕ, ◌≤◌, ◌++◌, ◌∷◌, [], ◌+◌, not, map, take, drop, length, IfOk, IfErr, OnOk};
+ghost use Rattle.std.specs.Prelude.{◌≡◌, ◌≤◌, ◌++◌, ◌∷◌, [], ◌+◌, map, take, drop, length};
 ghost use Rattle.std.specs.List.{list_any};
 ghost use Rattle.std.specs.Option.{option_map};
 ghost use Rattle.std.specs.Str.{bytes_eq};
@@ -8,7 +8,7 @@ ghost use Rattle.uimg_blob.specs.LookUps.{first};
 ghost use Rattle.uimg_tree.specs.Content.{Content};
 ghost use Rattle.uimg_tree.specs.Properties.{content, property};
 ghost use Rattle.uimg_fit_building.specs.Filling.{with, external_names, without_external};
-ghost use Rattle.uimg_fit_base.specs.declared.fault.FitFault.TheVariants.{OutOfMemory};
+ghost use Rattle.uimg_fit_building.specs.SettingSteps.{Makes};
 
 use std::alloc::Allocator;
 use uimg_fit_base::FitFault;
@@ -16,8 +16,7 @@ use uimg_tree::{ByteList, Prop, Props, Value, copy_bytes};
 
 /// A copy of bytes.
 pub(crate) fn copied<A: Allocator>(alloc: A, bytes: &[u8]) -> Result<ByteList<A>, FitFault>
-    ensures bytes { IfOk result (λ l. l ≡ bytes.now) }
-    ensures memory { IfErr result (λ fault. fault ≡ OutOfMemory) }
+    ensures { Makes result (λ l. l ≡ bytes.now) }
 {
     match copy_bytes(alloc, bytes) {
         Ok(copy) => Ok(copy),
@@ -55,8 +54,7 @@ fn place_of<A: Allocator>(props: &[Prop<A>], key: &[u8]) -> usize
 
 // Adds a property.
 fn push_property<A: Allocator>(list: &mut Vec<Prop<A>, A>, prop: Prop<A>) -> Result<(), FitFault>
-    ensures pushed { OnOk result (list.new.items ≡ list.old.items ++ prop ∷ []) }
-    ensures memory { IfErr result (λ fault. fault ≡ OutOfMemory) }
+    ensures { Makes result (λ u. list.new.items ≡ list.old.items ++ prop ∷ []) }
 {
     match list.push(prop) {
         Ok(()) => Ok(()),
@@ -66,9 +64,8 @@ fn push_property<A: Allocator>(list: &mut Vec<Prop<A>, A>, prop: Prop<A>) -> Res
 
 // Sets the first property of a name, or adds one.
 fn set_first<A: Allocator>(list: &mut Vec<Prop<A>, A>, prop: Prop<A>) -> Result<(), FitFault>
-    ensures set { OnOk result (map property list.new.items
+    ensures { Makes result (λ u. map property list.new.items
         ≡ with prop.name (content prop.value) (map property list.old.items)) }
-    ensures memory { IfErr result (λ fault. fault ≡ OutOfMemory) }
 {
     let at = place_of(list.as_slice(), prop.name.items());
     if at < list.len() {
@@ -85,8 +82,7 @@ pub(crate) fn with_value<A: Allocator + Copy>(
     key: &[u8],
     value: Value<A>,
 ) -> Result<Props<A>, FitFault>
-    ensures set { IfOk result (λ own. own ≡ with key.now (content value) props) }
-    ensures memory { IfErr result (λ fault. fault ≡ OutOfMemory) }
+    ensures { Makes result (λ own. own ≡ with key.now (content value) props) }
 {
     let name = copied(alloc, key)?;
     let mut list = props.into_vec();

@@ -1,6 +1,9 @@
 -- What an answer says of what is read.
-use Rattle.std.specs.Prelude.{◌≡◌, Bool, true, false, Option, Some, None, Result, Ok, Err, ⊤}
+use Rattle.std.specs.Prelude.{◌≡◌, Bool, true, false, IsTrue, Option, Some, None, Result, Ok, Err, ⊤}
 use Rattle.std.specs.Bool.{OnFalse}
+use Rattle.uimg_base.specs.Lent.{Lent}
+use Rattle.uimg_base.specs.Named.{FileMap}
+use Rattle.uimg_tree.specs.UsingFiles.{UsesFiles}
 use Rattle.uimg_its.specs.declared.fault.Kind.{Kind}
 use Rattle.uimg_its.specs.declared.fault.Kind.TheVariants.{BadToken, BadSyntax, OutOfProfile, BadNumber, NoFile, ReadFailed, OutOfMemory}
 use Rattle.uimg_its.specs.declared.stop.Stop.{Stop}
@@ -66,3 +69,22 @@ Gives view (Err stop) read = Refuses stop.kind read
 abbrev pub IsOutside : {X : Type 0} → Result X Stop → Type 0
 IsOutside (Ok x) = ⊤
 IsOutside (Err stop) = is_outside stop.kind ≡ true
+
+-- The reason lies in the text, and so in no file.
+pub record IsInText (kind : Kind) : Type 0 where
+  pub in_text : is_outside kind ≡ false
+  pub no_file : NotInFile kind
+
+-- Any refusal is for want of memory: for a reason outside the text, which lies in no file.
+pub record OnlyMemory {X : Type 0} (result : Result X Stop) : Type 0 where
+  pub outside : IsOutside result
+  pub no_file : NeverInFile result
+
+-- Files were opened: they are what they were, a refusal was counted exactly where the answer is one, and of what never fails each read
+-- was answered.
+pub record OpensFilesBetween {X : Type 0} (never_fails : Bool) (result : Result X Stop) (old new : FileMap) : Type 0 where
+  pub files : UsesFiles (is_no_file result) old new
+  pub steady : IsTrue never_fails → is_unread result ≡ false
+
+abbrev pub OpensFiles : {F X : Type 0} → Bool → (F → FileMap) → Result X Stop → Lent F → Type 0
+OpensFiles never_fails map result files = OpensFilesBetween never_fails result (map files.entry.now) (map files.exit.now)

@@ -11,3 +11,4 @@ pub mod Reader
 pub mod Grammar
 pub mod Seen
 pub mod Compiled
+pub mod Reading

@@ -1,12 +1,14 @@
 //! The whole text: `compile`.
 
-ghost use Rattle.std.specs.Prelude.{◌≡◌, ◌<◌, [], List, IfOk, IsTrue, length, false};
+ghost use Rattle.std.specs.Prelude.{◌≡◌, ◌<◌, List, IfOk, IsTrue, false};
 ghost use Rattle.uimg_blob.specs.Plain.{Nodes};
 ghost use Rattle.uimg_tree.specs.Content.{AreKept, FilesAtData, in_full};
 ghost use Rattle.uimg_tree.specs.Trees.{node_of};
 ghost use Rattle.uimg_tree.specs.UsingFiles.{UsesFiles};
+ghost use Rattle.uimg_tree.specs.LentFiles.{IfHonest};
 ghost use Rattle.uimg_its.specs.Words.{Word, words};
-ghost use Rattle.uimg_its.specs.Answers.{Gives, is_outside, is_no_file, NotInFile, NeverInFile, is_unread};
+ghost use Rattle.uimg_its.specs.Answers.{Gives, NeverInFile, IsInText, OpensFiles};
+ghost use Rattle.uimg_its.specs.Reading.{ReadsText};
 ghost use Rattle.uimg_its.specs.Parts.{FileBytes, parts_of};
 ghost use Rattle.uimg_its.specs.FileValues.{IsSoundNode};
 ghost use Rattle.uimg_its.specs.Seen.{word_of};
@@ -39,8 +41,7 @@ fn is_version(word: Found<'_>) -> bool
 
 // The text behind the directive that begins a source.
 fn version(text: &[u8]) -> Result<&[u8], Stop>
-    ensures gives { Gives (λ x. words x.now) result (version (words text.now)) }
-    ensures no_file { NeverInFile result }
+    ensures { ReadsText (λ x. words x.now) result (version (words text.now)) }
 {
     let (token, rest) = need_word(text)?;
     if is_version(token.word) {
@@ -52,8 +53,7 @@ fn version(text: &[u8]) -> Result<&[u8], Stop>
 
 // A word stands behind the root: the text behind the word tells whether it begins a second root.
 fn second_root(token: Token<'_>, rest: &[u8]) -> Stop
-    ensures in_text { is_outside result.kind ≡ false }
-    ensures no_file { NotInFile result.kind }
+    ensures { IsInText result.kind }
 {
     if is_mark(Mark::Slash, token.word) && expect(Mark::BraceOpen, Place::Outside, rest).is_ok() {
         Stop {
@@ -85,11 +85,9 @@ fn source<F: Files, A: Allocator + Copy>(
     files: &mut F,
     text: &[u8],
 ) -> Result<Node<A>, Stop>
-    ensures files { UsesFiles (is_no_file result) (F.map files.old) (F.map files.new) }
-    ensures steady { IsTrue F.Opened.steady → is_unread result ≡ false }
-    ensures gives { IsTrue (F.map files.old).honest →
-        Gives (parts_of (F.map files.old).bytes) result
-        (source (F.map files.old).bytes (words text.now)) }
+    ensures opens { OpensFiles F.Opened.steady F.map result files }
+    ensures gives { IfHonest F.map files (λ there.
+        Gives (parts_of there) result (source there (words text.now))) }
     ensures sound { IfOk result (λ root. IsSoundNode (F.map files.old) root) }
 {
     let behind = version(text)?;
@@ -129,17 +127,15 @@ pub fn compile<F: Files, A: Allocator + Copy>(
     // Only properties named `data` are files.
     ensures at_data { IfOk result (λ tree. FilesAtData (node_of tree.root)) }
     // Each of these files is there, with the size that is kept.
-    ensures kept { IsTrue (F.map files.old).honest → IfOk result (λ tree.
-        AreKept (F.map files.old).bytes (node_of tree.root)) }
+    ensures kept { IfHonest F.map files (λ there.
+        IfOk result (λ tree. AreKept there (node_of tree.root))) }
     // The text spells the tree.
-    ensures only { IsTrue (F.map files.old).honest → IfOk result (λ tree.
-        Spells (words text.now) (F.map files.old).bytes
-        (in_full (F.map files.old).bytes (node_of tree.root))) }
+    ensures only { IfHonest F.map files (λ there. IfOk result (λ tree.
+        Spells (words text.now) there (in_full there (node_of tree.root)))) }
     // A tree that the text spells is the answer, unless a file or memory is not there. So any other
     // refusal comes only where the text spells none.
-    ensures accepted { IsTrue (F.map files.old).honest → (t : Nodes) →
-        Spells (words text.now) (F.map files.old).bytes t →
-        Accepts (F.map files.old).bytes result t }
+    ensures accepted { IfHonest F.map files (λ there.
+        (t : Nodes) → Spells (words text.now) there t → Accepts there result t) }
 {
     match source(alloc, files, text) {
         Ok(root) => Ok(Tree { root }),

@@ -1,8 +1,8 @@
 //! Growths that tell at which word memory was refused.
 
-ghost use Rattle.std.specs.Prelude.{◌≡◌, ◌++◌, ◌∷◌, [], OnOk, IfOk, true, false};
+ghost use Rattle.std.specs.Prelude.{◌≡◌, ◌++◌, OnOk, IfOk, true};
 ghost use Rattle.uimg_its.specs.Strings.{string_bytes};
-ghost use Rattle.uimg_its.specs.Answers.{IsOutside, is_outside, NotInFile, NeverInFile};
+ghost use Rattle.uimg_its.specs.Answers.{is_outside, NotInFile, OnlyMemory};
 
 use crate::fault::Kind;
 use crate::stop::Stop;
@@ -28,8 +28,7 @@ pub(crate) fn append<A: Allocator>(
     left: usize,
 ) -> Result<(), Stop>
     ensures appended { OnOk result (out.new.items ≡ out.old.items ++ bytes.now) }
-    ensures outside { IsOutside result }
-    ensures no_file { NeverInFile result }
+    ensures memory { OnlyMemory result }
 {
     match out.extend_from_slice(bytes) {
         Ok(()) => Ok(()),
@@ -44,8 +43,7 @@ pub(crate) fn append_string<A: Allocator>(
     left: usize,
 ) -> Result<(), Stop>
     ensures appended { OnOk result (out.new.items ≡ out.old.items ++ string_bytes 0 text.now) }
-    ensures outside { IsOutside result }
-    ensures no_file { NeverInFile result }
+    ensures memory { OnlyMemory result }
 {
     match push_string(out, text) {
         Ok(()) => Ok(()),
@@ -56,8 +54,7 @@ pub(crate) fn append_string<A: Allocator>(
 /// A copy of a name.
 pub(crate) fn copied<A: Allocator>(alloc: A, name: &[u8], left: usize) -> Result<ByteList<A>, Stop>
     ensures name { IfOk result (λ l. l ≡ name.now) }
-    ensures outside { IsOutside result }
-    ensures no_file { NeverInFile result }
+    ensures memory { OnlyMemory result }
 {
     match Vec::from_slice(alloc, name) {
         Ok(bytes) => Ok(ByteList::of(bytes)),

@@ -1,13 +1,13 @@
 //! The files that values name, read whole or kept by name and size.
 
-ghost use Rattle.std.specs.Prelude.{◌≡◌, ◌<◌, Some, IfOk, IsTrue, length, codes, false, is_err};
-ghost use Rattle.uimg_base.specs.Device.{RisesIf};
-ghost use Rattle.uimg_tree.specs.UsingFiles.{UsesFiles};
+ghost use Rattle.std.specs.Prelude.{◌≡◌, ◌<◌, Some, IfOk, IsTrue, length, codes, false};
 ghost use Rattle.uimg_tree.specs.Content.{bytes_in};
 ghost use Rattle.uimg_tree.specs.Properties.{content};
+ghost use Rattle.uimg_tree.specs.LentFiles.{IfHonest};
 ghost use Rattle.uimg_its.specs.Strings.{string_bytes};
 ghost use Rattle.uimg_its.specs.Words.{words};
-ghost use Rattle.uimg_its.specs.Answers.{Gives, IsOutside, is_outside, is_no_file, NotInFile, NeverInFile, is_unread};
+ghost use Rattle.uimg_its.specs.Answers.{Gives, IsOutside, is_no_file, is_unread, IsInText, OpensFiles};
+ghost use Rattle.uimg_its.specs.Reading.{ReadsText, ReadsFront, PassesMark};
 ghost use Rattle.uimg_its.specs.Steps.{with_front};
 ghost use Rattle.uimg_its.specs.Reader.{string, string_in, file, expect, is_incbin, lone_file};
 ghost use Rattle.uimg_its.specs.FileValues.{IsSoundIn};
@@ -60,10 +60,8 @@ fn read_file<F: Files, A: Allocator>(
     name: &[u8],
     left: usize,
 ) -> Result<Vec<u8, A>, Stop>
-    ensures files { UsesFiles (is_no_file result) (F.map files.old) (F.map files.new) }
-    ensures steady { IsTrue F.Opened.steady → is_unread result ≡ false }
-    ensures gives { IsTrue (F.map files.old).honest →
-        Gives (λ v. v.items) result ((F.map files.old).bytes name.now) }
+    ensures opens { OpensFiles F.Opened.steady F.map result files }
+    ensures gives { IfHonest F.map files (λ there. Gives (λ v. v.items) result (there name.now)) }
 {
     match files.open(name) {
         Ok(mut source) => read_whole(alloc, &mut source, left),
@@ -76,9 +74,7 @@ fn read_file<F: Files, A: Allocator>(
 
 // The text behind the opening quote of a string.
 fn string_in(token: Token<'_>) -> Result<&[u8], Stop>
-    ensures gives { Gives (λ s. string_bytes 0 s.now) result
-        (string_in (word_of token.entry.word)) }
-    ensures no_file { NeverInFile result }
+    ensures { ReadsText (λ s. string_bytes 0 s.now) result (string_in (word_of token.entry.word)) }
 {
     match token.word {
         Word::Text(string) => Ok(string),
@@ -88,10 +84,7 @@ fn string_in(token: Token<'_>) -> Result<&[u8], Stop>
 
 // The same for a string at the front of a text, and the text behind it.
 fn string(text: &[u8]) -> Result<(&[u8], &[u8]), Stop>
-    ensures gives { Gives (λ x. (string_bytes 0 x.0.now, words x.1.now)) result
-        (string (words text.now)) }
-    ensures no_file { NeverInFile result }
-    ensures shorter { IfOk result (λ x. length x.1.now < length text.now) }
+    ensures { ReadsFront (λ x. string_bytes 0 x.0.now) (λ x. x.1.now) result string text.now }
 {
     let (token, rest) = need_word(text)?;
     let string = string_in(token)?;
@@ -100,8 +93,7 @@ fn string(text: &[u8]) -> Result<(&[u8], &[u8]), Stop>
 
 // A word behind the name of a file that does not close the parentheses.
 fn not_closed(token: Token<'_>) -> Stop
-    ensures in_text { is_outside result.kind ≡ false }
-    ensures no_file { NotInFile result.kind }
+    ensures { IsInText result.kind }
 {
     match token.word {
         Word::Mark(Mark::Comma) => Stop {
@@ -114,9 +106,7 @@ fn not_closed(token: Token<'_>) -> Stop
 
 // The text behind the parenthesis that closes the name of a file.
 fn close(text: &[u8]) -> Result<&[u8], Stop>
-    ensures gives { Gives (λ x. words x.now) result (expect ParenClose (words text.now)) }
-    ensures no_file { NeverInFile result }
-    ensures shorter { IfOk result (λ x. length x.now < length text.now) }
+    ensures { PassesMark ParenClose result text.now }
 {
     let (token, rest) = need_word(text)?;
     if is_mark(Mark::ParenClose, token.word) {
@@ -136,11 +126,9 @@ pub(crate) fn file<'a, F: Files, A: Allocator + Copy>(
     left: usize,
     text: &'a [u8],
 ) -> Result<&'a [u8], Stop>
-    ensures files { UsesFiles (is_no_file result) (F.map files.old) (F.map files.new) }
-    ensures steady { IsTrue F.Opened.steady → is_unread result ≡ false }
-    ensures gives { IsTrue (F.map files.old).honest →
-        Gives (λ rest. (out.new.items, words rest.now)) result
-        (with_front out.old.items (file (F.map files.old).bytes (words text.now))) }
+    ensures opens { OpensFiles F.Opened.steady F.map result files }
+    ensures gives { IfHonest F.map files (λ there. Gives (λ rest. (out.new.items, words rest.now))
+        result (with_front out.old.items (file there (words text.now)))) }
     ensures shorter { IfOk result (λ rest. length rest.now < length text.now) }
 {
     let inner = expect(Mark::ParenOpen, Place::Body, text)?;
@@ -205,11 +193,10 @@ pub(crate) fn kept<F: Files, A: Allocator>(
     name: Vec<u8, A>,
     left: usize,
 ) -> Result<Value<A>, Stop>
-    ensures files { UsesFiles (is_no_file result) (F.map files.old) (F.map files.new) }
-    ensures steady { IsTrue F.Opened.steady → is_unread result ≡ false }
+    ensures opens { OpensFiles F.Opened.steady F.map result files }
     ensures outside { IsOutside result }
-    ensures there { IsTrue (F.map files.old).honest → IfOk result (λ v.
-        (F.map files.old).bytes name.items ≡ Some (bytes_in (F.map files.old).bytes (content v))) }
+    ensures there { IfHonest F.map files (λ there.
+        IfOk result (λ v. there name.items ≡ Some (bytes_in there (content v)))) }
     ensures sound { IfOk result (λ v. IsSoundIn (F.map files.old) (codes "data") (content v)) }
 {
     let Ok(mut source) = files.open(&name) else {

@@ -1,9 +1,9 @@
 //! What stands in a body, up to the word that tells what it is.
 
-ghost use Rattle.std.specs.Prelude.{◌≡◌, ◌<◌, IfOk, length, false};
+ghost use Rattle.std.specs.Prelude.{◌<◌};
 ghost use Rattle.std.specs.Option.{option_map};
-ghost use Rattle.uimg_its.specs.Words.{words};
-ghost use Rattle.uimg_its.specs.Answers.{Gives, is_outside, NotInFile, NeverInFile};
+ghost use Rattle.uimg_its.specs.Answers.{IsInText};
+ghost use Rattle.uimg_its.specs.Reading.{ReadsText, ReadsFront};
 ghost use Rattle.uimg_its.specs.Reader.{item_of, item_after, name_in, labelled, item, named};
 ghost use Rattle.uimg_its.specs.Seen.{word_of, item_is};
 
@@ -37,8 +37,7 @@ pub(crate) struct Head<'a> {
 }
 
 fn item_of<'a>(name: &'a [u8], token: Token<'a>) -> Result<Item<'a>, Stop>
-    ensures gives { Gives item_is result (item_of name.now (word_of token.entry.word)) }
-    ensures no_file { NeverInFile result }
+    ensures { ReadsText item_is result (item_of name.now (word_of token.entry.word)) }
 {
     match token.word {
         Word::Mark(Mark::Semicolon) => Ok(Item::Empty(name)),
@@ -50,8 +49,7 @@ fn item_of<'a>(name: &'a [u8], token: Token<'a>) -> Result<Item<'a>, Stop>
 
 // A name of an item is too long.
 fn long_name(left: usize) -> Stop
-    ensures in_text { is_outside result.kind ≡ false }
-    ensures no_file { NotInFile result.kind }
+    ensures { IsInText result.kind }
 {
     Stop {
         kind: Kind::BadSyntax,
@@ -61,9 +59,8 @@ fn long_name(left: usize) -> Stop
 
 // The item that a name begins, by the word behind it; `None` where the name is a label.
 fn item_after<'a>(name: &'a [u8], left: usize, token: Token<'a>) -> Result<Option<Item<'a>>, Stop>
-    ensures gives { Gives (option_map item_is) result
+    ensures { ReadsText (option_map item_is) result
         (item_after name.now (word_of token.entry.word)) }
-    ensures no_file { NeverInFile result }
 {
     match token.word {
         Word::Mark(Mark::Colon) => Ok(None),
@@ -73,8 +70,7 @@ fn item_after<'a>(name: &'a [u8], left: usize, token: Token<'a>) -> Result<Optio
 }
 
 fn name_in(token: Token<'_>) -> Result<&[u8], Stop>
-    ensures gives { Gives (λ n. n.now) result (name_in (word_of token.entry.word)) }
-    ensures no_file { NeverInFile result }
+    ensures { ReadsText (λ n. n.now) result (name_in (word_of token.entry.word)) }
 {
     match token.word {
         Word::Name(name) => Ok(name),
@@ -85,10 +81,7 @@ fn name_in(token: Token<'_>) -> Result<&[u8], Stop>
 // A label, or a name and what it begins; the word behind the name, and the text behind that.
 #[tactic(auto, unfolding(crate::specs::Reader::labelled))]
 fn labelled(text: &[u8]) -> Result<(Option<Item<'_>>, Token<'_>, &[u8]), Stop>
-    ensures gives { Gives (λ x. (option_map item_is x.0, words x.2.now)) result
-        (labelled (words text.now)) }
-    ensures no_file { NeverInFile result }
-    ensures shorter { IfOk result (λ x. length x.2.now < length text.now) }
+    ensures { ReadsFront (λ x. option_map item_is x.0) (λ x. x.2.now) result labelled text.now }
 {
     let (first, behind) = need_word(text)?;
     let name = name_in(first)?;
@@ -99,10 +92,7 @@ fn labelled(text: &[u8]) -> Result<(Option<Item<'_>>, Token<'_>, &[u8]), Stop>
 
 // A name and what it begins, behind labels.
 fn named(text: &[u8]) -> Result<Head<'_>, Stop>
-    ensures gives { Gives (λ h. (item_is h.item, words h.rest.now)) result
-        (named (words text.now)) }
-    ensures no_file { NeverInFile result }
-    ensures shorter { IfOk result (λ h. length h.rest.now < length text.now) }
+    ensures { ReadsFront (λ h. item_is h.item) (λ h. h.rest.now) result named text.now }
 {
     let mut left = text;
     loop {
@@ -117,10 +107,7 @@ fn named(text: &[u8]) -> Result<Head<'_>, Stop>
 /// An item of a body, or its end.
 #[tactic(auto, unfolding(crate::specs::Reader::item))]
 pub(crate) fn read_item(text: &[u8]) -> Result<Head<'_>, Stop>
-    ensures gives { Gives (λ h. (item_is h.item, words h.rest.now)) result
-        (item (words text.now)) }
-    ensures no_file { NeverInFile result }
-    ensures shorter { IfOk result (λ h. length h.rest.now < length text.now) }
+    ensures { ReadsFront (λ h. item_is h.item) (λ h. h.rest.now) result item text.now }
 {
     let (last, rest) = need_word(text)?;
     if is_mark(Mark::BraceClose, last.word) {

@@ -1,9 +1,10 @@
 //! The words of a text, one after another.
 
-ghost use Rattle.std.specs.Prelude.{◌≡◌, ◌<◌, length, IfSome, IfOk, false, OnErr};
+ghost use Rattle.std.specs.Prelude.{◌≡◌, ◌<◌, length, IfSome, IfOk, false};
 ghost use Rattle.uimg_its.specs.Words.{words};
 ghost use Rattle.uimg_its.specs.Seen.{word_of, Sees};
-ghost use Rattle.uimg_its.specs.Answers.{Gives, is_outside, NotInFile, NeverInFile};
+ghost use Rattle.uimg_its.specs.Answers.{NeverInFile, IsInText};
+ghost use Rattle.uimg_its.specs.Reading.{ReadsFront, PassesMark};
 ghost use Rattle.uimg_its.specs.Reader.{next, is_mark, expect};
 
 use crate::bytes::after;
@@ -15,8 +16,7 @@ use crate::tokens::{Mark, Token, Word};
 
 // No word begins at the front of a text.
 fn stray(text: &[u8]) -> Stop
-    ensures in_text { is_outside result.kind ≡ false }
-    ensures no_file { NotInFile result.kind }
+    ensures { IsInText result.kind }
 {
     let kind = match text {
         [b'"', rest @ ..] => string_fault(rest),
@@ -54,9 +54,7 @@ pub(crate) fn next_word(text: &[u8]) -> Result<Option<(Token<'_>, &[u8])>, Stop>
 
 /// The next word, which has to be there, and the text behind it.
 pub(crate) fn need_word(text: &[u8]) -> Result<(Token<'_>, &[u8]), Stop>
-    ensures gives { Gives (λ x. (word_of x.0.word, words x.1.now)) result (next (words text.now)) }
-    ensures no_file { NeverInFile result }
-    ensures shorter { IfOk result (λ x. length x.1.now < length text.now) }
+    ensures { ReadsFront (λ x. word_of x.0.word) (λ x. x.1.now) result next text.now }
 {
     match next_word(text)? {
         Some(found) => Ok(found),
@@ -81,9 +79,7 @@ pub(crate) fn is_mark(mark: Mark, word: Word<'_>) -> bool
 
 /// The text behind a mark, which has to be there.
 pub(crate) fn expect(mark: Mark, place: Place, text: &[u8]) -> Result<&[u8], Stop>
-    ensures gives { Gives (λ x. words x.now) result (expect mark (words text.now)) }
-    ensures no_file { NeverInFile result }
-    ensures shorter { IfOk result (λ x. length x.now < length text.now) }
+    ensures { PassesMark mark result text.now }
 {
     let (token, rest) = need_word(text)?;
     if is_mark(mark, token.word) {

@@ -1,10 +1,11 @@
 //! Lists of cells and of bytes.
 
-ghost use Rattle.std.specs.Prelude.{◌≡◌, ◌<◌, ◌≤◌, ◌++◌, IfOk, length, false};
+ghost use Rattle.std.specs.Prelude.{◌<◌, IfOk, length, false};
 ghost use Rattle.std.specs.Option.{option_map};
 ghost use Rattle.uimg_its.specs.Words.{words};
 ghost use Rattle.uimg_its.specs.Cells.{element};
-ghost use Rattle.uimg_its.specs.Answers.{Gives, is_outside, NotInFile, NeverInFile};
+ghost use Rattle.uimg_its.specs.Answers.{IsInText};
+ghost use Rattle.uimg_its.specs.Reading.{ReadsText, ReadsFront};
 ghost use Rattle.uimg_its.specs.Steps.{with_front, step_front, before};
 ghost use Rattle.uimg_its.specs.Reader.{element_word, element_step, listed};
 ghost use Rattle.uimg_its.specs.Seen.{word_of};
@@ -27,9 +28,8 @@ pub(crate) enum Listed {
 
 // The name word of an element of a list, or `None` for the list's end.
 fn element_word(list: Listed, token: Token<'_>) -> Result<Option<&[u8]>, Stop>
-    ensures gives { Gives (option_map (λ n. n.now)) result
+    ensures { ReadsText (option_map (λ n. n.now)) result
         (element_word list (word_of token.entry.word)) }
-    ensures no_file { NeverInFile result }
 {
     match (list, token.word) {
         (Listed::Cells, Word::Mark(Mark::Greater)) => Ok(None),
@@ -42,8 +42,7 @@ fn element_word(list: Listed, token: Token<'_>) -> Result<Option<&[u8]>, Stop>
 
 // A word is no number, or no bytes.
 fn bad_number(left: usize) -> Stop
-    ensures in_text { is_outside result.kind ≡ false }
-    ensures no_file { NotInFile result.kind }
+    ensures { IsInText result.kind }
 {
     Stop {
         kind: Kind::BadNumber,
@@ -53,9 +52,8 @@ fn bad_number(left: usize) -> Stop
 
 // Appends a cell.
 fn push_cell<A: Allocator>(out: &mut Vec<u8, A>, name: &[u8], left: usize) -> Result<(), Stop>
-    ensures gives { Gives (λ _. out.new.items) result
+    ensures { ReadsText (λ _. out.new.items) result
         (before out.old.items (element Cells name.now)) }
-    ensures no_file { NeverInFile result }
 {
     match cell(name) {
         Some(n) => append(out, &n.to_be_bytes(), left),
@@ -65,9 +63,8 @@ fn push_cell<A: Allocator>(out: &mut Vec<u8, A>, name: &[u8], left: usize) -> Re
 
 // Appends bytes.
 fn push_bytes<A: Allocator>(out: &mut Vec<u8, A>, name: &[u8], left: usize) -> Result<(), Stop>
-    ensures gives { Gives (λ _. out.new.items) result
+    ensures { ReadsText (λ _. out.new.items) result
         (before out.old.items (element Bytes name.now)) }
-    ensures no_file { NeverInFile result }
 {
     let mut i = 0;
     while i < name.len() {
@@ -90,9 +87,8 @@ fn push_element<A: Allocator>(
     name: &[u8],
     left: usize,
 ) -> Result<(), Stop>
-    ensures gives { Gives (λ _. out.new.items) result
+    ensures { ReadsText (λ _. out.new.items) result
         (before out.old.items (element list name.now)) }
-    ensures no_file { NeverInFile result }
 {
     match list {
         Listed::Cells => push_cell(out, name, left),
@@ -107,9 +103,8 @@ fn element_step<'a, A: Allocator>(
     list: Listed,
     text: &'a [u8],
 ) -> Result<(bool, &'a [u8]), Stop>
-    ensures gives { Gives (λ x. (x.0, out.new.items, words x.1.now)) result
+    ensures reads { ReadsText (λ x. (x.0, out.new.items, words x.1.now)) result
         (step_front out.old.items (element_step list (words text.now))) }
-    ensures no_file { NeverInFile result }
     ensures shorter { IfOk result (λ x. length x.1.now < length text.now) }
 {
     let (token, rest) = need_word(text)?;
@@ -128,10 +123,8 @@ pub(crate) fn read_list<'a, A: Allocator>(
     list: Listed,
     text: &'a [u8],
 ) -> Result<&'a [u8], Stop>
-    ensures gives { Gives (λ rest. (out.new.items, words rest.now)) result
-        (with_front out.old.items (listed list (words text.now))) }
-    ensures no_file { NeverInFile result }
-    ensures shorter { IfOk result (λ rest. length rest.now < length text.now) }
+    ensures { ReadsFront (λ rest. out.new.items) (λ rest. rest.now) result
+        (λ front. with_front out.old.items (listed list front)) text.now }
 {
     let mut rest = text;
     loop {

@@ -1,10 +1,10 @@
 //! Nodes and their children, by calls inside one another.
 
-ghost use Rattle.std.specs.Prelude.{◌≡◌, ◌<◌, ◌≤◌, ◌++◌, ◌∷◌, [], false, true, IfSome, IfOk, OnOk, IsTrue, length};
+ghost use Rattle.std.specs.Prelude.{◌≡◌, ◌<◌, ◌≤◌, ◌++◌, ◌∷◌, [], IfSome, IfOk, OnOk, length};
 ghost use Rattle.uimg_base.specs.Named.{FileMap};
-ghost use Rattle.uimg_tree.specs.UsingFiles.{UsesFiles};
+ghost use Rattle.uimg_tree.specs.LentFiles.{IfHonest};
 ghost use Rattle.uimg_its.specs.Words.{words};
-ghost use Rattle.uimg_its.specs.Answers.{Gives, IsOutside, is_outside, is_no_file, NotInFile, NeverInFile, is_unread};
+ghost use Rattle.uimg_its.specs.Answers.{Gives, IsInText, OnlyMemory, OpensFiles};
 ghost use Rattle.uimg_its.specs.Parts.{FileBytes, props_in_full, parts_of, all_parts_of, chain, child_found};
 ghost use Rattle.uimg_its.specs.FileValues.{AreSound, IsSoundNode, AreSoundNodes};
 ghost use Rattle.uimg_its.specs.Reader.{inside, child_step, children, node_within};
@@ -22,12 +22,11 @@ use uimg_tree::{ByteList, Node, Nodes, Props};
 
 // A node of these parts.
 fn node_of<A: Allocator>(name: ByteList<A>, props: Props<A>, children: Vec<Node<A>, A>) -> Node<A>
-    ensures parts { (files : FileBytes) → parts_of files result
-        ≡ record {
-          name = name;
-          props = props_in_full files props;
-          children = chain (all_parts_of files children.items);
-        } }
+    ensures parts { (files : FileBytes) → parts_of files result ≡ record {
+      name = name;
+      props = props_in_full files props;
+      children = chain (all_parts_of files children.items);
+    } }
     ensures sound { (map : FileMap) → AreSound map props → AreSoundNodes map children.items →
         IsSoundNode map result }
 {
@@ -48,8 +47,7 @@ fn push_node<A: Allocator>(
         ≡ all_parts_of files nodes.old.items ++ parts_of files node ∷ []) }
     ensures sound { OnOk result ((files : FileMap) → AreSoundNodes files nodes.old.items →
         IsSoundNode files node → AreSoundNodes files nodes.new.items) }
-    ensures outside { IsOutside result }
-    ensures no_file { NeverInFile result }
+    ensures memory { OnlyMemory result }
 {
     let Ok(()) = nodes.push(node) else {
         return Err(out_of_memory(left));
@@ -59,8 +57,7 @@ fn push_node<A: Allocator>(
 
 // A node is more levels below the root than there may be.
 fn too_deep(left: usize) -> Stop
-    ensures in_text { is_outside result.kind ≡ false }
-    ensures no_file { NotInFile result.kind }
+    ensures { IsInText result.kind }
 {
     Stop {
         kind: Kind::OutOfProfile(Construct::Depth),
@@ -79,12 +76,9 @@ fn inside<'a, F: Files, A: Allocator + Copy>(
     name: ByteList<A>,
     text: &'a [u8],
 ) -> Result<(Node<A>, &'a [u8]), Stop>
-    ensures files { UsesFiles (is_no_file result) (F.map files.old) (F.map files.new) }
-    ensures steady { IsTrue F.Opened.steady → is_unread result ≡ false }
-    ensures gives { IsTrue (F.map files.old).honest → Gives (λ x.
-        (parts_of (F.map files.old).bytes x.0, words x.1.now)) result
-        (inside (F.map files.old).bytes (children levels (F.map files.old).bytes) name
-        (words text.now)) }
+    ensures opens { OpensFiles F.Opened.steady F.map result files }
+    ensures gives { IfHonest F.map files (λ there. Gives (λ x. (parts_of there x.0, words x.1.now))
+        result (inside there (children levels there) name (words text.now))) }
     ensures sound { IfOk result (λ x. IsSoundNode (F.map files.old) x.0) }
     ensures shorter { IfOk result (λ x. length x.1.now ≤ length text.now) }
 {
@@ -104,11 +98,9 @@ pub(crate) fn node<'a, F: Files, A: Allocator + Copy>(
     left: usize,
     text: &'a [u8],
 ) -> Result<(Node<A>, &'a [u8]), Stop>
-    ensures files { UsesFiles (is_no_file result) (F.map files.old) (F.map files.new) }
-    ensures steady { IsTrue F.Opened.steady → is_unread result ≡ false }
-    ensures gives { IsTrue (F.map files.old).honest → Gives (λ x.
-        (parts_of (F.map files.old).bytes x.0, words x.1.now)) result
-        (node_within levels (F.map files.old).bytes name.now (words text.now)) }
+    ensures opens { OpensFiles F.Opened.steady F.map result files }
+    ensures gives { IfHonest F.map files (λ there. Gives (λ x. (parts_of there x.0, words x.1.now))
+        result (node_within levels there name.now (words text.now))) }
     ensures sound { IfOk result (λ x. IsSoundNode (F.map files.old) x.0) }
     ensures within { IfOk result (λ x. length x.1.now ≤ length text.now) }
 {
@@ -128,11 +120,10 @@ fn child<'a, F: Files, A: Allocator + Copy>(
     levels: u8,
     text: &'a [u8],
 ) -> Result<(Option<Node<A>>, &'a [u8]), Stop>
-    ensures files { UsesFiles (is_no_file result) (F.map files.old) (F.map files.new) }
-    ensures steady { IsTrue F.Opened.steady → is_unread result ≡ false }
-    ensures gives { IsTrue (F.map files.old).honest → Gives (λ x.
-        child_found (F.map files.old).bytes x.0 (words x.1.now)) result
-        (child_step (node_within levels (F.map files.old).bytes) (words text.now)) }
+    ensures opens { OpensFiles F.Opened.steady F.map result files }
+    ensures gives { IfHonest F.map files (λ there.
+        Gives (λ x. child_found there x.0 (words x.1.now)) result
+        (child_step (node_within levels there) (words text.now))) }
     ensures sound { IfOk result (λ x. IfSome x.0 (λ node. IsSoundNode (F.map files.old) node)) }
     ensures shorter { IfOk result (λ x. length x.1.now < length text.now) }
 {
@@ -156,11 +147,10 @@ fn children<'a, F: Files, A: Allocator + Copy>(
     levels: u8,
     text: &'a [u8],
 ) -> Result<(Vec<Node<A>, A>, &'a [u8]), Stop>
-    ensures files { UsesFiles (is_no_file result) (F.map files.old) (F.map files.new) }
-    ensures steady { IsTrue F.Opened.steady → is_unread result ≡ false }
-    ensures gives { IsTrue (F.map files.old).honest → Gives (λ x.
-        (all_parts_of (F.map files.old).bytes x.0.items, words x.1.now)) result
-        (children levels (F.map files.old).bytes (words text.now)) }
+    ensures opens { OpensFiles F.Opened.steady F.map result files }
+    ensures gives { IfHonest F.map files (λ there.
+        Gives (λ x. (all_parts_of there x.0.items, words x.1.now)) result
+        (children levels there (words text.now))) }
     ensures sound { IfOk result (λ x. AreSoundNodes (F.map files.old) x.0.items) }
     ensures within { IfOk result (λ x. length x.1.now ≤ length text.now) }
 {

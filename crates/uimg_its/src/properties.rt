@@ -1,11 +1,11 @@
 //! Properties with their values.
 
-ghost use Rattle.std.specs.Prelude.{◌≡◌, ◌<◌, ◌≤◌, ◌++◌, ◌∷◌, [], false, IfOk, OnOk, IsTrue, length, map};
+ghost use Rattle.std.specs.Prelude.{◌≡◌, ◌<◌, ◌≤◌, ◌++◌, ◌∷◌, [], false, IfOk, OnOk, length, map};
 ghost use Rattle.uimg_base.specs.Named.{FileMap};
-ghost use Rattle.uimg_tree.specs.UsingFiles.{UsesFiles};
 ghost use Rattle.uimg_tree.specs.Properties.{property, content};
+ghost use Rattle.uimg_tree.specs.LentFiles.{IfHonest};
 ghost use Rattle.uimg_its.specs.Words.{words};
-ghost use Rattle.uimg_its.specs.Answers.{Gives, IsOutside, is_no_file, NeverInFile, is_unread};
+ghost use Rattle.uimg_its.specs.Answers.{Gives, OnlyMemory, OpensFiles};
 ghost use Rattle.uimg_its.specs.Steps.{step_front};
 ghost use Rattle.uimg_its.specs.Parts.{props_in_full};
 ghost use Rattle.uimg_its.specs.FileValues.{IsSoundIn, AreSound};
@@ -31,8 +31,7 @@ fn push_property<A: Allocator>(
         ≡ map property props.old.items ++ record { name = name.now; value = content value } ∷ []) }
     ensures sound { OnOk result ((files : FileMap) → AreSound files (map property props.old.items) →
         IsSoundIn files name.now (content value) → AreSound files (map property props.new.items)) }
-    ensures outside { IsOutside result }
-    ensures no_file { NeverInFile result }
+    ensures memory { OnlyMemory result }
 {
     let name = copied(alloc, name, left)?;
     let Ok(()) = props.push(Prop { name, value }) else {
@@ -49,12 +48,11 @@ fn property_step<'a, F: Files, A: Allocator + Copy>(
     props: &mut Vec<Prop<A>, A>,
     text: &'a [u8],
 ) -> Result<(bool, &'a [u8]), Stop>
-    ensures files { UsesFiles (is_no_file result) (F.map files.old) (F.map files.new) }
-    ensures steady { IsTrue F.Opened.steady → is_unread result ≡ false }
-    ensures gives { IsTrue (F.map files.old).honest → Gives (λ x.
-        (x.0, props_in_full (F.map files.old).bytes (map property props.new.items), words x.1.now))
-        result (step_front (props_in_full (F.map files.old).bytes (map property props.old.items))
-        (property_step (F.map files.old).bytes (words text.now))) }
+    ensures opens { OpensFiles F.Opened.steady F.map result files }
+    ensures gives { IfHonest F.map files (λ there.
+        Gives (λ x. (x.0, props_in_full there (map property props.new.items), words x.1.now)) result
+        (step_front (props_in_full there (map property props.old.items))
+        (property_step there (words text.now)))) }
     ensures sound { OnOk result (AreSound (F.map files.old) (map property props.old.items) →
         AreSound (F.map files.old) (map property props.new.items)) }
     ensures within { IfOk result (λ x. length x.1.now ≤ length text.now) }
@@ -82,11 +80,10 @@ pub(crate) fn properties<'a, F: Files, A: Allocator + Copy>(
     files: &mut F,
     text: &'a [u8],
 ) -> Result<(Props<A>, &'a [u8]), Stop>
-    ensures files { UsesFiles (is_no_file result) (F.map files.old) (F.map files.new) }
-    ensures steady { IsTrue F.Opened.steady → is_unread result ≡ false }
-    ensures gives { IsTrue (F.map files.old).honest → Gives (λ x.
-        (props_in_full (F.map files.old).bytes x.0, words x.1.now)) result
-        (properties (F.map files.old).bytes (words text.now)) }
+    ensures opens { OpensFiles F.Opened.steady F.map result files }
+    ensures gives { IfHonest F.map files (λ there.
+        Gives (λ x. (props_in_full there x.0, words x.1.now)) result
+        (properties there (words text.now))) }
     ensures sound { IfOk result (λ x. AreSound (F.map files.old) x.0) }
     ensures within { IfOk result (λ x. length x.1.now ≤ length text.now) }
 {

@@ -1,7 +1,6 @@
 //! Why reading stopped, and where: which fault a word is at its place.
 
-ghost use Rattle.std.specs.Prelude.{◌≡◌, false, true};
-ghost use Rattle.uimg_its.specs.Answers.{is_outside, NotInFile};
+ghost use Rattle.uimg_its.specs.Answers.{IsInText};
 ghost use Rattle.uimg_its.specs.declared.fault.Kind.TheVariants as kinds;
 
 use crate::fault::{Construct, Kind};
@@ -27,8 +26,7 @@ pub(crate) enum Place {
 
 /// A text ends too early.
 pub(crate) fn ends_early() -> Stop
-    ensures in_text { is_outside result.kind ≡ false }
-    ensures no_file { NotInFile result.kind }
+    ensures { IsInText result.kind }
 {
     Stop {
         kind: Kind::BadSyntax,
@@ -38,8 +36,7 @@ pub(crate) fn ends_early() -> Stop
 
 /// A text cannot go on with a word at this place.
 pub(crate) fn unexpected(token: Token<'_>, place: Place) -> Stop
-    ensures in_text { is_outside result.kind ≡ false }
-    ensures no_file { NotInFile result.kind }
+    ensures { IsInText result.kind }
 {
     let kind = match token.word {
         Word::Directive(_) => Kind::OutOfProfile(Construct::Directive),

@@ -2,7 +2,7 @@
 
 ghost use Rattle.std.specs.Prelude.{◌≡◌, ◌≤◌, ◌+◌, ◌++◌, length, IfSome, OnOk, false};
 ghost use Rattle.uimg_its.specs.Strings.{unit, escape, zero_escape, hex_escape, string_end, string_bytes};
-ghost use Rattle.uimg_its.specs.Answers.{is_outside, NotInFile};
+ghost use Rattle.uimg_its.specs.Answers.{IsInText};
 
 use crate::bytes::after;
 use crate::fault::{Construct, Kind};
@@ -78,8 +78,7 @@ pub(crate) fn string_length(text: &[u8]) -> Option<usize>
 
 /// Why no string begins behind a quote: it is not closed, or else an escape in it is bad.
 pub(crate) fn string_fault(text: &[u8]) -> Kind
-    ensures in_text { is_outside result ≡ false }
-    ensures no_file { NotInFile result }
+    ensures { IsInText result }
 {
     let mut escaped = false;
     for b in text {

@@ -1,11 +1,12 @@
 //! Values, and which of them stay files.
 
-ghost use Rattle.std.specs.Prelude.{◌≡◌, ◌<◌, ◌≤◌, Some, IfSome, IfOk, IsTrue, length, codes, false};
-ghost use Rattle.uimg_tree.specs.UsingFiles.{UsesFiles};
+ghost use Rattle.std.specs.Prelude.{◌≡◌, ◌<◌, ◌≤◌, Some, IfSome, IfOk, length, codes, false};
 ghost use Rattle.uimg_tree.specs.Content.{bytes_in};
 ghost use Rattle.uimg_tree.specs.Properties.{content};
+ghost use Rattle.uimg_tree.specs.LentFiles.{IfHonest};
 ghost use Rattle.uimg_its.specs.Words.{words};
-ghost use Rattle.uimg_its.specs.Answers.{Gives, IsOutside, is_no_file, NeverInFile, is_unread};
+ghost use Rattle.uimg_its.specs.Answers.{Gives, IsOutside, OpensFiles};
+ghost use Rattle.uimg_its.specs.Reading.{ReadsText};
 ghost use Rattle.uimg_its.specs.Steps.{with_front, step_front};
 ghost use Rattle.uimg_its.specs.Reader.{ends, value_of, value_step, values};
 ghost use Rattle.uimg_its.specs.FileValues.{IsSoundIn};
@@ -23,8 +24,7 @@ use uimg_tree::{ByteList, Value};
 
 // Whether a value is the last, by the word behind it.
 fn ends(token: Token<'_>) -> Result<bool, Stop>
-    ensures gives { Gives (λ x. x) result (ends (word_of token.entry.word)) }
-    ensures no_file { NeverInFile result }
+    ensures { ReadsText (λ x. x) result (ends (word_of token.entry.word)) }
 {
     match token.word {
         Word::Mark(Mark::Comma) => Ok(false),
@@ -42,11 +42,10 @@ fn value_of<'a, F: Files, A: Allocator + Copy>(
     token: Token<'a>,
     text: &'a [u8],
 ) -> Result<&'a [u8], Stop>
-    ensures files { UsesFiles (is_no_file result) (F.map files.old) (F.map files.new) }
-    ensures steady { IsTrue F.Opened.steady → is_unread result ≡ false }
-    ensures gives { IsTrue (F.map files.old).honest →
+    ensures opens { OpensFiles F.Opened.steady F.map result files }
+    ensures gives { IfHonest F.map files (λ there.
         Gives (λ rest. (out.new.items, words rest.now)) result (with_front out.old.items
-        (value_of (F.map files.old).bytes (word_of token.entry.word) (words text.now))) }
+        (value_of there (word_of token.entry.word) (words text.now)))) }
     ensures within { IfOk result (λ rest. length rest.now ≤ length text.now) }
 {
     match token.word {
@@ -72,11 +71,9 @@ fn value_step<'a, F: Files, A: Allocator + Copy>(
     out: &mut Vec<u8, A>,
     text: &'a [u8],
 ) -> Result<(bool, &'a [u8]), Stop>
-    ensures files { UsesFiles (is_no_file result) (F.map files.old) (F.map files.new) }
-    ensures steady { IsTrue F.Opened.steady → is_unread result ≡ false }
-    ensures gives { IsTrue (F.map files.old).honest →
-        Gives (λ x. (x.0, out.new.items, words x.1.now)) result
-        (step_front out.old.items (value_step (F.map files.old).bytes (words text.now))) }
+    ensures opens { OpensFiles F.Opened.steady F.map result files }
+    ensures gives { IfHonest F.map files (λ there. Gives (λ x. (x.0, out.new.items, words x.1.now))
+        result (step_front out.old.items (value_step there (words text.now)))) }
     ensures shorter { IfOk result (λ x. length x.1.now < length text.now) }
 {
     let (first, behind) = need_word(text)?;
@@ -93,11 +90,9 @@ fn values<'a, F: Files, A: Allocator + Copy>(
     out: &mut Vec<u8, A>,
     text: &'a [u8],
 ) -> Result<&'a [u8], Stop>
-    ensures files { UsesFiles (is_no_file result) (F.map files.old) (F.map files.new) }
-    ensures steady { IsTrue F.Opened.steady → is_unread result ≡ false }
-    ensures gives { IsTrue (F.map files.old).honest →
-        Gives (λ rest. (out.new.items, words rest.now)) result
-        (with_front out.old.items (values (F.map files.old).bytes (words text.now))) }
+    ensures opens { OpensFiles F.Opened.steady F.map result files }
+    ensures gives { IfHonest F.map files (λ there. Gives (λ rest. (out.new.items, words rest.now))
+        result (with_front out.old.items (values there (words text.now)))) }
     ensures shorter { IfOk result (λ rest. length rest.now < length text.now) }
 {
     let mut rest = text;
@@ -117,11 +112,9 @@ fn data_file<'a, F: Files, A: Allocator>(
     files: &mut F,
     text: &'a [u8],
 ) -> Result<Option<(Value<A>, &'a [u8])>, Stop>
-    ensures files { UsesFiles (is_no_file result) (F.map files.old) (F.map files.new) }
-    ensures steady { IsTrue F.Opened.steady → is_unread result ≡ false }
-    ensures gives { IsTrue (F.map files.old).honest → IfOk result (λ found. IfSome found (λ x.
-        values (F.map files.old).bytes (words text.now)
-        ≡ Some (bytes_in (F.map files.old).bytes (content x.0), words x.1.now))) }
+    ensures opens { OpensFiles F.Opened.steady F.map result files }
+    ensures gives { IfHonest F.map files (λ there. IfOk result (λ found. IfSome found (λ x.
+        values there (words text.now) ≡ Some (bytes_in there (content x.0), words x.1.now)))) }
     ensures outside { IsOutside result }
     ensures sound { IfOk result (λ found. IfSome found (λ x.
         IsSoundIn (F.map files.old) (codes "data") (content x.0))) }
@@ -144,11 +137,10 @@ pub(crate) fn assigned<'a, F: Files, A: Allocator + Copy>(
     name: &[u8],
     text: &'a [u8],
 ) -> Result<(Value<A>, &'a [u8]), Stop>
-    ensures files { UsesFiles (is_no_file result) (F.map files.old) (F.map files.new) }
-    ensures steady { IsTrue F.Opened.steady → is_unread result ≡ false }
-    ensures gives { IsTrue (F.map files.old).honest →
-        Gives (λ x. (bytes_in (F.map files.old).bytes (content x.0), words x.1.now)) result
-        (values (F.map files.old).bytes (words text.now)) }
+    ensures opens { OpensFiles F.Opened.steady F.map result files }
+    ensures gives { IfHonest F.map files (λ there.
+        Gives (λ x. (bytes_in there (content x.0), words x.1.now)) result
+        (values there (words text.now))) }
     ensures sound { IfOk result (λ x. IsSoundIn (F.map files.old) name.now (content x.0)) }
     ensures shorter { IfOk result (λ x. length x.1.now < length text.now) }
 {

@@ -12,3 +12,4 @@ pub mod Measured
 pub mod Pieces
 pub mod ReadsBack
 pub mod Names
+pub mod LentFiles

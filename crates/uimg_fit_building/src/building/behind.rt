@@ -1,8 +1,7 @@
 //! The payloads behind the blob: refused, or written one after another.
 
-ghost use Rattle.std.specs.Prelude.{◌≡◌, ◌∷◌, ◌≤◌, ◌^◌, [], replicate, map, is_err, false, Ok, Err};
+ghost use Rattle.std.specs.Prelude.{◌≡◌, ◌≤◌, ◌^◌, map, false, Ok, Err};
 ghost use Rattle.std.specs.List.{flat_map};
-ghost use Rattle.uimg_base.specs.Writing.{Writes};
 ghost use Rattle.uimg_tree.specs.Pieces.{WritesPieces};
 ghost use Rattle.uimg_tree.specs.Trees.{node_of};
 ghost use Rattle.uimg_fit_building.specs.Behind.{entry, payload_pieces, images_in, padded_sizes, behind_pieces, end_fault, fault_in};

@@ -1,6 +1,6 @@
 //! A copy of the tree in which each payload has its place in cells.
 
-ghost use Rattle.std.specs.Prelude.{◌≡◌, ◌∷◌, [], ◌++◌, IfOk, OnOk, codes};
+ghost use Rattle.std.specs.Prelude.{◌≡◌, ◌++◌, IfOk, OnOk, codes};
 ghost use Rattle.uimg_tree.specs.Trees.{node_of};
 ghost use Rattle.uimg_fit_building.specs.Filling.{in_first, with_images};
 ghost use Rattle.uimg_fit_building.specs.Placing.{cell, cells, placed_image, with_placed};

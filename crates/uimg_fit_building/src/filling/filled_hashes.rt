@@ -1,18 +1,17 @@
 //! The hash nodes of one image, with their digests.
 
-ghost use Rattle.std.specs.Prelude.{◌≡◌, ℕ, List, map, true, IfOk, IfErr, OnOk};
-ghost use Rattle.std.specs.List.{filter, AllByRecursion};
+ghost use Rattle.std.specs.Prelude.{◌≡◌, ℕ, List, map, true, IsOkUnless, IfOk};
+ghost use Rattle.std.specs.List.{filter};
 ghost use Rattle.uimg_sums.specs.Algorithms.{digest_by};
 ghost use Rattle.uimg_blob.specs.Roles.{is_hash};
 ghost use Rattle.uimg_tree.specs.Content.{bytes};
 ghost use Rattle.uimg_tree.specs.Properties.{content};
-ghost use Rattle.uimg_tree.specs.Trees.{siblings};
-ghost use Rattle.uimg_fit_building.specs.Filling.{each, algo_by, with_digest_by};
+ghost use Rattle.uimg_fit_building.specs.Filling.{algo_by};
 ghost use Rattle.uimg_fit_building.specs.Behind.{entry};
-ghost use Rattle.uimg_fit_building.specs.ImageFillings.{hashed_in};
-ghost use Rattle.uimg_fit_building.specs.DigestBytes.{zeroed, zeroed_hash, zeroed_child};
+ghost use Rattle.uimg_fit_building.specs.DigestBytes.{zeroed};
+ghost use Rattle.uimg_fit_building.specs.HashSteps.{SetsHash, SetsChild, SetsChildren};
 ghost use Rattle.uimg_fit_base.specs.AlgoSets.{has, no_algos, set_of, AreDigests};
-ghost use Rattle.uimg_fit_building.specs.PayloadSums.{in_memory, all_marked, IsCovered};
+ghost use Rattle.uimg_fit_building.specs.PayloadSums.{in_memory, all_marked};
 ghost use Rattle.uimg_fit_base.specs.declared.fault.FitFault.TheVariants.{OutOfMemory};
 
 use crate::setting::{copied, first_value, with_value};
@@ -63,7 +62,7 @@ fn digest_value<A: Allocator>(alloc: A, digests: &Digests, algo: Algo) -> Result
     ensures digest { (message : List ℕ) → AreDigests digests.now message →
         has (set_of digests.now) algo ≡ true → IfOk result (λ v. content v ≡ bytes (digest_by algo message)) }
     ensures rest { (message : List ℕ) → IfOk result (λ v. zeroed (content v) ≡ zeroed (bytes (digest_by algo message))) }
-    ensures memory { IfErr result (λ fault. fault ≡ OutOfMemory) }
+    ensures memory { IsOkUnless result OutOfMemory }
 {
     let digest = digests.by(algo);
     Ok(Value::Bytes(copied(alloc, &digest[..algo.len()])?))
@@ -75,12 +74,7 @@ fn fill_hash<A: Allocator + Copy>(
     node: &mut Node<A>,
     digests: &Digests,
 ) -> Result<(), FitFault>
-    ensures filled { (message : List ℕ) → AreDigests digests.now message →
-        IsCovered (set_of digests.now) (entry node.old) →
-        OnOk result (entry node.new ≡ with_digest_by in_memory bytes message (entry node.old)) }
-    ensures rest { (message : List ℕ) → OnOk result (
-        zeroed_hash (entry node.new) ≡ zeroed_hash (with_digest_by in_memory bytes message (entry node.old))) }
-    ensures memory { IfErr result (λ fault. fault ≡ OutOfMemory) }
+    ensures { SetsHash digests.now result node }
 {
     let Some(algo) = algo_of(&node.props) else {
         return Ok(());
@@ -97,12 +91,7 @@ fn fill_child<A: Allocator + Copy>(
     node: &mut Node<A>,
     digests: &Digests,
 ) -> Result<(), FitFault>
-    ensures filled { (message : List ℕ) → AreDigests digests.now message →
-        (is_hash node.old.name ≡ true → IsCovered (set_of digests.now) (entry node.old)) →
-        OnOk result (entry node.new ≡ hashed_in message (entry node.old)) }
-    ensures rest { (message : List ℕ) → OnOk result (
-        zeroed_child (entry node.new) ≡ zeroed_child (hashed_in message (entry node.old))) }
-    ensures memory { IfErr result (λ fault. fault ≡ OutOfMemory) }
+    ensures { SetsChild digests.now result node }
 {
     if is_hash(node.name.items()) {
         return fill_hash(alloc, node, digests);
@@ -116,12 +105,7 @@ pub(crate) fn fill_children<A: Allocator + Copy>(
     nodes: &mut [Node<A>],
     digests: &Digests,
 ) -> Result<(), FitFault>
-    ensures filled { (message : List ℕ) → AreDigests digests.now message →
-        AllByRecursion (IsCovered (set_of digests.now)) (filter (λ h. is_hash h.name) (map entry nodes.old)) →
-        OnOk result (map entry nodes.new ≡ map (hashed_in message) (map entry nodes.old)) }
-    ensures rest { (message : List ℕ) → OnOk result (
-        each zeroed_child (siblings nodes.new) ≡ each zeroed_child (each (hashed_in message) (siblings nodes.old))) }
-    ensures memory { IfErr result (λ fault. fault ≡ OutOfMemory) }
+    ensures { SetsChildren digests.now result nodes }
 {
     for node in nodes.iter_mut() {
         fill_child(alloc, node, digests)?;

@@ -1,17 +1,19 @@
 //! The images of a tree, filled one after another.
 
 ghost use Rattle.std.specs.Prelude.{◌≡◌, ◌≢◌, ℕ, List, [], map, Some, IsTrue, OnOk};
-ghost use Rattle.std.specs.List.{filter, AllByRecursion};
+ghost use Rattle.std.specs.List.{filter};
 ghost use Rattle.uimg_blob.specs.LookUps.{listed};
 ghost use Rattle.uimg_blob.specs.Roles.{is_hash};
 ghost use Rattle.uimg_tree.specs.Content.{IsKept};
 ghost use Rattle.uimg_tree.specs.Properties.{content};
 ghost use Rattle.uimg_tree.specs.Trees.{siblings};
+ghost use Rattle.uimg_tree.specs.LentFiles.{IfHonest};
 ghost use Rattle.uimg_fit_building.specs.FillAnswers.{OpensKept};
 ghost use Rattle.uimg_fit_building.specs.Behind.{entry};
 ghost use Rattle.uimg_fit_building.specs.Filling.{each};
-ghost use Rattle.uimg_fit_building.specs.FillOrder.{FillsNext, FillsInOrder};
+ghost use Rattle.uimg_fit_building.specs.FillOrder.{FillsNext};
 ghost use Rattle.uimg_fit_building.specs.ImageFillings.{hashed_in, filled_over, FillsHashes, FillsImage, FillsImages, IsKeptImage};
+ghost use Rattle.uimg_fit_building.specs.ImageSteps.{OpensImages, AnswersInOrder};
 ghost use Rattle.uimg_fit_building.specs.PayloadSums.{no_files};
 ghost use Rattle.uimg_fit_building.specs.DigestBytes.{zeroed_child, zeroed_image};
 
@@ -32,15 +34,13 @@ fn fill_hashes<F: Files, A: Allocator + Copy>(
     payload: &Value<A>,
     files: &mut F,
 ) -> Result<(), FitFault>
-    ensures opens { OpensKept F.Opened.steady
-        (IsKept (F.map files.old).bytes (content payload.now)) result
-        (F.map files.old) (F.map files.new) }
-    ensures filled { IsTrue (F.map files.old).honest →
-        FillsHashes (λ u. siblings nodes.new) (F.map files.old).bytes (content payload.now)
-        (siblings nodes.old) result }
-    ensures kept { IsTrue (F.map files.old).honest → OnOk result (
+    ensures opens { OpensKept F.Opened.steady F.map (λ there. IsKept there (content payload.now))
+        result files }
+    ensures filled { IfHonest F.map files (λ there. FillsHashes (λ u. siblings nodes.new) there
+        (content payload.now) (siblings nodes.old) result) }
+    ensures kept { IfHonest F.map files (λ there. OnOk result (
         filter (λ h. is_hash h.name) (listed (siblings nodes.old)) ≢ [] →
-        IsKept (F.map files.old).bytes (content payload.now)) }
+        IsKept there (content payload.now))) }
     ensures rest { (message : List ℕ) → OnOk result (
         each zeroed_child (siblings nodes.new) ≡ each zeroed_child (each (hashed_in message) (siblings nodes.old))) }
 {
@@ -62,11 +62,10 @@ fn fill_image<F: Files, A: Allocator + Copy>(
     image: &mut Node<A>,
     files: &mut F,
 ) -> Result<(), FitFault>
-    ensures opens { OpensKept F.Opened.steady
-        (IsKeptImage (F.map files.old).bytes (entry image.old)) result
-        (F.map files.old) (F.map files.new) }
-    ensures filled { IsTrue (F.map files.old).honest →
-        FillsImage (F.map files.old).bytes (entry image.old) (entry image.new) result }
+    ensures opens { OpensKept F.Opened.steady F.map (λ there. IsKeptImage there (entry image.old))
+        result files }
+    ensures filled { IfHonest F.map files (λ there.
+        FillsImage there (entry image.old) (entry image.new) result) }
     ensures order { IsTrue (F.map files.old).honest →
         FillsNext (F.map files.old) F.Opened.steady (entry image.old) result }
     ensures rest { OnOk result (
@@ -90,13 +89,10 @@ pub(crate) fn fill_images<F: Files, A: Allocator + Copy>(
     images: &mut [Node<A>],
     files: &mut F,
 ) -> Result<(), FitFault>
-    ensures opens { OpensKept F.Opened.steady
-        (AllByRecursion (IsKeptImage (F.map files.old).bytes) (map entry images.old)) result
-        (F.map files.old) (F.map files.new) }
-    ensures filled { IsTrue (F.map files.old).honest → FillsImages (F.map files.old).bytes
-        (map entry images.old) (map entry images.new) result }
-    ensures order { IsTrue (F.map files.old).honest →
-        FillsInOrder (F.map files.old) F.Opened.steady (Some (map entry images.old)) result }
+    ensures opens { OpensImages F.Opened.steady F.map (Some (map entry images.old)) result files }
+    ensures filled { IfHonest F.map files (λ there.
+        FillsImages there (map entry images.old) (map entry images.new) result) }
+    ensures order { AnswersInOrder F.Opened.steady F.map (Some (map entry images.old)) result files }
     ensures rest { OnOk result (
         each zeroed_image (siblings images.new) ≡ each zeroed_image (each (filled_over no_files) (siblings images.old))) }
 {

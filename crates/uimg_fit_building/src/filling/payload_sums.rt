@@ -1,13 +1,12 @@
 //! A payload is summed once, by the algorithms in use.
 
-ghost use Rattle.std.specs.Prelude.{◌≡◌, [], List, length, IsTrue, IfOk, IfErr, OnOk};
-ghost use Rattle.uimg_sums.specs.declared.algo.Algo.{Algo};
-ghost use Rattle.uimg_sums.specs.Bundle.{Holds};
+ghost use Rattle.std.specs.Prelude.{◌≡◌, length, IsTrue, IsOkUnless, IfOk, OnOk};
 ghost use Rattle.uimg_base.specs.Device.{RisesIf};
-ghost use Rattle.uimg_tree.specs.Content.{bytes_in, file, IsKept};
+ghost use Rattle.uimg_tree.specs.Content.{bytes_in, file};
 ghost use Rattle.uimg_tree.specs.Properties.{content};
-ghost use Rattle.uimg_fit_building.specs.FillAnswers.{fails_to_read, OpensKept};
-ghost use Rattle.uimg_fit_building.specs.ImageFillings.{IsFileFault};
+ghost use Rattle.uimg_tree.specs.LentFiles.{IfHonest};
+ghost use Rattle.uimg_fit_building.specs.FillAnswers.{fails_to_read};
+ghost use Rattle.uimg_fit_building.specs.PayloadSteps.{ReadsPayload, Feeds};
 ghost use Rattle.uimg_fit_base.specs.AlgoSets.{set_of, AreDigests};
 ghost use Rattle.uimg_fit_base.specs.declared.fault.FitFault.TheVariants.{ReadFailed};
 
@@ -18,13 +17,12 @@ use uimg_tree::Value;
 
 // Feeds a source that has so many bytes; one of another size is a failed read.
 fn feed_source<S: Source>(bundle: &mut Bundle, source: &mut S, size: u64) -> Result<(), FitFault>
-    ensures memory { IfErr result (λ fault. fault ≡ ReadFailed) }
+    ensures fault { IsOkUnless result ReadFailed }
     ensures sized { OnOk result (length (S.device source.old).bytes ≡ size) }
     ensures failures { length (S.device source.old).bytes ≡ size →
         RisesIf (fails_to_read result) (S.device source.old).failures (S.device source.new).failures }
-    ensures fed { IsTrue (S.device source.old).honest → OnOk result (
-        (algos : List Algo) → Holds bundle.old algos [] →
-        Holds bundle.new algos (S.device source.old).bytes) }
+    ensures fed { IsTrue (S.device source.old).honest →
+        OnOk result (Feeds bundle (S.device source.old).bytes) }
 {
     match source.size() {
         Ok(length) if length == size => {}
@@ -44,15 +42,9 @@ fn feed_file<F: Files>(
     size: u64,
     files: &mut F,
 ) -> Result<(), FitFault>
-    ensures opens { OpensKept F.Opened.steady
-        (IsKept (F.map files.old).bytes (file name.now size)) result
-        (F.map files.old) (F.map files.new) }
-    ensures faults { IfErr result (IsFileFault (file name.now size)) }
-    ensures kept { IsTrue (F.map files.old).honest →
-        OnOk result (IsKept (F.map files.old).bytes (file name.now size)) }
-    ensures fed { IsTrue (F.map files.old).honest → OnOk result (
-        (algos : List Algo) → Holds bundle.old algos [] →
-        Holds bundle.new algos (bytes_in (F.map files.old).bytes (file name.now size))) }
+    ensures reads { ReadsPayload F.Opened.steady F.map (file name.now size) result files }
+    ensures fed { IfHonest F.map files (λ there.
+        OnOk result (Feeds bundle (bytes_in there (file name.now size)))) }
 {
     let Ok(mut source) = files.open(name) else {
         return Err(FitFault::NoFile);
@@ -66,15 +58,9 @@ fn feed_payload<F: Files, A: Allocator>(
     payload: &Value<A>,
     files: &mut F,
 ) -> Result<(), FitFault>
-    ensures opens { OpensKept F.Opened.steady
-        (IsKept (F.map files.old).bytes (content payload.now)) result
-        (F.map files.old) (F.map files.new) }
-    ensures faults { IfErr result (IsFileFault (content payload.now)) }
-    ensures kept { IsTrue (F.map files.old).honest →
-        OnOk result (IsKept (F.map files.old).bytes (content payload.now)) }
-    ensures fed { IsTrue (F.map files.old).honest → OnOk result (
-        (algos : List Algo) → Holds bundle.old algos [] →
-        Holds bundle.new algos (bytes_in (F.map files.old).bytes (content payload.now))) }
+    ensures reads { ReadsPayload F.Opened.steady F.map (content payload.now) result files }
+    ensures fed { IfHonest F.map files (λ there.
+        OnOk result (Feeds bundle (bytes_in there (content payload.now)))) }
 {
     match payload {
         Value::Bytes(bytes) => {
@@ -91,15 +77,10 @@ pub(crate) fn payload_digests<F: Files, A: Allocator>(
     payload: &Value<A>,
     files: &mut F,
 ) -> Result<Digests, FitFault>
-    ensures opens { OpensKept F.Opened.steady
-        (IsKept (F.map files.old).bytes (content payload.now)) result
-        (F.map files.old) (F.map files.new) }
-    ensures faults { IfErr result (IsFileFault (content payload.now)) }
-    ensures kept { IsTrue (F.map files.old).honest →
-        OnOk result (IsKept (F.map files.old).bytes (content payload.now)) }
+    ensures reads { ReadsPayload F.Opened.steady F.map (content payload.now) result files }
     ensures set { IfOk result (λ digests. set_of digests ≡ set) }
-    ensures digests { IsTrue (F.map files.old).honest → IfOk result (λ digests.
-        AreDigests digests (bytes_in (F.map files.old).bytes (content payload.now))) }
+    ensures digests { IfHonest F.map files (λ there.
+        IfOk result (λ digests. AreDigests digests (bytes_in there (content payload.now)))) }
 {
     let mut sums = set.sums();
     feed_payload(&mut sums, payload, files)?;

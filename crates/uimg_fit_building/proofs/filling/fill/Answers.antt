@@ -68,7 +68,7 @@ returns-clause-filled g c = λ honest kept.
     let long : length c.into_vec-nodes.result.items ≡ c.into_vec-nodes.result.len = ap (λ (l : List (Node _)). length l) (sym slots.value) ∙ slots.len in
     let back = written-back c.into_vec-nodes.result.len c.fill_below.new.nodes c.into_vec-nodes.result.items (omega (arith, long, slots.len, c.fill_below.auto.nodes)) long (omega (arith, slots.len, c.fill_below.auto.nodes)) in
     let f = c.in_ok-fill_below.ensures.filled honest in
-    told-filled files root.name root.props root.children c.args.time c.in_ok-props.props c.of-children.result c.requires kept c.in_ok-props.ensures.set
+    told-filled files root.name root.props root.children c.args.time c.in_ok-props.props c.of-children.result c.requires kept c.in_ok-props.ensures.made
     (sym (ap (λ (t : Unread). fault_among (images_among t)) below) ∙ f.0)
     (c.of-children.ensures ∙ ap siblings back ∙ f.1 ∙ ap (λ (t : Unread). in_first (codes "images") (each (filled_over files)) t) below)
 
@@ -88,5 +88,5 @@ returns-clause-rest g c =
     let back = written-back c.into_vec-nodes.result.len c.fill_below.new.nodes c.into_vec-nodes.result.items (omega (arith, long, slots.len, c.fill_below.auto.nodes)) long (omega (arith, slots.len, c.fill_below.auto.nodes)) in
     let told = ap zeroed_below (c.of-children.ensures ∙ ap siblings back) ∙ c.in_ok-fill_below.ensures.rest
     ∙ ap (λ (t : Unread). zeroed_below (in_first (codes "images") (each (filled_over no_files)) t)) below in
-    ap (λ (l : List (NamedOf Content)). a_node root.name l (zeroed_below c.of-children.result) no_node) c.in_ok-props.ensures.set
+    ap (λ (l : List (NamedOf Content)). a_node root.name l (zeroed_below c.of-children.result) no_node) c.in_ok-props.ensures.made
     ∙ ap (λ (t : Unread). a_node root.name (with (codes "timestamp") (bytes (word c.args.time)) root.props) t no_node) told

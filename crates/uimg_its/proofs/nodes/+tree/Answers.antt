@@ -1,4 +1,4 @@
-use Rattle.std.proofs.Common.{◌∷◌, [], List, Some, arith, IsTrue, ap, sym, ◌∙◌}
+use Rattle.std.proofs.Common.{rules, ◌∷◌, [], List, Some, arith, IsTrue, ap, sym, ◌∙◌}
 use Rattle.std.proofs.lemmas.Result.{err_from_is_err_and}
 use Rattle.uimg_its.specs.Words.{Word, words}
 use Rattle.uimg_its.specs.Parts.{NodeParts, props_in_full, parts_of, all_parts_of}
@@ -9,10 +9,13 @@ use Rattle.uimg_its.proofs.FilesLaws.{files_then}
 use Rattle.uimg_its.proofs.SoundLaws.{node_same, nodes_same}
 use Rattle.uimg_its.proofs.nodes.+tree.Goals as goal
 
-pub children-returns-in_err-found-clause-files : goal.children-returns-in_err-found-clause-files
-children-returns-in_err-found-clause-files g t c =
+pub children-returns-in_err-found-clause-opens : goal.children-returns-in_err-found-clause-opens
+children-returns-in_err-found-clause-opens g t c =
     let p = err_from_is_err_and c.from_residual.result c.from_residual.ensures.1 in
-    rw (p.1, p.2) (files_then c.loop-nodes.invariant.files c.in_err-found.ensures.files)
+    record {
+      files = rw (p.1, p.2) (files_then c.loop-nodes.invariant.files c.in_err-found.ensures.opens.files);
+      steady = search rules;
+    }
 
 pub children-returns-in_err-found-clause-gives : goal.children-returns-in_err-found-clause-gives
 children-returns-in_err-found-clause-gives g t c = λ honest.
@@ -21,8 +24,11 @@ children-returns-in_err-found-clause-gives g t c = λ honest.
     let now : IsTrue (g.F.Files.map c.loop-nodes.files).honest = rw c.loop-nodes.invariant.files.same.honest honest in
     rw (p.1, p.2) (is_refused_at c.in_err-found.field-0.0.kind (child_step (node_within c.args.levels files)) (child_shrinks c.args.levels files) (all_parts_of files c.loop-nodes.nodes.items) (words c.loop-nodes.rest.now) _ (rw c.loop-nodes.invariant.files.same.bytes at (c.in_err-found.ensures.gives now)) (c.loop-nodes.invariant.read honest))
 
-pub children-returns-in-None-clause-files : goal.children-returns-in-None-clause-files
-children-returns-in-None-clause-files g t c = files_then c.loop-nodes.invariant.files c.in_ok-found.ensures.files
+pub children-returns-in-None-clause-opens : goal.children-returns-in-None-clause-opens
+children-returns-in-None-clause-opens g t c = record {
+  files = files_then c.loop-nodes.invariant.files c.in_ok-found.ensures.opens.files;
+  steady = search rules;
+}
 
 pub children-returns-in-None-clause-gives : goal.children-returns-in-None-clause-gives
 children-returns-in-None-clause-gives g t c = λ honest.
@@ -32,7 +38,7 @@ children-returns-in-None-clause-gives g t c = λ honest.
 
 pub children-loop-nodes-preserved : goal.children-loop-nodes-preserved
 children-loop-nodes-preserved g t c = record {
-  files = files_then c.loop-nodes.invariant.files c.in_ok-found.ensures.files;
+  files = files_then c.loop-nodes.invariant.files c.in_ok-found.ensures.opens.files;
   read = λ honest.
       let files = (g.F.Files.map c.args.files.now).bytes in
       let now : IsTrue (g.F.Files.map c.loop-nodes.files).honest = rw c.loop-nodes.invariant.files.same.honest honest in
@@ -44,13 +50,13 @@ children-loop-nodes-preserved g t c = record {
 pub inside-returns-clause-gives : goal.inside-returns-clause-gives
 inside-returns-clause-gives g t c = λ honest.
     let files = (g.F.Files.map c.args.files.now).bytes in
-    let now : IsTrue (g.F.Files.map c.properties.new.files).honest = rw c.in_ok-props.ensures.files.same.honest honest in
-    inside_is files (children c.args.levels files) c.args.name (words c.args.text.now) (words c.in_ok-props.behind.now) (words c.in_ok-children.rest.now) (props_in_full files c.in_ok-props.props) (all_parts_of files c.in_ok-children.children.items) (c.in_ok-props.ensures.gives honest) (rw c.in_ok-props.ensures.files.same.bytes at (c.in_ok-children.ensures.gives now))
+    let now : IsTrue (g.F.Files.map c.properties.new.files).honest = rw c.in_ok-props.ensures.opens.files.same.honest honest in
+    inside_is files (children c.args.levels files) c.args.name (words c.args.text.now) (words c.in_ok-props.behind.now) (words c.in_ok-children.rest.now) (props_in_full files c.in_ok-props.props) (all_parts_of files c.in_ok-children.children.items) (c.in_ok-props.ensures.gives honest) (rw c.in_ok-props.ensures.opens.files.same.bytes at (c.in_ok-children.ensures.gives now))
     ∙ ap (λ (n : NodeParts). (let x : NodeParts × List Word = (n, words c.in_ok-children.rest.now) in Some x)) (sym (c.node_of.ensures.parts files))
 
 pub inside-returns-clause-sound : goal.inside-returns-clause-sound
 inside-returns-clause-sound g t c =
-    c.node_of.ensures.sound (g.F.Files.map c.args.files.now) c.in_ok-props.ensures.sound (nodes_same (g.F.Files.map c.args.files.now) (g.F.Files.map c.properties.new.files) c.in_ok-children.children.items c.in_ok-props.ensures.files.same c.in_ok-children.ensures.sound)
+    c.node_of.ensures.sound (g.F.Files.map c.args.files.now) c.in_ok-props.ensures.sound (nodes_same (g.F.Files.map c.args.files.now) (g.F.Files.map c.properties.new.files) c.in_ok-children.children.items c.in_ok-props.ensures.opens.files.same c.in_ok-children.ensures.sound)
 
 pub node-returns-then-levels-eq0-clause-gives : goal.node-returns-then-levels-eq0-clause-gives
 node-returns-then-levels-eq0-clause-gives g t c = λ honest. refused _ _ (node_too_deep c.args.levels _ _ _ c.if-levels-eq0.true)
@@ -58,3 +64,35 @@ node-returns-then-levels-eq0-clause-gives g t c = λ honest. refused _ _ (node_t
 pub node-returns-clause-gives : goal.node-returns-clause-gives
 node-returns-clause-gives g t c = λ honest.
     rw (node_is c.args.levels (g.F.Files.map c.args.files.now).bytes c.args.name.now (words c.args.text.now) c.if-levels-eq0.false) (rw c.in_ok-name.ensures.name at (c.inside.ensures.gives honest))
+
+pub child-returns-in_err-rest-in-Opens-clause-opens : goal.child-returns-in_err-rest-in-Opens-clause-opens
+child-returns-in_err-rest-in-Opens-clause-opens g t c = record {
+  files = search rules;
+  steady = search rules;
+}
+
+pub child-returns-in_ok-rest-in-Opens-clause-opens : goal.child-returns-in_ok-rest-in-Opens-clause-opens
+child-returns-in_ok-rest-in-Opens-clause-opens g t c = record {
+  files = search rules;
+  steady = search rules;
+}
+
+pub children-returns-in_err-push_node-in-Some-clause-opens : goal.children-returns-in_err-push_node-in-Some-clause-opens
+children-returns-in_err-push_node-in-Some-clause-opens g t c =
+    let p = err_from_is_err_and c.from_residual-in_err-push_node-in-Some.result c.from_residual-in_err-push_node-in-Some.ensures.1 in
+    record {
+      files = rw (p.1, p.2) (rw c.in_err-push_node-in-Some.ensures.memory.no_file.0 (files_then c.loop-nodes.invariant.files c.in_ok-found.ensures.opens.files));
+      steady = search rules;
+    }
+
+pub inside-returns-in_err-children-clause-opens : goal.inside-returns-in_err-children-clause-opens
+inside-returns-in_err-children-clause-opens g t c = record {
+  files = search rules;
+  steady = search rules;
+}
+
+pub inside-returns-clause-opens : goal.inside-returns-clause-opens
+inside-returns-clause-opens g t c = record {
+  files = search rules;
+  steady = search rules;
+}

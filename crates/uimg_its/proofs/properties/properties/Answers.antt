@@ -1,4 +1,4 @@
-use Rattle.std.proofs.Common.{map, arith, IsTrue}
+use Rattle.std.proofs.Common.{rules, map, arith, IsTrue}
 use Rattle.std.proofs.lemmas.Result.{err_from_is_err_and}
 use Rattle.uimg_tree.specs.Properties.{property}
 use Rattle.uimg_its.specs.Words.{words}
@@ -10,10 +10,13 @@ use Rattle.uimg_its.proofs.FilesLaws.{files_then}
 use Rattle.uimg_its.proofs.SoundLaws.{still_sound}
 use Rattle.uimg_its.proofs.properties.properties.Goals as goal
 
-pub returns-in_err-last-clause-files : goal.returns-in_err-last-clause-files
-returns-in_err-last-clause-files g c =
+pub returns-in_err-last-clause-opens : goal.returns-in_err-last-clause-opens
+returns-in_err-last-clause-opens g c =
     let p = err_from_is_err_and c.from_residual.result c.from_residual.ensures.1 in
-    rw (p.1, p.2) (files_then c.loop-props.invariant.files c.in_err-last.ensures.files)
+    record {
+      files = rw (p.1, p.2) (files_then c.loop-props.invariant.files c.in_err-last.ensures.opens.files);
+      steady = search rules;
+    }
 
 pub returns-in_err-last-clause-gives : goal.returns-in_err-last-clause-gives
 returns-in_err-last-clause-gives g c = λ honest.
@@ -22,8 +25,11 @@ returns-in_err-last-clause-gives g c = λ honest.
     let now : IsTrue (g.F.Files.map c.loop-props.files).honest = rw c.loop-props.invariant.files.same.honest honest in
     rw (p.1, p.2) (is_refused c.in_err-last.field-0.0.kind (property_step files) (property_shrinks files) (props_in_full files (map property c.loop-props.props.items)) (words c.loop-props.rest.now) _ (rw c.loop-props.invariant.files.same.bytes at (c.in_err-last.ensures.gives now)) (c.loop-props.invariant.read honest))
 
-pub returns-then-last-clause-files : goal.returns-then-last-clause-files
-returns-then-last-clause-files g c = files_then c.loop-props.invariant.files c.in_ok-last.ensures.files
+pub returns-then-last-clause-opens : goal.returns-then-last-clause-opens
+returns-then-last-clause-opens g c = record {
+  files = files_then c.loop-props.invariant.files c.in_ok-last.ensures.opens.files;
+  steady = search rules;
+}
 
 pub returns-then-last-clause-gives : goal.returns-then-last-clause-gives
 returns-then-last-clause-gives g c = λ honest.
@@ -36,7 +42,7 @@ returns-then-last-clause-sound g c = rw c.of.ensures (still_sound _ _ c.loop-pro
 
 pub loop-props-preserved : goal.loop-props-preserved
 loop-props-preserved g c = record {
-  files = files_then c.loop-props.invariant.files c.in_ok-last.ensures.files;
+  files = files_then c.loop-props.invariant.files c.in_ok-last.ensures.opens.files;
   read = λ honest.
       let files = (g.F.Files.map c.args.files.now).bytes in
       let now : IsTrue (g.F.Files.map c.loop-props.files).honest = rw c.loop-props.invariant.files.same.honest honest in

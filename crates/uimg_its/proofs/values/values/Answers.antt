@@ -1,4 +1,4 @@
-use Rattle.std.proofs.Common.{arith, IsTrue}
+use Rattle.std.proofs.Common.{rules, arith, IsTrue}
 use Rattle.std.proofs.lemmas.Result.{err_from_is_err_and}
 use Rattle.uimg_its.specs.Words.{words}
 use Rattle.uimg_its.specs.Reader.{value_step}
@@ -7,10 +7,13 @@ use Rattle.uimg_its.proofs.Shrinking.{value_shrinks}
 use Rattle.uimg_its.proofs.FilesLaws.{files_then}
 use Rattle.uimg_its.proofs.values.values.Goals as goal
 
-pub returns-in_err-last-clause-files : goal.returns-in_err-last-clause-files
-returns-in_err-last-clause-files g c =
+pub returns-in_err-last-clause-opens : goal.returns-in_err-last-clause-opens
+returns-in_err-last-clause-opens g c =
     let p = err_from_is_err_and c.from_residual.result c.from_residual.ensures.1 in
-    rw (p.1, p.2) (files_then c.loop-last.invariant.files c.in_err-last.ensures.files)
+    record {
+      files = rw (p.1, p.2) (files_then c.loop-last.invariant.files c.in_err-last.ensures.opens.files);
+      steady = search rules;
+    }
 
 pub returns-in_err-last-clause-gives : goal.returns-in_err-last-clause-gives
 returns-in_err-last-clause-gives g c = λ honest.
@@ -19,8 +22,11 @@ returns-in_err-last-clause-gives g c = λ honest.
     let now : IsTrue (g.F.Files.map c.loop-last.files).honest = rw c.loop-last.invariant.files.same.honest honest in
     rw (p.1, p.2) (is_refused c.in_err-last.field-0.0.kind (value_step files) (value_shrinks files) c.loop-last.out.items (words c.loop-last.rest.now) _ (rw c.loop-last.invariant.files.same.bytes at (c.in_err-last.ensures.gives now)) (c.loop-last.invariant.read honest))
 
-pub returns-then-last-clause-files : goal.returns-then-last-clause-files
-returns-then-last-clause-files g c = files_then c.loop-last.invariant.files c.in_ok-last.ensures.files
+pub returns-then-last-clause-opens : goal.returns-then-last-clause-opens
+returns-then-last-clause-opens g c = record {
+  files = files_then c.loop-last.invariant.files c.in_ok-last.ensures.opens.files;
+  steady = search rules;
+}
 
 pub returns-then-last-clause-gives : goal.returns-then-last-clause-gives
 returns-then-last-clause-gives g c = λ honest.
@@ -30,7 +36,7 @@ returns-then-last-clause-gives g c = λ honest.
 
 pub loop-last-preserved : goal.loop-last-preserved
 loop-last-preserved g c = record {
-  files = files_then c.loop-last.invariant.files c.in_ok-last.ensures.files;
+  files = files_then c.loop-last.invariant.files c.in_ok-last.ensures.opens.files;
   read = λ honest.
       let files = (g.F.Files.map c.args.files.now).bytes in
       let now : IsTrue (g.F.Files.map c.loop-last.files).honest = rw c.loop-last.invariant.files.same.honest honest in

@@ -1,4 +1,4 @@
-use Rattle.std.proofs.Common.{◌≡◌, ◌<◌, length, get_or, arith, ap, subst, sym, true, ◌∙◌}
+use Rattle.std.proofs.Common.{rules, ◌≡◌, ◌<◌, length, get_or, arith, ap, subst, sym, true, ◌∙◌}
 use Rattle.std.proofs.Math.ListN.{length-set}
 use Rattle.uimg_blob.specs.Roles.{is_hash}
 use Rattle.uimg_tree.specs.declared.tree.Node.{Node}
@@ -10,6 +10,7 @@ use Rattle.uimg_fit_building.specs.DigestBytes.{zeroed_child}
 use Rattle.uimg_fit_building.proofs.EachLaws.{same-at, rest-more, changed-more, changed-all, agree-more, agree-all}
 use Rattle.uimg_fit_building.proofs.FilledHashLaws.{covered-at}
 use Rattle.uimg_fit_building.proofs.DigestBytesLaws.{each-agrees}
+use Rattle.uimg_fit_building.proofs.ImageFillLaws.{siblings-each}
 use Rattle.uimg_fit_building.proofs.filling.filled_hashes.fill_children.Goals as goal
 
 pub loop-node-preserved : goal.loop-node-preserved
@@ -38,14 +39,17 @@ loop-node-preserved g c =
           (c.loop-node.invariant.zeroed message) (c.in_ok-fill_child.ensures.rest message ∙ ap (λ (n : Node _). zeroed_child (hashed_in message (entry n))) here);
     }
 
-pub returns-clause-filled : goal.returns-clause-filled
-returns-clause-filled g c = λ message all covered.
-    changed-all entry (hashed_in message) c.args.nodes.now c.loop-node.nodes c.loop-node.node-index (omega (arith, c.loop-node.invariant.long)) (omega (arith)) (c.loop-node.invariant.changed message all covered)
-
-pub returns-clause-rest : goal.returns-clause-rest
-returns-clause-rest g c = λ message.
+pub returns : goal.returns
+returns g c =
     let old = c.args.nodes.now in
     let now = c.loop-node.nodes in
-    each-agrees zeroed_child (hashed_in message) old now
-    (agree-all (λ (n : Node _). zeroed_child (entry n)) (λ (n : Node _). zeroed_child (hashed_in message (entry n))) old now c.loop-node.node-index
-    (omega (arith, c.loop-node.invariant.long)) (omega (arith)) (c.loop-node.invariant.zeroed message))
+    let i = c.loop-node.node-index in
+    let s = c.loop-node.invariant in
+    record {
+      filled = λ message all covered. siblings-each (hashed_in message) old now
+          (changed-all entry (hashed_in message) old now i (omega (arith, s.long)) (omega arith) (s.changed message all covered));
+      rest = λ message. each-agrees zeroed_child (hashed_in message) old now
+          (agree-all (λ (n : Node _). zeroed_child (entry n)) (λ (n : Node _). zeroed_child (hashed_in message (entry n))) old now i
+          (omega (arith, s.long)) (omega arith) (s.zeroed message));
+      memory = search rules;
+    }

@@ -1,18 +1,26 @@
-use Rattle.std.proofs.Common.{◌∙◌, List, ap, sym, codes}
+use Rattle.std.proofs.Common.{rules, ◌∙◌, List, ap, sym, codes}
 use Rattle.uimg_blob.specs.Plain.{NamedOf}
 use Rattle.uimg_blob.specs.LookUps.{NodeOf}
 use Rattle.uimg_tree.specs.Content.{Content}
 use Rattle.uimg_tree.specs.Properties.{content}
+use Rattle.uimg_fit_base.specs.AlgoSets.{set_of}
 use Rattle.uimg_fit_building.specs.Behind.{entry}
 use Rattle.uimg_fit_building.specs.Filling.{with}
 use Rattle.uimg_fit_building.specs.DigestBytes.{zeroed_hash}
 use Rattle.uimg_fit_building.proofs.DigestBytesLaws.{hash-zeroed}
+use Rattle.uimg_fit_building.proofs.FilledHashLaws.{hash-filled}
 use Rattle.uimg_fit_building.proofs.filling.filled_hashes.fill_hash.Goals as goal
 
-pub returns-clause-rest : goal.returns-clause-rest
-returns-clause-rest g c = λ message.
+pub returns : goal.returns
+returns g c =
     let h = entry c.args.node.now in
     let value = content c.in_ok-value.value in
-    let own = c.in_ok-node.ensures.set ∙ ap (λ (l : List (NamedOf Content)). with (codes "value") value l) c.replace-props.ensures.value in
-    ap (λ (l : List (NamedOf Content)). let n : NodeOf Content = record h { own = l } in zeroed_hash n) own
-    ∙ hash-zeroed h c.in-Some.algo (sym c.algo_of.ensures ∙ c.in-Some.is) value message (c.in_ok-value.ensures.rest message)
+    let known = sym c.algo_of.ensures ∙ c.in-Some.is in
+    let own = c.in_ok-node.ensures.made ∙ ap (λ (l : List (NamedOf Content)). with (codes "value") value l) c.replace-props.ensures.value in
+    record {
+      filled = λ message all covered. ap (λ (l : List (NamedOf Content)). let n : NodeOf Content = record h { own = l } in n) own
+          ∙ hash-filled (set_of c.args.digests.now) h c.in-Some.algo value message known covered (c.in_ok-value.ensures.digest message all);
+      rest = λ message. ap (λ (l : List (NamedOf Content)). let n : NodeOf Content = record h { own = l } in zeroed_hash n) own
+          ∙ hash-zeroed h c.in-Some.algo known value message (c.in_ok-value.ensures.rest message);
+      memory = search rules;
+    }

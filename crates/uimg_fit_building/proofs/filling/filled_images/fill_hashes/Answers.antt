@@ -30,7 +30,7 @@ returns-then-is_empty-clause-filled g c = λ honest.
 pub returns-in-Err-clause-filled : goal.returns-in-Err-clause-filled
 returns-in-Err-clause-filled g c = λ honest.
     let is = sym c.algos_of.ensures ∙ c.in-Some.is in
-    stops-at {X = ⊤} (λ u. siblings c.args.nodes.now) (g.F.Files.map c.args.files.now).bytes (content c.args.payload.now) (siblings c.args.nodes.now) c.in-Err.fault c.in-Err.ensures.faults
+    stops-at {X = ⊤} (λ u. siblings c.args.nodes.now) (g.F.Files.map c.args.files.now).bytes (content c.args.payload.now) (siblings c.args.nodes.now) c.in-Err.fault c.in-Err.ensures.reads.faults
     (all-known c.args.nodes.now _ refl c.in-Some.set is)
     (some-hashed c.args.nodes.now _ refl c.in-Some.set is (some-are c.in-Some.set (sym c.is_empty.ensures ∙ c.if-is_empty.false)))
 
@@ -52,7 +52,7 @@ returns-then-is_empty-clause-kept g c = λ honest hashed.
     absurd (hashed (none-found c.args.nodes.now _ refl (is ∙ ap (λ (s : AlgoSet). let o : Option AlgoSet = Some s in o) empty)))
 
 pub returns-in-Ok-clause-kept : goal.returns-in-Ok-clause-kept
-returns-in-Ok-clause-kept g c = λ honest. always c.fill_children.result (λ hashed. c.in-Ok.ensures.kept honest)
+returns-in-Ok-clause-kept g c = λ honest. always c.fill_children.result (λ hashed. c.in-Ok.ensures.reads.kept honest)
 
 pub returns-then-is_empty-clause-rest : goal.returns-then-is_empty-clause-rest
 returns-then-is_empty-clause-rest g c = λ message.
