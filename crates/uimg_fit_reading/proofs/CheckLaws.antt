@@ -35,7 +35,7 @@ use Rattle.uimg_fit_reading.specs.declared.checking.checked_payloads.Checked.The
 use Rattle.uimg_fit_reading.specs.declared.report.wrong_hashes.WrongHash.{WrongHash}
 use Rattle.uimg_fit_reading.specs.Allowances.{node_allowance, allowance}
 use Rattle.uimg_fit_reading.specs.Checks.{Told, wrong, weak, overlapping, no_image, check_work, told_of, wrong_in, is_weak, or_weak, found_of, image_told, or_later, first_told, images_told, some_told, check_of, or_right}
-use Rattle.uimg_fit_reading.specs.CheckParts.{FindsWrong, IsChecked, TellsChecked, left_of, ChecksPayload, ChecksImage, ChecksImages}
+use Rattle.uimg_fit_reading.specs.CheckParts.{FindsWrongBetween, IsChecked, TellsChecked, left_of, ChecksPayloadBetween, ChecksImageBetween, ChecksImagesBetween}
 use Rattle.uimg_fit_reading.specs.HashReports.{AllCovered}
 use Rattle.uimg_fit_reading.specs.Nodes.{AreFrom, HashesAt, FirstHash}
 use Rattle.uimg_fit_reading.specs.Plans.{are_compared, with_all}
@@ -85,7 +85,7 @@ rights_more t set message hs asked new number next k f word following later is g
 }
 
 pub rights_cut : (t : Siblings) (set : AlgoSet) (file message : List ℕ) (hs : List (NodeOf Spot)) (asked new number : ℕ) (next : Option ℕ) (k : LeftRight t set message hs asked new next)
-    → FirstHash t number k.left → (later : ℕ) (r : Result (Option WrongHash) SourceFault) → later ≤ new + 96 → is_err r ≡ true → FindsWrong file message hs asked later r
+    → FirstHash t number k.left → (later : ℕ) (r : Result (Option WrongHash) SourceFault) → later ≤ new + 96 → is_err r ≡ true → FindsWrongBetween file message hs asked later r
 rights_cut t set file message hs asked new number next k f later r paid failed = record {
   told = λ name. if_err r _ failed;
   short = if_err r _ failed;
@@ -95,7 +95,7 @@ rights_cut t set file message hs asked new number next k f later r paid failed =
 pub rights_end : (t : Siblings) (set : AlgoSet) (file message : List ℕ) (hs : List (NodeOf Spot)) (asked new number : ℕ) (next : Option ℕ) (hash : Span)
     (k : LeftRight t set message hs asked new next) (f : FirstHash t number k.left) (word : Verdict) (later : ℕ) → word ≡ word_of message f.hash → is_right word ≡ false
     → slice file hash.place hash.length ≡ f.hash.name → hash.length ≤ 255 → later ≤ new + 96
-    → FindsWrong file message hs asked later (Ok (Some (record { hash = hash; word = word })))
+    → FindsWrongBetween file message hs asked later (Ok (Some (record { hash = hash; word = word })))
 rights_end t set file message hs asked new number next hash k f word later is bad named short paid = record {
   short = short;
   told = λ name. ap (λ (n : List ℕ). Some (wrong name n word)) named ∙ ap (λ (w : Verdict). Some (wrong name f.hash.name w)) is
@@ -104,7 +104,7 @@ rights_end t set file message hs asked new number next hash k f word later is ba
 }
 
 pub rights_all : (t : Siblings) (set : AlgoSet) (file message : List ℕ) (hs : List (NodeOf Spot)) (asked new : ℕ) (next : Option ℕ) → next ≡ None → LeftRight t set message hs asked new next
-    → FindsWrong file message hs asked new (Ok None)
+    → FindsWrongBetween file message hs asked new (Ok None)
 rights_all t set file message hs asked new next none k =
     let nothing_left : k.left ≡ [] = subst (λ (o : Option ℕ). HashesAt t o k.left) none k.at in
     record {
@@ -139,7 +139,7 @@ nodes_paid : (image : NodeOf Spot) → 128 * length (hashes image) + 760 ≤ nod
 nodes_paid image = omega (arith, some_nodes (hashes image), hashes_allowed image)
 
 pub payload_over : (file : List ℕ) (need : Option Algo) (left size : ℕ) (image : NodeOf Spot) (message : List ℕ) (asked new : ℕ) (name : Span) → size ≡ hashed image (Ok message) → left < size
-    → slice file name.place name.length ≡ image.name → new ≤ asked + 32 * length (hashes image) → ChecksPayload file need left image message asked new (Ok (Ended (finding.Overlapping name)))
+    → slice file name.place name.length ≡ image.name → new ≤ asked + 32 * length (hashes image) → ChecksPayloadBetween file need left image message asked new (Ok (Ended (finding.Overlapping name)))
 payload_over file need left size image message asked new name is more named paid = record {
   told = over need left size image message is more ∙ ap (λ (n : List ℕ). Some (overlapping n)) (sym named);
   paid = omega (arith, paid, nodes_paid image);
@@ -151,7 +151,7 @@ nothing_left_of (Err e) failed = refl
 
 -- a read failed
 pub payload_cut : (file : List ℕ) (need : Option Algo) (left : ℕ) (image : NodeOf Spot) (message : List ℕ) (asked new : ℕ) (r : Result Checked SourceFault) → is_err r ≡ true
-    → new ≤ asked + (left + 128 * length (hashes image)) → ChecksPayload file need left image message asked new r
+    → new ≤ asked + (left + 128 * length (hashes image)) → ChecksPayloadBetween file need left image message asked new r
 payload_cut file need left image message asked new r failed paid = record {
   told = if_err r _ failed;
   paid = omega (arith, paid, nodes_paid image, nothing_left_of r failed);
@@ -159,8 +159,8 @@ payload_cut file need left image message asked new r failed paid = record {
 
 -- a hash node is not right
 pub payload_wrong : (file : List ℕ) (need : Option Algo) (left size : ℕ) (image : NodeOf Spot) (message : List ℕ) (asked middle new : ℕ) (name : Span) (found : WrongHash) → size ≡ hashed image (Ok message) → size ≤ left
-    → middle ≤ asked + (size + 32 * length (hashes image)) → FindsWrong file message (hashes image) middle new (Ok (Some found)) → slice file name.place name.length ≡ image.name
-    → ChecksPayload file need left image message asked new (Ok (Ended (finding.Wrong name found.hash found.word)))
+    → middle ≤ asked + (size + 32 * length (hashes image)) → FindsWrongBetween file message (hashes image) middle new (Ok (Some found)) → slice file name.place name.length ≡ image.name
+    → ChecksPayloadBetween file need left image message asked new (Ok (Ended (finding.Wrong name found.hash found.word)))
 payload_wrong file need left size image message asked middle new name found is few paid w named = record {
   told = within need left size image message is few ∙ ap (λ (o : Option Told). or_weak o need image) (sym (w.told image.name))
       ∙ ap (λ (n : List ℕ). Some (wrong n (slice file found.hash.place found.hash.length) found.word)) (sym named);
@@ -169,10 +169,10 @@ payload_wrong file need left size image message asked middle new name found is f
 
 -- what was found of hash nodes, once more of the same bytes
 pub finds_in : (file read message : List ℕ) (hs : List (NodeOf Spot)) (asked new : ℕ) (o p : Option WrongHash) → read ≡ file → o ≡ p
-    → FindsWrong read message hs asked new (Ok o) → FindsWrong file message hs asked new (Ok p)
+    → FindsWrongBetween read message hs asked new (Ok o) → FindsWrongBetween file message hs asked new (Ok p)
 finds_in file read message hs asked new o p same is w =
-    subst (λ (x : Option WrongHash). FindsWrong file message hs asked new (Ok x)) is
-    (subst (λ (xs : List ℕ). FindsWrong xs message hs asked new (Ok o)) same w)
+    subst (λ (x : Option WrongHash). FindsWrongBetween file message hs asked new (Ok x)) is
+    (subst (λ (xs : List ℕ). FindsWrongBetween xs message hs asked new (Ok o)) same w)
 
 -- whether an image is weak, by its algorithms
 pub weak_by : (need : Option Algo) (image : NodeOf Spot) (set : AlgoSet) → set ≡ with_all no_algos (hashes image) → is_weak need image ≡ option_map_or (λ algo. not (has_from set algo)) need false
@@ -180,9 +180,9 @@ weak_by None image set is = refl
 weak_by (Some need) image set is = ap (λ (s : AlgoSet). not (has_from s need)) (sym is)
 
 pub payload_weak : (file : List ℕ) (need : Option Algo) (left size : ℕ) (image : NodeOf Spot) (message : List ℕ) (asked middle new : ℕ) (set : AlgoSet) (name : Span) → size ≡ hashed image (Ok message) → size ≤ left
-    → middle ≤ asked + (size + 32 * length (hashes image)) → FindsWrong file message (hashes image) middle new (Ok None) → set ≡ with_all no_algos (hashes image)
+    → middle ≤ asked + (size + 32 * length (hashes image)) → FindsWrongBetween file message (hashes image) middle new (Ok None) → set ≡ with_all no_algos (hashes image)
     → option_map_or (λ algo. not (has_from set algo)) need false ≡ true → slice file name.place name.length ≡ image.name
-    → ChecksPayload file need left image message asked new (Ok (Ended (finding.Weak name)))
+    → ChecksPayloadBetween file need left image message asked new (Ok (Ended (finding.Weak name)))
 payload_weak file need left size image message asked middle new set name is few paid w algos lacks named = record {
   told = within need left size image message is few ∙ ap (λ (o : Option Told). or_weak o need image) (sym (w.told image.name))
       ∙ ap (λ (b : Bool). if b then Some (weak image.name) else None) (weak_by need image set algos ∙ lacks) ∙ ap (λ (n : List ℕ). Some (weak n)) (sym named);
@@ -190,8 +190,8 @@ payload_weak file need left size image message asked middle new set name is few 
 }
 
 pub payload_on : (file : List ℕ) (need : Option Algo) (left size : ℕ) (image : NodeOf Spot) (message : List ℕ) (asked middle new : ℕ) (set : AlgoSet) (rest : ℕ) → size ≡ hashed image (Ok message) → size ≤ left
-    → middle ≤ asked + (size + 32 * length (hashes image)) → FindsWrong file message (hashes image) middle new (Ok None) → set ≡ with_all no_algos (hashes image)
-    → option_map_or (λ algo. not (has_from set algo)) need false ≡ false → rest + size ≡ left → ChecksPayload file need left image message asked new (Ok (On rest))
+    → middle ≤ asked + (size + 32 * length (hashes image)) → FindsWrongBetween file message (hashes image) middle new (Ok None) → set ≡ with_all no_algos (hashes image)
+    → option_map_or (λ algo. not (has_from set algo)) need false ≡ false → rest + size ≡ left → ChecksPayloadBetween file need left image message asked new (Ok (On rest))
 payload_on file need left size image message asked middle new set rest is few paid w algos lacks sum = record {
   told = (
     within need left size image message is few ∙ ap (λ (o : Option Told). or_weak o need image) (sym (w.told image.name))
@@ -210,7 +210,7 @@ checked_is file need left image message p (Ended found) is checked =
     ap (image_told need left image) is ∙ ap (λ (o : Option Told). Ok o) checked
 
 pub image_checked : (file : List ℕ) (need : Option Algo) (left : ℕ) (image : NodeOf Spot) (message : List ℕ) (asked middle new : ℕ) (step : Checked) → payload file image ≡ Ok message → middle ≤ asked + 12
-    → ChecksPayload file need left image message middle new (Ok step) → ChecksImage file need left image asked new (Ok step)
+    → ChecksPayloadBetween file need left image message middle new (Ok step) → ChecksImageBetween file need left image asked new (Ok step)
 image_checked file need left image message asked middle new step is paid c = record {
   told = checked_is file need left image message (payload file image) step is c.told;
   paid = omega (arith, paid, c.paid);
@@ -218,7 +218,7 @@ image_checked file need left image message asked middle new step is paid c = rec
 
 -- a read of it failed
 pub image_cut : (file : List ℕ) (need : Option Algo) (left : ℕ) (image : NodeOf Spot) (message : List ℕ) (asked middle new : ℕ) (fault : SourceFault) → middle ≤ asked + 12
-    → ChecksPayload file need left image message middle new (Err fault) → ChecksImage file need left image asked new (Err of.Read)
+    → ChecksPayloadBetween file need left image message middle new (Err fault) → ChecksImageBetween file need left image asked new (Err of.Read)
 image_cut file need left image message asked middle new fault paid c = record {
   told = tt;
   paid = omega (arith, paid, c.paid);
@@ -232,7 +232,7 @@ lacks_payload file need left size image of.Read tells = tt
 lacks_payload file need left size image of.Put tells = tt
 
 pub image_lacks : (file : List ℕ) (need : Option Algo) (left : ℕ) (image : NodeOf Spot) (asked new : ℕ) (fault : Fault) → TellsPlace file image (Err fault) → new ≤ asked + 12
-    → ChecksImage file need left image asked new (Err fault)
+    → ChecksImageBetween file need left image asked new (Err fault)
 image_lacks file need left image asked new fault tells paid = record {
   told = lacks_payload file need left (hashed image (payload file image)) image fault tells;
   paid = omega (arith, paid);
@@ -256,7 +256,7 @@ unfolding first_told
 none_told need file left = refl
 
 pub images_more : (t : Siblings) (file : List ℕ) (need : Option Algo) (found : List (NodeOf Spot)) (asked new left : ℕ) (next : Option ℕ) (k : LeftChecked t file need found asked new left next)
-    → (image : NodeOf Spot) (more : List (NodeOf Spot)) → k.rest ≡ image ∷ more → (later rest : ℕ) (following : Option ℕ) → ChecksImage file need left image new later (Ok (On rest))
+    → (image : NodeOf Spot) (more : List (NodeOf Spot)) → k.rest ≡ image ∷ more → (later rest : ℕ) (following : Option ℕ) → ChecksImageBetween file need left image new later (Ok (On rest))
     → AreFrom t in_images following more → LeftChecked t file need found asked later rest following
 images_more t file need found asked new left next k image more are later rest following c from =
     let fewer : left - hashed image (payload file image) ≡ rest = omega (arith, c.told.1) in
@@ -270,8 +270,8 @@ images_more t file need found asked new left next k image more are later rest fo
     }
 
 pub images_end : (t : Siblings) (file : List ℕ) (need : Option Algo) (found : List (NodeOf Spot)) (asked new left : ℕ) (next : Option ℕ) (k : LeftChecked t file need found asked new left next)
-    → (image : NodeOf Spot) (more : List (NodeOf Spot)) → k.rest ≡ image ∷ more → (later : ℕ) (ended : Finding) → ChecksImage file need left image new later (Ok (Ended ended))
-    → ChecksImages file need found asked later (Ok (Some ended))
+    → (image : NodeOf Spot) (more : List (NodeOf Spot)) → k.rest ≡ image ∷ more → (later : ℕ) (ended : Finding) → ChecksImageBetween file need left image new later (Ok (Ended ended))
+    → ChecksImagesBetween file need found asked later (Ok (Some ended))
 images_end t file need found asked new left next k image more are later ended c = record {
   told = k.same ∙ ap (first_told need file left) are ∙ told_more need file left image more
       ∙ ap (λ (r : Result (Option Told) Fault). or_later r (first_told need file (left - hashed image (payload file image)) more)) c.told;
@@ -287,8 +287,8 @@ fault_gives file left size told all later of.Read is tells = tt
 fault_gives file left size told all later of.Put is tells = tt
 
 pub images_cut : (t : Siblings) (file : List ℕ) (need : Option Algo) (found : List (NodeOf Spot)) (asked new left : ℕ) (next : Option ℕ) (k : LeftChecked t file need found asked new left next)
-    → (image : NodeOf Spot) (more : List (NodeOf Spot)) → k.rest ≡ image ∷ more → (later : ℕ) (fault : Fault) → ChecksImage file need left image new later (Err fault)
-    → ChecksImages file need found asked later (Err fault)
+    → (image : NodeOf Spot) (more : List (NodeOf Spot)) → k.rest ≡ image ∷ more → (later : ℕ) (fault : Fault) → ChecksImageBetween file need left image new later (Err fault)
+    → ChecksImagesBetween file need found asked later (Err fault)
 images_cut t file need found asked new left next k image more are later fault c = record {
   told = fault_gives file left (hashed image (payload file image)) (image_told need left image (payload file image)) _
       (first_told need file (left - hashed image (payload file image)) more) fault (k.same ∙ ap (first_told need file left) are ∙ told_more need file left image more) c.told;
@@ -296,7 +296,7 @@ images_cut t file need found asked new left next k image more are later fault c 
 }
 
 pub images_done : (t : Siblings) (file : List ℕ) (need : Option Algo) (found : List (NodeOf Spot)) (asked new left : ℕ) (next : Option ℕ) → next ≡ None → LeftChecked t file need found asked new left next
-    → ChecksImages file need found asked new (Ok None)
+    → ChecksImagesBetween file need found asked new (Ok None)
 images_done t file need found asked new left next none k =
     let nothing : k.rest ≡ [] = none_left t in_images k.rest (subst (λ (o : Option ℕ). AreFrom t in_images o k.rest) none k.from) in
     record {

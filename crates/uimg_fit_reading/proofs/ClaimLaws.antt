@@ -18,13 +18,13 @@ use Rattle.uimg_fit_reading.specs.declared.unpacking.claims.Claim.{Claim}
 use Rattle.uimg_fit_reading.specs.declared.unpacking.claims.Claim.TheVariants.{Fits, Overlaps}
 use Rattle.uimg_fit_reading.specs.declared.unpacking.node_names.NodeName.{NodeName}
 use Rattle.uimg_fit_reading.specs.Unpacking.{is_asked, overlapping, fits_before, bytes_of}
-use Rattle.uimg_fit_reading.specs.UnpackingParts.{ClaimsTo, ClaimsIf, ClaimsAll, ClaimsImage, ClaimsImages, size_if}
+use Rattle.uimg_fit_reading.specs.UnpackingParts.{ClaimsTo, ClaimsIf, ClaimsAll, ClaimsImageBetween, ClaimsImagesBetween, size_if}
 use Rattle.uimg_fit_reading.specs.Nodes.{AreFrom}
 use Rattle.uimg_fit_reading.proofs.ImageLaws.{none_left}
 
 -- an image that is not asked for
 pub claim_skips : (file : List ℕ) (only : Option (List ℕ)) (left : ℕ) (image : NodeOf Spot) (asked new : ℕ) → is_asked only image.name ≡ false → new ≤ asked + 267
-    → ClaimsImage file only left image asked new (Ok (Fits left))
+    → ClaimsImageBetween file only left image asked new (Ok (Fits left))
 claim_skips file only left image asked new not_asked paid = record {
   told = subst (λ (b : Bool). ClaimsIf b image.name left (Ok (Fits left)) (payload file image)) (sym not_asked) (refl, refl);
   paid = paid;
@@ -32,7 +32,7 @@ claim_skips file only left image asked new not_asked paid = record {
 
 -- what is told of one that is asked for
 pub claim_told : (file : List ℕ) (only : Option (List ℕ)) (left : ℕ) (image : NodeOf Spot) (asked new : ℕ) (r : Result Claim Fault) → is_asked only image.name ≡ true → new ≤ asked + 267
-    → ClaimsTo image.name left r (payload file image) → ClaimsImage file only left image asked new r
+    → ClaimsTo image.name left r (payload file image) → ClaimsImageBetween file only left image asked new r
 claim_told file only left image asked new r is paid told = record {
   told = subst (λ (b : Bool). ClaimsIf b image.name left r (payload file image)) (sym is) told;
   paid = paid;
@@ -110,7 +110,7 @@ refused_here false name left of.Read p later told = tt
 refused_here false name left of.Put p later told = tt
 
 pub claims_more : (t : Siblings) (file : List ℕ) (only : Option (List ℕ)) (found : List (NodeOf Spot)) (asked new left : ℕ) (next : Option ℕ) (k : LeftClaimed t file only found asked new left next)
-    → (image : NodeOf Spot) (more : List (NodeOf Spot)) → k.rest ≡ image ∷ more → (later rest : ℕ) (following : Option ℕ) → ClaimsImage file only left image new later (Ok (Fits rest))
+    → (image : NodeOf Spot) (more : List (NodeOf Spot)) → k.rest ≡ image ∷ more → (later rest : ℕ) (following : Option ℕ) → ClaimsImageBetween file only left image new later (Ok (Fits rest))
     → AreFrom t in_images following more → LeftClaimed t file only found asked later rest following
 claims_more t file only found asked new left next k image more are later rest following c from = record {
   rest = more;
@@ -121,8 +121,8 @@ claims_more t file only found asked new left next k image more are later rest fo
 }
 
 pub claims_end : (t : Siblings) (file : List ℕ) (only : Option (List ℕ)) (found : List (NodeOf Spot)) (asked new left : ℕ) (next : Option ℕ) (k : LeftClaimed t file only found asked new left next)
-    → (image : NodeOf Spot) (more : List (NodeOf Spot)) → k.rest ≡ image ∷ more → (later : ℕ) (its : NodeName) → ClaimsImage file only left image new later (Ok (Overlaps its))
-    → ClaimsImages file only found asked later (Ok (Some its))
+    → (image : NodeOf Spot) (more : List (NodeOf Spot)) → k.rest ≡ image ∷ more → (later : ℕ) (its : NodeName) → ClaimsImageBetween file only left image new later (Ok (Overlaps its))
+    → ClaimsImagesBetween file only found asked later (Ok (Some its))
 claims_end t file only found asked new left next k image more are later its c = record {
   told = k.same ∙ ap (overlapping only file left) are ∙ overlapping_more only file left image more
       ∙ overlaps_here (is_asked only image.name) image.name left its (payload file image) (λ n. overlapping only file n more) c.told;
@@ -130,8 +130,8 @@ claims_end t file only found asked new left next k image more are later its c = 
 }
 
 pub claims_cut : (t : Siblings) (file : List ℕ) (only : Option (List ℕ)) (found : List (NodeOf Spot)) (asked new left : ℕ) (next : Option ℕ) (k : LeftClaimed t file only found asked new left next)
-    → (image : NodeOf Spot) (more : List (NodeOf Spot)) → k.rest ≡ image ∷ more → (later : ℕ) (fault : Fault) → ClaimsImage file only left image new later (Err fault)
-    → ClaimsImages file only found asked later (Err fault)
+    → (image : NodeOf Spot) (more : List (NodeOf Spot)) → k.rest ≡ image ∷ more → (later : ℕ) (fault : Fault) → ClaimsImageBetween file only left image new later (Err fault)
+    → ClaimsImagesBetween file only found asked later (Err fault)
 claims_cut t file only found asked new left next k image more are later fault c = record {
   told = subst (λ (r : Result (Option (List ℕ)) FitFault). ClaimsAll r (Err fault)) (sym (k.same ∙ ap (overlapping only file left) are ∙ overlapping_more only file left image more))
       (refused_here (is_asked only image.name) image.name left fault (payload file image) (λ n. overlapping only file n more) c.told);
@@ -139,7 +139,7 @@ claims_cut t file only found asked new left next k image more are later fault c 
 }
 
 pub claims_done : (t : Siblings) (file : List ℕ) (only : Option (List ℕ)) (found : List (NodeOf Spot)) (asked new left : ℕ) (next : Option ℕ) → next ≡ None → LeftClaimed t file only found asked new left next
-    → ClaimsImages file only found asked new (Ok None)
+    → ClaimsImagesBetween file only found asked new (Ok None)
 claims_done t file only found asked new left next none k =
     let nothing : k.rest ≡ [] = none_left t in_images k.rest (subst (λ (o : Option ℕ). AreFrom t in_images o k.rest) none k.from) in
     record {

@@ -9,9 +9,9 @@ use Rattle.uimg_base.specs.Device.{Device, SameDevice}
 use Rattle.uimg_base.specs.Sink.{Sink}
 use Rattle.uimg_base.proofs.SinkLaws.{all_then}
 use Rattle.uimg_base.proofs.Slices.{slice-add}
-use Rattle.uimg_fit_reading.specs.Copies.{TakesPiece}
+use Rattle.uimg_fit_reading.specs.Copies.{TakesPieceBetween}
 
-pub nothing_taken : (d : Device) (at : ℕ) (sums : Bundle) (s : Sink) → TakesPiece d at 0 sums sums s s
+pub nothing_taken : (d : Device) (at : ℕ) (sums : Bundle) (s : Sink) → TakesPieceBetween d at 0 sums sums s s
 nothing_taken d at sums s = record {
   piece = [];
   summed = λ algos fed holds. subst (λ (xs : List ℕ). Holds sums algos xs) (sym (append-nil fed)) holds;
@@ -19,8 +19,8 @@ nothing_taken d at sums s = record {
   right = λ honest. refl;
 }
 
-pub more_taken : (d e : Device) (at n k : ℕ) (a b c : Bundle) (s m t : Sink) → SameDevice d e → TakesPiece d at n a b s m → TakesPiece e (at + n) k b c m t
-    → TakesPiece d at (n + k) a c s t
+pub more_taken : (d e : Device) (at n k : ℕ) (a b c : Bundle) (s m t : Sink) → SameDevice d e → TakesPieceBetween d at n a b s m → TakesPieceBetween e (at + n) k b c m t
+    → TakesPieceBetween d at (n + k) a c s t
 more_taken d e at n k a b c s m t same p q = record {
   piece = p.piece ++ q.piece;
   summed = λ algos fed holds. subst (λ (xs : List ℕ). Holds c algos xs) (append_assoc fed p.piece q.piece) (q.summed algos (fed ++ p.piece) (p.summed algos fed holds));

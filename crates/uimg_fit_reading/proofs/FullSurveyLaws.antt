@@ -1,5 +1,5 @@
 -- The properties of configurations, listed one configuration after another.
-use Rattle.std.proofs.Common.{◌≡◌, ◌≤◌, ◌+◌, ◌*◌, ℕ, List, [], ◌∷◌, ◌++◌, length, map, Option, Some, None, Result, Ok, Err, Vec, IsTrue, Bool, true, false, refl, ap, sym, ◌∙◌, subst, arith}
+use Rattle.std.proofs.Common.{◌≡◌, ◌≤◌, ◌+◌, ◌*◌, ℕ, List, [], ◌∷◌, ◌++◌, length, map, Option, Result, Ok, Err, Vec, IsTrue, Bool, false, refl, ap, sym, ◌∙◌, subst, arith}
 use Rattle.std.specs.List.{sum_by}
 use Rattle.std.proofs.Math.ListN.{length-map}
 use Rattle.std.proofs.lemmas.List.{map-append}
@@ -26,7 +26,6 @@ use Rattle.uimg_fit_base.specs.Files.{spots_in}
 use Rattle.uimg_fit_base.specs.declared.fault.Fault.TheVariants as of
 use Rattle.uimg_fit_reading.specs.FullSurvey.{properties_said, properties_in, properties_read, properties_of, read_properties, list_cost, properties_cost, ReadsAs, Tells, TellsProperties, TellsLists}
 use Rattle.uimg_fit_reading.specs.Nodes.{IsRead, IsNode, AreFrom, HasTree, Opened, OfNode}
-use Rattle.uimg_fit_reading.specs.SurveyParts.{is_own}
 use Rattle.uimg_fit_reading.specs.declared.surveying.fault.SurveyFault.{SurveyFault}
 use Rattle.uimg_fit_reading.specs.declared.surveying.fault.SurveyFault.TheVariants as survey
 use Rattle.uimg_fit_reading.proofs.NodeLaws.{node_row}

@@ -14,7 +14,7 @@ use Rattle.uimg_fit_base.specs.declared.algo_sets.AlgoSet.{AlgoSet}
 use Rattle.uimg_fit_base.specs.declared.verdicts.Verdict.{Verdict}
 use Rattle.uimg_fit_base.specs.AlgoSets.{no_algos}
 use Rattle.uimg_fit_base.specs.Report.{word_of, is_right, hash_line, are_right}
-use Rattle.uimg_fit_reading.specs.HashReports.{line_cost, hash_cost, AllCovered, FindsAlgos, PutsHashes}
+use Rattle.uimg_fit_reading.specs.HashReports.{line_cost, hash_cost, AllCovered, FindsAlgosBetween, PutsHashesBetween}
 use Rattle.uimg_fit_reading.specs.Nodes.{HashesAt, FirstHash}
 use Rattle.uimg_fit_reading.specs.Plans.{plan_of, with_plan, with_all}
 use Rattle.uimg_fit_reading.proofs.PlanLaws.{if_err}
@@ -48,13 +48,13 @@ algos_more t hs asked new number set next k f more following later is paid at = 
 }
 
 pub algos_cut : (t : Siblings) (hs : List (NodeOf Spot)) (asked new number : ℕ) (set : AlgoSet) (next : Option ℕ) (k : AlgosLeft t hs asked new set next) → FirstHash t number k.left
-    → (later : ℕ) (r : Result AlgoSet SourceFault) → later ≤ new + 32 → is_err r ≡ true → FindsAlgos hs asked later r
+    → (later : ℕ) (r : Result AlgoSet SourceFault) → later ≤ new + 32 → is_err r ≡ true → FindsAlgosBetween hs asked later r
 algos_cut t hs asked new number set next k f later r paid failed = record {
   algos = if_err r _ failed;
   paid = omega (arith, paid, k.paid, ap (λ (l : List (NodeOf Spot)). length l) f.are);
 }
 
-pub algos_all : (t : Siblings) (hs : List (NodeOf Spot)) (asked new : ℕ) (set : AlgoSet) (next : Option ℕ) → next ≡ None → AlgosLeft t hs asked new set next → FindsAlgos hs asked new (Ok set)
+pub algos_all : (t : Siblings) (hs : List (NodeOf Spot)) (asked new : ℕ) (set : AlgoSet) (next : Option ℕ) → next ≡ None → AlgosLeft t hs asked new set next → FindsAlgosBetween hs asked new (Ok set)
 algos_all t hs asked new set next none k =
     let nothing_left : k.left ≡ [] = subst (λ (o : Option ℕ). HashesAt t o k.left) none k.at in
     record {
@@ -107,7 +107,7 @@ lines_more t set name message n hs asked new old now right next number k f word 
 
 pub lines_cut : (t : Siblings) (set : AlgoSet) (name message : List ℕ) (n : ℕ) (hs : List (NodeOf Spot)) (asked new : ℕ) (old now : Sink) (right : Bool) (next : Option ℕ) (number : ℕ)
     (k : LinesLeft t set name message n hs asked new old now right next) (f : FirstHash t number k.left) (further : Sink) (later : ℕ) (r : Result Bool MoveFault) → is_err r ≡ true
-    → Written true now further (hash_line name message f.hash) → later ≤ new + line_cost n f.hash → PutsHashes name message n hs asked later r old further
+    → Written true now further (hash_line name message f.hash) → later ≤ new + line_cost n f.hash → PutsHashesBetween name message n hs asked later r old further
 lines_cut t set name message n hs asked new old now right next number k f further later r failed put paid = record {
   right = if_err r _ failed;
   written = subst (λ (b : Bool). Written b old further (flat_map (hash_line name message) hs)) (sym failed)
@@ -116,7 +116,7 @@ lines_cut t set name message n hs asked new old now right next number k f furthe
 }
 
 pub lines_all : (t : Siblings) (set : AlgoSet) (name message : List ℕ) (n : ℕ) (hs : List (NodeOf Spot)) (asked new : ℕ) (old now : Sink) (right : Bool) (next : Option ℕ) → next ≡ None
-    → LinesLeft t set name message n hs asked new old now right next → PutsHashes name message n hs asked new (Ok right) old now
+    → LinesLeft t set name message n hs asked new old now right next → PutsHashesBetween name message n hs asked new (Ok right) old now
 lines_all t set name message n hs asked new old now right next none k =
     let nothing_left : k.left ≡ [] = subst (λ (o : Option ℕ). HashesAt t o k.left) none k.at in
     record {

@@ -23,8 +23,8 @@ use Rattle.uimg_fit_base.specs.declared.fault.FitFault.{FitFault}
 use Rattle.uimg_fit_reading.specs.Allowances.{node_allowance}
 use Rattle.uimg_base.specs.declared.ranges.MoveFault.TheVariants as move
 use Rattle.uimg_fit_base.specs.Faults.{end_of, of_move, unless_memory}
-use Rattle.uimg_fit_reading.specs.HashReports.{hash_cost, ReportsHashes}
-use Rattle.uimg_fit_reading.specs.ImageReports.{status_of, ReportsFound, image_work, ImageDone, ImageCut, ReportsImages}
+use Rattle.uimg_fit_reading.specs.HashReports.{hash_cost, ReportsHashesBetween}
+use Rattle.uimg_fit_reading.specs.ImageReports.{status_of, ReportsFoundBetween, image_work, ImageDone, ImageCut, ReportsImagesBetween}
 use Rattle.uimg_fit_reading.specs.Nodes.{AreFrom, HashesAt}
 use Rattle.uimg_fit_base.specs.Places.{payload, TellsPlace}
 use Rattle.uimg_fit_reading.specs.Plans.{are_compared}
@@ -42,7 +42,7 @@ unhashed_line name message hs none =
 
 pub none_found : (image : NodeOf Spot) (name message : List ℕ) (size asked new : ℕ) (failed : Bool) (result : Result Bool MoveFault) (old now : Sink) → name ≡ image.name → hashes image ≡ []
     → IfOk result (λ right. right ≡ true) → is_err result ≡ failed → Written failed old now (name ++ line (codes " - none unhashed")) → new ≤ asked + 255
-    → ReportsFound image message size asked new result old now
+    → ReportsFoundBetween image message size asked new result old now
 none_found image name message size asked new failed result old now named none right ends written paid = record {
   right = of_answer result _ _ (λ b is. is ∙ sym (ap (are_right message) none)) right;
   written = subst (λ (b : Bool). Written b old now (hash_lines image.name message (hashes image))) (sym ends)
@@ -62,8 +62,8 @@ all_costs n [] few = omega arith
 all_costs n (h ∷ hs) few = omega (arith, sum_by-cons (hash_cost n) h hs, sum_by-cons node_allowance h hs, one_cost n h few, all_costs n hs few)
 
 pub some_found : (t : Siblings) (image : NodeOf Spot) (name message : List ℕ) (size n asked new : ℕ) (first : Option ℕ) (result : Result Bool MoveFault) (old now : Sink) → name ≡ image.name → n ≤ 255
-    → is_some first ≡ true → HashesAt t first (hashes image) → ReportsHashes name message size n (hashes image) asked new result old now
-    → ReportsFound image message size asked new result old now
+    → is_some first ≡ true → HashesAt t first (hashes image) → ReportsHashesBetween name message size n (hashes image) asked new result old now
+    → ReportsFoundBetween image message size asked new result old now
 some_found t image name message size n asked new None result old now named few some at r = absurd (true_false (sym some))
 some_found t image name message size n asked new (Some first) result old now named few some at r = record {
   right = r.right;
@@ -95,7 +95,7 @@ failed_device move.Put = refl
 
 -- what is told of an image whose payload is there
 pub image_done : (file : List ℕ) (image : NodeOf Spot) (message : List ℕ) (size asked middle new : ℕ) (right : Bool) (old now : Sink) → payload file image ≡ Ok message → length message ≡ size
-    → middle ≤ asked + 12 → ReportsFound image message size middle new (Ok right) old now → ImageDone file image asked new right old now
+    → middle ≤ asked + 12 → ReportsFoundBetween image message size middle new (Ok right) old now → ImageDone file image asked new right old now
 image_done file image message size asked middle new right old now is long paid r = record {
   message = message;
   is = is;
@@ -105,7 +105,7 @@ image_done file image message size asked middle new right old now is long paid r
 }
 
 pub image_failed : (file : List ℕ) (image : NodeOf Spot) (message : List ℕ) (size asked middle new : ℕ) (failed : MoveFault) (old now : Sink) → payload file image ≡ Ok message → length message ≡ size
-    → middle ≤ asked + 12 → ReportsFound image message size middle new (Err failed) old now → ImageCut file image asked new (of_move failed) old now
+    → middle ≤ asked + 12 → ReportsFoundBetween image message size middle new (Err failed) old now → ImageCut file image asked new (of_move failed) old now
 image_failed file image message size asked middle new failed old now is long paid r = record {
   told = λ rest. subst (λ (p : Result (List ℕ) FitFault). Tells (end_of (Err (of_move failed))) (report_step image p rest) old now) (sym is)
       (cut_tells (of_move failed) image message rest old now (failed_device failed) r.written.prefix);
@@ -190,7 +190,7 @@ cut_judged Put a o s u tells = tells
 
 pub images_cut : (t : Siblings) (file : List ℕ) (found : List (NodeOf Spot)) (asked new : ℕ) (old now : Sink) (right : Bool) (next : Option ℕ) (k : ImagesLeft t file found asked new old now right next)
     → (image : NodeOf Spot) (more : List (NodeOf Spot)) → k.left ≡ image ∷ more → (later : ℕ) (fault : Fault) (further : Sink) → ImageCut file image new later fault now further
-    → ReportsImages file found asked later (Err fault) old further
+    → ReportsImagesBetween file found asked later (Err fault) old further
 images_cut t file found asked new old now right next k image more are later fault further d = record {
   told = k.told (end_of (Err fault)) further
       (subst (λ (o : Outcome Fault). Tells (end_of (Err fault)) (judged_after right o) now further)
@@ -204,7 +204,7 @@ done_tells true s = (refl, record { appended = Appends-none s.contents })
 done_tells false s = (refl, record { appended = Appends-none s.contents })
 
 pub images_done : (t : Siblings) (file : List ℕ) (found : List (NodeOf Spot)) (asked new : ℕ) (old now : Sink) (right : Bool) (next : Option ℕ) → next ≡ None → (status : Status) → status ≡ status_of right
-    → ImagesLeft t file found asked new old now right next → ReportsImages file found asked new (Ok status) old now
+    → ImagesLeft t file found asked new old now right next → ReportsImagesBetween file found asked new (Ok status) old now
 images_done t file found asked new old now right next none status is k =
     let nothing : k.left ≡ [] = none_left t in_images k.left (subst (λ (o : Option ℕ). AreFrom t in_images o k.left) none k.from) in
     record {

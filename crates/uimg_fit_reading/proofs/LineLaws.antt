@@ -15,7 +15,7 @@ use Rattle.uimg_base.specs.declared.ranges.MoveFault.{MoveFault}
 use Rattle.uimg_fit_reading.specs.declared.report.hash_lines.HashLine.{HashLine}
 use Rattle.uimg_fit_base.specs.declared.verdicts.Verdict.{Verdict}
 use Rattle.uimg_fit_base.specs.Files.{bytes_of, bytes_in}
-use Rattle.uimg_fit_reading.specs.HashReports.{PutsHash, line_of}
+use Rattle.uimg_fit_reading.specs.HashReports.{PutsHashBetween, line_of}
 use Rattle.uimg_fit_reading.specs.Plans.{algo_length, hash_text, span_length}
 use Rattle.uimg_fit_base.specs.Report.{word_text, word_of, hash_line}
 use Rattle.uimg_fit_reading.proofs.PlanLaws.{of_answer}
@@ -45,7 +45,7 @@ algo_long file value found within algo = spans file value within ∙ ap (λ (o :
 -- the line of a hash node whose word is known
 pub puts_line : (name message : List ℕ) (n : ℕ) (hash : NodeOf Spot) (asked middle new : ℕ) (word : Verdict) (r : Result Verdict MoveFault) (failed : Bool) (s t : Sink) → word ≡ word_of message hash
     → IfOk r (λ w. w ≡ word) → is_err r ≡ failed → Written failed s t (line_of name word hash) → new ≤ middle + (n + 255 + algo_length hash) → middle ≤ asked + 96
-    → PutsHash name message n hash asked new r s t
+    → PutsHashBetween name message n hash asked new r s t
 puts_line name message n hash asked middle new word r failed s t is right ends written paid judged = record {
   word = of_answer r _ _ (λ w same. same ∙ is) right;
   written = subst (λ (b : Bool). Written b s t (hash_line name message hash)) (sym ends) (subst (λ (w : Verdict). Written failed s t (line_of name w hash)) is written);

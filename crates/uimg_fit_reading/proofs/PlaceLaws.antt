@@ -1,18 +1,14 @@
 -- The place of a payload, and whether it ends in the file.
-use Rattle.std.proofs.Common.{◌≡◌, ◌<◌, ◌≤◌, ◌+◌, ℕ, List, length, Option, Ok, Err, Result, codes, refl, ap, sym, ◌∙◌}
-use Rattle.std.specs.Option.{option_map}
+use Rattle.std.proofs.Common.{◌≡◌, ◌<◌, ◌≤◌, ◌+◌, ℕ, List, length, Ok, Err, Result, refl, ap, sym, ◌∙◌}
 use Rattle.std.proofs.lemmas.Bool.{lt-ltb, le-ltb}
 use Rattle.uimg_texts.specs.Slices.{slice}
-use Rattle.uimg_texts.specs.Numbers.{be32, up4}
 use Rattle.uimg_base.specs.Results.{◌>>=◌}
 use Rattle.uimg_base.specs.declared.spans.Span.{Span}
-use Rattle.uimg_blob.specs.Indexed.{value_span}
-use Rattle.uimg_blob.specs.LookUps.{NodeOf, first}
+use Rattle.uimg_blob.specs.LookUps.{NodeOf}
 use Rattle.uimg_blob.specs.Spots.{Spot}
 use Rattle.uimg_fit_base.specs.declared.fault.FitFault.{FitFault}
 use Rattle.uimg_fit_base.specs.declared.fault.FitFault.TheVariants.{DataOutside}
-use Rattle.uimg_fit_base.specs.Files.{cell}
-use Rattle.uimg_fit_base.specs.Places.{external, embedded, or_else, place, bytes_at, payload}
+use Rattle.uimg_fit_base.specs.Places.{place, bytes_at, payload}
 
 inside_of : (file : List ℕ) (p : Span) → p.place + p.length ≤ length file → bytes_at file p ≡ Ok (slice file p.place p.length)
 unfolding bytes_at

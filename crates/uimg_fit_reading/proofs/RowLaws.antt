@@ -25,7 +25,7 @@ use Rattle.uimg_names.specs.declared.field.Field.{Field}
 use Rattle.uimg_names.specs.declared.naming.Naming.{Naming}
 use Rattle.uimg_fit_reading.specs.Rows.{hash_rows, keeps_row}
 use Rattle.uimg_fit_reading.specs.Shows.{shown, value_cost, weight}
-use Rattle.uimg_fit_reading.specs.Telling.{Lists}
+use Rattle.uimg_fit_reading.specs.Telling.{ListsBetween}
 use Rattle.uimg_fit_reading.proofs.TellingLaws.{then_lists}
 
 cost_by : (how : Show) (o : Option Spot) → option_map_or (λ s. value_cost how s.length) (option_map value_span o) 0 ≡ weight how (option_map (λ s. s.bytes) o)
@@ -36,7 +36,7 @@ cost_by how (Some s) = refl
 pub property_told : (failed : Bool) (d f : Device) (s u : Sink) (file : List ℕ) (own : List (NamedOf Spot)) (key : Key) (label : List ℕ) (how : Show) (v : Option Span)
     → v ≡ option_map value_span (first own (name_of key)) → bytes_of own (name_of key) ≡ bytes_in file v
     → f.asked ≤ d.asked + option_map_or (λ s. value_cost how s.length) v 0 → Written failed s u (shown how label (bytes_in file v))
-    → Lists failed (weight how (bytes_of own (name_of key))) d f s u (shown how label (bytes_of own (name_of key)))
+    → ListsBetween failed (weight how (bytes_of own (name_of key))) d f s u (shown how label (bytes_of own (name_of key)))
 property_told failed d f s u file own key label how v is are asked told = record {
   asked = omega (arith, asked, ap (λ (o : Option Span). option_map_or (λ s. value_cost how s.length) o 0) is, cost_by how (first own (name_of key)));
   written = subst (λ (o : Option (List ℕ)). Written failed s u (shown how label o)) (sym are) told;
@@ -67,17 +67,17 @@ one_more text xs i x within =
 
 -- a row after those before it
 pub rows_more : {X : Type 0} (cost : X → ℕ) (text : X → List ℕ) (xs : List X) (i : ℕ) (x : X) (d m f : Device) (s n u : Sink) → i < length xs
-    → Lists false (sum_by cost (take i xs)) d m s n (flat_map text (take i xs)) → Lists false (cost (get_or xs i x)) m f n u (text (get_or xs i x))
-    → Lists false (sum_by cost (take (i + 1) xs)) d f s u (flat_map text (take (i + 1) xs))
+    → ListsBetween false (sum_by cost (take i xs)) d m s n (flat_map text (take i xs)) → ListsBetween false (cost (get_or xs i x)) m f n u (text (get_or xs i x))
+    → ListsBetween false (sum_by cost (take (i + 1) xs)) d f s u (flat_map text (take (i + 1) xs))
 rows_more cost text xs i x d m f s n u within p q =
-    subst (λ (w : List ℕ). Lists false (sum_by cost (take (i + 1) xs)) d f s u w) (sym (one_more text xs i x within))
-    (subst (λ (k : ℕ). Lists false k d f s u (flat_map text (take i xs) ++ text (get_or xs i x))) (sym (sum_by_more cost xs i x within))
+    subst (λ (w : List ℕ). ListsBetween false (sum_by cost (take (i + 1) xs)) d f s u w) (sym (one_more text xs i x within))
+    (subst (λ (k : ℕ). ListsBetween false k d f s u (flat_map text (take i xs) ++ text (get_or xs i x))) (sym (sum_by_more cost xs i x within))
     (then_lists false _ _ d m f s n u _ _ p q))
 
 -- a failure in a row
 pub rows_fail : {X : Type 0} (cost : X → ℕ) (text : X → List ℕ) (xs : List X) (i : ℕ) (x : X) (d m f : Device) (s n u : Sink) → i < length xs
-    → Lists false (sum_by cost (take i xs)) d m s n (flat_map text (take i xs)) → Lists true (cost (get_or xs i x)) m f n u (text (get_or xs i x))
-    → Lists true (sum_by cost xs) d f s u (flat_map text xs)
+    → ListsBetween false (sum_by cost (take i xs)) d m s n (flat_map text (take i xs)) → ListsBetween true (cost (get_or xs i x)) m f n u (text (get_or xs i x))
+    → ListsBetween true (sum_by cost xs) d f s u (flat_map text xs)
 rows_fail cost text xs i x d m f s n u within p q = record {
   asked = omega (arith, p.asked, q.asked, sum_by_more_le cost xs i x within);
   written = record { all = tt; prefix = prefix_at s n u text xs i x within p.written.all q.written.prefix };

@@ -15,39 +15,39 @@ use Rattle.uimg_fit_reading.specs.declared.listing.listed_nodes.Kind.{Kind}
 use Rattle.uimg_fit_reading.specs.declared.listing.listed_nodes.Kind.TheVariants.{Image, Configuration}
 use Rattle.uimg_fit_reading.specs.Listing.{numbered}
 use Rattle.uimg_fit_reading.specs.NodeLines.{level_of}
-use Rattle.uimg_fit_reading.specs.Telling.{Lists}
+use Rattle.uimg_fit_reading.specs.Telling.{ListsBetween}
 use Rattle.uimg_fit_reading.proofs.PutLaws.{◌▶◌, cut, nothing}
 
-pub then_lists : (e : Bool) (few more : ℕ) (d m f : Device) (s n t : Sink) (xs ys : List ℕ) → Lists false few d m s n xs → Lists e more m f n t ys → Lists e (few + more) d f s t (xs ++ ys)
+pub then_lists : (e : Bool) (few more : ℕ) (d m f : Device) (s n t : Sink) (xs ys : List ℕ) → ListsBetween false few d m s n xs → ListsBetween e more m f n t ys → ListsBetween e (few + more) d f s t (xs ++ ys)
 then_lists e few more d m f s n t xs ys p q = record { asked = omega (arith, p.asked, q.asked); written = p.written.all ▶ q.written }
 
-pub cut_lists : (few more : ℕ) (d m : Device) (s n : Sink) (xs ys : List ℕ) → Lists true few d m s n xs → Lists true (few + more) d m s n (xs ++ ys)
+pub cut_lists : (few more : ℕ) (d m : Device) (s n : Sink) (xs ys : List ℕ) → ListsBetween true few d m s n xs → ListsBetween true (few + more) d m s n (xs ++ ys)
 cut_lists few more d m s n xs ys p = record { asked = omega (arith, p.asked); written = cut s n xs ys p.written }
 
-pub more_lists : (e : Bool) (few most : ℕ) (d m : Device) (s n : Sink) (xs : List ℕ) → few ≤ most → Lists e few d m s n xs → Lists e most d m s n xs
+pub more_lists : (e : Bool) (few most : ℕ) (d m : Device) (s n : Sink) (xs : List ℕ) → few ≤ most → ListsBetween e few d m s n xs → ListsBetween e most d m s n xs
 more_lists e few most d m s n xs le p = record { asked = omega (arith, p.asked, le); written = p.written }
 
-pub no_lists : (most : ℕ) (d : Device) (s : Sink) → Lists false most d d s s []
+pub no_lists : (most : ℕ) (d : Device) (s : Sink) → ListsBetween false most d d s s []
 no_lists most d s = record { asked = omega arith; written = nothing s }
 
 -- what is told of the nodes that are left is told of all
 pub record Left (At : Option ℕ → List (NodeOf Spot) → Type 0) (texts : ℕ → List (NodeOf Spot) → List ℕ) (i : ℕ) (next : Option ℕ) (d m : Device) (s n : Sink) (all : List (NodeOf Spot)) : Type 0 where
   pub rest : List (NodeOf Spot)
   pub at : At next rest
-  pub goes : (e : Bool) (f : Device) (u : Sink) → Lists e (sum_by node_allowance rest) m f n u (texts i rest) → Lists e (sum_by node_allowance all) d f s u (texts 0 all)
+  pub goes : (e : Bool) (f : Device) (u : Sink) → ListsBetween e (sum_by node_allowance rest) m f n u (texts i rest) → ListsBetween e (sum_by node_allowance all) d f s u (texts 0 all)
 
 pub all_left : (At : Option ℕ → List (NodeOf Spot) → Type 0) (texts : ℕ → List (NodeOf Spot) → List ℕ) (next : Option ℕ) (d : Device) (s : Sink) (all : List (NodeOf Spot)) → At next all → Left At texts 0 next d d s s all
 all_left At texts next d s all at = record { rest = all; at = at; goes = λ e f u told. told }
 
 one : (texts : ℕ → List (NodeOf Spot) → List ℕ) (i j : ℕ) (rest more : List (NodeOf Spot)) (x : NodeOf Spot) (text : List ℕ) (e : Bool) (m f : Device) (n u : Sink) → rest ≡ x ∷ more → texts i (x ∷ more) ≡ text ++ texts j more
-    → Lists e (node_allowance x + sum_by node_allowance more) m f n u (text ++ texts j more) → Lists e (sum_by node_allowance rest) m f n u (texts i rest)
+    → ListsBetween e (node_allowance x + sum_by node_allowance more) m f n u (text ++ texts j more) → ListsBetween e (sum_by node_allowance rest) m f n u (texts i rest)
 one texts i j rest more x text e m f n u is are told =
-    subst (λ (w : List ℕ). Lists e (sum_by node_allowance rest) m f n u w) (sym (ap (texts i) is ∙ are))
-    (subst (λ (k : ℕ). Lists e k m f n u (text ++ texts j more)) (sym (ap (sum_by node_allowance) is ∙ sum_by-cons node_allowance x more)) told)
+    subst (λ (w : List ℕ). ListsBetween e (sum_by node_allowance rest) m f n u w) (sym (ap (texts i) is ∙ are))
+    (subst (λ (k : ℕ). ListsBetween e k m f n u (text ++ texts j more)) (sym (ap (sum_by node_allowance) is ∙ sum_by-cons node_allowance x more)) told)
 
 pub left_more : (At : Option ℕ → List (NodeOf Spot) → Type 0) (texts : ℕ → List (NodeOf Spot) → List ℕ) (i j : ℕ) (next later : Option ℕ) (d m f : Device) (s n u : Sink) (all : List (NodeOf Spot))
     → (left : Left At texts i next d m s n all) → (x : NodeOf Spot) (more : List (NodeOf Spot)) (text : List ℕ) → left.rest ≡ x ∷ more → texts i (x ∷ more) ≡ text ++ texts j more
-    → Lists false (node_allowance x) m f n u text → At later more → Left At texts j later d f s u all
+    → ListsBetween false (node_allowance x) m f n u text → At later more → Left At texts j later d f s u all
 left_more At texts i j next later d m f s n u all left x more text is are told at = record {
   rest = more;
   at = at;
@@ -57,14 +57,14 @@ left_more At texts i j next later d m f s n u all left x more text is are told a
 
 pub left_fails : (At : Option ℕ → List (NodeOf Spot) → Type 0) (texts : ℕ → List (NodeOf Spot) → List ℕ) (i j : ℕ) (next : Option ℕ) (d m f : Device) (s n u : Sink) (all : List (NodeOf Spot))
     → (left : Left At texts i next d m s n all) → (x : NodeOf Spot) (more : List (NodeOf Spot)) (text : List ℕ) → left.rest ≡ x ∷ more → texts i (x ∷ more) ≡ text ++ texts j more
-    → Lists true (node_allowance x) m f n u text → Lists true (sum_by node_allowance all) d f s u (texts 0 all)
+    → ListsBetween true (node_allowance x) m f n u text → ListsBetween true (sum_by node_allowance all) d f s u (texts 0 all)
 left_fails At texts i j next d m f s n u all left x more text is are told =
     left.goes true f u (one texts i j left.rest more x text true m f n u is are (cut_lists (node_allowance x) (sum_by node_allowance more) m f n u text (texts j more) told))
 
 pub left_ends : (At : Option ℕ → List (NodeOf Spot) → Type 0) (texts : ℕ → List (NodeOf Spot) → List ℕ) (i : ℕ) (next : Option ℕ) (d m : Device) (s n : Sink) (all : List (NodeOf Spot))
-    → (left : Left At texts i next d m s n all) → left.rest ≡ [] → texts i [] ≡ [] → Lists false (sum_by node_allowance all) d m s n (texts 0 all)
+    → (left : Left At texts i next d m s n all) → left.rest ≡ [] → texts i [] ≡ [] → ListsBetween false (sum_by node_allowance all) d m s n (texts 0 all)
 left_ends At texts i next d m s n all left is none =
-    left.goes false m n (subst (λ (w : List ℕ). Lists false (sum_by node_allowance left.rest) m m n n w) (sym (ap (texts i) is ∙ none)) (no_lists (sum_by node_allowance left.rest) m n))
+    left.goes false m n (subst (λ (w : List ℕ). ListsBetween false (sum_by node_allowance left.rest) m m n n w) (sym (ap (texts i) is ∙ none)) (no_lists (sum_by node_allowance left.rest) m n))
 
 -- the same file and the same entries
 pub read_same : (file other : List ℕ) (blob : Blob) (es fs : List (List ℕ)) (t : Siblings) → other ≡ file → fs ≡ es → IsRead file blob es t → IsRead other blob fs t

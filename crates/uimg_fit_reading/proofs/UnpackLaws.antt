@@ -17,10 +17,10 @@ use Rattle.uimg_fit_reading.specs.declared.unpacking.taker.Refusal.{Refusal}
 use Rattle.uimg_fit_reading.specs.declared.unpacking.taker.Refusal.TheVariants.{Weak}
 use Rattle.uimg_fit_reading.specs.declared.unpacking.taker.Vouched.{Vouched}
 use Rattle.uimg_fit_reading.specs.Checks.{Told, weak, wrong_in, or_weak}
-use Rattle.uimg_fit_reading.specs.CheckParts.{FindsWrong, wrong_told}
+use Rattle.uimg_fit_reading.specs.CheckParts.{FindsWrongBetween, wrong_told}
 use Rattle.uimg_fit_reading.specs.Plans.{with_all}
 use Rattle.uimg_fit_reading.specs.Unpacking.{strongest, vouched_by, told_of}
-use Rattle.uimg_fit_reading.specs.UnpackingParts.{FindsRefusal}
+use Rattle.uimg_fit_reading.specs.UnpackingParts.{FindsRefusalBetween}
 use Rattle.uimg_fit_reading.specs.Vouching.{has_from}
 use Rattle.uimg_fit_reading.proofs.CheckLaws.{weak_by}
 use Rattle.uimg_fit_reading.proofs.PlanLaws.{if_err}
@@ -54,33 +54,33 @@ some_hash name message (h ∷ hs) told is = omega arith
 
 -- the first hash node was not found
 pub refusal_cut : (need : Option Algo) (image : NodeOf Spot) (message : List ℕ) (asked new : ℕ) (r : Result (Option Refusal) SourceFault) → is_err r ≡ true → new ≤ asked + 351 * length (hashes image)
-    → FindsRefusal need image message asked new r
+    → FindsRefusalBetween need image message asked new r
 refusal_cut need image message asked new r failed paid = record { told = if_err r _ failed; paid = paid }
 
 -- what its name may take
-pub named_paid : (file : List ℕ) (image : NodeOf Spot) (message : List ℕ) (asked middle new : ℕ) (wrong : WrongHash) → FindsWrong file message (hashes image) asked middle (Ok (Some wrong)) → new ≤ middle + 255
+pub named_paid : (file : List ℕ) (image : NodeOf Spot) (message : List ℕ) (asked middle new : ℕ) (wrong : WrongHash) → FindsWrongBetween file message (hashes image) asked middle (Ok (Some wrong)) → new ≤ middle + 255
     → new ≤ asked + 351 * length (hashes image)
 named_paid file image message asked middle new wrong w paid =
     omega (arith, paid, w.paid, some_hash image.name message (hashes image) (wrong_told file image.name wrong) (w.told image.name))
 
-pub refusal_found : (file : List ℕ) (need : Option Algo) (image : NodeOf Spot) (message : List ℕ) (asked middle new : ℕ) (wrong : WrongHash) (refusal : Refusal) → FindsWrong file message (hashes image) asked middle (Ok (Some wrong))
-    → told_of image.name refusal ≡ wrong_told file image.name wrong → new ≤ middle + 255 → FindsRefusal need image message asked new (Ok (Some refusal))
+pub refusal_found : (file : List ℕ) (need : Option Algo) (image : NodeOf Spot) (message : List ℕ) (asked middle new : ℕ) (wrong : WrongHash) (refusal : Refusal) → FindsWrongBetween file message (hashes image) asked middle (Ok (Some wrong))
+    → told_of image.name refusal ≡ wrong_told file image.name wrong → new ≤ middle + 255 → FindsRefusalBetween need image message asked new (Ok (Some refusal))
 refusal_found file need image message asked middle new wrong refusal w is paid = record {
   told = ap (λ (x : Told). Some x) is ∙ ap (λ (o : Option Told). or_weak o need image) (w.told image.name);
   paid = named_paid file image message asked middle new wrong w paid;
 }
 
 -- all hash nodes are right, and none is strong enough
-pub refusal_weak : (file : List ℕ) (need : Option Algo) (image : NodeOf Spot) (message : List ℕ) (asked new : ℕ) (set : AlgoSet) → FindsWrong file message (hashes image) asked new (Ok None) → set ≡ with_all no_algos (hashes image)
-    → option_map_or (λ algo. not (has_from set algo)) need false ≡ true → FindsRefusal need image message asked new (Ok (Some Weak))
+pub refusal_weak : (file : List ℕ) (need : Option Algo) (image : NodeOf Spot) (message : List ℕ) (asked new : ℕ) (set : AlgoSet) → FindsWrongBetween file message (hashes image) asked new (Ok None) → set ≡ with_all no_algos (hashes image)
+    → option_map_or (λ algo. not (has_from set algo)) need false ≡ true → FindsRefusalBetween need image message asked new (Ok (Some Weak))
 refusal_weak file need image message asked new set w algos lacks = record {
   told = sym (ap (λ (o : Option Told). or_weak o need image) (sym (w.told image.name)) ∙ ap (λ (b : Bool). if b then Some (weak image.name) else None) (weak_by need image set algos ∙ lacks));
   paid = omega (arith, w.paid);
 }
 
 -- or one is
-pub refusal_none : (file : List ℕ) (need : Option Algo) (image : NodeOf Spot) (message : List ℕ) (asked new : ℕ) (set : AlgoSet) → FindsWrong file message (hashes image) asked new (Ok None) → set ≡ with_all no_algos (hashes image)
-    → option_map_or (λ algo. not (has_from set algo)) need false ≡ false → FindsRefusal need image message asked new (Ok None)
+pub refusal_none : (file : List ℕ) (need : Option Algo) (image : NodeOf Spot) (message : List ℕ) (asked new : ℕ) (set : AlgoSet) → FindsWrongBetween file message (hashes image) asked new (Ok None) → set ≡ with_all no_algos (hashes image)
+    → option_map_or (λ algo. not (has_from set algo)) need false ≡ false → FindsRefusalBetween need image message asked new (Ok None)
 refusal_none file need image message asked new set w algos lacks = record {
   told = sym (ap (λ (o : Option Told). or_weak o need image) (sym (w.told image.name)) ∙ ap (λ (b : Bool). if b then Some (weak image.name) else None) (weak_by need image set algos ∙ lacks));
   paid = omega (arith, w.paid);

@@ -5,6 +5,7 @@ use Rattle.uimg_sums.specs.declared.bundle.Bundle.{Bundle}
 use Rattle.uimg_sums.specs.Bundle.{Holds}
 use Rattle.uimg_texts.specs.Slices.{slice}
 use Rattle.uimg_base.specs.Device.{Device}
+use Rattle.uimg_base.specs.Lent.{Lent}
 use Rattle.uimg_base.specs.Sink.{Sink, AppendsAll}
 use Rattle.uimg_base.specs.declared.spans.Span.{Span}
 use Rattle.uimg_fit_base.specs.declared.algo_sets.AlgoSet.{AlgoSet}
@@ -12,17 +13,25 @@ use Rattle.uimg_fit_base.specs.declared.algo_sets.Digests.{Digests}
 use Rattle.uimg_fit_base.specs.AlgoSets.{set_of, AreDigests}
 
 -- Some bytes were fed to sums and appended to an output, those of a range of the device if it is honest.
-pub record TakesPiece (d : Device) (at len : ℕ) (old new : Bundle) (s t : Sink) : Type 0 where
+pub record TakesPieceBetween (d : Device) (at len : ℕ) (old new : Bundle) (s t : Sink) : Type 0 where
   pub piece : List ℕ
   pub summed : (algos : List Algo) (fed : List ℕ) → Holds old algos fed → Holds new algos (fed ++ piece)
   pub wrote : AppendsAll s t piece
   pub right : IsTrue d.honest → piece ≡ slice d.bytes at len
 
+abbrev pub TakesPiece : {S : Type 0} → (S → Device) → Lent S → ℕ → ℕ → Lent Bundle → Lent Sink → Type 0
+TakesPiece device source at len sums out =
+    TakesPieceBetween (device source.entry.now) at len sums.entry.now sums.exit.now out.entry.now out.exit.now
+
 -- The digests of what was appended to an output, by the algorithms of a set; that is the payload at a span of the device if it
 -- is honest.
-pub record TakesPayload (d : Device) (payload : Span) (algos : AlgoSet) (found : Digests) (s t : Sink) : Type 0 where
+pub record TakesPayloadBetween (d : Device) (payload : Span) (algos : AlgoSet) (found : Digests) (s t : Sink) : Type 0 where
   pub message : List ℕ
   pub set : set_of found ≡ algos
   pub digests : AreDigests found message
   pub wrote : AppendsAll s t message
   pub right : IsTrue d.honest → message ≡ slice d.bytes payload.place payload.length
+
+abbrev pub TakesPayload : {S : Type 0} → (S → Device) → Lent S → Span → AlgoSet → Digests → Lent Sink → Type 0
+TakesPayload device source payload algos found out =
+    TakesPayloadBetween (device source.entry.now) payload algos found out.entry.now out.exit.now

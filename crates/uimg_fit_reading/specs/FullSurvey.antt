@@ -3,11 +3,8 @@ use Rattle.std.specs.Prelude.{◌≡◌, ◌≤◌, ◌+◌, ◌*◌, ℕ, List,
 use Rattle.std.specs.List.{All, sum_by}
 use Rattle.uimg_base.specs.declared.spans.Span.{Span}
 use Rattle.uimg_base.specs.Device.{Device}
-use Rattle.uimg_base.specs.Held.{Held}
-use Rattle.uimg_blob.specs.declared.nodes.Blob.{Blob}
 use Rattle.uimg_blob.specs.declared.places.PropertyPlace.{PropertyPlace}
 use Rattle.uimg_blob.specs.Counts.{nops_met}
-use Rattle.uimg_blob.specs.Grammar.{Siblings}
 use Rattle.uimg_blob.specs.Indexed.{value_span}
 use Rattle.uimg_blob.specs.LookUps.{NodeOf, listed, configurations}
 use Rattle.uimg_blob.specs.Places.{read_place, EndsBy}
@@ -15,7 +12,6 @@ use Rattle.uimg_blob.specs.Plain.{NamedOf, NodesOf, with_value}
 use Rattle.uimg_blob.specs.Spots.{Spot}
 use Rattle.uimg_fit_base.specs.Files.{tree_of}
 use Rattle.uimg_fit_base.specs.declared.fault.Fault.{Fault}
-use Rattle.uimg_fit_reading.specs.Nodes.{Opened}
 use Rattle.uimg_fit_reading.specs.SurveyParts.{SurveyInside, is_own}
 use Rattle.uimg_fit_reading.specs.declared.surveying.facts.FullSurvey.{FullSurvey}
 use Rattle.uimg_fit_reading.specs.declared.surveying.facts.Survey.{Survey}

@@ -2,9 +2,12 @@
 use Rattle.std.specs.Prelude.{◌≡◌, ◌≤◌, ◌+◌, ◌*◌, ℕ, List, ◌++◌, length, codes, if◌then◌else◌, Bool, Result, IfOk, is_err}
 use Rattle.std.specs.List.{AllByRecursion, flat_map, sum_by}
 use Rattle.std.specs.Option.{option_map_or}
+use Rattle.uimg_base.specs.Device.{Device}
+use Rattle.uimg_base.specs.Lent.{Lent}
 use Rattle.uimg_base.specs.Outcome.{line}
 use Rattle.uimg_base.specs.Sink.{Sink}
 use Rattle.uimg_base.specs.Writing.{Written}
+use Rattle.uimg_base.specs.declared.spans.Span.{Span}
 use Rattle.uimg_base.specs.declared.ranges.MoveFault.{MoveFault}
 use Rattle.uimg_base.specs.declared.source.SourceFault.{SourceFault}
 use Rattle.uimg_blob.specs.LookUps.{NodeOf}
@@ -14,6 +17,7 @@ use Rattle.uimg_fit_base.specs.declared.algo_sets.Digests.{Digests}
 use Rattle.uimg_fit_base.specs.declared.verdicts.Verdict.{Verdict}
 use Rattle.uimg_fit_base.specs.AlgoSets.{no_algos, set_of, AreDigests}
 use Rattle.uimg_fit_base.specs.Report.{algo_of, word_text, word_of, hash_line, are_right}
+use Rattle.uimg_fit_reading.specs.Values.{in_span}
 use Rattle.uimg_fit_reading.specs.Plans.{IsCovered, are_compared, with_all, plan_of, algo_length}
 
 -- the most bytes that are asked for to write the line of a hash node of an image whose name has n bytes
@@ -29,15 +33,22 @@ abbrev pub AllCovered : AlgoSet → List (NodeOf Spot) → Type 0
 AllCovered set hs = AllByRecursion (λ h. IsCovered set (plan_of h)) hs
 
 -- The algorithms that hash nodes are compared by were found; at most 32 bytes were asked for about each node.
-pub record FindsAlgos (hs : List (NodeOf Spot)) (asked new : ℕ) (result : Result AlgoSet SourceFault) : Type 0 where
+pub record FindsAlgosBetween (hs : List (NodeOf Spot)) (asked new : ℕ) (result : Result AlgoSet SourceFault) : Type 0 where
   pub algos : IfOk result (λ set. set ≡ with_all no_algos hs)
   pub paid : new ≤ asked + 32 * length hs
 
+abbrev pub FindsAlgos : {S : Type 0} → List (NodeOf Spot) → Result AlgoSet SourceFault → (S → Device) → Lent S → Type 0
+FindsAlgos hs result device source = FindsAlgosBetween hs (device source.entry.now).asked (device source.exit.now).asked result
+
 -- The digests of a payload by these algorithms were found. It was asked for at most once, and not at all where none is compared.
-pub record FindsDigests (message : List ℕ) (size : ℕ) (hs : List (NodeOf Spot)) (asked new : ℕ) (result : Result Digests SourceFault) : Type 0 where
+pub record FindsDigestsBetween (message : List ℕ) (size : ℕ) (hs : List (NodeOf Spot)) (asked new : ℕ) (result : Result Digests SourceFault) : Type 0 where
   pub digests : IfOk result (λ found. AreDigests found message)
   pub covered : IfOk result (λ found. AllCovered (set_of found) hs)
   pub paid : new ≤ asked + ((if are_compared hs then size else 0) + 32 * length hs)
+
+abbrev pub FindsDigests : {S : Type 0} → Span → List (NodeOf Spot) → Result Digests SourceFault → (S → Device) → Lent S → Type 0
+FindsDigests payload hs result device source =
+    FindsDigestsBetween (in_span (device source.entry.now).bytes payload) payload.length hs (device source.entry.now).asked (device source.exit.now).asked result
 
 -- the line of a hash node with a word
 abbrev pub line_of : List ℕ → Verdict → NodeOf Spot → List ℕ
@@ -45,19 +56,31 @@ line_of name word hash =
     line (name ++ codes " " ++ hash.name ++ codes " " ++ option_map_or (λ n. n) (algo_of hash) (codes "-") ++ codes " " ++ word_text word)
 
 -- The line of a hash node was written, and its word is told.
-pub record PutsHash (name message : List ℕ) (n : ℕ) (hash : NodeOf Spot) (asked new : ℕ) (result : Result Verdict MoveFault) (old now : Sink) : Type 0 where
+pub record PutsHashBetween (name message : List ℕ) (n : ℕ) (hash : NodeOf Spot) (asked new : ℕ) (result : Result Verdict MoveFault) (old now : Sink) : Type 0 where
   pub word : IfOk result (λ word. word ≡ word_of message hash)
   pub written : Written (is_err result) old now (hash_line name message hash)
   pub paid : new ≤ asked + line_cost n hash
 
+abbrev pub PutsHash : {S : Type 0} → Span → List ℕ → NodeOf Spot → Result Verdict MoveFault → (S → Device) → Lent S → Lent Sink → Type 0
+PutsHash image message hash result device source out =
+    PutsHashBetween (in_span (device source.entry.now).bytes image) message image.length hash (device source.entry.now).asked (device source.exit.now).asked result out.entry.now out.exit.now
+
 -- The lines of hash nodes were written, and whether all are right is told.
-pub record PutsHashes (name message : List ℕ) (n : ℕ) (hs : List (NodeOf Spot)) (asked new : ℕ) (result : Result Bool MoveFault) (old now : Sink) : Type 0 where
+pub record PutsHashesBetween (name message : List ℕ) (n : ℕ) (hs : List (NodeOf Spot)) (asked new : ℕ) (result : Result Bool MoveFault) (old now : Sink) : Type 0 where
   pub right : IfOk result (λ right. right ≡ are_right message hs)
   pub written : Written (is_err result) old now (flat_map (hash_line name message) hs)
   pub paid : new ≤ asked + sum_by (line_cost n) hs
 
+abbrev pub PutsHashes : {S : Type 0} → Span → List ℕ → List (NodeOf Spot) → Result Bool MoveFault → (S → Device) → Lent S → Lent Sink → Type 0
+PutsHashes image message hs result device source out =
+    PutsHashesBetween (in_span (device source.entry.now).bytes image) message image.length hs (device source.entry.now).asked (device source.exit.now).asked result out.entry.now out.exit.now
+
 -- All hash nodes were reported on, unless a device failed.
-pub record ReportsHashes (name message : List ℕ) (size n : ℕ) (hs : List (NodeOf Spot)) (asked new : ℕ) (result : Result Bool MoveFault) (old now : Sink) : Type 0 where
+pub record ReportsHashesBetween (name message : List ℕ) (size n : ℕ) (hs : List (NodeOf Spot)) (asked new : ℕ) (result : Result Bool MoveFault) (old now : Sink) : Type 0 where
   pub right : IfOk result (λ right. right ≡ are_right message hs)
   pub written : Written (is_err result) old now (flat_map (hash_line name message) hs)
   pub paid : new ≤ asked + ((if are_compared hs then size else 0) + sum_by (hash_cost n) hs)
+
+abbrev pub ReportsHashes : {S : Type 0} → Span → Span → List (NodeOf Spot) → Result Bool MoveFault → (S → Device) → Lent S → Lent Sink → Type 0
+ReportsHashes image payload hs result device source out =
+    ReportsHashesBetween (in_span (device source.entry.now).bytes image) (in_span (device source.entry.now).bytes payload) payload.length image.length hs (device source.entry.now).asked (device source.exit.now).asked result out.entry.now out.exit.now

@@ -26,10 +26,24 @@ pub record Indexed (blob : Blob) (es : List (List ℕ)) : Type 0 where
   pub nodes : Siblings
   pub indexed : IsIndexed nodes blob es
 
--- The same of a blob that ends in a file of so many bytes.
+-- A number is that of an entry ..
+pub record IsEntry (blob : Blob) (room : Held) (number : ℕ) : Type 0 where
+  pub within : number < length room.entries
+  pub indexed : Indexed blob room.entries
+
+-- .. or there is no such number.
+pub record IsEntryOrNone (blob : Blob) (room : Held) (first : Option ℕ) : Type 0 where
+  pub within : IfSome first (λ i. i < length room.entries)
+  pub indexed : Indexed blob room.entries
+
+-- The entries are those of some tree, whose blob ends in a file of so many bytes.
 pub record InFile (size : ℕ) (blob : Blob) (es : List (List ℕ)) : Type 0 where
   pub indexed : Indexed blob es
   pub within : blob.totalsize ≤ size
+
+-- What is said of the size of any file in which a blob ends.
+abbrev pub InAnyFile : Blob → Held → (ℕ → Type 0) → Type 0
+InAnyFile blob room P = (size : ℕ) → InFile size blob room.entries → P size
 
 -- A number is that of an entry of a room whose entries are those of some tree; its blob ends in the device.
 pub record HasNode (d : Device) (blob : Blob) (room : Held) (number : ℕ) : Type 0 where
@@ -178,13 +192,25 @@ abbrev pub OfHashes : Device → Blob → Held → Option ℕ → (List (NodeOf 
 OfHashes d blob room first P = (t : Siblings) → Opened d blob room t → (hs : List (NodeOf Spot)) → HashesAt t first hs → P hs
 
 -- What is said of the node at a number in any file whose tree was read, at whatever level it stands ..
-abbrev pub AtNode : Blob → List (List ℕ) → ℕ → (List ℕ → Level → NodeOf Spot → Type 0) → Type 0
-AtNode blob es number P = (file : List ℕ) (t : Siblings) → IsRead file blob es t → (level : Level) (found : NodeOf Spot) → IsNode t level number found → P file level found
+abbrev pub AtNode : Blob → Held → ℕ → (List ℕ → Level → NodeOf Spot → Type 0) → Type 0
+AtNode blob room number P = (file : List ℕ) (t : Siblings) → IsRead file blob room.entries t → (level : Level) (found : NodeOf Spot) → IsNode t level number found → P file level found
 
 -- .. or at one ..
-abbrev pub AtLevel : Blob → List (List ℕ) → Level → ℕ → (List ℕ → NodeOf Spot → Type 0) → Type 0
-AtLevel blob es level number P = (file : List ℕ) (t : Siblings) → IsRead file blob es t → (found : NodeOf Spot) → IsNode t level number found → P file found
+abbrev pub AtLevel : Blob → Held → Level → ℕ → (List ℕ → NodeOf Spot → Type 0) → Type 0
+AtLevel blob room level number P = (file : List ℕ) (t : Siblings) → IsRead file blob room.entries t → (found : NodeOf Spot) → IsNode t level number found → P file found
 
 -- .. and in any tree whose entries they are.
-abbrev pub InTree : Blob → List (List ℕ) → ℕ → (Siblings → Level → NodeOf Spot → Type 0) → Type 0
-InTree blob es number P = (t : Siblings) → IsIndexed t blob es → (level : Level) (found : NodeOf Spot) → IsNode t level number found → P t level found
+abbrev pub InTree : Blob → Held → ℕ → (Siblings → Level → NodeOf Spot → Type 0) → Type 0
+InTree blob room number P = (t : Siblings) → IsIndexed t blob room.entries → (level : Level) (found : NodeOf Spot) → IsNode t level number found → P t level found
+
+-- What is said of the nodes from a number of a level on in any file whose tree was read ..
+abbrev pub FromNode : Blob → Held → Level → Option ℕ → (List ℕ → List (NodeOf Spot) → Type 0) → Type 0
+FromNode blob room level first P = (file : List ℕ) (t : Siblings) → IsRead file blob room.entries t → (found : List (NodeOf Spot)) → AreFrom t level first found → P file found
+
+-- .. of the hash nodes from a number on ..
+abbrev pub FromHash : Blob → Held → Option ℕ → (List ℕ → List (NodeOf Spot) → Type 0) → Type 0
+FromHash blob room first P = (file : List ℕ) (t : Siblings) → IsRead file blob room.entries t → (hs : List (NodeOf Spot)) → HashesAt t first hs → P file hs
+
+-- .. and of nodes in any tree whose entries they are.
+abbrev pub InTreeFrom : Blob → Held → Level → Option ℕ → (List (NodeOf Spot) → Type 0) → Type 0
+InTreeFrom blob room level first P = (t : Siblings) → IsIndexed t blob room.entries → (found : List (NodeOf Spot)) → AreFrom t level first found → P found

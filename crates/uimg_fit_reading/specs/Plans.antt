@@ -1,5 +1,5 @@
 -- What is to be done about a hash node, before any payload is read.
-use Rattle.std.specs.Prelude.{◌≡◌, ⊤, ℕ, ◌+◌, ◌≤◌, List, [], ◌∷◌, ◌++◌, length, ◌==◌, Bool, true, false, if◌then◌else◌, Option, Some, None, codes}
+use Rattle.std.specs.Prelude.{◌≡◌, ⊤, ℕ, ◌+◌, ◌≤◌, List, [], ◌∷◌, ◌++◌, length, ◌==◌, Bool, true, false, if◌then◌else◌, Option, Some, None, IfSome, codes}
 use Rattle.std.specs.List.{list_any}
 use Rattle.std.specs.Option.{option_map, option_map_or}
 use Rattle.std.specs.Str.{bytes_eq}
@@ -84,6 +84,12 @@ text_in file value = option_map text (bytes_in file value)
 -- the text that is printed of an algorithm's name, `-` where it is missing
 abbrev pub algo_text : List ℕ → Option Span → List ℕ
 algo_text file value = option_map_or (λ n. n) (text_in file value) (codes "-")
+
+-- The names that a hash node's line is made of end in a file of so many bytes.
+pub record LineInside (size : ℕ) (line : HashLine) : Type 0 where
+  pub image : line.image.place + line.image.length ≤ size
+  pub hash : line.hash.place + line.hash.length ≤ size
+  pub algo : IfSome line.algo (λ s. s.place + s.length ≤ size)
 
 -- the line of a hash node, by the places of its parts
 abbrev pub names_text : List ℕ → HashLine → List ℕ

@@ -1,19 +1,52 @@
 -- What a call that reads and writes leaves of a source, a room and an output.
-use Rattle.std.specs.Prelude.{◌≡◌, ℕ, List, Bool, Result, is_err, IfErr, IsTrue}
+use Rattle.std.specs.Prelude.{◌≡◌, ◌≤◌, ◌+◌, ℕ, List, false, Result, is_err, IfErr, IsTrue}
 use Rattle.uimg_base.specs.Device.{Device, RisesIf}
 use Rattle.uimg_base.specs.Held.{Held}
+use Rattle.uimg_base.specs.Lent.{Lent}
 use Rattle.uimg_base.specs.Ranges.{is_read, is_put}
 use Rattle.uimg_base.specs.Sink.{Sink}
 use Rattle.uimg_base.specs.Using.{Uses, Asks}
 use Rattle.uimg_base.specs.Writing.{Written}
 use Rattle.uimg_base.specs.declared.ranges.MoveFault.{MoveFault}
 use Rattle.uimg_base.specs.declared.ranges.MoveFault.TheVariants.{Put}
+use Rattle.uimg_fit_base.specs.declared.fault.Fault.{Fault}
+use Rattle.uimg_fit_base.specs.Faults as fit
+
+-- What is said of the bytes of a source that answers them.
+abbrev pub IfHonest : {S : Type 0} → (S → Device) → Lent S → (List ℕ → Type 0) → Type 0
+IfHonest device source P = IsTrue (device source.entry.now).honest → P (device source.entry.now).bytes
+
+-- At most so many bytes more were asked for.
+abbrev pub Pays : {S : Type 0} → ℕ → (S → Device) → Lent S → Type 0
+Pays most device source = (device source.exit.now).asked ≤ (device source.entry.now).asked + most
 
 -- Source and room are as they were, and a failure was counted exactly where one is answered.
-pub record Leaves (read put : Bool) (d e : Device) (old new : Held) (s t : Sink) : Type 0 where
-  pub uses : Uses read d e
+pub record LeavesBetween {X : Type 0} (result : Result X MoveFault) (d e : Device) (old new : Held) (s t : Sink) : Type 0 where
+  pub uses : Uses (is_read result) d e
   pub room : new ≡ old
-  pub faults : RisesIf put s.faults t.faults
+  pub faults : RisesIf (is_put result) s.faults t.faults
+
+abbrev pub Leaves : {S X : Type 0} → Result X MoveFault → (S → Device) → Lent S → Lent Held → Lent Sink → Type 0
+Leaves result device source room out = LeavesBetween result
+    (device source.entry.now) (device source.exit.now) room.entry.now room.exit.now out.entry.now out.exit.now
+
+-- The same of a call that may refuse the image. Neither want of memory nor a fault of a making is answered.
+pub record RefusesBetween {X : Type 0} (result : Result X Fault) (d e : Device) (old new : Held) (s t : Sink) : Type 0 where
+  pub uses : Uses (fit.is_read result) d e
+  pub room : new ≡ old
+  pub faults : RisesIf (fit.is_put result) s.faults t.faults
+  pub memory : fit.is_out_of_memory result ≡ false
+  pub no_making : fit.is_of_making result ≡ false
+
+abbrev pub LeavesOrRefuses : {S X : Type 0} → Result X Fault → (S → Device) → Lent S → Lent Held → Lent Sink → Type 0
+LeavesOrRefuses result device source room out = RefusesBetween result
+    (device source.entry.now) (device source.exit.now) room.entry.now room.exit.now out.entry.now out.exit.now
+
+-- Nothing but a failed read, or what is wrong with the image, is answered.
+pub record OnlyReads {X : Type 0} (result : Result X Fault) : Type 0 where
+  pub no_put : fit.is_put result ≡ false
+  pub memory : fit.is_out_of_memory result ≡ false
+  pub no_making : fit.is_of_making result ≡ false
 
 -- A text was written, or a prefix of it where a write failed.
 pub record PutsOwn {X : Type 0} (result : Result X MoveFault) (s t : Sink) (text : List ℕ) : Type 0 where
@@ -23,14 +56,23 @@ pub record PutsOwn {X : Type 0} (result : Result X MoveFault) (s t : Sink) (text
 
 -- A text of a source that answers its bytes was written, or a prefix of it where the call failed; at most so many bytes more were
 -- asked for, and a failure was counted exactly where one is answered.
-pub record PutsFrom {X : Type 0} (most : ℕ) (result : Result X MoveFault) (d e : Device) (s t : Sink) (text : List ℕ) : Type 0 where
+pub record PutsFromBetween {X : Type 0} (most : ℕ) (result : Result X MoveFault) (d e : Device) (s t : Sink) (text : List ℕ) : Type 0 where
   pub uses : Asks most (is_read result) d e
   pub faults : RisesIf (is_put result) s.faults t.faults
   pub told : IsTrue d.honest → Written (is_err result) s t text
 
+-- .. the text is that of the source's bytes
+abbrev pub PutsFrom : {S X : Type 0} → ℕ → Result X MoveFault → (S → Device) → Lent S → Lent Sink → (List ℕ → List ℕ) → Type 0
+PutsFrom most result device source out text = PutsFromBetween most result
+    (device source.entry.now) (device source.exit.now) out.entry.now out.exit.now (text (device source.entry.now).bytes)
+
 -- The same, and the room is as it was.
-pub record Puts {X : Type 0} (most : ℕ) (result : Result X MoveFault) (d e : Device) (old new : Held) (s t : Sink) (text : List ℕ) : Type 0 where
+pub record PutsBetween {X : Type 0} (most : ℕ) (result : Result X MoveFault) (d e : Device) (old new : Held) (s t : Sink) (text : List ℕ) : Type 0 where
   pub uses : Asks most (is_read result) d e
   pub room : new ≡ old
   pub faults : RisesIf (is_put result) s.faults t.faults
   pub told : IsTrue d.honest → Written (is_err result) s t text
+
+abbrev pub Puts : {S X : Type 0} → ℕ → Result X MoveFault → (S → Device) → Lent S → Lent Held → Lent Sink → (List ℕ → List ℕ) → Type 0
+Puts most result device source room out text = PutsBetween most result
+    (device source.entry.now) (device source.exit.now) room.entry.now room.exit.now out.entry.now out.exit.now (text (device source.entry.now).bytes)

@@ -1,8 +1,16 @@
--- What a command does to the memory of its room.
-use Rattle.std.specs.Prelude.{◌≤◌, ◌+◌, ◌*◌, length, max, Bool, IsTrue}
+-- What a command does to its source and to the memory of its room.
+use Rattle.std.specs.Prelude.{◌≡◌, ◌≤◌, ◌+◌, ◌*◌, ℕ, List, length, max, Bool, false, Result, IsTrue}
 use Rattle.uimg_base.specs.Device.{Device, RisesIf}
 use Rattle.uimg_base.specs.Held.{Held, held_bytes}
+use Rattle.uimg_base.specs.Lent.{Lent}
+use Rattle.uimg_base.specs.Outcome.{Outcome, Tells}
+use Rattle.uimg_base.specs.Ranges.{ReadsAhead}
+use Rattle.uimg_base.specs.Sink.{Sink}
+use Rattle.uimg_base.specs.Using.{Uses, UsesAtMost}
+use Rattle.uimg_base.specs.declared.status.Status.{Status}
 use Rattle.uimg_blob.specs.Counts.{nodes_met}
+use Rattle.uimg_fit_base.specs.Faults.{is_read, is_put, is_out_of_memory, is_of_making, end_of}
+use Rattle.uimg_fit_base.specs.declared.fault.Fault.{Fault}
 
 -- A refusal was counted exactly where memory was refused, and no more was taken than for the nodes that were met; of any
 -- device no more than 16 bytes for each of its bytes.
@@ -10,3 +18,76 @@ pub record TakesNodes (device : Device) (no_memory : Bool) (old new : Held) : Ty
   pub refused : RisesIf no_memory old.refused new.refused
   pub peak : IsTrue device.honest → new.peak ≤ max old.peak (held_bytes (nodes_met device.bytes))
   pub most : new.peak ≤ max old.peak (8320 + 16 * length device.bytes)
+
+-- The source is what it was, and of one that answers its bytes at most as many bytes more were asked for as this work of them.
+abbrev pub UsesWithin : {S : Type 0} → (List ℕ → ℕ) → Bool → (S → Device) → Lent S → Type 0
+UsesWithin work failed device source = UsesAtMost (work (device source.entry.now).bytes) failed (device source.entry.now) (device source.exit.now)
+
+-- The source is what it was, and of one that answers its bytes at most so many bytes more were asked for; memory was taken for the
+-- image's nodes alone. Neither a failed write nor a fault of a making is answered.
+pub record InspectsBetween {X : Type 0} (most : ℕ) (result : Result X Fault) (d e : Device) (old new : Held) : Type 0 where
+  pub uses : UsesAtMost most (is_read result) d e
+  pub room : TakesNodes d (is_out_of_memory result) old new
+  pub no_put : is_put result ≡ false
+  pub no_making : is_of_making result ≡ false
+
+-- .. as many as this work of the source's bytes
+abbrev pub Inspects : {S X : Type 0} → (List ℕ → ℕ) → Result X Fault → (S → Device) → Lent S → Lent Held → Type 0
+Inspects work result device source room = InspectsBetween (work (device source.entry.now).bytes) result
+    (device source.entry.now) (device source.exit.now) room.entry.now room.exit.now
+
+-- The same, where nothing is said of how many bytes were asked for.
+pub record ReadsAnyBetween {X : Type 0} (result : Result X Fault) (d e : Device) (old new : Held) : Type 0 where
+  pub uses : Uses (is_read result) d e
+  pub room : TakesNodes d (is_out_of_memory result) old new
+  pub no_put : is_put result ≡ false
+  pub no_making : is_of_making result ≡ false
+
+abbrev pub ReadsAny : {S X : Type 0} → Result X Fault → (S → Device) → Lent S → Lent Held → Type 0
+ReadsAny result device source room = ReadsAnyBetween result
+    (device source.entry.now) (device source.exit.now) room.entry.now room.exit.now
+
+-- The source is what it was, and of one that answers its bytes at most so many bytes more were asked for; memory was taken for the
+-- image's nodes alone; a failed write was counted exactly where one is answered. No fault of a making is answered.
+pub record DeliversBetween {X : Type 0} (most : ℕ) (result : Result X Fault) (d e : Device) (old new : Held) (s t : Sink) : Type 0 where
+  pub uses : UsesAtMost most (is_read result) d e
+  pub room : TakesNodes d (is_out_of_memory result) old new
+  pub faults : RisesIf (is_put result) s.faults t.faults
+  pub no_making : is_of_making result ≡ false
+
+abbrev pub Delivers : {S X : Type 0} → (List ℕ → ℕ) → Result X Fault → (S → Device) → Lent S → Lent Held → Lent Sink → Type 0
+Delivers work result device source room out = DeliversBetween (work (device source.entry.now).bytes) result
+    (device source.entry.now) (device source.exit.now) room.entry.now room.exit.now out.entry.now out.exit.now
+
+-- The same of a call that gives a taker what it read: nothing is said of failed writes.
+pub record TakesOutBetween {X : Type 0} (most : ℕ) (result : Result X Fault) (d e : Device) (old new : Held) : Type 0 where
+  pub uses : UsesAtMost most (is_read result) d e
+  pub room : TakesNodes d (is_out_of_memory result) old new
+  pub no_making : is_of_making result ≡ false
+
+abbrev pub TakesOut : {S X : Type 0} → (List ℕ → ℕ) → Result X Fault → (S → Device) → Lent S → Lent Held → Type 0
+TakesOut work result device source room = TakesOutBetween (work (device source.entry.now).bytes) result
+    (device source.entry.now) (device source.exit.now) room.entry.now room.exit.now
+
+-- Of a source that answers its bytes the outcome of these was told, to its end or as far as a failed call came.
+abbrev pub TellsOf : {S : Type 0} → (List ℕ → Outcome Fault) → Result Status Fault → (S → Device) → Lent S → Lent Sink → Type 0
+TellsOf outcome result device source out = IsTrue (device source.entry.now).honest →
+    Tells (end_of result) (outcome (device source.entry.now).bytes) out.entry.now out.exit.now
+
+-- Of a source that answers its bytes so many were asked for, and beside them what was written of an outcome's text, and a window.
+abbrev pub KeepsAhead : {S : Type 0} → (List ℕ → ℕ) → (List ℕ → Outcome Fault) → (S → Device) → Lent S → Lent Sink → Type 0
+KeepsAhead work outcome device source out = IsTrue (device source.entry.now).honest →
+    ReadsAhead (work (device source.entry.now).bytes) (device source.entry.now) (device source.exit.now) out.entry.now out.exit.now
+    (outcome (device source.entry.now).bytes).text
+
+-- Of bytes in memory: no more memory was taken than for the nodes that were met, and a refusal was counted exactly where it was
+-- refused. Neither a failed read, nor a failed write, nor a fault of a making is answered.
+pub record InMemoryBetween {X : Type 0} (file : List ℕ) (result : Result X Fault) (old new : Held) : Type 0 where
+  pub refused : RisesIf (is_out_of_memory result) old.refused new.refused
+  pub peak : new.peak ≤ max old.peak (held_bytes (nodes_met file))
+  pub no_read : is_read result ≡ false
+  pub no_put : is_put result ≡ false
+  pub no_making : is_of_making result ≡ false
+
+abbrev pub ReadsInMemory : {X : Type 0} → List ℕ → Result X Fault → Lent Held → Type 0
+ReadsInMemory file result room = InMemoryBetween file result room.entry.now room.exit.now

@@ -1,6 +1,6 @@
 -- What a FIT image says of itself, without its payloads: the values of the properties that have a meaning (Flattened Image
 -- Tree format, "Root node", "'/images' node", "Hash nodes", "'/configurations' node").
-use Rattle.std.specs.Prelude.{ℕ, List, [], map, codes, Option, Some, None, Result, Ok}
+use Rattle.std.specs.Prelude.{◌≡◌, ℕ, List, [], map, codes, Option, Some, None, Result, Ok, IfOk, Vec}
 use Rattle.std.specs.Option.{option_map, option_and_then}
 use Rattle.uimg_texts.specs.Numbers.{be32, up4}
 use Rattle.uimg_texts.specs.Slices.{slice}
@@ -8,7 +8,7 @@ use Rattle.uimg_base.specs.Results.{◌>>=◌}
 use Rattle.uimg_base.specs.declared.spans.Span.{Span}
 use Rattle.uimg_blob.specs.Indexed.{value_span}
 use Rattle.uimg_blob.specs.LookUps.{NodeOf, first, listed, hashes, images, configurations}
-use Rattle.uimg_blob.specs.Plain.{NamedOf, NodesOf}
+use Rattle.uimg_blob.specs.Plain.{NodesOf}
 use Rattle.uimg_blob.specs.Spots.{Spot}
 use Rattle.uimg_fit_base.specs.declared.fault.Fault.{Fault}
 use Rattle.uimg_fit_base.specs.declared.fault.FitFault.{FitFault}
@@ -213,3 +213,7 @@ place_said totalsize said =
     or_else (external 0 (option_and_then number said.position) (option_and_then number said.size))
     (external (up4 totalsize) (option_and_then number said.offset) (option_and_then number said.size))
     (embedded said.embedded)
+
+-- All that an answer has, read in a file, is what nodes say.
+abbrev pub Say : {X Y Z E : Type 0} → (List ℕ → X → Y) → (NodeOf Spot → Y) → Result (Vec X Z) E → List ℕ → List (NodeOf Spot) → Type 0
+Say read said result file found = IfOk result (λ facts. map (read file) facts.items ≡ map said found)

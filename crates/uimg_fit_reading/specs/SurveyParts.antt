@@ -1,6 +1,10 @@
 -- What is said of a survey beside what it tells.
-use Rattle.std.specs.Prelude.{◌≡◌, ◌≤◌, ◌+◌, ℕ, ⊤, List, IfSome, IfErr, Option, Result, Ok, Err, Bool, true, false}
+use Rattle.std.specs.Prelude.{◌≡◌, ◌≤◌, ◌<◌, ◌+◌, ◌^◌, ℕ, ⊤, List, IfOk, IfSome, IfErr, Option, Result, Ok, Err, Bool, true, false, Vec}
 use Rattle.std.specs.List.{All}
+use Rattle.uimg_base.specs.Device.{Device}
+use Rattle.uimg_base.specs.Held.{Held}
+use Rattle.uimg_base.specs.Lent.{Lent}
+use Rattle.uimg_base.specs.Using.{Uses}
 use Rattle.uimg_base.specs.declared.spans.Span.{Span}
 use Rattle.uimg_fit_reading.specs.declared.surveying.facts.HashFacts.{HashFacts}
 use Rattle.uimg_fit_reading.specs.declared.surveying.facts.PayloadFacts.{PayloadFacts}
@@ -11,7 +15,9 @@ use Rattle.uimg_fit_reading.specs.declared.surveying.fault.SurveyFault.{SurveyFa
 use Rattle.uimg_fit_reading.specs.declared.surveying.fault.SurveyFault.TheVariants.{Stopped, OutOfMemory, Changed}
 use Rattle.uimg_fit_reading.specs.Survey.{read_survey, survey_of}
 use Rattle.uimg_blob.specs.Faults.{refuses_memory}
+use Rattle.uimg_fit_base.specs.Faults.{of_making}
 use Rattle.uimg_fit_base.specs.declared.fault.Fault.TheVariants as of
+use Rattle.uimg_fit_base.specs.declared.fault.FitFault.{FitFault}
 
 -- A value that is there ends within so many bytes.
 abbrev pub Ends : ℕ → Option Span → Type 0
@@ -100,3 +106,22 @@ is_own _ = false
 
 abbrev pub IsOwn : {X : Type 0} → Result X SurveyFault → Type 0
 IsOwn result = IfErr result (λ fault. is_own fault ≡ true)
+
+-- All that an answer has end within so many bytes.
+abbrev pub AllInside : {X Z E : Type 0} → (ℕ → X → Type 0) → Result (Vec X Z) E → ℕ → Type 0
+AllInside Inside result size = IfOk result (λ found. All (Inside size) found.items)
+
+-- Source and room are as they were, and a failure was counted exactly where one is answered; memory for the table of nodes is not refused.
+pub record LeavesSurveyBetween {X : Type 0} (result : Result X SurveyFault) (d e : Device) (old new : Held) : Type 0 where
+  pub uses : Uses (is_unread result) d e
+  pub room : new ≡ old
+  pub no_table : lacks_room result ≡ false
+
+abbrev pub LeavesSurvey : {S X : Type 0} → Result X SurveyFault → (S → Device) → Lent S → Lent Held → Type 0
+LeavesSurvey result device source room =
+    LeavesSurveyBetween result (device source.entry.now) (device source.exit.now) room.entry.now room.exit.now
+
+-- The place of a payload is made of numbers of 32 bits, or the fault that refuses it is not of a making.
+pub record PlaceOrFault (found : Result Span FitFault) : Type 0 where
+  pub small : IfOk found (λ p. (p.place < 2 ^ 41) × (p.length < 2 ^ 32))
+  pub no_making : IfErr found (λ fault. of_making fault ≡ false)

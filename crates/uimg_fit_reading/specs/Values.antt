@@ -1,7 +1,13 @@
 -- What the values of properties are printed as.
 use Rattle.std.specs.Prelude.{ℕ, zero, suc, min, ◌-◌, List, [], ◌∷◌, ◌++◌, length, drop, not, ◌==◌, if◌then◌else◌, codes}
 use Rattle.std.specs.List.{position_or_len}
+use Rattle.uimg_texts.specs.Slices.{slice}
+use Rattle.uimg_base.specs.declared.spans.Span.{Span}
 use Rattle.hex.specs.Hex.{encode_lower}
+
+-- the bytes of a range of a file
+abbrev pub in_span : List ℕ → Span → List ℕ
+in_span file span = slice file span.place span.length
 
 -- hexadecimal digits without the zeros before the last eight
 abbrev pub eight_or_more : List ℕ → List ℕ

@@ -1,10 +1,10 @@
 //! What is found of a FIT image by a check of the hashes of its images.
 
-ghost use Rattle.std.specs.Prelude.{◌≡◌, false, length, IsTrue, IfOk};
-ghost use Rattle.uimg_base.specs.Using.{UsesAtMost};
-ghost use Rattle.uimg_fit_base.specs.Faults.{is_read, is_put, is_out_of_memory, is_of_making, Gives};
+ghost use Rattle.std.specs.Prelude.{length, IfOk};
+ghost use Rattle.uimg_fit_base.specs.Faults.{Gives};
 ghost use Rattle.uimg_fit_reading.specs.Checks.{check_work, told_of, check_of, EndsInside};
-ghost use Rattle.uimg_fit_reading.specs.Rooms.{TakesNodes};
+ghost use Rattle.uimg_fit_reading.specs.Puts.{IfHonest};
+ghost use Rattle.uimg_fit_reading.specs.Rooms.{Inspects};
 
 mod all_right;
 mod checked_images;
@@ -65,15 +65,10 @@ pub fn check<S: Source, A: Allocator>(
     source: &mut S,
     room: &mut Room<A>,
 ) -> Result<Finding, Fault>
-    ensures uses { UsesAtMost (check_work (S.device source.old).bytes) (is_read result)
-        (S.device source.old) (S.device source.new) }
-    ensures room { TakesNodes (S.device source.old) (is_out_of_memory result) room.old room.new }
-    ensures no_put { is_put result ≡ false }
-    ensures no_making { is_of_making result ≡ false }
+    ensures inspects { Inspects check_work result S.device source room }
     ensures inside { IfOk result (EndsInside (length (S.device source.old).bytes)) }
-    ensures told { IsTrue (S.device source.old).honest →
-        Gives (told_of (S.device source.old).bytes) result
-        (check_of need (S.device source.old).bytes) }
+    ensures told { IfHonest S.device source
+        (λ file. Gives (told_of file) result (check_of need file)) }
 {
     let blob = read_tree(source, room)?;
     let first = first_image(&blob, room)?;

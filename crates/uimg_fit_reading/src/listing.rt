@@ -1,23 +1,19 @@
 //! The listing of an image.
 
-ghost use Rattle.std.specs.Prelude.{◌≡◌, ◌++◌, List, Some, codes, false, length, is_err, IsTrue};
-ghost use Rattle.uimg_base.specs.Device.{RisesIf};
-ghost use Rattle.uimg_base.specs.Outcome.{Tells};
-ghost use Rattle.uimg_base.specs.Ranges as range;
-ghost use Rattle.uimg_base.specs.Using.{UsesAtMost};
+ghost use Rattle.std.specs.Prelude.{◌≡◌, ◌++◌, List, Some, codes, length};
 ghost use Rattle.uimg_blob.specs.Grammar.{Siblings};
 ghost use Rattle.uimg_blob.specs.LookUps.{NodeOf, images, configurations};
 ghost use Rattle.uimg_blob.specs.Roles.{in_images};
 ghost use Rattle.uimg_blob.specs.Spots.{Spot, spots};
-ghost use Rattle.uimg_fit_base.specs.Faults.{is_read, is_put, is_out_of_memory, end_of, is_of_making};
+ghost use Rattle.uimg_fit_base.specs.Faults.{end_of};
 ghost use Rattle.uimg_fit_base.specs.Files.{root_own, cell};
 ghost use Rattle.uimg_fit_reading.specs.Listing.{configurations_lines, image_lines, lists, list_of, numbered};
 ghost use Rattle.uimg_fit_reading.specs.ListingParts.{configurations_allowance, body_allowance, TellsWithin};
 ghost use Rattle.uimg_fit_reading.specs.Nodes.{InFile, AreFrom, Opened, HasNodes};
-ghost use Rattle.uimg_fit_reading.specs.Rooms.{TakesNodes};
 ghost use Rattle.uimg_fit_reading.specs.Telling.{Lists};
 ghost use Rattle.uimg_fit_reading.specs.Work.{list_work};
-ghost use Rattle.uimg_fit_reading.specs.Puts.{Leaves};
+ghost use Rattle.uimg_fit_reading.specs.Puts.{Leaves, LeavesOrRefuses};
+ghost use Rattle.uimg_fit_reading.specs.Rooms.{Delivers, TellsOf};
 
 mod addresses;
 mod fields;
@@ -51,11 +47,9 @@ fn put_configurations<S: Source, A: Allocator, W: Write>(
     out: &mut Out<W>,
 ) -> Result<(), MoveFault>
     requires { InFile (length (S.device source.old).bytes) blob.now room.old.entries }
-    ensures leaves { Leaves (range.is_read result) (range.is_put result) (S.device source.old)
-        (S.device source.new) room.old room.new out.old out.new }
+    ensures leaves { Leaves result S.device source room out }
     ensures told { (t : Siblings) → Opened (S.device source.old) blob.now room.old t →
-        Lists (is_err result) (configurations_allowance (configurations (spots t)))
-        (S.device source.old) (S.device source.new) out.old out.new
+        Lists (configurations_allowance (configurations (spots t))) result S.device source out
         (configurations_lines (configurations (spots t))) }
 {
     let Some(node) = configurations_of(blob, room) else {
@@ -77,12 +71,10 @@ fn put_body<S: Source, A: Allocator, W: Write>(
     out: &mut Out<W>,
 ) -> Result<(), MoveFault>
     requires { HasNodes (S.device source.old) blob.now room.old first }
-    ensures leaves { Leaves (range.is_read result) (range.is_put result) (S.device source.old)
-        (S.device source.new) room.old room.new out.old out.new }
+    ensures leaves { Leaves result S.device source room out }
     ensures told { (t : Siblings) → Opened (S.device source.old) blob.now room.old t →
         (found : List (NodeOf Spot)) → AreFrom t in_images first found →
-        Lists (is_err result) (body_allowance (spots t) (Some found))
-        (S.device source.old) (S.device source.new) out.old out.new
+        Lists (body_allowance (spots t) (Some found)) result S.device source out
         (numbered (image_lines naming (S.device source.old).bytes time) 0 found
         ++ configurations_lines (configurations (spots t))) }
 {
@@ -100,15 +92,11 @@ fn list_body<S: Source, A: Allocator, W: Write>(
     out: &mut Out<W>,
 ) -> Result<Status, Fault>
     requires { InFile (length (S.device source.old).bytes) blob.now room.old.entries }
-    ensures leaves { Leaves (is_read result) (is_put result) (S.device source.old)
-        (S.device source.new) room.old room.new out.old out.new }
-    ensures memory { is_out_of_memory result ≡ false }
-    ensures no_making { is_of_making result ≡ false }
+    ensures leaves { LeavesOrRefuses result S.device source room out }
     ensures told { (t : Siblings) → Opened (S.device source.old) blob.now room.old t →
-        time ≡ cell (root_own (spots t)) (codes "timestamp") →
-        TellsWithin (end_of result) (body_allowance (spots t) (images (spots t)))
-        (S.device source.old) (S.device source.new) out.old out.new
-        (lists naming (S.device source.old).bytes (spots t) (images (spots t))) }
+        time ≡ cell (root_own (spots t)) (codes "timestamp") → TellsWithin (end_of result)
+        (body_allowance (spots t) (images (spots t))) (S.device source.old) (S.device source.new)
+        out.old out.new (lists naming (S.device source.old).bytes (spots t) (images (spots t))) }
 {
     let first = first_image(blob, room)?;
     put_body(source, blob, room, naming, time, first, out)?;
@@ -128,13 +116,8 @@ pub fn list<S: Source, A: Allocator, W: Write>(
     naming: Naming,
     out: &mut Out<W>,
 ) -> Result<Status, Fault>
-    ensures uses { UsesAtMost (list_work (S.device source.old).bytes) (is_read result)
-        (S.device source.old) (S.device source.new) }
-    ensures room { TakesNodes (S.device source.old) (is_out_of_memory result) room.old room.new }
-    ensures faults { RisesIf (is_put result) out.old.faults out.new.faults }
-    ensures no_making { is_of_making result ≡ false }
-    ensures told { IsTrue (S.device source.old).honest →
-        Tells (end_of result) (list_of naming (S.device source.old).bytes) out.old out.new }
+    ensures delivers { Delivers list_work result S.device source room out }
+    ensures told { TellsOf (list_of naming) result S.device source out }
 {
     let blob = read_tree(source, room)?;
     let time = cell(source, root_value(&blob, room, Key::Timestamp))?;

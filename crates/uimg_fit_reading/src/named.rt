@@ -1,20 +1,18 @@
 //! The payload of an image by its name, and the name of an image, in memory.
 
-ghost use Rattle.std.specs.Prelude.{◌≡◌, ◌+◌, ◌<◌, ◌≤◌, max, false, length, IsTrue, IfErr, IfOk};
+ghost use Rattle.std.specs.Prelude.{◌≡◌, ◌+◌, ◌<◌, ◌≤◌, false, length, IsTrue, IfErr, IfOk};
 ghost use Rattle.std.specs.Str.{bytes_eq};
 ghost use Rattle.uimg_texts.specs.Slices.{slice};
 ghost use Rattle.uimg_blob.specs.Grammar.{Siblings};
 ghost use Rattle.uimg_blob.specs.LookUps.{NodeOf};
 ghost use Rattle.uimg_blob.specs.Roles.{in_images};
 ghost use Rattle.uimg_blob.specs.Spots.{Spot};
-ghost use Rattle.uimg_base.specs.Held.{held_bytes};
-ghost use Rattle.uimg_base.specs.Device.{RisesIf};
-ghost use Rattle.uimg_base.specs.Using.{Uses};
-ghost use Rattle.uimg_blob.specs.Counts.{nodes_met};
-ghost use Rattle.uimg_fit_base.specs.Faults.{is_read, is_put, is_out_of_memory, is_of_making, of_making, Gives};
+ghost use Rattle.uimg_fit_base.specs.Faults.{of_making, Gives};
 ghost use Rattle.uimg_fit_reading.specs.Named.{TellsNamed, name_at, payload_named};
 ghost use Rattle.uimg_fit_reading.specs.Nodes.{InFile, IsNode, IsRead};
-ghost use Rattle.uimg_fit_reading.specs.Rooms.{TakesNodes};
+ghost use Rattle.uimg_fit_reading.specs.Values.{in_span};
+ghost use Rattle.uimg_fit_reading.specs.Rooms.{ReadsAny, ReadsInMemory};
+ghost use Rattle.uimg_fit_reading.specs.Puts.{IfHonest};
 
 use crate::images::{first_image, image_at};
 use crate::nodes::{name_of, next_of};
@@ -29,7 +27,7 @@ use uimg_fit_base::{Fault, FitFault};
 #[tactic(auto, unfolding(uimg_texts::specs::Slices::slice))]
 fn bytes_at(file: &[u8], span: Span) -> &[u8]
     requires { span.place + span.length ≤ length file.now }
-    ensures { result.now ≡ slice file.now span.place span.length }
+    ensures { result.now ≡ in_span file.now span }
 {
     let start = span.place as usize;
     let end = start + span.length as usize;
@@ -84,13 +82,10 @@ fn locate_in<S: Source, A: Allocator>(
     room: &mut Room<A>,
 ) -> Result<Span, Fault>
     requires { (S.device source.old).bytes ≡ file.now }
-    ensures uses { Uses (is_read result) (S.device source.old) (S.device source.new) }
-    ensures room { TakesNodes (S.device source.old) (is_out_of_memory result) room.old room.new }
-    ensures no_put { is_put result ≡ false }
-    ensures no_making { is_of_making result ≡ false }
+    ensures reads { ReadsAny result S.device source room }
     ensures inside { IfOk result (λ p. p.place + p.length ≤ length file.now) }
-    ensures told { IsTrue (S.device source.old).honest → Gives (λ p. slice file.now p.place p.length)
-        result (payload_named file.now name.now) }
+    ensures told { IsTrue (S.device source.old).honest →
+        Gives (in_span file.now) result (payload_named file.now name.now) }
 {
     let blob = read_tree(source, room)?;
     let image = image_named(file, &blob, room, name)?;
@@ -106,14 +101,9 @@ pub fn locate_named<A: Allocator>(
     file: &[u8],
     room: &mut Room<A>,
 ) -> Result<Span, Fault>
-    ensures refused { RisesIf (is_out_of_memory result) room.old.refused room.new.refused }
-    ensures peak { room.new.peak ≤ max room.old.peak (held_bytes (nodes_met file.now)) }
-    ensures no_read { is_read result ≡ false }
-    ensures no_put { is_put result ≡ false }
-    ensures no_making { is_of_making result ≡ false }
+    ensures memory { ReadsInMemory file.now result room }
     ensures inside { IfOk result (λ p. p.place + p.length ≤ length file.now) }
-    ensures told { Gives (λ p. slice file.now p.place p.length) result
-        (payload_named file.now name.now) }
+    ensures told { Gives (in_span file.now) result (payload_named file.now name.now) }
 {
     let mut source = MemSource::new(file);
     locate_in(name, file, &mut source, room)
@@ -125,14 +115,10 @@ fn name_in<S: Source, A: Allocator>(
     source: &mut S,
     room: &mut Room<A>,
 ) -> Result<Span, Fault>
-    ensures uses { Uses (is_read result) (S.device source.old) (S.device source.new) }
-    ensures room { TakesNodes (S.device source.old) (is_out_of_memory result) room.old room.new }
-    ensures no_put { is_put result ≡ false }
-    ensures no_making { is_of_making result ≡ false }
+    ensures reads { ReadsAny result S.device source room }
     ensures inside { IfOk result (λ p. p.place + p.length ≤ length (S.device source.old).bytes) }
-    ensures told { IsTrue (S.device source.old).honest → Gives
-        (λ p. slice (S.device source.old).bytes p.place p.length) result
-        (name_at (S.device source.old).bytes position) }
+    ensures told { IfHonest S.device source (λ file.
+        Gives (in_span file) result (name_at file position)) }
 {
     let blob = read_tree(source, room)?;
     let image = image_at(&blob, room, position)?;
@@ -148,13 +134,9 @@ pub fn locate_name<A: Allocator>(
     file: &[u8],
     room: &mut Room<A>,
 ) -> Result<Span, Fault>
-    ensures refused { RisesIf (is_out_of_memory result) room.old.refused room.new.refused }
-    ensures peak { room.new.peak ≤ max room.old.peak (held_bytes (nodes_met file.now)) }
-    ensures no_read { is_read result ≡ false }
-    ensures no_put { is_put result ≡ false }
-    ensures no_making { is_of_making result ≡ false }
+    ensures memory { ReadsInMemory file.now result room }
     ensures inside { IfOk result (λ p. p.place + p.length ≤ length file.now) }
-    ensures told { Gives (λ p. slice file.now p.place p.length) result (name_at file.now position) }
+    ensures told { Gives (in_span file.now) result (name_at file.now position) }
 {
     let mut source = MemSource::new(file);
     name_in(position, &mut source, room)

@@ -1,7 +1,6 @@
 //! Names and values of an indexed blob's nodes, and its hash nodes.
 ghost use Rattle.std.specs.Prelude.{◌≡◌, ℕ, ◌+◌, ◌<◌, ◌≤◌, List, [], ◌∷◌, length, Some, IfSome, IsTrue};
 ghost use Rattle.std.specs.Option.{option_map};
-ghost use Rattle.uimg_texts.specs.Slices.{slice};
 ghost use Rattle.uimg_blob.specs.Grammar.{Siblings};
 ghost use Rattle.uimg_blob.specs.Indexed.{IsIndexed, keeps, value_span};
 ghost use Rattle.uimg_blob.specs.Keys.{name_of};
@@ -9,7 +8,9 @@ ghost use Rattle.uimg_blob.specs.LookUps.{NodeOf, first, hashes, listed};
 ghost use Rattle.uimg_blob.specs.Roles.{Level, role_at, level_in, level_after, top, in_images};
 ghost use Rattle.uimg_blob.specs.Spots.{Spot, spots};
 ghost use Rattle.uimg_fit_base.specs.Files.{bytes_of, bytes_in, root_own};
-ghost use Rattle.uimg_fit_reading.specs.Nodes.{Indexed, InFile, IsRead, IsNode, AtNode, InTree, AreFrom, HashesFrom, HashAt, HashesAt, TellsConfigurations};
+ghost use Rattle.uimg_fit_reading.specs.Nodes.{Indexed, IsRead, IsNode, AtNode, InTree, AreFrom, HashesFrom, HashAt, HashesAt, TellsConfigurations, IsEntry, IsEntryOrNone, InAnyFile};
+ghost use Rattle.uimg_fit_reading.specs.Values.{in_span};
+ghost use Rattle.uimg_fit_reading.specs.SurveyParts.{Ends};
 
 use std::alloc::Allocator;
 use uimg_base::{Room, Span};
@@ -18,11 +19,10 @@ use uimg_blob::{Blob, Key};
 // Where the name of a node stands.
 pub(crate) fn name_of<A: Allocator>(blob: &Blob, room: &Room<A>, node: usize) -> Span
     requires { node < length room.now.entries }
-    ensures inside { (size : ℕ) → InFile size blob.now room.now.entries →
-        result.place + result.length ≤ size }
-    ensures name { AtNode blob.now room.now.entries node (λ file level found.
-        slice file result.place result.length ≡ found.name) }
-    ensures short { AtNode blob.now room.now.entries node (λ file level found. result.length ≤ 255) }
+    ensures inside { InAnyFile blob.now room.now (λ size. result.place + result.length ≤ size) }
+    ensures name { AtNode blob.now room.now node
+        (λ file level found. in_span file result ≡ found.name) }
+    ensures short { AtNode blob.now room.now node (λ file level found. result.length ≤ 255) }
 {
     blob.name(room, node)
 }
@@ -35,12 +35,11 @@ pub(crate) fn value_of<A: Allocator>(
     key: Key,
 ) -> Option<Span>
     requires { node < length room.now.entries }
-    ensures inside { (size : ℕ) → InFile size blob.now room.now.entries →
-        IfSome result (λ s. s.place + s.length ≤ size) }
-    ensures span { InTree blob.now room.now.entries node (λ t level found.
+    ensures inside { InAnyFile blob.now room.now (λ size. Ends size result) }
+    ensures span { InTree blob.now room.now node (λ t level found.
         IsTrue (keeps (role_at level found.name) key) →
         result ≡ option_map value_span (first found.own (name_of key))) }
-    ensures bytes { AtNode blob.now room.now.entries node (λ file level found.
+    ensures bytes { AtNode blob.now room.now node (λ file level found.
         IsTrue (keeps (role_at level found.name) key) →
         bytes_of found.own (name_of key) ≡ bytes_in file result) }
 {
@@ -50,8 +49,7 @@ pub(crate) fn value_of<A: Allocator>(
 // Where the value of the root's first property of a key stands.
 pub(crate) fn root_value<A: Allocator>(blob: &Blob, room: &Room<A>, key: Key) -> Option<Span>
     requires { IsTrue (keeps (role_at top []) key) }
-    ensures inside { (size : ℕ) → InFile size blob.now room.now.entries →
-        IfSome result (λ s. s.place + s.length ≤ size) }
+    ensures inside { InAnyFile blob.now room.now (λ size. Ends size result) }
     ensures bytes { (file : List ℕ) (t : Siblings) → IsRead file blob.now room.now.entries t →
         bytes_of (root_own (spots t)) (name_of key) ≡ bytes_in file result }
 {
@@ -65,7 +63,7 @@ pub(crate) fn root_value<A: Allocator>(blob: &Blob, room: &Room<A>, key: Key) ->
 pub(crate) fn child_of<A: Allocator>(blob: &Blob, room: &Room<A>, node: usize) -> Option<usize>
     requires { node < length room.now.entries }
     ensures within { IfSome result (λ i. i < length room.now.entries) }
-    ensures children { InTree blob.now room.now.entries node (λ t level found.
+    ensures children { InTree blob.now room.now node (λ t level found.
         AreFrom t (level_in (role_at level found.name)) result (listed found.below)) }
 {
     blob.first_child(room, node)
@@ -83,8 +81,7 @@ pub(crate) fn configurations_of<A: Allocator>(blob: &Blob, room: &Room<A>) -> Op
 
 // The number of the node after one, if there is such.
 pub(crate) fn next_of<A: Allocator>(blob: &Blob, room: &Room<A>, node: usize) -> Option<usize>
-    requires within { node < length room.now.entries }
-    requires indexed { Indexed blob.now room.now.entries }
+    requires { IsEntry blob.now room.now node }
     ensures within { IfSome result (λ i. i < length room.now.entries) }
     ensures later { IfSome result (λ i. node < i) }
     ensures next { (t : Siblings) → IsIndexed t blob.now room.now.entries →
@@ -96,8 +93,7 @@ pub(crate) fn next_of<A: Allocator>(blob: &Blob, room: &Room<A>, node: usize) ->
 
 // The number of the first hash node from a child of an image on, if there is one.
 fn hash_from<A: Allocator>(blob: &Blob, room: &Room<A>, first: Option<usize>) -> Option<usize>
-    requires within { IfSome first (λ i. i < length room.now.entries) }
-    requires indexed { Indexed blob.now room.now.entries }
+    requires { IsEntryOrNone blob.now room.now first }
     ensures within { IfSome result (λ i. i < length room.now.entries) }
     ensures hashes { (t : Siblings) → IsIndexed t blob.now room.now.entries →
         (hs : List (NodeOf Spot)) → HashesFrom t first hs → HashesAt t result hs }
@@ -115,8 +111,7 @@ fn hash_from<A: Allocator>(blob: &Blob, room: &Room<A>, first: Option<usize>) ->
 
 // The number of an image's first hash node, if it has one.
 pub(crate) fn first_hash<A: Allocator>(blob: &Blob, room: &Room<A>, image: usize) -> Option<usize>
-    requires within { image < length room.now.entries }
-    requires indexed { Indexed blob.now room.now.entries }
+    requires { IsEntry blob.now room.now image }
     ensures within { IfSome result (λ i. i < length room.now.entries) }
     ensures hashes { (t : Siblings) → IsIndexed t blob.now room.now.entries →
         (found : NodeOf Spot) → IsNode t in_images image found → HashesAt t result (hashes found) }
@@ -126,12 +121,10 @@ pub(crate) fn first_hash<A: Allocator>(blob: &Blob, room: &Room<A>, image: usize
 
 // The number of the hash node after one, if there is such.
 pub(crate) fn next_hash<A: Allocator>(blob: &Blob, room: &Room<A>, hash: usize) -> Option<usize>
-    requires within { hash < length room.now.entries }
-    requires indexed { Indexed blob.now room.now.entries }
+    requires { IsEntry blob.now room.now hash }
     ensures within { IfSome result (λ i. i < length room.now.entries) }
-    ensures hashes { (t : Siblings) → IsIndexed t blob.now room.now.entries →
-        (found : NodeOf Spot) (more : List (NodeOf Spot)) → HashAt t hash found more →
-        HashesAt t result more }
+    ensures hashes { (t : Siblings) → IsIndexed t blob.now room.now.entries → (found : NodeOf Spot)
+        (more : List (NodeOf Spot)) → HashAt t hash found more → HashesAt t result more }
     ensures later { IfSome result (λ i. hash < i) }
 {
     hash_from(blob, room, blob.next_sibling(room, hash))

@@ -6,11 +6,12 @@ ghost use Rattle.uimg_blob.specs.LookUps.{NodeOf};
 ghost use Rattle.uimg_blob.specs.Grammar.{Siblings};
 ghost use Rattle.uimg_blob.specs.Roles.{in_images};
 ghost use Rattle.uimg_blob.specs.Spots.{Spot};
-ghost use Rattle.uimg_fit_base.specs.Faults.{is_read, is_put, is_out_of_memory, of_making, is_of_making};
+ghost use Rattle.uimg_fit_base.specs.Faults.{is_read, of_making};
 ghost use Rattle.uimg_fit_base.specs.Files.{number_in};
 ghost use Rattle.uimg_fit_reading.specs.Nodes.{IsRead, IsNode, HasNode};
 ghost use Rattle.uimg_fit_reading.specs.Survey.{place_said, read_payload};
-ghost use Rattle.uimg_fit_reading.specs.SurveyParts.{PayloadInside};
+ghost use Rattle.uimg_fit_reading.specs.SurveyParts.{PayloadInside, Ends, PlaceOrFault};
+ghost use Rattle.uimg_fit_reading.specs.Puts.{OnlyReads};
 ghost use Rattle.uimg_fit_base.specs.Places.{external, or_else, embedded, place, TellsPlace};
 
 use crate::surveying::{PayloadFacts, payload_facts};
@@ -24,7 +25,7 @@ pub(crate) fn cell<S: Source>(
     source: &mut S,
     value: Option<Span>,
 ) -> Result<Option<u32>, SourceFault>
-    requires { IfSome value (λ s. s.place + s.length ≤ length (S.device source.old).bytes) }
+    requires { Ends (length (S.device source.old).bytes) value }
     ensures uses { Asks 4 (is_err result) (S.device source.old) (S.device source.new) }
     ensures number { IsTrue (S.device source.old).honest →
         IfOk result (λ found. found ≡ number_in (S.device source.old).bytes value) }
@@ -84,8 +85,7 @@ pub fn find_payload<S: Source>(
     requires values { PayloadInside totalsize facts.now }
     requires blob { totalsize ≤ length (S.device source.old).bytes }
     ensures uses { Asks 12 (is_err result) (S.device source.old) (S.device source.new) }
-    ensures small { IfOk result (λ found. IfOk found (λ p. (p.place < 2 ^ 41) × (p.length < 2 ^ 32))) }
-    ensures no_making { IfOk result (λ found. IfErr found (λ fault. of_making fault ≡ false)) }
+    ensures found { IfOk result PlaceOrFault }
     ensures place { IsTrue (S.device source.old).honest → IfOk result (λ p.
         p ≡ place_said totalsize (read_payload (S.device source.old).bytes facts.now)) }
 {
@@ -110,8 +110,7 @@ pub(crate) fn find_place<S: Source, A: Allocator>(
 ) -> Result<Result<Span, FitFault>, SourceFault>
     requires { HasNode (S.device source.old) blob.now room.now image }
     ensures uses { Asks 12 (is_err result) (S.device source.old) (S.device source.new) }
-    ensures small { IfOk result (λ found. IfOk found (λ p. (p.place < 2 ^ 41) × (p.length < 2 ^ 32))) }
-    ensures no_making { IfOk result (λ found. IfErr found (λ fault. of_making fault ≡ false)) }
+    ensures found { IfOk result PlaceOrFault }
     ensures place { IsTrue (S.device source.old).honest → (t : Siblings) →
         IsRead (S.device source.old).bytes blob.now room.now.entries t → (found : NodeOf Spot) →
         IsNode t in_images image found →
@@ -130,9 +129,7 @@ pub(crate) fn payload_place<S: Source, A: Allocator>(
 ) -> Result<Span, Fault>
     requires { HasNode (S.device source.old) blob.now room.now image }
     ensures uses { Asks 12 (is_read result) (S.device source.old) (S.device source.new) }
-    ensures no_put { is_put result ≡ false }
-    ensures memory { is_out_of_memory result ≡ false }
-    ensures no_making { is_of_making result ≡ false }
+    ensures only { OnlyReads result }
     ensures inside { IfOk result (λ p. p.place + p.length ≤ length (S.device source.old).bytes) }
     ensures told { IsTrue (S.device source.old).honest → (t : Siblings) →
         IsRead (S.device source.old).bytes blob.now room.now.entries t → (found : NodeOf Spot) →

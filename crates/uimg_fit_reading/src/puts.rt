@@ -5,6 +5,7 @@ ghost use Rattle.uimg_base.specs.declared.ranges.MoveFault.TheVariants.{Read};
 ghost use Rattle.uimg_base.specs.Using.{Asks};
 ghost use Rattle.uimg_texts.specs.Slices.{slice};
 ghost use Rattle.uimg_fit_reading.specs.Puts.{Puts, PutsOwn};
+ghost use Rattle.uimg_fit_reading.specs.Values.{in_span};
 
 use std::alloc::Allocator;
 use std::io::Write;
@@ -70,9 +71,7 @@ pub(crate) fn put_span<S: Source, A: Allocator, W: Write>(
     out: &mut Out<W>,
 ) -> Result<(), MoveFault>
     requires { span.place + span.length ≤ length (S.device source.old).bytes }
-    ensures { Puts span.length result (S.device source.old) (S.device source.new)
-        room.old room.new out.old out.new
-        (slice (S.device source.old).bytes span.place span.length) }
+    ensures { Puts span.length result S.device source room out (λ file. in_span file span) }
 {
     copy_range(source, room, span.place, span.length, out)
 }

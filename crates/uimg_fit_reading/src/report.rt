@@ -1,13 +1,8 @@
 //! The report on the hashes of the images.
 
-ghost use Rattle.std.specs.Prelude.{IsTrue, ◌≡◌, false};
-ghost use Rattle.uimg_base.specs.Device.{RisesIf};
-ghost use Rattle.uimg_base.specs.Outcome.{Tells};
-ghost use Rattle.uimg_base.specs.Using.{UsesAtMost};
-ghost use Rattle.uimg_fit_base.specs.Faults.{is_read, is_put, is_out_of_memory, end_of, is_of_making};
 ghost use Rattle.uimg_fit_base.specs.Report.{verify_of};
-ghost use Rattle.uimg_fit_reading.specs.Rooms.{TakesNodes};
 ghost use Rattle.uimg_fit_reading.specs.Work.{verify_work};
+ghost use Rattle.uimg_fit_reading.specs.Rooms.{Delivers, TellsOf};
 
 mod digests;
 mod hash_lines;
@@ -44,13 +39,8 @@ pub fn verify<S: Source, A: Allocator, W: Write>(
     room: &mut Room<A>,
     out: &mut Out<W>,
 ) -> Result<Status, Fault>
-    ensures uses { UsesAtMost (verify_work (S.device source.old).bytes) (is_read result)
-        (S.device source.old) (S.device source.new) }
-    ensures room { TakesNodes (S.device source.old) (is_out_of_memory result) room.old room.new }
-    ensures faults { RisesIf (is_put result) out.old.faults out.new.faults }
-    ensures no_making { is_of_making result ≡ false }
-    ensures told { IsTrue (S.device source.old).honest →
-        Tells (end_of result) (verify_of (S.device source.old).bytes) out.old out.new }
+    ensures delivers { Delivers verify_work result S.device source room out }
+    ensures told { TellsOf verify_of result S.device source out }
 {
     let blob = read_tree(source, room)?;
     let first = first_image(&blob, room)?;

@@ -1,17 +1,17 @@
 //! What a FIT image says of itself is gathered, without its payloads.
 
-ghost use Rattle.std.specs.Prelude.{◌≡◌, ◌+◌, ◌<◌, ℕ, List, length, false, IsTrue, IfOk, IfSome};
-ghost use Rattle.uimg_base.specs.Using.{UsesAtMost};
+ghost use Rattle.std.specs.Prelude.{◌≡◌, ◌+◌, ◌<◌, ℕ, List, length, false, IsTrue, IfOk};
 ghost use Rattle.uimg_blob.specs.Counts.{index_cost};
 ghost use Rattle.uimg_blob.specs.Grammar.{Siblings};
 ghost use Rattle.uimg_blob.specs.LookUps.{NodeOf, images, configurations};
 ghost use Rattle.uimg_blob.specs.Roles.{in_images};
 ghost use Rattle.uimg_blob.specs.Spots.{Spot, spots};
-ghost use Rattle.uimg_fit_reading.specs.Nodes.{Indexed, InFile, IsRead, AreFrom};
+ghost use Rattle.uimg_fit_reading.specs.Nodes.{Indexed, IsRead, AreFrom, IsEntryOrNone, InAnyFile};
 ghost use Rattle.uimg_fit_reading.specs.FullSurvey.{properties_of, properties_cost, read_properties, FullInside, survey_in};
-ghost use Rattle.uimg_fit_reading.specs.Rooms.{TakesNodes};
-ghost use Rattle.uimg_fit_reading.specs.Survey.{said_of, read_survey, preferred_in, configurations_in, read_configuration, survey_of};
+ghost use Rattle.uimg_fit_reading.specs.Rooms.{TakesNodes, UsesWithin};
+ghost use Rattle.uimg_fit_reading.specs.Survey.{said_of, read_survey, preferred_in, configurations_in, read_configuration};
 ghost use Rattle.uimg_fit_reading.specs.SurveyParts.{Ends, ConfigurationInside, SurveyInside, is_unread, lacks_room, is_changed, Surveys};
+ghost use Rattle.uimg_fit_reading.specs.Puts.{IfHonest};
 ghost use Rattle.std.specs.List.{All};
 ghost use Rattle.std.specs.Prelude.{map};
 ghost use Rattle.uimg_fit_base.specs.Files.{bytes_in};
@@ -42,8 +42,8 @@ fn configurations<A: Allocator>(
     room: &Room<A>,
 ) -> Result<(Option<Span>, Vec<ConfigurationFacts>), AllocError>
     requires { Indexed blob.now room.now.entries }
-    ensures inside { (size : ℕ) → InFile size blob.now room.now.entries →
-        IfOk result (λ found. Ends size found.0 × All (ConfigurationInside size) found.1.items) }
+    ensures inside { InAnyFile blob.now room.now (λ size.
+        IfOk result (λ found. Ends size found.0 × All (ConfigurationInside size) found.1.items)) }
     ensures said { (file : List ℕ) (t : Siblings) → IsRead file blob.now room.now.entries t →
         IfOk result (λ found. (bytes_in file found.0 ≡ preferred_in (configurations (spots t)))
         × (map (read_configuration file) found.1.items ≡ configurations_in (configurations (spots t)))) }
@@ -63,11 +63,9 @@ fn gather<A: Allocator>(
     room: &Room<A>,
     first: Option<usize>,
 ) -> Result<Survey, AllocError>
-    requires within { IfSome first (λ i. i < length room.now.entries) }
-    requires indexed { Indexed blob.now room.now.entries }
+    requires { IsEntryOrNone blob.now room.now first }
     ensures totalsize { IfOk result (λ survey. survey.totalsize ≡ blob.now.totalsize) }
-    ensures inside { (size : ℕ) → InFile size blob.now room.now.entries →
-        IfOk result (SurveyInside size) }
+    ensures inside { InAnyFile blob.now room.now (λ size. IfOk result (SurveyInside size)) }
     ensures said { (file : List ℕ) (t : Siblings) → IsRead file blob.now room.now.entries t →
         (found : List (NodeOf Spot)) → AreFrom t in_images first found →
         IfOk result (λ survey. read_survey file survey ≡ said_of file (spots t) found) }
@@ -96,8 +94,7 @@ pub fn survey<S: Source, A: Allocator>(
     source: &mut S,
     room: &mut Room<A>,
 ) -> Result<Survey, SurveyFault>
-    ensures uses { UsesAtMost (index_cost (S.device source.old).bytes) (is_unread result)
-        (S.device source.old) (S.device source.new) }
+    ensures uses { UsesWithin index_cost (is_unread result) S.device source }
     ensures room { TakesNodes (S.device source.old) (lacks_room result) room.old room.new }
     ensures inside { IfOk result (SurveyInside (length (S.device source.old).bytes)) }
     ensures unchanged { is_changed result ≡ false }
@@ -123,15 +120,13 @@ pub fn survey_with_properties<S: Source, A: Allocator>(
     source: &mut S,
     room: &mut Room<A>,
 ) -> Result<FullSurvey, SurveyFault>
-    ensures uses { UsesAtMost (index_cost (S.device source.old).bytes + properties_cost (S.device source.old).bytes)
-        (is_unread result) (S.device source.old) (S.device source.new) }
+    ensures uses { UsesWithin (λ file. index_cost file + properties_cost file)
+        (is_unread result) S.device source }
     ensures room { TakesNodes (S.device source.old) (lacks_room result) room.old room.new }
     ensures inside { IfOk result (FullInside (length (S.device source.old).bytes)) }
-    ensures told { IsTrue (S.device source.old).honest →
-        Surveys (S.device source.old).bytes (survey_in result) }
-    ensures properties { IsTrue (S.device source.old).honest → IfOk result (λ full.
-        map (read_properties (S.device source.old).bytes) full.properties.items
-        ≡ properties_of (S.device source.old).bytes) }
+    ensures told { IfHonest S.device source (λ file. Surveys file (survey_in result)) }
+    ensures properties { IfHonest S.device source (λ file. IfOk result
+        (λ full. map (read_properties file) full.properties.items ≡ properties_of file)) }
 {
     let blob = read_tree(source, room)?;
     let first = first_image(&blob, room)?;

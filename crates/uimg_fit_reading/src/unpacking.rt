@@ -1,11 +1,10 @@
 //! The payloads of a FIT image are taken out of it, each vouched for by its hash nodes while it is written.
 
-ghost use Rattle.std.specs.Prelude.{◌≡◌, false, length, IsTrue};
+ghost use Rattle.std.specs.Prelude.{IsTrue};
 ghost use Rattle.std.specs.Option.{option_map};
-ghost use Rattle.uimg_base.specs.Using.{UsesAtMost};
-ghost use Rattle.uimg_fit_base.specs.Faults.{is_read, is_out_of_memory, is_of_making};
-ghost use Rattle.uimg_fit_reading.specs.Rooms.{TakesNodes};
 ghost use Rattle.uimg_fit_reading.specs.Unpacking.{Unpacks, unpack_of, unpack_work, bytes_of};
+ghost use Rattle.uimg_fit_reading.specs.Puts.{IfHonest};
+ghost use Rattle.uimg_fit_reading.specs.Rooms.{TakesOut};
 
 mod claims;
 mod copies;
@@ -56,14 +55,9 @@ pub fn unpack<S: Source, A: Allocator, T: Taker>(
     room: &mut Room<A>,
     taker: &mut T,
 ) -> Result<Unpacked, Fault>
-    ensures uses { UsesAtMost (unpack_work (S.device source.old).bytes) (is_read result)
-        (S.device source.old) (S.device source.new) }
-    ensures room { TakesNodes (S.device source.old) (is_out_of_memory result) room.old room.new }
-    ensures no_making { is_of_making result ≡ false }
-    ensures told { IsTrue (S.device source.old).honest → IsTrue T.honest →
-        Unpacks result
-        (unpack_of need (option_map bytes_of only) (S.device source.old).bytes)
-        (T.takes taker.old) (T.takes taker.new) }
+    ensures takes { TakesOut unpack_work result S.device source room }
+    ensures told { IfHonest S.device source (λ file. IsTrue T.honest → Unpacks result
+        (unpack_of need (option_map bytes_of only) file) (T.takes taker.old) (T.takes taker.new)) }
 {
     let blob = read_tree(source, room)?;
     let first = first_image(&blob, room)?;

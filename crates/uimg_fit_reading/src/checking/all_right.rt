@@ -1,15 +1,16 @@
 //! What is found of images whose hash nodes are all right.
 
-ghost use Rattle.std.specs.Prelude.{◌≡◌, ℕ, ◌+◌, ◌<◌, ◌≤◌, List, length, IfSome};
+ghost use Rattle.std.specs.Prelude.{◌≡◌, ◌+◌, ◌<◌, ◌≤◌, List, length};
 ghost use Rattle.std.specs.Option.{option_map};
-ghost use Rattle.uimg_texts.specs.Slices.{slice};
 ghost use Rattle.uimg_blob.specs.Grammar.{Siblings};
 ghost use Rattle.uimg_blob.specs.Indexed.{IsIndexed};
 ghost use Rattle.uimg_blob.specs.LookUps.{NodeOf};
 ghost use Rattle.uimg_blob.specs.Roles.{in_images};
 ghost use Rattle.uimg_blob.specs.Spots.{Spot};
 ghost use Rattle.uimg_fit_reading.specs.Checks.{EndsInside, told_of, hash_count, unhashed_in, unhashed_of, all_right};
-ghost use Rattle.uimg_fit_reading.specs.Nodes.{Indexed, InFile, IsRead, AreFrom, HashesAt};
+ghost use Rattle.uimg_fit_reading.specs.Nodes.{HashesAt, IsEntryOrNone, InAnyFile, FromNode, InTreeFrom};
+ghost use Rattle.uimg_fit_reading.specs.Values.{in_span};
+ghost use Rattle.uimg_fit_reading.specs.SurveyParts.{Ends};
 
 use crate::checking::Finding;
 use crate::counting::count_from;
@@ -25,8 +26,7 @@ fn count_hashes<A: Allocator>(
     first: Option<usize>,
     before: usize,
 ) -> usize
-    requires within { IfSome first (λ i. i < length room.now.entries) }
-    requires indexed { Indexed blob.now room.now.entries }
+    requires { IsEntryOrNone blob.now room.now first }
     ensures { (t : Siblings) → IsIndexed t blob.now room.now.entries → (hs : List (NodeOf Spot)) →
         HashesAt t first hs → before + length hs ≤ length room.now.entries →
         result ≡ before + length hs }
@@ -46,10 +46,8 @@ fn count_hashes<A: Allocator>(
 
 // How many hash nodes the images from one on have.
 fn count_all<A: Allocator>(blob: &Blob, room: &Room<A>, first: Option<usize>) -> usize
-    requires within { IfSome first (λ i. i < length room.now.entries) }
-    requires indexed { Indexed blob.now room.now.entries }
-    ensures { (t : Siblings) → IsIndexed t blob.now room.now.entries → (found : List (NodeOf Spot)) →
-        AreFrom t in_images first found → result ≡ hash_count found }
+    requires { IsEntryOrNone blob.now room.now first }
+    ensures { InTreeFrom blob.now room.now in_images first (λ found. result ≡ hash_count found) }
 {
     let mut count = 0;
     let mut next = first;
@@ -62,13 +60,10 @@ fn count_all<A: Allocator>(blob: &Blob, room: &Room<A>, first: Option<usize>) ->
 
 // Where the name of the first image from one on stands that has no hash node.
 fn first_unhashed<A: Allocator>(blob: &Blob, room: &Room<A>, first: Option<usize>) -> Option<Span>
-    requires within { IfSome first (λ i. i < length room.now.entries) }
-    requires indexed { Indexed blob.now room.now.entries }
-    ensures inside { (size : ℕ) → InFile size blob.now room.now.entries →
-        IfSome result (λ s. s.place + s.length ≤ size) }
-    ensures told { (file : List ℕ) (t : Siblings) → IsRead file blob.now room.now.entries t →
-        (found : List (NodeOf Spot)) → AreFrom t in_images first found →
-        option_map (λ s. slice file s.place s.length) result ≡ unhashed_in found }
+    requires { IsEntryOrNone blob.now room.now first }
+    ensures inside { InAnyFile blob.now room.now (λ size. Ends size result) }
+    ensures told { FromNode blob.now room.now in_images first
+        (λ file found. option_map (λ s. in_span file s) result ≡ unhashed_in found) }
 {
     let mut next = first;
     while let Some(image) = next {
@@ -87,13 +82,10 @@ fn unhashed<A: Allocator>(
     first: Option<usize>,
     need: Option<Algo>,
 ) -> Option<Span>
-    requires within { IfSome first (λ i. i < length room.now.entries) }
-    requires indexed { Indexed blob.now room.now.entries }
-    ensures inside { (size : ℕ) → InFile size blob.now room.now.entries →
-        IfSome result (λ s. s.place + s.length ≤ size) }
-    ensures told { (file : List ℕ) (t : Siblings) → IsRead file blob.now room.now.entries t →
-        (found : List (NodeOf Spot)) → AreFrom t in_images first found →
-        option_map (λ s. slice file s.place s.length) result ≡ unhashed_of need found }
+    requires { IsEntryOrNone blob.now room.now first }
+    ensures inside { InAnyFile blob.now room.now (λ size. Ends size result) }
+    ensures told { FromNode blob.now room.now in_images first
+        (λ file found. option_map (λ s. in_span file s) result ≡ unhashed_of need found) }
 {
     match need {
         Some(_) => None,
@@ -108,12 +100,10 @@ pub(crate) fn all_right<A: Allocator>(
     first: Option<usize>,
     need: Option<Algo>,
 ) -> Finding
-    requires within { IfSome first (λ i. i < length room.now.entries) }
-    requires indexed { Indexed blob.now room.now.entries }
-    ensures inside { (size : ℕ) → InFile size blob.now room.now.entries → EndsInside size result }
-    ensures told { (file : List ℕ) (t : Siblings) → IsRead file blob.now room.now.entries t →
-        (found : List (NodeOf Spot)) → AreFrom t in_images first found →
-        told_of file result ≡ all_right need found }
+    requires { IsEntryOrNone blob.now room.now first }
+    ensures inside { InAnyFile blob.now room.now (λ size. EndsInside size result) }
+    ensures told { FromNode blob.now room.now in_images first
+        (λ file found. told_of file result ≡ all_right need found) }
 {
     match unhashed(blob, room, first, need) {
         Some(image) => Finding::Unhashed(image),

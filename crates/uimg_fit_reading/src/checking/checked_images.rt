@@ -1,12 +1,11 @@
 //! Images are checked one after the other, up to the first finding.
 
-ghost use Rattle.std.specs.Prelude.{◌≡◌, false, length, IfOk, IfSome};
-ghost use Rattle.uimg_base.specs.Using.{Uses};
+ghost use Rattle.std.specs.Prelude.{length, IfOk, IfSome};
 ghost use Rattle.uimg_blob.specs.Roles.{in_images};
-ghost use Rattle.uimg_fit_base.specs.Faults.{is_read, is_put, is_out_of_memory, is_of_making};
 ghost use Rattle.uimg_fit_reading.specs.Checks.{EndsInside};
 ghost use Rattle.uimg_fit_reading.specs.CheckParts.{StaysInside, ChecksImage, ChecksImages};
 ghost use Rattle.uimg_fit_reading.specs.Nodes.{OfNode, OfNodes, HasNode, HasNodes};
+ghost use Rattle.uimg_fit_reading.specs.UnpackingParts.{ReadsOrRefuses};
 
 use crate::checking::Finding;
 use crate::checking::checked_payloads::{Checked, check_payload};
@@ -27,15 +26,10 @@ fn check_image<S: Source, A: Allocator>(
     left: u64,
 ) -> Result<Checked, Fault>
     requires { HasNode (S.device source.old) blob.now room.old image }
-    ensures uses { Uses (is_read result) (S.device source.old) (S.device source.new) }
-    ensures room { room.new ≡ room.old }
-    ensures no_put { is_put result ≡ false }
-    ensures memory { is_out_of_memory result ≡ false }
-    ensures no_making { is_of_making result ≡ false }
+    ensures leaves { ReadsOrRefuses result S.device source room }
     ensures inside { IfOk result (StaysInside (length (S.device source.old).bytes)) }
-    ensures told { OfNode (S.device source.old) blob.now room.old in_images image (λ found.
-        ChecksImage (S.device source.old).bytes need left found (S.device source.old).asked
-        (S.device source.new).asked result) }
+    ensures told { OfNode (S.device source.old) blob.now room.old in_images image
+        (λ found. ChecksImage need left found result S.device source) }
 {
     let span = payload_place(source, blob, room, image)?;
     Ok(check_payload(source, blob, room, image, span, need, left)?)
@@ -50,16 +44,11 @@ pub(crate) fn first_finding<S: Source, A: Allocator>(
     need: Option<Algo>,
 ) -> Result<Option<Finding>, Fault>
     requires { HasNodes (S.device source.old) blob.now room.old first }
-    ensures uses { Uses (is_read result) (S.device source.old) (S.device source.new) }
-    ensures room { room.new ≡ room.old }
-    ensures no_put { is_put result ≡ false }
-    ensures memory { is_out_of_memory result ≡ false }
-    ensures no_making { is_of_making result ≡ false }
+    ensures leaves { ReadsOrRefuses result S.device source room }
     ensures inside { IfOk result (λ found. IfSome found
         (EndsInside (length (S.device source.old).bytes))) }
-    ensures told { OfNodes (S.device source.old) blob.now room.old in_images first (λ found.
-        ChecksImages (S.device source.old).bytes need found (S.device source.old).asked
-        (S.device source.new).asked result) }
+    ensures told { OfNodes (S.device source.old) blob.now room.old in_images first
+        (λ found. ChecksImages need found result S.device source) }
 {
     let mut left = source.size()?;
     let mut next = first;

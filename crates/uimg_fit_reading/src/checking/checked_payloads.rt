@@ -1,14 +1,11 @@
 //! The hash nodes of one image are compared with its payload.
 
-ghost use Rattle.std.specs.Prelude.{◌≡◌, ◌+◌, ◌≤◌, not, false, if◌then◌else◌, length, is_err, IfOk};
-ghost use Rattle.std.specs.Option.{option_map_or};
-ghost use Rattle.uimg_texts.specs.Slices.{slice};
+ghost use Rattle.std.specs.Prelude.{◌≡◌, ◌+◌, ◌≤◌, length, is_err, IfOk, if◌then◌else◌};
 ghost use Rattle.uimg_base.specs.Using.{Uses};
 ghost use Rattle.uimg_blob.specs.Roles.{in_images};
 ghost use Rattle.uimg_fit_base.specs.AlgoSets.{is_empty};
 ghost use Rattle.uimg_fit_reading.specs.CheckParts.{StaysInside, ChecksPayload};
 ghost use Rattle.uimg_fit_reading.specs.Nodes.{OfNode, HasNode};
-ghost use Rattle.uimg_fit_reading.specs.Vouching.{has_from};
 
 use crate::checking::Finding;
 use crate::nodes::{first_hash, name_of};
@@ -49,10 +46,8 @@ pub(crate) fn check_payload<S: Source, A: Allocator>(
     ensures uses { Uses (is_err result) (S.device source.old) (S.device source.new) }
     ensures room { room.new ≡ room.old }
     ensures inside { IfOk result (StaysInside (length (S.device source.old).bytes)) }
-    ensures told { OfNode (S.device source.old) blob.now room.old in_images image (λ found.
-        ChecksPayload (S.device source.old).bytes need left found
-        (slice (S.device source.old).bytes span.place span.length) (S.device source.old).asked
-        (S.device source.new).asked result) }
+    ensures told { OfNode (S.device source.old) blob.now room.old in_images image
+        (λ found. ChecksPayload need left found span result S.device source) }
 {
     let name = name_of(blob, room, image);
     let first = first_hash(blob, room, image);

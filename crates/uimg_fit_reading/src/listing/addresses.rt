@@ -4,8 +4,7 @@ ghost use Rattle.std.specs.Prelude.{◌≡◌, ◌+◌, ◌≤◌, ◌++◌, ◌
 ghost use Rattle.hex.specs.Hex.{encode_lower};
 ghost use Rattle.std.specs.List.{position_or_len};
 ghost use Rattle.uimg_base.specs.Outcome.{line};
-ghost use Rattle.uimg_texts.specs.Slices.{slice};
-ghost use Rattle.uimg_fit_reading.specs.Values.{address_text, eight_or_more};
+ghost use Rattle.uimg_fit_reading.specs.Values.{address_text, eight_or_more, in_span};
 ghost use Rattle.uimg_fit_reading.specs.Puts.{PutsFrom, PutsOwn};
 
 use crate::puts::{put, put_line, read};
@@ -63,9 +62,8 @@ fn put_address<S: Source, W: Write>(
     out: &mut Out<W>,
 ) -> Result<(), MoveFault>
     requires { span.place + span.length ≤ length (S.device source.old).bytes }
-    ensures { PutsFrom (min 8 span.length) result (S.device source.old) (S.device source.new)
-        out.old out.new
-        (line (address_text (slice (S.device source.old).bytes span.place span.length))) }
+    ensures { PutsFrom (min 8 span.length) result S.device source out
+        (λ file. line (address_text (in_span file span))) }
 {
     match span.length {
         4 => {
@@ -91,10 +89,8 @@ pub(crate) fn put_address_line<S: Source, W: Write>(
     out: &mut Out<W>,
 ) -> Result<(), MoveFault>
     requires { span.place + span.length ≤ length (S.device source.old).bytes }
-    ensures { PutsFrom (min 8 span.length) result (S.device source.old) (S.device source.new)
-        out.old out.new
-        (line
-        (label.now ++ address_text (slice (S.device source.old).bytes span.place span.length))) }
+    ensures { PutsFrom (min 8 span.length) result S.device source out
+        (λ file. line (label.now ++ address_text (in_span file span))) }
 {
     put(out, label)?;
     put_address(source, span, out)

@@ -1,18 +1,18 @@
 //! The lines of rows.
-ghost use Rattle.std.specs.Prelude.{◌≡◌, ◌+◌, ◌≤◌, ◌++◌, length, is_err, true, IfSome};
+ghost use Rattle.std.specs.Prelude.{◌≡◌, ◌+◌, ◌≤◌, ◌++◌, length, true};
 ghost use Rattle.std.specs.List.{list_all, sum_by};
 ghost use Rattle.std.specs.Option.{option_map_or};
-ghost use Rattle.uimg_base.specs.Ranges.{is_read, is_put};
 ghost use Rattle.uimg_base.specs.Outcome.{line};
 ghost use Rattle.uimg_texts.specs.Nul.{text};
 ghost use Rattle.uimg_texts.specs.Sizes.{size_text};
-ghost use Rattle.uimg_texts.specs.Slices.{slice};
 ghost use Rattle.uimg_fit_base.specs.Files.{bytes_in};
 ghost use Rattle.uimg_fit_reading.specs.Nodes.{HasNode, OfAnyNode};
 ghost use Rattle.uimg_fit_reading.specs.Puts.{Leaves, Puts, PutsOwn};
 ghost use Rattle.uimg_fit_reading.specs.Rows.{keeps_row, row_cost, row_lines, rows_lines};
 ghost use Rattle.uimg_fit_reading.specs.Shows.{value_lines, value_cost, shown, time_line, size_line};
 ghost use Rattle.uimg_fit_reading.specs.Telling.{Lists};
+ghost use Rattle.uimg_fit_reading.specs.Values.{in_span};
+ghost use Rattle.uimg_fit_reading.specs.SurveyParts.{Ends};
 
 use crate::listing::addresses::put_address_line;
 use crate::listing::hexadecimal::put_hexadecimal_line;
@@ -37,9 +37,8 @@ pub(crate) fn put_text_line<S: Source, A: Allocator, W: Write>(
     out: &mut Out<W>,
 ) -> Result<(), MoveFault>
     requires { span.place + span.length ≤ length (S.device source.old).bytes }
-    ensures { Puts span.length result (S.device source.old) (S.device source.new)
-        room.old room.new out.old out.new
-        (line (label.now ++ text (slice (S.device source.old).bytes span.place span.length))) }
+    ensures { Puts span.length result S.device source room out
+        (λ file. line (label.now ++ text (in_span file span))) }
 {
     put(out, label)?;
     put_text(source, room, span, out)?;
@@ -57,9 +56,8 @@ fn put_value<S: Source, A: Allocator, W: Write>(
     out: &mut Out<W>,
 ) -> Result<(), MoveFault>
     requires { span.place + span.length ≤ length (S.device source.old).bytes }
-    ensures { Puts (value_cost show span.length) result
-        (S.device source.old) (S.device source.new) room.old room.new out.old out.new
-        (value_lines show label.now (slice (S.device source.old).bytes span.place span.length)) }
+    ensures { Puts (value_cost show span.length) result S.device source room out
+        (λ file. value_lines show label.now (in_span file span)) }
 {
     match show {
         Show::Text => put_text_line(source, room, label, span, out),
@@ -79,10 +77,9 @@ fn put_property<S: Source, A: Allocator, W: Write>(
     value: Option<Span>,
     out: &mut Out<W>,
 ) -> Result<(), MoveFault>
-    requires { IfSome value (λ s. s.place + s.length ≤ length (S.device source.old).bytes) }
-    ensures { Puts (option_map_or (λ s. value_cost show s.length) value 0) result
-        (S.device source.old) (S.device source.new) room.old room.new out.old out.new
-        (shown show label.now (bytes_in (S.device source.old).bytes value)) }
+    requires { Ends (length (S.device source.old).bytes) value }
+    ensures { Puts (option_map_or (λ s. value_cost show s.length) value 0)
+        result S.device source room out (λ file. shown show label.now (bytes_in file value)) }
 {
     match value {
         Some(span) => put_value(source, room, label, show, span, out),
@@ -140,13 +137,10 @@ fn put_row<S: Source, A: Allocator, W: Write>(
     out: &mut Out<W>,
 ) -> Result<(), MoveFault>
     requires { HasNode (S.device source.old) blob.now room.old node }
-    ensures leaves { Leaves (is_read result) (is_put result) (S.device source.old)
-        (S.device source.new) room.old room.new out.old out.new }
-    ensures told { OfAnyNode (S.device source.old) blob.now room.old node (λ level found.
-        keeps_row level found.name row ≡ true →
-        Lists (is_err result) (row_cost found.own row)
-        (S.device source.old) (S.device source.new) out.old out.new
-        (row_lines facts found.own row)) }
+    ensures leaves { Leaves result S.device source room out }
+    ensures told { OfAnyNode (S.device source.old) blob.now room.old node
+        (λ level found. keeps_row level found.name row ≡ true →
+        Lists (row_cost found.own row) result S.device source out (row_lines facts found.own row)) }
 {
     match row {
         Row::Property(key, label, show) => {
@@ -169,12 +163,10 @@ pub(crate) fn put_rows<S: Source, A: Allocator, W: Write>(
     out: &mut Out<W>,
 ) -> Result<(), MoveFault>
     requires { HasNode (S.device source.old) blob.now room.old node }
-    ensures leaves { Leaves (is_read result) (is_put result) (S.device source.old)
-        (S.device source.new) room.old room.new out.old out.new }
-    ensures told { OfAnyNode (S.device source.old) blob.now room.old node (λ level found.
-        list_all (keeps_row level found.name) rows.now ≡ true →
-        Lists (is_err result) (sum_by (row_cost found.own) rows.now)
-        (S.device source.old) (S.device source.new) out.old out.new
+    ensures leaves { Leaves result S.device source room out }
+    ensures told { OfAnyNode (S.device source.old) blob.now room.old node
+        (λ level found. list_all (keeps_row level found.name) rows.now ≡ true →
+        Lists (sum_by (row_cost found.own) rows.now) result S.device source out
         (rows_lines facts found.own rows.now)) }
 {
     for row in rows {

@@ -1,11 +1,12 @@
 //! The lines of a listing that name no image and no configuration.
-ghost use Rattle.std.specs.Prelude.{◌+◌, ◌≤◌, ◌++◌, length, codes, IfSome};
+ghost use Rattle.std.specs.Prelude.{◌+◌, ◌≤◌, ◌++◌, length, codes};
 ghost use Rattle.uimg_base.specs.Outcome.{line};
 ghost use Rattle.uimg_texts.specs.Nul.{text};
-ghost use Rattle.uimg_texts.specs.Slices.{slice};
 ghost use Rattle.uimg_fit_base.specs.Files.{bytes_in};
 ghost use Rattle.uimg_fit_reading.specs.Heads.{span_size, description_line, created_line, default_line};
 ghost use Rattle.uimg_fit_reading.specs.Puts.{Puts, PutsOwn};
+ghost use Rattle.uimg_fit_reading.specs.Values.{in_span};
+ghost use Rattle.uimg_fit_reading.specs.SurveyParts.{Ends};
 
 use crate::listing::fields::put_text_line;
 use crate::puts::{put, put_line};
@@ -21,10 +22,9 @@ fn put_description<S: Source, A: Allocator, W: Write>(
     description: Option<Span>,
     out: &mut Out<W>,
 ) -> Result<(), MoveFault>
-    requires { IfSome description (λ s. s.place + s.length ≤ length (S.device source.old).bytes) }
-    ensures { Puts (span_size description) result (S.device source.old) (S.device source.new)
-        room.old room.new out.old out.new
-        (description_line (bytes_in (S.device source.old).bytes description)) }
+    requires { Ends (length (S.device source.old).bytes) description }
+    ensures { Puts (span_size description) result S.device source room out
+        (λ file. description_line (bytes_in file description)) }
 {
     match description {
         Some(span) => put_text_line(source, room, b"FIT description: ", span, out),
@@ -50,11 +50,9 @@ pub(crate) fn put_head<S: Source, A: Allocator, W: Write>(
     time: Option<u32>,
     out: &mut Out<W>,
 ) -> Result<(), MoveFault>
-    requires { IfSome description (λ s. s.place + s.length ≤ length (S.device source.old).bytes) }
-    ensures { Puts (span_size description) result (S.device source.old) (S.device source.new)
-        room.old room.new out.old out.new
-        (description_line (bytes_in (S.device source.old).bytes description) ++ created_line
-        time) }
+    requires { Ends (length (S.device source.old).bytes) description }
+    ensures { Puts (span_size description) result S.device source room out
+        (λ file. description_line (bytes_in file description) ++ created_line time) }
 {
     put_description(source, room, description, out)?;
     put_created(out, time)
@@ -68,11 +66,8 @@ fn put_default_line<S: Source, A: Allocator, W: Write>(
     out: &mut Out<W>,
 ) -> Result<(), MoveFault>
     requires { span.place + span.length ≤ length (S.device source.old).bytes }
-    ensures { Puts span.length result (S.device source.old) (S.device source.new)
-        room.old room.new out.old out.new
-        (line
-        (codes " Default Configuration: '"
-        ++ (text (slice (S.device source.old).bytes span.place span.length) ++ codes "'"))) }
+    ensures { Puts span.length result S.device source room out (λ file.
+        line (codes " Default Configuration: '" ++ (text (in_span file span) ++ codes "'"))) }
 {
     put(out, b" Default Configuration: '")?;
     put_text(source, room, span, out)?;
@@ -86,10 +81,9 @@ pub(crate) fn put_default<S: Source, A: Allocator, W: Write>(
     default: Option<Span>,
     out: &mut Out<W>,
 ) -> Result<(), MoveFault>
-    requires { IfSome default (λ s. s.place + s.length ≤ length (S.device source.old).bytes) }
-    ensures { Puts (span_size default) result (S.device source.old) (S.device source.new)
-        room.old room.new out.old out.new
-        (default_line (bytes_in (S.device source.old).bytes default)) }
+    requires { Ends (length (S.device source.old).bytes) default }
+    ensures { Puts (span_size default) result S.device source room out
+        (λ file. default_line (bytes_in file default)) }
 {
     match default {
         Some(span) => put_default_line(source, room, span, out),

@@ -5,6 +5,7 @@ ghost use Rattle.hex.specs.Hex.{encode_lower};
 ghost use Rattle.uimg_base.specs.Outcome.{line};
 ghost use Rattle.uimg_texts.specs.Slices.{slice};
 ghost use Rattle.uimg_fit_reading.specs.Puts.{PutsFrom, PutsOwn};
+ghost use Rattle.uimg_fit_reading.specs.Values.{in_span};
 
 use crate::puts::{put, read};
 use std::io::Write;
@@ -35,8 +36,8 @@ fn put_part<S: Source, W: Write>(
 ) -> Result<(), MoveFault>
     requires range { at + count ≤ length (S.device source.old).bytes }
     requires part { count ≤ 64 }
-    ensures { PutsFrom count result (S.device source.old) (S.device source.new) out.old out.new
-        (encode_lower (slice (S.device source.old).bytes at count)) }
+    ensures { PutsFrom count result S.device source out
+        (λ file. encode_lower (slice file at count)) }
 {
     let mut bytes = [0; PART];
     let bytes = &mut bytes[..count];
@@ -51,9 +52,8 @@ fn put_hexadecimal<S: Source, W: Write>(
     out: &mut Out<W>,
 ) -> Result<(), MoveFault>
     requires { span.place + span.length ≤ length (S.device source.old).bytes }
-    ensures { PutsFrom span.length result (S.device source.old) (S.device source.new)
-        out.old out.new
-        (encode_lower (slice (S.device source.old).bytes span.place span.length)) }
+    ensures { PutsFrom span.length result S.device source out
+        (λ file. encode_lower (in_span file span)) }
 {
     let mut done = 0;
     while done < span.length {
@@ -73,10 +73,8 @@ pub(crate) fn put_hexadecimal_line<S: Source, W: Write>(
     out: &mut Out<W>,
 ) -> Result<(), MoveFault>
     requires { span.place + span.length ≤ length (S.device source.old).bytes }
-    ensures { PutsFrom span.length result (S.device source.old) (S.device source.new)
-        out.old out.new
-        (line
-        (label.now ++ encode_lower (slice (S.device source.old).bytes span.place span.length))) }
+    ensures { PutsFrom span.length result S.device source out
+        (λ file. line (label.now ++ encode_lower (in_span file span))) }
 {
     put(out, label)?;
     put_hexadecimal(source, span, out)?;

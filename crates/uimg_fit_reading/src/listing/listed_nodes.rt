@@ -1,7 +1,6 @@
 //! Images and configurations, as they are listed.
-ghost use Rattle.std.specs.Prelude.{◌≡◌, ◌<◌, ◌+◌, ◌*◌, ◌^◌, ◌++◌, codes, is_err, true, IfOk};
+ghost use Rattle.std.specs.Prelude.{◌≡◌, ◌<◌, ◌+◌, ◌*◌, ◌^◌, ◌++◌, codes, true, IfOk};
 ghost use Rattle.std.specs.List.{flat_map, sum_by};
-ghost use Rattle.uimg_base.specs.Ranges.{is_read, is_put};
 ghost use Rattle.uimg_blob.specs.LookUps.{hashes};
 ghost use Rattle.uimg_blob.specs.Roles.{in_images, in_image, in_configurations, is_hash};
 ghost use Rattle.uimg_fit_reading.specs.Allowances.{text_sizes, node_allowance};
@@ -42,11 +41,10 @@ fn put_hash<S: Source, A: Allocator, W: Write>(
     out: &mut Out<W>,
 ) -> Result<(), MoveFault>
     requires { HasNode (S.device source.old) blob.now room.old hash }
-    ensures leaves { Leaves (is_read result) (is_put result) (S.device source.old)
-        (S.device source.new) room.old room.new out.old out.new }
-    ensures told { OfNode (S.device source.old) blob.now room.old in_image hash (λ found.
-        is_hash found.name ≡ true → Lists (is_err result) (node_allowance found)
-        (S.device source.old) (S.device source.new) out.old out.new (hash_lines found)) }
+    ensures leaves { Leaves result S.device source room out }
+    ensures told { OfNode (S.device source.old) blob.now room.old in_image hash
+        (λ found. is_hash found.name ≡ true →
+        Lists (node_allowance found) result S.device source out (hash_lines found)) }
 {
     put_rows(source, blob, room, hash, NO_FACTS, &HASH, out)
 }
@@ -60,12 +58,9 @@ fn put_hashes<S: Source, A: Allocator, W: Write>(
     out: &mut Out<W>,
 ) -> Result<(), MoveFault>
     requires { HasNodes (S.device source.old) blob.now room.old first }
-    ensures leaves { Leaves (is_read result) (is_put result) (S.device source.old)
-        (S.device source.new) room.old room.new out.old out.new }
+    ensures leaves { Leaves result S.device source room out }
     ensures told { OfHashes (S.device source.old) blob.now room.old first (λ hs.
-        Lists (is_err result) (sum_by node_allowance hs)
-        (S.device source.old) (S.device source.new) out.old out.new
-        (flat_map hash_lines hs)) }
+        Lists (sum_by node_allowance hs) result S.device source out (flat_map hash_lines hs)) }
 {
     let mut next = first;
     while let Some(hash) = next {
@@ -98,13 +93,10 @@ fn put_known_image<S: Source, A: Allocator, W: Write>(
     out: &mut Out<W>,
 ) -> Result<(), MoveFault>
     requires { HasNode (S.device source.old) blob.now room.old image }
-    ensures leaves { Leaves (is_read result) (is_put result) (S.device source.old)
-        (S.device source.new) room.old room.new out.old out.new }
-    ensures told { OfNode (S.device source.old) blob.now room.old in_images image (λ found.
-        Lists (is_err result)
-        (748 + 4 * text_sizes found.own + sum_by node_allowance (hashes found))
-        (S.device source.old) (S.device source.new) out.old out.new
-        (title (codes " Image ") number found.name
+    ensures leaves { Leaves result S.device source room out }
+    ensures told { OfNode (S.device source.old) blob.now room.old in_images image
+        (λ found. Lists (748 + 4 * text_sizes found.own + sum_by node_allowance (hashes found))
+        result S.device source out (title (codes " Image ") number found.name
         ++ (rows_lines facts found.own (image_rows naming) ++ flat_map hash_lines (hashes found)))) }
 {
     let rows = image_rows(naming);
@@ -126,11 +118,10 @@ fn put_image<S: Source, A: Allocator, W: Write>(
     out: &mut Out<W>,
 ) -> Result<(), MoveFault>
     requires { HasNode (S.device source.old) blob.now room.old image }
-    ensures leaves { Leaves (is_read result) (is_put result) (S.device source.old)
-        (S.device source.new) room.old room.new out.old out.new }
-    ensures told { OfNode (S.device source.old) blob.now room.old in_images image (λ found.
-        Lists (is_err result) (node_allowance found) (S.device source.old) (S.device source.new)
-        out.old out.new (node_lines (S.device source.old).bytes (Kind.Image naming time) number found)) }
+    ensures leaves { Leaves result S.device source room out }
+    ensures told { OfNode (S.device source.old) blob.now room.old in_images image
+        (λ found. Lists (node_allowance found) result S.device source out
+        (node_lines (S.device source.old).bytes (Kind.Image naming time) number found)) }
 {
     match find_place(source, blob, room, image) {
         Ok(place) => {
@@ -152,12 +143,9 @@ fn put_configuration<S: Source, A: Allocator, W: Write>(
     out: &mut Out<W>,
 ) -> Result<(), MoveFault>
     requires { HasNode (S.device source.old) blob.now room.old configuration }
-    ensures leaves { Leaves (is_read result) (is_put result) (S.device source.old)
-        (S.device source.new) room.old room.new out.old out.new }
+    ensures leaves { Leaves result S.device source room out }
     ensures told { OfNode (S.device source.old) blob.now room.old in_configurations configuration
-        (λ found.
-        Lists (is_err result) (node_allowance found) (S.device source.old) (S.device source.new)
-        out.old out.new
+        (λ found. Lists (node_allowance found) result S.device source out
         (node_lines (S.device source.old).bytes Kind.Configuration number found)) }
 {
     put_node(
@@ -184,11 +172,10 @@ fn put_listed<S: Source, A: Allocator, W: Write>(
     out: &mut Out<W>,
 ) -> Result<(), MoveFault>
     requires { HasNode (S.device source.old) blob.now room.old node }
-    ensures leaves { Leaves (is_read result) (is_put result) (S.device source.old)
-        (S.device source.new) room.old room.new out.old out.new }
-    ensures told { OfNode (S.device source.old) blob.now room.old (level_of kind) node (λ found.
-        Lists (is_err result) (node_allowance found) (S.device source.old) (S.device source.new)
-        out.old out.new (node_lines (S.device source.old).bytes kind number found)) }
+    ensures leaves { Leaves result S.device source room out }
+    ensures told { OfNode (S.device source.old) blob.now room.old (level_of kind) node
+        (λ found. Lists (node_allowance found) result S.device source out
+        (node_lines (S.device source.old).bytes kind number found)) }
 {
     match kind {
         Kind::Image(naming, time) => {
@@ -208,11 +195,9 @@ pub(crate) fn put_listed_nodes<S: Source, A: Allocator, W: Write>(
     out: &mut Out<W>,
 ) -> Result<(), MoveFault>
     requires { HasNodes (S.device source.old) blob.now room.old first }
-    ensures leaves { Leaves (is_read result) (is_put result) (S.device source.old)
-        (S.device source.new) room.old room.new out.old out.new }
-    ensures told { OfNodes (S.device source.old) blob.now room.old (level_of kind) first (λ found.
-        Lists (is_err result) (sum_by node_allowance found)
-        (S.device source.old) (S.device source.new) out.old out.new
+    ensures leaves { Leaves result S.device source room out }
+    ensures told { OfNodes (S.device source.old) blob.now room.old (level_of kind) first
+        (λ found. Lists (sum_by node_allowance found) result S.device source out
         (numbered (node_lines (S.device source.old).bytes kind) 0 found)) }
 {
     let mut next = first;

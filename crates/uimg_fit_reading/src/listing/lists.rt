@@ -1,16 +1,11 @@
 //! Values of several texts.
 
-ghost use Rattle.std.specs.Prelude.{◌≡◌, ◌+◌, ◌≤◌, ◌<◌, length, take, drop, is_err, IsTrue, IfOk, IfErr};
-ghost use Rattle.uimg_base.specs.Device.{RisesIf};
-ghost use Rattle.uimg_base.specs.Ranges.{is_read, is_put};
-ghost use Rattle.uimg_base.specs.declared.ranges.MoveFault.TheVariants.{Put};
-ghost use Rattle.uimg_base.specs.Using.{Asks};
-ghost use Rattle.uimg_base.specs.Writing.{Written};
+ghost use Rattle.std.specs.Prelude.{◌≡◌, ◌+◌, ◌≤◌, ◌<◌, length, take, drop, IfOk};
 ghost use Rattle.uimg_texts.specs.Slices.{slice};
-ghost use Rattle.uimg_fit_reading.specs.Values.{pieces};
+ghost use Rattle.uimg_fit_reading.specs.Values.{pieces, in_span};
 ghost use Rattle.uimg_fit_reading.specs.Shows.{lines_of};
 ghost use Rattle.uimg_fit_reading.specs.Lists.{start_of, emitted, line_after, IsPiece};
-ghost use Rattle.uimg_fit_reading.specs.Puts.{Puts};
+ghost use Rattle.uimg_fit_reading.specs.Puts.{Puts, IfHonest, PutsOwn, PutsFrom};
 
 use crate::puts::{put, put_line, put_pair, read};
 use std::alloc::Allocator;
@@ -67,9 +62,7 @@ fn put_piece<W: Write>(
 ) -> Result<Line, MoveFault>
     requires { IsPiece piece.now }
     ensures line { IfOk result (λ l. l ≡ line_after line piece.now) }
-    ensures faults { RisesIf (is_put result) out.old.faults out.new.faults }
-    ensures put { IfErr result (λ e. e ≡ Put) }
-    ensures told { Written (is_err result) out.old out.new (emitted label.now line piece.now) }
+    ensures puts { PutsOwn result out.old out.new (emitted label.now line piece.now) }
 {
     let text = before_nul(piece);
     if text.len() == piece.len() {
@@ -88,9 +81,7 @@ fn put_texts<W: Write>(
     out: &mut Out<W>,
 ) -> Result<Line, MoveFault>
     ensures line { IfOk result (λ l. l ≡ line_after line bytes.now) }
-    ensures faults { RisesIf (is_put result) out.old.faults out.new.faults }
-    ensures put { IfErr result (λ e. e ≡ Put) }
-    ensures told { Written (is_err result) out.old out.new (emitted label.now line bytes.now) }
+    ensures puts { PutsOwn result out.old out.new (emitted label.now line bytes.now) }
 {
     let mut line = line;
     let mut passed = 0;
@@ -114,12 +105,10 @@ fn put_window<S: Source, W: Write>(
 ) -> Result<Line, MoveFault>
     requires range { at + count ≤ length (S.device source.old).bytes }
     requires window { count ≤ 8192 }
-    ensures uses { Asks count (is_read result) (S.device source.old) (S.device source.new) }
-    ensures faults { RisesIf (is_put result) out.old.faults out.new.faults }
-    ensures line { IsTrue (S.device source.old).honest →
-        IfOk result (λ l. l ≡ line_after line (slice (S.device source.old).bytes at count)) }
-    ensures told { IsTrue (S.device source.old).honest → Written (is_err result) out.old out.new
-        (emitted label.now line (slice (S.device source.old).bytes at count)) }
+    ensures line { IfHonest S.device source (λ file.
+        IfOk result (λ l. l ≡ line_after line (slice file at count))) }
+    ensures puts { PutsFrom count result S.device source out
+        (λ file. emitted label.now line (slice file at count)) }
 {
     let window = &mut window[..count];
     read(source, at, window)?;
@@ -135,12 +124,10 @@ fn put_value<S: Source, W: Write>(
     out: &mut Out<W>,
 ) -> Result<Line, MoveFault>
     requires { span.place + span.length ≤ length (S.device source.old).bytes }
-    ensures uses { Asks span.length (is_read result) (S.device source.old) (S.device source.new) }
-    ensures faults { RisesIf (is_put result) out.old.faults out.new.faults }
-    ensures line { IsTrue (S.device source.old).honest → IfOk result (λ l. l ≡ line_after Line.First
-        (slice (S.device source.old).bytes span.place span.length)) }
-    ensures told { IsTrue (S.device source.old).honest → Written (is_err result) out.old out.new
-        (emitted label.now Line.First (slice (S.device source.old).bytes span.place span.length)) }
+    ensures line { IfHonest S.device source (λ file.
+        IfOk result (λ l. l ≡ line_after Line.First (in_span file span))) }
+    ensures puts { PutsFrom span.length result S.device source out
+        (λ file. emitted label.now Line.First (in_span file span)) }
 {
     let mut line = Line::First;
     let mut done = 0;
@@ -162,9 +149,8 @@ pub(crate) fn put_list_lines<S: Source, A: Allocator, W: Write>(
     out: &mut Out<W>,
 ) -> Result<(), MoveFault>
     requires { span.place + span.length ≤ length (S.device source.old).bytes }
-    ensures { Puts span.length result (S.device source.old) (S.device source.new)
-        room.old room.new out.old out.new
-        (lines_of label.now (pieces (slice (S.device source.old).bytes span.place span.length))) }
+    ensures { Puts span.length result S.device source room out
+        (λ file. lines_of label.now (pieces (in_span file span))) }
 {
     match put_value(source, room.window(), label, span, out)? {
         Line::Open => put(out, b"\n"),

@@ -3,9 +3,9 @@
 ghost use Rattle.std.specs.Prelude.{◌≡◌, ◌+◌, ◌≤◌, ◌++◌, min, length, is_err, IsTrue, IfOk};
 ghost use Rattle.uimg_base.specs.Outcome.{line};
 ghost use Rattle.uimg_base.specs.Using.{Asks};
-ghost use Rattle.uimg_texts.specs.Slices.{slice};
 ghost use Rattle.uimg_fit_reading.specs.Shows.{name_in};
 ghost use Rattle.uimg_fit_reading.specs.Puts.{PutsFrom};
+ghost use Rattle.uimg_fit_reading.specs.Values.{in_span};
 
 use crate::puts::put_line;
 use std::io::Write;
@@ -23,8 +23,8 @@ fn long_name<S: Source>(
     requires { span.place + span.length ≤ length (S.device source.old).bytes }
     ensures uses { Asks (min 32 span.length) (is_err result) (S.device source.old)
         (S.device source.new) }
-    ensures name { IsTrue (S.device source.old).honest → IfOk result (λ name.
-        name.now ≡ name_in naming field (slice (S.device source.old).bytes span.place span.length)) }
+    ensures name { IsTrue (S.device source.old).honest → IfOk result
+        (λ name. name.now ≡ name_in naming field (in_span (S.device source.old).bytes span)) }
 {
     let mut text = [0; 32];
     match short_text(source, span, &mut text)? {
@@ -44,10 +44,8 @@ pub(crate) fn put_name_line<S: Source, W: Write>(
     out: &mut Out<W>,
 ) -> Result<(), MoveFault>
     requires { span.place + span.length ≤ length (S.device source.old).bytes }
-    ensures { PutsFrom (min 32 span.length) result (S.device source.old) (S.device source.new)
-        out.old out.new
-        (line
-        (label.now ++ name_in naming field (slice (S.device source.old).bytes span.place span.length))) }
+    ensures { PutsFrom (min 32 span.length) result S.device source out
+        (λ file. line (label.now ++ name_in naming field (in_span file span))) }
 {
     match long_name(source, naming, field, span) {
         Ok(name) => put_line(out, label, name.as_bytes()),

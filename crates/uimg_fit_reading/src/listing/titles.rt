@@ -1,12 +1,11 @@
 //! The title of a node, and its lines.
-ghost use Rattle.std.specs.Prelude.{◌≡◌, ◌+◌, ◌≤◌, ◌++◌, length, decimal, codes, is_err, true};
+ghost use Rattle.std.specs.Prelude.{◌≡◌, ◌+◌, ◌≤◌, ◌++◌, length, decimal, codes, true};
 ghost use Rattle.std.specs.List.{list_all, sum_by};
-ghost use Rattle.uimg_base.specs.Ranges.{is_read, is_put};
-ghost use Rattle.uimg_texts.specs.Slices.{slice};
 ghost use Rattle.uimg_fit_reading.specs.Nodes.{HasNode, OfAnyNode};
 ghost use Rattle.uimg_fit_reading.specs.Puts.{Leaves, Puts, PutsOwn};
 ghost use Rattle.uimg_fit_reading.specs.Rows.{keeps_row, row_cost, rows_lines, title};
 ghost use Rattle.uimg_fit_reading.specs.Telling.{Lists};
+ghost use Rattle.uimg_fit_reading.specs.Values.{in_span};
 
 use crate::listing::fields::put_rows;
 use crate::listing::rows::{Facts, Row};
@@ -39,10 +38,8 @@ fn put_title<S: Source, A: Allocator, W: Write>(
     out: &mut Out<W>,
 ) -> Result<(), MoveFault>
     requires { name.place + name.length ≤ length (S.device source.old).bytes }
-    ensures { Puts name.length result (S.device source.old) (S.device source.new)
-        room.old room.new out.old out.new
-        (title before.now number
-        (slice (S.device source.old).bytes name.place name.length)) }
+    ensures { Puts name.length result S.device source room out
+        (λ file. title before.now number (in_span file name)) }
 {
     put_number(out, before, number)?;
     put_span(source, room, name, out)?;
@@ -62,12 +59,10 @@ pub(crate) fn put_node<S: Source, A: Allocator, W: Write>(
     out: &mut Out<W>,
 ) -> Result<(), MoveFault>
     requires { HasNode (S.device source.old) blob.now room.old node }
-    ensures leaves { Leaves (is_read result) (is_put result) (S.device source.old)
-        (S.device source.new) room.old room.new out.old out.new }
-    ensures told { OfAnyNode (S.device source.old) blob.now room.old node (λ level found.
-        list_all (keeps_row level found.name) rows.now ≡ true →
-        Lists (is_err result) (255 + sum_by (row_cost found.own) rows.now)
-        (S.device source.old) (S.device source.new) out.old out.new
+    ensures leaves { Leaves result S.device source room out }
+    ensures told { OfAnyNode (S.device source.old) blob.now room.old node
+        (λ level found. list_all (keeps_row level found.name) rows.now ≡ true →
+        Lists (255 + sum_by (row_cost found.own) rows.now) result S.device source out
         (title before.now number found.name ++ rows_lines facts found.own rows.now)) }
 {
     put_title(source, room, before, number, name_of(blob, room, node), out)?;

@@ -1,11 +1,11 @@
 //! The digests that the hash nodes of an image are compared with, of one pass over its payload.
-ghost use Rattle.std.specs.Prelude.{◌≡◌, ◌+◌, ◌≤◌, length, if◌then◌else◌, is_err, IfOk, IsTrue};
-ghost use Rattle.uimg_texts.specs.Slices.{slice};
+ghost use Rattle.std.specs.Prelude.{◌≡◌, ◌+◌, ◌≤◌, length, is_err, IfOk, IsTrue, if◌then◌else◌};
 ghost use Rattle.uimg_base.specs.Using.{Asks, Uses};
 ghost use Rattle.uimg_fit_base.specs.AlgoSets.{is_empty, set_of, AreDigests};
 ghost use Rattle.uimg_fit_reading.specs.HashReports.{FindsAlgos, FindsDigests};
 ghost use Rattle.uimg_fit_reading.specs.Nodes.{OfHashes, HasNodes};
 ghost use Rattle.uimg_fit_reading.specs.Plans.{with_plan};
+ghost use Rattle.uimg_fit_reading.specs.Values.{in_span};
 
 use crate::nodes::next_hash;
 use crate::report::plans::{Plan, plan_at};
@@ -33,8 +33,8 @@ pub(crate) fn compared_algos<S: Source, A: Allocator>(
 ) -> Result<AlgoSet, SourceFault>
     requires { HasNodes (S.device source.old) blob.now room.now first }
     ensures uses { Uses (is_err result) (S.device source.old) (S.device source.new) }
-    ensures found { OfHashes (S.device source.old) blob.now room.now first (λ hs.
-        FindsAlgos hs (S.device source.old).asked (S.device source.new).asked result) }
+    ensures found { OfHashes (S.device source.old) blob.now room.now first
+        (λ hs. FindsAlgos hs result S.device source) }
 {
     let mut set = AlgoSet::none();
     let mut next = first;
@@ -58,8 +58,8 @@ pub(crate) fn payload_digests<S: Source, A: Allocator>(
         (S.device source.old) (S.device source.new) }
     ensures room { room.new ≡ room.old }
     ensures set { IfOk result (λ found. set_of found ≡ set) }
-    ensures digests { IsTrue (S.device source.old).honest → IfOk result (λ found.
-        AreDigests found (slice (S.device source.old).bytes span.place span.length)) }
+    ensures digests { IsTrue (S.device source.old).honest →
+        IfOk result (λ found. AreDigests found (in_span (S.device source.old).bytes span)) }
 {
     let mut sums = set.sums();
     if set.is_empty() {
@@ -81,9 +81,8 @@ pub(crate) fn compared_digests<S: Source, A: Allocator>(
     requires payload { span.place + span.length ≤ length (S.device source.old).bytes }
     ensures uses { Uses (is_err result) (S.device source.old) (S.device source.new) }
     ensures room { room.new ≡ room.old }
-    ensures found { OfHashes (S.device source.old) blob.now room.old first (λ hs.
-        FindsDigests (slice (S.device source.old).bytes span.place span.length) span.length hs
-        (S.device source.old).asked (S.device source.new).asked result) }
+    ensures found { OfHashes (S.device source.old) blob.now room.old first
+        (λ hs. FindsDigests span hs result S.device source) }
 {
     let set = compared_algos(source, blob, room, first)?;
     payload_digests(source, room, set, span)

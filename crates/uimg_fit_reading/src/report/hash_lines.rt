@@ -1,10 +1,11 @@
 //! The line of a hash node, and the line of an image that has none.
-ghost use Rattle.std.specs.Prelude.{◌+◌, ◌≤◌, ◌++◌, length, codes, IfSome};
-ghost use Rattle.uimg_texts.specs.Slices.{slice};
+ghost use Rattle.std.specs.Prelude.{◌+◌, ◌≤◌, ◌++◌, length, codes};
 ghost use Rattle.uimg_base.specs.Outcome.{line};
 ghost use Rattle.uimg_fit_base.specs.Report.{word_text};
-ghost use Rattle.uimg_fit_reading.specs.Plans.{span_length, algo_text, names_text, end_text, hash_text};
+ghost use Rattle.uimg_fit_reading.specs.Plans.{LineInside, span_length, algo_text, names_text, end_text, hash_text};
 ghost use Rattle.uimg_fit_reading.specs.Puts.{Puts, PutsOwn};
+ghost use Rattle.uimg_fit_reading.specs.Values.{in_span};
+ghost use Rattle.uimg_fit_reading.specs.SurveyParts.{Ends};
 
 use crate::puts::{put, put_line, put_span};
 use std::alloc::Allocator;
@@ -32,9 +33,8 @@ fn put_name<S: Source, A: Allocator, W: Write>(
     out: &mut Out<W>,
 ) -> Result<(), MoveFault>
     requires { span.place + span.length ≤ length (S.device source.old).bytes }
-    ensures { Puts span.length result (S.device source.old) (S.device source.new)
-        room.old room.new out.old out.new
-        (slice (S.device source.old).bytes span.place span.length ++ codes " ") }
+    ensures { Puts span.length result S.device source room out
+        (λ file. in_span file span ++ codes " ") }
 {
     put_span(source, room, span, out)?;
     put(out, b" ")
@@ -47,9 +47,9 @@ fn put_algo<S: Source, A: Allocator, W: Write>(
     algo: Option<Span>,
     out: &mut Out<W>,
 ) -> Result<(), MoveFault>
-    requires { IfSome algo (λ s. s.place + s.length ≤ length (S.device source.old).bytes) }
-    ensures { Puts (span_length algo) result (S.device source.old) (S.device source.new)
-        room.old room.new out.old out.new (algo_text (S.device source.old).bytes algo) }
+    requires { Ends (length (S.device source.old).bytes) algo }
+    ensures { Puts (span_length algo) result S.device source room out
+        (λ file. algo_text file algo) }
 {
     match algo {
         Some(span) => put_text(source, room, span, out),
@@ -74,9 +74,8 @@ fn put_names<S: Source, A: Allocator, W: Write>(
 ) -> Result<(), MoveFault>
     requires image { line.image.place + line.image.length ≤ length (S.device source.old).bytes }
     requires hash { line.hash.place + line.hash.length ≤ length (S.device source.old).bytes }
-    ensures { Puts (line.image.length + line.hash.length) result
-        (S.device source.old) (S.device source.new) room.old room.new out.old out.new
-        (names_text (S.device source.old).bytes line) }
+    ensures { Puts (line.image.length + line.hash.length) result S.device source room out
+        (λ file. names_text file line) }
 {
     put_name(source, room, line.image, out)?;
     put_name(source, room, line.hash, out)
@@ -90,9 +89,9 @@ fn put_end<S: Source, A: Allocator, W: Write>(
     line: HashLine,
     out: &mut Out<W>,
 ) -> Result<(), MoveFault>
-    requires { IfSome line.algo (λ s. s.place + s.length ≤ length (S.device source.old).bytes) }
-    ensures { Puts (span_length line.algo) result (S.device source.old) (S.device source.new)
-        room.old room.new out.old out.new (end_text (S.device source.old).bytes line) }
+    requires { Ends (length (S.device source.old).bytes) line.algo }
+    ensures { Puts (span_length line.algo) result S.device source room out
+        (λ file. end_text file line) }
 {
     put_algo(source, room, line.algo, out)?;
     put_word(line.word, out)
@@ -106,13 +105,9 @@ pub(crate) fn put_hash_line<S: Source, A: Allocator, W: Write>(
     line: HashLine,
     out: &mut Out<W>,
 ) -> Result<(), MoveFault>
-    requires image { line.image.place + line.image.length ≤ length (S.device source.old).bytes }
-    requires hash { line.hash.place + line.hash.length ≤ length (S.device source.old).bytes }
-    requires algo { IfSome line.algo (λ s.
-        s.place + s.length ≤ length (S.device source.old).bytes) }
-    ensures { Puts (line.image.length + line.hash.length + span_length line.algo) result
-        (S.device source.old) (S.device source.new) room.old room.new out.old out.new
-        (hash_text (S.device source.old).bytes line) }
+    requires { LineInside (length (S.device source.old).bytes) line }
+    ensures { Puts (line.image.length + line.hash.length + span_length line.algo)
+        result S.device source room out (λ file. hash_text file line) }
 {
     put_names(source, room, line, out)?;
     put_end(source, room, line, out)
@@ -127,10 +122,8 @@ pub(crate) fn put_unhashed<S: Source, A: Allocator, W: Write>(
     out: &mut Out<W>,
 ) -> Result<(), MoveFault>
     requires { image.place + image.length ≤ length (S.device source.old).bytes }
-    ensures { Puts image.length result (S.device source.old) (S.device source.new)
-        room.old room.new out.old out.new
-        (slice (S.device source.old).bytes image.place image.length ++ line
-        (codes " - none unhashed")) }
+    ensures { Puts image.length result S.device source room out
+        (λ file. in_span file image ++ line (codes " - none unhashed")) }
 {
     put_span(source, room, image, out)?;
     put(out, b" - none unhashed\n")

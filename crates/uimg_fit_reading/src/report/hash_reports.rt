@@ -1,7 +1,5 @@
 //! Reporting on the hash nodes of an image.
 ghost use Rattle.std.specs.Prelude.{ℕ, ◌+◌, ◌≤◌, List, length};
-ghost use Rattle.uimg_texts.specs.Slices.{slice};
-ghost use Rattle.uimg_base.specs.Ranges.{is_read, is_put};
 ghost use Rattle.uimg_fit_base.specs.AlgoSets.{set_of, AreDigests};
 ghost use Rattle.uimg_fit_reading.specs.HashReports.{AllCovered, PutsHashes, ReportsHashes};
 ghost use Rattle.uimg_fit_reading.specs.Nodes.{OfHashes, HasNodes};
@@ -28,13 +26,10 @@ fn put_hashes<S: Source, A: Allocator, W: Write>(
 ) -> Result<bool, MoveFault>
     requires node { HasNodes (S.device source.old) blob.now room.old first }
     requires name { image.place + image.length ≤ length (S.device source.old).bytes }
-    ensures leaves { Leaves (is_read result) (is_put result) (S.device source.old)
-        (S.device source.new) room.old room.new out.old out.new }
+    ensures leaves { Leaves result S.device source room out }
     ensures told { OfHashes (S.device source.old) blob.now room.old first (λ hs.
         (message : List ℕ) → AreDigests digests.now message → AllCovered (set_of digests.now) hs →
-        PutsHashes (slice (S.device source.old).bytes image.place image.length) message
-        image.length hs (S.device source.old).asked (S.device source.new).asked result
-        out.old out.new) }
+        PutsHashes image message hs result S.device source out) }
 {
     let mut are_right = true;
     let mut next = first;
@@ -59,12 +54,9 @@ pub(crate) fn report_hashes<S: Source, A: Allocator, W: Write>(
     requires node { HasNodes (S.device source.old) blob.now room.old first }
     requires name { image.place + image.length ≤ length (S.device source.old).bytes }
     requires payload { span.place + span.length ≤ length (S.device source.old).bytes }
-    ensures leaves { Leaves (is_read result) (is_put result) (S.device source.old)
-        (S.device source.new) room.old room.new out.old out.new }
-    ensures told { OfHashes (S.device source.old) blob.now room.old first (λ hs.
-        ReportsHashes (slice (S.device source.old).bytes image.place image.length)
-        (slice (S.device source.old).bytes span.place span.length) span.length image.length hs
-        (S.device source.old).asked (S.device source.new).asked result out.old out.new) }
+    ensures leaves { Leaves result S.device source room out }
+    ensures told { OfHashes (S.device source.old) blob.now room.old first
+        (λ hs. ReportsHashes image span hs result S.device source out) }
 {
     let Ok(digests) = compared_digests(source, blob, room, first, span) else {
         return Err(MoveFault::Read);

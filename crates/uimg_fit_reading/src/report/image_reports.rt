@@ -1,12 +1,9 @@
 //! Reporting on images, one after the other.
-ghost use Rattle.std.specs.Prelude.{◌≡◌, ◌+◌, ◌≤◌, length, false};
-ghost use Rattle.uimg_texts.specs.Slices.{slice};
-ghost use Rattle.uimg_base.specs.Ranges as moves;
+ghost use Rattle.std.specs.Prelude.{◌≡◌, ◌+◌, ◌≤◌, length};
 ghost use Rattle.uimg_blob.specs.Roles.{in_images};
-ghost use Rattle.uimg_fit_base.specs.Faults.{is_read, is_put, is_out_of_memory, is_of_making};
 ghost use Rattle.uimg_fit_reading.specs.ImageReports.{ReportsFound, ReportsImage, ReportsImages, status_of};
 ghost use Rattle.uimg_fit_reading.specs.Nodes.{OfNode, OfNodes, HasNode, HasNodes};
-ghost use Rattle.uimg_fit_reading.specs.Puts.{Leaves};
+ghost use Rattle.uimg_fit_reading.specs.Puts.{Leaves, LeavesOrRefuses};
 
 use crate::nodes::{first_hash, name_of, next_of};
 use crate::places::payload_place;
@@ -29,11 +26,9 @@ fn report_found<S: Source, A: Allocator, W: Write>(
 ) -> Result<bool, MoveFault>
     requires node { HasNode (S.device source.old) blob.now room.old image }
     requires payload { span.place + span.length ≤ length (S.device source.old).bytes }
-    ensures leaves { Leaves (moves.is_read result) (moves.is_put result) (S.device source.old)
-        (S.device source.new) room.old room.new out.old out.new }
-    ensures told { OfNode (S.device source.old) blob.now room.old in_images image (λ found.
-        ReportsFound found (slice (S.device source.old).bytes span.place span.length) span.length
-        (S.device source.old).asked (S.device source.new).asked result out.old out.new) }
+    ensures leaves { Leaves result S.device source room out }
+    ensures told { OfNode (S.device source.old) blob.now room.old in_images image
+        (λ found. ReportsFound found span result S.device source out) }
 {
     let name = name_of(blob, room, image);
     let first = first_hash(blob, room, image);
@@ -53,13 +48,9 @@ fn report_image<S: Source, A: Allocator, W: Write>(
     out: &mut Out<W>,
 ) -> Result<bool, Fault>
     requires { HasNode (S.device source.old) blob.now room.old image }
-    ensures leaves { Leaves (is_read result) (is_put result) (S.device source.old)
-        (S.device source.new) room.old room.new out.old out.new }
-    ensures memory { is_out_of_memory result ≡ false }
-    ensures no_making { is_of_making result ≡ false }
-    ensures told { OfNode (S.device source.old) blob.now room.old in_images image (λ found.
-        ReportsImage (S.device source.old).bytes found (S.device source.old).asked
-        (S.device source.new).asked result out.old out.new) }
+    ensures leaves { LeavesOrRefuses result S.device source room out }
+    ensures told { OfNode (S.device source.old) blob.now room.old in_images image
+        (λ found. ReportsImage found result S.device source out) }
 {
     let span = payload_place(source, blob, room, image)?;
     Ok(report_found(source, blob, room, image, span, out)?)
@@ -85,13 +76,9 @@ pub(crate) fn report_images<S: Source, A: Allocator, W: Write>(
     out: &mut Out<W>,
 ) -> Result<Status, Fault>
     requires { HasNodes (S.device source.old) blob.now room.old first }
-    ensures leaves { Leaves (is_read result) (is_put result) (S.device source.old)
-        (S.device source.new) room.old room.new out.old out.new }
-    ensures memory { is_out_of_memory result ≡ false }
-    ensures no_making { is_of_making result ≡ false }
-    ensures told { OfNodes (S.device source.old) blob.now room.old in_images first (λ found.
-        ReportsImages (S.device source.old).bytes found (S.device source.old).asked
-        (S.device source.new).asked result out.old out.new) }
+    ensures leaves { LeavesOrRefuses result S.device source room out }
+    ensures told { OfNodes (S.device source.old) blob.now room.old in_images first
+        (λ found. ReportsImages found result S.device source out) }
 {
     let mut are_right = true;
     let mut next = first;

@@ -1,7 +1,5 @@
 //! The word of a hash node, and its line.
 ghost use Rattle.std.specs.Prelude.{◌≡◌, ℕ, ◌+◌, ◌≤◌, List, length, is_err, IfOk};
-ghost use Rattle.uimg_texts.specs.Slices.{slice};
-ghost use Rattle.uimg_base.specs.Ranges.{is_read, is_put};
 ghost use Rattle.uimg_base.specs.Using.{Asks};
 ghost use Rattle.uimg_fit_base.specs.AlgoSets.{set_of, AreDigests};
 ghost use Rattle.uimg_fit_base.specs.Report.{word_of};
@@ -10,6 +8,7 @@ ghost use Rattle.uimg_fit_reading.specs.Nodes.{OfHash, HasNode};
 ghost use Rattle.uimg_fit_reading.specs.Plans.{IsCovered, algo_length, plan_of};
 ghost use Rattle.uimg_fit_reading.specs.Puts.{Leaves};
 ghost use Rattle.uimg_fit_reading.specs.Telling.{Lists};
+ghost use Rattle.uimg_fit_reading.specs.Values.{in_span};
 
 use crate::nodes::{name_of, value_of};
 use crate::report::hash_lines::{HashLine, put_hash_line};
@@ -31,8 +30,9 @@ pub(crate) fn judge<S: Source, A: Allocator>(
     requires { HasNode (S.device source.old) blob.now room.now hash }
     ensures uses { Asks 96 (is_err result) (S.device source.old) (S.device source.new) }
     ensures word { OfHash (S.device source.old) blob.now room.now hash (λ found.
-        (message : List ℕ) → AreDigests digests.now message → IsCovered (set_of digests.now)
-        (plan_of found) → IfOk result (λ word. word ≡ word_of message found)) }
+        (message : List ℕ) → AreDigests digests.now message →
+        IsCovered (set_of digests.now) (plan_of found) →
+        IfOk result (λ word. word ≡ word_of message found)) }
 {
     let plan = plan_at(source, blob, room, hash)?;
     judged(source, plan, digests)
@@ -50,12 +50,10 @@ fn put_judged<S: Source, A: Allocator, W: Write>(
 ) -> Result<(), MoveFault>
     requires node { HasNode (S.device source.old) blob.now room.old hash }
     requires name { image.place + image.length ≤ length (S.device source.old).bytes }
-    ensures leaves { Leaves (is_read result) (is_put result) (S.device source.old)
-        (S.device source.new) room.old room.new out.old out.new }
-    ensures told { OfHash (S.device source.old) blob.now room.old hash (λ found.
-        Lists (is_err result) (image.length + 255 + algo_length found)
-        (S.device source.old) (S.device source.new) out.old out.new
-        (line_of (slice (S.device source.old).bytes image.place image.length) word found)) }
+    ensures leaves { Leaves result S.device source room out }
+    ensures told { OfHash (S.device source.old) blob.now room.old hash
+        (λ found. Lists (image.length + 255 + algo_length found) result S.device source out
+        (line_of (in_span (S.device source.old).bytes image) word found)) }
 {
     let line = HashLine {
         image,
@@ -78,13 +76,11 @@ pub(crate) fn put_hash<S: Source, A: Allocator, W: Write>(
 ) -> Result<Verdict, MoveFault>
     requires node { HasNode (S.device source.old) blob.now room.old hash }
     requires name { image.place + image.length ≤ length (S.device source.old).bytes }
-    ensures leaves { Leaves (is_read result) (is_put result) (S.device source.old)
-        (S.device source.new) room.old room.new out.old out.new }
+    ensures leaves { Leaves result S.device source room out }
     ensures told { OfHash (S.device source.old) blob.now room.old hash (λ found.
-        (message : List ℕ) → AreDigests digests.now message → IsCovered (set_of digests.now)
-        (plan_of found) → PutsHash (slice (S.device source.old).bytes image.place image.length)
-        message image.length found (S.device source.old).asked (S.device source.new).asked result
-        out.old out.new) }
+        (message : List ℕ) → AreDigests digests.now message →
+        IsCovered (set_of digests.now) (plan_of found) →
+        PutsHash image message found result S.device source out) }
 {
     let Ok(word) = judge(source, blob, room, hash, digests) else {
         return Err(MoveFault::Read);

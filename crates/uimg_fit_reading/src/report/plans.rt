@@ -1,13 +1,14 @@
 //! What is to be done about a hash node before its payload is read, and its word once it is.
-ghost use Rattle.std.specs.Prelude.{◌≡◌, ◌+◌, ◌≤◌, ℕ, List, length, take, is_err, IfOk, IfSome, IsTrue};
+ghost use Rattle.std.specs.Prelude.{◌≡◌, ◌+◌, ◌≤◌, ℕ, List, length, take, is_err, IfOk, IsTrue};
 ghost use Rattle.std.specs.Str.{bytes_eq};
 ghost use Rattle.uimg_sums.specs.Algorithms.{algo_named};
-ghost use Rattle.uimg_texts.specs.Slices.{slice};
 ghost use Rattle.uimg_base.specs.Using.{Asks};
 ghost use Rattle.uimg_fit_base.specs.AlgoSets.{set_of, AreDigests};
 ghost use Rattle.uimg_fit_base.specs.Report.{word_of};
 ghost use Rattle.uimg_fit_reading.specs.Nodes.{OfHash, HasNode};
 ghost use Rattle.uimg_fit_reading.specs.Plans.{plan_by_value, plan_by_algo, plan_by_name, plan_of, text_in, IsOf, EndsIn, IsCovered, IsCompared, word_by};
+ghost use Rattle.uimg_fit_reading.specs.Values.{in_span};
+ghost use Rattle.uimg_fit_reading.specs.SurveyParts.{Ends};
 
 use crate::nodes::value_of;
 use std::alloc::Allocator;
@@ -52,7 +53,7 @@ fn planned<S: Source>(
     algo: Option<Span>,
     value: Option<Span>,
 ) -> Result<Plan, SourceFault>
-    requires { IfSome algo (λ s. s.place + s.length ≤ length (S.device source.old).bytes) }
+    requires { Ends (length (S.device source.old).bytes) algo }
     ensures uses { Asks 32 (is_err result) (S.device source.old) (S.device source.new) }
     ensures plan { IsTrue (S.device source.old).honest → IfOk result (λ plan.
         plan ≡ plan_by_name (text_in (S.device source.old).bytes algo) value) }
@@ -95,8 +96,7 @@ fn is_digest<S: Source>(source: &mut S, span: Span, digest: &[u8; 64]) -> Result
     requires few { span.length ≤ 64 }
     ensures uses { Asks span.length (is_err result) (S.device source.old) (S.device source.new) }
     ensures same { IsTrue (S.device source.old).honest → IfOk result (λ same.
-        same ≡ bytes_eq (slice (S.device source.old).bytes span.place span.length)
-        (take span.length digest.now)) }
+        same ≡ bytes_eq (in_span (S.device source.old).bytes span) (take span.length digest.now)) }
 {
     let length = span.length as usize;
     let mut bytes = [0; 64];

@@ -1,16 +1,13 @@
 //! Whether hash nodes of a certain strength stand for each image.
-ghost use Rattle.std.specs.Prelude.{◌≡◌, ◌≤◌, IfOk, is_err, max, not, false, IsTrue, List, Some};
+ghost use Rattle.std.specs.Prelude.{◌≡◌, IfOk, is_err, not, false, IsTrue, Some};
 ghost use Rattle.std.specs.List.{list_all};
 ghost use Rattle.std.specs.Option.{option_map_or};
-ghost use Rattle.uimg_base.specs.Device.{RisesIf};
-ghost use Rattle.uimg_base.specs.Held.{held_bytes};
 ghost use Rattle.uimg_base.specs.Using.{Uses};
-ghost use Rattle.uimg_blob.specs.Counts.{nodes_met};
 ghost use Rattle.uimg_blob.specs.Roles.{in_images};
-ghost use Rattle.uimg_fit_base.specs.Faults.{is_read, is_put, is_out_of_memory, is_of_making, Gives};
+ghost use Rattle.uimg_fit_base.specs.Faults.{Gives};
 ghost use Rattle.uimg_fit_reading.specs.Nodes.{OfNodes, HasNodes};
-ghost use Rattle.uimg_fit_reading.specs.Rooms.{TakesNodes};
 ghost use Rattle.uimg_fit_reading.specs.Vouching.{has_from, is_vouched, vouched_in};
+ghost use Rattle.uimg_fit_reading.specs.Rooms.{ReadsAny, ReadsInMemory};
 
 use crate::images::first_image;
 use crate::nodes::{first_hash, next_of};
@@ -79,10 +76,7 @@ fn vouched_in<S: Source, A: Allocator>(
     source: &mut S,
     room: &mut Room<A>,
 ) -> Result<bool, Fault>
-    ensures uses { Uses (is_read result) (S.device source.old) (S.device source.new) }
-    ensures room { TakesNodes (S.device source.old) (is_out_of_memory result) room.old room.new }
-    ensures no_put { is_put result ≡ false }
-    ensures no_making { is_of_making result ≡ false }
+    ensures reads { ReadsAny result S.device source room }
     ensures told { IsTrue (S.device source.old).honest →
         Gives (λ all. all) result (vouched_in need (S.device source.old).bytes) }
 {
@@ -101,11 +95,7 @@ fn vouched_in<S: Source, A: Allocator>(
 /// Refusals are those of the blob, then `NoImages`. `OutOfMemory` comes exactly where the room refused
 /// to grow, and `Read` never.
 pub fn is_vouched<A: Allocator>(need: Algo, file: &[u8], room: &mut Room<A>) -> Result<bool, Fault>
-    ensures refused { RisesIf (is_out_of_memory result) room.old.refused room.new.refused }
-    ensures peak { room.new.peak ≤ max room.old.peak (held_bytes (nodes_met file.now)) }
-    ensures no_read { is_read result ≡ false }
-    ensures no_put { is_put result ≡ false }
-    ensures no_making { is_of_making result ≡ false }
+    ensures memory { ReadsInMemory file.now result room }
     ensures told { Gives (λ all. all) result (vouched_in need file.now) }
 {
     let mut source = MemSource::new(file);

@@ -49,10 +49,9 @@ pub(crate) fn first_wrong<S: Source, A: Allocator>(
     ensures uses { Uses (is_err result) (S.device source.old) (S.device source.new) }
     ensures inside { IfOk result (λ found. IfSome found (λ w.
         w.hash.place + w.hash.length ≤ length (S.device source.old).bytes)) }
-    ensures told { OfHashes (S.device source.old) blob.now room.now first (λ hs.
-        (message : List ℕ) → AreDigests digests.now message → AllCovered (set_of digests.now) hs →
-        FindsWrong (S.device source.old).bytes message hs
-        (S.device source.old).asked (S.device source.new).asked result) }
+    ensures told { OfHashes (S.device source.old) blob.now room.now first
+        (λ hs. (message : List ℕ) → AreDigests digests.now message →
+        AllCovered (set_of digests.now) hs → FindsWrong message hs result S.device source) }
 {
     let mut next = first;
     while let Some(hash) = next {

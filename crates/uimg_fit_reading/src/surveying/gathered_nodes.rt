@@ -1,14 +1,11 @@
 //! What images, hash nodes and configurations say, gathered from the nodes of an indexed blob.
 
-ghost use Rattle.std.specs.Prelude.{◌≡◌, ◌<◌, ℕ, List, length, map, IfOk, IfSome, true};
-ghost use Rattle.std.specs.List.{All};
-ghost use Rattle.uimg_blob.specs.Grammar.{Siblings};
-ghost use Rattle.uimg_blob.specs.LookUps.{NodeOf, hashes};
+ghost use Rattle.std.specs.Prelude.{◌≡◌, ◌<◌, length, IfOk, true};
+ghost use Rattle.uimg_blob.specs.LookUps.{hashes};
 ghost use Rattle.uimg_blob.specs.Roles.{in_image, in_images, in_configurations, elsewhere, is_hash};
-ghost use Rattle.uimg_blob.specs.Spots.{Spot};
-ghost use Rattle.uimg_fit_reading.specs.Nodes.{Indexed, InFile, IsRead, IsNode, AreFrom, AtLevel, HashesAt};
-ghost use Rattle.uimg_fit_reading.specs.Survey.{hash_said, payload_said, image_said, configuration_said, node_name, read_name, read_hash, read_payload, read_image, read_configuration};
-ghost use Rattle.uimg_fit_reading.specs.SurveyParts.{NameInside, HashInside, PayloadInside, ImageInside, ConfigurationInside};
+ghost use Rattle.uimg_fit_reading.specs.Nodes.{AtLevel, IsEntry, IsEntryOrNone, InAnyFile, FromNode, FromHash};
+ghost use Rattle.uimg_fit_reading.specs.Survey.{hash_said, payload_said, image_said, configuration_said, node_name, read_name, read_hash, read_payload, read_image, read_configuration, Say};
+ghost use Rattle.uimg_fit_reading.specs.SurveyParts.{NameInside, HashInside, PayloadInside, ImageInside, ConfigurationInside, AllInside};
 
 use crate::nodes::{child_of, first_hash, name_of, next_hash, next_of, value_of};
 use crate::surveying::facts::{ConfigurationFacts, HashFacts, ImageFacts, PayloadFacts};
@@ -19,9 +16,9 @@ use uimg_blob::{Blob, Key};
 // What a hash node says.
 fn hash_facts<A: Allocator>(blob: &Blob, room: &Room<A>, hash: usize) -> HashFacts
     requires { hash < length room.now.entries }
-    ensures inside { (size : ℕ) → InFile size blob.now room.now.entries → HashInside size result }
-    ensures said { AtLevel blob.now room.now.entries in_image hash (λ file found.
-        is_hash found.name ≡ true → read_hash file result ≡ hash_said found) }
+    ensures inside { InAnyFile blob.now room.now (λ size. HashInside size result) }
+    ensures said { AtLevel blob.now room.now in_image hash
+        (λ file found. is_hash found.name ≡ true → read_hash file result ≡ hash_said found) }
 {
     HashFacts {
         name: name_of(blob, room, hash),
@@ -37,13 +34,9 @@ fn gather_hashes<A: Allocator>(
     room: &Room<A>,
     first: Option<usize>,
 ) -> Result<Vec<HashFacts>, AllocError>
-    requires within { IfSome first (λ i. i < length room.now.entries) }
-    requires indexed { Indexed blob.now room.now.entries }
-    ensures inside { (size : ℕ) → InFile size blob.now room.now.entries →
-        IfOk result (λ facts. All (HashInside size) facts.items) }
-    ensures said { (file : List ℕ) (t : Siblings) → IsRead file blob.now room.now.entries t →
-        (hs : List (NodeOf Spot)) → HashesAt t first hs →
-        IfOk result (λ facts. map (read_hash file) facts.items ≡ map hash_said hs) }
+    requires { IsEntryOrNone blob.now room.now first }
+    ensures inside { InAnyFile blob.now room.now (AllInside HashInside result) }
+    ensures said { FromHash blob.now room.now first (Say read_hash hash_said result) }
 {
     let mut facts = Vec::new(alloc);
     let mut next = first;
@@ -57,9 +50,9 @@ fn gather_hashes<A: Allocator>(
 // What an image says of the place of its payload.
 pub(crate) fn payload_facts<A: Allocator>(blob: &Blob, room: &Room<A>, image: usize) -> PayloadFacts
     requires { image < length room.now.entries }
-    ensures inside { (size : ℕ) → InFile size blob.now room.now.entries → PayloadInside size result }
-    ensures said { AtLevel blob.now room.now.entries in_images image (λ file found.
-        read_payload file result ≡ payload_said found) }
+    ensures inside { InAnyFile blob.now room.now (λ size. PayloadInside size result) }
+    ensures said { AtLevel blob.now room.now in_images image
+        (λ file found. read_payload file result ≡ payload_said found) }
 {
     PayloadFacts {
         embedded: value_of(blob, room, image, Key::Data),
@@ -76,12 +69,10 @@ fn image_facts<A: Allocator>(
     room: &Room<A>,
     image: usize,
 ) -> Result<ImageFacts, AllocError>
-    requires within { image < length room.now.entries }
-    requires indexed { Indexed blob.now room.now.entries }
-    ensures inside { (size : ℕ) → InFile size blob.now room.now.entries →
-        IfOk result (ImageInside size) }
-    ensures said { AtLevel blob.now room.now.entries in_images image (λ file found.
-        IfOk result (λ facts. read_image file facts ≡ image_said found)) }
+    requires { IsEntry blob.now room.now image }
+    ensures inside { InAnyFile blob.now room.now (λ size. IfOk result (ImageInside size)) }
+    ensures said { AtLevel blob.now room.now in_images image
+        (λ file found. IfOk result (λ facts. read_image file facts ≡ image_said found)) }
 {
     let hashes = gather_hashes(alloc, blob, room, first_hash(blob, room, image))?;
     Ok(ImageFacts {
@@ -105,13 +96,9 @@ pub(super) fn gather_images<A: Allocator>(
     room: &Room<A>,
     first: Option<usize>,
 ) -> Result<Vec<ImageFacts>, AllocError>
-    requires within { IfSome first (λ i. i < length room.now.entries) }
-    requires indexed { Indexed blob.now room.now.entries }
-    ensures inside { (size : ℕ) → InFile size blob.now room.now.entries →
-        IfOk result (λ facts. All (ImageInside size) facts.items) }
-    ensures said { (file : List ℕ) (t : Siblings) → IsRead file blob.now room.now.entries t →
-        (found : List (NodeOf Spot)) → AreFrom t in_images first found →
-        IfOk result (λ facts. map (read_image file) facts.items ≡ map image_said found) }
+    requires { IsEntryOrNone blob.now room.now first }
+    ensures inside { InAnyFile blob.now room.now (AllInside ImageInside result) }
+    ensures said { FromNode blob.now room.now in_images first (Say read_image image_said result) }
 {
     let mut facts = Vec::new(alloc);
     let mut next = first;
@@ -129,13 +116,9 @@ fn gather_names<A: Allocator>(
     room: &Room<A>,
     first: Option<usize>,
 ) -> Result<Vec<Span>, AllocError>
-    requires within { IfSome first (λ i. i < length room.now.entries) }
-    requires indexed { Indexed blob.now room.now.entries }
-    ensures inside { (size : ℕ) → InFile size blob.now room.now.entries →
-        IfOk result (λ names. All (NameInside size) names.items) }
-    ensures said { (file : List ℕ) (t : Siblings) → IsRead file blob.now room.now.entries t →
-        (found : List (NodeOf Spot)) → AreFrom t elsewhere first found →
-        IfOk result (λ names. map (read_name file) names.items ≡ map node_name found) }
+    requires { IsEntryOrNone blob.now room.now first }
+    ensures inside { InAnyFile blob.now room.now (AllInside NameInside result) }
+    ensures said { FromNode blob.now room.now elsewhere first (Say read_name node_name result) }
 {
     let mut names = Vec::new(alloc);
     let mut next = first;
@@ -153,11 +136,9 @@ fn configuration_facts<A: Allocator>(
     room: &Room<A>,
     configuration: usize,
 ) -> Result<ConfigurationFacts, AllocError>
-    requires within { configuration < length room.now.entries }
-    requires indexed { Indexed blob.now room.now.entries }
-    ensures inside { (size : ℕ) → InFile size blob.now room.now.entries →
-        IfOk result (ConfigurationInside size) }
-    ensures said { AtLevel blob.now room.now.entries in_configurations configuration (λ file found.
+    requires { IsEntry blob.now room.now configuration }
+    ensures inside { InAnyFile blob.now room.now (λ size. IfOk result (ConfigurationInside size)) }
+    ensures said { AtLevel blob.now room.now in_configurations configuration (λ file found.
         IfOk result (λ facts. read_configuration file facts ≡ configuration_said found)) }
 {
     let nodes = gather_names(alloc, blob, room, child_of(blob, room, configuration))?;
@@ -184,14 +165,10 @@ pub(super) fn gather_configurations<A: Allocator>(
     room: &Room<A>,
     first: Option<usize>,
 ) -> Result<Vec<ConfigurationFacts>, AllocError>
-    requires within { IfSome first (λ i. i < length room.now.entries) }
-    requires indexed { Indexed blob.now room.now.entries }
-    ensures inside { (size : ℕ) → InFile size blob.now room.now.entries →
-        IfOk result (λ facts. All (ConfigurationInside size) facts.items) }
-    ensures said { (file : List ℕ) (t : Siblings) → IsRead file blob.now room.now.entries t →
-        (found : List (NodeOf Spot)) → AreFrom t in_configurations first found →
-        IfOk result (λ facts. map (read_configuration file) facts.items
-        ≡ map configuration_said found) }
+    requires { IsEntryOrNone blob.now room.now first }
+    ensures inside { InAnyFile blob.now room.now (AllInside ConfigurationInside result) }
+    ensures said { FromNode blob.now room.now in_configurations first
+        (Say read_configuration configuration_said result) }
 {
     let mut facts = Vec::new(alloc);
     let mut next = first;

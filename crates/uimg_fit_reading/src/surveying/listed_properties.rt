@@ -1,15 +1,14 @@
 //! Where the properties of configurations stand, those of no known key too.
 
-ghost use Rattle.std.specs.Prelude.{◌≡◌, ◌<◌, ◌+◌, length, map, false, IfOk, IfSome};
+ghost use Rattle.std.specs.Prelude.{◌<◌, length, map, IfOk};
 ghost use Rattle.std.specs.List.{All};
-ghost use Rattle.uimg_base.specs.Using.{Uses};
 ghost use Rattle.uimg_blob.specs.Grammar.{Siblings};
 ghost use Rattle.uimg_blob.specs.LookUps.{configurations};
 ghost use Rattle.uimg_blob.specs.Roles.{in_configurations};
 ghost use Rattle.uimg_blob.specs.Spots.{spots};
-ghost use Rattle.uimg_fit_reading.specs.Nodes.{Indexed, Opened, OfNode, OfNodes};
+ghost use Rattle.uimg_fit_reading.specs.Nodes.{Indexed, Opened, OfNode, OfNodes, IsEntryOrNone};
 ghost use Rattle.uimg_fit_reading.specs.FullSurvey.{properties_said, properties_in, PlacesInside, TellsProperties, TellsLists};
-ghost use Rattle.uimg_fit_reading.specs.SurveyParts.{is_unread, lacks_room};
+ghost use Rattle.uimg_fit_reading.specs.SurveyParts.{LeavesSurvey};
 
 use crate::nodes::{child_of, configurations_of, next_of};
 use crate::surveying::fault::SurveyFault;
@@ -27,8 +26,7 @@ fn list_properties<S: Source, A: Allocator>(
     node: usize,
 ) -> Result<Vec<PropertyPlace>, SurveyFault>
     requires { node < length room.old.entries }
-    ensures uses { Uses (is_unread result) (S.device source.old) (S.device source.new) }
-    ensures room { (room.new ≡ room.old) × (lacks_room result ≡ false) }
+    ensures leaves { LeavesSurvey result S.device source room }
     ensures inside { IfOk result (PlacesInside blob.now.totalsize) }
     ensures told { OfNode (S.device source.old) blob.now room.old in_configurations node (λ found.
         TellsProperties (S.device source.old) (S.device source.new) found result) }
@@ -49,10 +47,8 @@ fn gather_properties<S: Source, A: Allocator>(
     room: &mut Room<A>,
     first: Option<usize>,
 ) -> Result<Vec<Vec<PropertyPlace>>, SurveyFault>
-    requires within { IfSome first (λ i. i < length room.old.entries) }
-    requires indexed { Indexed blob.now room.old.entries }
-    ensures uses { Uses (is_unread result) (S.device source.old) (S.device source.new) }
-    ensures room { (room.new ≡ room.old) × (lacks_room result ≡ false) }
+    requires { IsEntryOrNone blob.now room.old first }
+    ensures leaves { LeavesSurvey result S.device source room }
     ensures inside { IfOk result (λ lists. All (PlacesInside blob.now.totalsize) lists.items) }
     ensures told { OfNodes (S.device source.old) blob.now room.old in_configurations first (λ found.
         TellsLists (S.device source.old) (S.device source.new) (map properties_said found) result) }
@@ -81,8 +77,7 @@ pub(super) fn configuration_properties<S: Source, A: Allocator>(
     room: &mut Room<A>,
 ) -> Result<Vec<Vec<PropertyPlace>>, SurveyFault>
     requires { Indexed blob.now room.old.entries }
-    ensures uses { Uses (is_unread result) (S.device source.old) (S.device source.new) }
-    ensures room { (room.new ≡ room.old) × (lacks_room result ≡ false) }
+    ensures leaves { LeavesSurvey result S.device source room }
     ensures inside { IfOk result (λ lists. All (PlacesInside blob.now.totalsize) lists.items) }
     ensures told { (t : Siblings) → Opened (S.device source.old) blob.now room.old t →
         TellsLists (S.device source.old) (S.device source.new) (properties_in (configurations (spots t))) result }

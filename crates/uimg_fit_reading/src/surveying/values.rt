@@ -3,7 +3,7 @@
 ghost use Rattle.std.specs.Prelude.{◌≡◌, ◌+◌, ◌≤◌, length, IsTrue, IfOk};
 ghost use Rattle.uimg_base.specs.Using.{Asks};
 ghost use Rattle.uimg_fit_reading.specs.SurveyParts.{is_unread, IsOwn};
-ghost use Rattle.uimg_texts.specs.Slices.{slice};
+ghost use Rattle.uimg_fit_reading.specs.Values.{in_span};
 
 use crate::surveying::fault::SurveyFault;
 use std::alloc::Global;
@@ -19,8 +19,8 @@ pub fn read_bytes<S: Source>(
     requires { span.place + span.length ≤ length (S.device source.old).bytes }
     ensures uses { Asks span.length (is_unread result) (S.device source.old) (S.device source.new) }
     ensures own { IsOwn result }
-    ensures told { IsTrue (S.device source.old).honest → IfOk result (λ bytes.
-        bytes.items ≡ slice (S.device source.old).bytes span.place span.length) }
+    ensures told { IsTrue (S.device source.old).honest →
+        IfOk result (λ bytes. bytes.items ≡ in_span (S.device source.old).bytes span) }
 {
     let mut bytes = Vec::from_elem(alloc, 0, span.length as usize)?;
     source.fill_at(span.place, bytes.as_mut_slice())?;

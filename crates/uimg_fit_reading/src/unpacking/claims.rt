@@ -47,12 +47,10 @@ fn claim_image<S: Source, A: Allocator, T: Taker>(
     taker: &mut T,
 ) -> Result<Claim, Fault>
     requires { HasNode (S.device source.old) blob.now room.old image }
-    ensures leaves { LeavesImage result (S.device source.old) (S.device source.new)
-        room.old room.new }
+    ensures leaves { LeavesImage result S.device source room }
     ensures none_given { IsTrue T.honest → T.takes taker.new ≡ T.takes taker.old }
-    ensures told { OfNode (S.device source.old) blob.now room.old in_images image (λ found.
-        ClaimsImage (S.device source.old).bytes (option_map bytes_of only) left found
-        (S.device source.old).asked (S.device source.new).asked result) }
+    ensures told { OfNode (S.device source.old) blob.now room.old in_images image
+        (λ found. ClaimsImage (option_map bytes_of only) left found result S.device source) }
 {
     let name = read_name(source, name_of(blob, room, image))?;
     if !is_asked(only, &name) {
@@ -77,12 +75,10 @@ pub(super) fn claim_images<S: Source, A: Allocator, T: Taker>(
     taker: &mut T,
 ) -> Result<Option<NodeName>, Fault>
     requires { HasNodes (S.device source.old) blob.now room.old first }
-    ensures leaves { LeavesImage result (S.device source.old) (S.device source.new)
-        room.old room.new }
+    ensures leaves { LeavesImage result S.device source room }
     ensures none_given { IsTrue T.honest → T.takes taker.new ≡ T.takes taker.old }
-    ensures told { OfNodes (S.device source.old) blob.now room.old in_images first (λ found.
-        ClaimsImages (S.device source.old).bytes (option_map bytes_of only) found
-        (S.device source.old).asked (S.device source.new).asked result) }
+    ensures told { OfNodes (S.device source.old) blob.now room.old in_images first
+        (λ found. ClaimsImages (option_map bytes_of only) found result S.device source) }
 {
     let mut left = source.size()?;
     let mut next = first;

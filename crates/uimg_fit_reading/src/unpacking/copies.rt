@@ -1,6 +1,6 @@
 //! A payload is written while it is summed, so that each byte is asked for once.
 
-ghost use Rattle.std.specs.Prelude.{◌≡◌, ◌+◌, ◌≤◌, length, is_err, IfOk, OnOk};
+ghost use Rattle.std.specs.Prelude.{◌≡◌, ◌+◌, ◌≤◌, length, IfOk, OnOk};
 ghost use Rattle.uimg_base.specs.Device.{asked_more};
 ghost use Rattle.uimg_base.specs.Ranges.{is_read};
 ghost use Rattle.uimg_base.specs.Using.{Asks, Uses};
@@ -24,8 +24,7 @@ fn take_window<S: Source, W: Write>(
     requires window { len ≤ 8192 }
     ensures uses { Uses (is_read result) (S.device source.old) (S.device source.new) }
     ensures asked { (S.device source.new).asked ≡ asked_more (S.device source.old).asked len }
-    ensures taken { OnOk result
-        (TakesPiece (S.device source.old) at len sums.old sums.new out.old out.new) }
+    ensures taken { OnOk result (TakesPiece S.device source at len sums out) }
 {
     let window = &mut window[..len];
     if source.fill_at(at, window).is_err() {
@@ -49,8 +48,7 @@ fn take_range<S: Source, W: Write>(
 ) -> Result<(), MoveFault>
     requires { at + len ≤ length (S.device source.old).bytes }
     ensures uses { Asks len (is_read result) (S.device source.old) (S.device source.new) }
-    ensures taken { OnOk result
-        (TakesPiece (S.device source.old) at len sums.old sums.new out.old out.new) }
+    ensures taken { OnOk result (TakesPiece S.device source at len sums out) }
 {
     let mut done = 0;
     while done < len {
@@ -74,8 +72,7 @@ pub(super) fn take_payload<S: Source, A: Allocator, W: Write>(
     ensures uses { Asks payload.length (is_read result)
         (S.device source.old) (S.device source.new) }
     ensures room { room.new ≡ room.old }
-    ensures taken { IfOk result (λ digests.
-        TakesPayload (S.device source.old) payload set digests out.old out.new) }
+    ensures taken { IfOk result (λ digests. TakesPayload S.device source payload set digests out) }
 {
     let mut sums = set.sums();
     let (at, len) = (payload.place, payload.length);

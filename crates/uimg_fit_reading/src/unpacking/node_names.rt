@@ -1,8 +1,8 @@
 //! Names of nodes, out of the image that they stand in.
 
 ghost use Rattle.std.specs.Prelude.{◌≡◌, ◌≤◌, ◌+◌, ◌↔◌, length, take, is_err, IfOk, IfSome, IsSome, IsTrue};
-ghost use Rattle.uimg_texts.specs.Slices.{slice};
 ghost use Rattle.uimg_base.specs.Using.{Asks};
+ghost use Rattle.uimg_fit_reading.specs.Values.{in_span};
 
 use uimg_base::{Source, SourceFault, Span};
 
@@ -46,9 +46,8 @@ impl NodeName {
 pub(super) fn read_name<S: Source>(source: &mut S, span: Span) -> Result<NodeName, SourceFault>
     requires { span.place + span.length ≤ length (S.device source.old).bytes }
     ensures uses { Asks 255 (is_err result) (S.device source.old) (S.device source.new) }
-    ensures bytes { IsTrue (S.device source.old).honest → span.length ≤ 255 →
-        IfOk result (λ name. take name.length name.bytes
-        ≡ slice (S.device source.old).bytes span.place span.length) }
+    ensures bytes { IsTrue (S.device source.old).honest → span.length ≤ 255 → IfOk result
+        (λ name. take name.length name.bytes ≡ in_span (S.device source.old).bytes span) }
 {
     let length = u64::min(span.length, NAME_LEN as u64) as usize;
     let mut bytes = [0; NAME_LEN];

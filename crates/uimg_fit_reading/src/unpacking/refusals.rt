@@ -87,10 +87,10 @@ pub(super) fn refusal_of<S: Source, A: Allocator>(
     requires node { HasNode (S.device source.old) blob.now room.now image }
     requires set { set_of digests.now ≡ set }
     ensures uses { Uses (is_err result) (S.device source.old) (S.device source.new) }
-    ensures told { OfNode (S.device source.old) blob.now room.now in_images image (λ found.
-        (message : List ℕ) → AreDigests digests.now message →
-        set ≡ with_all no_algos (hashes found) → FindsRefusal need found message
-        (S.device source.old).asked (S.device source.new).asked result) }
+    ensures told { OfNode (S.device source.old) blob.now room.now in_images image
+        (λ found. (message : List ℕ) → AreDigests digests.now message →
+        set ≡ with_all no_algos (hashes found) →
+        FindsRefusal need found message result S.device source) }
 {
     let first = first_hash(blob, room, image);
     if let Some(wrong) = first_wrong(source, blob, room, first, digests)? {

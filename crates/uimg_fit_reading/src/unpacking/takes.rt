@@ -3,13 +3,14 @@
 ghost use Rattle.std.specs.Prelude.{◌≡◌, ◌≤◌, ◌+◌, ◌*◌, ℕ, List, true, Some, Ok, length, IsTrue};
 ghost use Rattle.std.specs.List.{sum_by};
 ghost use Rattle.std.specs.Option.{option_map};
-ghost use Rattle.uimg_texts.specs.Slices.{slice};
 ghost use Rattle.uimg_blob.specs.LookUps.{hashes};
 ghost use Rattle.uimg_blob.specs.Roles.{in_images};
 ghost use Rattle.uimg_fit_base.specs.Places.{payload};
 ghost use Rattle.uimg_fit_reading.specs.Nodes.{OfNode, OfNodes, HasNode, HasNodes};
-ghost use Rattle.uimg_fit_reading.specs.Unpacking.{kept, take_of, takes, bytes_of, bytes_or_none, is_asked, AddsIf, IsVouched};
+ghost use Rattle.uimg_fit_reading.specs.Unpacking.{take_of, takes, bytes_of, bytes_or_none, is_asked};
 ghost use Rattle.uimg_fit_reading.specs.UnpackingParts.{LeavesImage, TakesTo, TakesAll, Fitting, size_if, take_allowance};
+ghost use Rattle.uimg_fit_reading.specs.Values.{in_span};
+ghost use Rattle.uimg_fit_reading.specs.Puts.{Pays};
 
 use crate::nodes::{first_hash, name_of, next_of};
 use crate::places::payload_place;
@@ -37,17 +38,13 @@ fn take_named<S: Source, A: Allocator, T: Taker>(
 ) -> Result<bool, Fault>
     requires node { HasNode (S.device source.old) blob.now room.old image }
     requires inside { span.place + span.length ≤ length (S.device source.old).bytes }
-    ensures leaves { LeavesImage result (S.device source.old) (S.device source.new)
-        room.old room.new }
-    ensures paid { OfNode (S.device source.old) blob.now room.old in_images image (λ found.
-        (S.device source.new).asked
-        ≤ (S.device source.old).asked + (span.length + 383 * length (hashes found))) }
-    ensures told { IsTrue T.honest →
-        OfNode (S.device source.old) blob.now room.old in_images image (λ found.
-        bytes_of name.now ≡ found.name → (message : List ℕ) →
-        message ≡ slice (S.device source.old).bytes span.place span.length →
-        TakesTo true (take_of need found message) result (Ok message)
-        (T.takes taker.old) (T.takes taker.new)) }
+    ensures leaves { LeavesImage result S.device source room }
+    ensures paid { OfNode (S.device source.old) blob.now room.old in_images image
+        (λ found. Pays (span.length + 383 * length (hashes found)) S.device source) }
+    ensures told { IsTrue T.honest → OfNode (S.device source.old) blob.now room.old in_images image
+        (λ found. bytes_of name.now ≡ found.name →
+        (message : List ℕ) → message ≡ in_span (S.device source.old).bytes span → TakesTo true
+        (take_of need found message) result (Ok message) (T.takes taker.old) (T.takes taker.new)) }
 {
     let shelf = taker.shelf(name)?;
     let set = compared_algos(source, blob, room, first_hash(blob, room, image))?;
@@ -73,18 +70,14 @@ fn take_image<S: Source, A: Allocator, T: Taker>(
     taker: &mut T,
 ) -> Result<bool, Fault>
     requires { HasNode (S.device source.old) blob.now room.old image }
-    ensures leaves { LeavesImage result (S.device source.old) (S.device source.new)
-        room.old room.new }
-    ensures paid { OfNode (S.device source.old) blob.now room.old in_images image (λ found.
-        (S.device source.new).asked ≤ (S.device source.old).asked
-        + (size_if (is_asked (option_map bytes_of only) found.name)
-        (payload (S.device source.old).bytes found) + take_allowance found)) }
-    ensures told { IsTrue T.honest →
-        OfNode (S.device source.old) blob.now room.old in_images image (λ found.
-        TakesTo (is_asked (option_map bytes_of only) found.name)
-        (take_of need found (bytes_or_none (payload (S.device source.old).bytes found)))
-        result (payload (S.device source.old).bytes found)
-        (T.takes taker.old) (T.takes taker.new)) }
+    ensures leaves { LeavesImage result S.device source room }
+    ensures paid { OfNode (S.device source.old) blob.now room.old in_images image
+        (λ found. Pays (size_if (is_asked (option_map bytes_of only) found.name)
+        (payload (S.device source.old).bytes found) + take_allowance found) S.device source) }
+    ensures told { IsTrue T.honest → OfNode (S.device source.old) blob.now room.old in_images image
+        (λ found. TakesTo (is_asked (option_map bytes_of only) found.name)
+        (take_of need found (bytes_or_none (payload (S.device source.old).bytes found))) result
+        (payload (S.device source.old).bytes found) (T.takes taker.old) (T.takes taker.new)) }
 {
     let name = read_name(source, name_of(blob, room, image))?;
     if !is_asked(only, &name) {
@@ -105,15 +98,12 @@ pub(super) fn take_images<S: Source, A: Allocator, T: Taker>(
     taker: &mut T,
 ) -> Result<bool, Fault>
     requires { HasNodes (S.device source.old) blob.now room.old first }
-    ensures leaves { LeavesImage result (S.device source.old) (S.device source.new)
-        room.old room.new }
-    ensures paid { OfNodes (S.device source.old) blob.now room.old in_images first (λ found.
-        Fitting (option_map bytes_of only) (S.device source.old).bytes found
-        ((S.device source.new).asked ≤ (S.device source.old).asked
-        + (length (S.device source.old).bytes + sum_by take_allowance found))) }
-    ensures told { IsTrue T.honest →
-        OfNodes (S.device source.old) blob.now room.old in_images first (λ found.
-        Fitting (option_map bytes_of only) (S.device source.old).bytes found
+    ensures leaves { LeavesImage result S.device source room }
+    ensures paid { OfNodes (S.device source.old) blob.now room.old in_images first
+        (λ found. Fitting (option_map bytes_of only) (S.device source.old).bytes found
+        (Pays (length (S.device source.old).bytes + sum_by take_allowance found) S.device source)) }
+    ensures told { IsTrue T.honest → OfNodes (S.device source.old) blob.now room.old in_images first
+        (λ found. Fitting (option_map bytes_of only) (S.device source.old).bytes found
         (TakesAll (takes need (option_map bytes_of only) (S.device source.old).bytes found) result
         (T.takes taker.old) (T.takes taker.new))) }
 {

@@ -20,20 +20,25 @@ use Rattle.uimg_fit_reading.proofs.TellingLaws.{read_same}
 use Rattle.uimg_fit_reading.proofs.WithinLaws.{no_end, paid, read_size, root_allowed, body_allowed}
 use Rattle.uimg_fit_reading.proofs.listing.list.Goals as goal
 
-pub returns-in_err-put_head-clause-uses : goal.returns-in_err-put_head-clause-uses
-returns-in_err-put_head-clause-uses g c = record {
-  same = search rules;
-  failures = search rules;
-  asked = λ honest.
-      let d = g.S.Source.device c.args.source.now in
-      let file = d.bytes in
-      let h : HasTree file c.in_ok-blob.blob c.read_tree.new.room.entries = c.in_ok-blob.ensures.gives honest in
-      let t = h.nodes in
-      let own = root_own (spots t) in
-      let text = c.root_value-description.ensures.bytes file t h.read in
-      let size = read_size file own (codes "description") c.root_value-description.result (c.root_value-description.ensures.inside (length file) c.in_ok-blob.ensures.inside) text in
-      let few = one_text own (codes "description") refl in
-      omega (arith, c.read_tree.ensures.uses.asked honest, c.cell.ensures.uses.asked, c.put_head.ensures.uses.asked, size, few, root_allowed (spots t), paid file t h.read.is);
+pub returns-in_err-put_head-clause-delivers : goal.returns-in_err-put_head-clause-delivers
+returns-in_err-put_head-clause-delivers g c = record {
+  uses = record {
+    same = search rules;
+    failures = search rules;
+    asked = λ honest.
+        let d = g.S.Source.device c.args.source.now in
+        let file = d.bytes in
+        let h : HasTree file c.in_ok-blob.blob c.read_tree.new.room.entries = c.in_ok-blob.ensures.gives honest in
+        let t = h.nodes in
+        let own = root_own (spots t) in
+        let text = c.root_value-description.ensures.bytes file t h.read in
+        let size = read_size file own (codes "description") c.root_value-description.result (c.root_value-description.ensures.inside (length file) c.in_ok-blob.ensures.inside) text in
+        let few = one_text own (codes "description") refl in
+        omega (arith, c.read_tree.ensures.inspects.uses.asked honest, c.cell.ensures.uses.asked, c.put_head.ensures.uses.asked, size, few, root_allowed (spots t), paid file t h.read.is);
+  };
+  room = search rules;
+  faults = search rules;
+  no_making = search rules;
 }
 
 pub returns-in_err-put_head-clause-told : goal.returns-in_err-put_head-clause-told
@@ -44,7 +49,7 @@ returns-in_err-put_head-clause-told g c = λ honest.
     let t = h.nodes in
     let own = root_own (spots t) in
     let text = c.root_value-description.ensures.bytes file t h.read in
-    let first = c.read_tree.ensures.uses.same in
+    let first = c.read_tree.ensures.inspects.uses.same in
     let second = c.cell.ensures.uses.same in
     let now = subst (λ (b : Bool). IsTrue b) (sym first.honest) honest in
     let time = c.in_ok-time.ensures.number now ∙ ap (λ (w : List ℕ). number_in w c.root_value.result) first.bytes
@@ -59,33 +64,38 @@ returns-in_err-put_head-clause-told g c = λ honest.
     (subst (λ (o : Outcome Fault). AppendsPrefix c.args.out.now c.put_head.new.out o.text) (sym (list_is c.args.naming file t h.read.is))
     (prefix_first c.args.out.now c.put_head.new.out (head_lines own) (lists c.args.naming file (spots t) (images (spots t))).text prefix))
 
-pub returns-clause-uses : goal.returns-clause-uses
-returns-clause-uses g c = record {
-  same = search rules;
-  failures = search rules;
-  asked = λ honest.
-      let d = g.S.Source.device c.args.source.now in
-      let file = d.bytes in
-      let h : HasTree file c.in_ok-blob.blob c.read_tree.new.room.entries = c.in_ok-blob.ensures.gives honest in
-      let t = h.nodes in
-      let own = root_own (spots t) in
-      let text = c.root_value-description.ensures.bytes file t h.read in
-      let size = read_size file own (codes "description") c.root_value-description.result (c.root_value-description.ensures.inside (length file) c.in_ok-blob.ensures.inside) text in
-      let few = one_text own (codes "description") refl in
-      let first = c.read_tree.ensures.uses.same in
-      let second = c.cell.ensures.uses.same in
-      let now = subst (λ (b : Bool). IsTrue b) (sym first.honest) honest in
-      let time = c.in_ok-time.ensures.number now ∙ ap (λ (w : List ℕ). number_in w c.root_value.result) first.bytes
-      ∙ ap (λ (o : Option (List ℕ)). option_and_then number o) (sym (c.root_value.ensures.bytes file t h.read)) in
-      let after_cell = second.bytes ∙ first.bytes in
-      let honest_then = subst (λ (b : Bool). IsTrue b) (sym (second.honest ∙ first.honest)) honest in
-      let third = c.put_head.ensures.uses.same in
-      let after_head = third.bytes ∙ after_cell in
-      let honest_last = subst (λ (b : Bool). IsTrue b) (sym (third.honest ∙ second.honest ∙ first.honest)) honest in
-      let read = read_same file (g.S.Source.device c.put_head.new.source).bytes c.in_ok-blob.blob _ c.put_head.new.room.entries t after_head (ap (λ (r : Held). r.entries) c.put_head.ensures.room) h.read in
-      let e = end_of c.list_body.result in
-      let body = c.list_body.ensures.told t (record { honest = honest_last; read = read }) time in
-      omega (arith, c.read_tree.ensures.uses.asked honest, c.cell.ensures.uses.asked, c.put_head.ensures.uses.asked, body.asked, size, few, body_allowed (spots t), paid file t h.read.is);
+pub returns-clause-delivers : goal.returns-clause-delivers
+returns-clause-delivers g c = record {
+  uses = record {
+    same = search rules;
+    failures = search rules;
+    asked = λ honest.
+        let d = g.S.Source.device c.args.source.now in
+        let file = d.bytes in
+        let h : HasTree file c.in_ok-blob.blob c.read_tree.new.room.entries = c.in_ok-blob.ensures.gives honest in
+        let t = h.nodes in
+        let own = root_own (spots t) in
+        let text = c.root_value-description.ensures.bytes file t h.read in
+        let size = read_size file own (codes "description") c.root_value-description.result (c.root_value-description.ensures.inside (length file) c.in_ok-blob.ensures.inside) text in
+        let few = one_text own (codes "description") refl in
+        let first = c.read_tree.ensures.inspects.uses.same in
+        let second = c.cell.ensures.uses.same in
+        let now = subst (λ (b : Bool). IsTrue b) (sym first.honest) honest in
+        let time = c.in_ok-time.ensures.number now ∙ ap (λ (w : List ℕ). number_in w c.root_value.result) first.bytes
+        ∙ ap (λ (o : Option (List ℕ)). option_and_then number o) (sym (c.root_value.ensures.bytes file t h.read)) in
+        let after_cell = second.bytes ∙ first.bytes in
+        let honest_then = subst (λ (b : Bool). IsTrue b) (sym (second.honest ∙ first.honest)) honest in
+        let third = c.put_head.ensures.uses.same in
+        let after_head = third.bytes ∙ after_cell in
+        let honest_last = subst (λ (b : Bool). IsTrue b) (sym (third.honest ∙ second.honest ∙ first.honest)) honest in
+        let read = read_same file (g.S.Source.device c.put_head.new.source).bytes c.in_ok-blob.blob _ c.put_head.new.room.entries t after_head (ap (λ (r : Held). r.entries) c.put_head.ensures.room) h.read in
+        let e = end_of c.list_body.result in
+        let body = c.list_body.ensures.told t (record { honest = honest_last; read = read }) time in
+        omega (arith, c.read_tree.ensures.inspects.uses.asked honest, c.cell.ensures.uses.asked, c.put_head.ensures.uses.asked, body.asked, size, few, body_allowed (spots t), paid file t h.read.is);
+  };
+  room = search rules;
+  faults = search rules;
+  no_making = search rules;
 }
 
 pub returns-clause-told : goal.returns-clause-told
@@ -96,7 +106,7 @@ returns-clause-told g c = λ honest.
     let t = h.nodes in
     let own = root_own (spots t) in
     let text = c.root_value-description.ensures.bytes file t h.read in
-    let first = c.read_tree.ensures.uses.same in
+    let first = c.read_tree.ensures.inspects.uses.same in
     let second = c.cell.ensures.uses.same in
     let now = subst (λ (b : Bool). IsTrue b) (sym first.honest) honest in
     let time = c.in_ok-time.ensures.number now ∙ ap (λ (w : List ℕ). number_in w c.root_value.result) first.bytes

@@ -10,7 +10,7 @@ use Rattle.uimg_fit_reading.specs.Heads.{default_line}
 use Rattle.uimg_fit_reading.specs.Listing.{configuration_lines, configurations_lines, numbered}
 use Rattle.uimg_fit_reading.specs.ListingParts.{configurations_allowance}
 use Rattle.uimg_fit_reading.specs.Nodes.{AreFrom}
-use Rattle.uimg_fit_reading.specs.Telling.{Lists}
+use Rattle.uimg_fit_reading.specs.Telling.{ListsBetween}
 use Rattle.uimg_fit_reading.proofs.OpenedLaws.{still}
 use Rattle.uimg_fit_reading.proofs.PutLaws.{cut}
 use Rattle.uimg_fit_reading.proofs.SharesLaws.{one_text, children_allowed}
@@ -28,7 +28,7 @@ returns-in_err-put_default-clause-told g c = λ t o.
     let size = value_size h.found.own (codes "default") _ (c.value_of.ensures.span t o.read.indexed h.level h.found h.node h.keeps) in
     let few = one_text h.found.own (codes "default") refl in
     let told = subst (λ (v : Option (List ℕ)). Written true c.args.out.now c.put_default.new.out (default_line v)) (sym value) (c.in_err-put_default.ensures.told o.honest) in
-    rw failed (subst (λ (o : Option (NodeOf Spot)). Lists true (configurations_allowance o) d m c.args.out.now c.put_default.new.out (configurations_lines o)) (sym h.is)
+    rw failed (subst (λ (o : Option (NodeOf Spot)). ListsBetween true (configurations_allowance o) d m c.args.out.now c.put_default.new.out (configurations_lines o)) (sym h.is)
     (record {
       asked = omega (arith, c.put_default.ensures.uses.asked, size, few);
       written = cut c.args.out.now c.put_default.new.out (default_line (bytes_of h.found.own (codes "default"))) (numbered configuration_lines 0 (listed h.found.below)) told;
@@ -47,11 +47,11 @@ returns-clause-told g c = λ t o.
     let size = value_size h.found.own (codes "default") _ (c.value_of.ensures.span t o.read.indexed h.level h.found h.node h.keeps) in
     let few = one_text h.found.own (codes "default") refl in
     let told = subst (λ (v : Option (List ℕ)). Written false c.args.out.now c.put_default.new.out (default_line v)) (sym value) (c.in_ok-put_default.ensures.told o.honest) in
-    let head : Lists false (760 + 4 * text_sizes h.found.own) d m c.args.out.now c.put_default.new.out (default_line (bytes_of h.found.own (codes "default"))) =
+    let head : ListsBetween false (760 + 4 * text_sizes h.found.own) d m c.args.out.now c.put_default.new.out (default_line (bytes_of h.found.own (codes "default"))) =
     record { asked = omega (arith, c.put_default.ensures.uses.asked, size, few); written = told } in
     let from = subst (λ (l : Level). AreFrom t l c.child_of-first.result (listed h.found.below)) h.children (c.child_of-first.ensures.children t here.read.indexed h.level h.found h.node) in
     let tail = c.put_listed_nodes.ensures.told t here (listed h.found.below) from in
-    subst (λ (o : Option (NodeOf Spot)). Lists e (configurations_allowance o) d f c.args.out.now c.put_listed_nodes.new.out (configurations_lines o)) (sym h.is)
+    subst (λ (o : Option (NodeOf Spot)). ListsBetween e (configurations_allowance o) d f c.args.out.now c.put_listed_nodes.new.out (configurations_lines o)) (sym h.is)
     (more_lists e _ (node_allowance h.found) d f c.args.out.now c.put_listed_nodes.new.out _ (omega (arith, children_allowed h.found))
     (then_lists e (760 + 4 * text_sizes h.found.own) (sum_by node_allowance (listed h.found.below)) d m f c.args.out.now c.put_default.new.out c.put_listed_nodes.new.out
     (default_line (bytes_of h.found.own (codes "default"))) (numbered configuration_lines 0 (listed h.found.below)) head tail))

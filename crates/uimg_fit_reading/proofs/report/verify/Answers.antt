@@ -1,24 +1,29 @@
 use Rattle.std.proofs.Common.{rules, ℕ, List, refl, subst, arith}
-use Rattle.uimg_fit_reading.specs.ImageReports.{ReportsImages}
+use Rattle.uimg_fit_reading.specs.ImageReports.{ReportsImagesBetween}
 use Rattle.uimg_fit_reading.specs.Nodes.{Opened}
 use Rattle.uimg_fit_reading.proofs.OpenedLaws.{still}
 use Rattle.uimg_fit_reading.proofs.ReportLaws.{found_told, work_within}
 use Rattle.uimg_fit_reading.proofs.report.verify.Goals as goal
 
-pub returns-clause-uses : goal.returns-clause-uses
-returns-clause-uses g c = record {
-  same = search rules;
-  asked = λ honest.
-      let d = g.S.Source.device in
-      let file = (d c.args.source.now).bytes in
-      let h = c.in_ok-blob.ensures.gives honest in
-      let same = c.read_tree.ensures.uses.same in
-      let found = c.in_ok-first.ensures.told h.nodes h.read.indexed in
-      let opened : Opened (d c.args.source.now) c.in_ok-blob.blob c.read_tree.new.room h.nodes = record { honest = honest; read = h.read } in
-      let told = subst (λ (xs : List ℕ). ReportsImages xs found.found (d c.read_tree.new.source).asked (d c.report_images.new.source).asked c.report_images.result c.args.out.now c.report_images.new.out) same.bytes
-      (c.report_images.ensures.told h.nodes (still same refl opened) found.found found.from) in
-      omega (arith, c.read_tree.ensures.uses.asked honest, told.paid, work_within file h.nodes found.found h.read.is found.is);
-  failures = search rules;
+pub returns-clause-delivers : goal.returns-clause-delivers
+returns-clause-delivers g c = record {
+  uses = record {
+    same = search rules;
+    asked = λ honest.
+        let d = g.S.Source.device in
+        let file = (d c.args.source.now).bytes in
+        let h = c.in_ok-blob.ensures.gives honest in
+        let same = c.read_tree.ensures.inspects.uses.same in
+        let found = c.in_ok-first.ensures.told h.nodes h.read.indexed in
+        let opened : Opened (d c.args.source.now) c.in_ok-blob.blob c.read_tree.new.room h.nodes = record { honest = honest; read = h.read } in
+        let told = subst (λ (xs : List ℕ). ReportsImagesBetween xs found.found (d c.read_tree.new.source).asked (d c.report_images.new.source).asked c.report_images.result c.args.out.now c.report_images.new.out) same.bytes
+        (c.report_images.ensures.told h.nodes (still same refl opened) found.found found.from) in
+        omega (arith, c.read_tree.ensures.inspects.uses.asked honest, told.paid, work_within file h.nodes found.found h.read.is found.is);
+    failures = search rules;
+  };
+  room = search rules;
+  faults = search rules;
+  no_making = search rules;
 }
 
 pub returns-clause-told : goal.returns-clause-told
@@ -26,9 +31,9 @@ returns-clause-told g c = λ honest.
     let d = g.S.Source.device in
     let file = (d c.args.source.now).bytes in
     let h = c.in_ok-blob.ensures.gives honest in
-    let same = c.read_tree.ensures.uses.same in
+    let same = c.read_tree.ensures.inspects.uses.same in
     let found = c.in_ok-first.ensures.told h.nodes h.read.indexed in
     let opened : Opened (d c.args.source.now) c.in_ok-blob.blob c.read_tree.new.room h.nodes = record { honest = honest; read = h.read } in
-    let told = subst (λ (xs : List ℕ). ReportsImages xs found.found (d c.read_tree.new.source).asked (d c.report_images.new.source).asked c.report_images.result c.args.out.now c.report_images.new.out) same.bytes
+    let told = subst (λ (xs : List ℕ). ReportsImagesBetween xs found.found (d c.read_tree.new.source).asked (d c.report_images.new.source).asked c.report_images.result c.args.out.now c.report_images.new.out) same.bytes
     (c.report_images.ensures.told h.nodes (still same refl opened) found.found found.from) in
     found_told file h.nodes found.found c.report_images.result c.args.out.now c.report_images.new.out h.read.is found.is told.told

@@ -1,4 +1,4 @@
-use Rattle.std.proofs.Common.{List, Option, sym, ap, ◌∙◌, subst}
+use Rattle.std.proofs.Common.{sym, ap, ◌∙◌, subst}
 use Rattle.uimg_blob.specs.LookUps.{listed}
 use Rattle.uimg_blob.specs.Roles.{Level}
 use Rattle.uimg_fit_reading.specs.Nodes.{AreFrom}

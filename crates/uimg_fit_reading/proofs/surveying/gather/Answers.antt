@@ -1,7 +1,5 @@
 use Rattle.std.proofs.Common.{◌≤◌, ℕ, sym, subst, le_refl}
-use Rattle.std.specs.List.{All}
 use Rattle.uimg_fit_reading.specs.Nodes.{InFile}
-use Rattle.uimg_fit_reading.specs.SurveyParts.{Ends, ImageInside, ConfigurationInside}
 use Rattle.uimg_fit_reading.proofs.surveying.gather.Goals as goal
 
 pub returns-clause-inside : goal.returns-clause-inside

@@ -6,7 +6,7 @@ use Rattle.uimg_blob.specs.Spots.{Spot}
 use Rattle.uimg_fit_base.specs.declared.fault.Fault.{Fault}
 use Rattle.uimg_fit_reading.specs.declared.checking.Finding.{Finding}
 use Rattle.uimg_fit_reading.specs.declared.checking.checked_payloads.Checked.{Checked}
-use Rattle.uimg_fit_reading.specs.CheckParts.{ChecksImage, ChecksImages}
+use Rattle.uimg_fit_reading.specs.CheckParts.{ChecksImageBetween, ChecksImagesBetween}
 use Rattle.uimg_fit_reading.specs.Nodes.{AreFrom}
 use Rattle.uimg_fit_reading.proofs.OpenedLaws.{still}
 use Rattle.uimg_fit_reading.proofs.ImageLaws.{front}
@@ -27,10 +27,10 @@ loop-next-preserved g c = record {
       let here = still same c.loop-next.invariant.room o in
       let start = subst (λ (x : Option ℕ). AreFrom t in_images x k.rest) c.in-Some.is k.from in
       let f = front t in_images c.in-Some.image k.rest start in
-      let told = subst (λ (x : Checked). ChecksImage file c.args.need c.loop-next.left f.image (d c.loop-next.source).asked (d c.check_image.new.source).asked (Ok x)) c.in-On.is
-      (subst (λ (xs : List ℕ). ChecksImage xs c.args.need c.loop-next.left f.image (d c.loop-next.source).asked (d c.check_image.new.source).asked (Ok c.in_ok-rest.field-0)) same.bytes
+      let told = subst (λ (x : Checked). ChecksImageBetween file c.args.need c.loop-next.left f.image (d c.loop-next.source).asked (d c.check_image.new.source).asked (Ok x)) c.in-On.is
+      (subst (λ (xs : List ℕ). ChecksImageBetween xs c.args.need c.loop-next.left f.image (d c.loop-next.source).asked (d c.check_image.new.source).asked (Ok c.in_ok-rest.field-0)) same.bytes
       (c.in_ok-rest.ensures.told t here f.image f.node)) in
-      let indexed = (still c.check_image.ensures.uses.same c.check_image.ensures.room here).read.indexed in
+      let indexed = (still c.check_image.ensures.leaves.uses.same c.check_image.ensures.leaves.room here).read.indexed in
       images_more t file c.args.need found _ _ c.loop-next.left c.loop-next.next k f.image f.more f.are _ c.in-On.rest _ told
       (c.next_of-next.ensures.next t indexed in_images f.image f.more (subst (λ (l : List (NodeOf Spot)). AreFrom t in_images (Some c.in-Some.image) l) f.are start));
 }
@@ -43,8 +43,8 @@ returns-in-Ended-clause-told g c = λ t o found from.
     let same = c.loop-next.invariant.same in
     let here = still same c.loop-next.invariant.room o in
     let f = front t in_images c.in-Some.image k.rest (subst (λ (x : Option ℕ). AreFrom t in_images x k.rest) c.in-Some.is k.from) in
-    let told = subst (λ (x : Checked). ChecksImage file c.args.need c.loop-next.left f.image (d c.loop-next.source).asked (d c.check_image.new.source).asked (Ok x)) c.in-Ended.is
-    (subst (λ (xs : List ℕ). ChecksImage xs c.args.need c.loop-next.left f.image (d c.loop-next.source).asked (d c.check_image.new.source).asked (Ok c.in_ok-rest.field-0)) same.bytes
+    let told = subst (λ (x : Checked). ChecksImageBetween file c.args.need c.loop-next.left f.image (d c.loop-next.source).asked (d c.check_image.new.source).asked (Ok x)) c.in-Ended.is
+    (subst (λ (xs : List ℕ). ChecksImageBetween xs c.args.need c.loop-next.left f.image (d c.loop-next.source).asked (d c.check_image.new.source).asked (Ok c.in_ok-rest.field-0)) same.bytes
     (c.in_ok-rest.ensures.told t here f.image f.node)) in
     images_end t file c.args.need found _ _ c.loop-next.left c.loop-next.next k f.image f.more f.are _ c.in-Ended.finding told
 
@@ -57,9 +57,9 @@ returns-in_err-rest-clause-told g c = λ t o found from.
     let fault = c.in_err-rest.field-0.0 in
     let is : c.from_residual-in_err-rest.result ≡ Err fault = search rules in
     let f = front t in_images c.in-Some.image k.rest (subst (λ (x : Option ℕ). AreFrom t in_images x k.rest) c.in-Some.is k.from) in
-    let cut = subst (λ (xs : List ℕ). ChecksImage xs c.args.need c.loop-next.left f.image (d c.loop-next.source).asked (d c.check_image.new.source).asked (Err fault)) same.bytes
+    let cut = subst (λ (xs : List ℕ). ChecksImageBetween xs c.args.need c.loop-next.left f.image (d c.loop-next.source).asked (d c.check_image.new.source).asked (Err fault)) same.bytes
     (c.in_err-rest.ensures.told t (still same c.loop-next.invariant.room o) f.image f.node) in
-    subst (λ (r : Result (Option Finding) Fault). ChecksImages file c.args.need found (d c.args.source.now).asked (d c.check_image.new.source).asked r) (sym is)
+    subst (λ (r : Result (Option Finding) Fault). ChecksImagesBetween file c.args.need found (d c.args.source.now).asked (d c.check_image.new.source).asked r) (sym is)
     (images_cut t file c.args.need found _ _ c.loop-next.left c.loop-next.next k f.image f.more f.are _ fault cut)
 
 pub returns-clause-told : goal.returns-clause-told

@@ -3,7 +3,7 @@ use Rattle.std.specs.List.{sum_by}
 use Rattle.std.proofs.lemmas.List.{take_all}
 use Rattle.uimg_fit_reading.specs.declared.listing.rows.Row.{Row}
 use Rattle.uimg_fit_reading.specs.Rows.{keeps_row, row_cost, row_lines, rows_lines}
-use Rattle.uimg_fit_reading.specs.Telling.{Lists}
+use Rattle.uimg_fit_reading.specs.Telling.{ListsBetween}
 use Rattle.uimg_fit_reading.proofs.OpenedLaws.{still}
 use Rattle.uimg_fit_reading.proofs.RowLaws.{passes_at, rows_more, rows_fail}
 use Rattle.uimg_fit_reading.proofs.TellingLaws.{no_lists}
@@ -53,5 +53,5 @@ returns-clause-told g c = λ t o level found n keeps.
     let d = g.S.Source.device c.args.source.now in
     let f = g.S.Source.device c.loop-row.source in
     let all : take c.loop-row.row-index c.args.rows.now ≡ c.args.rows.now = take_all c.loop-row.row-index c.args.rows.now (omega (arith, c.loop-row-test.false)) in
-    subst (λ (rows : List Row). Lists false (sum_by (row_cost found.own) rows) d f c.args.out.now c.loop-row.out (rows_lines c.args.facts found.own rows)) all
+    subst (λ (rows : List Row). ListsBetween false (sum_by (row_cost found.own) rows) d f c.args.out.now c.loop-row.out (rows_lines c.args.facts found.own rows)) all
     (c.loop-row.invariant.told t o level found n keeps)

@@ -9,7 +9,7 @@ use Rattle.uimg_fit_base.specs.Files.{bytes_of}
 use Rattle.uimg_fit_reading.specs.Allowances.{text_sizes, node_allowance}
 use Rattle.uimg_fit_reading.specs.Listing.{hash_lines}
 use Rattle.uimg_fit_reading.specs.Rows.{image_rows, keeps_row, row_cost, rows_lines, title}
-use Rattle.uimg_fit_reading.specs.Telling.{Lists}
+use Rattle.uimg_fit_reading.specs.Telling.{ListsBetween}
 use Rattle.uimg_fit_reading.proofs.OpenedLaws.{still}
 use Rattle.uimg_fit_reading.proofs.RowLaws.{name_cost, address_cost}
 use Rattle.uimg_fit_reading.proofs.SharesLaws.{one_text}
@@ -35,7 +35,7 @@ returns-in_err-put_node-clause-told g c = λ t o found n.
     let d = g.S.Source.device c.args.source.now in
     let m = g.S.Source.device c.put_node.new.source in
     let head = more_lists true _ (748 + 4 * text_sizes found.own) d m c.args.out.now c.put_node.new.out _ (image_paid c.args.naming found) (rw known at (c.in_err-put_node.ensures.told t o in_images found n (ap (list_all (keeps_row in_images found.name)) known))) in
-    rw failed (subst (λ (w : List ℕ). Lists true (748 + 4 * text_sizes found.own + sum_by node_allowance (hashes found)) d m c.args.out.now c.put_node.new.out w)
+    rw failed (subst (λ (w : List ℕ). ListsBetween true (748 + 4 * text_sizes found.own + sum_by node_allowance (hashes found)) d m c.args.out.now c.put_node.new.out w)
     (append_assoc (title (codes " Image ") c.args.number found.name) (rows_lines c.args.facts found.own (image_rows c.args.naming)) (flat_map hash_lines (hashes found)))
     (cut_lists _ _ _ _ _ _ _ (flat_map hash_lines (hashes found)) head))
 
@@ -48,6 +48,6 @@ returns-clause-told g c = λ t o found n.
     let here = still c.put_node.ensures.leaves.uses.same c.put_node.ensures.leaves.room o in
     let head = more_lists false _ (748 + 4 * text_sizes found.own) d m c.args.out.now c.put_node.new.out _ (image_paid c.args.naming found) (rw known at (c.in_ok-put_node.ensures.told t o in_images found n (ap (list_all (keeps_row in_images found.name)) known))) in
     let tail = c.put_hashes.ensures.told t here (hashes found) (c.first_hash.ensures.hashes t here.read.indexed found n) in
-    subst (λ (w : List ℕ). Lists (is_err c.put_hashes.result) (748 + 4 * text_sizes found.own + sum_by node_allowance (hashes found)) d f c.args.out.now c.put_hashes.new.out w)
+    subst (λ (w : List ℕ). ListsBetween (is_err c.put_hashes.result) (748 + 4 * text_sizes found.own + sum_by node_allowance (hashes found)) d f c.args.out.now c.put_hashes.new.out w)
     (append_assoc (title (codes " Image ") c.args.number found.name) (rows_lines c.args.facts found.own (image_rows c.args.naming)) (flat_map hash_lines (hashes found)))
     (then_lists (is_err c.put_hashes.result) _ _ _ _ _ _ _ _ _ _ head tail)

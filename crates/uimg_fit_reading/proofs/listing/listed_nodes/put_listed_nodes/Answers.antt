@@ -7,7 +7,7 @@ use Rattle.uimg_fit_reading.specs.Allowances.{node_allowance}
 use Rattle.uimg_fit_reading.specs.Listing.{numbered}
 use Rattle.uimg_fit_reading.specs.NodeLines.{level_of, node_lines}
 use Rattle.uimg_fit_reading.specs.Nodes.{AreFrom}
-use Rattle.uimg_fit_reading.specs.Telling.{Lists}
+use Rattle.uimg_fit_reading.specs.Telling.{ListsBetween}
 use Rattle.uimg_fit_reading.proofs.OpenedLaws.{still}
 use Rattle.uimg_fit_reading.proofs.ImageLaws.{front, none_left}
 use Rattle.uimg_fit_reading.proofs.TellingLaws.{left_more, left_fails, left_ends, numbered_more, numbered_none, within_next, none_after, same_level}
@@ -31,7 +31,7 @@ returns-in_err-put_listed-clause-told g c = λ t o all at.
     let left = c.loop-number.invariant.left t o all at in
     let f = front t (level_of kind) c.in-Some.node left.rest (subst (λ (o : Option ℕ). AreFrom t (level_of kind) o left.rest) c.in-Some.is left.at) in
     let here = still same c.loop-number.invariant.room o in
-    let told = subst (λ (w : List ℕ). Lists true (node_allowance f.image) (g.S.Source.device c.loop-number.source) (g.S.Source.device c.put_listed.new.source) c.loop-number.out c.put_listed.new.out (node_lines w kind number f.image)) same.bytes
+    let told = subst (λ (w : List ℕ). ListsBetween true (node_allowance f.image) (g.S.Source.device c.loop-number.source) (g.S.Source.device c.put_listed.new.source) c.loop-number.out c.put_listed.new.out (node_lines w kind number f.image)) same.bytes
     (c.in_err-put_listed.ensures.told t here f.image f.node) in
     rw failed (left_fails (AreFrom t (level_of kind)) (numbered (node_lines file kind)) number (number + 1) c.loop-number.next _ _ _ _ _ _ all left f.image f.more (node_lines file kind number f.image) f.are (numbered_more (node_lines file kind) number f.image f.more) told)
 
@@ -54,7 +54,7 @@ loop-number-preserved g c =
           let f = front t (level_of kind) c.in-Some.node left.rest begins in
           let here = still same c.loop-number.invariant.room o in
           let then = still c.put_listed.ensures.leaves.uses.same c.put_listed.ensures.leaves.room here in
-          let told = subst (λ (w : List ℕ). Lists false (node_allowance f.image) (g.S.Source.device c.loop-number.source) (g.S.Source.device c.put_listed.new.source) c.loop-number.out c.put_listed.new.out (node_lines w kind number f.image)) same.bytes
+          let told = subst (λ (w : List ℕ). ListsBetween false (node_allowance f.image) (g.S.Source.device c.loop-number.source) (g.S.Source.device c.put_listed.new.source) c.loop-number.out c.put_listed.new.out (node_lines w kind number f.image)) same.bytes
           (c.in_ok-put_listed.ensures.told t here f.image f.node) in
           let next = c.next_of-next.ensures.next t then.read.indexed (level_of kind) f.image f.more (subst (λ (l : List (NodeOf Spot)). AreFrom t (level_of kind) (Some c.in-Some.node) l) f.are begins) in
           left_more (AreFrom t (level_of kind)) (numbered (node_lines file kind)) number (number + 1) c.loop-number.next c.next_of-next.result _ _ _ _ _ _ all left f.image f.more (node_lines file kind number f.image) f.are

@@ -17,7 +17,7 @@ returns-in_err-put_value g c = record {
       let failed : is_err c.from_residual.result ≡ true = search rules in
       let value = slice (g.S.Source.device c.args.source.now).bytes c.args.span.place c.args.span.length in
       rw failed (subst (λ (w : List ℕ). Written true c.args.out.now c.put_value.new.out w) (list_is c.args.label.now value)
-      (cut _ _ _ (end_of_line (line_after First value)) (c.in_err-put_value.ensures.told honest)));
+      (cut _ _ _ (end_of_line (line_after First value)) (c.in_err-put_value.ensures.puts.told honest)));
 }
 
 pub returns-in-Open : goal.returns-in-Open
@@ -30,7 +30,7 @@ returns-in-Open g c = record {
       let after : Open ≡ line_after First value = sym c.in-Open.is ∙ c.in_ok-put_value.ensures.line honest in
       subst (λ (w : List ℕ). Written (is_err c.put.result) c.args.out.now c.put.new.out w)
       (ap (λ (k : Line). emitted c.args.label.now First value ++ end_of_line k) after ∙ list_is c.args.label.now value)
-      ((c.in_ok-put_value.ensures.told honest).all ▶ c.put.ensures.told);
+      ((c.in_ok-put_value.ensures.puts.told honest).all ▶ c.put.ensures.told);
 }
 
 no_end : (l : Line) → (l ≡ First) ⊎ (l ≡ Next) → end_of_line l ≡ []
@@ -47,5 +47,5 @@ returns-in-First g c = record {
       let ended : end_of_line (line_after First value) ≡ [] = ap end_of_line (sym (c.in_ok-put_value.ensures.line honest)) ∙ no_end _ c.in-First.is in
       subst (λ (w : List ℕ). Written false c.args.out.now c.put_value.new.out w)
       (sym (append-nil (emitted c.args.label.now First value)) ∙ ap (λ (w : List ℕ). emitted c.args.label.now First value ++ w) (sym ended) ∙ list_is c.args.label.now value)
-      (c.in_ok-put_value.ensures.told honest);
+      (c.in_ok-put_value.ensures.puts.told honest);
 }

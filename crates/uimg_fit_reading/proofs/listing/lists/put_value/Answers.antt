@@ -24,26 +24,31 @@ loop-done-init g c = record {
   put = λ honest. record { appended = Appends-none c.args.out.now.contents };
 }
 
-pub returns-in_err-line-clause-told : goal.returns-in_err-line-clause-told
-returns-in_err-line-clause-told g c = λ honest.
-    let failed : is_err c.from_residual.result ≡ true = search rules in
-    let same = c.loop-done.invariant.same in
-    let file = (g.S.Source.device c.args.source.now).bytes in
-    let at = c.args.span.place in
-    let done = c.loop-done.done in
-    let next = c.min-next.result in
-    let all = c.args.span.length in
-    let label = c.args.label.now in
-    let now = subst (λ (b : Bool). IsTrue b) (sym same.honest) honest in
-    let told = subst (λ (xs : List ℕ). Written true c.loop-done.out c.put_window.new.out (emitted label c.loop-done.line (slice xs (at + done) next)))
-    same.bytes (c.in_err-line.ensures.told now) in
-    let here : line_after First (slice file at done) ≡ c.loop-done.line = sym (c.loop-done.invariant.line honest) in
-    let rest = slice file (at + done + next) (all - (done + next)) in
-    let whole = ap (emitted label First) (three_parts file at done next all (omega arith)) ∙ emitted_append label First (slice file at done) _
-    ∙ ap (λ (w : List ℕ). emitted label First (slice file at done) ++ w)
-    (emitted_append label (line_after First (slice file at done)) (slice file (at + done) next) _
-    ∙ ap (λ (k : Line). emitted label k (slice file (at + done) next) ++ emitted label (line_after (line_after First (slice file at done)) (slice file (at + done) next)) rest) here) in
-    rw failed (stopped c.args.out.now c.loop-done.out c.put_window.new.out _ _ _ _ whole (c.loop-done.invariant.put honest) told)
+pub returns-in_err-line-clause-puts : goal.returns-in_err-line-clause-puts
+returns-in_err-line-clause-puts g c = record {
+  uses = search rules;
+  faults = search rules;
+  told =
+      λ honest.
+      let failed : is_err c.from_residual.result ≡ true = search rules in
+      let same = c.loop-done.invariant.same in
+      let file = (g.S.Source.device c.args.source.now).bytes in
+      let at = c.args.span.place in
+      let done = c.loop-done.done in
+      let next = c.min-next.result in
+      let all = c.args.span.length in
+      let label = c.args.label.now in
+      let now = subst (λ (b : Bool). IsTrue b) (sym same.honest) honest in
+      let told = subst (λ (xs : List ℕ). Written true c.loop-done.out c.put_window.new.out (emitted label c.loop-done.line (slice xs (at + done) next)))
+      same.bytes (c.in_err-line.ensures.puts.told now) in
+      let here : line_after First (slice file at done) ≡ c.loop-done.line = sym (c.loop-done.invariant.line honest) in
+      let rest = slice file (at + done + next) (all - (done + next)) in
+      let whole = ap (emitted label First) (three_parts file at done next all (omega arith)) ∙ emitted_append label First (slice file at done) _
+      ∙ ap (λ (w : List ℕ). emitted label First (slice file at done) ++ w)
+      (emitted_append label (line_after First (slice file at done)) (slice file (at + done) next) _
+      ∙ ap (λ (k : Line). emitted label k (slice file (at + done) next) ++ emitted label (line_after (line_after First (slice file at done)) (slice file (at + done) next)) rest) here) in
+      rw failed (stopped c.args.out.now c.loop-done.out c.put_window.new.out _ _ _ _ whole (c.loop-done.invariant.put honest) told);
+}
 
 pub loop-done-preserved : goal.loop-done-preserved
 loop-done-preserved g c =
@@ -55,10 +60,10 @@ loop-done-preserved g c =
     let label = c.args.label.now in
     record {
       bound = omega arith;
-      same = record { bytes = c.put_window.ensures.uses.same.bytes ∙ same.bytes; honest = c.put_window.ensures.uses.same.honest ∙ same.honest };
-      asked = omega (arith, c.put_window.ensures.uses.asked, c.loop-done.invariant.asked);
-      failures = omega (arith, c.in_ok-line.ensures.uses.failures, c.loop-done.invariant.failures);
-      faults = omega (arith, c.in_ok-line.ensures.faults, c.loop-done.invariant.faults);
+      same = record { bytes = c.put_window.ensures.puts.uses.same.bytes ∙ same.bytes; honest = c.put_window.ensures.puts.uses.same.honest ∙ same.honest };
+      asked = omega (arith, c.put_window.ensures.puts.uses.asked, c.loop-done.invariant.asked);
+      failures = omega (arith, c.in_ok-line.ensures.puts.uses.failures, c.loop-done.invariant.failures);
+      faults = omega (arith, c.in_ok-line.ensures.puts.faults, c.loop-done.invariant.faults);
       line = λ honest.
           let now = subst (λ (b : Bool). IsTrue b) (sym same.honest) honest in
           c.in_ok-line.ensures.line now
@@ -67,16 +72,21 @@ loop-done-preserved g c =
           ∙ sym (ap (line_after First) (slice-add file at done next) ∙ after_append First (slice file at done) (slice file (at + done) next));
       put = λ honest.
           let now = subst (λ (b : Bool). IsTrue b) (sym same.honest) honest in
-          let told = subst (λ (xs : List ℕ). Written false c.loop-done.out c.put_window.new.out (emitted label c.loop-done.line (slice xs (at + done) next))) same.bytes (c.in_ok-line.ensures.told now) in
+          let told = subst (λ (xs : List ℕ). Written false c.loop-done.out c.put_window.new.out (emitted label c.loop-done.line (slice xs (at + done) next))) same.bytes (c.in_ok-line.ensures.puts.told now) in
           subst (AppendsAll c.args.out.now c.put_window.new.out)
           (ap (λ (k : Line). emitted label First (slice file at done) ++ emitted label k (slice file (at + done) next)) (c.loop-done.invariant.line honest)
           ∙ sym (ap (emitted label First) (slice-add file at done next) ∙ emitted_append label First (slice file at done) (slice file (at + done) next)))
           (all_then c.args.out.now c.loop-done.out c.put_window.new.out _ _ (c.loop-done.invariant.put honest) told.all);
     }
 
-pub returns-clause-told : goal.returns-clause-told
-returns-clause-told g c = λ honest.
-    let file = (g.S.Source.device c.args.source.now).bytes in
-    let all : c.loop-done.done ≡ c.args.span.length = omega arith in
-    written_all c.args.out.now c.loop-done.out _
-    (subst (λ (n : ℕ). AppendsAll c.args.out.now c.loop-done.out (emitted c.args.label.now First (slice file c.args.span.place n))) all (c.loop-done.invariant.put honest))
+pub returns-clause-puts : goal.returns-clause-puts
+returns-clause-puts g c = record {
+  uses = search rules;
+  faults = search rules;
+  told =
+      λ honest.
+      let file = (g.S.Source.device c.args.source.now).bytes in
+      let all : c.loop-done.done ≡ c.args.span.length = omega arith in
+      written_all c.args.out.now c.loop-done.out _
+      (subst (λ (n : ℕ). AppendsAll c.args.out.now c.loop-done.out (emitted c.args.label.now First (slice file c.args.span.place n))) all (c.loop-done.invariant.put honest));
+}

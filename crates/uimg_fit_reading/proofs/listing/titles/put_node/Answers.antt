@@ -2,7 +2,7 @@ use Rattle.std.proofs.Common.{rules, ◌≡◌, List, ℕ, true, false, is_err, 
 use Rattle.std.specs.List.{sum_by}
 use Rattle.uimg_base.specs.Writing.{Written}
 use Rattle.uimg_fit_reading.specs.Rows.{row_cost, rows_lines, title}
-use Rattle.uimg_fit_reading.specs.Telling.{Lists}
+use Rattle.uimg_fit_reading.specs.Telling.{ListsBetween}
 use Rattle.uimg_fit_reading.proofs.OpenedLaws.{still}
 use Rattle.uimg_fit_reading.proofs.TellingLaws.{then_lists, cut_lists}
 use Rattle.uimg_fit_reading.proofs.listing.titles.put_node.Goals as goal
@@ -12,7 +12,7 @@ returns-in_err-put_title-clause-told g c = λ t o level found n keeps.
     let failed : is_err c.from_residual.result ≡ true = search rules in
     let d = g.S.Source.device c.args.source.now in
     let m = g.S.Source.device c.put_title.new.source in
-    let head : Lists true 255 d m c.args.out.now c.put_title.new.out (title c.args.before.now c.args.number found.name) = record {
+    let head : ListsBetween true 255 d m c.args.out.now c.put_title.new.out (title c.args.before.now c.args.number found.name) = record {
       asked = omega (arith, c.put_title.ensures.uses.asked, c.name_of.ensures.short d.bytes t o.read level found n);
       written = subst (λ (w : List ℕ). Written true c.args.out.now c.put_title.new.out (title c.args.before.now c.args.number w)) (c.name_of.ensures.name d.bytes t o.read level found n) (c.in_err-put_title.ensures.told o.honest);
     } in
@@ -24,7 +24,7 @@ returns-clause-told g c = λ t o level found n keeps.
     let m = g.S.Source.device c.put_title.new.source in
     let f = g.S.Source.device c.put_rows.new.source in
     let here = still c.put_title.ensures.uses.same c.put_title.ensures.room o in
-    let head : Lists false 255 d m c.args.out.now c.put_title.new.out (title c.args.before.now c.args.number found.name) = record {
+    let head : ListsBetween false 255 d m c.args.out.now c.put_title.new.out (title c.args.before.now c.args.number found.name) = record {
       asked = omega (arith, c.put_title.ensures.uses.asked, c.name_of.ensures.short d.bytes t o.read level found n);
       written = subst (λ (w : List ℕ). Written false c.args.out.now c.put_title.new.out (title c.args.before.now c.args.number w)) (c.name_of.ensures.name d.bytes t o.read level found n) (c.in_ok-put_title.ensures.told o.honest);
     } in

@@ -1,7 +1,7 @@
 use Rattle.std.proofs.Common.{ℕ, List, subst, arith}
 use Rattle.uimg_texts.specs.Slices.{slice}
 use Rattle.uimg_base.proofs.SinkLaws.{prefix_none}
-use Rattle.uimg_fit_reading.specs.HashReports.{PutsHashes}
+use Rattle.uimg_fit_reading.specs.HashReports.{PutsHashesBetween}
 use Rattle.uimg_fit_reading.proofs.OpenedLaws.{still}
 use Rattle.uimg_fit_reading.proofs.HashReportLaws.{costs}
 use Rattle.uimg_fit_reading.proofs.report.hash_reports.report_hashes.Goals as goal
@@ -22,7 +22,7 @@ returns-clause-told g c = λ t o hs at.
     let same = c.compared_digests.ensures.uses.same in
     let here = still same c.compared_digests.ensures.room o in
     let message = slice (d c.args.source.now).bytes c.args.span.place c.args.span.length in
-    let put = subst (λ (xs : List ℕ). PutsHashes (slice xs image.place image.length) message image.length hs (d c.compared_digests.new.source).asked (d c.put_hashes.new.source).asked c.put_hashes.result c.args.out.now c.put_hashes.new.out) same.bytes
+    let put = subst (λ (xs : List ℕ). PutsHashesBetween (slice xs image.place image.length) message image.length hs (d c.compared_digests.new.source).asked (d c.put_hashes.new.source).asked c.put_hashes.result c.args.out.now c.put_hashes.new.out) same.bytes
     (c.put_hashes.ensures.told t here hs at message found.digests found.covered) in
     record {
       right = put.right;

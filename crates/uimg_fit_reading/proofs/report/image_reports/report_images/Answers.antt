@@ -5,7 +5,7 @@ use Rattle.uimg_blob.specs.LookUps.{NodeOf}
 use Rattle.uimg_blob.specs.Roles.{in_images}
 use Rattle.uimg_blob.specs.Spots.{Spot}
 use Rattle.uimg_fit_base.specs.declared.fault.Fault.{Fault}
-use Rattle.uimg_fit_reading.specs.ImageReports.{ImageDone, ImageCut, ReportsImages}
+use Rattle.uimg_fit_reading.specs.ImageReports.{ImageDone, ImageCut, ReportsImagesBetween}
 use Rattle.uimg_fit_reading.specs.Nodes.{AreFrom}
 use Rattle.uimg_fit_reading.proofs.OpenedLaws.{still}
 use Rattle.uimg_fit_reading.proofs.ImageLaws.{front}
@@ -56,7 +56,7 @@ returns-in_err-right-clause-told g c = λ t o found from.
     let f = front t in_images c.in-Some.image k.left (subst (λ (x : Option ℕ). AreFrom t in_images x k.left) c.in-Some.is k.from) in
     let cut = subst (λ (xs : List ℕ). ImageCut xs f.image (d c.loop-next.source).asked (d c.report_image.new.source).asked fault c.loop-next.out c.report_image.new.out) same.bytes
     (c.in_err-right.ensures.told t (still same c.loop-next.invariant.room o) f.image f.node) in
-    subst (λ (r : Result Status Fault). ReportsImages file found (d c.args.source.now).asked (d c.report_image.new.source).asked r c.args.out.now c.report_image.new.out) (sym is)
+    subst (λ (r : Result Status Fault). ReportsImagesBetween file found (d c.args.source.now).asked (d c.report_image.new.source).asked r c.args.out.now c.report_image.new.out) (sym is)
     (images_cut t file found (d c.args.source.now).asked (d c.loop-next.source).asked c.args.out.now c.loop-next.out c.loop-next.are_right c.loop-next.next k
     f.image f.more f.are _ fault c.report_image.new.out cut)
 

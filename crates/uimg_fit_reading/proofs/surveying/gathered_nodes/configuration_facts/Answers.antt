@@ -1,4 +1,4 @@
-use Rattle.std.proofs.Common.{sym, refl}
+use Rattle.std.proofs.Common.{refl}
 use Rattle.uimg_blob.specs.LookUps.{listed}
 use Rattle.uimg_blob.specs.Roles.{in_configurations}
 use Rattle.uimg_fit_reading.proofs.surveying.gathered_nodes.configuration_facts.Goals as goal

@@ -3,7 +3,6 @@ use Rattle.std.specs.List.{All}
 use Rattle.std.specs.Option.{option_map_or}
 use Rattle.uimg_blob.specs.Grammar.{Siblings}
 use Rattle.uimg_blob.specs.LookUps.{NodeOf}
-use Rattle.uimg_blob.specs.Roles.{in_image}
 use Rattle.uimg_blob.specs.Spots.{Spot}
 use Rattle.uimg_fit_reading.specs.declared.surveying.facts.HashFacts.{HashFacts}
 use Rattle.uimg_fit_reading.specs.Nodes.{InFile, IsRead, HashesAt}

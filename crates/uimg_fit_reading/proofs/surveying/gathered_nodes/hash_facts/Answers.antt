@@ -1,4 +1,4 @@
-use Rattle.std.proofs.Common.{sym, refl}
+use Rattle.std.proofs.Common.{refl}
 use Rattle.uimg_blob.specs.Roles.{in_image}
 use Rattle.uimg_fit_reading.proofs.CompareLaws.{keeps_algo, keeps_value}
 use Rattle.uimg_fit_reading.proofs.surveying.gathered_nodes.hash_facts.Goals as goal

@@ -1,4 +1,4 @@
-use Rattle.std.proofs.Common.{rules, sym, ap, subst, List}
+use Rattle.std.proofs.Common.{sym, ap, subst, List}
 use Rattle.uimg_base.specs.declared.spans.Span.{Span}
 use Rattle.uimg_blob.specs.LookUps.{listed}
 use Rattle.uimg_blob.specs.Plain.{NamedOf}

@@ -1,4 +1,4 @@
-use Rattle.std.proofs.Common.{rules, ◌≡◌, ◌<◌, ◌++◌, ◌∷◌, ℕ, List, [], length, Option, Some, Ok, Err, Vec, Global, refl, ap, sym, ◌∙◌, subst}
+use Rattle.std.proofs.Common.{rules, ◌≡◌, ◌++◌, ◌∷◌, ℕ, List, [], Option, Some, Ok, Err, Vec, Global, refl, sym, ◌∙◌, subst}
 use Rattle.std.specs.List.{All}
 use Rattle.std.proofs.lemmas.List.Elements.{All-push}
 use Rattle.uimg_base.specs.Held.{Held}
@@ -23,9 +23,9 @@ loop-next-preserved g c =
     let places = c.in-Ok.places in
     let grows : c.push.new.self.items ≡ now.lists.items ++ places ∷ [] = search rules in
     record {
-      same = record { bytes = list.uses.same.bytes ∙ now.invariant.same.bytes; honest = list.uses.same.honest ∙ now.invariant.same.honest };
-      failures = c.in-Ok.ensures.uses.failures ∙ now.invariant.failures;
-      room = list.room.0 ∙ now.invariant.room;
+      same = record { bytes = list.leaves.uses.same.bytes ∙ now.invariant.same.bytes; honest = list.leaves.uses.same.honest ∙ now.invariant.same.honest };
+      failures = c.in-Ok.ensures.leaves.uses.failures ∙ now.invariant.failures;
+      room = list.leaves.room ∙ now.invariant.room;
       within = search rules;
       ends = subst (λ (l : List (Vec PropertyPlace Global)). All (PlacesInside c.args.blob.now.totalsize) l) (sym grows)
           (All-push (PlacesInside c.args.blob.now.totalsize) now.lists.items places now.invariant.ends c.in-Ok.ensures.inside);
@@ -35,7 +35,7 @@ loop-next-preserved g c =
           let x = front t in_configurations c.in-Some.configuration k.gathered.left begins in
           let told = over_same d e f c.args.blob.now c.args.room.now now.room t c.in-Some.configuration x.image (Ok places) now.invariant.same now.invariant.room c.in-Ok.ensures.told opened x.node in
           one_listed d t all e f now.lists.items c.push.new.self.items places now.next c.next_of-next.result k x.image x.more x.are told grows
-          (c.next_of-next.ensures.next t (subst (λ (r : Held). IsIndexed t c.args.blob.now r.entries) (sym (list.room.0 ∙ now.invariant.room)) opened.read.indexed) in_configurations x.image x.more (subst (λ (l : List (NodeOf Spot)). AreFrom t in_configurations (Some c.in-Some.configuration) l) x.are begins));
+          (c.next_of-next.ensures.next t (subst (λ (r : Held). IsIndexed t c.args.blob.now r.entries) (sym (list.leaves.room ∙ now.invariant.room)) opened.read.indexed) in_configurations x.image x.more (subst (λ (l : List (NodeOf Spot)). AreFrom t in_configurations (Some c.in-Some.configuration) l) x.are begins));
     }
 
 pub returns-in-Err-clause-told : goal.returns-in-Err-clause-told

@@ -1,4 +1,4 @@
-use Rattle.std.proofs.Common.{List, Ok, Err, Global, subst}
+use Rattle.std.proofs.Common.{Ok, Err, Global, subst}
 use Rattle.uimg_blob.specs.declared.properties.PropertiesFault.{PropertiesFault}
 use Rattle.uimg_blob.specs.declared.properties.PropertiesFault.TheVariants.{Read, OutOfMemory, Changed}
 use Rattle.uimg_blob.specs.Properties.{places_of, OfRowRead, TellsPlaces}

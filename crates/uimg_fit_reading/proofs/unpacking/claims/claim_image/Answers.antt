@@ -6,7 +6,7 @@ use Rattle.uimg_fit_base.specs.declared.fault.Fault.{Fault}
 use Rattle.uimg_fit_base.specs.Places.{TellsPlace}
 use Rattle.uimg_fit_reading.specs.declared.unpacking.claims.Claim.{Claim}
 use Rattle.uimg_fit_reading.specs.Unpacking.{is_asked, bytes_of}
-use Rattle.uimg_fit_reading.specs.UnpackingParts.{ClaimsImage}
+use Rattle.uimg_fit_reading.specs.UnpackingParts.{ClaimsImageBetween}
 use Rattle.uimg_fit_reading.proofs.OpenedLaws.{still}
 use Rattle.uimg_fit_reading.proofs.ClaimLaws.{claim_skips, claim_told, claim_lacks, claim_over, claim_fits}
 use Rattle.uimg_fit_reading.proofs.unpacking.claims.claim_image.Goals as goal
@@ -33,7 +33,7 @@ returns-in_err-payload-clause-told g c = λ t o found n.
     let fault = c.in_err-payload.field-0.0 in
     let is : c.from_residual-in_err-payload.result ≡ Err fault = search rules in
     let lacks = subst (λ (xs : List ℕ). TellsPlace xs found (Err fault)) same.bytes (c.in_err-payload.ensures.told here.honest t here.read found n) in
-    subst (λ (r : Result Claim Fault). ClaimsImage file only c.args.left found (d c.args.source.now).asked (d c.payload_place.new.source).asked r) (sym is)
+    subst (λ (r : Result Claim Fault). ClaimsImageBetween file only c.args.left found (d c.args.source.now).asked (d c.payload_place.new.source).asked r) (sym is)
     (claim_told file only c.args.left found _ _ (Err fault) asked (omega (arith, c.read_name.ensures.uses.asked, c.payload_place.ensures.uses.asked)) (claim_lacks file c.args.left found fault lacks))
 
 pub returns-then-payload-left-clause-told : goal.returns-then-payload-left-clause-told

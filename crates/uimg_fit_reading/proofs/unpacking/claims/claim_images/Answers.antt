@@ -9,7 +9,7 @@ use Rattle.uimg_fit_reading.specs.declared.unpacking.claims.Claim.{Claim}
 use Rattle.uimg_fit_reading.specs.declared.unpacking.node_names.NodeName.{NodeName}
 use Rattle.uimg_fit_reading.specs.Nodes.{AreFrom}
 use Rattle.uimg_fit_reading.specs.Unpacking.{bytes_of}
-use Rattle.uimg_fit_reading.specs.UnpackingParts.{ClaimsImage, ClaimsImages}
+use Rattle.uimg_fit_reading.specs.UnpackingParts.{ClaimsImageBetween, ClaimsImagesBetween}
 use Rattle.uimg_fit_reading.proofs.OpenedLaws.{still}
 use Rattle.uimg_fit_reading.proofs.ImageLaws.{front}
 use Rattle.uimg_fit_reading.proofs.ClaimLaws.{claims_more, claims_end, claims_cut, claims_done}
@@ -31,8 +31,8 @@ loop-next-preserved g c = record {
       let here = still same c.loop-next.invariant.room o in
       let start = subst (λ (x : Option ℕ). AreFrom t in_images x k.rest) c.in-Some.is k.from in
       let f = front t in_images c.in-Some.image k.rest start in
-      let told = subst (λ (x : Claim). ClaimsImage file only c.loop-next.left f.image (d c.loop-next.source).asked (d c.claim_image.new.source).asked (Ok x)) c.in-Fits.is
-      (subst (λ (xs : List ℕ). ClaimsImage xs only c.loop-next.left f.image (d c.loop-next.source).asked (d c.claim_image.new.source).asked (Ok c.in_ok-rest.field-0)) same.bytes
+      let told = subst (λ (x : Claim). ClaimsImageBetween file only c.loop-next.left f.image (d c.loop-next.source).asked (d c.claim_image.new.source).asked (Ok x)) c.in-Fits.is
+      (subst (λ (xs : List ℕ). ClaimsImageBetween xs only c.loop-next.left f.image (d c.loop-next.source).asked (d c.claim_image.new.source).asked (Ok c.in_ok-rest.field-0)) same.bytes
       (c.in_ok-rest.ensures.told t here f.image f.node)) in
       let indexed = (still c.claim_image.ensures.leaves.uses.same c.claim_image.ensures.leaves.room here).read.indexed in
       claims_more t file only found _ _ c.loop-next.left c.loop-next.next k f.image f.more f.are _ c.in-Fits.rest _ told
@@ -48,8 +48,8 @@ returns-in-Overlaps-clause-told g c = λ t o found from.
     let same = c.loop-next.invariant.same in
     let here = still same c.loop-next.invariant.room o in
     let f = front t in_images c.in-Some.image k.rest (subst (λ (x : Option ℕ). AreFrom t in_images x k.rest) c.in-Some.is k.from) in
-    let told = subst (λ (x : Claim). ClaimsImage file only c.loop-next.left f.image (d c.loop-next.source).asked (d c.claim_image.new.source).asked (Ok x)) c.in-Overlaps.is
-    (subst (λ (xs : List ℕ). ClaimsImage xs only c.loop-next.left f.image (d c.loop-next.source).asked (d c.claim_image.new.source).asked (Ok c.in_ok-rest.field-0)) same.bytes
+    let told = subst (λ (x : Claim). ClaimsImageBetween file only c.loop-next.left f.image (d c.loop-next.source).asked (d c.claim_image.new.source).asked (Ok x)) c.in-Overlaps.is
+    (subst (λ (xs : List ℕ). ClaimsImageBetween xs only c.loop-next.left f.image (d c.loop-next.source).asked (d c.claim_image.new.source).asked (Ok c.in_ok-rest.field-0)) same.bytes
     (c.in_ok-rest.ensures.told t here f.image f.node)) in
     claims_end t file only found _ _ c.loop-next.left c.loop-next.next k f.image f.more f.are _ c.in-Overlaps.name told
 
@@ -63,9 +63,9 @@ returns-in_err-rest-clause-told g c = λ t o found from.
     let fault = c.in_err-rest.field-0.0 in
     let is : c.from_residual-in_err-rest.result ≡ Err fault = search rules in
     let f = front t in_images c.in-Some.image k.rest (subst (λ (x : Option ℕ). AreFrom t in_images x k.rest) c.in-Some.is k.from) in
-    let cut = subst (λ (xs : List ℕ). ClaimsImage xs only c.loop-next.left f.image (d c.loop-next.source).asked (d c.claim_image.new.source).asked (Err fault)) same.bytes
+    let cut = subst (λ (xs : List ℕ). ClaimsImageBetween xs only c.loop-next.left f.image (d c.loop-next.source).asked (d c.claim_image.new.source).asked (Err fault)) same.bytes
     (c.in_err-rest.ensures.told t (still same c.loop-next.invariant.room o) f.image f.node) in
-    subst (λ (r : Result (Option NodeName) Fault). ClaimsImages file only found (d c.args.source.now).asked (d c.claim_image.new.source).asked r) (sym is)
+    subst (λ (r : Result (Option NodeName) Fault). ClaimsImagesBetween file only found (d c.args.source.now).asked (d c.claim_image.new.source).asked r) (sym is)
     (claims_cut t file only found _ _ c.loop-next.left c.loop-next.next k f.image f.more f.are _ fault cut)
 
 pub returns-clause-told : goal.returns-clause-told

@@ -1,6 +1,6 @@
 use Rattle.std.proofs.Common.{◌≡◌, ◌≤◌, ◌-◌}
 use Rattle.uimg_base.specs.Device.{SameDevice, asked_more}
-use Rattle.uimg_fit_reading.specs.Copies.{TakesPiece}
+use Rattle.uimg_fit_reading.specs.Copies.{TakesPieceBetween}
 use Rattle.uimg_fit_reading.proofs.unpacking.copies.take_range.Given as goal
 
 -- the first `done` bytes were asked for, summed and written
@@ -12,7 +12,7 @@ invariant-loop-done g l =
       same : SameDevice (device l.fn.source) (device l.source);
       asked : (device l.source).asked ≡ asked_more (device l.fn.source).asked l.done;
       failures : (device l.source).failures ≡ (device l.fn.source).failures;
-      taken : TakesPiece (device l.fn.source) l.at l.done l.fn.sums l.sums l.fn.out l.out;
+      taken : TakesPieceBetween (device l.fn.source) l.at l.done l.fn.sums l.sums l.fn.out l.out;
     }
 
 abbrev pub decreases-loop-done : goal.decreases-loop-done
