@@ -21,7 +21,7 @@ use Rattle.uimg_requests.specs.declared.make_command.MakeCommand.TheVariants.{Pa
 use Rattle.uimg_engine.specs.Faults.{end_of, is_lost_payload, loses_payload, is_keep, is_of_making, is_no_memory, is_no_payload}
 use Rattle.uimg_engine.specs.Making.{timed, Keeps}
 use Rattle.uimg_engine.specs.MakingTrees.{KeepsTree, only_cleared, for_nodes}
-use Rattle.uimg_engine.specs.Commands.{LacksSource, LacksPayload, LacksFile, OpensToBuild, BuildsCommand, MakesCommand, LeavesRoom, HoldsCommand, listing_of, TakesListing}
+use Rattle.uimg_engine.specs.Commands.{LacksSource, LacksPayload, LacksFile, OpensToBuild, BuildsCommand, MakesCommandBetween, LeavesRoomBetween, HoldsCommandBetween, listing_of, TakesListing}
 use Rattle.uimg_engine.proofs.MakingLaws.{building_stops, keeping, listing_makes, listing_stops}
 use Rattle.uimg_engine.proofs.TreeListing.{building_stops_tree, keeping_tree, listing_makes_tree, listing_stops_tree, no_memory_built}
 
@@ -31,7 +31,7 @@ KeepsCommand (Parts options names) time files kept = Keeps (timed options time) 
 KeepsCommand (Tree source placement) time files kept = KeepsTree files source.items time placement kept
 
 -- why an image is not built, where nothing is listed
-pub building_stops_command : (X : Type 0) {K : Type 0} (device : K → Device) (naming : Naming) (command : MakeCommand) (time : ℕ) (files : List ℕ → Option (List ℕ)) (f : Fault) (image now s : Sink) → is_keep {X = X} (Err f) ≡ false → BuildsCommand {X = X} command time files (Err f) image now → MakesCommand device naming command time files (Err f) s s
+pub building_stops_command : (X : Type 0) {K : Type 0} (device : K → Device) (naming : Naming) (command : MakeCommand) (time : ℕ) (files : List ℕ → Option (List ℕ)) (f : Fault) (image now s : Sink) → is_keep {X = X} (Err f) ≡ false → BuildsCommand {X = X} command time files (Err f) image now → MakesCommandBetween device naming command time files (Err f) s s
 building_stops_command X device naming (Parts options names) time files f image now s never stop = building_stops X naming _ files _ f image now s never stop
 building_stops_command X device naming (Tree source placement) time files f image now s never stop = building_stops_tree X naming files source.items time placement f image now s stop
 
@@ -60,12 +60,12 @@ keeping_command command time files x image now held kept builds empty out whole 
     keeping_written command time files x image now kept builds empty (written_out now.contents held kept.bytes (known_built command time files x image now builds empty) out whole) honest
 
 -- what is kept, and then listed
-pub listing_makes_command : {K : Type 0} (device : K → Device) (k : K) (naming : Naming) (command : MakeCommand) (time : ℕ) (files : List ℕ → Option (List ℕ)) (kept : Device) (status : Status) (s t : Sink) → KeepsCommand command time files kept → SameDevice kept (device k) → Tells (end_of (Ok status)) (listing_of naming command kept.bytes) s t → MakesCommand device naming command time files (Ok k) s t
+pub listing_makes_command : {K : Type 0} (device : K → Device) (k : K) (naming : Naming) (command : MakeCommand) (time : ℕ) (files : List ℕ → Option (List ℕ)) (kept : Device) (status : Status) (s t : Sink) → KeepsCommand command time files kept → SameDevice kept (device k) → Tells (end_of (Ok status)) (listing_of naming command kept.bytes) s t → MakesCommandBetween device naming command time files (Ok k) s t
 listing_makes_command device k naming (Parts options names) time files kept status s t keeps same told = listing_makes naming _ files _ kept (device k) status s t keeps same told
 listing_makes_command device k naming (Tree source placement) time files kept status s t keeps same told = listing_makes_tree naming files source.items time placement kept (device k) status s t keeps same told
 
 -- why the listing stops
-pub listing_stops_command : {K : Type 0} (device : K → Device) (naming : Naming) (command : MakeCommand) (time : ℕ) (files : List ℕ → Option (List ℕ)) (kept : Device) (f : Fault) (s t : Sink) (old new : Held) → KeepsCommand command time files kept → is_of_making {X = Status} (Err f) ≡ false → TakesListing command kept (is_no_memory {X = Status} (Err f)) old new → Tells (end_of (Err f)) (listing_of naming command kept.bytes) s t → MakesCommand device naming command time files (Err f) s t
+pub listing_stops_command : {K : Type 0} (device : K → Device) (naming : Naming) (command : MakeCommand) (time : ℕ) (files : List ℕ → Option (List ℕ)) (kept : Device) (f : Fault) (s t : Sink) (old new : Held) → KeepsCommand command time files kept → is_of_making {X = Status} (Err f) ≡ false → TakesListing command kept (is_no_memory {X = Status} (Err f)) old new → Tells (end_of (Err f)) (listing_of naming command kept.bytes) s t → MakesCommandBetween device naming command time files (Err f) s t
 listing_stops_command device naming (Parts options names) time files kept f s t old new keeps not takes told = listing_stops naming _ files _ kept f s t keeps not takes.1 told
 listing_stops_command device naming (Tree source placement) time files kept f s t old new keeps not takes told = listing_stops_tree naming files source.items time placement kept f s t keeps not told
 
@@ -94,7 +94,7 @@ listing_loses_none X Y Keep is = refl
 listing_loses_none X Y OutOfMemory is = refl
 
 -- the room, where no image is built
-pub room_stays : (X : Type 0) {K : Type 0} (device : K → Device) (honest : Bool) (command : MakeCommand) (time : ℕ) (files : List ℕ → Option (List ℕ)) (f : Fault) (image now : Sink) (old new : Held) → new ≡ record old { entries = [] } → (IsTrue honest → BuildsCommand {X = X} command time files (Err f) image now) → LeavesRoom device honest command (Err f) old new
+pub room_stays : (X : Type 0) {K : Type 0} (device : K → Device) (honest : Bool) (command : MakeCommand) (time : ℕ) (files : List ℕ → Option (List ℕ)) (f : Fault) (image now : Sink) (old new : Held) → new ≡ record old { entries = [] } → (IsTrue honest → BuildsCommand {X = X} command time files (Err f) image now) → LeavesRoomBetween device honest command (Err f) old new
 room_stays X device honest (Parts options names) time files f image now old new cleared built = cleared
 room_stays X device honest (Tree source placement) time files f image now old new cleared built =
     record {
@@ -103,11 +103,11 @@ room_stays X device honest (Tree source placement) time files f image now old ne
     }
 
 -- the room, where nothing is listed, and where what is kept is
-pub holds_nothing : (command : MakeCommand) (time : ℕ) (files : List ℕ → Option (List ℕ)) (old new : Held) → new ≡ record old { entries = [] } → HoldsCommand command time files old new
+pub holds_nothing : (command : MakeCommand) (time : ℕ) (files : List ℕ → Option (List ℕ)) (old new : Held) → new ≡ record old { entries = [] } → HoldsCommandBetween command time files old new
 holds_nothing (Parts options names) time files old new cleared = cleared
 holds_nothing (Tree source placement) time files old new cleared = only_cleared cleared
 
-pub holds_listed : (command : MakeCommand) (time : ℕ) (files : List ℕ → Option (List ℕ)) (kept : Device) (no_memory : Bool) (old now new : Held) → now ≡ record old { entries = [] } → KeepsCommand command time files kept → TakesListing command kept no_memory now new → HoldsCommand command time files old new
+pub holds_listed : (command : MakeCommand) (time : ℕ) (files : List ℕ → Option (List ℕ)) (kept : Device) (no_memory : Bool) (old now new : Held) → now ≡ record old { entries = [] } → KeepsCommand command time files kept → TakesListing command kept no_memory now new → HoldsCommandBetween command time files old new
 holds_listed (Parts options names) time files kept no_memory old now new cleared keeps takes = takes.0 ∙ ap (λ (h : Held). record h { entries = [] }) cleared
 holds_listed (Tree source placement) time files kept no_memory old now new cleared keeps takes =
     for_nodes (record {
@@ -119,8 +119,8 @@ holds_listed (Tree source placement) time files kept no_memory old now new clear
     })
 
 -- an answer over files is one over the same files
-pub made_of_same : {K : Type 0} (device : K → Device) (naming : Naming) (command : MakeCommand) (time : ℕ) (a b : List ℕ → Option (List ℕ)) (result : Result K Fault) (s t : Sink) → a ≡ b → MakesCommand device naming command time a result s t → MakesCommand device naming command time b result s t
-made_of_same device naming command time a b result s t same made = subst (λ (files : List ℕ → Option (List ℕ)). MakesCommand device naming command time files result s t) same made
+pub made_of_same : {K : Type 0} (device : K → Device) (naming : Naming) (command : MakeCommand) (time : ℕ) (a b : List ℕ → Option (List ℕ)) (result : Result K Fault) (s t : Sink) → a ≡ b → MakesCommandBetween device naming command time a result s t → MakesCommandBetween device naming command time b result s t
+made_of_same device naming command time a b result s t same made = subst (λ (files : List ℕ → Option (List ℕ)). MakesCommandBetween device naming command time files result s t) same made
 
 -- what files that are complete and honest lack
 lacks_by : (files : List ℕ → Option (List ℕ)) (source : List ℕ) (f : Fault) → LacksSource files source f → is_no_payload {X = ⊤} (Err f) ≡ false → LacksPayload files source f

@@ -1,11 +1,15 @@
 -- What the making of an image gives, by its command.
+use Rattle.std.specs.Borrow.{Bor}
 use Rattle.std.specs.Prelude.{◌≡◌, ℕ, List, [], map, Option, None, Result, Ok, Err, IsTrue, IfErr, Bool, false, ⊤}
 use Rattle.std.specs.Bool.{OnFalse}
 use Rattle.uimg_base.specs.Device.{Device, Rose, RisesIf}
 use Rattle.uimg_base.specs.Held.{Held}
-use Rattle.uimg_base.specs.Named.{FileMap, SameFiles}
-use Rattle.uimg_base.specs.Outcome.{Outcome}
+use Rattle.uimg_base.specs.Lent.{Lent}
+use Rattle.uimg_base.specs.Named.{FileMap, SameFiles, bytes_named}
+use Rattle.uimg_base.specs.Outcome.{Outcome, Tells}
 use Rattle.uimg_base.specs.Sink.{Sink}
+use Rattle.uimg_base.specs.Using.{Uses}
+use Rattle.uimg_base.specs.declared.status.Status.{Status}
 use Rattle.uimg_fit_reading.specs.Rooms.{TakesNodes}
 use Rattle.uimg_names.specs.declared.naming.Naming.{Naming}
 use Rattle.uimg_engine.specs.declared.fault.Fault.{Fault}
@@ -14,10 +18,18 @@ use Rattle.uimg_requests.specs.declared.command.Action.TheVariants as Action
 use Rattle.uimg_requests.specs.declared.command.Format.TheVariants as Format
 use Rattle.uimg_requests.specs.declared.make_command.MakeCommand.{MakeCommand}
 use Rattle.uimg_requests.specs.declared.make_command.MakeCommand.TheVariants.{Parts, Tree}
-use Rattle.uimg_engine.specs.Faults.{is_no_memory, is_of_making, is_no_text, is_no_payload, refuses_payload}
+use Rattle.uimg_engine.specs.Faults.{end_of, is_read, is_put, is_no_memory, is_of_making, is_no_text, is_no_payload, refuses_payload}
 use Rattle.uimg_engine.specs.Headline.{outcome_in, outcome_of, Takes}
 use Rattle.uimg_engine.specs.Making.{timed, OpensNames, Lacks, BuildsNames, MakesAnswer}
 use Rattle.uimg_engine.specs.MakingTrees.{BuildsSource, MakesSource, HoldsSource}
+
+-- the files answer their bytes
+abbrev pub HonestFiles : {F : Type 0} → (F → FileMap) → Lent F → Type 0
+HonestFiles view files = IsTrue (view files.entry.now).honest
+
+-- what files in memory are, by their names
+abbrev pub bytes_among : List (Bor (List ℕ) × Bor (List ℕ)) → List ℕ → Option (List ℕ)
+bytes_among files = λ name. bytes_named name files
 
 -- Files have the sizes that a command keeps of them: those of a tree do where the files are honest, and parts keep none.
 abbrev pub KeepsSizes : MakeCommand → FileMap → Type 0
@@ -49,9 +61,12 @@ BuildsCommand (Parts options names) time files result s t = BuildsNames (timed o
 BuildsCommand (Tree source placement) time files result s t = BuildsSource files source.items time placement result s t
 
 -- what the answer of a making says of the files, and of what was listed
-abbrev pub MakesCommand : {K : Type 0} → (K → Device) → Naming → MakeCommand → ℕ → (List ℕ → Option (List ℕ)) → Result K Fault → Sink → Sink → Type 0
-MakesCommand device naming (Parts options names) time files result s t = MakesAnswer device naming (timed options time) files (map (λ name. name.items) names.items) result s t
-MakesCommand device naming (Tree source placement) time files result s t = MakesSource device naming files source.items time placement result s t
+abbrev pub MakesCommandBetween : {K : Type 0} → (K → Device) → Naming → MakeCommand → ℕ → (List ℕ → Option (List ℕ)) → Result K Fault → Sink → Sink → Type 0
+MakesCommandBetween device naming (Parts options names) time files result s t = MakesAnswer device naming (timed options time) files (map (λ name. name.items) names.items) result s t
+MakesCommandBetween device naming (Tree source placement) time files result s t = MakesSource device naming files source.items time placement result s t
+
+abbrev pub MakesCommand : {K : Type 0} → (K → Device) → Naming → MakeCommand → ℕ → (List ℕ → Option (List ℕ)) → Result K Fault → Lent Sink → Type 0
+MakesCommand device naming command time files result out = MakesCommandBetween device naming command time files result out.entry.now out.exit.now
 
 -- Files that are complete and honest lack what a fault says: a name, or the source. They lack no payload.
 abbrev pub LacksPayload : (List ℕ → Option (List ℕ)) → List ℕ → Fault → Type 0
@@ -73,14 +88,20 @@ abbrev pub TakesKept : {K : Type 0} → (K → Device) → Bool → Result K Fau
 TakesKept device honest (Ok kept) old new = TakesNodes (device kept) false old new
 TakesKept device honest (Err fault) old new = LeavesRefused honest (is_of_making {X = ⊤} (Err fault)) (is_no_memory {X = ⊤} (Err fault)) old new
 
-abbrev pub LeavesRoom : {K : Type 0} → (K → Device) → Bool → MakeCommand → Result K Fault → (old new : Held) → Type 0
-LeavesRoom device honest (Parts options files) result old new = new ≡ record old { entries = [] }
-LeavesRoom device honest (Tree source placement) result old new = TakesKept device honest result old new
+abbrev pub LeavesRoomBetween : {K : Type 0} → (K → Device) → Bool → MakeCommand → Result K Fault → (old new : Held) → Type 0
+LeavesRoomBetween device honest (Parts options files) result old new = new ≡ record old { entries = [] }
+LeavesRoomBetween device honest (Tree source placement) result old new = TakesKept device honest result old new
+
+abbrev pub LeavesRoom : {K : Type 0} → (K → Device) → Bool → MakeCommand → Result K Fault → Lent Held → Type 0
+LeavesRoom device honest command result room = LeavesRoomBetween device honest command result room.entry.now room.exit.now
 
 -- What a making did to a room, whatever its answer: to list parts takes no memory, and to list a FIT image that for its nodes.
-abbrev pub HoldsCommand : MakeCommand → ℕ → (List ℕ → Option (List ℕ)) → (old new : Held) → Type 0
-HoldsCommand (Parts options names) time files old new = new ≡ record old { entries = [] }
-HoldsCommand (Tree source placement) time files old new = HoldsSource files source.items time placement old new
+abbrev pub HoldsCommandBetween : MakeCommand → ℕ → (List ℕ → Option (List ℕ)) → (old new : Held) → Type 0
+HoldsCommandBetween (Parts options names) time files old new = new ≡ record old { entries = [] }
+HoldsCommandBetween (Tree source placement) time files old new = HoldsSource files source.items time placement old new
+
+abbrev pub HoldsCommand : MakeCommand → ℕ → (List ℕ → Option (List ℕ)) → Lent Held → Type 0
+HoldsCommand command time files room = HoldsCommandBetween command time files room.entry.now room.exit.now
 
 -- the listing of an image that was made, by a set of names
 abbrev pub listing_of : Naming → MakeCommand → List ℕ → Outcome Fault
@@ -91,3 +112,21 @@ listing_of naming (Tree source placement) file = outcome_of (record { action = A
 abbrev pub TakesListing : MakeCommand → Device → Bool → (old new : Held) → Type 0
 TakesListing (Parts options files) kept no_memory old new = Takes false kept no_memory old new
 TakesListing (Tree source placement) kept no_memory old new = TakesNodes kept no_memory old new
+
+-- What the listing of what was kept did at any exit: the source is what it was, and each failure was counted exactly where one
+-- is answered; no fault of a making is.
+pub record ListsBetween (naming : Naming) (command : MakeCommand) (result : Result Status Fault) (d e : Device) (old new : Held) (s t : Sink) : Type 0 where
+  pub uses : Uses (is_read result) d e
+  pub room : TakesListing command d (is_no_memory result) old new
+  pub faults : RisesIf (is_put result) s.faults t.faults
+  pub not_making : is_of_making result ≡ false
+  pub told : IsTrue d.honest → Tells (end_of result) (listing_of naming command d.bytes) s t
+
+abbrev pub Lists : {S : Type 0} → Naming → MakeCommand → Result Status Fault → (S → Device) → Lent S → Lent Held → Lent Sink → Type 0
+Lists naming command result device source room out = ListsBetween naming command result
+    (device source.entry.now) (device source.exit.now) room.entry.now room.exit.now out.entry.now out.exit.now
+
+-- Exactly the listing of what is kept was appended, and nothing in it is refused, if it answers its bytes.
+abbrev pub ListsKept : {K : Type 0} → (K → Device) → Naming → MakeCommand → Lent Sink → K → Type 0
+ListsKept device naming command out kept = IsTrue (device kept).honest → (status : Status)
+    × Tells (end_of (Ok status)) (listing_of naming command (device kept).bytes) out.entry.now out.exit.now

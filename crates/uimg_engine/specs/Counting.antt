@@ -1,9 +1,6 @@
 -- How many payloads an image has.
-use Rattle.std.specs.Prelude.{◌≡◌, ℕ, ⊤, List, Result, Ok, Err, Bool, true, false}
-use Rattle.uimg_blob.specs.Faults.{refuses_memory}
-use Rattle.uimg_fit_base.specs.declared.fault.Fault.{Fault as FitEngineFault}
+use Rattle.std.specs.Prelude.{◌≡◌, ℕ, List, Result, Ok, Err, Bool, true, false}
 use Rattle.uimg_fit_reading.specs.Counting as fit
-use Rattle.uimg_legacy.specs.declared.fault.LegacyFault.{LegacyFault}
 use Rattle.uimg_legacy.specs.Counting as legacy
 use Rattle.uimg_engine.specs.declared.fault.Fault.{Fault}
 use Rattle.uimg_engine.specs.declared.fault.Fault.TheVariants.{Legacy}

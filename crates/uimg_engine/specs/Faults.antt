@@ -1,5 +1,5 @@
 -- What the answers of a command say.
-use Rattle.std.specs.Prelude.{Result, Ok, Err, Option, Some, None, Bool, true, false, not}
+use Rattle.std.specs.Prelude.{◌≡◌, Result, Ok, Err, Option, Some, None, Bool, true, false, not}
 use Rattle.uimg_base.specs.Outcome.{End, done, not_right, refused}
 use Rattle.uimg_base.specs.declared.status.Status.{Status}
 use Rattle.uimg_base.specs.declared.status.Status.TheVariants.{Done, NotRight}
@@ -103,6 +103,11 @@ loses_payload _ = false
 abbrev pub is_lost_payload : {X : Type 0} → Result X Fault → Bool
 is_lost_payload (Err (Fit fault)) = loses_payload fault
 is_lost_payload _ = false
+
+-- No read failed, of a file that is read into a tree or of a payload's file.
+pub record LosesNothing {X : Type 0} (result : Result X Fault) : Type 0 where
+  pub reads : is_unread result ≡ false
+  pub payloads : is_lost_payload result ≡ false
 
 -- the answer is one that only a making gives: nothing is listed then
 abbrev pub is_of_making : {X : Type 0} → Result X Fault → Bool

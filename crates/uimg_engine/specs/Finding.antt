@@ -1,9 +1,10 @@
 -- What a check finds of an image.
-use Rattle.std.specs.Prelude.{◌≡◌, ⊤, ℕ, ◌+◌, ◌≤◌, List, length, Bool, true, false, Option, Some, None, Result, Ok, Err, IsTrue, IfOk}
+use Rattle.std.specs.Prelude.{◌≡◌, ⊤, ℕ, ◌+◌, List, length, Bool, true, false, Option, Some, None, Result, Ok, Err, IsTrue, IfOk}
 use Rattle.uimg_sums.specs.declared.algo.Algo.{Algo}
 use Rattle.uimg_sums.specs.declared.algo.Algo.TheVariants as algo
 use Rattle.uimg_base.specs.Device.{Device}
 use Rattle.uimg_base.specs.Held.{Held}
+use Rattle.uimg_base.specs.Lent.{Lent}
 use Rattle.uimg_base.specs.Outcome.{End, done, not_right, refused}
 use Rattle.uimg_base.specs.Using.{UsesAtMost}
 use Rattle.uimg_fit_base.specs.declared.fault.Fault.{Fault as FitEngineFault}
@@ -79,14 +80,22 @@ told_at file (Ok finding) = Ok (found_at file finding)
 told_at file (Err fault) = Err fault
 
 -- An answer is what the definition finds, unless a read failed or memory was refused.
-abbrev pub TellsCheck : Bool → Option Algo → List ℕ → Result Checked Fault → Type 0
-TellsCheck fit need file result = is_read result ≡ false → is_no_memory result ≡ false → check_of fit need file ≡ told_at file result
+abbrev pub TellsCheckIn : Bool → Option Algo → List ℕ → Result Checked Fault → Type 0
+TellsCheckIn fit need file result = is_read result ≡ false → is_no_memory result ≡ false → check_of fit need file ≡ told_at file result
+
+-- .. of a file that is read as its first bytes tell
+abbrev pub TellsCheck : Option Algo → List ℕ → Result Checked Fault → Type 0
+TellsCheck need file result = TellsCheckIn (is_fit format.Guess file) need file result
 
 -- What the check of an image of a format did at any exit.
-pub record ChecksIn (fit : Bool) (need : Option Algo) (result : Result Checked Fault) (d e : Device) (old new : Held) : Type 0 where
+pub record ChecksInBetween (fit : Bool) (need : Option Algo) (result : Result Checked Fault) (d e : Device) (old new : Held) : Type 0 where
   pub uses : UsesAtMost (work_in fit d.bytes) (is_read result) d e
   pub room : Takes fit d (is_no_memory result) old new
   pub no_put : is_put result ≡ false
   pub not_making : is_of_making result ≡ false
   pub inside : IfOk result (EndsInside (length d.bytes))
-  pub told : IsTrue d.honest → TellsCheck fit need d.bytes result
+  pub told : IsTrue d.honest → TellsCheckIn fit need d.bytes result
+
+abbrev pub ChecksIn : {S : Type 0} → Bool → Option Algo → Result Checked Fault → (S → Device) → Lent S → Lent Held → Type 0
+ChecksIn fit need result device source room = ChecksInBetween fit need result
+    (device source.entry.now) (device source.exit.now) room.entry.now room.exit.now

@@ -1,9 +1,10 @@
 -- What a command on an image has to write, how it has to end, how much it may ask for, and what memory it may take.
-use Rattle.std.specs.Prelude.{◌≡◌, ℕ, ◌+◌, ◌-◌, ◌^◌, ◌<◌, List, [], length, nat_lt, ◌==◌, if◌then◌else◌, Result, Some, ⊤, Bool, true, false, IsTrue}
+use Rattle.std.specs.Prelude.{◌≡◌, ◌↔◌, ℕ, ◌+◌, ◌-◌, ◌^◌, ◌<◌, ◌≤◌, max, List, [], length, nat_lt, ◌==◌, if◌then◌else◌, Result, Some, ⊤, Bool, true, false, IsTrue}
 use Rattle.uimg_base.specs.Device.{Device, RisesIf}
-use Rattle.uimg_base.specs.Held.{Held}
+use Rattle.uimg_base.specs.Held.{Held, held_bytes}
+use Rattle.uimg_base.specs.Lent.{Lent}
 use Rattle.uimg_base.specs.Ranges.{ReadsAhead}
-use Rattle.uimg_base.specs.Sink.{Sink, AppendsAll}
+use Rattle.uimg_base.specs.Sink.{Sink, AppendsAll, AppendsPrefix}
 use Rattle.uimg_base.specs.Outcome.{End, Outcome, done, not_right, refused, Tells}
 use Rattle.uimg_base.specs.Using.{UsesAtMost}
 use Rattle.uimg_base.specs.declared.status.Status.{Status}
@@ -85,6 +86,10 @@ work_in false (action.Extract position) file = legacy.extract_work file position
 abbrev pub work : Command → List ℕ → ℕ
 work command file = 4 + work_in (is_fit command.format file) command.action file
 
+-- the most bytes that a listing asks for
+abbrev pub listing_work : Format → List ℕ → ℕ
+listing_work format file = work (record { action = action.List Profile; format = format }) file
+
 -- how many entries a command's table has at most: one for each node of a FIT image, none for a legacy image
 abbrev pub nodes_in : Bool → List ℕ → ℕ
 nodes_in true file = nodes_met file
@@ -95,10 +100,16 @@ nodes_of command file = nodes_in (is_fit command.format file) file
 
 -- An extraction asked for at most its work without the payload, the bytes that it wrote, and a window of 8192 more.
 -- Of other actions this says nothing.
-abbrev pub ExtractsAhead : ℕ → Action → Outcome Fault → (old new : Device) → Sink → Sink → Type 0
-ExtractsAhead most (action.List naming) o old new s t = ⊤
-ExtractsAhead most action.Verify o old new s t = ⊤
-ExtractsAhead most (action.Extract position) o old new s t = ReadsAhead most old new s t o.text
+abbrev pub ExtractsAheadBetween : ℕ → Action → Outcome Fault → (old new : Device) → Sink → Sink → Type 0
+ExtractsAheadBetween most (action.List naming) o old new s t = ⊤
+ExtractsAheadBetween most action.Verify o old new s t = ⊤
+ExtractsAheadBetween most (action.Extract position) o old new s t = ReadsAhead most old new s t o.text
+
+abbrev pub ExtractsAhead : {S : Type 0} → Command → (S → Device) → Lent S → Lent Sink → Type 0
+ExtractsAhead command device source out = ExtractsAheadBetween
+    (listing_work command.format (device source.entry.now).bytes) command.action
+    (outcome_of command (device source.entry.now).bytes)
+    (device source.entry.now) (device source.exit.now) out.entry.now out.exit.now
 
 -- An extraction that is refused has written nothing. Of other actions and answers this says nothing.
 abbrev pub KeepsOutput : Action → Bool → (old new : Sink) → Type 0
@@ -118,10 +129,42 @@ WritesNone (action.Extract position) false text = ⊤
 abbrev pub Stays : ℕ → ℕ → Type 0
 Stays old new = (old < 2 ^ 64 - 1) × (new ≡ old)
 
+-- a fact holds exactly where a counter rose, if that was below its greatest value
+abbrev pub ExactlyIfRose : Type 0 → ℕ → ℕ → Type 0
+ExactlyIfRose fact old new = old < 2 ^ 64 - 1 → fact ↔ (old < new)
+
+-- the source answers its bytes
+abbrev pub HonestSource : {S : Type 0} → (S → Device) → Lent S → Type 0
+HonestSource device source = IsTrue (device source.entry.now).honest
+
+-- no read of the source failed
+abbrev pub NoReadFails : {S : Type 0} → (S → Device) → Lent S → Type 0
+NoReadFails device source = Stays (device source.entry.now).failures (device source.exit.now).failures
+
+-- no write to the output failed
+abbrev pub NoWriteFails : Lent Sink → Type 0
+NoWriteFails out = Stays out.entry.now.faults out.exit.now.faults
+
+-- at most so many bytes more were asked for, by the bytes of the source
+abbrev pub AsksAtMost : {S : Type 0} → (List ℕ → ℕ) → (S → Device) → Lent S → Type 0
+AsksAtMost most device source = (device source.exit.now).asked ≤ (device source.entry.now).asked + most (device source.entry.now).bytes
+
+-- the room never held more than it did before, or so many bytes
+abbrev pub PeaksAtMost : ℕ → Lent Held → Type 0
+PeaksAtMost most room = room.exit.now.peak ≤ max room.entry.now.peak most
+
+-- the room has its entries dropped, and is otherwise as it was
+abbrev pub OnlyClears : Lent Held → Type 0
+OnlyClears room = room.exit.now ≡ record room.entry.now { entries = [] }
+
 -- no growth of the table of a FIT image was refused; a legacy image has no table
-abbrev pub GrowthsSucceed : Bool → (old new : Held) → Type 0
-GrowthsSucceed true old new = Stays old.refused new.refused
-GrowthsSucceed false old new = ⊤
+abbrev pub GrowthsSucceedBetween : Bool → (old new : Held) → Type 0
+GrowthsSucceedBetween true old new = Stays old.refused new.refused
+GrowthsSucceedBetween false old new = ⊤
+
+abbrev pub GrowthsSucceed : {S : Type 0} → Command → (S → Device) → Lent S → Lent Held → Type 0
+GrowthsSucceed command device source room = GrowthsSucceedBetween (is_fit command.format (device source.entry.now).bytes)
+    room.entry.now room.exit.now
 
 -- The file is surely read as a legacy image: that is asked for, or the bytes of an honest source tell it.
 abbrev pub IsLegacy : Format → Device → Type 0
@@ -135,26 +178,75 @@ Takes true source no_memory old new = TakesNodes source no_memory old new
 Takes false source no_memory old new = (new ≡ record old { entries = [] }) × (no_memory ≡ false)
 
 -- What the engine of a format did at any exit: what it asked for and took, what it wrote of the outcome, and which failures it counted.
-pub record CarriesOut (fit : Bool) (what : Action) (result : Result Status Fault) (d e : Device) (old new : Held) (s t : Sink) : Type 0 where
+pub record CarriesOutBetween (fit : Bool) (what : Action) (result : Result Status Fault) (d e : Device) (old new : Held) (s t : Sink) : Type 0 where
   pub uses : UsesAtMost (work_in fit what d.bytes) (is_read result) d e
   pub room : Takes fit d (is_no_memory result) old new
-  pub ahead : IsTrue d.honest → ExtractsAhead (work_in fit (action.List Profile) d.bytes) what (outcome_in fit what d.bytes) d e s t
+  pub ahead : IsTrue d.honest → ExtractsAheadBetween (work_in fit (action.List Profile) d.bytes) what (outcome_in fit what d.bytes) d e s t
   pub untouched : KeepsOutput what (is_refused result) s t
   pub faults : RisesIf (is_put result) s.faults t.faults
   pub not_making : is_of_making result ≡ false
   pub told : IsTrue d.honest → Tells (end_of result) (outcome_in fit what d.bytes) s t
 
+abbrev pub CarriesOut : {S : Type 0} → Bool → Action → Result Status Fault → (S → Device) → Lent S → Lent Held → Lent Sink → Type 0
+CarriesOut fit what result device source room out = CarriesOutBetween fit what result
+    (device source.entry.now) (device source.exit.now) room.entry.now room.exit.now out.entry.now out.exit.now
+
 -- The same of a command, whose format it names or the file's first bytes tell.
-pub record Runs (command : Command) (result : Result Status Fault) (d e : Device) (old new : Held) (s t : Sink) : Type 0 where
+pub record RunsBetween (command : Command) (result : Result Status Fault) (d e : Device) (old new : Held) (s t : Sink) : Type 0 where
   pub uses : UsesAtMost (work command d.bytes) (is_read result) d e
   pub room : TakesNodes d (is_no_memory result) old new
   pub legacy : IsLegacy command.format d → Takes false d (is_no_memory result) old new
-  pub ahead : IsTrue d.honest → ExtractsAhead (work (record command { action = action.List Profile }) d.bytes) command.action (outcome_of command d.bytes) d e s t
+  pub ahead : IsTrue d.honest → ExtractsAheadBetween (listing_work command.format d.bytes) command.action (outcome_of command d.bytes) d e s t
   pub untouched : KeepsOutput command.action (is_refused result) s t
   pub faults : RisesIf (is_put result) s.faults t.faults
   pub not_making : is_of_making result ≡ false
   pub told : IsTrue d.honest → Tells (end_of result) (outcome_of command d.bytes) s t
 
+abbrev pub Runs : {S : Type 0} → Command → Result Status Fault → (S → Device) → Lent S → Lent Held → Lent Sink → Type 0
+Runs command result device source room out = RunsBetween command result
+    (device source.entry.now) (device source.exit.now) room.entry.now room.exit.now out.entry.now out.exit.now
+
 -- the answer is the outcome's end, and exactly its text was appended
-abbrev pub Meets : Result Status Fault → Outcome Fault → Sink → Sink → Type 0
-Meets result o s t = (end_of result ≡ Some o.end) × AppendsAll s t o.text
+abbrev pub MeetsBetween : Result Status Fault → Outcome Fault → Sink → Sink → Type 0
+MeetsBetween result o s t = (end_of result ≡ Some o.end) × AppendsAll s t o.text
+
+-- .. this outcome of the bytes of the source
+abbrev pub Meets : {S : Type 0} → (List ℕ → Outcome Fault) → Result Status Fault → (S → Device) → Lent S → Lent Sink → Type 0
+Meets outcome result device source out = MeetsBetween result (outcome (device source.entry.now).bytes) out.entry.now out.exit.now
+
+-- a prefix of the text of this outcome of the bytes of the source was appended
+abbrev pub WritesPrefix : {S : Type 0} → (List ℕ → Outcome Fault) → (S → Device) → Lent S → Lent Sink → Type 0
+WritesPrefix outcome device source out = AppendsPrefix out.entry.now out.exit.now (outcome (device source.entry.now).bytes).text
+
+-- What a call that only reads an image did, whatever it answers: it asked for at most so many bytes, and took memory for the
+-- nodes of a FIT image alone, and none for a legacy image. Neither a failed write nor a fault of a making is answered.
+pub record OnlyReadsBetween {X : Type 0} (format : Format) (most : ℕ) (result : Result X Fault) (d e : Device) (old new : Held) : Type 0 where
+  pub uses : UsesAtMost most (is_read result) d e
+  pub room : TakesNodes d (is_no_memory result) old new
+  pub legacy : IsLegacy format d → Takes false d (is_no_memory result) old new
+  pub no_put : is_put result ≡ false
+  pub not_making : is_of_making result ≡ false
+
+-- .. as many bytes as this work of the source's
+abbrev pub OnlyReads : {S X : Type 0} → Format → (List ℕ → ℕ) → Result X Fault → (S → Device) → Lent S → Lent Held → Type 0
+OnlyReads format work result device source room = OnlyReadsBetween format (work (device source.entry.now).bytes) result
+    (device source.entry.now) (device source.exit.now) room.entry.now room.exit.now
+
+-- What a call on the bytes of an image in memory did: no more memory was taken than for its nodes, and a refusal was counted
+-- exactly where memory was refused. Neither a failed read nor a fault of a making is answered.
+pub record InMemoryBetween {X : Type 0} (nodes : ℕ) (result : Result X Fault) (old new : Held) : Type 0 where
+  pub no_read : is_read result ≡ false
+  pub not_making : is_of_making result ≡ false
+  pub no_memory : RisesIf (is_no_memory result) old.refused new.refused
+  pub peak : new.peak ≤ max old.peak (held_bytes nodes)
+
+abbrev pub InMemory : {X : Type 0} → Format → List ℕ → Result X Fault → Lent Held → Type 0
+InMemory format file result room = InMemoryBetween (nodes_in (is_fit format file) file) result room.entry.now room.exit.now
+
+-- No memory was taken, and none was refused: the room was only cleared.
+abbrev pub TakesNone : {X : Type 0} → Result X Fault → Lent Held → Type 0
+TakesNone result room = OnlyClears room × (is_no_memory result ≡ false)
+
+-- An answer and a text are those of an outcome, unless memory was refused, that for the text or that for a table of nodes.
+abbrev pub GivesOutcome : Outcome Fault → Result Status Fault → List ℕ → Type 0
+GivesOutcome o result text = is_put result ≡ false → is_no_memory result ≡ false → (text ≡ o.text) × (end_of result ≡ Some o.end)

@@ -3,14 +3,16 @@ use Rattle.std.specs.Prelude.{◌≡◌, ℕ, ◌+◌, ◌≤◌, List, length, 
 use Rattle.uimg_texts.specs.Slices.{slice}
 use Rattle.uimg_base.specs.Device.{Device}
 use Rattle.uimg_base.specs.Held.{Held}
+use Rattle.uimg_base.specs.Lent.{Lent}
 use Rattle.uimg_base.specs.Outcome.{End, Outcome, done}
 use Rattle.uimg_base.specs.Using.{UsesAtMost}
 use Rattle.uimg_base.specs.declared.spans.Span.{Span}
 use Rattle.uimg_names.specs.declared.naming.Naming.TheVariants.{Profile}
 use Rattle.uimg_requests.specs.declared.command.Action.TheVariants as action
+use Rattle.uimg_requests.specs.declared.command.Format.{Format}
 use Rattle.uimg_engine.specs.declared.fault.Fault.{Fault}
 use Rattle.uimg_engine.specs.Faults.{is_read, is_put, is_no_memory, is_of_making, end_of}
-use Rattle.uimg_engine.specs.Headline.{outcome_in, work_in, Takes}
+use Rattle.uimg_engine.specs.Headline.{outcome_in, outcome_of, work_in, Takes}
 
 -- the end of an extraction that an answer tells, where no device failed and no memory was refused
 abbrev pub ends : Result Span Fault → Option (End Fault)
@@ -22,11 +24,23 @@ pub record TellsSpan (file : List ℕ) (o : Outcome Fault) (result : Result Span
   pub end : IfSome (ends result) (λ e. o.end ≡ e)
   pub text : IfOk result (λ span. o.text ≡ slice file span.place span.length)
 
+-- .. the extraction from a position
+abbrev pub FindsSpan : Format → ℕ → List ℕ → Result Span Fault → Type 0
+FindsSpan format position file result = TellsSpan file (outcome_of (record { action = action.Extract position; format = format }) file) result
+
+-- a span ends in the file
+abbrev pub StandsIn : List ℕ → Span → Type 0
+StandsIn file span = span.place + span.length ≤ length file
+
 -- What the engine of a format did at any exit: it asked for no more than for a listing, and wrote nothing.
-pub record Locates (fit : Bool) (position : ℕ) (result : Result Span Fault) (d e : Device) (old new : Held) : Type 0 where
+pub record LocatesBetween (fit : Bool) (position : ℕ) (result : Result Span Fault) (d e : Device) (old new : Held) : Type 0 where
   pub uses : UsesAtMost (work_in fit (action.List Profile) d.bytes) (is_read result) d e
   pub room : Takes fit d (is_no_memory result) old new
   pub no_put : is_put result ≡ false
   pub not_making : is_of_making result ≡ false
-  pub inside : IfOk result (λ span. span.place + span.length ≤ length d.bytes)
+  pub inside : IfOk result (StandsIn d.bytes)
   pub told : IsTrue d.honest → TellsSpan d.bytes (outcome_in fit (action.Extract position) d.bytes) result
+
+abbrev pub Locates : {S : Type 0} → Bool → ℕ → Result Span Fault → (S → Device) → Lent S → Lent Held → Type 0
+Locates fit position result device source room = LocatesBetween fit position result
+    (device source.entry.now) (device source.exit.now) room.entry.now room.exit.now

@@ -1,6 +1,7 @@
 -- What the making of an image gives.
-use Rattle.std.specs.Prelude.{◌≡◌, ◌≢◌, ℕ, ⊤, ◌<◌, List, length, map, take, Result, Ok, Err, Option, Some, IsSome, IsTrue, IfErr, All, false, slice_index_or, [], None}
+use Rattle.std.specs.Prelude.{◌≡◌, ℕ, ⊤, ◌<◌, List, length, map, take, Result, Ok, Err, Option, Some, IsSome, IsTrue, IfErr, All, false, slice_index_or, [], None, Vec}
 use Rattle.uimg_base.specs.Device.{Device, RisesIf}
+use Rattle.uimg_base.specs.Lent.{Lent}
 use Rattle.uimg_base.specs.Named.{FileMap, SameFiles}
 use Rattle.uimg_base.specs.Sink.{Sink, AppendsAll, AppendsPrefix}
 use Rattle.uimg_base.specs.Outcome.{done}
@@ -14,11 +15,15 @@ use Rattle.uimg_legacy.specs.ReadsBack.{ReadsBack}
 use Rattle.uimg_names.specs.declared.naming.Naming.{Naming}
 use Rattle.uimg_engine.specs.declared.fault.Fault.{Fault}
 use Rattle.uimg_engine.specs.declared.fault.Fault.TheVariants.{Legacy, Blob, Fit, Its, Read, Put, NoFile, Keep, OutOfMemory}
-use Rattle.uimg_engine.specs.Faults.{is_no_file}
+use Rattle.uimg_engine.specs.Faults.{is_no_file, is_put, is_keep, is_before_building}
 
 -- the options at the time of the making
 abbrev pub timed : Options → ℕ → Options
 timed options time = record options { time = time }
+
+-- the bytes of each text
+abbrev pub texts : {Z : Type 0} → List (Vec ℕ Z) → List (List ℕ)
+texts names = map (λ name. name.items) names
 
 -- the names have these parts, in order
 abbrev pub HaveParts : (List ℕ → Option (List ℕ)) → List (List ℕ) → List (List ℕ) → Type 0
@@ -133,3 +138,17 @@ pub record OpensNames {X : Type 0} (names : List (List ℕ)) (result : Result X 
   pub same : SameFiles old new
   pub refusals : RisesIf (is_no_file result) old.refusals new.refusals
   pub missing : IsTrue old.complete → IfErr result (Lacks old.bytes names)
+
+-- What the building of an image did to its output: after an answer that comes before the first byte it is as it was, and a
+-- failed write was counted exactly where one is answered. Nothing is kept yet.
+pub record WritesImageBetween {X : Type 0} (result : Result X Fault) (old new : Sink) : Type 0 where
+  pub untouched : IsTrue (is_before_building result) → new ≡ old
+  pub faults : RisesIf (is_put result) old.faults new.faults
+  pub never_keep : is_keep result ≡ false
+
+abbrev pub WritesImage : {X : Type 0} → Result X Fault → Lent Sink → Type 0
+WritesImage result image = WritesImageBetween result image.entry.now image.exit.now
+
+-- A shelf has just the bytes of what it kept, which answers them.
+abbrev pub KeepsBytes : {K : Type 0} → (K → Device) → Option (List ℕ) → K → Type 0
+KeepsBytes device contents kept = (contents ≡ Some (device kept).bytes) × IsTrue (device kept).honest

@@ -1,11 +1,10 @@
 //! Whether an image in memory is whole, and vouched for by checksums of a certain strength.
 
-ghost use Rattle.std.specs.Prelude.{◌≡◌, ◌≤◌, max, false, Some, Ok};
-ghost use Rattle.uimg_base.specs.Held.{held_bytes};
+ghost use Rattle.std.specs.Prelude.{◌≡◌, false, Some, Ok};
 ghost use Rattle.uimg_requests.specs.declared.command.Format.TheVariants as format;
 ghost use Rattle.uimg_engine.specs.Checking.{check_of, vouched, end_by, is_crc32};
-ghost use Rattle.uimg_engine.specs.Faults.{is_read, is_put, is_no_memory, is_of_making, end_of};
-ghost use Rattle.uimg_engine.specs.Headline.{is_fit, nodes_in};
+ghost use Rattle.uimg_engine.specs.Faults.{is_put, is_no_memory, end_of};
+ghost use Rattle.uimg_engine.specs.Headline.{is_fit, InMemory};
 
 use crate::fault::Fault;
 use crate::formats::is_fit;
@@ -39,11 +38,8 @@ fn status_of(is_vouched: bool) -> Status
 fn vouch<A: Allocator>(need: Algo, image: &[u8], room: &mut Room<A>) -> Result<Status, Fault>
     ensures end { is_no_memory result ≡ false → end_of result
         ≡ Some (end_by (vouched (is_fit format.Guess image.now) need image.now)) }
-    ensures no_read { is_read result ≡ false }
     ensures no_put { is_put result ≡ false }
-    ensures not_making { is_of_making result ≡ false }
-    ensures peak { room.new.peak ≤ max room.old.peak
-        (held_bytes (nodes_in (is_fit format.Guess image.now) image.now)) }
+    ensures memory { InMemory format.Guess image.now result room }
 {
     if is_fit(Format::Guess, &mut MemSource::new(image))? {
         let is_vouched = uimg_fit_reading::is_vouched(need, image, room)?;
@@ -68,10 +64,7 @@ pub fn check_in_memory<A: Allocator, B: Allocator>(
 ) -> Result<Status, Fault>
     ensures end { is_put result ≡ false → is_no_memory result ≡ false →
         end_of result ≡ Some (check_of need image.now) }
-    ensures no_read { is_read result ≡ false }
-    ensures not_making { is_of_making result ≡ false }
-    ensures peak { room.new.peak ≤ max room.old.peak
-        (held_bytes (nodes_in (is_fit format.Guess image.now) image.now)) }
+    ensures memory { InMemory format.Guess image.now result room }
 {
     let command = Command {
         action: Action::Verify,

@@ -1,12 +1,10 @@
 //! How many payloads an image in memory has, by the engine of its format.
 
-ghost use Rattle.std.specs.Prelude.{◌≡◌, ◌≤◌, [], max, false};
-ghost use Rattle.uimg_base.specs.Device.{RisesIf};
-ghost use Rattle.uimg_base.specs.Held.{held_bytes};
+ghost use Rattle.std.specs.Prelude.{◌≡◌, false};
 ghost use Rattle.uimg_requests.specs.declared.command.Format.TheVariants as format;
 ghost use Rattle.uimg_engine.specs.Counting.{TellsCount, count_of};
-ghost use Rattle.uimg_engine.specs.Faults.{is_read, is_put, is_no_memory, is_of_making};
-ghost use Rattle.uimg_engine.specs.Headline.{is_fit, nodes_in};
+ghost use Rattle.uimg_engine.specs.Faults.{is_put};
+ghost use Rattle.uimg_engine.specs.Headline.{is_fit, InMemory, TakesNone};
 
 use crate::fault::Fault;
 use crate::formats::is_fit;
@@ -17,11 +15,9 @@ use uimg_requests::Format;
 // How many parts a legacy image has.
 fn count_parts<A: Allocator>(image: &[u8], room: &mut Room<A>) -> Result<usize, Fault>
     ensures told { TellsCount (count_of false image.now) result }
-    ensures no_read { is_read result ≡ false }
     ensures no_put { is_put result ≡ false }
-    ensures not_making { is_of_making result ≡ false }
-    ensures room { room.new ≡ record room.old { entries = [] } }
-    ensures no_memory { is_no_memory result ≡ false }
+    ensures memory { InMemory format.Legacy image.now result room }
+    ensures legacy { TakesNone result room }
 {
     let count = uimg_legacy::count_parts(&mut MemSource::new(image), room)?;
     Ok(count as usize)
@@ -36,13 +32,9 @@ fn count_parts<A: Allocator>(image: &[u8], room: &mut Room<A>) -> Result<usize, 
 /// takes at most 128 bytes for each node of a FIT image that is met, and for a legacy image none.
 pub fn count_in_memory<A: Allocator>(image: &[u8], room: &mut Room<A>) -> Result<usize, Fault>
     ensures told { TellsCount (count_of (is_fit format.Guess image.now) image.now) result }
-    ensures no_read { is_read result ≡ false }
     ensures no_put { is_put result ≡ false }
-    ensures not_making { is_of_making result ≡ false }
-    ensures no_memory { RisesIf (is_no_memory result) room.old.refused room.new.refused }
-    ensures peak { room.new.peak ≤ max room.old.peak
-        (held_bytes (nodes_in (is_fit format.Guess image.now) image.now)) }
-    ensures legacy { is_fit format.Guess image.now ≡ false → is_no_memory result ≡ false }
+    ensures memory { InMemory format.Guess image.now result room }
+    ensures legacy { is_fit format.Guess image.now ≡ false → TakesNone result room }
 {
     if is_fit(Format::Guess, &mut MemSource::new(image))? {
         let count = uimg_fit_reading::count_images(image, room)?;

@@ -1,12 +1,10 @@
 //! A command on an image, by the engine of its format.
 
-ghost use Rattle.std.specs.Prelude.{◌≡◌, ◌↔◌, ◌+◌, ◌*◌, ◌-◌, ◌^◌, ◌<◌, ◌≤◌, max, [], true, false, length, IsTrue, Err};
+ghost use Rattle.std.specs.Prelude.{◌≡◌, ◌+◌, ◌*◌, true, false, length, Err};
 ghost use Rattle.uimg_base.specs.Device.{SameDevice};
 ghost use Rattle.uimg_base.specs.Held.{held_bytes};
-ghost use Rattle.uimg_base.specs.Sink.{AppendsPrefix};
-ghost use Rattle.uimg_names.specs.declared.naming.Naming.TheVariants.{Profile};
 ghost use Rattle.uimg_engine.specs.Faults.{is_no_memory, is_refused, is_of_making};
-ghost use Rattle.uimg_engine.specs.Headline.{outcome_of, work, nodes_of, is_fit, CarriesOut, Runs, ExtractsAhead, KeepsOutput, Stays, GrowthsSucceed, IsLegacy, Meets};
+ghost use Rattle.uimg_engine.specs.Headline.{outcome_of, work, nodes_of, CarriesOut, Runs, HonestSource, NoReadFails, NoWriteFails, GrowthsSucceed, Meets, WritesPrefix, ExactlyIfRose, AsksAtMost, ExtractsAhead, KeepsOutput, PeaksAtMost, IsLegacy, OnlyClears};
 
 use crate::fault::Fault;
 use crate::formats::is_fit;
@@ -22,8 +20,7 @@ pub(crate) fn run_legacy<S: Source, A: Allocator, W: Write>(
     room: &mut Room<A>,
     out: &mut Out<W>,
 ) -> Result<Status, Fault>
-    ensures { CarriesOut false action result (S.device source.old) (S.device source.new)
-        room.old room.new out.old out.new }
+    ensures { CarriesOut false action result S.device source room out }
 {
     let status = match action {
         Action::List(naming) => uimg_legacy::list(source, room, naming, out)?,
@@ -40,8 +37,7 @@ fn run_fit<S: Source, A: Allocator, W: Write>(
     room: &mut Room<A>,
     out: &mut Out<W>,
 ) -> Result<Status, Fault>
-    ensures { CarriesOut true action result (S.device source.old) (S.device source.new)
-        room.old room.new out.old out.new }
+    ensures { CarriesOut true action result S.device source room out }
 {
     let status = match action {
         Action::List(naming) => uimg_fit_reading::list(source, room, naming, out)?,
@@ -58,8 +54,7 @@ pub(crate) fn run_by_format<S: Source, A: Allocator, W: Write>(
     room: &mut Room<A>,
     out: &mut Out<W>,
 ) -> Result<Status, Fault>
-    ensures { Runs command.now result (S.device source.old) (S.device source.new)
-        room.old room.new out.old out.new }
+    ensures { Runs command.now result S.device source room out }
 {
     room.clear();
     if is_fit(command.format, source)? {
@@ -87,36 +82,24 @@ pub fn run<S: Source, A: Allocator, W: Write>(
     room: &mut Room<A>,
     out: &mut Out<W>,
 ) -> Result<Status, Fault>
-    ensures headline { IsTrue (S.device source.old).honest →
-        Stays (S.device source.old).failures (S.device source.new).failures →
-        Stays out.old.faults out.new.faults →
-        GrowthsSucceed (is_fit command.now.format (S.device source.old).bytes) room.old room.new →
-        Meets result (outcome_of command.now (S.device source.old).bytes) out.old out.new }
-    ensures prefix { IsTrue (S.device source.old).honest →
-        AppendsPrefix out.old out.new (outcome_of command.now (S.device source.old).bytes).text }
-    ensures read { (S.device source.old).failures < 2 ^ 64 - 1 →
-        (result ≡ Err Fault.Read) ↔ ((S.device source.old).failures
-        < (S.device source.new).failures) }
-    ensures put { out.old.faults < 2 ^ 64 - 1 →
-        (result ≡ Err Fault.Put) ↔ (out.old.faults < out.new.faults) }
-    ensures no_memory { room.old.refused < 2 ^ 64 - 1 →
-        (is_no_memory result ≡ true) ↔ (room.old.refused < room.new.refused) }
+    ensures headline { HonestSource S.device source → NoReadFails S.device source →
+        NoWriteFails out → GrowthsSucceed command.now S.device source room →
+        Meets (outcome_of command.now) result S.device source out }
+    ensures prefix { HonestSource S.device source →
+        WritesPrefix (outcome_of command.now) S.device source out }
+    ensures read { ExactlyIfRose (result ≡ Err Fault.Read)
+        (S.device source.old).failures (S.device source.new).failures }
+    ensures put { ExactlyIfRose (result ≡ Err Fault.Put) out.old.faults out.new.faults }
+    ensures no_memory { ExactlyIfRose (is_no_memory result ≡ true)
+        room.old.refused room.new.refused }
     ensures not_making { is_of_making result ≡ false }
-    ensures asked { IsTrue (S.device source.old).honest →
-        (S.device source.new).asked ≤ (S.device source.old).asked + work command.now
-        (S.device source.old).bytes }
-    ensures ahead { IsTrue (S.device source.old).honest →
-        ExtractsAhead (work (record command.now { action = Action.List Profile })
-        (S.device source.old).bytes) command.now.action
-        (outcome_of command.now (S.device source.old).bytes)
-        (S.device source.old) (S.device source.new) out.old out.new }
+    ensures asked { HonestSource S.device source → AsksAtMost (work command.now) S.device source }
+    ensures ahead { HonestSource S.device source → ExtractsAhead command.now S.device source out }
     ensures untouched { KeepsOutput command.now.action (is_refused result) out.old out.new }
-    ensures peak { IsTrue (S.device source.old).honest → room.new.peak
-        ≤ max room.old.peak (held_bytes (nodes_of command.now (S.device source.old).bytes)) }
-    ensures most { room.new.peak ≤ max room.old.peak
-        (8320 + 16 * length (S.device source.old).bytes) }
-    ensures legacy { IsLegacy command.now.format (S.device source.old) →
-        room.new ≡ record room.old { entries = [] } }
+    ensures peak { HonestSource S.device source →
+        PeaksAtMost (held_bytes (nodes_of command.now (S.device source.old).bytes)) room }
+    ensures most { PeaksAtMost (8320 + 16 * length (S.device source.old).bytes) room }
+    ensures legacy { IsLegacy command.now.format (S.device source.old) → OnlyClears room }
     ensures same { SameDevice (S.device source.old) (S.device source.new) }
 {
     run_by_format(command, source, room, out)

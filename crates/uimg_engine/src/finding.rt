@@ -1,12 +1,9 @@
 //! What a check finds of an image, over any source.
 
-ghost use Rattle.std.specs.Prelude.{◌≡◌, [], true, false, length, IsTrue, IfOk};
-ghost use Rattle.uimg_base.specs.Using.{UsesAtMost};
-ghost use Rattle.uimg_fit_reading.specs.Rooms.{TakesNodes};
+ghost use Rattle.std.specs.Prelude.{◌≡◌, true, false, length, IfOk};
 ghost use Rattle.uimg_requests.specs.declared.command.Format.TheVariants as format;
-ghost use Rattle.uimg_engine.specs.Faults.{is_read, is_put, is_no_memory, is_of_making};
 ghost use Rattle.uimg_engine.specs.Finding.{ChecksIn, EndsInside, TellsCheck, check_work, stands_by_crc32};
-ghost use Rattle.uimg_engine.specs.Headline.{IsLegacy, is_fit};
+ghost use Rattle.uimg_engine.specs.Headline.{HonestSource, OnlyReads};
 
 use crate::fault::Fault;
 use crate::formats::is_fit;
@@ -47,7 +44,7 @@ fn check_legacy<S: Source, A: Allocator>(
     source: &mut S,
     room: &mut Room<A>,
 ) -> Result<Checked, Fault>
-    ensures { ChecksIn false need result (S.device source.old) (S.device source.new) room.old room.new }
+    ensures { ChecksIn false need result S.device source room }
 {
     let is_right = uimg_legacy::check(source, room)?;
     if !is_right {
@@ -66,7 +63,7 @@ fn check_fit<S: Source, A: Allocator>(
     source: &mut S,
     room: &mut Room<A>,
 ) -> Result<Checked, Fault>
-    ensures { ChecksIn true need result (S.device source.old) (S.device source.new) room.old room.new }
+    ensures { ChecksIn true need result S.device source room }
 {
     let finding = uimg_fit_reading::check(need, source, room)?;
     Ok(Checked::Fit(finding))
@@ -87,17 +84,10 @@ pub fn check<S: Source, A: Allocator>(
     source: &mut S,
     room: &mut Room<A>,
 ) -> Result<Checked, Fault>
-    ensures uses { UsesAtMost (check_work (S.device source.old).bytes) (is_read result)
-        (S.device source.old) (S.device source.new) }
-    ensures room { TakesNodes (S.device source.old) (is_no_memory result) room.old room.new }
-    ensures legacy { IsLegacy format.Guess (S.device source.old) →
-        (room.new ≡ record room.old { entries = [] }) × (is_no_memory result ≡ false) }
-    ensures no_put { is_put result ≡ false }
-    ensures not_making { is_of_making result ≡ false }
+    ensures reads { OnlyReads format.Guess check_work result S.device source room }
     ensures inside { IfOk result (EndsInside (length (S.device source.old).bytes)) }
-    ensures told { IsTrue (S.device source.old).honest →
-        TellsCheck (is_fit format.Guess (S.device source.old).bytes) need
-        (S.device source.old).bytes result }
+    ensures told { HonestSource S.device source →
+        TellsCheck need (S.device source.old).bytes result }
 {
     room.clear();
     if is_fit(Format::Guess, source)? {

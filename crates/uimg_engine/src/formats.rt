@@ -1,8 +1,8 @@
 //! Which format a file is read as.
 
-ghost use Rattle.std.specs.Prelude.{◌≡◌, false, IsTrue, IfOk, is_err};
+ghost use Rattle.std.specs.Prelude.{◌≡◌, false, IfOk, is_err};
 ghost use Rattle.uimg_base.specs.Using.{Asks};
-ghost use Rattle.uimg_engine.specs.Headline.{begins_as_blob, is_fit};
+ghost use Rattle.uimg_engine.specs.Headline.{begins_as_blob, is_fit, HonestSource};
 
 use uimg_base::{Source, SourceFault, number_at};
 use uimg_blob::BLOB_MAGIC;
@@ -12,7 +12,7 @@ use uimg_requests::Format;
 #[tactic(auto, unfolding(crate::specs::Headline::begins_as_blob, uimg_texts::specs::Numbers::be32))]
 fn begins_as_blob<S: Source>(source: &mut S) -> Result<bool, SourceFault>
     ensures uses { Asks 4 (is_err result) (S.device source.old) (S.device source.new) }
-    ensures told { IsTrue (S.device source.old).honest →
+    ensures told { HonestSource S.device source →
         IfOk result (λ begins. begins ≡ begins_as_blob (S.device source.old).bytes) }
 {
     if source.size()? < 4 {
@@ -28,7 +28,7 @@ fn begins_as_blob<S: Source>(source: &mut S) -> Result<bool, SourceFault>
 pub fn is_fit<S: Source>(format: Format, source: &mut S) -> Result<bool, SourceFault>
     ensures uses { Asks 4 (is_err result) (S.device source.old) (S.device source.new) }
     ensures asked_for { format ≡ Format.Legacy → IfOk result (λ fit. fit ≡ false) }
-    ensures told { IsTrue (S.device source.old).honest →
+    ensures told { HonestSource S.device source →
         IfOk result (λ fit. fit ≡ is_fit format (S.device source.old).bytes) }
 {
     match format {

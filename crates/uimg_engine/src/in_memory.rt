@@ -1,15 +1,11 @@
 //! `run`, `locate` and `make` over memory alone, where nothing but memory can fail.
-ghost use Rattle.std.specs.Prelude.{◌≡◌, ◌+◌, ◌<◌, ◌≤◌, ◌^◌, ◌-◌, max, [], length, true, false, Some, IsTrue, IfOk, IfErr};
+ghost use Rattle.std.specs.Prelude.{◌≡◌, true, false, IsTrue, IfOk, IfErr};
 ghost use Rattle.std.specs.Io.{StartsWith};
-ghost use Rattle.uimg_base.specs.Device.{RisesIf};
-ghost use Rattle.uimg_base.specs.Held.{held_bytes};
-ghost use Rattle.uimg_base.specs.Named.{bytes_named};
-ghost use Rattle.uimg_engine.specs.Faults.{is_read, is_unread, is_lost_payload, is_put, is_no_memory, is_refused, is_of_making, is_keep, end_of};
-ghost use Rattle.uimg_requests.specs.declared.command.Action.TheVariants as action;
-ghost use Rattle.uimg_engine.specs.Headline.{outcome_of, nodes_of, nodes_in, is_fit, WritesNone};
-ghost use Rattle.uimg_engine.specs.Locating.{TellsSpan};
+ghost use Rattle.uimg_engine.specs.Faults.{LosesNothing, is_put, is_refused, is_of_making, is_keep};
+ghost use Rattle.uimg_engine.specs.Headline.{outcome_of, is_fit, GivesOutcome, InMemory, NoWriteFails, TakesNone, WritesNone};
+ghost use Rattle.uimg_engine.specs.Locating.{FindsSpan, StandsIn};
 ghost use Rattle.uimg_requests.specs.Commands.{HasFitNames};
-ghost use Rattle.uimg_engine.specs.Commands.{LacksFile, MakesCommand, LeavesRoom, HoldsCommand};
+ghost use Rattle.uimg_engine.specs.Commands.{bytes_among, LacksFile, MakesCommand, LeavesRoom, HoldsCommand};
 
 use crate::engine::run_by_format;
 use crate::fault::Fault;
@@ -35,20 +31,11 @@ pub fn run_in_memory<A: Allocator, B: Allocator>(
     image: &[u8],
     room: &mut Room<A>,
 ) -> (Result<Status, Fault>, Vec<u8, B>)
-    ensures text { is_put result.0 ≡ false → is_no_memory result.0 ≡ false →
-        result.1.items ≡ (outcome_of command.now image.now).text }
-    ensures end { is_put result.0 ≡ false → is_no_memory result.0 ≡ false →
-        end_of result.0 ≡ Some (outcome_of command.now image.now).end }
-    ensures read { is_read result.0 ≡ false }
+    ensures told { GivesOutcome (outcome_of command.now image.now) result.0 result.1.items }
     ensures prefix { StartsWith (outcome_of command.now image.now).text result.1.items }
     ensures untouched { WritesNone command.now.action (is_refused result.0) result.1.items }
-    ensures not_making { is_of_making result.0 ≡ false }
-    ensures no_memory { RisesIf (is_no_memory result.0) room.old.refused room.new.refused }
-    ensures peak { room.new.peak ≤ max room.old.peak
-        (held_bytes (nodes_of command.now image.now)) }
-    ensures legacy { is_fit command.now.format image.now ≡ false → is_no_memory result.0 ≡ false }
-    ensures no_table { is_fit command.now.format image.now ≡ false →
-        room.new ≡ record room.old { entries = [] } }
+    ensures memory { InMemory command.now.format image.now result.0 room }
+    ensures legacy { is_fit command.now.format image.now ≡ false → TakesNone result.0 room }
 {
     let mut source = MemSource::new(image);
     let mut out = Out::new(Vec::new(alloc));
@@ -69,18 +56,11 @@ pub fn locate_in_memory<A: Allocator>(
     image: &[u8],
     room: &mut Room<A>,
 ) -> Result<Span, Fault>
-    ensures told { TellsSpan image.now (outcome_of (record {
-      action = action.Extract position;
-      format = format;
-    }) image.now) result }
-    ensures inside { IfOk result (λ span. span.place + span.length ≤ length image.now) }
-    ensures read { is_read result ≡ false }
+    ensures told { FindsSpan format position image.now result }
+    ensures inside { IfOk result (StandsIn image.now) }
     ensures no_put { is_put result ≡ false }
-    ensures not_making { is_of_making result ≡ false }
-    ensures no_memory { RisesIf (is_no_memory result) room.old.refused room.new.refused }
-    ensures peak { room.new.peak ≤ max room.old.peak (held_bytes (nodes_in (is_fit format image.now) image.now)) }
-    ensures legacy { is_fit format image.now ≡ false → (is_no_memory result ≡ false) × (room.new
-        ≡ record room.old { entries = [] }) }
+    ensures memory { InMemory format image.now result room }
+    ensures legacy { is_fit format image.now ≡ false → TakesNone result room }
 {
     let mut source = MemSource::new(image);
     locate(format, position, &mut source, room)
@@ -112,19 +92,15 @@ pub fn make_in_memory<W: Write, A: Allocator + Copy, B: Allocator, H: Allocator>
 ) -> Result<MemKept<H>, Fault>
     requires fit { HasFitNames command.now }
     ensures made { MakesCommand (⟦<MemKept<H> as Source>⟧.device) naming command.now time
-        (λ name. bytes_named name files.now) result out.old out.new }
-    ensures missing { IfErr result (LacksFile command.now (λ name. bytes_named name files.now)) }
-    ensures read { is_unread result ≡ false }
-    ensures payloads { is_lost_payload result ≡ false }
+        (bytes_among files.now) result out }
+    ensures missing { IfErr result (LacksFile command.now (bytes_among files.now)) }
+    ensures reads { LosesNothing result }
     ensures keep { is_keep result ≡ false }
     ensures quiet { IsTrue (is_of_making result) → out.new ≡ out.old }
     ensures puts { is_put result ≡ false → out.new.faults ≡ out.old.faults }
-    ensures put { out.old.faults < 2 ^ 64 - 1 → IsTrue (is_put result) →
-        out.new.faults ≡ out.old.faults → out.new ≡ out.old }
-    ensures room { LeavesRoom (⟦<MemKept<H> as Source>⟧.device) true command.now result
-        room.old room.new }
-    ensures peak { HoldsCommand command.now time (λ name. bytes_named name files.now)
-        room.old room.new }
+    ensures put { IsTrue (is_put result) → NoWriteFails out → out.new ≡ out.old }
+    ensures room { LeavesRoom (⟦<MemKept<H> as Source>⟧.device) true command.now result room }
+    ensures peak { HoldsCommand command.now time (bytes_among files.now) room }
 {
     make(
         alloc,

@@ -1,13 +1,8 @@
 //! Where a part or a payload stands in an image, by the engine of its format.
 
-ghost use Rattle.std.specs.Prelude.{◌≡◌, ◌+◌, ◌≤◌, [], false, true, length, IsTrue, IfOk};
-ghost use Rattle.uimg_base.specs.Using.{UsesAtMost};
-ghost use Rattle.uimg_requests.specs.declared.command.Action.TheVariants as action;
-ghost use Rattle.uimg_names.specs.declared.naming.Naming.TheVariants.{Profile};
-ghost use Rattle.uimg_fit_reading.specs.Rooms.{TakesNodes};
-ghost use Rattle.uimg_engine.specs.Faults.{is_read, is_put, is_no_memory, is_of_making};
-ghost use Rattle.uimg_engine.specs.Headline.{outcome_of, work, IsLegacy};
-ghost use Rattle.uimg_engine.specs.Locating.{TellsSpan, Locates};
+ghost use Rattle.std.specs.Prelude.{false, true, IfOk};
+ghost use Rattle.uimg_engine.specs.Headline.{listing_work, HonestSource, OnlyReads};
+ghost use Rattle.uimg_engine.specs.Locating.{Locates, StandsIn, FindsSpan};
 
 use crate::fault::Fault;
 use crate::formats::is_fit;
@@ -21,8 +16,7 @@ fn locate_part<S: Source, A: Allocator>(
     source: &mut S,
     room: &mut Room<A>,
 ) -> Result<Span, Fault>
-    ensures { Locates false position result (S.device source.old) (S.device source.new)
-        room.old room.new }
+    ensures { Locates false position result S.device source room }
 {
     let span = uimg_legacy::locate(position, source, room)?;
     Ok(span)
@@ -34,8 +28,7 @@ fn locate_payload<S: Source, A: Allocator>(
     source: &mut S,
     room: &mut Room<A>,
 ) -> Result<Span, Fault>
-    ensures { Locates true position result (S.device source.old) (S.device source.new)
-        room.old room.new }
+    ensures { Locates true position result S.device source room }
 {
     let span = uimg_fit_reading::locate(position, source, room)?;
     Ok(span)
@@ -55,17 +48,10 @@ pub fn locate<S: Source, A: Allocator>(
     source: &mut S,
     room: &mut Room<A>,
 ) -> Result<Span, Fault>
-    ensures uses { UsesAtMost (work (record { action = action.List Profile; format = format })
-        (S.device source.old).bytes) (is_read result) (S.device source.old) (S.device source.new) }
-    ensures room { TakesNodes (S.device source.old) (is_no_memory result) room.old room.new }
-    ensures legacy { IsLegacy format (S.device source.old) →
-        (room.new ≡ record room.old { entries = [] }) × (is_no_memory result ≡ false) }
-    ensures no_put { is_put result ≡ false }
-    ensures not_making { is_of_making result ≡ false }
-    ensures inside { IfOk result (λ span. span.place + span.length ≤ length (S.device source.old).bytes) }
-    ensures told { IsTrue (S.device source.old).honest → TellsSpan (S.device source.old).bytes
-        (outcome_of (record { action = action.Extract position; format = format })
-        (S.device source.old).bytes) result }
+    ensures reads { OnlyReads format (listing_work format) result S.device source room }
+    ensures inside { IfOk result (StandsIn (S.device source.old).bytes) }
+    ensures told { HonestSource S.device source →
+        FindsSpan format position (S.device source.old).bytes result }
 {
     room.clear();
     if is_fit(format, source)? {

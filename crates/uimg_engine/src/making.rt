@@ -1,13 +1,13 @@
 //! The making of an image.
 
-ghost use Rattle.std.specs.Prelude.{Ok, ◌≡◌, ◌<◌, ◌^◌, ◌-◌, false, Some, [], IsTrue, IsOk, IfOk, IfErr};
+ghost use Rattle.std.specs.Prelude.{◌≡◌, false, Some, [], IsTrue, IsOk, IfOk, IfErr};
 ghost use Rattle.std.specs.Io.KnownBytes.{Keeps};
-ghost use Rattle.uimg_base.specs.Device.{RisesIf, IsFresh};
-ghost use Rattle.uimg_base.specs.Outcome.{Tells};
-ghost use Rattle.uimg_base.specs.declared.status.Status.{Status};
-ghost use Rattle.uimg_engine.specs.Faults.{end_of, is_unread, is_lost_payload, is_put, is_keep, is_before_building, is_of_making};
+ghost use Rattle.uimg_base.specs.Device.{IsFresh};
+ghost use Rattle.uimg_engine.specs.Faults.{is_unread, is_lost_payload, is_put, is_keep, is_of_making};
+ghost use Rattle.uimg_engine.specs.Headline.{NoWriteFails};
+ghost use Rattle.uimg_engine.specs.Making.{KeepsBytes, WritesImage};
 ghost use Rattle.uimg_requests.specs.Commands.{HasFitNames};
-ghost use Rattle.uimg_engine.specs.Commands.{KeepsSizes, OpensToBuild, BuildsCommand, MakesCommand, LeavesRoom, HoldsCommand, listing_of};
+ghost use Rattle.uimg_engine.specs.Commands.{HonestFiles, KeepsSizes, OpensToBuild, BuildsCommand, MakesCommand, ListsKept, LeavesRoom, HoldsCommand};
 
 use crate::fault::Fault;
 use crate::making_lists::list_kept;
@@ -45,16 +45,14 @@ pub fn build_image<F: Files, W: Write, A: Allocator + Copy>(
     image: &mut Out<W>,
 ) -> Result<(), Fault>
     requires fit { HasFitNames command.now }
-    ensures built { IsTrue (F.map files.old).honest →
+    ensures built { HonestFiles F.map files →
         BuildsCommand command.now time (F.map files.old).bytes result image.old image.new }
     ensures files { OpensToBuild command.now result (F.map files.old) (F.map files.new) }
-    ensures untouched { IsTrue (is_before_building result) → image.new ≡ image.old }
+    ensures image { WritesImage result image }
     ensures reads { IsTrue F.Opened.steady → KeepsSizes command.now (F.map files.old) →
         is_unread result ≡ false }
-    ensures payloads { IsTrue F.Opened.steady → IsTrue (F.map files.old).honest →
+    ensures payloads { IsTrue F.Opened.steady → HonestFiles F.map files →
         is_lost_payload result ≡ false }
-    ensures faults { RisesIf (is_put result) image.old.faults image.new.faults }
-    ensures never_keep { is_keep result ≡ false }
 {
     match command {
         MakeCommand::Parts {
@@ -84,8 +82,7 @@ fn write_out<H: Shelf>(image: Out<H>) -> Result<H, Fault>
 
 // Keeps what was written to a shelf.
 fn keep<H: Shelf>(shelf: H) -> Result<H::Kept, Fault>
-    ensures kept { IsTrue H.honest → IfOk result (λ kept.
-        (H.contents shelf ≡ Some (H.Kept.device kept).bytes) × IsTrue (H.Kept.device kept).honest) }
+    ensures kept { IsTrue H.honest → IfOk result (KeepsBytes H.Kept.device (H.contents shelf)) }
     ensures fault { IfErr result (λ fault. fault ≡ Fault.Keep) }
     ensures steady { IsTrue H.steady → IsOk result }
     ensures fresh { IfOk result (λ kept. IsFresh (H.Kept.device kept)) }
@@ -129,26 +126,22 @@ pub fn make<F: Files, H: Shelf, W: Write, A: Allocator + Copy, B: Allocator>(
     out: &mut Out<W>,
 ) -> Result<H::Kept, Fault>
     requires fit { HasFitNames command.now }
-    ensures made { IsTrue (F.map files.old).honest → IsTrue H.honest → H.contents shelf ≡ Some [] →
-        MakesCommand H.Kept.device naming command.now time (F.map files.old).bytes result out.old out.new }
+    ensures made { HonestFiles F.map files → IsTrue H.honest → H.contents shelf ≡ Some [] →
+        MakesCommand H.Kept.device naming command.now time (F.map files.old).bytes result out }
     ensures files { OpensToBuild command.now result (F.map files.old) (F.map files.new) }
     ensures quiet { IsTrue (is_of_making result) → out.new ≡ out.old }
     ensures puts { is_put result ≡ false → out.new.faults ≡ out.old.faults }
-    ensures put { out.old.faults < 2 ^ 64 - 1 → IsTrue (is_put result) →
-        out.new.faults ≡ out.old.faults → out.new ≡ out.old }
+    ensures put { IsTrue (is_put result) → NoWriteFails out → out.new ≡ out.old }
     ensures steady_reads { IsTrue F.Opened.steady → IsTrue H.Kept.steady →
         KeepsSizes command.now (F.map files.old) → is_unread result ≡ false }
-    ensures steady_payloads { IsTrue F.Opened.steady → IsTrue (F.map files.old).honest →
+    ensures steady_payloads { IsTrue F.Opened.steady → HonestFiles F.map files →
         is_lost_payload result ≡ false }
     ensures steady_keeps { IsTrue H.steady → is_keep result ≡ false }
-    ensures listed { IfOk result (λ kept. IsTrue (H.Kept.device kept).honest → (status : Status)
-        × Tells (end_of (Ok status)) (listing_of naming command.now (H.Kept.device kept).bytes)
-        out.old out.new) }
+    ensures listed { IfOk result (ListsKept H.Kept.device naming command.now out) }
     ensures kept_reads { IfOk result (λ kept. (H.Kept.device kept).failures ≡ 0) }
-    ensures room { LeavesRoom H.Kept.device (F.map files.old).honest command.now result
-        room.old room.new }
-    ensures peak { IsTrue (F.map files.old).honest → IsTrue H.honest → H.contents shelf ≡ Some [] →
-        HoldsCommand command.now time (F.map files.old).bytes room.old room.new }
+    ensures room { LeavesRoom H.Kept.device (F.map files.old).honest command.now result room }
+    ensures peak { HonestFiles F.map files → IsTrue H.honest → H.contents shelf ≡ Some [] →
+        HoldsCommand command.now time (F.map files.old).bytes room }
 {
     room.clear();
     let mut image = Out::new(shelf);

@@ -1,9 +1,5 @@
 //! The listing of an image that was made.
-ghost use Rattle.std.specs.Prelude.{◌≡◌, false, IsTrue};
-ghost use Rattle.uimg_base.specs.Device.{SameDevice, RisesIf};
-ghost use Rattle.uimg_base.specs.Outcome.{Tells};
-ghost use Rattle.uimg_engine.specs.Faults.{is_read, is_put, is_no_memory, is_of_making, end_of};
-ghost use Rattle.uimg_engine.specs.Commands.{listing_of, TakesListing};
+ghost use Rattle.uimg_engine.specs.Commands.{Lists};
 
 use crate::engine::{run_by_format, run_legacy};
 use crate::fault::Fault;
@@ -22,16 +18,7 @@ pub(crate) fn list_kept<S: Source, A: Allocator, W: Write>(
     room: &mut Room<A>,
     out: &mut Out<W>,
 ) -> Result<Status, Fault>
-    ensures same { SameDevice (S.device kept.old) (S.device kept.new) }
-    ensures failures { RisesIf (is_read result) (S.device kept.old).failures
-        (S.device kept.new).failures }
-    ensures room { TakesListing command.now (S.device kept.old) (is_no_memory result)
-        room.old room.new }
-    ensures faults { RisesIf (is_put result) out.old.faults out.new.faults }
-    ensures not_making { is_of_making result ≡ false }
-    ensures told { IsTrue (S.device kept.old).honest →
-        Tells (end_of result) (listing_of naming command.now (S.device kept.old).bytes)
-        out.old out.new }
+    ensures { Lists naming command.now result S.device kept room out }
 {
     match command {
         MakeCommand::Parts { .. } => run_legacy(Action::List(naming), kept, room, out),

@@ -1,11 +1,11 @@
 //! Legacy images, made from files.
 ghost use Rattle.std.specs.Prelude.{◌≡◌, ◌≢◌, false, length, map, IsTrue, IfOk};
-ghost use Rattle.uimg_base.specs.Device.{RisesIf};
 ghost use Rattle.uimg_legacy.specs.Parts.{has_parts};
 ghost use Rattle.uimg_legacy.specs.Devices.{bytes_of, AreHonest};
-ghost use Rattle.uimg_engine.specs.Faults.{is_unread, is_put, is_keep, is_no_file, is_before_building};
+ghost use Rattle.uimg_engine.specs.Faults.{is_unread, is_put, is_keep, is_no_file};
 ghost use Rattle.uimg_requests.specs.Commands.{FitNames};
-ghost use Rattle.uimg_engine.specs.Making.{OpensNames, OpensAnswer, BuildsParts, BuildsNames};
+ghost use Rattle.uimg_engine.specs.Commands.{HonestFiles};
+ghost use Rattle.uimg_engine.specs.Making.{texts, OpensNames, OpensAnswer, BuildsParts, BuildsNames, WritesImage};
 
 use crate::fault::Fault;
 use std::alloc::Allocator;
@@ -19,14 +19,13 @@ fn open_all<F: Files, A: Allocator>(
     names: &[Vec<u8>],
     files: &mut F,
 ) -> Result<Vec<F::Opened, A>, Fault>
-    ensures files { OpensNames (map (λ name. name.items) names.now) result (F.map files.old)
-        (F.map files.new) }
+    ensures files { OpensNames (texts names.now) result (F.map files.old) (F.map files.new) }
     ensures count { IfOk result (λ opened. length opened.items ≡ length names.now) }
     ensures only_opens { (is_unread result ≡ false) × (is_put result ≡ false)
         × (is_keep result ≡ false) }
-    ensures opened { IsTrue (F.map files.old).honest →
-        OpensAnswer (λ opened. map F.Opened.device opened.items)
-        (F.map files.old).bytes (map (λ name. name.items) names.now) result }
+    ensures opened { HonestFiles F.map files →
+        OpensAnswer (λ opened. map F.Opened.device opened.items) (F.map files.old).bytes
+        (texts names.now) result }
 {
     let mut opened = Vec::with_capacity(alloc, names.len())?;
     for i in 0..names.len() {
@@ -50,10 +49,9 @@ fn build_opened<S: Source, W: Write>(
     requires single { has_parts options.now.kind ≡ false → length parts.old ≡ 1 }
     ensures built { AreHonest (map S.device parts.old) → BuildsParts options.now
         (bytes_of (map S.device parts.old)) result image.old image.new }
-    ensures untouched { IsTrue (is_before_building result) → image.new ≡ image.old }
+    ensures image { WritesImage result image }
     ensures reads { IsTrue S.steady → is_unread result ≡ false }
-    ensures faults { RisesIf (is_put result) image.old.faults image.new.faults }
-    ensures only_builds { (is_no_file result ≡ false) × (is_keep result ≡ false) }
+    ensures no_file { is_no_file result ≡ false }
 {
     build(options, parts, image)?;
     Ok(())
@@ -67,16 +65,12 @@ pub(crate) fn build_parts<F: Files, W: Write, A: Allocator>(
     files: &mut F,
     image: &mut Out<W>,
 ) -> Result<(), Fault>
-    requires fit { FitNames options.now (map (λ name. name.items) names.now) }
-    ensures built { IsTrue (F.map files.old).honest →
-        BuildsNames options.now (F.map files.old).bytes
-        (map (λ name. name.items) names.now) result image.old image.new }
-    ensures files { OpensNames (map (λ name. name.items) names.now) result
-        (F.map files.old) (F.map files.new) }
-    ensures untouched { IsTrue (is_before_building result) → image.new ≡ image.old }
+    requires fit { FitNames options.now (texts names.now) }
+    ensures built { HonestFiles F.map files → BuildsNames options.now (F.map files.old).bytes
+        (texts names.now) result image.old image.new }
+    ensures files { OpensNames (texts names.now) result (F.map files.old) (F.map files.new) }
+    ensures image { WritesImage result image }
     ensures reads { IsTrue F.Opened.steady → is_unread result ≡ false }
-    ensures faults { RisesIf (is_put result) image.old.faults image.new.faults }
-    ensures never_keep { is_keep result ≡ false }
 {
     let mut parts = open_all(alloc, names, files)?;
     build_opened(options, &mut parts, image)

@@ -1,10 +1,11 @@
 //! FIT images, made from image-tree source.
 ghost use Rattle.std.specs.Prelude.{◌≡◌, false, Some, IsTrue, IsSome, IfErr};
-ghost use Rattle.uimg_base.specs.Device.{RisesIf};
 ghost use Rattle.uimg_tree.specs.Trees.{node_of};
 ghost use Rattle.uimg_tree.specs.UsingFiles.{UsesFiles};
-ghost use Rattle.uimg_engine.specs.Faults.{is_unread, is_lost_payload, is_put, is_keep, is_no_file, is_no_text, is_no_payload, is_before_building};
-ghost use Rattle.uimg_engine.specs.Commands.{LacksSource, OpensSource};
+ghost use Rattle.uimg_engine.specs.Faults.{LosesNothing, is_unread, is_lost_payload, is_put, is_keep, is_no_file, is_no_text, is_no_payload};
+ghost use Rattle.uimg_engine.specs.Headline.{HonestSource};
+ghost use Rattle.uimg_engine.specs.Commands.{HonestFiles, LacksSource, OpensSource};
+ghost use Rattle.uimg_engine.specs.Making.{WritesImage};
 ghost use Rattle.uimg_engine.specs.MakingTrees.{ReadsText, ReadsTree, BuildsSource};
 
 use crate::fault::Fault;
@@ -18,7 +19,7 @@ use uimg_tree::Tree;
 
 // All the bytes of a source.
 fn whole_text<S: Source, A: Allocator>(alloc: A, source: &mut S) -> Result<Vec<u8, A>, Fault>
-    ensures text { IsTrue (S.device source.old).honest →
+    ensures text { HonestSource S.device source →
         ReadsText (λ text. text.items) (Some (S.device source.old).bytes) result }
     ensures steady { IsTrue S.steady → is_unread result ≡ false }
     ensures only_reads { (is_put result ≡ false) × (is_keep result ≡ false)
@@ -44,7 +45,7 @@ fn read_text<F: Files, A: Allocator>(
     ensures files { UsesFiles (is_no_file result) (F.map files.old) (F.map files.new) }
     ensures missing { IsTrue (F.map files.old).complete →
         IfErr result (LacksSource (F.map files.old).bytes name.now) }
-    ensures text { IsTrue (F.map files.old).honest →
+    ensures text { HonestFiles F.map files →
         ReadsText (λ text. text.items) ((F.map files.old).bytes name.now) result }
     ensures steady { IsTrue F.Opened.steady → is_unread result ≡ false }
     ensures only_opens { (is_put result ≡ false) × (is_keep result ≡ false)
@@ -65,13 +66,12 @@ fn filled_tree<F: Files, A: Allocator + Copy>(
     files: &mut F,
 ) -> Result<Tree<A>, Fault>
     ensures files { OpensSource name.now result (F.map files.old) (F.map files.new) }
-    ensures tree { IsTrue (F.map files.old).honest →
+    ensures tree { HonestFiles F.map files →
         ReadsTree (λ tree. node_of tree.root) (F.map files.old).bytes name.now time result }
     ensures steady { IsTrue F.Opened.steady → is_unread result ≡ false }
-    ensures payloads { IsTrue F.Opened.steady → IsTrue (F.map files.old).honest →
+    ensures payloads { IsTrue F.Opened.steady → HonestFiles F.map files →
         is_lost_payload result ≡ false }
-    ensures no_put { is_put result ≡ false }
-    ensures no_keep { is_keep result ≡ false }
+    ensures only_reads { (is_put result ≡ false) × (is_keep result ≡ false) }
 {
     let text = read_text(alloc, name, files)?;
     let tree = compile(alloc, &text, files)?;
@@ -89,16 +89,11 @@ pub(crate) fn build_tree<F: Files, W: Write, A: Allocator + Copy>(
     files: &mut F,
     image: &mut Out<W>,
 ) -> Result<(), Fault>
-    ensures built { IsTrue (F.map files.old).honest →
+    ensures built { HonestFiles F.map files →
         BuildsSource (F.map files.old).bytes name.now time placement result image.old image.new }
     ensures files { OpensSource name.now result (F.map files.old) (F.map files.new) }
-    ensures untouched { IsTrue (is_before_building result) → image.new ≡ image.old }
-    ensures reads { IsTrue F.Opened.steady → IsTrue (F.map files.old).honest →
-        is_unread result ≡ false }
-    ensures payloads { IsTrue F.Opened.steady → IsTrue (F.map files.old).honest →
-        is_lost_payload result ≡ false }
-    ensures faults { RisesIf (is_put result) image.old.faults image.new.faults }
-    ensures never_keep { is_keep result ≡ false }
+    ensures image { WritesImage result image }
+    ensures steady { IsTrue F.Opened.steady → HonestFiles F.map files → LosesNothing result }
 {
     let tree = filled_tree(alloc, name, time, files)?;
     build(alloc, &tree, files, placement, image)?;

@@ -1,5 +1,5 @@
 -- Configurations, each with its properties.
-use Rattle.std.proofs.Common.{◌≡◌, ◌≤◌, ◌-◌, ℕ, zero, List, [], ◌∷◌, length, map, drop, min, refl, ap, ◌∙◌, length-drop, arith}
+use Rattle.std.proofs.Common.{◌≡◌, ◌≤◌, ℕ, List, [], ◌∷◌, length, map, drop, min, refl, length-drop, arith}
 use Rattle.std.proofs.Math.ListN.{length-map}
 use Rattle.std.proofs.Math.Nat.{suc-ne-zero}
 use Rattle.uimg_base.specs.declared.spans.Span.{Span}

@@ -1,5 +1,5 @@
 -- Where a payload stands, as it is written.
-use Rattle.std.proofs.Common.{◌≡◌, ◌≤◌, ◌<◌, ◌+◌, ℕ, codes, Bool, ◌∷◌, ◌++◌, ap, sym, decimal}
+use Rattle.std.proofs.Common.{◌≤◌, ◌<◌, ◌+◌, ℕ, codes, Bool, ◌∷◌, ◌++◌, ap, sym, decimal}
 use Rattle.std.proofs.lemmas.Bool.{lt-ltb, le-ltb}
 use Rattle.uimg_base.specs.declared.spans.Span.{Span}
 use Rattle.json.specs.Token.{Token}

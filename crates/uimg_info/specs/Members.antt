@@ -1,20 +1,15 @@
 -- What the values of properties are as members of an object of JSON.
-use Rattle.std.specs.Prelude.{ℕ, List, [], ◌∷◌, ◌++◌, map, length, codes, decimal, Bool, true, false, nat_lt, ◌==◌, if◌then◌else◌, Option, Some, None}
+use Rattle.std.specs.Prelude.{ℕ, List, [], ◌∷◌, ◌++◌, map, length, codes, true, false, nat_lt, ◌==◌, if◌then◌else◌, Option, Some, None}
 use Rattle.std.specs.Int.{from_be_bytes, w32, w64}
 use Rattle.std.specs.List.{flat_map, list_all}
 use Rattle.std.specs.Str.{is_utf8}
-use Rattle.std.specs.Str.Lossy.{utf8_lossy}
-use Rattle.base64.specs.Engines.{standard}
-use Rattle.base64.specs.GeneralPurpose.{encode_of}
 use Rattle.hex.specs.Hex.{encode_lower}
-use Rattle.json.specs.Json.{Json, object, array, string, number, Items, no_items, item, Members, no_members, member}
-use Rattle.json.specs.Token.{Token}
-use Rattle.json.specs.Tree.{json_tokens}
+use Rattle.json.specs.Json.{string}
 use Rattle.uimg_texts.specs.Nul.{text}
 use Rattle.uimg_fit_reading.specs.Values.{pieces}
 use Rattle.uimg_info.specs.declared.kinds.Kind.{Kind}
 use Rattle.uimg_info.specs.declared.kinds.Kind.TheVariants.{Text, Texts, Digest, Cell, Address}
-use Rattle.uimg_json.specs.Members.{Member, array_of, number_member, number_if, spelled, of_bytes, beside, text_members}
+use Rattle.uimg_json.specs.Members.{Member, array_of, number_member, number_if, spelled, beside, text_members}
 
 abbrev pub texts_members : List ℕ → List (List ℕ) → List Member
 texts_members name ts =

@@ -1,5 +1,5 @@
 -- The memory reservation block of a devicetree blob (Devicetree Specification, section 5.3).
-use Rattle.std.specs.Prelude.{ℕ, zero, suc, ◌-◌, ◌/◌, ◌==◌, ◌&&◌, min, nat_lt, List, [], ◌∷◌, ◌++◌, map, length, take, drop, codes, Bool, if◌then◌else◌, Option, Some, None}
+use Rattle.std.specs.Prelude.{ℕ, zero, suc, ◌-◌, ◌/◌, ◌==◌, ◌&&◌, min, nat_lt, List, [], ◌∷◌, ◌++◌, map, length, take, drop, codes, Bool, if◌then◌else◌, Option, Some, None, Vec}
 use Rattle.std.specs.Int.{from_be_bytes, w64}
 use Rattle.std.specs.Option.{option_map}
 use Rattle.json.specs.Json.{Json}
@@ -15,6 +15,10 @@ entry_of bytes = record { address = from_be_bytes w64 (take 8 bytes); size = fro
 -- the entry that ends the list
 abbrev pub is_end : Reservation → Bool
 is_end entry = entry.address == 0 && entry.size == 0
+
+-- the items of what was gathered, if anything was
+abbrev pub items_in : {X Z : Type 0} → Option (Vec X Z) → Option (List X)
+items_in gathered = option_map (λ entries. entries.items) gathered
 
 -- the entries before the one that ends them, if there is one among the first so many
 unfoldable pub entries_of : ℕ → List ℕ → Option (List Reservation)

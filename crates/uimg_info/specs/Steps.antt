@@ -1,13 +1,14 @@
 -- What the steps of writing an object do.
-use Rattle.std.specs.Prelude.{◌≡◌, ◌++◌, ℕ, ⊤, List, Bool, true, false, Result, Ok, Err, OnOk, IfErr, IsTrue, Option, map}
+use Rattle.std.specs.Prelude.{◌≡◌, ℕ, ⊤, List, false, Result, Ok, Err, OnOk, IfOk, IsTrue, Option, Some, map, Vec}
 use Rattle.std.specs.Borrow.{Bor}
-use Rattle.json.specs.Json.{Json}
+use Rattle.json.specs.Json.{Json, document}
 use Rattle.json.specs.Print.{print}
 use Rattle.json.specs.Token.{Token}
 use Rattle.json.specs.Tree.{json_tokens}
 use Rattle.json.specs.Written.{Written}
 use Rattle.uimg_json.specs.Steps.{Appends}
 use Rattle.uimg_base.specs.Device.{Device}
+use Rattle.uimg_base.specs.Lent.{Lent}
 use Rattle.uimg_base.specs.Using.{Asks}
 use Rattle.uimg_base.specs.declared.spans.Span.{Span}
 use Rattle.uimg_blob.specs.Faults.{refuses_memory}
@@ -24,13 +25,34 @@ use Rattle.uimg_fit_reading.specs.declared.surveying.facts.FullSurvey.{FullSurve
 use Rattle.uimg_info.specs.Members.{Fact}
 use Rattle.uimg_info.specs.declared.kinds.Kind.{Kind}
 
+-- Of a source that answers its bytes, what is answered is as a fact says of these.
+abbrev pub Says : {S X E : Type 0} → Result X E → (S → Device) → Lent S → (List ℕ → X → Type 0) → Type 0
+Says result device source Fact = IsTrue (device source.entry.now).honest → IfOk result (Fact (device source.entry.now).bytes)
+
+-- A text is that of an object.
+abbrev pub Prints : {Z : Type 0} → Json → Vec ℕ Z → Type 0
+Prints j text = text.items ≡ print (json_tokens j)
+
+-- It is read as JSON as an object.
+abbrev pub ReadsAs : {Z : Type 0} → Json → Vec ℕ Z → Type 0
+ReadsAs j text = document text.items ≡ Some j
+
 -- At most so many bytes were asked for, and a failure of the device was counted exactly where a read failed; of an honest one the
 -- tokens were appended, unless the step failed.
-pub record Puts {X : Type 0} (most : ℕ) (result : Result X SurveyFault) (d e : Device) (old new : Written) (tokens : List Token) : Type 0 where
+pub record PutsBetween {X : Type 0} (most : ℕ) (result : Result X SurveyFault) (d e : Device) (old new : Written) (tokens : List Token) : Type 0 where
   pub uses : Asks most (is_unread result) d e
   pub own : IsOwn result
   pub before : OnOk result (new.before ≡ old.before)
   pub told : IsTrue d.honest → Appends result old new tokens
+
+-- .. the tokens that are said of the bytes of the source
+abbrev pub Puts : {S X : Type 0} → ℕ → Result X SurveyFault → (S → Device) → Lent S → Lent Written → (List ℕ → List Token) → Type 0
+Puts most result device source writer tokens = PutsBetween most result
+    (device source.entry.now) (device source.exit.now) writer.entry.now writer.exit.now (tokens (device source.entry.now).bytes)
+
+-- Tokens were appended, unless memory was refused.
+abbrev pub Adds : {X E : Type 0} → Result X E → Lent Written → List Token → Type 0
+Adds result writer tokens = Appends result writer.entry.now writer.exit.now tokens
 
 -- a fact as a row of the program's: the name of its member, what its value is, and where the value stands
 abbrev pub Row : Type 0

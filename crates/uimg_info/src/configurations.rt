@@ -30,8 +30,8 @@ fn put_node<S: Source>(
     name: Span,
 ) -> Result<(), SurveyFault>
     requires { NameInside (length (S.device source.old).bytes) name }
-    ensures { Puts (node_size name) result (S.device source.old) (S.device source.new)
-        writer.old writer.new (json_tokens (node_json (read_name (S.device source.old).bytes name))) }
+    ensures { Puts (node_size name) result S.device source writer
+        (λ file. json_tokens (node_json (read_name file name))) }
 {
     put_object(alloc, source, writer, &[("name", Text, Some(name))])
 }
@@ -44,9 +44,8 @@ fn put_nodes<S: Source>(
     nodes: &[Span],
 ) -> Result<(), SurveyFault>
     requires { All (NameInside (length (S.device source.old).bytes)) nodes.now }
-    ensures { Puts (sum_by node_size nodes.now) result (S.device source.old) (S.device source.new)
-        writer.old writer.new (json_tokens (array_of
-        (map node_json (map (read_name (S.device source.old).bytes) nodes.now)))) }
+    ensures { Puts (sum_by node_size nodes.now) result S.device source writer
+        (λ file. json_tokens (array_of (map node_json (map (read_name file) nodes.now)))) }
 {
     writer.begin_array()?;
     for node in nodes {
@@ -64,8 +63,8 @@ fn put_property<S: Source>(
     place: PropertyPlace,
 ) -> Result<(), SurveyFault>
     requires { EndsBy (length (S.device source.old).bytes) place }
-    ensures { Puts (property_size place) result (S.device source.old) (S.device source.new)
-        writer.old writer.new (json_tokens (property_json (read_place (S.device source.old).bytes place))) }
+    ensures { Puts (property_size place) result S.device source writer
+        (λ file. json_tokens (property_json (read_place file place))) }
 {
     writer.begin_object()?;
     put_rows(alloc, source, writer, &[("name", Text, Some(place.name))])?;
@@ -82,9 +81,9 @@ fn put_properties<S: Source>(
     properties: &[PropertyPlace],
 ) -> Result<(), SurveyFault>
     requires { All (EndsBy (length (S.device source.old).bytes)) properties.now }
-    ensures { Puts (sum_by property_size properties.now) result (S.device source.old) (S.device source.new)
-        writer.old writer.new (json_tokens (array_of
-        (map property_json (map (read_place (S.device source.old).bytes) properties.now)))) }
+    ensures { Puts (sum_by property_size properties.now) result S.device source writer
+        (λ file. json_tokens (array_of
+        (map property_json (map (read_place file) properties.now)))) }
 {
     writer.begin_array()?;
     for property in properties {
@@ -102,9 +101,9 @@ fn put_configuration_rows<S: Source>(
     facts: &ConfigurationFacts,
 ) -> Result<(), SurveyFault>
     requires { ConfigurationInside (length (S.device source.old).bytes) facts.now }
-    ensures { Puts (configuration_rows_size facts.now) result (S.device source.old) (S.device source.new)
-        writer.old writer.new (tokens_of (facts_members (configuration_facts
-        (read_configuration (S.device source.old).bytes facts.now)))) }
+    ensures { Puts (configuration_rows_size facts.now) result S.device source writer
+        (λ file. tokens_of (facts_members
+        (configuration_facts (read_configuration file facts.now)))) }
 {
     let rows = [
         ("name", Text, Some(facts.name)),
@@ -133,10 +132,9 @@ fn put_configuration<S: Source>(
 ) -> Result<(), SurveyFault>
     requires facts { ConfigurationInside (length (S.device source.old).bytes) facts.now }
     requires properties { All (EndsBy (length (S.device source.old).bytes)) properties.now }
-    ensures { Puts (configuration_size facts.now + sum_by property_size properties.now) result
-        (S.device source.old) (S.device source.new) writer.old writer.new (json_tokens (configuration_json
-        (read_configuration (S.device source.old).bytes facts.now)
-        (map (read_place (S.device source.old).bytes) properties.now))) }
+    ensures { Puts (configuration_size facts.now + sum_by property_size properties.now)
+        result S.device source writer (λ file. json_tokens (configuration_json
+        (read_configuration file facts.now) (map (read_place file) properties.now))) }
 {
     writer.begin_object()?;
     put_configuration_rows(alloc, source, writer, facts)?;
@@ -156,12 +154,13 @@ pub(crate) fn put_configurations<S: Source>(
     configurations: &[ConfigurationFacts],
     properties: &[Vec<PropertyPlace>],
 ) -> Result<(), SurveyFault>
-    requires facts { All (ConfigurationInside (length (S.device source.old).bytes)) configurations.now }
+    requires facts { All (ConfigurationInside (length (S.device source.old).bytes))
+        configurations.now }
     requires properties { All (PlacesInside (length (S.device source.old).bytes)) properties.now }
-    ensures { Puts (sum_by configuration_size configurations.now + sum_by list_size properties.now) result
-        (S.device source.old) (S.device source.new) writer.old writer.new (json_tokens (array_of
-        (configurations_json (map (read_configuration (S.device source.old).bytes) configurations.now)
-        (map (read_properties (S.device source.old).bytes) properties.now)))) }
+    ensures { Puts (sum_by configuration_size configurations.now + sum_by list_size properties.now)
+        result S.device source writer (λ file. json_tokens (array_of (configurations_json
+        (map (read_configuration file) configurations.now)
+        (map (read_properties file) properties.now)))) }
 {
     writer.begin_array()?;
     for i in 0..configurations.len().min(properties.len()) {

@@ -1,10 +1,8 @@
 //! Facts of an image, read from its file and written as members.
 
-ghost use Rattle.std.specs.Prelude.{◌≡◌, ◌+◌, ◌≤◌, length, map, IsTrue, IfOk};
+ghost use Rattle.std.specs.Prelude.{◌+◌, ◌≤◌, length, map};
 ghost use Rattle.std.specs.List.{All, sum_by};
 ghost use Rattle.uimg_texts.specs.Slices.{slice};
-ghost use Rattle.uimg_base.specs.Using.{Asks};
-ghost use Rattle.uimg_fit_reading.specs.SurveyParts.{is_unread, IsOwn};
 ghost use Rattle.json.specs.Tree.{json_tokens};
 ghost use Rattle.uimg_json.specs.Members.{object_of, tokens_of};
 ghost use Rattle.uimg_info.specs.Members.{value_members, fact_members, facts_members};
@@ -35,9 +33,8 @@ fn put_span<S: Source>(
     span: Span,
 ) -> Result<(), SurveyFault>
     requires { span.place + span.length ≤ length (S.device source.old).bytes }
-    ensures { Puts span.length result (S.device source.old) (S.device source.new) writer.old writer.new
-        (tokens_of (value_members kind name.now
-        (slice (S.device source.old).bytes span.place span.length))) }
+    ensures { Puts span.length result S.device source writer
+        (λ file. tokens_of (value_members kind name.now (slice file span.place span.length))) }
 {
     if span.length > MOST {
         put_length(alloc, writer, kind, name, span.length)?;
@@ -57,8 +54,8 @@ fn put_row<S: Source>(
     row: &Row<'_>,
 ) -> Result<(), SurveyFault>
     requires { RowInside (length (S.device source.old).bytes) row.now }
-    ensures { Puts (row_size row.now) result (S.device source.old) (S.device source.new) writer.old writer.new
-        (tokens_of (fact_members (read_row (S.device source.old).bytes row.now))) }
+    ensures { Puts (row_size row.now) result S.device source writer
+        (λ file. tokens_of (fact_members (read_row file row.now))) }
 {
     let (name, kind, value) = *row;
     match value {
@@ -75,8 +72,8 @@ pub(crate) fn put_rows<S: Source>(
     rows: &[Row<'_>],
 ) -> Result<(), SurveyFault>
     requires { All (RowInside (length (S.device source.old).bytes)) rows.now }
-    ensures { Puts (sum_by row_size rows.now) result (S.device source.old) (S.device source.new) writer.old writer.new
-        (tokens_of (facts_members (map (read_row (S.device source.old).bytes) rows.now))) }
+    ensures { Puts (sum_by row_size rows.now) result S.device source writer
+        (λ file. tokens_of (facts_members (map (read_row file) rows.now))) }
 {
     for row in rows {
         put_row(alloc, source, writer, row)?;
@@ -92,9 +89,8 @@ pub(crate) fn put_object<S: Source>(
     rows: &[Row<'_>],
 ) -> Result<(), SurveyFault>
     requires { All (RowInside (length (S.device source.old).bytes)) rows.now }
-    ensures { Puts (sum_by row_size rows.now) result (S.device source.old) (S.device source.new) writer.old writer.new
-        (json_tokens (object_of
-        (facts_members (map (read_row (S.device source.old).bytes) rows.now)))) }
+    ensures { Puts (sum_by row_size rows.now) result S.device source writer
+        (λ file. json_tokens (object_of (facts_members (map (read_row file) rows.now)))) }
 {
     writer.begin_object()?;
     put_rows(alloc, source, writer, rows)?;

@@ -1,18 +1,17 @@
 //! The object that tells what a FIT image says.
 
-ghost use Rattle.std.specs.Prelude.{◌≡◌, ◌+◌, ◌^◌, ◌<◌, ◌≤◌, length, map, IsTrue, IfOk};
+ghost use Rattle.std.specs.Prelude.{◌≡◌, ◌+◌, ◌^◌, ◌<◌, ◌≤◌, length, map, IfOk};
 ghost use Rattle.std.specs.List.{All, sum_by};
 ghost use Rattle.json.specs.Tree.{json_tokens};
 ghost use Rattle.uimg_base.specs.Using.{Asks};
-ghost use Rattle.uimg_fit_reading.specs.FullSurvey.{read_properties, FullInside};
+ghost use Rattle.uimg_fit_reading.specs.FullSurvey.{FullInside};
 ghost use Rattle.uimg_fit_reading.specs.Survey.{read_hash, read_payload, read_image, read_survey, place_said};
 ghost use Rattle.uimg_fit_reading.specs.SurveyParts.{HashInside, PayloadInside, ImageInside, SurveyInside, is_unread, IsOwn};
-ghost use Rattle.uimg_info.specs.Fit.{fault_members, span_members, place_members, image_facts, root_members, hash_json, image_json, head_members, fit_json};
+ghost use Rattle.uimg_info.specs.Fit.{fault_members, span_members, place_members, image_facts, root_members, hash_json, image_json, head_members};
 ghost use Rattle.uimg_json.specs.Members.{array_of, tokens_of};
 ghost use Rattle.uimg_info.specs.Members.{facts_members};
 ghost use Rattle.uimg_info.specs.Reservations.{reservations_of};
-ghost use Rattle.uimg_json.specs.Steps.{Appends};
-ghost use Rattle.uimg_info.specs.Steps.{Puts};
+ghost use Rattle.uimg_info.specs.Steps.{Puts, Adds, Says, read_json};
 ghost use Rattle.uimg_info.specs.Work.{hash_size, image_rows_size, image_size, root_size, full_size};
 
 use crate::configurations::put_configurations;
@@ -36,8 +35,8 @@ fn put_hash<S: Source>(
     facts: &HashFacts,
 ) -> Result<(), SurveyFault>
     requires { HashInside (length (S.device source.old).bytes) facts.now }
-    ensures { Puts (hash_size facts.now) result (S.device source.old) (S.device source.new) writer.old writer.new
-        (json_tokens (hash_json (read_hash (S.device source.old).bytes facts.now))) }
+    ensures { Puts (hash_size facts.now) result S.device source writer
+        (λ file. json_tokens (hash_json (read_hash file facts.now))) }
 {
     let rows = [
         ("name", Text, Some(facts.name)),
@@ -55,9 +54,8 @@ fn put_hashes<S: Source>(
     hashes: &[HashFacts],
 ) -> Result<(), SurveyFault>
     requires { All (HashInside (length (S.device source.old).bytes)) hashes.now }
-    ensures { Puts (sum_by hash_size hashes.now) result (S.device source.old) (S.device source.new) writer.old writer.new
-        (json_tokens (array_of
-        (map hash_json (map (read_hash (S.device source.old).bytes) hashes.now)))) }
+    ensures { Puts (sum_by hash_size hashes.now) result S.device source writer
+        (λ file. json_tokens (array_of (map hash_json (map (read_hash file) hashes.now)))) }
 {
     writer.begin_array()?;
     for hash in hashes {
@@ -69,8 +67,7 @@ fn put_hashes<S: Source>(
 
 // Writes a fault of a payload.
 fn put_fault(writer: &mut Writer, code: &str, message: &str) -> Result<(), AllocError>
-    ensures { Appends result writer.old writer.new
-        (tokens_of (fault_members code.now message.now)) }
+    ensures { Adds result writer (tokens_of (fault_members code.now message.now)) }
 {
     put_string(writer, "fault", code)?;
     put_string(writer, "message", message)?;
@@ -80,7 +77,7 @@ fn put_fault(writer: &mut Writer, code: &str, message: &str) -> Result<(), Alloc
 // Writes where a payload stands in a file of so many bytes.
 fn put_span(writer: &mut Writer, size: u64, place: Span) -> Result<(), AllocError>
     requires { place.place + place.length < 2 ^ 64 }
-    ensures { Appends result writer.old writer.new (tokens_of (span_members size place)) }
+    ensures { Adds result writer (tokens_of (span_members size place)) }
 {
     put_number(writer, "offset", place.place)?;
     put_number(writer, "data-size", place.length)?;
@@ -98,7 +95,7 @@ fn put_place(
     found: Result<Span, FitFault>,
 ) -> Result<(), AllocError>
     requires { IfOk found (λ p. p.place + p.length < 2 ^ 64) }
-    ensures { Appends result writer.old writer.new (tokens_of (place_members size found)) }
+    ensures { Adds result writer (tokens_of (place_members size found)) }
 {
     match found {
         Ok(place) => put_span(writer, size, place),
@@ -114,8 +111,8 @@ fn put_image_rows<S: Source>(
     facts: &ImageFacts,
 ) -> Result<(), SurveyFault>
     requires { ImageInside (length (S.device source.old).bytes) facts.now }
-    ensures { Puts (image_rows_size facts.now) result (S.device source.old) (S.device source.new) writer.old writer.new
-        (tokens_of (facts_members (image_facts (read_image (S.device source.old).bytes facts.now)))) }
+    ensures { Puts (image_rows_size facts.now) result S.device source writer
+        (λ file. tokens_of (facts_members (image_facts (read_image file facts.now)))) }
 {
     let rows = [
         ("name", Text, Some(facts.name)),
@@ -141,8 +138,8 @@ fn place_of<S: Source>(
     ensures uses { Asks 12 (is_unread result) (S.device source.old) (S.device source.new) }
     ensures own { IsOwn result }
     ensures small { IfOk result (λ found. IfOk found (λ p. p.place + p.length < 2 ^ 64)) }
-    ensures place { IsTrue (S.device source.old).honest → IfOk result (λ found.
-        found ≡ place_said totalsize (read_payload (S.device source.old).bytes facts.now)) }
+    ensures place { Says result S.device source
+        (λ file found. found ≡ place_said totalsize (read_payload file facts.now)) }
 {
     match find_payload(source, totalsize, facts) {
         Ok(found) => Ok(found),
@@ -162,8 +159,8 @@ fn put_image<S: Source>(
 ) -> Result<(), SurveyFault>
     requires inside { ImageInside totalsize facts.now }
     requires blob { totalsize ≤ length (S.device source.old).bytes }
-    ensures { Puts (image_size facts.now) result (S.device source.old) (S.device source.new) writer.old writer.new
-        (json_tokens (image_json size totalsize (read_image (S.device source.old).bytes facts.now))) }
+    ensures { Puts (image_size facts.now) result S.device source writer
+        (λ file. json_tokens (image_json size totalsize (read_image file facts.now))) }
 {
     writer.begin_object()?;
     put_image_rows(alloc, source, writer, facts)?;
@@ -186,9 +183,9 @@ fn put_images<S: Source>(
 ) -> Result<(), SurveyFault>
     requires inside { All (ImageInside totalsize) images.now }
     requires blob { totalsize ≤ length (S.device source.old).bytes }
-    ensures { Puts (sum_by image_size images.now) result (S.device source.old) (S.device source.new) writer.old writer.new
-        (json_tokens (array_of (map (image_json size totalsize)
-        (map (read_image (S.device source.old).bytes) images.now)))) }
+    ensures { Puts (sum_by image_size images.now) result S.device source writer
+        (λ file. json_tokens (array_of
+        (map (image_json size totalsize) (map (read_image file) images.now)))) }
 {
     writer.begin_array()?;
     for image in images {
@@ -200,8 +197,7 @@ fn put_images<S: Source>(
 
 // Writes what is told of each image.
 fn put_head(writer: &mut Writer, path: &str, size: u64, totalsize: u32) -> Result<(), AllocError>
-    ensures { Appends result writer.old writer.new
-        (tokens_of (head_members path.now size totalsize)) }
+    ensures { Adds result writer (tokens_of (head_members path.now size totalsize)) }
 {
     put_string(writer, "path", path)?;
     put_number(writer, "status", 0)?;
@@ -219,9 +215,9 @@ fn put_root<S: Source>(
     survey: &Survey,
 ) -> Result<(), SurveyFault>
     requires { SurveyInside (length (S.device source.old).bytes) survey.now }
-    ensures { Puts (root_size survey.now) result (S.device source.old) (S.device source.new) writer.old writer.new
-        (tokens_of (root_members (reservations_of (S.device source.old).bytes survey.now.totalsize)
-        (read_survey (S.device source.old).bytes survey.now))) }
+    ensures { Puts (root_size survey.now) result S.device source writer
+        (λ file. tokens_of (root_members
+        (reservations_of file survey.now.totalsize) (read_survey file survey.now))) }
 {
     let rows = [
         ("description", Text, survey.description),
@@ -243,11 +239,8 @@ pub(crate) fn put_fit<S: Source>(
     full: &FullSurvey,
 ) -> Result<(), SurveyFault>
     requires { FullInside (length (S.device source.old).bytes) full.now }
-    ensures { Puts (full_size full.now) result (S.device source.old) (S.device source.new) writer.old writer.new
-        (json_tokens (fit_json path.now size
-        (reservations_of (S.device source.old).bytes full.now.survey.totalsize)
-        (read_survey (S.device source.old).bytes full.now.survey)
-        (map (read_properties (S.device source.old).bytes) full.now.properties.items))) }
+    ensures { Puts (full_size full.now) result S.device source writer
+        (λ file. json_tokens (read_json path.now size file full.now)) }
 {
     let survey = &full.survey;
     writer.begin_object()?;

@@ -8,7 +8,7 @@ ghost use Rattle.json.specs.Tree.{json_tokens};
 ghost use Rattle.uimg_fit_reading.specs.Values.{pieces};
 ghost use Rattle.uimg_json.specs.Members.{spelled, array_of, of_bytes, tokens_of, string_member, number_member, number_if, text_members};
 ghost use Rattle.uimg_info.specs.Members.{texts_members, told_as, length_of, cell_number, address_number};
-ghost use Rattle.uimg_json.specs.Steps.{Appends};
+ghost use Rattle.uimg_info.specs.Steps.{Adds};
 
 use crate::kinds::Kind;
 use base64::engine::general_purpose::STANDARD;
@@ -62,7 +62,7 @@ fn put_piece(
     piece: &[u8],
     as_bytes: bool,
 ) -> Result<(), AllocError>
-    ensures { Appends result writer.old writer.new (json_tokens (spelled as_bytes piece.now)) }
+    ensures { Adds result writer (json_tokens (spelled as_bytes piece.now)) }
 {
     let text = if as_bytes {
         STANDARD.encode(alloc, piece)?
@@ -80,7 +80,7 @@ fn put_pieces(
     bytes: &[u8],
     as_bytes: bool,
 ) -> Result<(), AllocError>
-    ensures { Appends result writer.old writer.new
+    ensures { Adds result writer
         (json_tokens (array_of (map (spelled as_bytes) (pieces bytes.now)))) }
 {
     writer.begin_array()?;
@@ -96,8 +96,7 @@ fn put_pieces(
 
 // Writes texts, with their bytes beside them where one is not UTF-8.
 fn put_texts(alloc: Global, writer: &mut Writer, name: &str, bytes: &[u8]) -> Result<(), AllocError>
-    ensures { Appends result writer.old writer.new
-        (tokens_of (texts_members name.now (pieces bytes.now))) }
+    ensures { Adds result writer (tokens_of (texts_members name.now (pieces bytes.now))) }
 {
     writer.key(name)?;
     put_pieces(alloc, writer, bytes, false)?;
@@ -116,8 +115,7 @@ fn put_digest(
     name: &str,
     value: &[u8],
 ) -> Result<(), AllocError>
-    ensures { Appends result writer.old writer.new
-        (tokens_of (told_as Kind.Digest name.now value.now)) }
+    ensures { Adds result writer (tokens_of (told_as Kind.Digest name.now value.now)) }
 {
     let digits = hex::encode(alloc, value)?;
     writer.key(name)?;
@@ -158,7 +156,7 @@ pub(crate) fn put_value(
     name: &str,
     value: &[u8],
 ) -> Result<(), AllocError>
-    ensures { Appends result writer.old writer.new (tokens_of (told_as kind name.now value.now)) }
+    ensures { Adds result writer (tokens_of (told_as kind name.now value.now)) }
 {
     match kind {
         Kind::Text => put_text(alloc, writer, name, before_nul(value)),
@@ -177,7 +175,7 @@ pub(crate) fn put_length(
     name: &str,
     length: u64,
 ) -> Result<(), AllocError>
-    ensures { Appends result writer.old writer.new (tokens_of (length_of kind name.now length)) }
+    ensures { Adds result writer (tokens_of (length_of kind name.now length)) }
 {
     if matches!(kind, Kind::Cell | Kind::Address) {
         return Ok(());

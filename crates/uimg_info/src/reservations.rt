@@ -1,16 +1,14 @@
 //! The memory that a blob reserves.
 
-ghost use Rattle.std.specs.Prelude.{◌≡◌, Some, ◌+◌, ◌-◌, ◌≤◌, min, length, drop, map, is_err, IsTrue, IfOk};
-ghost use Rattle.std.specs.Option.{option_map};
+ghost use Rattle.std.specs.Prelude.{◌≡◌, Some, ◌-◌, ◌≤◌, min, length, drop, map, is_err, IfOk};
 ghost use Rattle.json.specs.Tree.{json_tokens};
 ghost use Rattle.uimg_base.specs.Using.{Asks};
 ghost use Rattle.uimg_texts.specs.Numbers.{be32};
 ghost use Rattle.uimg_texts.specs.Slices.{slice};
 ghost use Rattle.uimg_json.specs.Members.{array_of, tokens_of};
-ghost use Rattle.uimg_info.specs.Reservations.{entry_of, is_end, entries_in, reservations_of, reservation_json, reservations_members};
-ghost use Rattle.uimg_json.specs.Steps.{Appends};
+ghost use Rattle.uimg_info.specs.Reservations.{entry_of, is_end, items_in, entries_in, reservations_of, reservation_json, reservations_members};
 ghost use Rattle.uimg_fit_reading.specs.SurveyParts.{IsOwn, is_unread};
-ghost use Rattle.uimg_info.specs.Steps.{Puts};
+ghost use Rattle.uimg_info.specs.Steps.{Puts, Adds, Says};
 
 use byteorder::{BigEndian, ByteOrder};
 use json::Writer;
@@ -61,8 +59,7 @@ fn behind(bytes: &[u8]) -> &[u8]
 
 // The entries before the one that ends them, if it is there.
 fn entries_in(alloc: Global, bytes: &[u8]) -> Result<Option<Vec<Reservation>>, AllocError>
-    ensures { IfOk result (λ found.
-        option_map (λ entries. entries.items) found ≡ entries_in bytes.now) }
+    ensures { IfOk result (λ found. items_in found ≡ entries_in bytes.now) }
 {
     let mut entries = Vec::new(alloc);
     let mut rest = bytes;
@@ -82,8 +79,7 @@ fn entries_in(alloc: Global, bytes: &[u8]) -> Result<Option<Vec<Reservation>>, A
 fn place_of<S: Source>(source: &mut S) -> Result<u32, SourceFault>
     requires { 20 ≤ length (S.device source.old).bytes }
     ensures uses { Asks 4 (is_err result) (S.device source.old) (S.device source.new) }
-    ensures place { IsTrue (S.device source.old).honest →
-        IfOk result (λ n. n ≡ be32 (S.device source.old).bytes 16) }
+    ensures place { Says result S.device source (λ file n. n ≡ be32 file 16) }
 {
     let mut word = [0; 4];
     source.fill_at(16, &mut word)?;
@@ -100,9 +96,8 @@ fn read_reservations<S: Source>(
     requires { totalsize ≤ length (S.device source.old).bytes }
     ensures uses { Asks 65540 (is_unread result) (S.device source.old) (S.device source.new) }
     ensures own { IsOwn result }
-    ensures told { IsTrue (S.device source.old).honest → IfOk result (λ found.
-        option_map (λ entries. entries.items) found
-        ≡ reservations_of (S.device source.old).bytes totalsize) }
+    ensures told { Says result S.device source
+        (λ file found. items_in found ≡ reservations_of file totalsize) }
 {
     if totalsize < 20 {
         return Ok(None);
@@ -123,7 +118,7 @@ fn read_reservations<S: Source>(
 
 // Writes an entry.
 fn put_reservation(writer: &mut Writer, entry: Reservation) -> Result<(), AllocError>
-    ensures { Appends result writer.old writer.new (json_tokens (reservation_json entry)) }
+    ensures { Adds result writer (json_tokens (reservation_json entry)) }
 {
     writer.begin_object()?;
     put_number(writer, "address", entry.address)?;
@@ -134,8 +129,7 @@ fn put_reservation(writer: &mut Writer, entry: Reservation) -> Result<(), AllocE
 
 // Writes the array of the entries.
 fn put_entries(writer: &mut Writer, entries: &[Reservation]) -> Result<(), AllocError>
-    ensures { Appends result writer.old writer.new
-        (json_tokens (array_of (map reservation_json entries.now))) }
+    ensures { Adds result writer (json_tokens (array_of (map reservation_json entries.now))) }
 {
     writer.begin_array()?;
     for entry in entries {
@@ -147,8 +141,7 @@ fn put_entries(writer: &mut Writer, entries: &[Reservation]) -> Result<(), Alloc
 
 // Writes the entries under their name.
 fn put_list(writer: &mut Writer, entries: &[Reservation]) -> Result<(), AllocError>
-    ensures { Appends result writer.old writer.new
-        (tokens_of (reservations_members (Some entries.now))) }
+    ensures { Adds result writer (tokens_of (reservations_members (Some entries.now))) }
 {
     writer.key("reservations")?;
     put_entries(writer, entries)?;
@@ -157,8 +150,7 @@ fn put_list(writer: &mut Writer, entries: &[Reservation]) -> Result<(), AllocErr
 
 // The same, if the block has an end that is told.
 fn put_found(writer: &mut Writer, found: Option<Vec<Reservation>>) -> Result<(), AllocError>
-    ensures { Appends result writer.old writer.new
-        (tokens_of (reservations_members (option_map (λ entries. entries.items) found))) }
+    ensures { Adds result writer (tokens_of (reservations_members (items_in found))) }
 {
     match found {
         Some(entries) => put_list(writer, entries.as_slice()),
@@ -175,8 +167,8 @@ pub(crate) fn put_reservations<S: Source>(
     totalsize: u32,
 ) -> Result<(), SurveyFault>
     requires { totalsize ≤ length (S.device source.old).bytes }
-    ensures { Puts 65540 result (S.device source.old) (S.device source.new) writer.old writer.new
-        (tokens_of (reservations_members (reservations_of (S.device source.old).bytes totalsize))) }
+    ensures { Puts 65540 result S.device source writer
+        (λ file. tokens_of (reservations_members (reservations_of file totalsize))) }
 {
     let found = read_reservations(alloc, source, totalsize)?;
     put_found(writer, found)?;

@@ -1,17 +1,15 @@
 //! The text of the object that tells what a FIT image says.
 
-ghost use Rattle.std.specs.Prelude.{◌≡◌, length, true, IsTrue, IfOk, Some};
+ghost use Rattle.std.specs.Prelude.{◌≡◌, length, true, IsTrue, IfOk};
 ghost use Rattle.std.specs.Str.{IsUtf8};
 ghost use Rattle.json.specs.Json.{document};
-ghost use Rattle.json.specs.Print.{print};
-ghost use Rattle.json.specs.Tree.{json_tokens};
 ghost use Rattle.uimg_json.specs.Objects.{is_one_line};
 ghost use Rattle.uimg_base.specs.Using.{Asks, UsesAtMost};
 ghost use Rattle.uimg_fit_reading.specs.Rooms.{TakesNodes};
 ghost use Rattle.uimg_fit_reading.specs.FullSurvey.{FullInside};
 ghost use Rattle.uimg_fit_reading.specs.SurveyParts.{is_unread, lacks_room, IsOwn};
 ghost use Rattle.uimg_info.specs.Fit.{info_of, ok_of};
-ghost use Rattle.uimg_info.specs.Steps.{Informs, read_json};
+ghost use Rattle.uimg_info.specs.Steps.{Informs, Prints, ReadsAs, Says, read_json};
 ghost use Rattle.uimg_info.specs.Work.{full_size, info_work};
 
 use crate::fit::put_fit;
@@ -30,15 +28,15 @@ fn survey_text<S: Source>(
     full: &FullSurvey,
 ) -> Result<Vec<u8>, SurveyFault>
     requires { FullInside (length (S.device source.old).bytes) full.now }
-    ensures uses { Asks (full_size full.now) (is_unread result) (S.device source.old) (S.device source.new) }
+    ensures uses { Asks (full_size full.now) (is_unread result)
+        (S.device source.old) (S.device source.new) }
     ensures own { IsOwn result }
-    ensures text { IsTrue (S.device source.old).honest → IfOk result (λ text. text.items
-        ≡ print (json_tokens (read_json path.now size (S.device source.old).bytes full.now))) }
-    ensures reads_back { IsTrue (S.device source.old).honest → IfOk result (λ text.
-        document text.items ≡ Some (read_json path.now size (S.device source.old).bytes full.now)) }
+    ensures text { Says result S.device source
+        (λ file. Prints (read_json path.now size file full.now)) }
+    ensures reads_back { Says result S.device source
+        (λ file. ReadsAs (read_json path.now size file full.now)) }
     ensures utf8 { IfOk result (λ text. IsUtf8 text.items) }
-    ensures one_line { IsTrue (S.device source.old).honest →
-        IfOk result (λ text. is_one_line text.items ≡ true) }
+    ensures one_line { Says result S.device source (λ file text. is_one_line text.items ≡ true) }
 {
     let mut writer = Writer::new(Vec::new(alloc));
     put_fit(alloc, source, &mut writer, path, size, full)?;
@@ -64,11 +62,10 @@ pub fn fit_text<S: Source, A: Allocator>(
     ensures room { TakesNodes (S.device source.old) (lacks_room result) room.old room.new }
     ensures told { IsTrue (S.device source.old).honest →
         Informs (λ text. text.items) path.now (S.device source.old).bytes result }
-    ensures reads_back { IsTrue (S.device source.old).honest → IfOk result (λ text.
-        document text.items ≡ ok_of (info_of path.now (S.device source.old).bytes)) }
+    ensures reads_back { Says result S.device source
+        (λ file text. document text.items ≡ ok_of (info_of path.now file)) }
     ensures utf8 { IfOk result (λ text. IsUtf8 text.items) }
-    ensures one_line { IsTrue (S.device source.old).honest →
-        IfOk result (λ text. is_one_line text.items ≡ true) }
+    ensures one_line { Says result S.device source (λ file text. is_one_line text.items ≡ true) }
 {
     let full = survey_with_properties(alloc, source, room)?;
     let Ok(size) = source.size() else {

@@ -1,18 +1,16 @@
 //! The first name that is given and not there.
 
-ghost use Rattle.std.specs.Prelude.{◌≡◌, ◌+◌, ℕ, List, length, map, drop, IsTrue, IfOk};
+ghost use Rattle.std.specs.Prelude.{◌≡◌, ◌+◌, ℕ, List, length, drop};
 ghost use Rattle.std.specs.List.{All, find, sum_by};
 ghost use Rattle.std.specs.Option.{option_map};
 ghost use Rattle.uimg_base.specs.Using.{Asks};
-ghost use Rattle.uimg_fit_base.specs.Files.{bytes_in};
 ghost use Rattle.uimg_fit_reading.specs.Heads.{span_size};
-ghost use Rattle.uimg_fit_reading.specs.Survey.{read_configuration, read_survey};
 ghost use Rattle.uimg_fit_reading.specs.SurveyParts.{Ends, IsOwn, ConfigurationInside, SurveyInside, is_unread};
 ghost use Rattle.uimg_fit_reading.specs.Values.{pieces};
-ghost use Rattle.uimg_references.specs.Given.{given_facts, read_given, GivenInside};
+ghost use Rattle.uimg_references.specs.Given.{given_facts, GivenInside};
 ghost use Rattle.uimg_references.specs.Names.{HasNames, is_lost};
 ghost use Rattle.uimg_references.specs.Work.{given_size, values_size, missing_work};
-ghost use Rattle.uimg_references.specs.References.{read_missing, missing_under, missing_among, missing_of, first_missing, missing_in};
+ghost use Rattle.uimg_references.specs.References.{Finds, TellsFirst, under_property, among_properties, of_configuration, of_configurations};
 
 use crate::names::{configuration_names, image_names};
 use crate::reference::Reference;
@@ -72,13 +70,8 @@ fn missing_under<S: Source>(
     value: Option<Span>,
 ) -> Result<Option<Missing>, SurveyFault>
     requires { Ends (length (S.device source.old).bytes) value }
-    ensures uses { Asks (span_size value) (is_unread result) (S.device source.old) (S.device source.new) }
-    ensures own { IsOwn result }
-    ensures told { IsTrue (S.device source.old).honest → (list : List (List ℕ)) →
-        HasNames names.now list → IfOk result (λ found.
-        option_map (read_missing (S.device source.old).bytes) found
-        ≡ missing_under list (bytes_in (S.device source.old).bytes configuration) reference
-        (bytes_in (S.device source.old).bytes value)) }
+    ensures { Finds (span_size value) (under_property configuration reference value)
+        names.now result S.device source }
 {
     let Some(span) = value else {
         return Ok(None);
@@ -120,13 +113,8 @@ fn missing_among<S: Source>(
     properties: &[(Reference, Option<Span>)],
 ) -> Result<Option<Missing>, SurveyFault>
     requires { All (GivenInside (length (S.device source.old).bytes)) properties.now }
-    ensures uses { Asks (sum_by given_size properties.now) (is_unread result) (S.device source.old) (S.device source.new) }
-    ensures own { IsOwn result }
-    ensures told { IsTrue (S.device source.old).honest → (list : List (List ℕ)) →
-        HasNames names.now list → IfOk result (λ found.
-        option_map (read_missing (S.device source.old).bytes) found
-        ≡ missing_among list (bytes_in (S.device source.old).bytes configuration)
-        (map (read_given (S.device source.old).bytes) properties.now)) }
+    ensures { Finds (sum_by given_size properties.now)
+        (among_properties configuration properties.now) names.now result S.device source }
 {
     for (reference, value) in properties {
         let found = missing_under(alloc, source, names, configuration, *reference, *value)?;
@@ -145,12 +133,8 @@ fn missing_of<S: Source>(
     configuration: &ConfigurationFacts,
 ) -> Result<Option<Missing>, SurveyFault>
     requires { ConfigurationInside (length (S.device source.old).bytes) configuration.now }
-    ensures uses { Asks (values_size configuration.now) (is_unread result) (S.device source.old) (S.device source.new) }
-    ensures own { IsOwn result }
-    ensures told { IsTrue (S.device source.old).honest → (list : List (List ℕ)) →
-        HasNames images.now list → IfOk result (λ found.
-        option_map (read_missing (S.device source.old).bytes) found
-        ≡ missing_of list (read_configuration (S.device source.old).bytes configuration.now)) }
+    ensures { Finds (values_size configuration.now) (of_configuration configuration.now)
+        images.now result S.device source }
 {
     let given = given_by(configuration);
     missing_among(alloc, source, images, Some(configuration.name), &given)
@@ -164,13 +148,8 @@ fn first_missing<S: Source>(
     configurations: &[ConfigurationFacts],
 ) -> Result<Option<Missing>, SurveyFault>
     requires { All (ConfigurationInside (length (S.device source.old).bytes)) configurations.now }
-    ensures uses { Asks (sum_by values_size configurations.now) (is_unread result) (S.device source.old) (S.device source.new) }
-    ensures own { IsOwn result }
-    ensures told { IsTrue (S.device source.old).honest → (list : List (List ℕ)) →
-        HasNames images.now list → IfOk result (λ found.
-        option_map (read_missing (S.device source.old).bytes) found
-        ≡ first_missing list
-        (map (read_configuration (S.device source.old).bytes) configurations.now)) }
+    ensures { Finds (sum_by values_size configurations.now) (of_configurations configurations.now)
+        images.now result S.device source }
 {
     for configuration in configurations {
         let found = missing_of(alloc, source, images, configuration)?;
@@ -194,11 +173,10 @@ pub fn find_missing<S: Source>(
     survey: &Survey,
 ) -> Result<Option<Missing>, SurveyFault>
     requires { SurveyInside (length (S.device source.old).bytes) survey.now }
-    ensures uses { Asks (missing_work survey.now) (is_unread result) (S.device source.old) (S.device source.new) }
+    ensures uses { Asks (missing_work survey.now) (is_unread result)
+        (S.device source.old) (S.device source.new) }
     ensures own { IsOwn result }
-    ensures told { IsTrue (S.device source.old).honest → IfOk result (λ found.
-        option_map (read_missing (S.device source.old).bytes) found
-        ≡ missing_in (read_survey (S.device source.old).bytes survey.now)) }
+    ensures told { TellsFirst survey.now result S.device source }
 {
     let configurations = survey.configurations.as_slice();
     let names = configuration_names(alloc, source, configurations)?;

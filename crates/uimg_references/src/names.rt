@@ -1,13 +1,11 @@
 //! The names that a FIT image has, as a set.
 
-ghost use Rattle.std.specs.Prelude.{◌≡◌, ◌||◌, ◌+◌, ◌≤◌, ℕ, List, length, map, IsTrue, IfOk};
+ghost use Rattle.std.specs.Prelude.{◌+◌, ◌≤◌, length, map, IsTrue};
 ghost use Rattle.std.specs.Result.{OnOk};
-ghost use Rattle.std.specs.List.{All, list_any, sum_by};
-ghost use Rattle.std.specs.Str.{bytes_eq};
+ghost use Rattle.std.specs.List.{All, sum_by};
 ghost use Rattle.uimg_base.specs.Using.{Asks};
 ghost use Rattle.uimg_fit_reading.specs.SurveyParts.{is_unread, IsOwn, ImageInside, ConfigurationInside};
-ghost use Rattle.uimg_references.specs.Names.{has, name_in, image_name_in, configuration_name_in, HasNames};
-ghost use Rattle.uimg_texts.specs.Slices.{slice};
+ghost use Rattle.uimg_references.specs.Names.{name_in, image_name_in, configuration_name_in, AddsName, TellsNames};
 
 use std::alloc::Global;
 use std::collections::BTreeSet;
@@ -24,8 +22,8 @@ fn add_name<S: Source>(
     requires { span.place + span.length ≤ length (S.device source.old).bytes }
     ensures uses { Asks span.length (is_unread result) (S.device source.old) (S.device source.new) }
     ensures own { IsOwn result }
-    ensures told { IsTrue (S.device source.old).honest → OnOk result ((name : List ℕ) →
-        has names.new name ≡ (bytes_eq name (name_in (S.device source.old).bytes span) || has names.old name)) }
+    ensures told { IsTrue (S.device source.old).honest →
+        OnOk result (AddsName (name_in (S.device source.old).bytes span) names.old names.new) }
 {
     let name = read_bytes(alloc, source, span)?;
     let Ok(_is_new) = names.insert(name) else {
@@ -41,10 +39,10 @@ pub(crate) fn image_names<S: Source>(
     images: &[ImageFacts],
 ) -> Result<BTreeSet<Vec<u8>>, SurveyFault>
     requires { All (ImageInside (length (S.device source.old).bytes)) images.now }
-    ensures uses { Asks (sum_by (λ i. i.name.length) images.now) (is_unread result) (S.device source.old) (S.device source.new) }
+    ensures uses { Asks (sum_by (λ i. i.name.length) images.now) (is_unread result)
+        (S.device source.old) (S.device source.new) }
     ensures own { IsOwn result }
-    ensures told { IsTrue (S.device source.old).honest → IfOk result (λ names.
-        HasNames names (map (image_name_in (S.device source.old).bytes) images.now)) }
+    ensures told { TellsNames (λ file. map (image_name_in file) images.now) result S.device source }
 {
     let mut names = BTreeSet::new(alloc);
     for image in images {
@@ -60,10 +58,11 @@ pub(crate) fn configuration_names<S: Source>(
     configurations: &[ConfigurationFacts],
 ) -> Result<BTreeSet<Vec<u8>>, SurveyFault>
     requires { All (ConfigurationInside (length (S.device source.old).bytes)) configurations.now }
-    ensures uses { Asks (sum_by (λ c. c.name.length) configurations.now) (is_unread result) (S.device source.old) (S.device source.new) }
+    ensures uses { Asks (sum_by (λ c. c.name.length) configurations.now) (is_unread result)
+        (S.device source.old) (S.device source.new) }
     ensures own { IsOwn result }
-    ensures told { IsTrue (S.device source.old).honest → IfOk result (λ names.
-        HasNames names (map (configuration_name_in (S.device source.old).bytes) configurations.now)) }
+    ensures told { TellsNames (λ file. map (configuration_name_in file) configurations.now)
+        result S.device source }
 {
     let mut names = BTreeSet::new(alloc);
     for configuration in configurations {

@@ -1,6 +1,6 @@
 use Rattle.std.proofs.Common.{rules, ℕ, List, Option, IfErr, ap, subst, refl}
 use Rattle.uimg_base.specs.Named.{FileMap}
-use Rattle.uimg_engine.specs.Commands.{LacksFile, HoldsCommand}
+use Rattle.uimg_engine.specs.Commands.{LacksFile, HoldsCommandBetween}
 use Rattle.uimg_engine.proofs.CommandLaws.{made_of_same, lacks_file}
 use Rattle.uimg_engine.proofs.in_memory.make_in_memory.Goals as goal
 
@@ -16,5 +16,5 @@ returns-clause-missing g c =
 
 pub returns-clause-peak : goal.returns-clause-peak
 returns-clause-peak g c =
-    subst (λ (files : List ℕ → Option (List ℕ)). HoldsCommand c.args.command.now c.args.time files c.args.room.now c.make.new.room)
+    subst (λ (files : List ℕ → Option (List ℕ)). HoldsCommandBetween c.args.command.now c.args.time files c.args.room.now c.make.new.room)
     (ap (λ (m : FileMap). m.bytes) c.new.ensures) (c.make.ensures.peak (search rules) refl (search rules))

@@ -11,7 +11,7 @@ use Rattle.uimg_engine.proofs.making.make.Goals as goal
 pub returns-in_err-build_image-clause-made : goal.returns-in_err-build_image-clause-made
 returns-in_err-build_image-clause-made g c = λ files shelf empty.
     let p = err_from_is_err_and c.from_residual.result c.from_residual.ensures.1 in
-    let never = c.in_err-build_image.ensures.never_keep in
+    let never = c.in_err-build_image.ensures.image.never_keep in
     rw (p.1, p.2) (building_stops_command _ g.H.Kept.Source.device c.args.naming c.args.command.now c.args.time _ c.in_err-build_image.field-0.0 _ _ _ never (c.in_err-build_image.ensures.built files))
 
 pub returns-in_err-build_image-clause-room : goal.returns-in_err-build_image-clause-room
@@ -32,7 +32,7 @@ returns-clause-made g c = λ files shelf empty.
     let kept = c.in_ok-kept.ensures.kept shelf in
     let none : c.new-image.result.contents ≡ Some [] = search rules in
     let keeps = keeping_command c.args.command.now c.args.time _ _ _ _ _ (g.H.Kept.Source.device c.in_ok-kept.kept) (c.in_ok-build_image.ensures.built files) none c.in_ok-shelf.ensures.written kept.0 kept.1 in
-    listing_makes_command g.H.Kept.Source.device _ c.args.naming c.args.command.now c.args.time _ _ c.in_ok-list_kept.field-0 _ _ keeps c.list_kept.ensures.same (c.in_ok-list_kept.ensures.told kept.1)
+    listing_makes_command g.H.Kept.Source.device _ c.args.naming c.args.command.now c.args.time _ _ c.in_ok-list_kept.field-0 _ _ keeps c.list_kept.ensures.uses.same (c.in_ok-list_kept.ensures.told kept.1)
 
 pub returns-in_err-list_kept-clause-steady_payloads : goal.returns-in_err-list_kept-clause-steady_payloads
 returns-in_err-list_kept-clause-steady_payloads g c = λ steady files.
@@ -61,5 +61,5 @@ pub returns-clause-listed : goal.returns-clause-listed
 returns-clause-listed g c = λ honest. (
   c.in_ok-list_kept.field-0,
   subst (λ (b : List ℕ). Tells (end_of (Ok c.in_ok-list_kept.field-0)) (listing_of c.args.naming c.args.command.now b) c.args.out.now c.list_kept.new.out)
-      (sym c.list_kept.ensures.same.bytes) (c.in_ok-list_kept.ensures.told (subst (λ (b : Bool). IsTrue b) c.list_kept.ensures.same.honest honest)),
+      (sym c.list_kept.ensures.uses.same.bytes) (c.in_ok-list_kept.ensures.told (subst (λ (b : Bool). IsTrue b) c.list_kept.ensures.uses.same.honest honest)),
 )

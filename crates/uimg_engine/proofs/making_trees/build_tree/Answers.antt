@@ -20,14 +20,12 @@ returns-in_err-build-clause-files g c =
     rw (p.1, p.2) (opens_last c.args.name.now _ _ _ _ _ (payload_of_building ⊤ ⊤ c.in_err-build.field-0.0) (text_of_building ⊤ c.in_err-build.field-0.0) (lacks_of_building (g.F.Files.map c.args.files.now).bytes c.args.name.now c.in_err-build.field-0.0) same c.in_ok-tree.ensures.files.text c.in_err-build.ensures.files
     (λ complete honest. c.in_err-build.ensures.found (still_complete same complete) (kept_by (node_of c.in_ok-tree.tree.root) same (c.in_ok-tree.ensures.tree honest).kept)))
 
-pub returns-in_err-build-clause-reads : goal.returns-in_err-build-clause-reads
-returns-in_err-build-clause-reads g c = λ steady honest.
+pub returns-in_err-build-clause-steady : goal.returns-in_err-build-clause-steady
+returns-in_err-build-clause-steady g c = λ steady honest.
     let p = err_from_is_err_and c.from_residual-in_err-build.result c.from_residual-in_err-build.ensures.1 in
     let same = c.in_ok-tree.ensures.files.same in
-    rw (p.1, p.2) (read_of_building ⊤ ⊤ c.in_err-build.field-0.0 (c.in_err-build.ensures.steady steady (still_honest same honest) (kept_by (node_of c.in_ok-tree.tree.root) same (c.in_ok-tree.ensures.tree honest).kept)))
-
-pub returns-in_err-build-clause-payloads : goal.returns-in_err-build-clause-payloads
-returns-in_err-build-clause-payloads g c = λ steady honest.
-    let p = err_from_is_err_and c.from_residual-in_err-build.result c.from_residual-in_err-build.ensures.1 in
-    let same = c.in_ok-tree.ensures.files.same in
-    rw (p.1, p.2) (lost_of_building ⊤ _ c.args.placement c.in_err-build.field-0.0 _ _ (c.in_err-build.ensures.built (still_honest same honest) (kept_by (node_of c.in_ok-tree.tree.root) same (c.in_ok-tree.ensures.tree honest).kept)))
+    let kept = kept_by (node_of c.in_ok-tree.tree.root) same (c.in_ok-tree.ensures.tree honest).kept in
+    rw (p.1, p.2) record {
+      reads = read_of_building ⊤ ⊤ c.in_err-build.field-0.0 (c.in_err-build.ensures.steady steady (still_honest same honest) kept);
+      payloads = lost_of_building ⊤ _ c.args.placement c.in_err-build.field-0.0 _ _ (c.in_err-build.ensures.built (still_honest same honest) kept);
+    }

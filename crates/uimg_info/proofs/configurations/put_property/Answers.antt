@@ -1,4 +1,4 @@
-use Rattle.std.proofs.Common.{ℕ, codes, sym, ◌∙◌, arith}
+use Rattle.std.proofs.Common.{codes, sym, ◌∙◌, arith}
 use Rattle.uimg_blob.specs.Places.{read_place}
 use Rattle.uimg_json.specs.Members.{number_member}
 use Rattle.uimg_json.proofs.StepLaws.{one, after, appended_as, object_appended, tokens_append}

@@ -1,4 +1,4 @@
-use Rattle.std.proofs.Common.{◌≡◌, ◌+◌, List, ℕ, map, ap, sym, ◌∙◌, subst, IsTrue, codes, Vec, Global, arith, rules}
+use Rattle.std.proofs.Common.{◌≡◌, List, ℕ, map, ap, sym, ◌∙◌, subst, IsTrue, codes, Vec, Global, arith, rules}
 use Rattle.json.specs.Tree.{json_tokens}
 use Rattle.uimg_blob.specs.declared.places.PropertyPlace.{PropertyPlace}
 use Rattle.uimg_fit_reading.specs.FullSurvey.{read_properties}

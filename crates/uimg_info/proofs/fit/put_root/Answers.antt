@@ -1,4 +1,4 @@
-use Rattle.std.proofs.Common.{◌≡◌, ◌+◌, List, ℕ, ap, sym, ◌∙◌, subst, IsTrue, rules}
+use Rattle.std.proofs.Common.{List, ℕ, ap, sym, ◌∙◌, subst, IsTrue}
 use Rattle.uimg_fit_reading.specs.Survey.{read_survey}
 use Rattle.uimg_json.specs.Members.{tokens_of}
 use Rattle.uimg_json.proofs.StepLaws.{after, appended_as, tokens_append}

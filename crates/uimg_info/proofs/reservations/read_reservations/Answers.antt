@@ -1,6 +1,5 @@
-use Rattle.std.proofs.Common.{◌≡◌, ◌≤◌, ◌-◌, ℕ, List, None, false, min, rules, arith, ap, sym, ◌∙◌}
+use Rattle.std.proofs.Common.{◌≡◌, ◌≤◌, rules, arith}
 use Rattle.uimg_texts.specs.Numbers.{be32}
-use Rattle.uimg_info.specs.Reservations.{reservations_of}
 use Rattle.uimg_info.proofs.EntryLaws.{none_behind}
 use Rattle.uimg_info.proofs.reservations.read_reservations.Goals as goal
 
