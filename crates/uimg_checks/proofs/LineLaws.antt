@@ -1,5 +1,5 @@
 -- A line has no control character of ASCII, if none of the answer's own text is one.
-use Rattle.std.proofs.Common.{◌≡◌, ℕ, ◌==◌, Bool, true, false, if◌then◌else◌, List, [], ◌∷◌, ◌++◌, Option, Some, None, Result, Ok, Err, IfOk, refl, ap, ◌∙◌, codes, decimal}
+use Rattle.std.proofs.Common.{◌≡◌, ℕ, ◌==◌, Bool, true, false, if◌then◌else◌, List, [], ◌++◌, Option, Some, None, Result, Ok, Err, IfOk, refl, ap, ◌∙◌, codes}
 use Rattle.std.specs.Borrow.{Bor}
 use Rattle.uimg_printing.specs.Counting.{counted}
 use Rattle.uimg_printing.specs.Printing.{printed, is_shown}

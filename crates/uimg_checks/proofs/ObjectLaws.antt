@@ -1,5 +1,5 @@
 -- The object of an image that was checked is sound.
-use Rattle.std.proofs.Common.{ℕ, List, [], ◌∷◌, ◌++◌, codes, Option, Some, None}
+use Rattle.std.proofs.Common.{ℕ, List, ◌++◌, codes, Option, Some, None}
 use Rattle.std.specs.Borrow.{Bor}
 use Rattle.uimg_json.specs.Members.{Member, string_member, number_member, number_if, text_members}
 use Rattle.uimg_json.proofs.SoundLaws.{Sound, AreSound, append_sound, number_sound, number_if_sound, string_sound, text_sound}

@@ -1,8 +1,8 @@
 -- The line of an image that was checked: its path, the word of what was found, and what this is about.
-use Rattle.std.specs.Prelude.{ℕ, ◌==◌, List, [], ◌++◌, codes, decimal, Bool, true, false, not, ◌&&◌, if◌then◌else◌, Option, Some, None}
+use Rattle.std.specs.Prelude.{ℕ, ◌==◌, List, [], ◌++◌, codes, false, if◌then◌else◌, Option, Some, None}
 use Rattle.std.specs.Borrow.{Bor}
 use Rattle.uimg_printing.specs.Counting.{counted}
-use Rattle.uimg_printing.specs.Printing.{printed, is_shown}
+use Rattle.uimg_printing.specs.Printing.{printed}
 use Rattle.uimg_checks.specs.declared.answer.Answer.{Answer}
 use Rattle.uimg_checks.specs.declared.answer.Answer.TheVariants.{Right, Unhashed, Wrong, Weak, Overlapping, Empty, Missing, RightChecksums, BadChecksum, WeakChecksums, Refused, Failed}
 use Rattle.uimg_checks.specs.Answers.{word_of}

@@ -1,13 +1,12 @@
 -- A name as it is printed has no control character of ASCII.
-use Rattle.std.proofs.Common.{◌≡◌, ℕ, zero, suc, ◌+◌, ◌/◌, ◌%◌, ◌<◌, ◌≤◌, ◌==◌, Bool, true, false, cond, not, ◌&&◌, ◌||◌, nat_lt, nat_le, if◌then◌else◌, List, [], ◌∷◌, ◌++◌, inl, inr, refl, ap, ap₂, sym, ◌∙◌, arith, codes, decimal, ltb-true, lt-ltb, eqb-true}
-use Rattle.std.specs.Prelude.{chars, encode_utf8}
+use Rattle.std.proofs.Common.{◌≡◌, ℕ, zero, suc, ◌+◌, ◌/◌, ◌%◌, ◌<◌, ◌≤◌, ◌==◌, Bool, true, false, cond, not, ◌&&◌, ◌||◌, nat_lt, if◌then◌else◌, List, [], ◌∷◌, ◌++◌, inl, inr, refl, ap, ap₂, sym, ◌∙◌, arith, codes, decimal, ltb-true, lt-ltb, eqb-true}
+use Rattle.std.specs.Prelude.{chars}
 use Rattle.std.specs.Fmt.{digit_glyph, digits, digits_onto}
-use Rattle.std.specs.List.{flat_map, list_all}
+use Rattle.std.specs.List.{flat_map}
 use Rattle.std.specs.Str.{is_utf8}
 use Rattle.std.proofs.lemmas.Bool.{and_parts, cases_lt, cases_eq, le-leb}
 use Rattle.std.proofs.lemmas.List.Folds.{list_all-append}
-use Rattle.std.proofs.lemmas.Str.{IsUtf8-from_is_utf8, scalars-chars}
-use lib.Utf8.{scalar, scalars, encode, next, low_scalar, scalar_cases}
+use lib.Utf8.{encode, next}
 use Rattle.uimg_printing.specs.Counting.{counted}
 use Rattle.uimg_printing.specs.Hidden.{is_hidden}
 use Rattle.uimg_printing.specs.Printing.{digits_of, byte_text, ends_word, letter_text, odd_text, printed, is_shown}

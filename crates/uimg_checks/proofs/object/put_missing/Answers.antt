@@ -1,7 +1,7 @@
 use Rattle.std.proofs.Common.{codes, ◌++◌, sym}
 use Rattle.uimg_json.specs.Members.{string_member, text_members}
-use Rattle.uimg_json.proofs.StepLaws.{one, after, appended_as, object_appended, tokens_append}
-use Rattle.uimg_checks.specs.Objects.{name_if, about, head_members}
+use Rattle.uimg_json.proofs.StepLaws.{after, appended_as, tokens_append}
+use Rattle.uimg_checks.specs.Objects.{name_if}
 use Rattle.uimg_checks.proofs.object.put_missing.Goals as goal
 
 pub returns : goal.returns
