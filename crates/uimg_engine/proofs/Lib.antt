@@ -2,3 +2,4 @@ pub mod MakingLaws
 pub mod TreeLaws
 pub mod TreeListing
 pub mod CommandLaws
+pub mod ReadingExamples

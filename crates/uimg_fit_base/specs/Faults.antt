@@ -12,8 +12,6 @@ use Rattle.uimg_fit_base.specs.declared.fault.Fault.{Fault}
 use Rattle.uimg_fit_base.specs.declared.fault.Fault.TheVariants.{Blob, Fit, Read, Put}
 use Rattle.uimg_fit_base.specs.declared.fault.FitFault.{FitFault}
 use Rattle.uimg_fit_base.specs.declared.fault.FitFault.TheVariants.{UnknownAlgo, PositionTooLow, TooLarge, OutOfMemory, NoFile, ReadFailed}
-use Rattle.uimg_tree.specs.declared.fault.TreeFault.{TreeFault}
-use Rattle.uimg_tree.specs.declared.fault.TreeFault.TheVariants as tree
 
 -- the fault of a command that a fault of the index is
 abbrev pub of_index : IndexFault → Fault
@@ -24,12 +22,6 @@ of_index index.Read = Read
 abbrev pub of_move : MoveFault → Fault
 of_move move.Read = Read
 of_move move.Put = Put
-
--- the fault of a tree that wasn't written
-abbrev pub of_writing : TreeFault → Fault
-of_writing tree.Put = Put
-of_writing tree.Read = Read
-of_writing tree.NoFile = Fit NoFile
 
 -- the answer is that a read failed
 abbrev pub is_read : {X : Type 0} → Result X Fault → Bool

@@ -3,7 +3,6 @@
 use thiserror::Error;
 use uimg_base::{MoveFault, PutFault, SourceFault};
 use uimg_blob::{BlobFault, IndexFault};
-use uimg_tree::TreeFault;
 
 /// What is wrong with the images of a FIT image, or with a tree that one is to be built from. Its text
 /// is the line that the program prints.
@@ -116,21 +115,6 @@ impl From<MoveFault> for Fault {
         match fault {
             MoveFault::Read => Fault::Read,
             MoveFault::Put => Fault::Put,
-        }
-    }
-}
-
-impl From<TreeFault> for Fault {
-    ghost use Rattle.std.specs.Prelude.{◌≡◌};
-    ghost use Rattle.uimg_fit_base.specs.Faults.{of_writing};
-
-    ghost from_gives = { λ f e. e ≡ of_writing f };
-
-    fn from(fault: TreeFault) -> Fault {
-        match fault {
-            TreeFault::Put => Fault::Put,
-            TreeFault::Read => Fault::Read,
-            TreeFault::NoFile => Fault::Fit(FitFault::NoFile),
         }
     }
 }

@@ -3,7 +3,8 @@
 ghost use Rattle.std.specs.Prelude.{◌≡◌};
 ghost use Rattle.uimg_fit_base.specs.Placements.{align_of};
 
-use uimg_tree::WORD_ALIGNMENT;
+/// The alignment of a blob's own values, and the least of a payload behind it.
+pub const WORD_ALIGNMENT: u32 = 4;
 
 /// Where the payloads of a FIT image that is built stand.
 ///

@@ -24,7 +24,7 @@ use Rattle.uimg_fit_base.specs.Placements.{align_of}
 use Rattle.uimg_fit_building.specs.Behind.{images_in, padded_sizes, file_size, end_fault}
 use Rattle.uimg_fit_building.specs.BuildAnswers.{CanBuild, BuildsAnswer}
 use Rattle.uimg_fit_building.specs.Building.{placed_blob, built}
-use Rattle.uimg_fit_building.specs.BuildSteps.{of_measure, MeasuresTree, WritesTextBetween, BuildsBetween}
+use Rattle.uimg_fit_building.specs.BuildSteps.{of_measure, of_writing, MeasuresTree, WritesTextBetween, BuildsBetween}
 use Rattle.uimg_fit_building.specs.Filling.{IsFilled}
 use Rattle.uimg_fit_building.specs.ReadsBack.{ReadsBack}
 use Rattle.uimg_fit_building.specs.Refusing.{is_low, build_fault}
@@ -33,7 +33,6 @@ use Rattle.uimg_fit_building.proofs.BehindLaws.{fault-same}
 use Rattle.uimg_fit_building.proofs.BuiltLaw.{reads_back}
 use Rattle.uimg_fit_building.proofs.NamesLaw.{name-values, placed-names, placed-values}
 use Rattle.uimg_fit_building.proofs.UnreadLaws.{moved-unread}
-use Rattle.uimg_fit_base.specs.Faults.{of_writing}
 
 -- no bad name is told as a large blob
 

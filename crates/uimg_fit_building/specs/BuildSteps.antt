@@ -17,7 +17,7 @@ use Rattle.uimg_tree.specs.Measured.{bad_name}
 use Rattle.uimg_tree.specs.UsingFiles.{UsesFiles}
 use Rattle.uimg_fit_base.specs.declared.fault.Fault.{Fault}
 use Rattle.uimg_fit_base.specs.declared.fault.Fault.TheVariants.{Blob, Fit, Read, Put}
-use Rattle.uimg_fit_base.specs.declared.fault.FitFault.TheVariants.{TooLarge, OutOfMemory}
+use Rattle.uimg_fit_base.specs.declared.fault.FitFault.TheVariants.{TooLarge, OutOfMemory, NoFile}
 use Rattle.uimg_fit_base.specs.declared.placement.Placement.{Placement}
 use Rattle.uimg_fit_building.specs.BuildAnswers.{is_no_file, is_before_writing, BuildsAnswer}
 use Rattle.uimg_fit_base.specs.Faults.{is_read, is_put}
@@ -27,6 +27,12 @@ abbrev pub of_measure : BlobFault → Fault
 of_measure blob.TooLarge = Fit TooLarge
 of_measure blob.OutOfMemory = Fit OutOfMemory
 of_measure fault = Blob fault 0
+
+-- the fault of a tree that wasn't written
+abbrev pub of_writing : TreeFault → Fault
+of_writing tree.Put = Put
+of_writing tree.Read = Read
+of_writing tree.NoFile = Fit NoFile
 
 -- What an answer says of a tree that was measured by an alignment.
 abbrev pub MeasuresTree : ℕ → Result Plan Fault → Unread → Type 0

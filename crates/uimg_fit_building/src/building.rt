@@ -8,7 +8,7 @@ ghost use Rattle.uimg_tree.specs.Trees.{node_of};
 ghost use Rattle.uimg_tree.specs.UsingFiles.{UsesFiles};
 ghost use Rattle.uimg_tree.specs.LentFiles.{IfHonest, IfComplete, IfSteady, IfInFull};
 ghost use Rattle.uimg_fit_building.specs.BuildAnswers.{is_no_file, is_before_writing, BuildsAnswer};
-ghost use Rattle.uimg_fit_building.specs.BuildSteps.{of_measure, MeasuresTree, WritesText, Builds};
+ghost use Rattle.uimg_fit_building.specs.BuildSteps.{of_measure, of_writing, MeasuresTree, WritesText, Builds};
 ghost use Rattle.uimg_fit_building.specs.Building.{built};
 ghost use Rattle.uimg_fit_base.specs.Faults.{is_put, is_read};
 ghost use Rattle.uimg_fit_base.specs.Placements.{align_of};
@@ -38,6 +38,17 @@ fn of_measure(fault: BlobFault) -> Fault
         BlobFault::TooLarge => Fault::Fit(FitFault::TooLarge),
         BlobFault::OutOfMemory => Fault::Fit(FitFault::OutOfMemory),
         _ => Fault::Blob(fault, 0),
+    }
+}
+
+// The fault of a tree that can't be written.
+fn of_writing(fault: TreeFault) -> Fault
+    ensures { result ≡ of_writing fault }
+{
+    match fault {
+        TreeFault::Put => Fault::Put,
+        TreeFault::Read => Fault::Read,
+        TreeFault::NoFile => Fault::Fit(FitFault::NoFile),
     }
 }
 
@@ -90,8 +101,10 @@ fn build_placed<F: Files, W: Write, A: Allocator>(
 {
     let layout = measure_placed(alloc, placed, placement.align())?;
     check_payloads(layout.totalsize(), tree, placement)?;
-    write_file(placed, &layout, tree, placement, files, out)?;
-    Ok(())
+    match write_file(placed, &layout, tree, placement, files, out) {
+        Ok(()) => Ok(()),
+        Err(fault) => Err(of_writing(fault)),
+    }
 }
 
 // Places the payloads of a tree, and builds its file.

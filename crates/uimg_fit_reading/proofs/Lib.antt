@@ -1,4 +1,3 @@
-pub mod Examples
 pub mod FullSurveyLaws
 pub mod ImageLaws
 pub mod CellLaws

@@ -6,10 +6,9 @@ use Rattle.uimg_fit_base.specs.declared.fault.Fault.{Fault}
 use Rattle.uimg_fit_base.specs.declared.fault.Fault.TheVariants.{Fit}
 use Rattle.uimg_fit_base.specs.Placements.{align_of}
 use Rattle.uimg_fit_building.specs.Behind.{images_in, padded_sizes, end_fault}
-use Rattle.uimg_fit_building.specs.BuildSteps.{MeasuresTree}
+use Rattle.uimg_fit_building.specs.BuildSteps.{of_writing, MeasuresTree}
 use Rattle.uimg_fit_building.proofs.BuildLaws.{refused, unmeasured, no_room, all-sent, not-sent, no-low}
 use Rattle.uimg_fit_building.proofs.building.build_placed.Goals as goal
-use Rattle.uimg_fit_base.specs.Faults.{of_writing}
 
 -- what measuring by an alignment tells of a tree that is placed
 by-placement : (r : Result Plan Fault) {a b : ℕ} {t u : Unread} → a ≡ b → t ≡ u → MeasuresTree a r t → MeasuresTree b r u
@@ -45,8 +44,8 @@ write_file-requires-clause-high g c =
     let room = padded_sizes (align_of c.args.placement) (images_in (node_of c.args.tree.now.root)) in
     no-low (totalsize c.in_ok-layout.layout) room c.args.placement (ap (λ (n : ℕ). end_fault n room c.args.placement) (sym c.totalsize.ensures) ∙ sym c.in_ok-check_payloads.ensures)
 
-pub returns-in_err-write_file : goal.returns-in_err-write_file
-returns-in_err-write_file g c =
+pub returns : goal.returns
+returns g c =
     let steady = g.F.Opened.Source.steady in
     let t = node_of c.args.tree.now.root in
     let m = g.F.Files.map c.args.files.now in
@@ -54,16 +53,16 @@ returns-in_err-write_file g c =
     let s = c.args.out.now in
     let u = c.write_file.new.out in
     let p = c.in_ok-layout.layout in
-    let e = c.in_err-write_file.field-0.0 in
+    let e = c.in-Err.fault in
     let is = by-placement (Ok p) c.align.ensures c.requires c.in_ok-layout.ensures in
     let small : totalsize p ≤ 4294967295 = omega (arith, c.totalsize.ensures, c.totalsize.type_inv) in
     let good : end_fault (totalsize p) (padded_sizes (align_of c.args.placement) (images_in t)) c.args.placement ≡ None =
     ap (λ (k : ℕ). end_fault k (padded_sizes (align_of c.args.placement) (images_in t)) c.args.placement) (sym c.totalsize.ensures) ∙ sym c.in_ok-check_payloads.ensures in
-    refused steady t c.args.placement c.from_residual-in_err-write_file.result (of_writing e) m n s u c.from_residual-in_err-write_file.ensures.1
-    (not-sent steady t c.args.placement m s p is small good n u e c.in_err-write_file.ensures.sent)
+    refused steady t c.args.placement (Err c.of_writing.result) (of_writing e) m n s u c.of_writing.ensures
+    (not-sent steady t c.args.placement m s p is small good n u e c.in-Err.ensures.sent)
 
-pub returns : goal.returns
-returns g c =
+pub returns-in-Ok : goal.returns-in-Ok
+returns-in-Ok g c =
     let steady = g.F.Opened.Source.steady in
     let t = node_of c.args.tree.now.root in
     let m = g.F.Files.map c.args.files.now in
@@ -73,4 +72,4 @@ returns g c =
     let small : totalsize p ≤ 4294967295 = omega (arith, c.totalsize.ensures, c.totalsize.type_inv) in
     let good : end_fault (totalsize p) (padded_sizes (align_of c.args.placement) (images_in t)) c.args.placement ≡ None =
     ap (λ (k : ℕ). end_fault k (padded_sizes (align_of c.args.placement) (images_in t)) c.args.placement) (sym c.totalsize.ensures) ∙ sym c.in_ok-check_payloads.ensures in
-    all-sent steady t c.args.placement m c.args.out.now p is small good n c.write_file.new.out c.in_ok-write_file.ensures.kept c.in_ok-write_file.ensures.sent
+    all-sent steady t c.args.placement m c.args.out.now p is small good n c.write_file.new.out c.in-Ok.ensures.kept c.in-Ok.ensures.sent
