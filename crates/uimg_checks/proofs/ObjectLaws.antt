@@ -1,8 +1,8 @@
 -- The object of an image that was checked is sound.
 use Rattle.std.proofs.Common.{ℕ, List, ◌++◌, codes, Option, Some, None}
 use Rattle.std.specs.Borrow.{Bor}
-use Rattle.uimg_json.specs.Members.{Member, string_member, number_member, number_if, text_members}
-use Rattle.uimg_json.proofs.SoundLaws.{Sound, AreSound, append_sound, number_sound, number_if_sound, string_sound, text_sound}
+use Rattle.uimg_printing.specs.Members.{Member, string_member, number_member, number_if, text_members}
+use Rattle.uimg_printing.proofs.SoundLaws.{Sound, AreSound, append_sound, number_sound, number_if_sound, string_sound, text_sound}
 use Rattle.uimg_checks.specs.declared.answer.Answer.{Answer}
 use Rattle.uimg_checks.specs.declared.answer.Answer.TheVariants.{Right, Unhashed, Wrong, Weak, Overlapping, Empty, Missing, RightChecksums, BadChecksum, WeakChecksums, Refused, Failed}
 use Rattle.uimg_checks.specs.declared.answer.Format.{Format}

@@ -2,7 +2,7 @@
 use Rattle.std.specs.Prelude.{ℕ, List, [], ◌++◌, codes, Option, Some, None}
 use Rattle.std.specs.Borrow.{Bor}
 use Rattle.json.specs.Json.{Json}
-use Rattle.uimg_json.specs.Members.{Member, object_of, string_member, number_member, number_if, text_members}
+use Rattle.uimg_printing.specs.Members.{Member, object_of, string_member, number_member, number_if, text_members}
 use Rattle.uimg_checks.specs.declared.answer.Answer.{Answer}
 use Rattle.uimg_checks.specs.declared.answer.Answer.TheVariants.{Right, Unhashed, Wrong, Weak, Overlapping, Empty, Missing, RightChecksums, BadChecksum, WeakChecksums, Refused, Failed}
 use Rattle.uimg_checks.specs.declared.answer.Format.{Format}

@@ -5,15 +5,15 @@ ghost use Rattle.std.specs.Str.{IsUtf8};
 ghost use Rattle.json.specs.Json.{document};
 ghost use Rattle.json.specs.Print.{print};
 ghost use Rattle.json.specs.Tree.{json_tokens};
-ghost use Rattle.uimg_json.specs.Members.{tokens_of, string_member, text_members};
-ghost use Rattle.uimg_json.specs.Objects.{is_one_line};
-ghost use Rattle.uimg_json.specs.Steps.{Appends};
+ghost use Rattle.uimg_printing.specs.Members.{tokens_of, string_member, text_members};
+ghost use Rattle.uimg_printing.specs.Objects.{is_one_line};
+ghost use Rattle.uimg_printing.specs.Steps.{Appends};
 ghost use Rattle.uimg_checks.specs.Objects.{name_of, format_if, string_if, name_if, format_of, stop_members, about, head_members, check_json};
 
 use crate::answer::{Answer, Format, Stop};
 use json::Writer;
 use std::alloc::{AllocError, Global};
-use uimg_json::{put_number, put_number_if, put_string, put_text};
+use uimg_printing::{put_number, put_number_if, put_string, put_text};
 
 impl Format {
     // Its name.

@@ -3,10 +3,10 @@ use Rattle.std.proofs.Common.{ℕ, List, [], ◌∷◌, ◌++◌, map, codes}
 use Rattle.uimg_base.specs.declared.spans.Span.{Span}
 use Rattle.uimg_texts.specs.Nul.{text}
 use Rattle.uimg_legacy.specs.declared.header.Header.{Header}
-use Rattle.uimg_json.proofs.LineLaws as line
-use Rattle.uimg_json.specs.Members.{Member, array_of, text_members}
+use Rattle.uimg_printing.proofs.LineLaws as line
+use Rattle.uimg_printing.specs.Members.{Member, array_of, text_members}
 use Rattle.uimg_info.specs.Legacy.{header_members, part_json, legacy_head, legacy_json}
-use Rattle.uimg_json.proofs.SoundLaws.{Sound, AreSound, append_sound, text_sound, items_sound}
+use Rattle.uimg_printing.proofs.SoundLaws.{Sound, AreSound, append_sound, text_sound, items_sound}
 
 part_sound : (part : Span) → Sound 1 (part_json part)
 part_sound part = (line.number part.place, (line.number part.length, tt))

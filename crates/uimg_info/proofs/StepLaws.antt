@@ -4,9 +4,9 @@ use Rattle.std.proofs.lemmas.Bool.{lt-ltb, le-ltb}
 use Rattle.uimg_base.specs.declared.spans.Span.{Span}
 use Rattle.json.specs.Token.{Token}
 use Rattle.json.specs.Written.{Written}
-use Rattle.uimg_json.specs.Members.{tokens_of, number_member}
-use Rattle.uimg_json.specs.Steps.{Appended}
-use Rattle.uimg_json.proofs.StepLaws.{appended_as}
+use Rattle.uimg_printing.specs.Members.{tokens_of, number_member}
+use Rattle.uimg_printing.specs.Steps.{Appended}
+use Rattle.uimg_printing.proofs.StepLaws.{appended_as}
 use Rattle.uimg_info.specs.Fit.{span_members, outside, fault_members}
 
 -- where a payload stands

@@ -10,7 +10,7 @@ use Rattle.uimg_fit_reading.specs.FullSurvey.{properties_of}
 use Rattle.uimg_fit_reading.specs.Survey.{Said, ImageSaid, HashSaid, ConfigurationSaid, place_said, survey_of}
 use Rattle.uimg_info.specs.declared.reservations.Reservation.{Reservation}
 use Rattle.uimg_info.specs.Reservations.{reservations_of, reservations_members}
-use Rattle.uimg_json.specs.Members.{Member, object_of, array_of, string_member, number_member}
+use Rattle.uimg_printing.specs.Members.{Member, object_of, array_of, string_member, number_member}
 use Rattle.uimg_info.specs.Members.{Fact, facts_members}
 use Rattle.uimg_info.specs.declared.kinds.Kind.TheVariants.{Text, Texts, Digest, Cell, Address}
 

@@ -10,7 +10,7 @@ use Rattle.uimg_names.specs.declared.naming.Naming.TheVariants.{Profile}
 use Rattle.uimg_names.specs.Naming.{code_text}
 use Rattle.uimg_legacy.specs.declared.header.Header.{Header}
 use Rattle.uimg_legacy.specs.Header.{spelled}
-use Rattle.uimg_json.specs.Members.{Member, object_of, array_of, string_member, number_member, text_members}
+use Rattle.uimg_printing.specs.Members.{Member, object_of, array_of, string_member, number_member, text_members}
 
 -- what a code is called in a listing, and the code
 abbrev pub code_members : Field → List ℕ → List ℕ → ℕ → List Member

@@ -9,7 +9,7 @@ use Rattle.uimg_texts.specs.Nul.{text}
 use Rattle.uimg_fit_reading.specs.Values.{pieces}
 use Rattle.uimg_info.specs.declared.kinds.Kind.{Kind}
 use Rattle.uimg_info.specs.declared.kinds.Kind.TheVariants.{Text, Texts, Digest, Cell, Address}
-use Rattle.uimg_json.specs.Members.{Member, array_of, number_member, number_if, spelled, beside, text_members}
+use Rattle.uimg_printing.specs.Members.{Member, array_of, number_member, number_if, spelled, beside, text_members}
 
 abbrev pub texts_members : List ℕ → List (List ℕ) → List Member
 texts_members name ts =

@@ -6,7 +6,7 @@ use Rattle.json.specs.Json.{Json}
 use Rattle.uimg_texts.specs.Numbers.{be32}
 use Rattle.uimg_texts.specs.Slices.{slice}
 use Rattle.uimg_info.specs.declared.reservations.Reservation.{Reservation}
-use Rattle.uimg_json.specs.Members.{Member, object_of, array_of, number_member}
+use Rattle.uimg_printing.specs.Members.{Member, object_of, array_of, number_member}
 
 -- the entry that bytes begin with: an address and a size
 abbrev pub entry_of : List ℕ → Reservation

@@ -6,7 +6,7 @@ use Rattle.json.specs.Print.{print}
 use Rattle.json.specs.Token.{Token}
 use Rattle.json.specs.Tree.{json_tokens}
 use Rattle.json.specs.Written.{Written}
-use Rattle.uimg_json.specs.Steps.{Appends}
+use Rattle.uimg_printing.specs.Steps.{Appends}
 use Rattle.uimg_base.specs.Device.{Device}
 use Rattle.uimg_base.specs.Lent.{Lent}
 use Rattle.uimg_base.specs.Using.{Asks}

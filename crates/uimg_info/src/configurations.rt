@@ -8,7 +8,7 @@ ghost use Rattle.uimg_fit_reading.specs.FullSurvey.{read_properties, PlacesInsid
 ghost use Rattle.uimg_fit_reading.specs.Survey.{read_name, read_configuration};
 ghost use Rattle.uimg_fit_reading.specs.SurveyParts.{NameInside, ConfigurationInside};
 ghost use Rattle.uimg_info.specs.Fit.{configuration_facts, node_json, property_json, configuration_json, configurations_json};
-ghost use Rattle.uimg_json.specs.Members.{array_of, tokens_of};
+ghost use Rattle.uimg_printing.specs.Members.{array_of, tokens_of};
 ghost use Rattle.uimg_info.specs.Members.{facts_members};
 ghost use Rattle.uimg_info.specs.Steps.{Puts};
 ghost use Rattle.uimg_info.specs.Work.{node_size, configuration_rows_size, configuration_size, property_size, list_size};
@@ -20,7 +20,7 @@ use std::alloc::Global;
 use uimg_base::{Source, Span};
 use uimg_blob::PropertyPlace;
 use uimg_fit_reading::{ConfigurationFacts, SurveyFault};
-use uimg_json::put_number;
+use uimg_printing::put_number;
 
 // Writes the name of a node.
 fn put_node<S: Source>(

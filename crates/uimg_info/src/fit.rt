@@ -8,7 +8,7 @@ ghost use Rattle.uimg_fit_reading.specs.FullSurvey.{FullInside};
 ghost use Rattle.uimg_fit_reading.specs.Survey.{read_hash, read_payload, read_image, read_survey, place_said};
 ghost use Rattle.uimg_fit_reading.specs.SurveyParts.{HashInside, PayloadInside, ImageInside, SurveyInside, is_unread, IsOwn};
 ghost use Rattle.uimg_info.specs.Fit.{fault_members, span_members, place_members, image_facts, root_members, hash_json, image_json, head_members};
-ghost use Rattle.uimg_json.specs.Members.{array_of, tokens_of};
+ghost use Rattle.uimg_printing.specs.Members.{array_of, tokens_of};
 ghost use Rattle.uimg_info.specs.Members.{facts_members};
 ghost use Rattle.uimg_info.specs.Reservations.{reservations_of};
 ghost use Rattle.uimg_info.specs.Steps.{Puts, Adds, Says, read_json};
@@ -25,7 +25,7 @@ use uimg_fit_base::{Fault, FitFault};
 use uimg_fit_reading::{
     FullSurvey, HashFacts, ImageFacts, PayloadFacts, Survey, SurveyFault, find_payload,
 };
-use uimg_json::{put_number, put_string};
+use uimg_printing::{put_number, put_string};
 
 // Writes a hash node.
 fn put_hash<S: Source>(

@@ -3,19 +3,19 @@
 ghost use Rattle.std.specs.Prelude.{◌≡◌, codes, map, true, IfOk};
 ghost use Rattle.std.specs.Str.{IsUtf8};
 ghost use Rattle.json.specs.Tree.{json_tokens};
-ghost use Rattle.uimg_json.specs.Objects.{is_one_line};
+ghost use Rattle.uimg_printing.specs.Objects.{is_one_line};
 ghost use Rattle.uimg_texts.specs.Numbers.{be32};
 ghost use Rattle.uimg_legacy.specs.Header.{spelled};
 ghost use Rattle.uimg_info.specs.Legacy.{code_members, numbers_members, codes_members, header_members, part_json, legacy_head, legacy_json};
-ghost use Rattle.uimg_json.specs.Members.{array_of, number_member, tokens_of};
+ghost use Rattle.uimg_printing.specs.Members.{array_of, number_member, tokens_of};
 ghost use Rattle.uimg_info.specs.Steps.{Adds, Prints, ReadsAs};
 
 use json::Writer;
 use std::alloc::{AllocError, Global};
 use uimg_base::{Span, before_nul, number_at};
-use uimg_json::{put_number, put_string, put_text};
 use uimg_legacy::{Header, header_bytes};
 use uimg_names::{Field, Naming};
+use uimg_printing::{put_number, put_string, put_text};
 
 // Writes what a code is called in a listing, and the code.
 fn put_code(

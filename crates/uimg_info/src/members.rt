@@ -6,7 +6,7 @@ ghost use Rattle.std.specs.Str.{is_utf8};
 ghost use Rattle.json.specs.Token.{Token};
 ghost use Rattle.json.specs.Tree.{json_tokens};
 ghost use Rattle.uimg_fit_reading.specs.Values.{pieces};
-ghost use Rattle.uimg_json.specs.Members.{spelled, array_of, of_bytes, tokens_of, string_member, number_member, number_if, text_members};
+ghost use Rattle.uimg_printing.specs.Members.{spelled, array_of, of_bytes, tokens_of, string_member, number_member, number_if, text_members};
 ghost use Rattle.uimg_info.specs.Members.{texts_members, told_as, length_of, cell_number, address_number};
 ghost use Rattle.uimg_info.specs.Steps.{Adds};
 
@@ -16,7 +16,7 @@ use byteorder::{BigEndian, ByteOrder};
 use json::Writer;
 use std::alloc::{AllocError, Global};
 use uimg_base::{before_nul, first_nul};
-use uimg_json::{put_key, put_number, put_number_if, put_text};
+use uimg_printing::{put_key, put_number, put_number_if, put_text};
 
 // The bytes before the first NUL, and those behind it.
 fn cut(bytes: &[u8]) -> (&[u8], &[u8])

@@ -1,2 +1,6 @@
 mod PrintingLaws
 pub mod ShownLaws
+pub mod LineLaws
+pub mod SoundLaws
+pub mod StepLaws
+pub mod TextLaws

@@ -1,3 +1,6 @@
 pub mod Counting
 pub mod Hidden
 pub mod Printing
+pub mod Members
+pub mod Objects
+pub mod Steps

@@ -3,8 +3,8 @@ use Rattle.std.specs.Str.{IsUtf8}
 use Rattle.json.specs.Lex.{tokens}
 use Rattle.json.specs.Print.{print}
 use Rattle.json.specs.Tree.{json_tokens}
-use Rattle.uimg_json.specs.Objects.{is_one_line}
-use Rattle.uimg_json.proofs.SoundLaws.{one_line, reads_back}
+use Rattle.uimg_printing.specs.Objects.{is_one_line}
+use Rattle.uimg_printing.proofs.SoundLaws.{one_line, reads_back}
 use Rattle.uimg_checks.specs.Objects.{check_json}
 use Rattle.uimg_checks.proofs.ObjectLaws.{check_sound}
 use Rattle.uimg_checks.proofs.object.object_text.Goals as goal

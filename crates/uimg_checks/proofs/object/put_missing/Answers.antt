@@ -1,6 +1,6 @@
 use Rattle.std.proofs.Common.{codes, ◌++◌, sym}
-use Rattle.uimg_json.specs.Members.{string_member, text_members}
-use Rattle.uimg_json.proofs.StepLaws.{after, appended_as, tokens_append}
+use Rattle.uimg_printing.specs.Members.{string_member, text_members}
+use Rattle.uimg_printing.proofs.StepLaws.{after, appended_as, tokens_append}
 use Rattle.uimg_checks.specs.Objects.{name_if}
 use Rattle.uimg_checks.proofs.object.put_missing.Goals as goal
 

@@ -1,5 +1,5 @@
 use Rattle.std.proofs.Common.{◌++◌, sym}
-use Rattle.uimg_json.proofs.StepLaws.{one, after, appended_as, object_appended, tokens_append}
+use Rattle.uimg_printing.proofs.StepLaws.{one, after, appended_as, object_appended, tokens_append}
 use Rattle.uimg_checks.specs.Objects.{about, head_members}
 use Rattle.uimg_checks.proofs.object.put_object.Goals as goal
 

@@ -1,6 +1,6 @@
 use Rattle.std.proofs.Common.{codes, sym}
-use Rattle.uimg_json.specs.Members.{text_members}
-use Rattle.uimg_json.proofs.StepLaws.{after, appended_as, tokens_append}
+use Rattle.uimg_printing.specs.Members.{text_members}
+use Rattle.uimg_printing.proofs.StepLaws.{after, appended_as, tokens_append}
 use Rattle.uimg_checks.proofs.object.put_wrong.Goals as goal
 
 pub returns : goal.returns

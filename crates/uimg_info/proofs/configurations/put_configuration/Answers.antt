@@ -4,8 +4,8 @@ use Rattle.json.specs.Tree.{json_tokens}
 use Rattle.uimg_base.specs.declared.spans.Span.{Span}
 use Rattle.uimg_blob.specs.Places.{read_place}
 use Rattle.uimg_fit_reading.specs.Survey.{read_name, read_configuration}
-use Rattle.uimg_json.specs.Members.{array_of}
-use Rattle.uimg_json.proofs.StepLaws.{one, after, appended_as, object_appended, tokens_two}
+use Rattle.uimg_printing.specs.Members.{array_of}
+use Rattle.uimg_printing.proofs.StepLaws.{one, after, appended_as, object_appended, tokens_two}
 use Rattle.uimg_info.specs.Fit.{configuration_facts, configuration_members, node_json, property_json}
 use Rattle.uimg_info.specs.Members.{facts_members}
 use Rattle.uimg_info.specs.Work.{node_size, property_size, configuration_rows_size, configuration_size}

@@ -5,7 +5,7 @@ use Rattle.std.specs.List.{sum_by}
 use Rattle.uimg_fit_reading.specs.FullSurvey.{read_properties}
 use Rattle.uimg_fit_reading.specs.Survey.{read_configuration}
 use Rattle.uimg_info.specs.Fit.{configurations_json}
-use Rattle.uimg_json.specs.Members.{items_of, array_of}
+use Rattle.uimg_printing.specs.Members.{items_of, array_of}
 use Rattle.uimg_info.specs.Work.{configuration_size, list_size}
 use Rattle.uimg_info.proofs.configurations.put_configurations.Given as goal
 

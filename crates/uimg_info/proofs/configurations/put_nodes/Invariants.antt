@@ -4,7 +4,7 @@ use Rattle.uimg_base.specs.Device.{SameDevice}
 use Rattle.std.specs.List.{sum_by}
 use Rattle.uimg_fit_reading.specs.Survey.{read_name}
 use Rattle.uimg_info.specs.Fit.{node_json}
-use Rattle.uimg_json.specs.Members.{items_of, array_of}
+use Rattle.uimg_printing.specs.Members.{items_of, array_of}
 use Rattle.uimg_info.specs.Work.{node_size}
 use Rattle.uimg_info.proofs.configurations.put_nodes.Given as goal
 

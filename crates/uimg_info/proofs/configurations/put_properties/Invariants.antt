@@ -4,7 +4,7 @@ use Rattle.uimg_base.specs.Device.{SameDevice}
 use Rattle.std.specs.List.{sum_by}
 use Rattle.uimg_blob.specs.Places.{read_place}
 use Rattle.uimg_info.specs.Fit.{property_json}
-use Rattle.uimg_json.specs.Members.{items_of, array_of}
+use Rattle.uimg_printing.specs.Members.{items_of, array_of}
 use Rattle.uimg_info.specs.Work.{property_size}
 use Rattle.uimg_info.proofs.configurations.put_properties.Given as goal
 

@@ -1,7 +1,7 @@
 use Rattle.std.proofs.Common.{codes, sym, ◌∙◌, arith}
 use Rattle.uimg_blob.specs.Places.{read_place}
-use Rattle.uimg_json.specs.Members.{number_member}
-use Rattle.uimg_json.proofs.StepLaws.{one, after, appended_as, object_appended, tokens_append}
+use Rattle.uimg_printing.specs.Members.{number_member}
+use Rattle.uimg_printing.proofs.StepLaws.{one, after, appended_as, object_appended, tokens_append}
 use Rattle.uimg_info.specs.Fit.{node_facts, property_members}
 use Rattle.uimg_info.specs.Members.{facts_members}
 use Rattle.uimg_info.proofs.WorkLaws.{asks_as}

@@ -1,5 +1,5 @@
 use Rattle.std.proofs.Common.{◌∙◌}
-use Rattle.uimg_json.proofs.StepLaws.{one, object_appended}
+use Rattle.uimg_printing.proofs.StepLaws.{one, object_appended}
 use Rattle.uimg_info.proofs.facts.put_object.Goals as goal
 
 pub returns : goal.returns

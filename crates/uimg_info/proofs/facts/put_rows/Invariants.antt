@@ -1,7 +1,7 @@
 use Rattle.std.proofs.Common.{◌≡◌, ◌≤◌, ◌+◌, ◌++◌, take, drop, map, IsTrue}
 use Rattle.uimg_base.specs.Device.{SameDevice}
 use Rattle.std.specs.List.{sum_by}
-use Rattle.uimg_json.specs.Members.{tokens_of}
+use Rattle.uimg_printing.specs.Members.{tokens_of}
 use Rattle.uimg_info.specs.Members.{facts_members}
 use Rattle.uimg_info.specs.Steps.{read_row}
 use Rattle.uimg_info.specs.Work.{row_size}

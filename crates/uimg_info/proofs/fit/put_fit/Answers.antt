@@ -7,8 +7,8 @@ use Rattle.uimg_fit_reading.specs.declared.surveying.facts.ImageFacts.{ImageFact
 use Rattle.uimg_fit_reading.specs.declared.surveying.facts.ConfigurationFacts.{ConfigurationFacts}
 use Rattle.uimg_info.specs.Reservations.{reservations_of}
 use Rattle.uimg_info.specs.Fit.{root_members, head_members, fit_members, image_json, configurations_json}
-use Rattle.uimg_json.specs.Members.{array_of}
-use Rattle.uimg_json.proofs.StepLaws.{one, after, appended_as, object_appended, tokens_two}
+use Rattle.uimg_printing.specs.Members.{array_of}
+use Rattle.uimg_printing.proofs.StepLaws.{one, after, appended_as, object_appended, tokens_two}
 use Rattle.uimg_info.proofs.WorkLaws.{asks_then, asks_as}
 use Rattle.uimg_info.specs.Work.{image_size, configuration_size, list_size}
 use Rattle.std.specs.List.{sum_by}

@@ -4,7 +4,7 @@ use Rattle.uimg_base.specs.Device.{SameDevice}
 use Rattle.std.specs.List.{sum_by}
 use Rattle.uimg_fit_reading.specs.Survey.{read_hash}
 use Rattle.uimg_info.specs.Fit.{hash_json}
-use Rattle.uimg_json.specs.Members.{items_of, array_of}
+use Rattle.uimg_printing.specs.Members.{items_of, array_of}
 use Rattle.uimg_info.specs.Work.{hash_size}
 use Rattle.uimg_info.proofs.fit.put_hashes.Given as goal
 

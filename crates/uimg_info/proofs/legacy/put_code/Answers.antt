@@ -1,6 +1,6 @@
 use Rattle.std.proofs.Common.{List, ℕ, [], ◌∷◌, ap, decimal}
 use Rattle.json.specs.Token.{Token}
-use Rattle.uimg_json.proofs.StepLaws.{after, appended_as}
+use Rattle.uimg_printing.proofs.StepLaws.{after, appended_as}
 use Rattle.uimg_info.proofs.legacy.put_code.Goals as goal
 
 pub returns : goal.returns

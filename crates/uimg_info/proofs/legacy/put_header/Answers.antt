@@ -1,4 +1,4 @@
-use Rattle.uimg_json.proofs.StepLaws.{after}
+use Rattle.uimg_printing.proofs.StepLaws.{after}
 use Rattle.uimg_info.proofs.legacy.put_header.Goals as goal
 
 pub returns : goal.returns

@@ -2,8 +2,8 @@ use Rattle.std.proofs.Common.{List, ℕ, map, codes, ap, sym, ◌∙◌, ◌++�
 use Rattle.json.specs.Token.{Token}
 use Rattle.uimg_texts.specs.Nul.{text}
 use Rattle.uimg_info.specs.Legacy.{header_members, part_json, legacy_head, legacy_members}
-use Rattle.uimg_json.specs.Members.{array_of, text_members, tokens_of}
-use Rattle.uimg_json.proofs.StepLaws.{one, after, appended_as, object_appended, tokens_append, tokens_one}
+use Rattle.uimg_printing.specs.Members.{array_of, text_members, tokens_of}
+use Rattle.uimg_printing.proofs.StepLaws.{one, after, appended_as, object_appended, tokens_append, tokens_one}
 use Rattle.uimg_info.proofs.legacy.put_legacy.Goals as goal
 
 pub returns : goal.returns

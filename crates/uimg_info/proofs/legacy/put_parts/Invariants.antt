@@ -1,7 +1,7 @@
 use Rattle.std.proofs.Common.{◌≡◌, ◌++◌, drop, map}
 use Rattle.json.specs.Tree.{json_tokens, items_tokens}
 use Rattle.uimg_info.specs.Legacy.{part_json}
-use Rattle.uimg_json.specs.Members.{items_of, array_of}
+use Rattle.uimg_printing.specs.Members.{items_of, array_of}
 use Rattle.uimg_info.proofs.legacy.put_parts.Given as goal
 
 -- with the parts that are left, all are there

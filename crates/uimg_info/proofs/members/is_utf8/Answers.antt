@@ -1,6 +1,6 @@
 use Rattle.std.proofs.Common.{sym}
 use Rattle.std.proofs.lemmas.Str.{is_utf8-from_IsUtf8}
-use Rattle.uimg_json.proofs.TextLaws.{utf8_not}
+use Rattle.uimg_printing.proofs.TextLaws.{utf8_not}
 use Rattle.uimg_info.proofs.members.is_utf8.Goals as goal
 
 pub returns-in-Ok : goal.returns-in-Ok

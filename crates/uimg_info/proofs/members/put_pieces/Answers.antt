@@ -1,6 +1,6 @@
 use Rattle.std.proofs.Common.{◌++◌, ap, sym, ◌∙◌, rules, length, ◌≤◌, List, ℕ, map}
 use Rattle.json.specs.Tree.{items_tokens}
-use Rattle.uimg_json.specs.Members.{spelled, items_of}
+use Rattle.uimg_printing.specs.Members.{spelled, items_of}
 use Rattle.uimg_info.proofs.PieceLaws.{no_pieces}
 use Rattle.uimg_info.proofs.members.put_pieces.Goals as goal
 

@@ -1,7 +1,7 @@
 use Rattle.std.proofs.Common.{◌≡◌, ◌++◌, length, map}
 use Rattle.json.specs.Tree.{json_tokens, items_tokens}
 use Rattle.uimg_fit_reading.specs.Values.{pieces}
-use Rattle.uimg_json.specs.Members.{spelled, items_of, array_of}
+use Rattle.uimg_printing.specs.Members.{spelled, items_of, array_of}
 use Rattle.uimg_info.proofs.members.put_pieces.Given as goal
 
 -- with the texts that are left, all are there

@@ -1,7 +1,7 @@
 use Rattle.std.proofs.Common.{◌≡◌, ◌++◌, drop, map}
 use Rattle.json.specs.Tree.{json_tokens, items_tokens}
 use Rattle.uimg_info.specs.Reservations.{reservation_json}
-use Rattle.uimg_json.specs.Members.{items_of, array_of}
+use Rattle.uimg_printing.specs.Members.{items_of, array_of}
 use Rattle.uimg_info.proofs.reservations.put_entries.Given as goal
 
 -- with the entries that are left, all are there

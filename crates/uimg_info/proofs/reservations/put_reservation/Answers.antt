@@ -1,6 +1,6 @@
 use Rattle.std.proofs.Common.{codes, ◌++◌}
-use Rattle.uimg_json.specs.Members.{number_member}
-use Rattle.uimg_json.proofs.StepLaws.{one, after, object_appended}
+use Rattle.uimg_printing.specs.Members.{number_member}
+use Rattle.uimg_printing.proofs.StepLaws.{one, after, object_appended}
 use Rattle.uimg_info.proofs.reservations.put_reservation.Goals as goal
 
 pub returns : goal.returns

@@ -2,8 +2,8 @@
 
 ghost use Rattle.std.specs.Prelude.{◌≡◌, ◌++◌, [], ◌∷◌};
 ghost use Rattle.json.specs.Token.{Token};
-ghost use Rattle.uimg_json.specs.Members.{of_bytes, tokens_of, string_member, number_member, number_if, text_members};
-ghost use Rattle.uimg_json.specs.Steps.{Appends};
+ghost use Rattle.uimg_printing.specs.Members.{of_bytes, tokens_of, string_member, number_member, number_if, text_members};
+ghost use Rattle.uimg_printing.specs.Steps.{Appends};
 
 use crate::spelling::spell;
 use json::Writer;

@@ -8,9 +8,9 @@ use Rattle.json.specs.Print.{print, print_from, quoted}
 use Rattle.json.specs.Token.{Token}
 use Rattle.json.specs.Tree.{json_tokens, items_tokens, members_tokens, depth, items_depth, members_depth}
 use Rattle.json.proofs.Printed.Trees.{value-json_tokens}
-use Rattle.uimg_json.specs.Objects.{is_one_line}
-use Rattle.uimg_json.specs.Members.{Member, members_of, items_of, number_member, number_if, string_member, spelled, beside, text_members}
-use Rattle.uimg_json.proofs.LineLaws as line
+use Rattle.uimg_printing.specs.Objects.{is_one_line}
+use Rattle.uimg_printing.specs.Members.{Member, members_of, items_of, number_member, number_if, string_member, spelled, beside, text_members}
+use Rattle.uimg_printing.proofs.LineLaws as line
 
 -- arrays and objects nest so deep at most, and each number is on one line
 abbrev mutual

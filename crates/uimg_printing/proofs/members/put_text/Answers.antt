@@ -3,8 +3,8 @@ use Rattle.std.specs.String.{string_bytes}
 use Rattle.base64.specs.Engines.{standard}
 use Rattle.base64.specs.GeneralPurpose.{encode_of}
 use Rattle.std.specs.Str.Lossy.{utf8_lossy}
-use Rattle.uimg_json.proofs.TextLaws.{utf8_of_none, utf8_of_some, text_whole, text_beside}
-use Rattle.uimg_json.proofs.members.put_text.Goals as goal
+use Rattle.uimg_printing.proofs.TextLaws.{utf8_of_none, utf8_of_some, text_whole, text_beside}
+use Rattle.uimg_printing.proofs.members.put_text.Goals as goal
 
 pub returns : goal.returns
 returns c =

@@ -8,9 +8,9 @@ use Rattle.base64.specs.Engines.{standard}
 use Rattle.base64.specs.GeneralPurpose.{encode_of}
 use Rattle.json.specs.Token.{Token}
 use Rattle.json.specs.Written.{Written}
-use Rattle.uimg_json.specs.Members.{spelled, beside, of_bytes, string_member, text_members, tokens_of}
-use Rattle.uimg_json.specs.Steps.{Appended}
-use Rattle.uimg_json.proofs.StepLaws.{then_appended, appended_as}
+use Rattle.uimg_printing.specs.Members.{spelled, beside, of_bytes, string_member, text_members, tokens_of}
+use Rattle.uimg_printing.specs.Steps.{Appended}
+use Rattle.uimg_printing.proofs.StepLaws.{then_appended, appended_as}
 
 by_bool : {P : Type 0} (b : Bool) → (b ≡ true → P) → (b ≡ false → P) → P
 by_bool true p q = p refl

@@ -6,8 +6,8 @@ use Rattle.json.specs.Json.{Json}
 use Rattle.json.specs.Token.{Token}
 use Rattle.json.specs.Tree.{json_tokens, items_tokens, members_tokens}
 use Rattle.json.specs.Written.{Written}
-use Rattle.uimg_json.specs.Members.{Member, members_of, items_of, object_of, array_of, member_tokens, tokens_of}
-use Rattle.uimg_json.specs.Steps.{Appended}
+use Rattle.uimg_printing.specs.Members.{Member, members_of, items_of, object_of, array_of, member_tokens, tokens_of}
+use Rattle.uimg_printing.specs.Steps.{Appended}
 
 pub then_appended : (s t u : Written) (a b : List Token) → Appended s t a → Appended t u b → Appended s u (a ++ b)
 then_appended s t u a b p q = record {

@@ -7,7 +7,7 @@ use Rattle.json.specs.Token.{Token}
 use Rattle.json.specs.Print.{escape_byte, escape, quoted, token_text, separator, begins, ends, print, print_from}
 use Rattle.json.specs.Tree.{json_tokens, members_tokens}
 use Rattle.json.proofs.Printed.Strings.{escape_byte_plain}
-use Rattle.uimg_json.specs.Objects.{is_one_line}
+use Rattle.uimg_printing.specs.Objects.{is_one_line}
 
 -- two such texts are one
 pub joined : (xs ys : List ℕ) → is_one_line xs ≡ true → is_one_line ys ≡ true → is_one_line (xs ++ ys) ≡ true

@@ -1,4 +1,0 @@
-pub mod LineLaws
-pub mod SoundLaws
-pub mod StepLaws
-pub mod TextLaws
