@@ -8,8 +8,8 @@ use std::fs;
 use std::io::{BufWriter, Write};
 use std::rt::Files;
 use uimg_base::FileSource;
+use uimg_compat::{AutoRequest, AutoSource, OldFault};
 use uimg_names::Naming;
-use uimg_old_words::{AutoRequest, AutoSource, OldFault};
 use uimg_requests::MakeRequest;
 
 /// Makes the image of a request. The text of its source stands beside the image while that is made.

@@ -12,9 +12,9 @@ use std::io::Write;
 use std::rt::Files;
 use std::{fs, io};
 use uimg_base::Status;
+use uimg_compat::{OldFault, OldRequest, Show, read_dumpimage, read_mkimage, title_of};
 use uimg_engine::Fault;
 use uimg_names::Field;
-use uimg_old_words::{OldFault, OldRequest, Show, read_dumpimage, read_mkimage, title_of};
 use uimg_requests::{MakeRequest, RunRequest, VERSION};
 use uimg_words::Request;
 

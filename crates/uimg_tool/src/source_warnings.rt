@@ -4,11 +4,11 @@ use std::alloc::Global;
 use std::io::Write;
 use std::rt::Files;
 use uimg_base::{Files as _, Out, Source, WINDOW, copy_through};
+use uimg_compat::warn;
 use uimg_engine::DiskFiles;
 use uimg_its::compile;
 use uimg_requests::{MakeCommand, MakeRequest};
 use uimg_tree::Tree;
-use uimg_warnings::warn;
 
 /// Tells what is wrong with the source of a making. Of one that cannot be read or compiled the making
 /// tells the fault, and of an image of parts there is nothing to tell.

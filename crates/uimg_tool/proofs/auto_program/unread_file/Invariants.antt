@@ -1,4 +1,4 @@
-use Rattle.uimg_getopt.specs.Getopt.{left}
+use Rattle.uimg_compat.specs.Getopt.{left}
 use Rattle.uimg_tool.proofs.auto_program.unread_file.Given as goal
 
 -- each path takes something of the words

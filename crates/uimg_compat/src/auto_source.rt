@@ -1,0 +1,214 @@
+//! The image source that mkimage makes itself, by -f auto.
+
+ghost use Rattle.std.specs.Prelude.{◌<◌, IfSome};
+ghost use Rattle.uimg_compat.specs.Getopt.{left};
+
+use crate::getopt::{Given, Words};
+use crate::mkimage_options::MKIMAGE_OPTIONS;
+use crate::quoted::Quoted;
+use std::fmt;
+use std::fmt::{Display, Formatter, Write};
+use uimg_legacy::Options;
+use uimg_names::{Field, Naming};
+
+/// The most bytes of a device tree's description.
+const LONGEST: usize = 99;
+
+/// The image source that mkimage 2023.01 makes of a file, of device trees and of a RAM disk. What it
+/// is displayed as is its text.
+#[derive(Clone, Copy, Debug)]
+pub struct AutoSource<'a> {
+    /// What the image of the file is: its type, and where it is loaded.
+    pub(crate) options: Options,
+
+    /// What is said of it.
+    pub(crate) name: &'a str,
+
+    /// The path of the file.
+    pub data: &'a str,
+
+    /// The path of the RAM disk.
+    pub ramdisk: Option<&'a str>,
+
+    /// The words behind mkimage's name. Those of -b are the paths of the device trees.
+    pub(crate) words: &'a [&'a str],
+}
+
+/// The paths of device trees, one after another.
+#[derive(Clone, Copy, Debug)]
+pub struct TreePaths<'a> {
+    words: Words<'a>,
+}
+
+impl<'a> AutoSource<'a> {
+    /// The paths of the device trees.
+    pub fn trees(&self) -> TreePaths<'a> {
+        TreePaths {
+            words: Words::new(self.words),
+        }
+    }
+
+    // What the image of the file is called, by the short name of its type.
+    fn kind(&self) -> &'static str {
+        short_name(Field::Kind, self.options.kind)
+    }
+
+    fn put_file<W: Write>(&self, f: &mut Formatter<W>) -> fmt::Result {
+        let options = &self.options;
+        let kind = self.kind();
+        let arch = short_name(Field::Architecture, options.arch);
+        let os = short_name(Field::System, options.os);
+        let comp = short_name(Field::Compression, options.comp);
+        let name = Quoted(self.name.as_bytes());
+        let data = Quoted(self.data.as_bytes());
+        let (load, entry) = (options.load, options.ep);
+        write!(f, "{kind}-1 {{ description = {name}; type = \"{kind}\"; ")?;
+        write!(
+            f,
+            "arch = \"{arch}\"; os = \"{os}\"; compression = \"{comp}\";\n"
+        )?;
+        write!(
+            f,
+            "load = <{load}>; entry = <{entry}>; data = /incbin/({data});\n"
+        )?;
+        f.write_str("hash-1 { algo = \"crc32\"; }; };\n")
+    }
+
+    fn put_tree<W: Write>(&self, number: u32, path: &str, f: &mut Formatter<W>) -> fmt::Result {
+        let arch = short_name(Field::Architecture, self.options.arch);
+        let name = Quoted(base_name(path));
+        let data = Quoted(path.as_bytes());
+        write!(
+            f,
+            "fdt-{number} {{ description = {name}; data = /incbin/({data});\n"
+        )?;
+        write!(
+            f,
+            "type = \"flat_dt\"; arch = \"{arch}\"; compression = \"none\";\n"
+        )?;
+        f.write_str("hash-1 { algo = \"crc32\"; }; };\n")
+    }
+
+    fn put_trees<W: Write>(&self, f: &mut Formatter<W>) -> fmt::Result {
+        let mut trees = self.trees();
+        let mut number = 0u32;
+        while let Some(path) = trees.take() {
+            number = number.saturating_add(1);
+            self.put_tree(number, path, f)?;
+        }
+        Ok(())
+    }
+
+    fn put_ramdisk<W: Write>(&self, path: &str, f: &mut Formatter<W>) -> fmt::Result {
+        let arch = short_name(Field::Architecture, self.options.arch);
+        let os = short_name(Field::System, self.options.os);
+        let data = Quoted(path.as_bytes());
+        write!(
+            f,
+            "ramdisk-1 {{ type = \"ramdisk\"; os = \"{os}\"; arch = \"{arch}\";\n"
+        )?;
+        write!(
+            f,
+            "data = /incbin/({data}); hash-1 {{ algo = \"crc32\"; }}; }};\n"
+        )
+    }
+
+    // The RAM disk, as each configuration names it.
+    fn put_ramdisk_name<W: Write>(&self, f: &mut Formatter<W>) -> fmt::Result {
+        match self.ramdisk {
+            Some(_) => f.write_str("ramdisk = \"ramdisk-1\"; "),
+            None => Ok(()),
+        }
+    }
+
+    // A configuration for each device tree, or one without.
+    fn put_configurations<W: Write>(&self, f: &mut Formatter<W>) -> fmt::Result {
+        let mut trees = self.trees();
+        let mut number = 0u32;
+        while let Some(path) = trees.take() {
+            number = number.saturating_add(1);
+            self.put_configuration(number, path, f)?;
+        }
+        if number == 0 {
+            let kind = self.kind();
+            write!(f, "conf-1 {{ {kind} = \"{kind}-1\"; ")?;
+            self.put_ramdisk_name(f)?;
+            f.write_str("};\n")?;
+        }
+        Ok(())
+    }
+
+    fn put_configuration<W: Write>(
+        &self,
+        number: u32,
+        path: &str,
+        f: &mut Formatter<W>,
+    ) -> fmt::Result {
+        let kind = self.kind();
+        let name = Quoted(base_name(path));
+        write!(
+            f,
+            "conf-{number} {{ description = {name}; {kind} = \"{kind}-1\"; "
+        )?;
+        write!(f, "loadables = \"{kind}-1\"; ")?;
+        self.put_ramdisk_name(f)?;
+        write!(f, "fdt = \"fdt-{number}\"; }};\n")
+    }
+}
+
+impl<'a> Display for AutoSource<'a> {
+    fn fmt<W: Write>(&self, f: &mut Formatter<W>) -> fmt::Result {
+        let kind = Naming::All.code_text(Field::Kind, self.options.kind);
+        write!(
+            f,
+            "/dts-v1/;\n/ {{\ndescription = \"{kind} image with one or more FDT blobs\";\n"
+        )?;
+        f.write_str("creator = \"U-Boot mkimage 2023.01\"; #address-cells = <1>;\nimages {\n")?;
+        self.put_file(f)?;
+        self.put_trees(f)?;
+        if let Some(path) = self.ramdisk {
+            self.put_ramdisk(path, f)?;
+        }
+        f.write_str("};\nconfigurations {\ndefault = \"conf-1\";\n")?;
+        self.put_configurations(f)?;
+        f.write_str("};\n};\n")
+    }
+}
+
+impl<'a> TreePaths<'a> {
+    /// Takes the next path.
+    pub fn take(&mut self) -> Option<&'a str>
+        ensures less { IfSome result (λ _. left self.new.words < left self.old.words) }
+    {
+        while let Ok(Some(given)) = self.words.take(&MKIMAGE_OPTIONS) {
+            if let Given::Value('b', path) = given {
+                return Some(path);
+            }
+        }
+        None
+    }
+}
+
+// The first short name of a code.
+fn short_name(field: Field, code: u8) -> &'static str {
+    for (short, known, _) in field.rows() {
+        if code == *known {
+            return short;
+        }
+    }
+    "unknown"
+}
+
+// The name of the file at a path, without what stands behind its last dot.
+fn base_name(path: &str) -> &[u8] {
+    let name = match path.rsplit_once('/') {
+        Some((_, name)) => name,
+        None => path,
+    };
+    let name = match name.rsplit_once('.') {
+        Some((before, _)) => before,
+        None => name,
+    };
+    let bytes = name.as_bytes();
+    bytes.get(..LONGEST).unwrap_or(bytes)
+}

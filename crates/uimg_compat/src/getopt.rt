@@ -1,0 +1,177 @@
+//! The words of a command line as getopt_long of the GNU C library reads them.
+//!
+//! Options may stand before and behind operands, letters may be joined, a value may be joined to its
+//! letter or be the next word, a long option's value stands behind a `=` or is the next word, and all
+//! words behind `--` are operands. A long option is given by its whole name.
+
+ghost use Rattle.std.specs.Prelude.{◌≡◌, ◌+◌, ◌<◌, ◌≤◌, length, IfOk, IfSome};
+ghost use Rattle.uimg_compat.specs.Getopt.{left};
+
+use thiserror::Error;
+
+/// An option: its letter, its long name (empty where it has none), and whether it has a value.
+pub type OptionRow = (char, &'static str, bool);
+
+/// What a command line gives next.
+#[derive(Clone, Copy, Debug, PartialEq, Eq)]
+pub enum Given<'a> {
+    /// The option of this letter, without a value.
+    Flag(char),
+
+    /// The option of this letter, with its value.
+    Value(char, &'a str),
+
+    /// A word that is no option.
+    Operand(&'a str),
+}
+
+/// Why a command line cannot be read on.
+#[derive(Clone, Copy, Debug, Error, PartialEq, Eq)]
+pub enum Misuse<'a> {
+    /// No option has this letter.
+    #[error("there is no option '-{0}'")]
+    UnknownLetter(char),
+
+    /// No option has this long name.
+    #[error("there is no option '--{0}'")]
+    UnknownName(&'a str),
+
+    /// The option of this letter has a value, and no word is left.
+    #[error("the option '-{0}' lacks its value")]
+    NoValueOfLetter(&'a str),
+
+    /// The option of this long name has a value, and no word is left.
+    #[error("the option '--{0}' lacks its value")]
+    NoValueOfName(&'a str),
+
+    /// The option of this long name has no value, and one is joined to it.
+    #[error("the option '--{0}' has no value")]
+    ValueNotWanted(&'a str),
+}
+
+/// The words of a command line that are not read yet.
+#[derive(Clone, Copy, Debug)]
+pub struct Words<'a> {
+    words: &'a [&'a str],
+    next: usize,
+    letters: &'a str,
+    has_operands_alone: bool,
+}
+
+impl<'a> Words<'a> {
+    /// The words behind the program's name.
+    pub fn new(words: &'a [&'a str]) -> Words<'a> {
+        Words {
+            words,
+            next: 0,
+            letters: "",
+            has_operands_alone: false,
+        }
+    }
+
+    /// Takes what comes next: an option of these rows, or an operand. `None` at the end.
+    pub fn take(&mut self, rows: &[OptionRow]) -> Result<Option<Given<'a>>, Misuse<'a>>
+        ensures less { IfOk result (λ given. IfSome given (λ _. left self.new < left self.old)) }
+    {
+        if !self.letters.is_empty() {
+            return self.take_letter(rows);
+        }
+        let Some(word) = self.take_word() else {
+            return Ok(None);
+        };
+        if self.has_operands_alone || word == "-" || !word.starts_with('-') {
+            return Ok(Some(Given::Operand(word)));
+        }
+        if word == "--" {
+            self.has_operands_alone = true;
+            return Ok(self.take_word().map(Given::Operand));
+        }
+        match word.strip_prefix("--") {
+            Some(text) => self.take_long(rows, text),
+            None => {
+                self.letters = word.strip_prefix('-').unwrap_or("");
+                self.take_letter(rows)
+            }
+        }
+    }
+
+    // The next word.
+    fn take_word(&mut self) -> Option<&'a str>
+        ensures letters { self.new.letters ≡ self.old.letters }
+        ensures less { IfSome result (λ word. left self.new + length word.now < left self.old) }
+    {
+        let word = *self.words.get(self.next)?;
+        self.next += 1;
+        Some(word)
+    }
+
+    // The option of the first of the letters.
+    fn take_letter(&mut self, rows: &[OptionRow]) -> Result<Option<Given<'a>>, Misuse<'a>>
+        ensures less { IfOk result (λ given. IfSome given (λ _. left self.new < left self.old)) }
+    {
+        let letters = self.letters;
+        let Some((option, has_value, rest)) = option_by_letter(rows, letters) else {
+            return Err(Misuse::UnknownLetter(letters.chars().next().unwrap_or('-')));
+        };
+        if !has_value {
+            self.letters = rest;
+            return Ok(Some(Given::Flag(option)));
+        }
+        self.letters = "";
+        if !rest.is_empty() {
+            return Ok(Some(Given::Value(option, rest)));
+        }
+        match self.take_word() {
+            Some(value) => Ok(Some(Given::Value(option, value))),
+            None => Err(Misuse::NoValueOfLetter(letters)),
+        }
+    }
+
+    // The option of the text behind two dashes.
+    fn take_long(
+        &mut self,
+        rows: &[OptionRow],
+        text: &'a str,
+    ) -> Result<Option<Given<'a>>, Misuse<'a>>
+        ensures more { IfOk result (λ given. IfSome given (λ _. left self.new ≤ left self.old)) }
+    {
+        let (name, joined) = match text.split_once('=') {
+            Some((name, value)) => (name, Some(value)),
+            None => (text, None),
+        };
+        let Some((option, has_value)) = option_by_name(rows, name) else {
+            return Err(Misuse::UnknownName(name));
+        };
+        match (has_value, joined) {
+            (false, None) => Ok(Some(Given::Flag(option))),
+            (false, Some(_)) => Err(Misuse::ValueNotWanted(name)),
+            (true, Some(value)) => Ok(Some(Given::Value(option, value))),
+            (true, None) => match self.take_word() {
+                Some(value) => Ok(Some(Given::Value(option, value))),
+                None => Err(Misuse::NoValueOfName(name)),
+            },
+        }
+    }
+}
+
+// The option whose letter is the first of these, whether it has a value, and the letters behind it.
+fn option_by_letter<'a>(rows: &[OptionRow], letters: &'a str) -> Option<(char, bool, &'a str)>
+    ensures shorter { IfSome result (λ found. length found.2.now < length letters.now) }
+{
+    for row in rows {
+        if let Some(rest) = letters.strip_prefix(row.0) {
+            return Some((row.0, row.2, rest));
+        }
+    }
+    None
+}
+
+// The option of a long name, and whether it has a value.
+fn option_by_name(rows: &[OptionRow], name: &str) -> Option<(char, bool)> {
+    for row in rows {
+        if row.1 == name && !name.is_empty() {
+            return Some((row.0, row.2));
+        }
+    }
+    None
+}

@@ -1,0 +1,29 @@
+//! Compatibility with the command lines of mkimage and dumpimage 2023.01: words and numbers as the GNU C
+//! library reads them, what they ask for, and what mkimage warns of.
+#![tactic(auto)]
+
+mod auto_source;
+mod c_numbers;
+mod dtc_words;
+mod dumpimage;
+mod fault;
+mod getopt;
+mod helps;
+mod mkimage;
+mod mkimage_options;
+mod names;
+mod nearest;
+mod quoted;
+mod request;
+mod warnings;
+
+pub use auto_source::{AutoSource, TreePaths};
+pub use c_numbers::{long_prefix, low_half, unsigned_long};
+pub use dumpimage::read_dumpimage;
+pub use fault::OldFault;
+pub use getopt::{Given, Misuse, OptionRow, Words};
+pub use mkimage::read_mkimage;
+pub use names::title_of;
+pub use quoted::{Escaped, Quoted};
+pub use request::{AutoRequest, OldRequest, Show};
+pub use warnings::warn;

@@ -1,0 +1,353 @@
+//! The words of mkimage.
+
+use crate::auto_source::AutoSource;
+use crate::c_numbers::{long_prefix, low_half, unsigned_long};
+use crate::dtc_words::change_nothing;
+use crate::fault::OldFault;
+use crate::getopt::{Given, Words};
+use crate::helps::MKIMAGE_HELP;
+use crate::mkimage_options::MKIMAGE_OPTIONS;
+use crate::names::{Named, check_made, format_of, name_of};
+use crate::request::{AutoRequest, OldRequest, Show};
+use std::alloc::Global;
+use uimg_base::{FLAT_DT, MULTI, SCRIPT};
+use uimg_fit_base::{Placement, WORD_ALIGNMENT};
+use uimg_legacy::{Options, name_field};
+use uimg_names::{Field, Naming};
+use uimg_requests::{Action, Command, MakeRequest, RunRequest};
+
+/// The word of -f for a source that mkimage makes itself.
+const AUTO: &str = "auto";
+
+/// How many bytes a header has.
+const HEADER_BYTES: u32 = 64;
+
+/// The path whose file has no data, of which an image is made where none is to be copied.
+const NO_DATA: &str = "/dev/null";
+
+/// What the options of a command line say so far. Each may be given again, and the last counts.
+#[derive(Clone, Copy, Debug)]
+struct Settings<'a> {
+    arch: u8,
+    os: u8,
+    kind: Option<u8>,
+    kind_name: &'a str,
+    comp: u8,
+    load: u32,
+    entry: Option<u32>,
+    name: &'a str,
+    data: Option<&'a str>,
+    source: Option<&'a str>,
+    ramdisk: Option<&'a str>,
+    image: Option<&'a str>,
+    position: u32,
+    alignment: u32,
+    alignment_word: &'a str,
+    is_external: bool,
+    is_list: bool,
+    is_quiet: bool,
+    is_xip: bool,
+    has_no_data: bool,
+}
+
+/// Reads the words behind mkimage's name. `epoch` is SOURCE_DATE_EPOCH where it is set, and `now` the
+/// clock's moment.
+pub fn read_mkimage<'a>(
+    alloc: Global,
+    words: &'a [&'a str],
+    epoch: Option<&str>,
+    now: u32,
+) -> Result<OldRequest<'a>, OldFault<'a>> {
+    let mut settings = Settings {
+        arch: 7,
+        os: 5,
+        kind: None,
+        kind_name: "",
+        comp: 1,
+        load: 0,
+        entry: None,
+        name: "",
+        data: None,
+        source: None,
+        ramdisk: None,
+        image: None,
+        position: 0,
+        alignment: 0,
+        alignment_word: "",
+        is_external: false,
+        is_list: false,
+        is_quiet: false,
+        is_xip: false,
+        has_no_data: false,
+    };
+    let mut unread = Words::new(words);
+    while let Some(given) = unread.take(&MKIMAGE_OPTIONS)? {
+        if let Some(show) = settings.take(alloc, given)? {
+            return Ok(OldRequest::Show(show));
+        }
+    }
+    settings.request(alloc, words, epoch, now)
+}
+
+impl<'a> Settings<'a> {
+    // Takes what a command line gives next, or tells the text that it asks for.
+    fn take(&mut self, alloc: Global, given: Given<'a>) -> Result<Option<Show>, OldFault<'a>> {
+        match given {
+            Given::Operand(word) => {
+                if self.image.is_none() {
+                    self.image = Some(word);
+                }
+                Ok(None)
+            }
+            Given::Flag(option) => self.take_flag(option),
+            Given::Value(option, value) => self.take_value(alloc, option, value),
+        }
+    }
+
+    fn take_flag(&mut self, option: char) -> Result<Option<Show>, OldFault<'a>> {
+        match option {
+            'h' => return Ok(Some(Show::Help(MKIMAGE_HELP))),
+            'V' => return Ok(Some(Show::Version)),
+            'E' => self.is_external = true,
+            'l' => self.is_list = true,
+            'q' => self.is_quiet = true,
+            's' => self.has_no_data = true,
+            'F' | 'r' => return Err(OldFault::Signs(option)),
+            'x' => self.is_xip = true,
+            _ => {}
+        }
+        Ok(None)
+    }
+
+    fn take_value(
+        &mut self,
+        alloc: Global,
+        option: char,
+        value: &'a str,
+    ) -> Result<Option<Show>, OldFault<'a>> {
+        match option {
+            'A' => return self.take_name(alloc, Field::Architecture, value),
+            'O' => return self.take_name(alloc, Field::System, value),
+            'T' => return self.take_name(alloc, Field::Kind, value),
+            'C' => return self.take_name(alloc, Field::Compression, value),
+            'a' => self.load = address('a', value)?,
+            'e' => self.entry = Some(address('e', value)?),
+            'p' => self.position = address('p', value)?,
+            'n' => self.name = value,
+            'd' => self.data = Some(value),
+            'f' => self.source = Some(value),
+            'i' => self.ramdisk = Some(value),
+            'B' => {
+                self.alignment = address('B', value)?;
+                self.alignment_word = value;
+            }
+            'D' => check_dtc_words(value)?,
+            'g' | 'G' | 'k' | 'K' | 'N' | 'o' => return Err(OldFault::Signs(option)),
+            _ => {}
+        }
+        Ok(None)
+    }
+
+    fn take_name(
+        &mut self,
+        alloc: Global,
+        field: Field,
+        word: &'a str,
+    ) -> Result<Option<Show>, OldFault<'a>> {
+        let code = match name_of(alloc, field, word)? {
+            Named::List => return Ok(Some(Show::Names(field))),
+            Named::Code(code) => code,
+        };
+        match field {
+            Field::Architecture => self.arch = code,
+            Field::System => self.os = code,
+            Field::Kind => {
+                self.kind = Some(code);
+                self.kind_name = word;
+            }
+            Field::Compression => self.comp = code,
+        }
+        Ok(None)
+    }
+
+    // What is asked for, once all words are taken.
+    fn request(
+        self,
+        alloc: Global,
+        words: &'a [&'a str],
+        epoch: Option<&str>,
+        now: u32,
+    ) -> Result<OldRequest<'a>, OldFault<'a>> {
+        let Some(image) = self.image else {
+            return Err(OldFault::NoImage);
+        };
+        if self.is_list {
+            return self.listing(image);
+        }
+        let time = match epoch {
+            Some(text) => long_prefix(text).ok_or(OldFault::BadEpoch)?,
+            None => now,
+        };
+        let is_quiet = self.is_quiet;
+        if self.source == Some(AUTO) {
+            return Ok(OldRequest::MakeAuto(AutoRequest {
+                source: self.auto_source(words)?,
+                placement: self.placement()?,
+                time,
+                outfile: image,
+                is_quiet,
+            }));
+        }
+        let mut request = self.making(alloc, image, time)?;
+        request.naming = Naming::All;
+        Ok(OldRequest::Make { request, is_quiet })
+    }
+
+    fn listing(self, image: &'a str) -> Result<OldRequest<'a>, OldFault<'a>> {
+        if self.source.is_some() {
+            return Err(OldFault::ListWithSource);
+        }
+        let command = Command {
+            action: Action::List(Naming::All),
+            format: format_of(self.kind, self.kind_name)?,
+        };
+        Ok(OldRequest::Run {
+            request: RunRequest {
+                command,
+                image,
+                outfile: None,
+                written: None,
+            },
+            is_quiet: self.is_quiet,
+        })
+    }
+
+    fn making(
+        self,
+        alloc: Global,
+        image: &'a str,
+        time: u32,
+    ) -> Result<MakeRequest<'a>, OldFault<'a>> {
+        match (self.data, self.source) {
+            (None, None) => Err(OldFault::NothingToMake),
+            (Some(_), Some(_)) => Err(OldFault::DataWithSource),
+            (None, Some(source)) => {
+                let placement = self.placement()?;
+                Ok(MakeRequest::of_source(alloc, source, placement, time, image)?)
+            }
+            (Some(_), None) if self.kind == Some(FLAT_DT) => Err(OldFault::NoSource),
+            (Some(data), None) => {
+                check_made(self.kind.unwrap_or(0), self.kind_name)?;
+                self.making_of_parts(alloc, data, time, image)
+            }
+        }
+    }
+
+    fn making_of_parts(
+        self,
+        alloc: Global,
+        data: &'a str,
+        time: u32,
+        image: &'a str,
+    ) -> Result<MakeRequest<'a>, OldFault<'a>> {
+        let options = self.options();
+        if self.is_xip && has_parts(options.kind) {
+            return Err(OldFault::NotDone {
+                letter: 'x',
+                what: "makes no image of several parts that is run in its place",
+            });
+        }
+        let data = if self.has_no_data { NO_DATA } else { data };
+        let mut request = MakeRequest::of_parts(alloc, options, data, time, image)?;
+        request.is_xip = self.is_xip && !self.has_no_data;
+        Ok(request)
+    }
+
+    fn auto_source(&self, words: &'a [&'a str]) -> Result<AutoSource<'a>, OldFault<'a>> {
+        let Some(data) = self.data else {
+            return Err(OldFault::NoData);
+        };
+        Ok(AutoSource {
+            options: self.options(),
+            name: self.name,
+            data,
+            ramdisk: self.ramdisk,
+            words,
+        })
+    }
+
+    // Where the payloads stand. The alignment counts only where that is behind the tree.
+    fn placement(&self) -> Result<Placement, OldFault<'a>> {
+        if !self.is_external {
+            return Ok(Placement::Inside);
+        }
+        let align = self.align()?;
+        match self.position {
+            0 => Ok(Placement::After { align }),
+            position => Ok(Placement::At { position, align }),
+        }
+    }
+
+    // The alignment of payloads behind the tree, at which those that read the image find them.
+    fn align(&self) -> Result<u32, OldFault<'a>> {
+        match self.alignment {
+            0 => Ok(WORD_ALIGNMENT),
+            align if align % WORD_ALIGNMENT == 0 => Ok(align),
+            _ => Err(OldFault::UnevenAlignment(self.alignment_word)),
+        }
+    }
+
+    // The entry point where none is given: behind the header of what is run in its place.
+    fn default_entry(&self) -> u32 {
+        if self.is_xip {
+            self.load.wrapping_add(HEADER_BYTES)
+        } else {
+            self.load
+        }
+    }
+
+    // The fields of the header. The type `invalid` is as none.
+    fn options(&self) -> Options {
+        let kind = match self.kind {
+            None | Some(0) => 2,
+            Some(kind) => kind,
+        };
+        Options {
+            time: 0,
+            load: self.load,
+            ep: self.entry.unwrap_or(self.default_entry()),
+            os: self.os,
+            arch: self.arch,
+            kind,
+            comp: self.comp,
+            name: name_field(self.name.as_bytes()),
+        }
+    }
+}
+
+// Whether images of a type have parts, with a table of their sizes.
+fn has_parts(kind: u8) -> bool {
+    kind == MULTI || kind == SCRIPT
+}
+
+// The low 32 bits of a hexadecimal number.
+fn address(letter: char, word: &str) -> Result<u32, OldFault<'_>> {
+    match unsigned_long(word, 16) {
+        Some(number) => Ok(low_half(number)),
+        None => Err(OldFault::NoNumber {
+            letter,
+            title: "hexadecimal",
+            word,
+        }),
+    }
+}
+
+fn check_dtc_words(words: &str) -> Result<(), OldFault<'_>> {
+    if change_nothing(words) {
+        return Ok(());
+    }
+    Err(OldFault::NotDone {
+        letter: 'D',
+        what: "takes no words for dtc but -I dts, -O dtb, -q and -p with a number",
+    })
+}

@@ -1,0 +1,40 @@
+//! The options of mkimage 2023.01.
+
+use crate::getopt::OptionRow;
+
+/// The options, by their letters and long names.
+pub(crate) const MKIMAGE_OPTIONS: [OptionRow; 33] = [
+    ('a', "load-address", true),
+    ('A', "architecture", true),
+    ('b', "device-tree", true),
+    ('B', "alignment", true),
+    ('c', "comment", true),
+    ('C', "compression", true),
+    ('d', "image", true),
+    ('D', "dtcopts", true),
+    ('e', "entry-point", true),
+    ('E', "external", false),
+    ('f', "fit", true),
+    ('F', "update", false),
+    ('g', "key-name-hint", true),
+    ('G', "key-file", true),
+    ('h', "help", false),
+    ('i', "initramfs", true),
+    ('k', "key-dir", true),
+    ('K', "key-dest", true),
+    ('l', "list", false),
+    ('n', "config", true),
+    ('N', "engine", true),
+    ('o', "algo", true),
+    ('O', "os", true),
+    ('p', "position", true),
+    ('q', "quiet", false),
+    ('r', "key-required", false),
+    ('R', "secondary-config", true),
+    ('s', "no-copy", false),
+    ('t', "touch", false),
+    ('T', "type", true),
+    ('v', "verbose", false),
+    ('V', "version", false),
+    ('x', "xip", false),
+];

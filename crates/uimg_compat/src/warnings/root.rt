@@ -1,0 +1,48 @@
+//! The whole source.
+
+use crate::warnings::configurations::tell_of_configurations;
+use crate::warnings::equal_names::tell_equal_names;
+use crate::warnings::images::tell_of_images;
+use crate::warnings::node_paths::NodePath;
+use crate::warnings::nodes::{child_of, has_property};
+use crate::warnings::teller::Teller;
+use crate::warnings::warning::Warning;
+use std::alloc::{AllocError, Global};
+use std::io::Write;
+use uimg_tree::{Node, Tree};
+
+/// Tells what is wrong with the tree of a source, a line each, the first 20 of them and how many more
+/// there are: a description that the root, an image or a configuration lacks, and the root's
+/// `#address-cells`; a name in a configuration that no image has, and a default that no configuration
+/// has; a type, architecture, operating system or compression of an image that is no name of image.h;
+/// and nodes or properties with one name in one node, down to what is right below an image.
+///
+/// It takes memory for the names of one node and those of the images; where that is refused the rest
+/// is not looked for. A failed write changes nothing.
+pub fn warn<W: Write>(alloc: Global, tree: &Tree<Global>, err: &mut W) {
+    let mut teller = Teller::new(err);
+    let _ = tell_of_root(alloc, &tree.root, &mut teller);
+    teller.end();
+}
+
+fn tell_of_root<W: Write>(
+    alloc: Global,
+    root: &Node<Global>,
+    teller: &mut Teller<'_, W>,
+) -> Result<(), AllocError> {
+    let path = NodePath(&[]);
+    for name in ["description", "#address-cells"] {
+        if !has_property(root, name) {
+            teller.tell(path, Warning::Lacks(name));
+        }
+    }
+    tell_equal_names(alloc, path, root, teller)?;
+    let images = child_of(root, b"images");
+    if let Some(images) = images {
+        tell_of_images(alloc, images, teller)?;
+    }
+    match child_of(root, b"configurations") {
+        Some(configurations) => tell_of_configurations(alloc, configurations, images, teller),
+        None => Ok(()),
+    }
+}

@@ -1,0 +1,50 @@
+//! What a warning tells.
+
+use crate::names::title_of;
+use crate::quoted::{Escaped, Quoted};
+use std::fmt;
+use std::fmt::{Display, Formatter, Write};
+use uimg_names::Field;
+
+/// What a warning tells of a node.
+#[derive(Clone, Copy, Debug)]
+pub(crate) enum Warning<'a> {
+    /// It lacks the property of this name.
+    Lacks(&'static str),
+
+    /// A property of it names an image that there is not.
+    NoImage { property: &'a [u8], name: &'a [u8] },
+
+    /// Its `default` names a configuration that there is not.
+    NoConfiguration(&'a [u8]),
+
+    /// No code of a field has the name that it gives.
+    UnknownName { field: Field, name: &'a [u8] },
+
+    /// Two nodes right below it have this name.
+    EqualNodes(&'a [u8]),
+
+    /// Two of its properties have this name.
+    EqualProperties(&'a [u8]),
+}
+
+impl<'a> Display for Warning<'a> {
+    fn fmt<W: Write>(&self, f: &mut Formatter<W>) -> fmt::Result {
+        match self {
+            Warning::Lacks(property) => write!(f, "it has no {property}"),
+            Warning::NoImage { property, name } => {
+                write!(f, "{} names no image: {}", Escaped(property), Quoted(name))
+            }
+            Warning::NoConfiguration(name) => {
+                write!(f, "default names no configuration: {}", Quoted(name))
+            }
+            Warning::UnknownName { field, name } => {
+                write!(f, "unknown {} {}", title_of(*field), Quoted(name))
+            }
+            Warning::EqualNodes(name) => write!(f, "two nodes have the name {}", Quoted(name)),
+            Warning::EqualProperties(name) => {
+                write!(f, "two properties have the name {}", Quoted(name))
+            }
+        }
+    }
+}
