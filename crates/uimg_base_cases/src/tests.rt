@@ -1,6 +1,0 @@
-//! The tables of cases, by what they are about.
-
-mod base;
-mod counted;
-mod sums;
-mod texts;

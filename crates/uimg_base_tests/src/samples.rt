@@ -1,0 +1,4 @@
+//! Legacy images, and their listings.
+
+pub mod legacy;
+pub mod listings;

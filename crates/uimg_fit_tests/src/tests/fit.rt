@@ -1,0 +1,11 @@
+//! FIT images: what is read of them, and how they are filled and built.
+
+mod build_rows;
+mod device_rows;
+mod fill_rows;
+mod images;
+mod making;
+mod read_rows;
+mod survey_rows;
+mod tree_rows;
+mod unpack_rows;

@@ -1,0 +1,65 @@
+//! How much images say of themselves.
+
+use super::super::answers::is_said;
+use super::images::image;
+use std::alloc::{AllocError, Global};
+use std::test::Fail;
+use uimg_base::{FuseSource, MemSource, Room, Source};
+use uimg_fit_reading::{SurveyFault, survey};
+
+// How many images there are, how many hash nodes the first of them has, and how many configurations.
+fn counts<S: Source>(alloc: Global, source: &mut S) -> Result<(usize, usize, usize), SurveyFault> {
+    let mut room = Room::new(alloc);
+    let facts = survey(alloc, source, &mut room)?;
+    let hashes = match facts.images.as_slice().first() {
+        Some(image) => image.hashes.len(),
+        None => 0,
+    };
+    Ok((facts.images.len(), hashes, facts.configurations.len()))
+}
+
+fn answer<S: Source>(alloc: Global, source: &mut S) -> Result<String, AllocError> {
+    match counts(alloc, source) {
+        Ok((images, hashes, configurations)) => {
+            format!(in alloc; "{images}, {hashes}, {configurations}")
+        }
+        Err(fault) => format!(in alloc; "{fault}"),
+    }
+}
+
+// Images by their names, and what is said of them: the first two are as dtc and mkimage make them.
+const ROWS: [(&str, &str); 6] = [
+    ("four-hash-fit", "1, 4, 1"),
+    ("five-hash-fit", "1, 5, 1"),
+    ("lists", "1, 0, 1"),
+    ("words", "2, 7, 0"),
+    ("bare", "F1 no images"),
+    ("short", "B1 too short at 0"),
+];
+
+#[test]
+fn survey_rows(rt: HostRuntime) -> Result<(), Fail> {
+    let alloc = rt.alloc();
+    for (name, wanted) in &ROWS {
+        let fit = image(alloc, name, 0, 0)?;
+        let found = answer(alloc, &mut MemSource::new(&fit));
+        is_said(&rt, found, wanted, name, 0);
+    }
+    Ok(())
+}
+
+// A source that answers so many calls: all is said, or else that a read failed.
+#[test]
+fn surveys_whose_reads_fail(rt: HostRuntime) -> Result<(), Fail> {
+    let alloc = rt.alloc();
+    let fit = image(alloc, "four-hash-fit", 0, 0)?;
+    let mut whole = false;
+    for calls in 0..256u64 {
+        let mut source = FuseSource::new(MemSource::new(&fit), calls);
+        let is_whole = counts(alloc, &mut source).is_ok();
+        assert!(rt; is_whole || !whole, "{calls} calls");
+        whole |= is_whole;
+    }
+    assert!(rt; whole);
+    Ok(())
+}
