@@ -5,7 +5,7 @@ PREFIX ?= /usr/local
 IMAGE ?= examples/abc-kernel.img
 export RT
 
-.PHONY: all demo try check test lib lib-test json-test farm-test install deb peers bench clean help
+.PHONY: all demo try check test gate wrong-bodies lib lib-test json-test farm-test install deb peers bench clean help
 .NOTPARALLEL:
 
 ## make          proves what the program stands on, and builds bin/uimg
@@ -13,10 +13,10 @@ all: bin/uimg
 	@echo "bin/uimg is up to date"
 
 bin/uimg: $(shell scripts/sources.sh uimg)
-	@scripts/build.sh uimg --version
+	@scripts/build.sh uimg
 
 bin/uimg_peers: $(shell scripts/sources.sh uimg_peers)
-	@scripts/build.sh uimg_peers index data/kernel.itb
+	@scripts/build.sh uimg_peers
 
 ## make demo     lists a real image, or IMAGE=path, within two minutes; then proves the program, and lists it again
 demo:
@@ -28,13 +28,23 @@ try:
 
 ## make check CRATE=uimg_its   proves a crate after a change, and runs its tests; without CRATE, all libraries that changed
 check:
-	@scripts/check.sh $(CRATE)
+	@scripts/needs.sh rt python3
+	@python3 scripts/check.py $(CRATE)
 
-## make test     the gate: proves every crate from nothing, tries the wrong bodies, runs the tests and the examples
+## make test     compiles the program and the tests with checks while they run, and runs all of them and the examples; it proves nothing
 test:
 	@scripts/needs.sh rt python3
-	@rm -rf out/lanes
+	@python3 scripts/test.py
+
+## make gate     all that a change has to pass: make test, then each crate from nothing, wrong bodies, and the examples again
+gate:
+	@scripts/needs.sh rt python3
 	@python3 scripts/gate.py
+
+## make wrong-bodies CRATE=uimg_its   tries all wrong bodies of a crate, or of each: the prover has to refuse them
+wrong-bodies:
+	@scripts/needs.sh rt python3
+	@python3 scripts/lots.py $(CRATE)
 
 ## make lib      proves the library for C, and leaves libuimg.a, libuimg_block.a and libuimg.so in lib/
 lib: lib/libuimg.a

@@ -103,33 +103,6 @@ A part by a path of 405 bytes, a source by a name of 244, and an address with ma
   $ uimg verify hashed.itb | grep -c 'md5 ok$'
   1500
 
-A source of more than 4 MiB, and a payload of 32 MiB inside of the blob:
-
-  $ head -c 33554432 /dev/zero > zeros
-  $ { echo '/dts-v1/; / { images { k { data = /incbin/("zeros"); hash { algo = "crc32"; }; }; }; };'; yes '/* nothing */' | head -c 4300000; } > long.its
-  $ { echo; echo '*/'; } >> long.its
-  $ uimg mkimage -f long.its long.itb > listing
-  $ uimg verify long.itb
-  k hash crc32 ok
-
-A value of 18 MiB in memory, on a node with 300 names of properties, and a fault on a line beyond 65536:
-
-  $ head -c 9437184 /dev/zero > zeros
-  $ { echo '/dts-v1/; / { images { k { data = /incbin/("zeros"), /incbin/("zeros");'
-  >   for i in $(seq 300); do echo "p-$i = <$i>;"; done
-  >   echo 'hash { algo = "crc32"; }; }; }; };'; } > wide.its
-  $ uimg mkimage -f wide.its wide.itb > listing
-  $ uimg verify wide.itb
-  k hash crc32 ok
-  $ uimg dumpimage -o out wide.itb && wc -c < out
-  18874368
-  $ for i in $(seq 300); do grep -acF "p-$i" wide.itb; done | sort -u
-  1
-  $ { yes '' | head -n 70000; echo '/dts-v1/; ;'; } > lines.its
-  $ uimg mkimage -f lines.its none.itb
-  uimg: I2 bad syntax at line 70001
-  [1]
-
 A file of the source that cannot be read to its end is told as one (those of sysfs have fewer bytes than their size):
 
   $ echo '/dts-v1/; / { images { k { data = "x", /incbin/("/sys/kernel/mm/transparent_hugepage/enabled"); }; }; };' > short.its

@@ -1,19 +1,13 @@
 #!/bin/sh
-# scripts/build.sh PROGRAM [ARGUMENT..]: proves the crates that a program stands on, side by side, and the
-# program, compiles it, runs it with the arguments, and leaves it as bin/PROGRAM.
+# scripts/build.sh PROGRAM: proves the crates that a program stands on, side by side, and the program, compiles it, and
+# leaves it as bin/PROGRAM.
 program=$1
-shift
 scripts/needs.sh rt python3 || exit 1
 # bin/PROGRAM gets the time of the second file, so that an edit during the build counts as newer.
 mkdir -p bin out && : > "out/$program.begun" || exit 1
-echo "This proves the $(scripts/crates.sh "$program" | wc -l) crates of $program, and builds bin/$program: some twenty-five minutes on 4 cores"
-echo "the first time, less from then on. An interrupted run goes on from what is proved."
+echo "This proves the $(scripts/crates.sh "$program" | wc -l) crates of $program, and builds bin/$program: some twenty minutes on 4 cores the"
+echo "first time, less from then on. An interrupted run goes on from what is proved."
 python3 scripts/prove.py "$program" || exit 1
-(cd "crates/$program" && exec "${RT:-rt}" run -- "$@") > "out/$program.log" 2>&1 < /dev/null || {
-    tail -n 12 "out/$program.log" >&2
-    echo "uimg: crates/$program was not built; its log is out/$program.log" >&2
-    exit 1
-}
 cp "crates/$program/out/$program" "bin/$program.new" &&
     touch -r "out/$program.begun" "bin/$program.new" &&
     mv -f "bin/$program.new" "bin/$program" || exit 1

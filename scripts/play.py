@@ -1,5 +1,5 @@
 #!/usr/bin/env python3
-"""Plays command lines and compares what they print: scripts/play.py PROGRAM FILE..
+"""Plays command lines and compares what they print: scripts/play.py [--tried] PROGRAM FILE..
 
 A FILE is one of these:
 
@@ -19,6 +19,9 @@ to be 0. Commands that begin with make, git, apt, apt-get, sudo or rt are not pl
 Each file is played by one sh in an empty folder of its own, with PATH beginning with the folder of
 PROGRAM, and TESTDIR the folder of the file. For a text, the folder has bin/uimg, which is the program,
 and a copy of examples/; for a manual page, it has the files of examples/ themselves.
+With --tried, PROGRAM is a build with checks while it runs, which takes more memory and stack, and opens more
+files: a command that sets a limit on these by ulimit, or calls a function that does, is not played, nor are those
+after it up to the next line of prose, and a line names them.
 The last line of the output is 'N passed, M failed', a command being one case.
 """
 import concurrent.futures
@@ -47,6 +50,8 @@ class Case:
         self.line = line
         self.command = command
         self.wanted = []
+        # the paragraph that it stands in, and whether a limit is set there, by it or before it
+        self.paragraph, self.is_limited = 0, False
         # whether the status is what is judged, whether it is shown, and whether '[..]' has a meaning
         self.by_status = False
         self.shows_status = True
@@ -55,10 +60,13 @@ class Case:
 
 def transcript(lines):
     """The cases of a transcript."""
-    cases = []
+    cases, paragraph = [], 0
     for number, line in enumerate(lines, 1):
-        if line.startswith("  $ "):
+        if line.strip() and not line.startswith("  "):
+            paragraph = number
+        elif line.startswith("  $ "):
             cases.append(Case(number, line[4:]))
+            cases[-1].paragraph = paragraph
             last = number
         elif line.startswith("  > ") and cases and last == number - 1:
             cases[-1].command += "\n" + line[4:]
@@ -66,6 +74,20 @@ def transcript(lines):
         elif line.startswith("  ") and cases:
             cases[-1].wanted.append(line[2:])
     return cases
+
+
+def mark_limits(cases):
+    """Marks the cases that set a limit by ulimit, or call a function of the same file that does, and those after one in
+    its paragraph."""
+    limiters, limited = ["ulimit"], None
+    for case in cases:
+        defined = re.match(r"(\w+)\(\) *\{", case.command)
+        sets_limit = any(re.search(r"(?<![\w-])%s(?![\w-])" % word, case.command) for word in limiters)
+        if defined and sets_limit:
+            limiters.append(defined[1])
+        elif sets_limit:
+            limited = case.paragraph
+        case.is_limited = limited == case.paragraph
 
 
 def text_blocks(lines):
@@ -263,8 +285,8 @@ def play_all(path, program, cases, room):
     return wrong
 
 
-def play(path, program):
-    """Plays a file. It gives the number of its cases, and what went wrong."""
+def play(path, program, is_tried):
+    """Plays a file. It gives the number of its cases, what went wrong, and where those stand that were not played."""
     with open(path, encoding="utf-8") as file:
         lines = file.read().split("\n")
     if path.endswith(".t"):
@@ -272,25 +294,32 @@ def play(path, program):
     else:
         blocks = manual_blocks(lines) if path.endswith(".1") else text_blocks(lines)
         cases = [case for block in blocks for case in block_cases(block)]
+    mark_limits(cases if path.endswith(".t") else [])
+    left = [case for case in cases if is_tried and case.is_limited]
+    cases = [case for case in cases if case not in left]
     with tempfile.TemporaryDirectory(prefix="play-") as folder:
         room = os.path.join(folder, "room")
         os.mkdir(room)
         prepare(room, path, program)
-        return len(cases), play_all(path, program, cases, room)
+        return len(cases), play_all(path, program, cases, room), ["%s:%d" % (path, case.line) for case in left]
 
 
 def main(words):
-    if len(words) < 3:
-        sys.exit("usage: scripts/play.py PROGRAM FILE..")
-    program, paths = os.path.abspath(words[1]), words[2:]
+    is_tried = words[1:2] == ["--tried"]
+    given = words[1 + is_tried :]
+    if len(given) < 2:
+        sys.exit("usage: scripts/play.py [--tried] PROGRAM FILE..")
+    program, paths = os.path.abspath(given[0]), given[1:]
     if not os.access(program, os.X_OK):
-        sys.exit("play.py: %s is not there" % words[1])
-    passed = failed = 0
-    with concurrent.futures.ThreadPoolExecutor(os.cpu_count()) as pool:
-        for count, wrong in pool.map(lambda path: play(path, program), paths):
-            passed, failed = passed + count - len(wrong), failed + len(wrong)
+        sys.exit("play.py: %s is not there" % given[0])
+    passed, failed, left = 0, 0, []
+    with concurrent.futures.ThreadPoolExecutor(len(os.sched_getaffinity(0))) as pool:
+        for count, wrong, more in pool.map(lambda path: play(path, program, is_tried), paths):
+            passed, failed, left = passed + count - len(wrong), failed + len(wrong), left + more
             for text in wrong:
                 print(text)
+    if left:
+        print("left to the proved program, since they set limits: %s" % " ".join(left))
     print("%d passed, %d failed" % (passed, failed))
     return 1 if failed else 0
 

@@ -1,134 +1,77 @@
 #!/usr/bin/env python3
-"""prove.py [-q] CRATE..: proves the crates that these stand on and these, side by side, each once those
-below it are proved. What is proved already is passed by, and an interrupted run goes on from there.
+"""prove.py [-q] CRATE..: proves the crates that these stand on and these, side by side, each once those below it are
+proved. A program and a library for C are compiled then. What is proved already is passed by, and an interrupted run
+goes on with the crates that it had not ended.
 
-A crate is proved in a folder of its own, out/lanes/CRATE, since the kit's rt locks all the crates below
-the one that it proves. The folder has these crates' files and what was proved of them as further names of
-the same files (links that take no room); what is made of the crate is then moved to crates/CRATE/out.
+A crate is proved from nothing, by one job but for those of JOBS, and its library holds what the crates above may cite.
+What is made is in crates/CRATE/out: rlib, the program or the archive, and the file `proved`, which has the sum of all
+that the proof rests on.
 
-On a terminal one line tells how far it is; elsewhere, or with -q, each crate has its line. The log of a
-crate is out/CRATE.log. The status is 0 where all are proved."""
+On a terminal one line tells how far it is; elsewhere, or with -q, each crate has its line. The log of a crate is
+out/CRATE.log. The status is 0 where all are proved."""
 import os
 import re
 import shutil
 import signal
 import subprocess
 import sys
+import tempfile
 import threading
 import time
 
-RT = os.environ.get("RT", "rt")
-PARTS = ("src", "specs", "proofs")
-LANES = "out/lanes"
-# What a job of a proof takes at most, in bytes, as it was measured.
-MEMORY = 2_000_000_000
+import kit
 
-
-def crates():
-    """Returns what each crate of crates.txt stands on, of this repository's crates."""
-    uses = {}
-    with open("crates.txt", encoding="utf-8") as file:
-        for line in file:
-            name, colon, rest = line.partition("#")[0].partition(":")
-            if colon:
-                uses[name.split()[0]] = rest.split()
-    return {name: [it for it in below if it in uses] for name, below in uses.items()}
-
-
-def below(uses, name, found=None):
-    """Returns the crates that a crate stands on, and it, each after those below it."""
-    found = [] if found is None else found
-    for it in uses[name]:
-        below(uses, it, found)
-    if name not in found:
-        found.append(name)
-    return found
-
-
-def processors():
-    return len(os.sched_getaffinity(0))
-
-
-def free_memory():
-    with open("/proc/meminfo", encoding="ascii") as file:
-        return 1024 * int(re.search(r"MemAvailable:\s+(\d+)", file.read())[1])
-
-
-def in_words(seconds):
-    seconds = int(seconds)
-    return f"{seconds} s" if seconds < 60 else f"{seconds // 60} min {seconds % 60:02} s"
-
-
-def link(source, to):
-    shutil.copytree(source, to, copy_function=os.link, dirs_exist_ok=True)
+# What a job takes at most, in bytes, as it was measured.
+MEMORY = 2_500_000_000
+# Each job is a copy of all that a check reads, so a second one is for those crates that gain more than it costs.
+JOBS = {}
 
 
 class Proof:
-    """The proof of a crate, as `rt lib` makes it in a lane."""
+    """The proof of a crate, which a thread carries out."""
 
-    def __init__(self, name, stack, jobs):
-        self.name, self.begun, self.told = name, time.monotonic(), ""
-        self.lane, self.log = f"{LANES}/{name}", f"out/{name}.log"
-        shutil.rmtree(self.lane, ignore_errors=True)
-        os.makedirs(self.lane)
-        with open(f"{self.lane}/crates.txt", "w", encoding="utf-8") as file:
-            file.writelines(line for line in open("crates.txt", encoding="utf-8") if {*line.partition(":")[0].split()[:1]} & {*stack})
-        for it in stack:
-            for part in PARTS:
-                if os.path.isdir(f"crates/{it}/{part}"):
-                    link(f"crates/{it}/{part}", f"{self.lane}/crates/{it}/{part}")
-            if os.path.isdir(f"crates/{it}/out/rlib"):
-                link(f"crates/{it}/out/rlib", f"{self.lane}/crates/{it}/out/rlib")
-        kept = f"crates/{name}/out/incremental"
-        if os.path.isdir(kept):
-            link(kept, f"{self.lane}/{kept}")
-        # A program's last step, the compilation, is `rt run`'s; here it is checked, by one job: it has few functions,
-        # and each job is a copy of all that it stands on.
-        is_program = os.path.isfile(f"crates/{name}/src/main.rt")
-        words = [RT, "check" if is_program else "lib", "--jobs", "1" if is_program else str(jobs)]
-        self.process = subprocess.Popen(
-            words,
-            cwd=f"{self.lane}/crates/{name}",
-            stdin=subprocess.DEVNULL,
-            stdout=subprocess.PIPE,
-            stderr=subprocess.STDOUT,
-            text=True,
-            errors="replace",
-            start_new_session=True,
-        )
-        self.reader = threading.Thread(target=self.read)
-        self.reader.start()
+    def __init__(self, crates, name, stamp):
+        self.crates, self.crate, self.stamp = crates, crates.by_name[name], stamp
+        self.name, self.jobs = name, JOBS.get(name, 1)
+        self.begun, self.log, self.running, self.is_proved = time.monotonic(), f"out/{name}.log", None, False
+        self.thread = threading.Thread(target=self.carry_out)
+        self.thread.start()
 
-    def read(self):
-        with open(self.log, "w", encoding="utf-8", buffering=1) as log:
-            for line in self.process.stdout:
-                log.write(line)
-                so_far = re.match(r"so far: (\d+ of \d+) functions", line)
-                if so_far:
-                    self.told = f" {so_far[1]} functions,"
+    def carry_out(self):
+        made = f"{self.crate.folder}/out"
+        os.makedirs(made, exist_ok=True)
+        for it in (f"{made}/proved", f"{made}/rlib"):
+            shutil.rmtree(it) if os.path.isdir(it) else os.path.exists(it) and os.remove(it)
+        with open(self.log, "w", encoding="utf-8") as log, tempfile.TemporaryDirectory(prefix="uimg-proved-") as room:
+            self.is_proved = all(self.is_done(words, log) for words in self.steps(room))
+        if self.is_proved:
+            with open(f"{made}/proved", "w", encoding="ascii") as file:
+                file.write(self.stamp)
 
-    def is_done(self):
-        return self.process.poll() is not None
+    def steps(self, room):
+        """Yields the commands by which it is proved, and compiled where the crates above do not take its library."""
+        if self.crate.makes_library():
+            os.makedirs(os.path.dirname(self.crate.rlib))
+            yield [*self.crates.command(self.name, "build", self.jobs), "--statements", "-o", self.crate.rlib]
+        else:
+            yield [*self.crates.command(self.name, "check", self.jobs), "-o", f"{room}/checked"]
+            yield from self.crates.compilation(self.name, f"{room}/checked")
 
-    def end(self):
-        """Keeps what was made. Returns whether the crate is proved."""
-        self.reader.join()
-        for part in ("rlib", "incremental", f"lib{self.name}.a"):
-            made, to = f"{self.lane}/crates/{self.name}/out/{part}", f"crates/{self.name}/out/{part}"
-            if os.path.exists(made):
-                shutil.rmtree(to, ignore_errors=True)
-                os.makedirs(os.path.dirname(to), exist_ok=True)
-                os.rename(made, to)
-        shutil.rmtree(self.lane, ignore_errors=True)
-        return self.process.returncode == 0
+    def is_done(self, words, log):
+        how = {"cwd": self.crate.folder, "stdin": subprocess.DEVNULL, "start_new_session": True}
+        self.running = subprocess.Popen(words, stdout=log, stderr=subprocess.STDOUT, **how)
+        return self.running.wait() == 0
+
+    def is_ended(self):
+        return not self.thread.is_alive()
 
     def stop(self):
-        os.killpg(self.process.pid, 15)
-        self.process.wait()
-        self.end()
+        if self.running and self.running.poll() is None:
+            os.killpg(self.running.pid, signal.SIGTERM)
+        self.thread.join()
 
     def since(self):
-        return in_words(time.monotonic() - self.begun)
+        return kit.in_words(time.monotonic() - self.begun)
 
 
 class Screen:
@@ -147,60 +90,81 @@ class Screen:
 
 
 def first_error(log):
-    with open(log, encoding="utf-8") as file:
-        lines = [it.rstrip() for it in file if not re.match(r"\S+: modules loaded=", it)]
+    with open(log, encoding="utf-8", errors="replace") as file:
+        lines = [it.rstrip() for it in file if not re.match(r"\S+ \S+: modules loaded=", it)]
     found = [at for at, it in enumerate(lines) if re.search(r":\d+:\d+: error|^error", it)]
     start = found[0] if found else max(0, len(lines) - 12)
     return lines[start : start + 12]
 
 
+class Run:
+    """The proofs of all crates that are wanted."""
+
+    def __init__(self, crates, names, screen):
+        self.crates, self.screen, self.stamps = crates, screen, {}
+        self.wanted = []
+        for name in names:
+            self.wanted += [it for it in [*crates.below(name), name] if it not in self.wanted]
+        self.proved = [it for it in self.wanted if self.is_kept(it)]
+        self.count, self.running, self.failed = len(self.wanted) - len(self.proved), [], None
+        # The longest chain of crates above comes first.
+        self.chain = {it: sum(it in crates.below(other) for other in self.wanted) for it in self.wanted}
+
+    def is_kept(self, name):
+        """Returns whether a crate is proved, and all that its proof rests on is unchanged."""
+        path = f"{self.crates.by_name[name].folder}/out/proved"
+        if not os.path.isfile(path):
+            return False
+        with open(path, encoding="ascii") as file:
+            return file.read() == self.crates.stamp(name, self.stamps)
+
+    def begin_ready(self, at_once):
+        busy = self.proved + [it.name for it in self.running]
+        ready = [it for it in self.wanted if it not in busy and all(dep in self.proved for dep in self.crates.own_uses(it))]
+        for name in sorted(ready, key=lambda it: -self.chain[it]):
+            jobs = sum(it.jobs for it in self.running)
+            if jobs < at_once and not self.failed:
+                self.running.append(Proof(self.crates, name, self.crates.stamp(name, self.stamps)))
+
+    def end_ended(self):
+        for it in [it for it in self.running if it.is_ended()]:
+            self.running.remove(it)
+            if it.is_proved:
+                self.proved.append(it.name)
+                done = self.count - len(self.wanted) + len(self.proved)
+                self.screen.line(f"[{done:2} of {self.count}] {it.name} proved, {it.since()}")
+            elif not self.failed:
+                self.failed = it
+
+    def carry_out(self):
+        at_once = max(1, min(kit.processors(), kit.free_memory() // MEMORY))
+        while len(self.proved) < len(self.wanted) and not (self.failed and not self.running):
+            self.begin_ready(at_once)
+            self.end_ended()
+            self.screen.draw("; ".join(f"{it.name} {it.since()}" for it in self.running))
+            time.sleep(0.2)
+
+
 def prove(names, quiet):
-    uses = crates()
-    unknown = [it for it in names if it not in uses]
+    crates, begun, screen = kit.Crates(), time.monotonic(), Screen(quiet)
+    unknown = [it for it in names if it not in crates.by_name]
     if unknown:
         print(f"uimg: crates.txt has no crate {unknown[0]}", file=sys.stderr)
         return 2
-    wanted = []
-    for it in names:
-        below(uses, it, wanted)
-    begun, screen, running, proved, failed = time.monotonic(), Screen(quiet), [], [], None
-    shutil.rmtree(LANES, ignore_errors=True)
-    os.makedirs(LANES)
-    at_once = max(1, min(processors(), free_memory() // MEMORY))
-    chain = {it: 1 + sum(it in below(uses, other) for other in wanted) for it in wanted}
+    os.makedirs("out", exist_ok=True)
+    run = Run(crates, names, screen)
     try:
-        while len(proved) < len(wanted):
-            busy = proved + [it.name for it in running]
-            ready = [it for it in wanted if it not in busy and all(dep in proved for dep in uses[it])]
-            ready.sort(key=lambda it: -chain[it])
-            while ready and len(running) < at_once and not failed:
-                name = ready.pop(0)
-                jobs = max(1, at_once // (len(running) + len(ready) + 1))
-                running.append(Proof(name, below(uses, name), max(jobs, min(2, at_once))))
-            for it in [it for it in running if it.is_done()]:
-                running.remove(it)
-                if it.end():
-                    proved.append(it.name)
-                    screen.line(f"[{len(proved):2} of {len(wanted)}] {it.name} proved, {it.since()}")
-                elif not failed:
-                    failed = it
-            if failed and not running:
-                break
-            told = "; ".join(f"{it.name}{it.told} {it.since()}" for it in running)
-            screen.draw(f"[{len(proved):2} of {len(wanted)}] {told}")
-            time.sleep(0.3)
+        run.carry_out()
     except KeyboardInterrupt:
-        for it in running:
+        for it in run.running:
             it.stop()
         screen.line("interrupted: the next run goes on from what is proved")
         return 130
-    finally:
-        shutil.rmtree(LANES, ignore_errors=True)
-    if failed:
-        screen.line(f"uimg: crates/{failed.name} is not proved, {failed.since()}; its log is {failed.log}")
-        print("\n".join(first_error(failed.log)))
+    if run.failed:
+        screen.line(f"uimg: crates/{run.failed.name} is not proved, {run.failed.since()}; its log is {run.failed.log}")
+        print("\n".join(first_error(run.failed.log)))
         return 1
-    screen.line(f"all {len(wanted)} crates proved, {in_words(time.monotonic() - begun)} in all")
+    screen.line(f"all {len(run.wanted)} crates proved, {kit.in_words(time.monotonic() - begun)} in all")
     return 0
 
 

@@ -16,7 +16,8 @@ all functions of its file, and where these are proved over the whole crate.
 With --right the wrong bodies stay out, in one check: each of their functions has to be proved then, which shows that a
 refusal comes from the wrong body and not from how it is tried.
 
-A line for each wrong body, `refused` or `NOT REFUSED`, or for each right one, and last 'N passed, M failed'."""
+A line for each wrong body, `refused`, `NOT REFUSED` or `BAD EDIT`, or for each right one, and last 'N passed, M
+failed'."""
 import argparse
 import glob
 import os
@@ -28,11 +29,8 @@ import sys
 import tempfile
 
 import functions
+import kit
 
-RT = os.environ.get("RT", "rt")
-BIN = os.path.dirname(os.path.realpath(shutil.which(RT) or RT))
-KIT = os.path.dirname(BIN)
-PARTS = ("src", "specs", "proofs")
 # The files of a proof, in whose place a hole stands.
 ANSWERS = ("Invariants.antt", "Answers.antt", "Proof.antt")
 HOLE = """use Rattle.{crate}.proofs.{module}.Statement.{{statement}}
@@ -49,7 +47,8 @@ UNFOUND = re.compile(r"no proof: expected .* in (?:\./)?proofs/\S+\.antt.*")
 UNSTATED = re.compile(r"no proof: antt did not admit its contract.*")
 # An error in a proof: in the answers of a function, or in lemmas that several may cite.
 ERROR = re.compile(r"(?:\./)?proofs/(\S+?)(?:/(?:Answers|Invariants|Proof))?\.antt:\d+:\d+: error")
-# An error by a name alone: a proof names what the wrong body took away, so that it says little of the contract.
+# An error by a name alone: a proof names what the wrong body took away, so that it says nothing of the contract.
+BY_NAME = "BAD EDIT: its answers only name what is not there"
 NAMED = re.compile(r".*: error: .*(has no `|has no field|is not in scope|was not admitted|were not admitted)")
 # What the prover says of a text that it cannot read.
 UNREAD = re.compile(r"(?:\./)?(?:src|specs)/\S+:\d+:\d+: error")
@@ -90,45 +89,12 @@ class Edit:
         return text if self.pairs else None
 
 
-def uses():
-    found = {}
-    with open("crates.txt", encoding="utf-8") as file:
-        for line in file:
-            name, colon, rest = line.partition("#")[0].partition(":")
-            if colon:
-                found[name.split()[0]] = name.split()[1:], rest.split()
-    return found
-
-
-def below(known, name, found):
-    for it in known[name][1]:
-        if it in known and it not in found:
-            below(known, it, found)
-            found.append(it)
-    return found
-
-
-def words_of(name):
-    """Returns the command that checks a crate, as the kit's `rt` words it."""
-    known = uses()
-    kinds, deps = known[name]
-    words = [f"{BIN}/rattle", "check", "--crate-name", name, "src/lib.rt", "-L", f"dependency={KIT}/rlibs"]
-    for it in ["std", *deps]:
-        rlib = f"{os.getcwd()}/crates/{it}/out/rlib/{it}.rlib" if it in known else f"{KIT}/rlibs/{it}.rlib"
-        words += ["--extern", f"{it}={rlib}"]
-    for it in below(known, name, []):
-        words += ["-L", f"dependency={os.getcwd()}/crates/{it}/out/rlib"]
-    words += ["--crate-type", "staticlib"] if "staticlib" in kinds else []
-    words += ["--antt-project", f"{KIT}/rattle/logic/antt-project.json", "--logic-built", f"{KIT}/logic_built"]
-    return [*words, "--links", f"{name}=", "--jobs", "1"]
-
-
 class Trials:
     """The checks of one crate. They share what was checked of its statements and lemmas."""
 
     def __init__(self, name, room, kept):
         self.name, self.folder, self.room = name, os.path.abspath(f"crates/{name}"), room
-        self.words, self.known = words_of(name), functions.functions_of(f"crates/{name}")
+        self.words, self.known = kit.Crates().command(name, "check", 1), functions.functions_of(f"crates/{name}")
         if kept and os.path.isdir(kept):
             self.kept = f"{room}/kept"
             shutil.copytree(kept, self.kept)
@@ -140,7 +106,7 @@ class Trials:
         """Makes a copy of the crate with these texts in place of its own, and holes for all functions but those that
         are to be proved, where these are told. Returns its folder."""
         crate = tempfile.mkdtemp(dir=self.room)
-        for part in PARTS:
+        for part in kit.PARTS:
             if os.path.isdir(f"{self.folder}/{part}"):
                 shutil.copytree(f"{self.folder}/{part}", f"{crate}/{part}")
         for path, text in texts.items():
@@ -207,8 +173,8 @@ def refused_in(lines, name):
         own = f"Rattle.{name}.proofs.{path.replace('::', '.')}."
         if UNFOUND.match(why) or why.startswith("not proved") and (path in errors or f"`{own}" in why):
             its = [it for it in own_errors if ERROR.match(it)[1].replace("/", "::") == path]
-            by_name = " (only by a name that a proof has, which says little)" if its and all(NAMED.match(it) for it in its) else ""
-            refused[function_of(path, name)] = f"fn {name}::{path}{by_name}: {why}"
+            by_name = its and all(NAMED.match(it) for it in its)
+            refused[function_of(path, name)] = f"{BY_NAME if by_name else f'fn {name}::{path}'}: {its[0] if its else why}"
         told.add(path)
     refused.update({path: it for path, it in errors.items() if path not in told})
     return refused
@@ -250,7 +216,7 @@ def try_alone(trials, edit):
     own = [why for place, why in refused.items() if edit.is_wide or place in edit.places]
     if not own:
         return False, "NOT REFUSED: it is still proved, or only what it stands beside is refused"
-    return True, own[0]
+    return not own[0].startswith(BY_NAME), own[0]
 
 
 def try_group(trials, group):
@@ -265,7 +231,8 @@ def try_group(trials, group):
     left = [edit for edit in group if not sound or not edit.places & set(refused)]
     for edit in group:
         if edit not in left:
-            yield edit, (True, next(refused[place] for place in sorted(edit.places) if place in refused))
+            why = next(refused[place] for place in sorted(edit.places) if place in refused)
+            yield edit, (not why.startswith(BY_NAME), why)
     half = (len(left) + 1) // 2 if len(left) == len(group) else len(left)
     for part in (left[:half], left[half:]):
         if part:

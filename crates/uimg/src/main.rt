@@ -3,15 +3,9 @@
 // The program uimg, which is a function of uimg_tool.
 #![tactic(auto)]
 
-#[cfg(test)]
-mod tests;
-
-use std::alloc::Alloc;
-use std::env::{Env, VarError};
 use std::process::ExitCode;
-use std::time::{Clock, SystemTime};
 use std::{env, io};
-use uimg_tool::program;
+use uimg_tool::{epoch, now, program};
 
 fn main(rt: HostRuntime) -> ExitCode {
     match run(&rt) {
@@ -43,22 +37,4 @@ fn run(rt: &HostRuntime) -> io::Result<u8> {
         &mut rt.stdout(),
         &mut rt.stderr(),
     ))
-}
-
-// The text of SOURCE_DATE_EPOCH where it is set. One that is not UTF-8 is a wrong one, as the
-// empty text is.
-fn epoch<R: Env + Alloc>(rt: &R) -> io::Result<Option<String<R::A>>> {
-    match env::var(rt, "SOURCE_DATE_EPOCH") {
-        Ok(text) => Ok(Some(text)),
-        Err(VarError::NotPresent) => Ok(None),
-        Err(VarError::NotUnicode) => Ok(Some(String::new(rt.alloc()))),
-        Err(VarError::OutOfMemory) => Err(io::Error::from(io::ErrorKind::OutOfMemory)),
-    }
-}
-
-// The clock's moment in seconds since 1970, at most 4294967295, if it can be read.
-fn now<C: Clock>(clock: &C) -> Option<u32> {
-    let moment = SystemTime::now(clock).ok()?;
-    let since_1970 = moment.duration_since(SystemTime::UNIX_EPOCH).ok()?;
-    Some(u64::min(since_1970.as_secs(), u32::MAX as u64) as u32)
 }

@@ -8,6 +8,7 @@ mod long_listings;
 mod making_rows;
 mod makings;
 mod memory;
+mod moments;
 mod run_loops;
 mod run_rows;
 mod runs;

@@ -9,6 +9,7 @@ mod info_program;
 mod main_program;
 mod making;
 mod map_program;
+mod moments;
 mod old_program;
 mod old_tools;
 mod safe_path;
@@ -17,4 +18,5 @@ mod unpack_program;
 mod xip_files;
 
 pub use main_program::program;
+pub use moments::{epoch, now};
 pub use uimg_engine::{Action, Command, DiskFiles, Fault, Format, MakeCommand, make, run};

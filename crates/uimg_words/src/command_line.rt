@@ -179,21 +179,21 @@ fn commands<'a>(alloc: Global) -> Result<clap::Command<'a>, AllocError> {
         .subcommand(map::command(alloc)?)
 }
 
+// An option. Each further step on an argument takes the prover four times as long, so two are in one function.
+fn option<'a>(alloc: Global, id: &'a str, short: char, help: &'a str) -> Arg<'a> {
+    Arg::new(alloc, id).short(short).help(help)
+}
+
 // An option with a value.
 fn value<'a>(alloc: Global, id: &'a str, short: char, help: &'a str) -> Arg<'a> {
-    Arg::new(alloc, id)
-        .short(short)
+    option(alloc, id, short, help)
         .action(ArgAction::Set)
         .value_name(id)
-        .help(help)
 }
 
 // An option without a value.
 fn flag<'a>(alloc: Global, id: &'a str, short: char, help: &'a str) -> Arg<'a> {
-    Arg::new(alloc, id)
-        .short(short)
-        .action(ArgAction::SetTrue)
-        .help(help)
+    option(alloc, id, short, help).action(ArgAction::SetTrue)
 }
 
 // The image, which each command is about.

@@ -1,10 +1,10 @@
 //! The time of an image: by the clock, or by SOURCE_DATE_EPOCH.
 
-use crate::{epoch, now};
 use std::env::{Env, FillError};
 use std::io;
 use std::test::Fail;
 use std::time::{Clock, Duration};
+use uimg_tool::{epoch, now};
 
 // An environment of one variable.
 #[derive(Drop)]

@@ -1,0 +1,25 @@
+//! The moment of an image: SOURCE_DATE_EPOCH, or else the clock.
+
+use std::alloc::Alloc;
+use std::env::{Env, VarError};
+use std::time::{Clock, SystemTime};
+use std::{env, io};
+
+/// The text of SOURCE_DATE_EPOCH, or `None` where it is not set. One that is not UTF-8 is a wrong one, as
+/// the empty text is, which is given in its place. The error is that memory was refused.
+pub fn epoch<R: Env + Alloc>(rt: &R) -> io::Result<Option<String<R::A>>> {
+    match env::var(rt, "SOURCE_DATE_EPOCH") {
+        Ok(text) => Ok(Some(text)),
+        Err(VarError::NotPresent) => Ok(None),
+        Err(VarError::NotUnicode) => Ok(Some(String::new(rt.alloc()))),
+        Err(VarError::OutOfMemory) => Err(io::Error::from(io::ErrorKind::OutOfMemory)),
+    }
+}
+
+/// The clock's moment in whole seconds since 1970, at most 4294967295, or `None` where the clock cannot be
+/// read or stands before 1970.
+pub fn now<C: Clock>(clock: &C) -> Option<u32> {
+    let moment = SystemTime::now(clock).ok()?;
+    let since_1970 = moment.duration_since(SystemTime::UNIX_EPOCH).ok()?;
+    Some(u64::min(since_1970.as_secs(), u32::MAX as u64) as u32)
+}

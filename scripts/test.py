@@ -1,0 +1,84 @@
+#!/usr/bin/env python3
+"""test.py: the tests, of which none needs a proof. The crates of tests are compiled with checks while they run, and run,
+side by side (`rt try --test`). So is the program, against which the command lines of cases/, README.md, docs/JSON.md and
+the manual page are played; those that set limits which its checks break are named, and left to the proved program.
+
+A line for each crate of tests and for the command lines, with what failed; then that nothing was proved, and last
+'N passed, M failed'. The status is 0 where nothing failed."""
+import concurrent.futures
+import glob
+import os
+import re
+import subprocess
+import sys
+import tempfile
+import time
+
+import kit
+import try_build
+
+PLAYED = [*sorted(glob.glob("cases/*.t")), "README.md", "docs/JSON.md", "docs/uimg.1"]
+
+
+def run(words, folder="."):
+    """Runs a command. Returns its status, and the lines that it prints."""
+    how = {"stdin": subprocess.DEVNULL, "stdout": subprocess.PIPE, "stderr": subprocess.STDOUT}
+    ended = subprocess.run(words, cwd=folder, text=True, errors="replace", **how)
+    return ended.returncode, ended.stdout.rstrip("\n").split("\n")
+
+
+def counted(lines, pattern):
+    """Returns how many passed and failed by the last line of a form, or that one failed where none has it."""
+    found = [it for it in (re.search(pattern, line) for line in lines) if it]
+    return (int(found[-1][1]), int(found[-1][2])) if found else (0, 1)
+
+
+def tests_of(name):
+    """Runs the tests of a crate. Returns how many passed and failed, and the lines to print."""
+    status, lines = run([kit.RT, "try", "--test"], f"crates/{name}")
+    passed, failed = counted(lines, r"^test result: \w+\. (\d+) passed; (\d+) failed")
+    if status and not failed:
+        failed = 1
+    return passed, failed, [*(lines[-24:] if failed else []), f"{name}: {passed} passed, {failed} failed"]
+
+
+def command_lines():
+    """Plays the command lines. Returns how many passed and failed, and the lines to print."""
+    with tempfile.TemporaryDirectory(prefix="uimg-tried-") as room:
+        os.chmod(room, 0o755)
+        if not try_build.build(room):
+            with open(f"{room}/log", encoding="utf-8", errors="replace") as log:
+                return 0, 1, [*log.read().rstrip("\n").split("\n")[-24:], "uimg: it was not compiled"]
+        _, lines = run(["scripts/play.py", "--tried", f"{room}/uimg", *PLAYED])
+    passed, failed = counted(lines, r"^(\d+) passed, (\d+) failed$")
+    return passed, failed, [*lines[:-1], f"command lines: {passed} passed, {failed} failed"]
+
+
+def test():
+    """Carries it out, and prints what became of each part. Returns how many passed and failed."""
+    crates, begun, passed, failed = kit.Crates(), time.monotonic(), 0, 0
+    names = [it for it in crates.by_name if has_tests(f"crates/{it}")]
+    # What stands on the most crates takes the longest.
+    names.sort(key=lambda it: -len(crates.below(it)))
+    with concurrent.futures.ThreadPoolExecutor(kit.processors()) as pool:
+        parts = [pool.submit(command_lines), *(pool.submit(tests_of, it) for it in names)]
+        for it in concurrent.futures.as_completed(parts):
+            more, bad, lines = it.result()
+            passed, failed = passed + more, failed + bad
+            print("\n".join(lines), f"({kit.in_words(time.monotonic() - begun)})", flush=True)
+    return passed, failed
+
+
+def has_tests(folder):
+    for path in glob.glob(f"{folder}/src/**/*.rt", recursive=True):
+        with open(path, encoding="utf-8") as file:
+            if re.search(r"^ *#\[test\]", file.read(), re.M):
+                return True
+    return False
+
+
+if __name__ == "__main__":
+    total = test()
+    print("nothing was proved: make gate proves all, and tries the wrong bodies")
+    print(f"{total[0]} passed, {total[1]} failed")
+    sys.exit(1 if total[1] else 0)
