@@ -12,7 +12,7 @@ use Rattle.uimg_c.specs.declared.reports.UimgCount.{UimgCount}
 use Rattle.uimg_fit_base.specs.declared.fault.Fault.{Fault as FitEngineFault}
 use Rattle.uimg_base.specs.Held.{held_bytes}
 use Rattle.uimg_requests.specs.declared.command.Format.{Format}
-use Rattle.uimg_engine.specs.Checking.{check_of}
+use Rattle.uimg_checks.specs.Checking.{check_of}
 use Rattle.uimg_engine.specs.Headline.{is_fit, nodes_in}
 use Rattle.uimg_c.specs.Codes.{code_of, code_of_answer, code_of_fault, code_of_found, strength}
 

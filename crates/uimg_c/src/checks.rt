@@ -10,7 +10,8 @@ use crate::peaks::peak_of;
 use crate::reports::UimgReport;
 use std::alloc::Global;
 use uimg_base::{Algo, Room, Status};
-use uimg_engine::{Fault, check_in_memory};
+use uimg_checks::check_in_memory;
+use uimg_engine::Fault;
 
 // The algorithm of a strength.
 fn strength(need: u32) -> Option<Algo>

@@ -2,7 +2,7 @@
 
 ghost use Rattle.std.specs.Prelude.{◌≡◌, ◌≢◌, ◌≤◌, false};
 ghost use Rattle.uimg_requests.specs.declared.command.Format.TheVariants as format;
-ghost use Rattle.uimg_engine.specs.Counting.{count_of};
+ghost use Rattle.uimg_checks.specs.Counting.{count_of};
 ghost use Rattle.uimg_engine.specs.Headline.{is_fit};
 ghost use Rattle.uimg_c.specs.Answers.{Counts, table_most};
 
@@ -11,7 +11,7 @@ use crate::peaks::peak_of;
 use crate::reports::UimgCount;
 use std::alloc::Global;
 use uimg_base::Room;
-use uimg_engine::count_in_memory;
+use uimg_checks::count_in_memory;
 
 /// Counts the parts or the images of the bytes of an image.
 pub(crate) fn payload_count(alloc: Global, image: &[u8], count: &mut UimgCount) -> u32

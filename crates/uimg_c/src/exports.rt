@@ -4,9 +4,9 @@ ghost use Rattle.std.specs.Prelude.{◌≡◌, ◌≢◌, ◌+◌, ◌≤◌, le
 ghost use Rattle.uimg_names.specs.declared.naming.Naming.TheVariants as naming;
 ghost use Rattle.uimg_requests.specs.declared.command.Action.TheVariants as action;
 ghost use Rattle.uimg_requests.specs.declared.command.Format.TheVariants as format;
-ghost use Rattle.uimg_engine.specs.Counting.{count_of};
+ghost use Rattle.uimg_checks.specs.Counting.{count_of};
 ghost use Rattle.uimg_engine.specs.Headline.{outcome_of, is_fit};
-ghost use Rattle.uimg_fit_reading.specs.Named.{name_at, payload_named};
+ghost use Rattle.uimg_fit_checking.specs.Named.{name_at, payload_named};
 ghost use Rattle.uimg_c.specs.Answers.{Checks, Counts, Finds, FindsNamed, Reports, no_report, table_most};
 
 use crate::checks::check;

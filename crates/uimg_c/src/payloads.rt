@@ -4,7 +4,7 @@ ghost use Rattle.std.specs.Prelude.{◌≡◌, ◌≢◌, ◌+◌, ◌≤◌, le
 ghost use Rattle.uimg_requests.specs.declared.command.Action.TheVariants as action;
 ghost use Rattle.uimg_requests.specs.declared.command.Format.TheVariants as format;
 ghost use Rattle.uimg_engine.specs.Headline.{outcome_of, is_fit};
-ghost use Rattle.uimg_fit_reading.specs.Named.{name_at, payload_named};
+ghost use Rattle.uimg_fit_checking.specs.Named.{name_at, payload_named};
 ghost use Rattle.uimg_c.specs.Answers.{Finds, FindsNamed, table_most};
 ghost use Rattle.uimg_c.specs.Codes.{code_of_fault};
 
@@ -14,7 +14,7 @@ use crate::reports::UimgPayload;
 use std::alloc::Global;
 use uimg_base::{Room, Span};
 use uimg_engine::{Fault, locate_in_memory};
-use uimg_fit_reading::{locate_name, locate_named};
+use uimg_fit_checking::{locate_name, locate_named};
 use uimg_requests::Format;
 
 // What is told of a payload that was not found, for which so much memory was taken.

@@ -1,2 +1,6 @@
 mod LineLaws
 mod ObjectLaws
+mod Examples
+pub mod SetLaws
+pub mod PieceLaws
+pub mod MissingLaws

@@ -1,3 +1,11 @@
 pub mod Answers
 pub mod Lines
 pub mod Objects
+pub mod Checking
+pub mod Counting
+pub mod Finding
+pub mod Given
+pub mod ReferenceNames
+pub mod Properties
+pub mod References
+pub mod ReferenceWork

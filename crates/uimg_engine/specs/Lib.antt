@@ -1,9 +1,6 @@
 pub mod Faults
 pub mod Headline
 pub mod Locating
-pub mod Checking
-pub mod Counting
-pub mod Finding
 pub mod Making
 pub mod MakingTrees
 pub mod Commands

@@ -2,12 +2,9 @@
 //! on a disk.
 #![tactic(auto)]
 
-mod checking;
-mod counting;
 mod disk_files;
 mod engine;
 mod fault;
-mod finding;
 mod formats;
 mod in_memory;
 mod locating;
@@ -17,12 +14,9 @@ mod making_parts;
 mod making_trees;
 mod same_files;
 
-pub use checking::check_in_memory;
-pub use counting::count_in_memory;
 pub use disk_files::DiskFiles;
 pub use engine::run;
 pub use fault::Fault;
-pub use finding::{Checked, check};
 pub use formats::is_fit;
 pub use in_memory::{locate_in_memory, make_in_memory, run_in_memory};
 pub use locating::locate;

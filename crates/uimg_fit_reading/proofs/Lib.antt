@@ -1,4 +1,3 @@
-pub mod FullSurveyLaws
 pub mod ImageLaws
 pub mod CellLaws
 pub mod PlanLaws
@@ -11,16 +10,6 @@ pub mod OpenedLaws
 pub mod CompareLaws
 pub mod PlaceLaws
 pub mod ExtractionLaws
-pub mod NamedLaws
-pub mod CountingLaws
-pub mod VouchingLaws
-pub mod CheckLaws
-pub mod CheckCountLaws
-pub mod CopyLaws
-pub mod UnpackLaws
-pub mod ClaimLaws
-pub mod TakeLaws
-pub mod UnpackedLaws
 pub mod LineLaws
 pub mod AllowanceLaws
 pub mod SharesLaws
@@ -31,4 +20,3 @@ pub mod TellingLaws
 pub mod RowLaws
 pub mod ListingLaws
 pub mod WithinLaws
-pub mod SurveyLaws

@@ -1,4 +1,3 @@
-pub mod FullSurvey
 pub mod Plans
 pub mod Puts
 pub mod HashReports
@@ -7,15 +6,7 @@ pub mod Values
 pub mod Listing
 pub mod Work
 pub mod Nodes
-pub mod Named
-pub mod Counting
-pub mod Vouching
-pub mod Checks
-pub mod CheckParts
-pub mod Unpacking
-pub mod UnpackingParts
-pub mod Copies
-pub mod MemTakes
+pub mod PayloadPlaces
 pub mod Rooms
 pub mod Shows
 pub mod Lists
@@ -25,5 +16,3 @@ pub mod Telling
 pub mod NodeLines
 pub mod Heads
 pub mod ListingParts
-pub mod Survey
-pub mod SurveyParts

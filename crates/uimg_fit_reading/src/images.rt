@@ -11,11 +11,8 @@ use uimg_base::Room;
 use uimg_blob::Blob;
 use uimg_fit_base::FitFault;
 
-// The number of the first image, if there is one.
-pub(crate) fn first_image<A: Allocator>(
-    blob: &Blob,
-    room: &Room<A>,
-) -> Result<Option<usize>, FitFault>
+/// The number of the first image, if there is one. `NoImages` where there is no node `images`.
+pub fn first_image<A: Allocator>(blob: &Blob, room: &Room<A>) -> Result<Option<usize>, FitFault>
     requires { Indexed blob.now room.now.entries }
     ensures within { IfOk result (λ first. IfSome first (λ i. i < length room.now.entries)) }
     ensures no_making { IfErr result (λ fault. of_making fault ≡ false) }
@@ -27,12 +24,8 @@ pub(crate) fn first_image<A: Allocator>(
     }
 }
 
-// The number of the image at a position.
-pub(crate) fn image_at<A: Allocator>(
-    blob: &Blob,
-    room: &Room<A>,
-    position: u32,
-) -> Result<usize, FitFault>
+/// The number of the image at a position, counted from 0. `NoImages` comes as above, then `NoSuchImage`.
+pub fn image_at<A: Allocator>(blob: &Blob, room: &Room<A>, position: u32) -> Result<usize, FitFault>
     requires { Indexed blob.now room.now.entries }
     ensures within { IfOk result (λ i. i < length room.now.entries) }
     ensures no_making { IfErr result (λ fault. of_making fault ≡ false) }

@@ -1,29 +1,18 @@
-//! FIT images are read: listing, verification and extraction.
+//! FIT images are read: listing, verification and extraction. What checks and surveys of them stand on is
+//! public too.
 #![tactic(auto)]
 
-mod checking;
-mod counting;
 mod extraction;
-mod images;
+pub mod images;
 mod listing;
-mod named;
-mod nodes;
+pub mod nodes;
 mod places;
 mod puts;
 mod report;
-mod surveying;
 mod tree;
-mod unpacking;
 
-pub use checking::{Finding, check};
-pub use counting::count_images;
 pub use extraction::{extract, locate};
 pub use listing::list;
-pub use named::{locate_name, locate_named};
-pub use places::find_payload;
-pub use report::{is_vouched, verify};
-pub use surveying::{
-    ConfigurationFacts, FullSurvey, HashFacts, ImageFacts, PayloadFacts, Survey, SurveyFault,
-    read_bytes, survey, survey_with_properties,
-};
-pub use unpacking::{MemTake, MemTaker, NodeName, Refusal, Taker, Unpacked, Vouched, unpack};
+pub use places::{PayloadFacts, find_payload, payload_facts, payload_place};
+pub use report::{compared_algos, judge, payload_digests, verify};
+pub use tree::read_tree;

@@ -10,14 +10,14 @@ ghost use Rattle.uimg_blob.specs.Spots.{Spot, spots};
 ghost use Rattle.uimg_fit_base.specs.Files.{bytes_of, bytes_in, root_own};
 ghost use Rattle.uimg_fit_reading.specs.Nodes.{Indexed, IsRead, IsNode, AtNode, InTree, AreFrom, HashesFrom, HashAt, HashesAt, TellsConfigurations, IsEntry, IsEntryOrNone, InAnyFile};
 ghost use Rattle.uimg_fit_reading.specs.Values.{in_span};
-ghost use Rattle.uimg_fit_reading.specs.SurveyParts.{Ends};
+ghost use Rattle.uimg_fit_reading.specs.PayloadPlaces.{Ends};
 
 use std::alloc::Allocator;
 use uimg_base::{Room, Span};
 use uimg_blob::{Blob, Key};
 
-// Where the name of a node stands.
-pub(crate) fn name_of<A: Allocator>(blob: &Blob, room: &Room<A>, node: usize) -> Span
+/// Where the name of a node stands.
+pub fn name_of<A: Allocator>(blob: &Blob, room: &Room<A>, node: usize) -> Span
     requires { node < length room.now.entries }
     ensures inside { InAnyFile blob.now room.now (λ size. result.place + result.length ≤ size) }
     ensures name { AtNode blob.now room.now node
@@ -27,13 +27,8 @@ pub(crate) fn name_of<A: Allocator>(blob: &Blob, room: &Room<A>, node: usize) ->
     blob.name(room, node)
 }
 
-// Where the value of a node's first property of a key stands.
-pub(crate) fn value_of<A: Allocator>(
-    blob: &Blob,
-    room: &Room<A>,
-    node: usize,
-    key: Key,
-) -> Option<Span>
+/// Where the value of a node's first property of a key stands.
+pub fn value_of<A: Allocator>(blob: &Blob, room: &Room<A>, node: usize, key: Key) -> Option<Span>
     requires { node < length room.now.entries }
     ensures inside { InAnyFile blob.now room.now (λ size. Ends size result) }
     ensures span { InTree blob.now room.now node (λ t level found.
@@ -46,8 +41,8 @@ pub(crate) fn value_of<A: Allocator>(
     blob.value(room, node, key)
 }
 
-// Where the value of the root's first property of a key stands.
-pub(crate) fn root_value<A: Allocator>(blob: &Blob, room: &Room<A>, key: Key) -> Option<Span>
+/// Where the value of the root's first property of a key stands.
+pub fn root_value<A: Allocator>(blob: &Blob, room: &Room<A>, key: Key) -> Option<Span>
     requires { IsTrue (keeps (role_at top []) key) }
     ensures inside { InAnyFile blob.now room.now (λ size. Ends size result) }
     ensures bytes { (file : List ℕ) (t : Siblings) → IsRead file blob.now room.now.entries t →
@@ -59,8 +54,8 @@ pub(crate) fn root_value<A: Allocator>(blob: &Blob, room: &Room<A>, key: Key) ->
     value_of(blob, room, 0, key)
 }
 
-// The number of a node's first child, if it has one.
-pub(crate) fn child_of<A: Allocator>(blob: &Blob, room: &Room<A>, node: usize) -> Option<usize>
+/// The number of a node's first child, if it has one.
+pub fn child_of<A: Allocator>(blob: &Blob, room: &Room<A>, node: usize) -> Option<usize>
     requires { node < length room.now.entries }
     ensures within { IfSome result (λ i. i < length room.now.entries) }
     ensures children { InTree blob.now room.now node (λ t level found.
@@ -69,8 +64,8 @@ pub(crate) fn child_of<A: Allocator>(blob: &Blob, room: &Room<A>, node: usize) -
     blob.first_child(room, node)
 }
 
-// The number of the node `configurations`, if there is one.
-pub(crate) fn configurations_of<A: Allocator>(blob: &Blob, room: &Room<A>) -> Option<usize>
+/// The number of the node `configurations`, if there is one.
+pub fn configurations_of<A: Allocator>(blob: &Blob, room: &Room<A>) -> Option<usize>
     requires { Indexed blob.now room.now.entries }
     ensures within { IfSome result (λ i. i < length room.now.entries) }
     ensures told { (t : Siblings) → IsIndexed t blob.now room.now.entries →
@@ -79,8 +74,8 @@ pub(crate) fn configurations_of<A: Allocator>(blob: &Blob, room: &Room<A>) -> Op
     blob.configurations()
 }
 
-// The number of the node after one, if there is such.
-pub(crate) fn next_of<A: Allocator>(blob: &Blob, room: &Room<A>, node: usize) -> Option<usize>
+/// The number of the node after one, if there is such.
+pub fn next_of<A: Allocator>(blob: &Blob, room: &Room<A>, node: usize) -> Option<usize>
     requires { IsEntry blob.now room.now node }
     ensures within { IfSome result (λ i. i < length room.now.entries) }
     ensures later { IfSome result (λ i. node < i) }
@@ -109,8 +104,8 @@ fn hash_from<A: Allocator>(blob: &Blob, room: &Room<A>, first: Option<usize>) ->
     None
 }
 
-// The number of an image's first hash node, if it has one.
-pub(crate) fn first_hash<A: Allocator>(blob: &Blob, room: &Room<A>, image: usize) -> Option<usize>
+/// The number of an image's first hash node, if it has one.
+pub fn first_hash<A: Allocator>(blob: &Blob, room: &Room<A>, image: usize) -> Option<usize>
     requires { IsEntry blob.now room.now image }
     ensures within { IfSome result (λ i. i < length room.now.entries) }
     ensures hashes { (t : Siblings) → IsIndexed t blob.now room.now.entries →
@@ -119,8 +114,8 @@ pub(crate) fn first_hash<A: Allocator>(blob: &Blob, room: &Room<A>, image: usize
     hash_from(blob, room, blob.first_child(room, image))
 }
 
-// The number of the hash node after one, if there is such.
-pub(crate) fn next_hash<A: Allocator>(blob: &Blob, room: &Room<A>, hash: usize) -> Option<usize>
+/// The number of the hash node after one, if there is such.
+pub fn next_hash<A: Allocator>(blob: &Blob, room: &Room<A>, hash: usize) -> Option<usize>
     requires { IsEntry blob.now room.now hash }
     ensures within { IfSome result (λ i. i < length room.now.entries) }
     ensures hashes { (t : Siblings) → IsIndexed t blob.now room.now.entries → (found : NodeOf Spot)

@@ -8,17 +8,44 @@ ghost use Rattle.uimg_blob.specs.Roles.{in_images};
 ghost use Rattle.uimg_blob.specs.Spots.{Spot};
 ghost use Rattle.uimg_fit_base.specs.Faults.{is_read, of_making};
 ghost use Rattle.uimg_fit_base.specs.Files.{number_in};
-ghost use Rattle.uimg_fit_reading.specs.Nodes.{IsRead, IsNode, HasNode};
-ghost use Rattle.uimg_fit_reading.specs.Survey.{place_said, read_payload};
-ghost use Rattle.uimg_fit_reading.specs.SurveyParts.{PayloadInside, Ends, PlaceOrFault};
+ghost use Rattle.uimg_fit_reading.specs.Nodes.{IsRead, IsNode, HasNode, AtLevel, InAnyFile};
 ghost use Rattle.uimg_fit_reading.specs.Puts.{OnlyReads};
 ghost use Rattle.uimg_fit_base.specs.Places.{external, or_else, embedded, place, TellsPlace};
+ghost use Rattle.uimg_fit_reading.specs.PayloadPlaces.{place_said, payload_said, read_payload, PayloadInside, Ends, PlaceOrFault};
 
-use crate::surveying::{PayloadFacts, payload_facts};
+use crate::nodes::value_of;
 use std::alloc::Allocator;
 use uimg_base::{Room, Source, SourceFault, Span, number_at, up4};
-use uimg_blob::Blob;
+use uimg_blob::{Blob, Key};
 use uimg_fit_base::{Fault, FitFault};
+
+/// What an image says of the place of its payload.
+#[derive(Clone, Copy, Debug, PartialEq, Eq)]
+pub struct PayloadFacts {
+    /// `data`: the payload itself.
+    pub embedded: Option<Span>,
+    /// `data-size`: its length, a cell.
+    pub size: Option<Span>,
+    /// `data-offset`: where it stands after the blob, a cell.
+    pub offset: Option<Span>,
+    /// `data-position`: where it stands in the file, a cell.
+    pub position: Option<Span>,
+}
+
+/// What an image says of the place of its payload.
+pub fn payload_facts<A: Allocator>(blob: &Blob, room: &Room<A>, image: usize) -> PayloadFacts
+    requires { image < length room.now.entries }
+    ensures inside { InAnyFile blob.now room.now (λ size. PayloadInside size result) }
+    ensures said { AtLevel blob.now room.now in_images image
+        (λ file found. read_payload file result ≡ payload_said found) }
+{
+    PayloadFacts {
+        embedded: value_of(blob, room, image, Key::Data),
+        size: value_of(blob, room, image, Key::DataSize),
+        offset: value_of(blob, room, image, Key::DataOffset),
+        position: value_of(blob, room, image, Key::DataPosition),
+    }
+}
 
 // The number of a value that has four bytes.
 pub(crate) fn cell<S: Source>(
@@ -120,8 +147,9 @@ pub(crate) fn find_place<S: Source, A: Allocator>(
     find_payload(source, blob.totalsize(), &facts)
 }
 
-// The place of an image's payload that ends in the source.
-pub(crate) fn payload_place<S: Source, A: Allocator>(
+/// The place of an image's payload that ends in the source. `NoData` where there is none, and `DataOutside`
+/// where it ends after the source.
+pub fn payload_place<S: Source, A: Allocator>(
     source: &mut S,
     blob: &Blob,
     room: &Room<A>,

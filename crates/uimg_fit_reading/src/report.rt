@@ -10,20 +10,16 @@ mod hash_reports;
 mod image_reports;
 mod judging;
 mod plans;
-mod vouching;
-mod wrong_hashes;
 
 use crate::images::first_image;
 use crate::report::image_reports::report_images;
 use crate::tree::read_tree;
-pub(crate) use digests::{compared_algos, payload_digests};
+pub use digests::{compared_algos, payload_digests};
+pub use judging::judge;
 use std::alloc::Allocator;
 use std::io::Write;
 use uimg_base::{Out, Room, Source, Status};
 use uimg_fit_base::Fault;
-pub use vouching::is_vouched;
-pub(crate) use vouching::lacks;
-pub(crate) use wrong_hashes::{WrongHash, first_wrong};
 
 /// Writes the report on the hashes of the images: for each hash node of each image a line
 /// `<image> <hash> <algo> <word>`, the word being `malformed`, `unsupported`, `ok` or `bad`, and

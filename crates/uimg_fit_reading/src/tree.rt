@@ -11,11 +11,8 @@ use uimg_base::{Room, Source};
 use uimg_blob::{Blob, index};
 use uimg_fit_base::Fault;
 
-// Indexes the blob that a FIT image begins with.
-pub(crate) fn read_tree<S: Source, A: Allocator>(
-    source: &mut S,
-    room: &mut Room<A>,
-) -> Result<Blob, Fault>
+/// Indexes the blob that a FIT image begins with. Refusals are those of the blob.
+pub fn read_tree<S: Source, A: Allocator>(source: &mut S, room: &mut Room<A>) -> Result<Blob, Fault>
     ensures inspects { Inspects index_cost result S.device source room }
     ensures inside { IfOk result (λ blob. InFile (length (S.device source.old).bytes) blob
         room.new.entries) }

@@ -5,9 +5,9 @@ use Rattle.json.specs.Print.{print}
 use Rattle.json.specs.Tree.{json_tokens}
 use Rattle.uimg_blob.proofs.PhaseLaws.{true_false}
 use Rattle.uimg_fit_base.specs.declared.fault.Fault.TheVariants as of
-use Rattle.uimg_fit_reading.specs.SurveyParts.{lacks_room, IsOwn}
-use Rattle.uimg_fit_reading.specs.declared.surveying.fault.SurveyFault.{SurveyFault}
-use Rattle.uimg_fit_reading.specs.declared.surveying.fault.SurveyFault.TheVariants.{Stopped, OutOfMemory, Changed}
+use Rattle.uimg_fit_checking.specs.SurveyParts.{lacks_room, IsOwn}
+use Rattle.uimg_fit_checking.specs.declared.surveying.fault.SurveyFault.{SurveyFault}
+use Rattle.uimg_fit_checking.specs.declared.surveying.fault.SurveyFault.TheVariants.{Stopped, OutOfMemory, Changed}
 use Rattle.uimg_info.specs.Fit.{info_of}
 use Rattle.uimg_info.specs.Steps.{Informs}
 

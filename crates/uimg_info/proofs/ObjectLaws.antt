@@ -4,7 +4,8 @@ use Rattle.json.specs.Json.{Json}
 use Rattle.uimg_base.specs.declared.spans.Span.{Span}
 use Rattle.uimg_blob.specs.Plain.{NamedOf}
 use Rattle.uimg_fit_base.specs.declared.fault.FitFault.{FitFault}
-use Rattle.uimg_fit_reading.specs.Survey.{Said, ImageSaid, ConfigurationSaid, place_said}
+use Rattle.uimg_fit_checking.specs.Survey.{Said, ImageSaid, ConfigurationSaid}
+use Rattle.uimg_fit_reading.specs.PayloadPlaces.{place_said}
 use Rattle.uimg_printing.specs.Members.{Member, array_of, items_of, number_member, string_member}
 use Rattle.uimg_info.specs.Members.{facts_members}
 use Rattle.uimg_printing.proofs.LineLaws as line

@@ -4,7 +4,7 @@ use Rattle.std.proofs.Math.ListN.{length-map}
 use Rattle.std.proofs.Math.Nat.{suc-ne-zero}
 use Rattle.uimg_base.specs.declared.spans.Span.{Span}
 use Rattle.uimg_blob.specs.Plain.{NamedOf}
-use Rattle.uimg_fit_reading.specs.Survey.{ConfigurationSaid}
+use Rattle.uimg_fit_checking.specs.Survey.{ConfigurationSaid}
 use Rattle.uimg_info.specs.Fit.{configurations_json}
 
 none_of : (configurations : List ConfigurationSaid) (lists : List (List (NamedOf Span))) → min (length configurations) (length lists) ≡ 0 → configurations_json configurations lists ≡ []

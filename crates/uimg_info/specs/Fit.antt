@@ -6,8 +6,9 @@ use Rattle.uimg_base.specs.Results.{◌>>=◌}
 use Rattle.uimg_blob.specs.Plain.{NamedOf}
 use Rattle.uimg_fit_base.specs.declared.fault.Fault.{Fault}
 use Rattle.uimg_fit_base.specs.declared.fault.FitFault.{FitFault}
-use Rattle.uimg_fit_reading.specs.FullSurvey.{properties_of}
-use Rattle.uimg_fit_reading.specs.Survey.{Said, ImageSaid, HashSaid, ConfigurationSaid, place_said, survey_of}
+use Rattle.uimg_fit_checking.specs.FullSurvey.{properties_of}
+use Rattle.uimg_fit_checking.specs.Survey.{Said, ImageSaid, HashSaid, ConfigurationSaid, survey_of}
+use Rattle.uimg_fit_reading.specs.PayloadPlaces.{place_said}
 use Rattle.uimg_info.specs.declared.reservations.Reservation.{Reservation}
 use Rattle.uimg_info.specs.Reservations.{reservations_of, reservations_members}
 use Rattle.uimg_printing.specs.Members.{Member, object_of, array_of, string_member, number_member}

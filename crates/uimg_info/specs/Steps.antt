@@ -14,14 +14,15 @@ use Rattle.uimg_base.specs.declared.spans.Span.{Span}
 use Rattle.uimg_blob.specs.Faults.{refuses_memory}
 use Rattle.uimg_fit_base.specs.Files.{bytes_in}
 use Rattle.uimg_fit_base.specs.declared.fault.Fault.TheVariants as of
-use Rattle.uimg_fit_reading.specs.SurveyParts.{Ends, IsOwn, is_unread}
-use Rattle.uimg_fit_reading.specs.declared.surveying.fault.SurveyFault.{SurveyFault}
-use Rattle.uimg_fit_reading.specs.declared.surveying.fault.SurveyFault.TheVariants.{Stopped, OutOfMemory, Changed}
+use Rattle.uimg_fit_checking.specs.SurveyParts.{IsOwn, is_unread}
+use Rattle.uimg_fit_reading.specs.PayloadPlaces.{Ends}
+use Rattle.uimg_fit_checking.specs.declared.surveying.fault.SurveyFault.{SurveyFault}
+use Rattle.uimg_fit_checking.specs.declared.surveying.fault.SurveyFault.TheVariants.{Stopped, OutOfMemory, Changed}
 use Rattle.uimg_info.specs.Fit.{info_of, fit_json}
 use Rattle.uimg_info.specs.Reservations.{reservations_of}
-use Rattle.uimg_fit_reading.specs.Survey.{read_survey}
-use Rattle.uimg_fit_reading.specs.FullSurvey.{read_properties}
-use Rattle.uimg_fit_reading.specs.declared.surveying.facts.FullSurvey.{FullSurvey}
+use Rattle.uimg_fit_checking.specs.Survey.{read_survey}
+use Rattle.uimg_fit_checking.specs.FullSurvey.{read_properties}
+use Rattle.uimg_fit_checking.specs.declared.surveying.facts.FullSurvey.{FullSurvey}
 use Rattle.uimg_info.specs.Members.{Fact}
 use Rattle.uimg_info.specs.declared.kinds.Kind.{Kind}
 

@@ -8,14 +8,14 @@ use Rattle.uimg_blob.specs.Counts.{index_cost}
 use Rattle.uimg_blob.specs.Plain.{NamedOf}
 use Rattle.uimg_blob.specs.declared.places.PropertyPlace.{PropertyPlace}
 use Rattle.uimg_fit_base.specs.declared.fault.Fault.{Fault}
-use Rattle.uimg_fit_reading.specs.FullSurvey.{properties_of, properties_cost}
+use Rattle.uimg_fit_checking.specs.FullSurvey.{properties_of, properties_cost}
 use Rattle.uimg_fit_reading.specs.Heads.{span_size}
-use Rattle.uimg_fit_reading.specs.Survey.{HashSaid, ImageSaid, ConfigurationSaid, Said, survey_of}
-use Rattle.uimg_fit_reading.specs.declared.surveying.facts.HashFacts.{HashFacts}
-use Rattle.uimg_fit_reading.specs.declared.surveying.facts.ImageFacts.{ImageFacts}
-use Rattle.uimg_fit_reading.specs.declared.surveying.facts.ConfigurationFacts.{ConfigurationFacts}
-use Rattle.uimg_fit_reading.specs.declared.surveying.facts.Survey.{Survey}
-use Rattle.uimg_fit_reading.specs.declared.surveying.facts.FullSurvey.{FullSurvey}
+use Rattle.uimg_fit_checking.specs.Survey.{HashSaid, ImageSaid, ConfigurationSaid, Said, survey_of}
+use Rattle.uimg_fit_checking.specs.declared.surveying.facts.HashFacts.{HashFacts}
+use Rattle.uimg_fit_checking.specs.declared.surveying.facts.ImageFacts.{ImageFacts}
+use Rattle.uimg_fit_checking.specs.declared.surveying.facts.ConfigurationFacts.{ConfigurationFacts}
+use Rattle.uimg_fit_checking.specs.declared.surveying.facts.Survey.{Survey}
+use Rattle.uimg_fit_checking.specs.declared.surveying.facts.FullSurvey.{FullSurvey}
 use Rattle.uimg_info.specs.Fit.{hash_facts, image_facts, configuration_facts, root_facts}
 use Rattle.uimg_info.specs.Members.{Fact}
 use Rattle.uimg_info.specs.Steps.{Row}

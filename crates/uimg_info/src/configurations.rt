@@ -4,9 +4,9 @@ ghost use Rattle.std.specs.Prelude.{◌+◌, ◌<◌, length, map};
 ghost use Rattle.std.specs.List.{All, sum_by};
 ghost use Rattle.json.specs.Tree.{json_tokens};
 ghost use Rattle.uimg_blob.specs.Places.{read_place, EndsBy};
-ghost use Rattle.uimg_fit_reading.specs.FullSurvey.{read_properties, PlacesInside};
-ghost use Rattle.uimg_fit_reading.specs.Survey.{read_name, read_configuration};
-ghost use Rattle.uimg_fit_reading.specs.SurveyParts.{NameInside, ConfigurationInside};
+ghost use Rattle.uimg_fit_checking.specs.FullSurvey.{read_properties, PlacesInside};
+ghost use Rattle.uimg_fit_checking.specs.Survey.{read_name, read_configuration};
+ghost use Rattle.uimg_fit_checking.specs.SurveyParts.{NameInside, ConfigurationInside};
 ghost use Rattle.uimg_info.specs.Fit.{configuration_facts, node_json, property_json, configuration_json, configurations_json};
 ghost use Rattle.uimg_printing.specs.Members.{array_of, tokens_of};
 ghost use Rattle.uimg_info.specs.Members.{facts_members};
@@ -19,7 +19,7 @@ use json::Writer;
 use std::alloc::Global;
 use uimg_base::{Source, Span};
 use uimg_blob::PropertyPlace;
-use uimg_fit_reading::{ConfigurationFacts, SurveyFault};
+use uimg_fit_checking::{ConfigurationFacts, SurveyFault};
 use uimg_printing::put_number;
 
 // Writes the name of a node.

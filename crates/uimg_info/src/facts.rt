@@ -14,7 +14,7 @@ use crate::members::{put_length, put_value};
 use json::Writer;
 use std::alloc::Global;
 use uimg_base::{Source, Span};
-use uimg_fit_reading::{SurveyFault, read_bytes};
+use uimg_fit_checking::{SurveyFault, read_bytes};
 
 // The most bytes of a value that is told.
 const MOST: u64 = 65536;

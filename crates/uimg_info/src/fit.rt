@@ -4,9 +4,10 @@ ghost use Rattle.std.specs.Prelude.{◌≡◌, ◌+◌, ◌^◌, ◌<◌, ◌≤
 ghost use Rattle.std.specs.List.{All, sum_by};
 ghost use Rattle.json.specs.Tree.{json_tokens};
 ghost use Rattle.uimg_base.specs.Using.{Asks};
-ghost use Rattle.uimg_fit_reading.specs.FullSurvey.{FullInside};
-ghost use Rattle.uimg_fit_reading.specs.Survey.{read_hash, read_payload, read_image, read_survey, place_said};
-ghost use Rattle.uimg_fit_reading.specs.SurveyParts.{HashInside, PayloadInside, ImageInside, SurveyInside, is_unread, IsOwn};
+ghost use Rattle.uimg_fit_checking.specs.FullSurvey.{FullInside};
+ghost use Rattle.uimg_fit_checking.specs.Survey.{read_hash, read_image, read_survey};
+ghost use Rattle.uimg_fit_reading.specs.PayloadPlaces.{read_payload, place_said, PayloadInside};
+ghost use Rattle.uimg_fit_checking.specs.SurveyParts.{HashInside, ImageInside, SurveyInside, is_unread, IsOwn};
 ghost use Rattle.uimg_info.specs.Fit.{fault_members, span_members, place_members, image_facts, root_members, hash_json, image_json, head_members};
 ghost use Rattle.uimg_printing.specs.Members.{array_of, tokens_of};
 ghost use Rattle.uimg_info.specs.Members.{facts_members};
@@ -22,9 +23,8 @@ use json::Writer;
 use std::alloc::{AllocError, Global};
 use uimg_base::{Source, Span};
 use uimg_fit_base::{Fault, FitFault};
-use uimg_fit_reading::{
-    FullSurvey, HashFacts, ImageFacts, PayloadFacts, Survey, SurveyFault, find_payload,
-};
+use uimg_fit_checking::{FullSurvey, HashFacts, ImageFacts, Survey, SurveyFault};
+use uimg_fit_reading::{PayloadFacts, find_payload};
 use uimg_printing::{put_number, put_string};
 
 // Writes a hash node.

@@ -7,7 +7,7 @@ ghost use Rattle.uimg_texts.specs.Numbers.{be32};
 ghost use Rattle.uimg_texts.specs.Slices.{slice};
 ghost use Rattle.uimg_printing.specs.Members.{array_of, tokens_of};
 ghost use Rattle.uimg_info.specs.Reservations.{entry_of, is_end, items_in, entries_in, reservations_of, reservation_json, reservations_members};
-ghost use Rattle.uimg_fit_reading.specs.SurveyParts.{IsOwn, is_unread};
+ghost use Rattle.uimg_fit_checking.specs.SurveyParts.{IsOwn, is_unread};
 ghost use Rattle.uimg_info.specs.Steps.{Puts, Adds, Says};
 
 use byteorder::{BigEndian, ByteOrder};
@@ -15,7 +15,7 @@ use json::Writer;
 use std::alloc::{AllocError, Global};
 use uimg_base::{Source, SourceFault, Span, number_at};
 use uimg_fit_base::Fault;
-use uimg_fit_reading::{SurveyFault, read_bytes};
+use uimg_fit_checking::{SurveyFault, read_bytes};
 use uimg_printing::put_number;
 
 // How many bytes an entry has.

@@ -6,8 +6,8 @@ ghost use Rattle.json.specs.Json.{document};
 ghost use Rattle.uimg_printing.specs.Objects.{is_one_line};
 ghost use Rattle.uimg_base.specs.Using.{Asks, UsesAtMost};
 ghost use Rattle.uimg_fit_reading.specs.Rooms.{TakesNodes};
-ghost use Rattle.uimg_fit_reading.specs.FullSurvey.{FullInside};
-ghost use Rattle.uimg_fit_reading.specs.SurveyParts.{is_unread, lacks_room, IsOwn};
+ghost use Rattle.uimg_fit_checking.specs.FullSurvey.{FullInside};
+ghost use Rattle.uimg_fit_checking.specs.SurveyParts.{is_unread, lacks_room, IsOwn};
 ghost use Rattle.uimg_info.specs.Fit.{info_of, ok_of};
 ghost use Rattle.uimg_info.specs.Steps.{Informs, Prints, ReadsAs, Says, read_json};
 ghost use Rattle.uimg_info.specs.Work.{full_size, info_work};
@@ -17,7 +17,7 @@ use json::Writer;
 use std::alloc::{Allocator, Global};
 use uimg_base::{Room, Source};
 use uimg_fit_base::Fault;
-use uimg_fit_reading::{FullSurvey, SurveyFault, survey_with_properties};
+use uimg_fit_checking::{FullSurvey, SurveyFault, survey_with_properties};
 
 // The text of the object of what a file of so many bytes says.
 fn survey_text<S: Source>(

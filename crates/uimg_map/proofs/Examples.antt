@@ -3,7 +3,7 @@ use Rattle.std.proofs.Common.{◌≡◌, [], ◌∷◌, replicate, codes, Some, 
 use Rattle.uimg_fit_base.specs.declared.fault.Fault.TheVariants as of
 use Rattle.uimg_fit_base.specs.declared.fault.FitFault.TheVariants.{DataOutside, NoData}
 use Rattle.uimg_fit_base.specs.Files.{number}
-use Rattle.uimg_fit_reading.specs.Survey.{ImageSaid}
+use Rattle.uimg_fit_checking.specs.Survey.{ImageSaid}
 use Rattle.uimg_legacy.specs.declared.fault.LegacyFault.TheVariants.{TooShort, BadHeaderCrc, NoTableEnd, PartOutside}
 use Rattle.uimg_legacy.specs.Header.{head}
 use Rattle.uimg_map.specs.declared.fault.MapFault.TheVariants.{Fit}

@@ -5,11 +5,11 @@ use Rattle.std.proofs.Math.ListN.{drop_of_length-le}
 use Rattle.uimg_base.specs.Device.{Device, RisesIf}
 use Rattle.uimg_base.specs.Using.{Asks, UsesAtMost}
 use Rattle.uimg_blob.specs.Counts.{index_cost}
-use Rattle.uimg_fit_reading.specs.declared.surveying.facts.ImageFacts.{ImageFacts}
-use Rattle.uimg_fit_reading.specs.declared.surveying.facts.Survey.{Survey}
-use Rattle.uimg_fit_reading.specs.declared.surveying.fault.SurveyFault.{SurveyFault}
-use Rattle.uimg_fit_reading.specs.Survey.{read_image, survey_of}
-use Rattle.uimg_fit_reading.specs.SurveyParts.{is_unread, Surveys}
+use Rattle.uimg_fit_checking.specs.declared.surveying.facts.ImageFacts.{ImageFacts}
+use Rattle.uimg_fit_checking.specs.declared.surveying.facts.Survey.{Survey}
+use Rattle.uimg_fit_checking.specs.declared.surveying.fault.SurveyFault.{SurveyFault}
+use Rattle.uimg_fit_checking.specs.Survey.{read_image, survey_of}
+use Rattle.uimg_fit_checking.specs.SurveyParts.{is_unread, Surveys}
 use Rattle.uimg_map.specs.declared.contents.Contents.{Contents}
 use Rattle.uimg_map.specs.declared.fault.MapFault.{MapFault}
 use Rattle.uimg_map.specs.Contents.{Grows, Gathers}

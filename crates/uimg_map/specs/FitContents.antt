@@ -5,7 +5,8 @@ use Rattle.uimg_fit_base.specs.declared.fault.Fault.{Fault}
 use Rattle.uimg_fit_base.specs.declared.fault.Fault.TheVariants as of
 use Rattle.uimg_fit_base.specs.declared.fault.FitFault.{FitFault}
 use Rattle.uimg_fit_base.specs.declared.fault.FitFault.TheVariants.{DataOutside}
-use Rattle.uimg_fit_reading.specs.Survey.{ImageSaid, Said, place_said, survey_of}
+use Rattle.uimg_fit_checking.specs.Survey.{ImageSaid, Said, survey_of}
+use Rattle.uimg_fit_reading.specs.PayloadPlaces.{place_said}
 use Rattle.uimg_map.specs.declared.fault.MapFault.TheVariants.{Fit}
 use Rattle.uimg_map.specs.declared.numbers.BlobNumbers.{BlobNumbers}
 use Rattle.uimg_map.specs.declared.thing.Thing.{Thing}

@@ -2,7 +2,7 @@
 use Rattle.std.specs.Prelude.{ℕ, ◌+◌, ◌*◌, List, length, if◌then◌else◌, Bool, true, false, Result, Ok, Err}
 use Rattle.uimg_blob.specs.Counts.{index_cost}
 use Rattle.uimg_fit_base.specs.declared.fault.Fault.{Fault}
-use Rattle.uimg_fit_reading.specs.Survey.{Said, survey_of}
+use Rattle.uimg_fit_checking.specs.Survey.{Said, survey_of}
 use Rattle.uimg_legacy.specs.declared.header.Header.{Header}
 use Rattle.uimg_legacy.specs.declared.fault.LegacyFault.{LegacyFault}
 use Rattle.uimg_legacy.specs.Header.{header}

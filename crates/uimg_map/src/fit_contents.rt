@@ -3,9 +3,9 @@
 ghost use Rattle.std.specs.Prelude.{◌≡◌, ◌≤◌, ◌<◌, ◌+◌, ◌*◌, ◌^◌, length, map, ℕ, List, Ok, Err, IfErr, IsTrue, OnOk};
 ghost use Rattle.uimg_blob.specs.Counts.{index_cost};
 ghost use Rattle.uimg_blob.specs.Faults.{refuses_memory};
-ghost use Rattle.uimg_fit_reading.specs.Survey.{read_image, survey_of};
-ghost use Rattle.uimg_fit_reading.specs.declared.surveying.facts.Survey.{Survey};
-ghost use Rattle.uimg_fit_reading.specs.SurveyParts.{ImageInside, SurveyInside, is_unread, Surveys};
+ghost use Rattle.uimg_fit_checking.specs.Survey.{read_image, survey_of};
+ghost use Rattle.uimg_fit_checking.specs.declared.surveying.facts.Survey.{Survey};
+ghost use Rattle.uimg_fit_checking.specs.SurveyParts.{ImageInside, SurveyInside, is_unread, Surveys};
 ghost use Rattle.uimg_map.specs.Contents.{Grows, Adds, Gathers};
 ghost use Rattle.uimg_map.specs.Faults.{is_read, stops};
 ghost use Rattle.uimg_map.specs.FitContents.{blocks_told, is_value, what_payload, payload_told, image_told, images_told, survey_told, fit_contents};
@@ -22,7 +22,8 @@ use std::alloc::Global;
 use uimg_base::{Room, Source, Span};
 use uimg_blob::BlobFault;
 use uimg_fit_base::{Fault, FitFault};
-use uimg_fit_reading::{ImageFacts, PayloadFacts, Survey, SurveyFault, find_payload, survey};
+use uimg_fit_checking::{ImageFacts, Survey, SurveyFault, survey};
+use uimg_fit_reading::{PayloadFacts, find_payload};
 
 /// Adds what stands in the file of a FIT image: the header and the blocks that it names, where the file
 /// begins as a blob and has a header, and the payloads, or else the place of the blob's fault.

@@ -5,11 +5,10 @@ ghost use Rattle.std.specs.Prelude.{◌≤◌, IfSome};
 use crate::main_program::{REFUSED, RequestFault, status_of};
 use std::alloc::Global;
 use uimg_base::{Source, Span};
-use uimg_checks::{Answer, Format, Stop};
-use uimg_engine::{Checked, Fault};
+use uimg_checks::{Answer, Checked, Format, Missing, Stop};
+use uimg_engine::Fault;
 use uimg_fit_base::Verdict;
-use uimg_fit_reading::Finding;
-use uimg_references::Missing;
+use uimg_fit_checking::Finding;
 
 /// The most bytes that a name of a node has.
 const NAME_LEN: usize = 255;

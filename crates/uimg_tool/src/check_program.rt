@@ -8,10 +8,9 @@ use std::os::unix::fs::FileTypeExt;
 use std::rt::Files;
 use std::{fs, io};
 use uimg_base::{FileSource, Room, Source};
-use uimg_checks::{Answer, line_text, object_text};
-use uimg_engine::{Checked, Fault, check};
-use uimg_fit_reading::{ConfigurationFacts, Finding, SurveyFault, survey};
-use uimg_references::{Missing, find_missing};
+use uimg_checks::{Answer, Checked, Missing, check, find_missing, line_text, object_text};
+use uimg_engine::Fault;
+use uimg_fit_checking::{ConfigurationFacts, Finding, SurveyFault, survey};
 use uimg_words::CheckRequest;
 
 /// Where standard input is read as a file.

@@ -9,7 +9,7 @@ use std::rt::Files;
 use uimg_base::{FileSource, Room, Source};
 use uimg_checks::object_text;
 use uimg_engine::{Fault, Format, is_fit};
-use uimg_fit_reading::SurveyFault;
+use uimg_fit_checking::SurveyFault;
 use uimg_info::{fit_text, legacy_text};
 use uimg_legacy::{PartsFault, locate_parts, read_header};
 use uimg_words::InfoRequest;

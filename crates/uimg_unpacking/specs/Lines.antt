@@ -7,11 +7,11 @@ use Rattle.uimg_sums.specs.Algorithms.{digest_size}
 use Rattle.uimg_sums.specs.declared.algo.Algo.{Algo}
 use Rattle.uimg_sums.specs.declared.algo.Algo.TheVariants.{Crc32, Md5, Sha1, Sha256, Sha384, Sha512}
 use Rattle.uimg_fit_base.specs.Report.{word_text}
-use Rattle.uimg_fit_reading.specs.Unpacking.{bytes_of}
-use Rattle.uimg_fit_reading.specs.declared.unpacking.node_names.NodeName.{NodeName}
-use Rattle.uimg_fit_reading.specs.declared.unpacking.taker.Refusal.{Refusal}
-use Rattle.uimg_fit_reading.specs.declared.unpacking.taker.Refusal.TheVariants.{Wrong, Weak}
-use Rattle.uimg_fit_reading.specs.declared.unpacking.taker.Vouched.{Vouched}
+use Rattle.uimg_fit_checking.specs.Unpacking.{bytes_of}
+use Rattle.uimg_fit_checking.specs.declared.unpacking.node_names.NodeName.{NodeName}
+use Rattle.uimg_fit_checking.specs.declared.unpacking.taker.Refusal.{Refusal}
+use Rattle.uimg_fit_checking.specs.declared.unpacking.taker.Refusal.TheVariants.{Wrong, Weak}
+use Rattle.uimg_fit_checking.specs.declared.unpacking.taker.Vouched.{Vouched}
 use Rattle.uimg_printing.specs.Counting.{counted}
 use Rattle.uimg_printing.specs.Printing.{digits_of, printed}
 use Rattle.uimg_unpacking.specs.declared.lines.Line.{Line}

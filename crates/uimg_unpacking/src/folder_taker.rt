@@ -11,7 +11,7 @@ use std::fs;
 use std::io::{BufWriter, Write};
 use std::rt::Files;
 use uimg_base::PutFault;
-use uimg_fit_reading::{NodeName, Refusal, Taker, Vouched};
+use uimg_fit_checking::{NodeName, Refusal, Taker, Vouched};
 
 /// The file of a payload that is being written.
 #[derive(Drop)]

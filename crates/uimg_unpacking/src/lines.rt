@@ -2,7 +2,7 @@
 
 ghost use Rattle.std.specs.Prelude.{◌≡◌, Some};
 ghost use Rattle.std.specs.Fmt.{WritesOnOk};
-ghost use Rattle.uimg_fit_reading.specs.Unpacking.{bytes_of};
+ghost use Rattle.uimg_fit_checking.specs.Unpacking.{bytes_of};
 ghost use Rattle.uimg_printing.specs.Counting.{counted};
 ghost use Rattle.uimg_unpacking.specs.Lines.{algo_name, bytes_text, as_text, vouched_text, crc_bytes, crc_text, kept_line, part_line, refusal_text, line_of};
 
@@ -10,7 +10,7 @@ use std::fmt;
 use std::fmt::{Display, Formatter, Write};
 use uimg_base::Algo;
 use uimg_fit_base::word_text;
-use uimg_fit_reading::{NodeName, Refusal, Vouched};
+use uimg_fit_checking::{NodeName, Refusal, Vouched};
 use uimg_printing::{Counted, Hexadecimal, PrintedWord};
 
 /// The line of a payload or of a part, without its end. Names stand in it as `PrintedWord` has them.

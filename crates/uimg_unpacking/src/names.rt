@@ -3,7 +3,7 @@
 use crate::file_names::is_file_name;
 use std::alloc::{AllocError, Global};
 use std::collections::BTreeSet;
-use uimg_fit_reading::NodeName;
+use uimg_fit_checking::NodeName;
 
 /// How many numbers are tried for a file.
 const TRIED: usize = 100;

@@ -8,7 +8,7 @@ use std::io::Write;
 use std::rt::Files;
 use uimg_base::{Algo, Room, Source};
 use uimg_fit_base::{Fault, FitFault};
-use uimg_fit_reading::{NodeName, Unpacked};
+use uimg_fit_checking::{NodeName, Unpacked};
 
 /// What is asked for of an image.
 #[derive(Clone, Copy, Debug)]
@@ -61,7 +61,7 @@ pub fn unpack<R: Files + AllocGlobal, S: Source, W: Write + Drop>(
     };
     let mut room = Room::new(rt.alloc());
     let mut taker = FolderTaker::new(rt, asked.folder, out);
-    let unpacked = uimg_fit_reading::unpack(only, asked.need, source, &mut room, &mut taker);
+    let unpacked = uimg_fit_checking::unpack(only, asked.need, source, &mut room, &mut taker);
     let (out, count, trouble) = taker.end();
     match unpacked {
         Ok(Unpacked::Taken(all)) => taken(asked, all, count),

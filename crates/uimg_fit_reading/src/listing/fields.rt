@@ -12,7 +12,7 @@ ghost use Rattle.uimg_fit_reading.specs.Rows.{keeps_row, row_cost, row_lines, ro
 ghost use Rattle.uimg_fit_reading.specs.Shows.{value_lines, value_cost, shown, time_line, size_line};
 ghost use Rattle.uimg_fit_reading.specs.Telling.{Lists};
 ghost use Rattle.uimg_fit_reading.specs.Values.{in_span};
-ghost use Rattle.uimg_fit_reading.specs.SurveyParts.{Ends};
+ghost use Rattle.uimg_fit_reading.specs.PayloadPlaces.{Ends};
 
 use crate::listing::addresses::put_address_line;
 use crate::listing::hexadecimal::put_hexadecimal_line;

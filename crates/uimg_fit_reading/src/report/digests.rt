@@ -24,8 +24,8 @@ fn with_plan(set: AlgoSet, plan: Plan) -> AlgoSet
     }
 }
 
-// The algorithms that the hash nodes from one on are compared by.
-pub(crate) fn compared_algos<S: Source, A: Allocator>(
+/// The algorithms that the hash nodes from one on are compared by.
+pub fn compared_algos<S: Source, A: Allocator>(
     source: &mut S,
     blob: &Blob,
     room: &Room<A>,
@@ -46,8 +46,8 @@ pub(crate) fn compared_algos<S: Source, A: Allocator>(
     Ok(set)
 }
 
-// The digests of a payload by the algorithms of a set; it is read once, and not at all where there is none.
-pub(crate) fn payload_digests<S: Source, A: Allocator>(
+/// The digests of a payload by the algorithms of a set; it is read once, and not at all where there is none.
+pub fn payload_digests<S: Source, A: Allocator>(
     source: &mut S,
     room: &mut Room<A>,
     set: AlgoSet,

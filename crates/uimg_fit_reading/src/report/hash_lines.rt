@@ -5,7 +5,7 @@ ghost use Rattle.uimg_fit_base.specs.Report.{word_text};
 ghost use Rattle.uimg_fit_reading.specs.Plans.{LineInside, span_length, algo_text, names_text, end_text, hash_text};
 ghost use Rattle.uimg_fit_reading.specs.Puts.{Puts, PutsOwn};
 ghost use Rattle.uimg_fit_reading.specs.Values.{in_span};
-ghost use Rattle.uimg_fit_reading.specs.SurveyParts.{Ends};
+ghost use Rattle.uimg_fit_reading.specs.PayloadPlaces.{Ends};
 
 use crate::puts::{put, put_line, put_span};
 use std::alloc::Allocator;

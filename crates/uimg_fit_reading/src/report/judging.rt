@@ -19,8 +19,8 @@ use uimg_base::{MoveFault, Out, Room, Source, SourceFault, Span};
 use uimg_blob::{Blob, Key};
 use uimg_fit_base::{Digests, Verdict};
 
-// The word of a hash node, by the digests of its payload.
-pub(crate) fn judge<S: Source, A: Allocator>(
+/// The word of a hash node, by the digests of its payload.
+pub fn judge<S: Source, A: Allocator>(
     source: &mut S,
     blob: &Blob,
     room: &Room<A>,

@@ -8,7 +8,7 @@ ghost use Rattle.uimg_fit_base.specs.Report.{word_of};
 ghost use Rattle.uimg_fit_reading.specs.Nodes.{OfHash, HasNode};
 ghost use Rattle.uimg_fit_reading.specs.Plans.{plan_by_value, plan_by_algo, plan_by_name, plan_of, text_in, IsOf, EndsIn, IsCovered, IsCompared, word_by};
 ghost use Rattle.uimg_fit_reading.specs.Values.{in_span};
-ghost use Rattle.uimg_fit_reading.specs.SurveyParts.{Ends};
+ghost use Rattle.uimg_fit_reading.specs.PayloadPlaces.{Ends};
 
 use crate::nodes::value_of;
 use std::alloc::Allocator;

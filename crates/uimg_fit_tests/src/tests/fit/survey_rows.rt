@@ -5,7 +5,7 @@ use super::images::image;
 use std::alloc::{AllocError, Global};
 use std::test::Fail;
 use uimg_base::{FuseSource, MemSource, Room, Source};
-use uimg_fit_reading::{SurveyFault, survey};
+use uimg_fit_checking::{SurveyFault, survey};
 
 // How many images there are, how many hash nodes the first of them has, and how many configurations.
 fn counts<S: Source>(alloc: Global, source: &mut S) -> Result<(usize, usize, usize), SurveyFault> {

@@ -8,7 +8,8 @@ use std::alloc::Global;
 use std::test::Fail;
 use uimg_base::{Algo, FuseSource, MemSource, Room, Source, SourceFault};
 use uimg_fit::Fault;
-use uimg_fit_reading::{MemTake, MemTaker, Unpacked, locate, unpack};
+use uimg_fit_checking::{MemTake, MemTaker, Unpacked, unpack};
+use uimg_fit_reading::locate;
 
 // A source that answers some reads of a place rightly, and the others not.
 #[derive(Drop)]

@@ -1,10 +1,10 @@
 use Rattle.std.proofs.Common.{◌≡◌, List, ℕ, map, ap, sym, ◌∙◌, subst, IsTrue, codes, Vec, Global, arith, rules}
 use Rattle.json.specs.Tree.{json_tokens}
 use Rattle.uimg_blob.specs.declared.places.PropertyPlace.{PropertyPlace}
-use Rattle.uimg_fit_reading.specs.FullSurvey.{read_properties}
-use Rattle.uimg_fit_reading.specs.Survey.{read_image, read_configuration, read_survey}
-use Rattle.uimg_fit_reading.specs.declared.surveying.facts.ImageFacts.{ImageFacts}
-use Rattle.uimg_fit_reading.specs.declared.surveying.facts.ConfigurationFacts.{ConfigurationFacts}
+use Rattle.uimg_fit_checking.specs.FullSurvey.{read_properties}
+use Rattle.uimg_fit_checking.specs.Survey.{read_image, read_configuration, read_survey}
+use Rattle.uimg_fit_checking.specs.declared.surveying.facts.ImageFacts.{ImageFacts}
+use Rattle.uimg_fit_checking.specs.declared.surveying.facts.ConfigurationFacts.{ConfigurationFacts}
 use Rattle.uimg_info.specs.Reservations.{reservations_of}
 use Rattle.uimg_info.specs.Fit.{root_members, head_members, fit_members, image_json, configurations_json}
 use Rattle.uimg_printing.specs.Members.{array_of}

@@ -2,7 +2,7 @@ use Rattle.std.proofs.Common.{◌≡◌, ◌≤◌, ◌+◌, ◌++◌, take, dro
 use Rattle.json.specs.Tree.{json_tokens, items_tokens}
 use Rattle.uimg_base.specs.Device.{SameDevice}
 use Rattle.std.specs.List.{sum_by}
-use Rattle.uimg_fit_reading.specs.Survey.{read_hash}
+use Rattle.uimg_fit_checking.specs.Survey.{read_hash}
 use Rattle.uimg_info.specs.Fit.{hash_json}
 use Rattle.uimg_printing.specs.Members.{items_of, array_of}
 use Rattle.uimg_info.specs.Work.{hash_size}

@@ -2,8 +2,9 @@ use Rattle.std.proofs.Common.{◌≡◌, ◌+◌, List, ℕ, map, ap, sym, ◌�
 use Rattle.json.specs.Tree.{json_tokens}
 use Rattle.uimg_base.specs.declared.spans.Span.{Span}
 use Rattle.uimg_fit_base.specs.declared.fault.FitFault.{FitFault}
-use Rattle.uimg_fit_reading.specs.Survey.{read_hash, read_payload, read_image, place_said}
-use Rattle.uimg_fit_reading.specs.declared.surveying.facts.HashFacts.{HashFacts}
+use Rattle.uimg_fit_checking.specs.Survey.{read_hash, read_image}
+use Rattle.uimg_fit_reading.specs.PayloadPlaces.{read_payload, place_said}
+use Rattle.uimg_fit_checking.specs.declared.surveying.facts.HashFacts.{HashFacts}
 use Rattle.uimg_info.specs.Fit.{image_facts, image_members, hash_json, place_members}
 use Rattle.uimg_printing.specs.Members.{array_of, tokens_of}
 use Rattle.uimg_info.specs.Members.{facts_members}

@@ -1,5 +1,5 @@
 use Rattle.std.proofs.Common.{List, ℕ, ap, sym, ◌∙◌, subst, IsTrue}
-use Rattle.uimg_fit_reading.specs.Survey.{read_survey}
+use Rattle.uimg_fit_checking.specs.Survey.{read_survey}
 use Rattle.uimg_printing.specs.Members.{tokens_of}
 use Rattle.uimg_printing.proofs.StepLaws.{after, appended_as, tokens_append}
 use Rattle.uimg_info.specs.Members.{facts_members}

@@ -4,8 +4,8 @@ use Rattle.json.specs.Lex.{tokens}
 use Rattle.json.specs.Print.{print}
 use Rattle.json.specs.Tree.{json_tokens}
 use Rattle.uimg_printing.specs.Objects.{is_one_line}
-use Rattle.uimg_fit_reading.specs.FullSurvey.{read_properties}
-use Rattle.uimg_fit_reading.specs.Survey.{read_survey}
+use Rattle.uimg_fit_checking.specs.FullSurvey.{read_properties}
+use Rattle.uimg_fit_checking.specs.Survey.{read_survey}
 use Rattle.uimg_info.specs.Reservations.{reservations_of}
 use Rattle.uimg_info.specs.Fit.{fit_json}
 use Rattle.uimg_info.proofs.ObjectLaws.{fit_sound}

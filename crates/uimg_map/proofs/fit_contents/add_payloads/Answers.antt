@@ -1,5 +1,5 @@
 use Rattle.std.proofs.Common.{rules, ◌≤◌, List, ℕ, length, IsTrue, sym, subst, arith}
-use Rattle.uimg_fit_reading.specs.Survey.{read_image}
+use Rattle.uimg_fit_checking.specs.Survey.{read_image}
 use Rattle.uimg_map.specs.Contents.{Grows}
 use Rattle.uimg_map.specs.FitContents.{image_told}
 use Rattle.uimg_map.proofs.FitLaws.{image_then, images_end}

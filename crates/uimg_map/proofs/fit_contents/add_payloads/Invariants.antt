@@ -1,6 +1,6 @@
 use Rattle.std.proofs.Common.{◌≡◌, ◌≤◌, ◌+◌, ◌*◌, length, map, drop, IsTrue}
 use Rattle.uimg_base.specs.Device.{SameDevice}
-use Rattle.uimg_fit_reading.specs.Survey.{read_image}
+use Rattle.uimg_fit_checking.specs.Survey.{read_image}
 use Rattle.uimg_map.specs.declared.contents.Contents.{Contents}
 use Rattle.uimg_map.specs.Contents.{Grows}
 use Rattle.uimg_map.specs.FitContents.{images_told}

@@ -2,9 +2,9 @@ use Rattle.std.proofs.Common.{◌≡◌, [], false, Result, Err, ◌∙◌, sym,
 use Rattle.uimg_blob.specs.Faults.{refuses_memory}
 use Rattle.uimg_fit_base.specs.declared.fault.Fault.{Fault}
 use Rattle.uimg_fit_base.specs.declared.fault.Fault.TheVariants.{Blob, Fit}
-use Rattle.uimg_fit_reading.specs.declared.surveying.fault.SurveyFault.TheVariants.{Stopped}
-use Rattle.uimg_fit_reading.specs.Survey.{Said, survey_of}
-use Rattle.uimg_fit_reading.specs.SurveyParts.{Surveys}
+use Rattle.uimg_fit_checking.specs.declared.surveying.fault.SurveyFault.TheVariants.{Stopped}
+use Rattle.uimg_fit_checking.specs.Survey.{Said, survey_of}
+use Rattle.uimg_fit_checking.specs.SurveyParts.{Surveys}
 use Rattle.uimg_map.specs.Contents.{Grows}
 use Rattle.uimg_map.specs.FitContents.{survey_told}
 use Rattle.uimg_map.proofs.fit_contents.add_refused.Goals as goal

@@ -1,5 +1,5 @@
 use Rattle.std.proofs.lemmas.Result.{err_from_is_err_and}
-use Rattle.uimg_fit_reading.specs.declared.surveying.fault.SurveyFault.TheVariants.{Stopped}
+use Rattle.uimg_fit_checking.specs.declared.surveying.fault.SurveyFault.TheVariants.{Stopped}
 use Rattle.uimg_map.proofs.FitLaws.{refused_by}
 use Rattle.uimg_map.proofs.fit_contents.add_surveyed.Goals as goal
 

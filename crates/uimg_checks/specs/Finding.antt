@@ -1,0 +1,101 @@
+-- What a check finds of an image.
+use Rattle.std.specs.Prelude.{◌≡◌, ⊤, ℕ, ◌+◌, List, length, Bool, true, false, Option, Some, None, Result, Ok, Err, IsTrue, IfOk}
+use Rattle.uimg_sums.specs.declared.algo.Algo.{Algo}
+use Rattle.uimg_sums.specs.declared.algo.Algo.TheVariants as algo
+use Rattle.uimg_base.specs.Device.{Device}
+use Rattle.uimg_base.specs.Held.{Held}
+use Rattle.uimg_base.specs.Lent.{Lent}
+use Rattle.uimg_base.specs.Outcome.{End, done, not_right, refused}
+use Rattle.uimg_base.specs.Using.{UsesAtMost}
+use Rattle.uimg_fit_base.specs.declared.fault.Fault.{Fault as FitEngineFault}
+use Rattle.uimg_fit_checking.specs.Checks as fit
+use Rattle.uimg_legacy.specs.declared.fault.LegacyFault.{LegacyFault}
+use Rattle.uimg_legacy.specs.Report as legacy_report
+use Rattle.uimg_legacy.specs.Work as legacy
+use Rattle.uimg_requests.specs.declared.command.Format.TheVariants as format
+use Rattle.uimg_engine.specs.declared.fault.Fault.{Fault}
+use Rattle.uimg_engine.specs.declared.fault.Fault.TheVariants.{Legacy}
+use Rattle.uimg_checks.specs.declared.finding.Checked.{Checked}
+use Rattle.uimg_checks.specs.declared.finding.Checked.TheVariants as checked
+use Rattle.uimg_engine.specs.Faults.{of_fit, is_read, is_put, is_no_memory, is_of_making}
+use Rattle.uimg_engine.specs.Headline.{is_fit, Takes}
+
+-- the most bytes that the engine of a format asks for
+abbrev pub work_in : Bool → List ℕ → ℕ
+work_in true file = fit.check_work file
+work_in false file = legacy.verify_work file
+
+-- the most bytes that a check asks for: the four that tell the format, the metadata, and no more bytes of payloads than the file has
+abbrev pub check_work : List ℕ → ℕ
+check_work file = 4 + work_in (is_fit format.Guess file) file
+
+-- each place that is told ends in a file of so many bytes
+abbrev pub EndsInside : ℕ → Checked → Type 0
+EndsInside size (checked.Fit finding) = fit.EndsInside size finding
+EndsInside size _ = ⊤
+
+-- the checksums of a legacy image are CRC-32
+abbrev pub stands_by_crc32 : Option Algo → Bool
+stands_by_crc32 None = true
+stands_by_crc32 (Some algo.Crc32) = true
+stands_by_crc32 (Some _) = false
+
+-- What is found of an image, that of a FIT image by the names that stand in it.
+pub data Found : Type 0 where
+  in_fit : fit.Told → Found
+  right : Found
+  damaged : Found
+  weak : Found
+
+abbrev pub found_at : List ℕ → Checked → Found
+found_at file (checked.Fit finding) = in_fit (fit.told_of file finding)
+found_at file checked.Right = right
+found_at file checked.Damaged = damaged
+found_at file checked.Weak = weak
+
+-- what is found of a legacy image whose checksums are right
+abbrev pub if_strong : Bool → Found
+if_strong true = right
+if_strong false = weak
+
+-- what is found of a legacy image by how its report ends, or the fault that refuses it
+abbrev pub found_by : Option Algo → End LegacyFault → Result Found Fault
+found_by need done = Ok (if_strong (stands_by_crc32 need))
+found_by need not_right = Ok damaged
+found_by need (refused fault) = Err (Legacy fault)
+
+-- what is found of a FIT image, or the fault that refuses it
+abbrev pub found_in_fit : Result fit.Told FitEngineFault → Result Found Fault
+found_in_fit (Ok told) = Ok (in_fit told)
+found_in_fit (Err fault) = Err (of_fit fault)
+
+-- what a check finds of a file that is read as a FIT image, or as a legacy image
+abbrev pub check_of : Bool → Option Algo → List ℕ → Result Found Fault
+check_of true need file = found_in_fit (fit.check_of need file)
+check_of false need file = found_by need (legacy_report.verify_of file).end
+
+-- an answer, with the names that stand at its places
+abbrev pub told_at : List ℕ → Result Checked Fault → Result Found Fault
+told_at file (Ok finding) = Ok (found_at file finding)
+told_at file (Err fault) = Err fault
+
+-- An answer is what the definition finds, unless a read failed or memory was refused.
+abbrev pub TellsCheckIn : Bool → Option Algo → List ℕ → Result Checked Fault → Type 0
+TellsCheckIn fit need file result = is_read result ≡ false → is_no_memory result ≡ false → check_of fit need file ≡ told_at file result
+
+-- .. of a file that is read as its first bytes tell
+abbrev pub TellsCheck : Option Algo → List ℕ → Result Checked Fault → Type 0
+TellsCheck need file result = TellsCheckIn (is_fit format.Guess file) need file result
+
+-- What the check of an image of a format did at any exit.
+pub record ChecksInBetween (fit : Bool) (need : Option Algo) (result : Result Checked Fault) (d e : Device) (old new : Held) : Type 0 where
+  pub uses : UsesAtMost (work_in fit d.bytes) (is_read result) d e
+  pub room : Takes fit d (is_no_memory result) old new
+  pub no_put : is_put result ≡ false
+  pub not_making : is_of_making result ≡ false
+  pub inside : IfOk result (EndsInside (length d.bytes))
+  pub told : IsTrue d.honest → TellsCheckIn fit need d.bytes result
+
+abbrev pub ChecksIn : {S : Type 0} → Bool → Option Algo → Result Checked Fault → (S → Device) → Lent S → Lent Held → Type 0
+ChecksIn fit need result device source room = ChecksInBetween fit need result
+    (device source.entry.now) (device source.exit.now) room.entry.now room.exit.now

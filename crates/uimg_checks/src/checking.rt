@@ -1,0 +1,77 @@
+//! Whether an image in memory is whole, and vouched for by checksums of a certain strength.
+
+ghost use Rattle.std.specs.Prelude.{◌≡◌, false, Some, Ok};
+ghost use Rattle.uimg_requests.specs.declared.command.Format.TheVariants as format;
+ghost use Rattle.uimg_checks.specs.Checking.{check_of, vouched, end_by, is_crc32};
+ghost use Rattle.uimg_engine.specs.Faults.{is_put, is_no_memory, end_of};
+ghost use Rattle.uimg_engine.specs.Headline.{is_fit, InMemory};
+
+use std::alloc::Allocator;
+use uimg_base::{Algo, MemSource, Room, Status};
+use uimg_engine::{Fault, is_fit, run_in_memory};
+use uimg_requests::{Action, Command, Format};
+
+// Whether checksums by CRC-32 are strong enough.
+fn is_crc32(need: Algo) -> bool
+    ensures { result ≡ is_crc32 need }
+{
+    match need {
+        Algo::Crc32 => true,
+        _ => false,
+    }
+}
+
+// The status by what is said of the hash nodes.
+fn status_of(is_vouched: bool) -> Status
+    ensures { end_of (Ok result) ≡ Some (end_by (Ok is_vouched)) }
+{
+    if is_vouched {
+        Status::Done
+    } else {
+        Status::NotRight
+    }
+}
+
+// How a check ends by the hash nodes of a FIT image, or by what a legacy image has.
+fn vouch<A: Allocator>(need: Algo, image: &[u8], room: &mut Room<A>) -> Result<Status, Fault>
+    ensures end { is_no_memory result ≡ false → end_of result
+        ≡ Some (end_by (vouched (is_fit format.Guess image.now) need image.now)) }
+    ensures no_put { is_put result ≡ false }
+    ensures memory { InMemory format.Guess image.now result room }
+{
+    if is_fit(Format::Guess, &mut MemSource::new(image))? {
+        let is_vouched = uimg_fit_checking::is_vouched(need, image, room)?;
+        return Ok(status_of(is_vouched));
+    }
+    Ok(status_of(is_crc32(need)))
+}
+
+/// Whether an image in memory is whole and vouched for: its verification ends well, and each image of a
+/// FIT, of which there is one at least, has a hash node that is compared by an algorithm at least as
+/// strong as one, in the order CRC-32, MD5, SHA-1, SHA-256, SHA-384, SHA-512. A legacy image has CRC-32
+/// alone. `NotRight` where it is not, and the faults are those of a verification.
+///
+/// `Fault::Put` comes only where the memory for the report was refused, and `OutOfMemory` of the blob
+/// only where that for the table of a FIT image's nodes was. `Fault::Read` never comes, nor do the faults
+/// that only `make` answers. The room takes at most 128 bytes for each node of a FIT image.
+pub fn check_in_memory<A: Allocator, B: Allocator>(
+    alloc: B,
+    need: Algo,
+    image: &[u8],
+    room: &mut Room<A>,
+) -> Result<Status, Fault>
+    ensures end { is_put result ≡ false → is_no_memory result ≡ false →
+        end_of result ≡ Some (check_of need image.now) }
+    ensures memory { InMemory format.Guess image.now result room }
+{
+    let command = Command {
+        action: Action::Verify,
+        format: Format::Guess,
+    };
+    let (end, _report) = run_in_memory(alloc, &command, image, room);
+    match end {
+        Ok(Status::Done) => vouch(need, image, room),
+        Ok(Status::NotRight) => Ok(Status::NotRight),
+        Err(fault) => Err(fault),
+    }
+}

@@ -1,0 +1,197 @@
+//! The first name that is given and not there.
+
+ghost use Rattle.std.specs.Prelude.{◌≡◌, ◌+◌, ℕ, List, length, drop};
+ghost use Rattle.std.specs.List.{All, find, sum_by};
+ghost use Rattle.std.specs.Option.{option_map};
+ghost use Rattle.uimg_base.specs.Using.{Asks};
+ghost use Rattle.uimg_fit_reading.specs.Heads.{span_size};
+ghost use Rattle.uimg_fit_checking.specs.SurveyParts.{IsOwn, ConfigurationInside, SurveyInside, is_unread};
+ghost use Rattle.uimg_fit_reading.specs.PayloadPlaces.{Ends};
+ghost use Rattle.uimg_fit_reading.specs.Values.{pieces};
+ghost use Rattle.uimg_checks.specs.Given.{given_facts, GivenInside};
+ghost use Rattle.uimg_checks.specs.ReferenceNames.{HasNames, is_lost};
+ghost use Rattle.uimg_checks.specs.ReferenceWork.{given_size, values_size, missing_work};
+ghost use Rattle.uimg_checks.specs.References.{Finds, TellsFirst, under_property, among_properties, of_configuration, of_configurations};
+
+use crate::references::names::{configuration_names, image_names};
+use crate::references::reference::Reference;
+use std::alloc::Global;
+use std::collections::BTreeSet;
+use uimg_base::{Source, Span, before_nul};
+use uimg_fit_checking::{ConfigurationFacts, Survey, SurveyFault, read_bytes};
+
+/// A name that is given, and that no image, or no configuration, has.
+#[derive(Drop)]
+pub struct Missing {
+    /// Where the name of the configuration stands that gives it. There is none of the default, which the
+    /// node `configurations` gives.
+    pub configuration: Option<Span>,
+
+    /// The property that gives it.
+    pub reference: Reference,
+
+    /// The name.
+    pub name: Vec<u8>,
+}
+
+// The bytes behind a text and the NUL that ends it.
+fn behind(bytes: &[u8], text: usize) -> &[u8]
+    ensures { result.now ≡ drop (text + 1) bytes.now }
+{
+    if text < bytes.len() {
+        &bytes[text + 1..]
+    } else {
+        &[]
+    }
+}
+
+// The first text of a value that is none of some names.
+fn lost_in<'a>(names: &BTreeSet<Vec<u8>>, value: &'a [u8]) -> Option<&'a [u8]>
+    ensures { (list : List (List ℕ)) → HasNames names.now list →
+        option_map (λ text. text.now) result ≡ find (is_lost list) (pieces value.now) }
+{
+    let mut rest = value;
+    while !rest.is_empty() {
+        let text = before_nul(rest);
+        if !names.contains(text) {
+            return Some(text);
+        }
+        rest = behind(rest, text.len());
+    }
+    None
+}
+
+// The first text of a property's value that is none of some names, if there is one.
+fn missing_under<S: Source>(
+    alloc: Global,
+    source: &mut S,
+    names: &BTreeSet<Vec<u8>>,
+    configuration: Option<Span>,
+    reference: Reference,
+    value: Option<Span>,
+) -> Result<Option<Missing>, SurveyFault>
+    requires { Ends (length (S.device source.old).bytes) value }
+    ensures { Finds (span_size value) (under_property configuration reference value)
+        names.now result S.device source }
+{
+    let Some(span) = value else {
+        return Ok(None);
+    };
+    let bytes = read_bytes(alloc, source, span)?;
+    match lost_in(names, bytes.as_slice()) {
+        Some(name) => Ok(Some(Missing {
+            configuration,
+            reference,
+            name: Vec::from_slice(alloc, name)?,
+        })),
+        None => Ok(None),
+    }
+}
+
+// The properties of a configuration whose values name images, in the order in which they are looked at.
+fn given_by(configuration: &ConfigurationFacts) -> [(Reference, Option<Span>); 9]
+    ensures { result ≡ given_facts configuration.now }
+{
+    [
+        (Reference::Kernel, configuration.kernel),
+        (Reference::Ramdisk, configuration.ramdisk),
+        (Reference::Fdt, configuration.fdt),
+        (Reference::Loadables, configuration.loadables),
+        (Reference::Firmware, configuration.firmware),
+        (Reference::Fpga, configuration.fpga),
+        (Reference::Setup, configuration.setup),
+        (Reference::Standalone, configuration.standalone),
+        (Reference::Script, configuration.script),
+    ]
+}
+
+// The first text of the values of some properties that is none of some names, if there is one.
+fn missing_among<S: Source>(
+    alloc: Global,
+    source: &mut S,
+    names: &BTreeSet<Vec<u8>>,
+    configuration: Option<Span>,
+    properties: &[(Reference, Option<Span>)],
+) -> Result<Option<Missing>, SurveyFault>
+    requires { All (GivenInside (length (S.device source.old).bytes)) properties.now }
+    ensures { Finds (sum_by given_size properties.now)
+        (among_properties configuration properties.now) names.now result S.device source }
+{
+    for (reference, value) in properties {
+        let found = missing_under(alloc, source, names, configuration, *reference, *value)?;
+        if found.is_some() {
+            return Ok(found);
+        }
+    }
+    Ok(None)
+}
+
+// The first name that a configuration gives and no image has.
+fn missing_of<S: Source>(
+    alloc: Global,
+    source: &mut S,
+    images: &BTreeSet<Vec<u8>>,
+    configuration: &ConfigurationFacts,
+) -> Result<Option<Missing>, SurveyFault>
+    requires { ConfigurationInside (length (S.device source.old).bytes) configuration.now }
+    ensures { Finds (values_size configuration.now) (of_configuration configuration.now)
+        images.now result S.device source }
+{
+    let given = given_by(configuration);
+    missing_among(alloc, source, images, Some(configuration.name), &given)
+}
+
+// The first name that some configurations give and no image has.
+fn first_missing<S: Source>(
+    alloc: Global,
+    source: &mut S,
+    images: &BTreeSet<Vec<u8>>,
+    configurations: &[ConfigurationFacts],
+) -> Result<Option<Missing>, SurveyFault>
+    requires { All (ConfigurationInside (length (S.device source.old).bytes)) configurations.now }
+    ensures { Finds (sum_by values_size configurations.now) (of_configurations configurations.now)
+        images.now result S.device source }
+{
+    for configuration in configurations {
+        let found = missing_of(alloc, source, images, configuration)?;
+        if found.is_some() {
+            return Ok(found);
+        }
+    }
+    Ok(None)
+}
+
+/// The first name that a FIT image gives and does not have: its default where no configuration has this
+/// name, or else a name under `kernel`, `ramdisk`, `fdt`, `loadables`, `firmware`, `fpga`, `setup`,
+/// `standalone` or `script` of a configuration, in this order, that no image has. The configurations come
+/// in their order, and of a value each of its texts is a name.
+///
+/// Each name, and each value up to the one that is told, is read once. The names and one value at a time
+/// are held in memory, `OutOfMemory` where it was refused. `Stopped` has a failed read, and no other fault.
+pub fn find_missing<S: Source>(
+    alloc: Global,
+    source: &mut S,
+    survey: &Survey,
+) -> Result<Option<Missing>, SurveyFault>
+    requires { SurveyInside (length (S.device source.old).bytes) survey.now }
+    ensures uses { Asks (missing_work survey.now) (is_unread result)
+        (S.device source.old) (S.device source.new) }
+    ensures own { IsOwn result }
+    ensures told { TellsFirst survey.now result S.device source }
+{
+    let configurations = survey.configurations.as_slice();
+    let names = configuration_names(alloc, source, configurations)?;
+    let preferred = missing_under(
+        alloc,
+        source,
+        &names,
+        None,
+        Reference::Default,
+        survey.preferred,
+    )?;
+    if preferred.is_some() {
+        return Ok(preferred);
+    }
+    let images = image_names(alloc, source, survey.images.as_slice())?;
+    first_missing(alloc, source, &images, configurations)
+}

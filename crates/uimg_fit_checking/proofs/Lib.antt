@@ -1,0 +1,12 @@
+pub mod FullSurveyLaws
+pub mod NamedLaws
+pub mod CountingLaws
+pub mod VouchingLaws
+pub mod CheckLaws
+pub mod CheckCountLaws
+pub mod CopyLaws
+pub mod UnpackLaws
+pub mod ClaimLaws
+pub mod TakeLaws
+pub mod UnpackedLaws
+pub mod SurveyLaws

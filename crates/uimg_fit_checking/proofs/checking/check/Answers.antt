@@ -1,0 +1,132 @@
+use Rattle.std.proofs.Common.{rules, ◌≡◌, ◌∙◌, ◌&&◌, ℕ, List, Option, Some, None, is_none, true, false, refl, subst, sym, ap, arith}
+use Rattle.std.specs.Prelude.{Result, Ok, Err}
+use Rattle.std.specs.Option.{is_some, option_map}
+use Rattle.uimg_base.specs.Held.{Held}
+use Rattle.uimg_fit_base.specs.declared.fault.Fault.{Fault}
+use Rattle.uimg_fit_base.specs.Faults.{Gives}
+use Rattle.uimg_fit_checking.specs.declared.checking.Finding.{Finding}
+use Rattle.uimg_fit_checking.specs.Checks.{Told, told_of, check_of}
+use Rattle.uimg_fit_checking.specs.CheckParts.{ChecksImagesBetween}
+use Rattle.uimg_fit_reading.specs.Nodes.{IsRead, Opened}
+use Rattle.uimg_fit_reading.proofs.OpenedLaws.{still}
+use Rattle.uimg_fit_checking.proofs.CheckLaws.{check_within, check_lacks, check_has, check_cut, check_ends}
+use Rattle.uimg_fit_checking.proofs.checking.check.Goals as goal
+
+pub returns-then-is_some-is_none-clause-told : goal.returns-then-is_some-is_none-clause-told
+returns-then-is_some-is_none-clause-told g c = λ honest.
+    let d = g.S.Source.device in
+    let file = (d c.args.source.now).bytes in
+    let h = c.in_ok-blob.ensures.gives honest in
+    let found = c.in_ok-first.ensures.told h.nodes h.read.indexed in
+    let lacks : (is_some c.args.need && is_none c.in_ok-first.first) ≡ true = search rules in
+    check_lacks file h.nodes c.args.need found.found c.in_ok-first.first h.read.is found.is found.from lacks
+
+pub returns-in_err-finding-clause-inspects : goal.returns-in_err-finding-clause-inspects
+returns-in_err-finding-clause-inspects g c = record {
+  uses = record {
+    same = search rules;
+    asked = λ honest.
+        let d = g.S.Source.device in
+        let file = (d c.args.source.now).bytes in
+        let h = c.in_ok-blob.ensures.gives honest in
+        let found = c.in_ok-first.ensures.told h.nodes h.read.indexed in
+        let same = c.read_tree.ensures.inspects.uses.same in
+        let opened : Opened (d c.args.source.now) c.in_ok-blob.blob c.read_tree.new.room h.nodes = record { honest = honest; read = h.read } in
+        let told = subst (λ (xs : List ℕ). ChecksImagesBetween xs c.args.need found.found (d c.read_tree.new.source).asked (d c.first_finding.new.source).asked (Err c.in_err-finding.field-0.0)) same.bytes
+        (c.in_err-finding.ensures.told h.nodes (still same refl opened) found.found found.from) in
+        omega (arith, c.read_tree.ensures.inspects.uses.asked honest, told.paid, check_within file h.nodes found.found h.read.is found.is);
+    failures = search rules;
+  };
+  room = search rules;
+  no_put = search rules;
+  no_making = search rules;
+}
+
+pub returns-in_err-finding-clause-told : goal.returns-in_err-finding-clause-told
+returns-in_err-finding-clause-told g c = λ honest.
+    let d = g.S.Source.device in
+    let file = (d c.args.source.now).bytes in
+    let h = c.in_ok-blob.ensures.gives honest in
+    let found = c.in_ok-first.ensures.told h.nodes h.read.indexed in
+    let same = c.read_tree.ensures.inspects.uses.same in
+    let opened : Opened (d c.args.source.now) c.in_ok-blob.blob c.read_tree.new.room h.nodes = record { honest = honest; read = h.read } in
+    let told = subst (λ (xs : List ℕ). ChecksImagesBetween xs c.args.need found.found (d c.read_tree.new.source).asked (d c.first_finding.new.source).asked (Err c.in_err-finding.field-0.0)) same.bytes
+    (c.in_err-finding.ensures.told h.nodes (still same refl opened) found.found found.from) in
+    let some : (is_some c.args.need && is_none c.in_ok-first.first) ≡ false = search rules in
+    let has = check_has file h.nodes c.args.need found.found c.in_ok-first.first h.read.is found.is found.from some in
+    let is : c.from_residual-in_err-finding.result ≡ Err c.in_err-finding.field-0.0 = search rules in
+    subst (λ (r : Result Finding Fault). Gives (told_of file) r (check_of c.args.need file)) (sym is)
+    (check_cut file c.args.need found.found c.in_err-finding.field-0.0 has told.told)
+
+pub returns-in-Some-clause-inspects : goal.returns-in-Some-clause-inspects
+returns-in-Some-clause-inspects g c = record {
+  uses = record {
+    same = search rules;
+    asked = λ honest.
+        let d = g.S.Source.device in
+        let file = (d c.args.source.now).bytes in
+        let h = c.in_ok-blob.ensures.gives honest in
+        let found = c.in_ok-first.ensures.told h.nodes h.read.indexed in
+        let same = c.read_tree.ensures.inspects.uses.same in
+        let opened : Opened (d c.args.source.now) c.in_ok-blob.blob c.read_tree.new.room h.nodes = record { honest = honest; read = h.read } in
+        let told = subst (λ (xs : List ℕ). ChecksImagesBetween xs c.args.need found.found (d c.read_tree.new.source).asked (d c.first_finding.new.source).asked (Ok c.in_ok-finding.field-0)) same.bytes
+        (c.in_ok-finding.ensures.told h.nodes (still same refl opened) found.found found.from) in
+        omega (arith, c.read_tree.ensures.inspects.uses.asked honest, told.paid, check_within file h.nodes found.found h.read.is found.is);
+    failures = search rules;
+  };
+  room = search rules;
+  no_put = search rules;
+  no_making = search rules;
+}
+
+pub returns-in-Some-clause-told : goal.returns-in-Some-clause-told
+returns-in-Some-clause-told g c = λ honest.
+    let d = g.S.Source.device in
+    let file = (d c.args.source.now).bytes in
+    let h = c.in_ok-blob.ensures.gives honest in
+    let found = c.in_ok-first.ensures.told h.nodes h.read.indexed in
+    let same = c.read_tree.ensures.inspects.uses.same in
+    let opened : Opened (d c.args.source.now) c.in_ok-blob.blob c.read_tree.new.room h.nodes = record { honest = honest; read = h.read } in
+    let told = subst (λ (xs : List ℕ). ChecksImagesBetween xs c.args.need found.found (d c.read_tree.new.source).asked (d c.first_finding.new.source).asked (Ok c.in_ok-finding.field-0)) same.bytes
+    (c.in_ok-finding.ensures.told h.nodes (still same refl opened) found.found found.from) in
+    let some : (is_some c.args.need && is_none c.in_ok-first.first) ≡ false = search rules in
+    let has = check_has file h.nodes c.args.need found.found c.in_ok-first.first h.read.is found.is found.from some in
+    check_ends file c.args.need found.found (Some (told_of file c.in-Some.finding)) has
+    (told.told ∙ ap (λ (o : Option Finding). Ok (option_map (told_of file) o)) c.in-Some.is)
+
+pub returns-clause-inspects : goal.returns-clause-inspects
+returns-clause-inspects g c = record {
+  uses = record {
+    same = search rules;
+    asked = λ honest.
+        let d = g.S.Source.device in
+        let file = (d c.args.source.now).bytes in
+        let h = c.in_ok-blob.ensures.gives honest in
+        let found = c.in_ok-first.ensures.told h.nodes h.read.indexed in
+        let same = c.read_tree.ensures.inspects.uses.same in
+        let opened : Opened (d c.args.source.now) c.in_ok-blob.blob c.read_tree.new.room h.nodes = record { honest = honest; read = h.read } in
+        let told = subst (λ (xs : List ℕ). ChecksImagesBetween xs c.args.need found.found (d c.read_tree.new.source).asked (d c.first_finding.new.source).asked (Ok c.in_ok-finding.field-0)) same.bytes
+        (c.in_ok-finding.ensures.told h.nodes (still same refl opened) found.found found.from) in
+        omega (arith, c.read_tree.ensures.inspects.uses.asked honest, told.paid, check_within file h.nodes found.found h.read.is found.is);
+    failures = search rules;
+  };
+  room = search rules;
+  no_put = search rules;
+  no_making = search rules;
+}
+
+pub returns-clause-told : goal.returns-clause-told
+returns-clause-told g c = λ honest.
+    let d = g.S.Source.device in
+    let file = (d c.args.source.now).bytes in
+    let h = c.in_ok-blob.ensures.gives honest in
+    let found = c.in_ok-first.ensures.told h.nodes h.read.indexed in
+    let same = c.read_tree.ensures.inspects.uses.same in
+    let opened : Opened (d c.args.source.now) c.in_ok-blob.blob c.read_tree.new.room h.nodes = record { honest = honest; read = h.read } in
+    let told = subst (λ (xs : List ℕ). ChecksImagesBetween xs c.args.need found.found (d c.read_tree.new.source).asked (d c.first_finding.new.source).asked (Ok c.in_ok-finding.field-0)) same.bytes
+    (c.in_ok-finding.ensures.told h.nodes (still same refl opened) found.found found.from) in
+    let some : (is_some c.args.need && is_none c.in_ok-first.first) ≡ false = search rules in
+    let has = check_has file h.nodes c.args.need found.found c.in_ok-first.first h.read.is found.is found.from some in
+    let read = subst (λ (r : Held). IsRead file c.in_ok-blob.blob r.entries h.nodes) (sym c.first_finding.ensures.leaves.room) h.read in
+    check_ends file c.args.need found.found None has (told.told ∙ ap (λ (o : Option Finding). Ok (option_map (told_of file) o)) c.in_default.is)
+    ∙ ap (λ (x : Told). Ok x) (sym (c.all_right.ensures.told file h.nodes read found.found found.from))

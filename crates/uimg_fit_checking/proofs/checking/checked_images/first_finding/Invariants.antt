@@ -1,0 +1,27 @@
+use Rattle.std.proofs.Common.{◌≡◌, ◌-◌, ◌<◌, List, length, IfSome}
+use Rattle.std.specs.Option.{option_map_or}
+use Rattle.uimg_base.specs.Device.{SameDevice}
+use Rattle.uimg_blob.specs.Grammar.{Siblings}
+use Rattle.uimg_blob.specs.LookUps.{NodeOf}
+use Rattle.uimg_blob.specs.Roles.{in_images}
+use Rattle.uimg_blob.specs.Spots.{Spot}
+use Rattle.uimg_fit_reading.specs.Nodes.{Opened, AreFrom}
+use Rattle.uimg_fit_checking.proofs.CheckLaws.{LeftChecked}
+use Rattle.uimg_fit_checking.proofs.checking.checked_images.first_finding.Given as goal
+
+-- what is told of the images from the next one on, with the bytes that are left, is told of all
+abbrev pub invariant-loop-next : goal.invariant-loop-next
+invariant-loop-next g l =
+    let device = g.S.Source.device in
+    let file = (device l.fn.source).bytes in
+    record {
+      same : SameDevice (device l.fn.source) (device l.source);
+      failures : (device l.source).failures ≡ (device l.fn.source).failures;
+      room : l.room ≡ l.fn.room;
+      within : IfSome l.next (λ i. i < length l.fn.room.entries);
+      told : (t : Siblings) → Opened (device l.fn.source) l.blob l.fn.room t → (found : List (NodeOf Spot)) → AreFrom t in_images l.fn.first found
+          → LeftChecked t file l.need found (device l.fn.source).asked (device l.source).asked l.left l.next;
+    }
+
+abbrev pub decreases-loop-next : goal.decreases-loop-next
+decreases-loop-next g l = option_map_or (λ i. length l.fn.room.entries - i) l.next 0

@@ -1,0 +1,73 @@
+use Rattle.std.proofs.Common.{rules, ◌≡◌, ℕ, List, Option, Some, subst, sym}
+use Rattle.std.specs.Prelude.{Result, Ok, Err}
+use Rattle.std.specs.Option.{option_map}
+use Rattle.uimg_blob.specs.LookUps.{NodeOf}
+use Rattle.uimg_blob.specs.Roles.{in_images}
+use Rattle.uimg_blob.specs.Spots.{Spot}
+use Rattle.uimg_fit_base.specs.declared.fault.Fault.{Fault}
+use Rattle.uimg_fit_checking.specs.declared.unpacking.claims.Claim.{Claim}
+use Rattle.uimg_fit_checking.specs.declared.unpacking.node_names.NodeName.{NodeName}
+use Rattle.uimg_fit_reading.specs.Nodes.{AreFrom}
+use Rattle.uimg_fit_checking.specs.Unpacking.{bytes_of}
+use Rattle.uimg_fit_checking.specs.UnpackingParts.{ClaimsImageBetween, ClaimsImagesBetween}
+use Rattle.uimg_fit_reading.proofs.OpenedLaws.{still}
+use Rattle.uimg_fit_reading.proofs.ImageLaws.{front}
+use Rattle.uimg_fit_checking.proofs.ClaimLaws.{claims_more, claims_end, claims_cut, claims_done}
+use Rattle.uimg_fit_checking.proofs.unpacking.claims.claim_images.Goals as goal
+
+pub loop-next-preserved : goal.loop-next-preserved
+loop-next-preserved g c = record {
+  same = search rules;
+  failures = search rules;
+  room = search rules;
+  within = search rules;
+  none_given = search rules;
+  told = λ t o found from.
+      let d = g.S.Source.device in
+      let file = (d c.args.source.now).bytes in
+      let only = option_map bytes_of c.args.only in
+      let k = c.loop-next.invariant.told t o found from in
+      let same = c.loop-next.invariant.same in
+      let here = still same c.loop-next.invariant.room o in
+      let start = subst (λ (x : Option ℕ). AreFrom t in_images x k.rest) c.in-Some.is k.from in
+      let f = front t in_images c.in-Some.image k.rest start in
+      let told = subst (λ (x : Claim). ClaimsImageBetween file only c.loop-next.left f.image (d c.loop-next.source).asked (d c.claim_image.new.source).asked (Ok x)) c.in-Fits.is
+      (subst (λ (xs : List ℕ). ClaimsImageBetween xs only c.loop-next.left f.image (d c.loop-next.source).asked (d c.claim_image.new.source).asked (Ok c.in_ok-rest.field-0)) same.bytes
+      (c.in_ok-rest.ensures.told t here f.image f.node)) in
+      let indexed = (still c.claim_image.ensures.leaves.uses.same c.claim_image.ensures.leaves.room here).read.indexed in
+      claims_more t file only found _ _ c.loop-next.left c.loop-next.next k f.image f.more f.are _ c.in-Fits.rest _ told
+      (c.next_of-next.ensures.next t indexed in_images f.image f.more (subst (λ (l : List (NodeOf Spot)). AreFrom t in_images (Some c.in-Some.image) l) f.are start));
+}
+
+pub returns-in-Overlaps-clause-told : goal.returns-in-Overlaps-clause-told
+returns-in-Overlaps-clause-told g c = λ t o found from.
+    let d = g.S.Source.device in
+    let file = (d c.args.source.now).bytes in
+    let only = option_map bytes_of c.args.only in
+    let k = c.loop-next.invariant.told t o found from in
+    let same = c.loop-next.invariant.same in
+    let here = still same c.loop-next.invariant.room o in
+    let f = front t in_images c.in-Some.image k.rest (subst (λ (x : Option ℕ). AreFrom t in_images x k.rest) c.in-Some.is k.from) in
+    let told = subst (λ (x : Claim). ClaimsImageBetween file only c.loop-next.left f.image (d c.loop-next.source).asked (d c.claim_image.new.source).asked (Ok x)) c.in-Overlaps.is
+    (subst (λ (xs : List ℕ). ClaimsImageBetween xs only c.loop-next.left f.image (d c.loop-next.source).asked (d c.claim_image.new.source).asked (Ok c.in_ok-rest.field-0)) same.bytes
+    (c.in_ok-rest.ensures.told t here f.image f.node)) in
+    claims_end t file only found _ _ c.loop-next.left c.loop-next.next k f.image f.more f.are _ c.in-Overlaps.name told
+
+pub returns-in_err-rest-clause-told : goal.returns-in_err-rest-clause-told
+returns-in_err-rest-clause-told g c = λ t o found from.
+    let d = g.S.Source.device in
+    let file = (d c.args.source.now).bytes in
+    let only = option_map bytes_of c.args.only in
+    let k = c.loop-next.invariant.told t o found from in
+    let same = c.loop-next.invariant.same in
+    let fault = c.in_err-rest.field-0.0 in
+    let is : c.from_residual-in_err-rest.result ≡ Err fault = search rules in
+    let f = front t in_images c.in-Some.image k.rest (subst (λ (x : Option ℕ). AreFrom t in_images x k.rest) c.in-Some.is k.from) in
+    let cut = subst (λ (xs : List ℕ). ClaimsImageBetween xs only c.loop-next.left f.image (d c.loop-next.source).asked (d c.claim_image.new.source).asked (Err fault)) same.bytes
+    (c.in_err-rest.ensures.told t (still same c.loop-next.invariant.room o) f.image f.node) in
+    subst (λ (r : Result (Option NodeName) Fault). ClaimsImagesBetween file only found (d c.args.source.now).asked (d c.claim_image.new.source).asked r) (sym is)
+    (claims_cut t file only found _ _ c.loop-next.left c.loop-next.next k f.image f.more f.are _ fault cut)
+
+pub returns-clause-told : goal.returns-clause-told
+returns-clause-told g c = λ t o found from.
+    claims_done t _ (option_map bytes_of c.args.only) found _ _ c.loop-next.left c.loop-next.next (search rules) (c.loop-next.invariant.told t o found from)

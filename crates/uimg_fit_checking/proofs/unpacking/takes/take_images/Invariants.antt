@@ -1,0 +1,32 @@
+use Rattle.std.proofs.Common.{◌≡◌, ◌-◌, ◌<◌, List, length, IfSome, IsTrue}
+use Rattle.std.specs.Option.{option_map, option_map_or}
+use Rattle.uimg_base.specs.Device.{SameDevice}
+use Rattle.uimg_blob.specs.Grammar.{Siblings}
+use Rattle.uimg_blob.specs.LookUps.{NodeOf}
+use Rattle.uimg_blob.specs.Roles.{in_images}
+use Rattle.uimg_blob.specs.Spots.{Spot}
+use Rattle.uimg_fit_reading.specs.Nodes.{Opened, AreFrom}
+use Rattle.uimg_fit_checking.specs.Unpacking.{bytes_of}
+use Rattle.uimg_fit_checking.specs.UnpackingParts.{Fitting}
+use Rattle.uimg_fit_checking.proofs.TakeLaws.{LeftToPay, LeftToTake}
+use Rattle.uimg_fit_checking.proofs.unpacking.takes.take_images.Given as goal
+
+-- what is left to be paid for and to be taken, of payloads that do not overlap
+abbrev pub invariant-loop-next : goal.invariant-loop-next
+invariant-loop-next g l =
+    let device = g.S.Source.device in
+    let file = (device l.fn.source).bytes in
+    let only = option_map bytes_of l.only in
+    record {
+      same : SameDevice (device l.fn.source) (device l.source);
+      failures : (device l.source).failures ≡ (device l.fn.source).failures;
+      room : l.room ≡ l.fn.room;
+      within : IfSome l.next (λ i. i < length l.fn.room.entries);
+      paid : (t : Siblings) → Opened (device l.fn.source) l.blob l.fn.room t → (found : List (NodeOf Spot)) → AreFrom t in_images l.fn.first found
+          → Fitting only file found (LeftToPay t file only found (device l.fn.source).asked (device l.source).asked l.next);
+      told : IsTrue g.T.Taker.honest → (t : Siblings) → Opened (device l.fn.source) l.blob l.fn.room t → (found : List (NodeOf Spot)) → AreFrom t in_images l.fn.first found
+          → Fitting only file found (LeftToTake t file l.need only found l.all (g.T.Taker.takes l.fn.taker) (g.T.Taker.takes l.taker) l.next);
+    }
+
+abbrev pub decreases-loop-next : goal.decreases-loop-next
+decreases-loop-next g l = option_map_or (λ i. length l.fn.room.entries - i) l.next 0

@@ -1,0 +1,80 @@
+-- What a FIT image says of itself, and the names of all properties of its configurations (Devicetree Specification, section 5.4).
+use Rattle.std.specs.Prelude.{◌≡◌, ◌≤◌, ◌+◌, ◌*◌, ℕ, List, [], length, map, Option, Some, None, Result, Ok, Err, Vec, true}
+use Rattle.std.specs.List.{All, sum_by}
+use Rattle.uimg_base.specs.declared.spans.Span.{Span}
+use Rattle.uimg_base.specs.Device.{Device}
+use Rattle.uimg_blob.specs.declared.places.PropertyPlace.{PropertyPlace}
+use Rattle.uimg_blob.specs.Counts.{nops_met}
+use Rattle.uimg_blob.specs.Indexed.{value_span}
+use Rattle.uimg_blob.specs.LookUps.{NodeOf, listed, configurations}
+use Rattle.uimg_blob.specs.Places.{read_place, EndsBy}
+use Rattle.uimg_blob.specs.Plain.{NamedOf, NodesOf, with_value}
+use Rattle.uimg_blob.specs.Spots.{Spot}
+use Rattle.uimg_fit_base.specs.Files.{tree_of}
+use Rattle.uimg_fit_base.specs.declared.fault.Fault.{Fault}
+use Rattle.uimg_fit_checking.specs.SurveyParts.{SurveyInside, is_own}
+use Rattle.uimg_fit_checking.specs.declared.surveying.facts.FullSurvey.{FullSurvey}
+use Rattle.uimg_fit_checking.specs.declared.surveying.facts.Survey.{Survey}
+use Rattle.uimg_fit_checking.specs.declared.surveying.fault.SurveyFault.{SurveyFault}
+
+-- the names of a node's properties, in their order, and where their values stand
+abbrev pub properties_said : NodeOf Spot → List (NamedOf Span)
+properties_said node = map (with_value value_span) node.own
+
+-- the same of each child of the node `configurations`, if there is one
+abbrev pub properties_in : Option (NodeOf Spot) → List (List (NamedOf Span))
+properties_in (Some node) = map properties_said (listed node.below)
+properties_in None = []
+
+-- the same of a file's tree; one that has none has no configurations
+abbrev pub properties_read : Result (NodesOf Spot) Fault → List (List (NamedOf Span))
+properties_read (Ok t) = properties_in (configurations t)
+properties_read (Err fault) = []
+
+abbrev pub properties_of : List ℕ → List (List (NamedOf Span))
+properties_of file = properties_read (tree_of file)
+
+-- what places say in a file
+abbrev pub read_properties : {Z : Type 0} → List ℕ → Vec PropertyPlace Z → List (NamedOf Span)
+read_properties file places = map (read_place file) places.items
+
+-- the most bytes that are asked for to tell the properties of a node, of a blob with so many words FDT_NOP: its header and a
+-- word, a head and at most 256 bytes of a name for each, and the words of FDT_NOP
+abbrev pub list_cost : ℕ → List (NamedOf Span) → ℕ
+list_cost nops said = 44 + 268 * length said + 4 * nops
+
+-- the same of all configurations of a file
+abbrev pub properties_cost : List ℕ → ℕ
+properties_cost file = sum_by (list_cost (nops_met file)) (properties_of file)
+
+-- Names and values end within so many bytes, and no name has more than 255.
+abbrev pub PlacesInside : {Z : Type 0} → ℕ → Vec PropertyPlace Z → Type 0
+PlacesInside size places = All (EndsBy size) places.items
+
+-- Each value of a survey ends in the blob, and this in the file, and so do the properties' names and values.
+pub record FullInside (size : ℕ) (full : FullSurvey) : Type 0 where
+  pub survey : SurveyInside size full.survey
+  pub properties : All (PlacesInside full.survey.totalsize) full.properties.items
+
+-- the survey of an answer
+abbrev pub survey_in : Result FullSurvey SurveyFault → Result Survey SurveyFault
+survey_in (Ok full) = Ok full.survey
+survey_in (Err fault) = Err fault
+
+-- An answer reads as such, unless a read failed or memory was refused.
+abbrev pub ReadsAs : {X Y : Type 0} → (X → Y) → Y → Result X SurveyFault → Type 0
+ReadsAs read said (Ok x) = read x ≡ said
+ReadsAs read said (Err fault) = is_own fault ≡ true
+
+-- The same, and at most so many bytes more were asked for.
+pub record Tells {X Y : Type 0} (read : X → Y) (said : Y) (cost : ℕ) (result : Result X SurveyFault) (old new : Device) : Type 0 where
+  pub told : ReadsAs read said result
+  pub asked : new.asked ≤ old.asked + cost
+
+-- what is told of the properties of one node ..
+abbrev pub TellsProperties : {Z : Type 0} → Device → Device → NodeOf Spot → Result (Vec PropertyPlace Z) SurveyFault → Type 0
+TellsProperties d e node result = Tells (read_properties d.bytes) (properties_said node) (list_cost (nops_met d.bytes) (properties_said node)) result d e
+
+-- .. and of each of some lists of properties
+abbrev pub TellsLists : {Z W : Type 0} → Device → Device → List (List (NamedOf Span)) → Result (Vec (Vec PropertyPlace Z) W) SurveyFault → Type 0
+TellsLists d e said result = Tells (λ lists. map (read_properties d.bytes) lists.items) said (sum_by (list_cost (nops_met d.bytes)) said) result d e

@@ -1,0 +1,12 @@
+pub mod FullSurvey
+pub mod Named
+pub mod Counting
+pub mod Vouching
+pub mod Checks
+pub mod CheckParts
+pub mod Unpacking
+pub mod UnpackingParts
+pub mod Copies
+pub mod MemTakes
+pub mod Survey
+pub mod SurveyParts

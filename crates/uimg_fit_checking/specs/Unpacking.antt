@@ -1,0 +1,154 @@
+-- What becomes of the payloads of a FIT image that are taken out of it.
+use Rattle.std.specs.Prelude.{◌≡◌, ⊤, ℕ, ◌+◌, ◌-◌, List, [], ◌∷◌, ◌++◌, length, take, nat_lt, Bool, true, false, if◌then◌else◌, Option, Some, None, Result, Ok, Err, IfSome}
+use Rattle.std.specs.List.{list_all}
+use Rattle.std.specs.Option.{option_map}
+use Rattle.std.specs.Str.{bytes_eq}
+use Rattle.uimg_sums.specs.declared.algo.Algo.{Algo}
+use Rattle.uimg_sums.specs.declared.algo.Algo.TheVariants.{Crc32, Md5, Sha1, Sha256, Sha384, Sha512}
+use Rattle.uimg_sums.specs.Algorithms.{digest_by}
+use Rattle.uimg_sums.specs.AnySum.{padded_digest}
+use Rattle.uimg_base.specs.Results.{◌>>=◌}
+use Rattle.uimg_blob.specs.LookUps.{NodeOf, hashes}
+use Rattle.uimg_blob.specs.Spots.{Spot}
+use Rattle.uimg_fit_base.specs.declared.algo_sets.AlgoSet.{AlgoSet}
+use Rattle.uimg_fit_base.specs.declared.fault.Fault.{Fault}
+use Rattle.uimg_fit_base.specs.declared.fault.Fault.TheVariants as of
+use Rattle.uimg_fit_base.specs.declared.fault.FitFault.{FitFault}
+use Rattle.uimg_fit_base.specs.AlgoSets.{has, no_algos}
+use Rattle.uimg_fit_base.specs.Files.{images_of}
+use Rattle.uimg_fit_base.specs.Places.{payload}
+use Rattle.uimg_fit_checking.specs.declared.unpacking.node_names.NodeName.{NodeName}
+use Rattle.uimg_fit_checking.specs.declared.unpacking.taker.Vouched.{Vouched}
+use Rattle.uimg_fit_checking.specs.declared.unpacking.taker.Refusal.{Refusal}
+use Rattle.uimg_fit_checking.specs.declared.unpacking.taker.Refusal.TheVariants.{Wrong, Weak}
+use Rattle.uimg_fit_checking.specs.declared.unpacking.Unpacked.{Unpacked}
+use Rattle.uimg_fit_checking.specs.declared.unpacking.Unpacked.TheVariants.{Taken, Overlapping}
+use Rattle.uimg_blob.specs.Faults.{refuses_memory}
+use Rattle.uimg_fit_reading.specs.Work.{own_meta}
+use Rattle.uimg_fit_checking.specs.Checks.{Told, wrong, weak, wrong_in, or_weak}
+use Rattle.uimg_fit_reading.specs.Plans.{with_all}
+
+-- the bytes of a name
+abbrev pub bytes_of : NodeName → List ℕ
+bytes_of name = take name.length name.bytes
+
+-- What becomes of the payload of an image of a name: it is kept, with what vouches for it, or refused.
+pub data Take : Type 0 where
+  kept : List ℕ → List ℕ → Option Vouched → Take
+  refused : List ℕ → Told → Take
+
+-- why an image of a name is refused
+abbrev pub told_of : List ℕ → Refusal → Told
+told_of name (Wrong hash word) = wrong name (bytes_of hash) word
+told_of name Weak = weak name
+
+-- One more was given, unless a device failed.
+abbrev pub AddsIf : {E : Type 0} → Result ⊤ E → List Take → List Take → Take → Type 0
+AddsIf (Ok done) old new one = new ≡ old ++ one ∷ []
+AddsIf (Err fault) old new one = new ≡ old
+
+-- What is said to vouch for some bytes is their digest.
+abbrev pub IsVouched : List ℕ → Option Vouched → Type 0
+IsVouched bytes vouched = IfSome vouched (λ v. v.digest ≡ (padded_digest (digest_by v.algo bytes)).0)
+
+-- the strongest algorithm of a set
+unfoldable pub strongest : AlgoSet → Option Algo
+strongest set =
+    if has set Sha512 then Some Sha512 else if has set Sha384 then Some Sha384 else if has set Sha256 then Some Sha256
+    else if has set Sha1 then Some Sha1 else if has set Md5 then Some Md5 else if has set Crc32 then Some Crc32 else None
+
+-- what vouches for bytes that are compared by the algorithms of a set
+abbrev pub vouched_by : AlgoSet → List ℕ → Option Vouched
+vouched_by set bytes = option_map (λ algo. record { algo = algo; digest = (padded_digest (digest_by algo bytes)).0 }) (strongest set)
+
+-- what becomes of a payload of which nothing is told, or something
+abbrev pub take_by : NodeOf Spot → List ℕ → Option Told → Take
+take_by image message None = kept image.name message (vouched_by (with_all no_algos (hashes image)) message)
+take_by image message (Some told) = refused image.name told
+
+-- A payload is kept where each hash node of its image is right and none is lacking that is needed.
+abbrev pub take_of : Option Algo → NodeOf Spot → List ℕ → Take
+take_of need image message = take_by image message (or_weak (wrong_in image.name message (hashes image)) need image)
+
+-- whether an image of a name is asked for, where all are or those of one name
+abbrev pub is_asked : Option (List ℕ) → List ℕ → Bool
+is_asked None name = true
+is_asked (Some asked) name = bytes_eq asked name
+
+-- the bytes of a payload, none where it is refused: then nothing is taken of the file
+abbrev pub bytes_or_none : Result (List ℕ) FitFault → List ℕ
+bytes_or_none (Ok message) = message
+bytes_or_none (Err fault) = []
+
+-- what becomes of the payloads of images that are asked for
+unfoldable pub takes : Option Algo → Option (List ℕ) → List ℕ → List (NodeOf Spot) → List Take
+takes need only file [] = []
+takes need only file (image ∷ more) =
+    if is_asked only image.name then take_of need image (bytes_or_none (payload file image)) ∷ takes need only file more
+    else takes need only file more
+
+-- an image of a name with a payload, where so many bytes may be read, and then the others
+abbrev pub fits_before : List ℕ → ℕ → Result (List ℕ) FitFault → (ℕ → Result (Option (List ℕ)) FitFault) → Result (Option (List ℕ)) FitFault
+fits_before name left (Ok message) later = if nat_lt left (length message) then Ok (Some name) else later (left - length message)
+fits_before name left (Err fault) later = Err fault
+
+-- The name of the first image that is asked for with which their payloads have more bytes together than may be read, if there
+-- is one, unless a payload before it is refused.
+unfoldable pub overlapping : Option (List ℕ) → List ℕ → ℕ → List (NodeOf Spot) → Result (Option (List ℕ)) FitFault
+overlapping only file left [] = Ok None
+overlapping only file left (image ∷ more) =
+    if is_asked only image.name then fits_before image.name left (payload file image) (λ rest. overlapping only file rest more)
+    else overlapping only file left more
+
+-- What is told of a file that is unpacked: that payloads overlap, or what becomes of each.
+pub data Outcome : Type 0 where
+  overlaps : List ℕ → Outcome
+  taken : List Take → Outcome
+
+abbrev pub outcome : Option (List ℕ) → List Take → Outcome
+outcome (Some name) ts = overlaps name
+outcome None ts = taken ts
+
+abbrev pub told_or_fault : Result (Option (List ℕ)) FitFault → List Take → Result Outcome Fault
+told_or_fault (Ok found) ts = Ok (outcome found ts)
+told_or_fault (Err fault) ts = Err (of.Fit fault)
+
+-- the same of its images, where as many bytes may be read as the file has
+abbrev pub images_unpacked : Option Algo → Option (List ℕ) → List ℕ → List (NodeOf Spot) → Result Outcome Fault
+images_unpacked need only file found = told_or_fault (overlapping only file (length file) found) (takes need only file found)
+
+-- what is told of a file, or its first fault
+abbrev pub unpack_of : Option Algo → Option (List ℕ) → List ℕ → Result Outcome Fault
+unpack_of need only file = do
+  found ← images_of file
+  images_unpacked need only file found
+
+-- whether a payload is kept
+abbrev pub is_kept : Take → Bool
+is_kept (kept name bytes vouched) = true
+is_kept (refused name told) = false
+
+-- Some of these were given, the first ones.
+pub record GivenFirst (old new ts : List Take) : Type 0 where
+  pub count : ℕ
+  pub given : new ≡ old ++ take count ts
+
+-- What was given where a device failed: the first of what is told, and nothing where a file is refused.
+abbrev pub StopsIn : Result Outcome Fault → List Take → List Take → Type 0
+StopsIn (Ok (taken ts)) old new = GivenFirst old new ts
+StopsIn (Ok (overlaps name)) old new = new ≡ old
+StopsIn (Err fault) old new = new ≡ old
+
+-- What an answer tells of a file, with what was given before and after. A refusal comes before anything is given.
+abbrev pub Unpacks : Result Unpacked Fault → Result Outcome Fault → List Take → List Take → Type 0
+Unpacks (Ok (Taken all)) (Ok (taken ts)) old new = (new ≡ old ++ ts) × (all ≡ list_all is_kept ts)
+Unpacks (Ok (Overlapping name)) (Ok (overlaps its)) old new = (bytes_of name ≡ its) × (new ≡ old)
+Unpacks (Ok found) told old new = ⊥
+Unpacks (Err (of.Blob fault at)) told old new = (refuses_memory fault ≡ false → told ≡ Err (of.Blob fault at)) × (new ≡ old)
+Unpacks (Err (of.Fit fault)) told old new = (told ≡ Err (of.Fit fault)) × (new ≡ old)
+Unpacks (Err of.Read) told old new = StopsIn told old new
+Unpacks (Err of.Put) told old new = StopsIn told old new
+
+-- the most that is asked for: the payloads that are taken have no more bytes together than the file
+abbrev pub unpack_work : List ℕ → ℕ
+unpack_work file = own_meta file + length file

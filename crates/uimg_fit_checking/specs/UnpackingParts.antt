@@ -1,0 +1,123 @@
+-- Taking the payloads of a FIT image out of it, one after the other.
+use Rattle.std.specs.Prelude.{◌≡◌, ⊤, ℕ, ◌+◌, ◌<◌, ◌≤◌, ◌*◌, List, [], ◌∷◌, ◌++◌, length, Bool, true, false, Option, None, Result, Ok, Err, IfOk}
+use Rattle.std.specs.List.{list_all}
+use Rattle.std.specs.Option.{option_map}
+use Rattle.uimg_sums.specs.declared.algo.Algo.{Algo}
+use Rattle.uimg_base.specs.Lent.{Lent}
+use Rattle.uimg_base.specs.Device.{Device}
+use Rattle.uimg_base.specs.Held.{Held}
+use Rattle.uimg_base.specs.Using.{Uses}
+use Rattle.uimg_base.specs.declared.source.SourceFault.{SourceFault}
+use Rattle.uimg_blob.specs.LookUps.{NodeOf, hashes}
+use Rattle.uimg_blob.specs.Spots.{Spot}
+use Rattle.uimg_fit_base.specs.declared.fault.Fault.{Fault}
+use Rattle.uimg_fit_base.specs.declared.fault.Fault.TheVariants as of
+use Rattle.uimg_fit_base.specs.declared.fault.FitFault.{FitFault}
+use Rattle.uimg_fit_base.specs.Faults.{is_read, is_put, is_out_of_memory, is_of_making, is_refused}
+use Rattle.uimg_fit_base.specs.Places.{payload}
+use Rattle.uimg_fit_reading.specs.Allowances.{allowance}
+use Rattle.uimg_fit_checking.specs.declared.unpacking.node_names.NodeName.{NodeName}
+use Rattle.uimg_fit_checking.specs.declared.unpacking.taker.Refusal.{Refusal}
+use Rattle.uimg_fit_checking.specs.declared.unpacking.claims.Claim.{Claim}
+use Rattle.uimg_fit_checking.specs.declared.unpacking.claims.Claim.TheVariants.{Fits, Overlaps}
+use Rattle.uimg_fit_checking.specs.Checks.{wrong_in, or_weak}
+use Rattle.uimg_fit_checking.specs.Unpacking.{Take, GivenFirst, overlapping, is_asked, is_kept, told_of, bytes_of}
+
+-- Why a payload is refused was found, if it is; at most 351 bytes were asked for about each hash node.
+pub record FindsRefusalBetween (need : Option Algo) (image : NodeOf Spot) (message : List ℕ) (asked new : ℕ) (result : Result (Option Refusal) SourceFault) : Type 0 where
+  pub told : IfOk result (λ found. option_map (told_of image.name) found ≡ or_weak (wrong_in image.name message (hashes image)) need image)
+  pub paid : new ≤ asked + 351 * length (hashes image)
+
+abbrev pub FindsRefusal : {S : Type 0} → Option Algo → NodeOf Spot → List ℕ → Result (Option Refusal) SourceFault → (S → Device) → Lent S → Type 0
+FindsRefusal need image message result device source = FindsRefusalBetween need image message (device source.entry.now).asked (device source.exit.now).asked result
+
+-- Source and room are as they were; neither memory nor a making is the fault.
+pub record LeavesImageBetween {X : Type 0} (result : Result X Fault) (d e : Device) (old new : Held) : Type 0 where
+  pub uses : Uses (is_read result) d e
+  pub room : new ≡ old
+  pub memory : is_out_of_memory result ≡ false
+  pub no_making : is_of_making result ≡ false
+
+abbrev pub LeavesImage : {S X : Type 0} → Result X Fault → (S → Device) → Lent S → Lent Held → Type 0
+LeavesImage result device source room =
+    LeavesImageBetween result (device source.entry.now) (device source.exit.now) room.entry.now room.exit.now
+
+-- The same, and no failed write is the fault.
+pub record ReadsOrRefusesBetween {X : Type 0} (result : Result X Fault) (d e : Device) (old new : Held) : Type 0 where
+  pub uses : Uses (is_read result) d e
+  pub room : new ≡ old
+  pub no_put : is_put result ≡ false
+  pub memory : is_out_of_memory result ≡ false
+  pub no_making : is_of_making result ≡ false
+
+abbrev pub ReadsOrRefuses : {S X : Type 0} → Result X Fault → (S → Device) → Lent S → Lent Held → Type 0
+ReadsOrRefuses result device source room =
+    ReadsOrRefusesBetween result (device source.entry.now) (device source.exit.now) room.entry.now room.exit.now
+
+-- What a claim tells of an image with a payload, where so many bytes may be read.
+abbrev pub ClaimsTo : List ℕ → ℕ → Result Claim Fault → Result (List ℕ) FitFault → Type 0
+ClaimsTo name left (Ok (Fits rest)) (Ok message) = rest + length message ≡ left
+ClaimsTo name left (Ok (Overlaps its)) (Ok message) = (left < length message) × (bytes_of its ≡ name)
+ClaimsTo name left (Ok claim) (Err fault) = ⊥
+ClaimsTo name left (Err (of.Fit fault)) payload = payload ≡ Err fault
+ClaimsTo name left (Err (of.Blob fault at)) payload = ⊥
+ClaimsTo name left (Err fault) payload = ⊤
+
+-- The same, of an image that may not be asked for.
+abbrev pub ClaimsIf : Bool → List ℕ → ℕ → Result Claim Fault → Result (List ℕ) FitFault → Type 0
+ClaimsIf true name left result payload = ClaimsTo name left result payload
+ClaimsIf false name left result payload = IfOk result (λ claim. claim ≡ Fits left) × (is_refused result ≡ false)
+
+-- An image was claimed; its name and its place took at most 267 bytes.
+pub record ClaimsImageBetween (file : List ℕ) (only : Option (List ℕ)) (left : ℕ) (image : NodeOf Spot) (asked new : ℕ) (result : Result Claim Fault) : Type 0 where
+  pub told : ClaimsIf (is_asked only image.name) image.name left result (payload file image)
+  pub paid : new ≤ asked + 267
+
+abbrev pub ClaimsImage : {S : Type 0} → Option (List ℕ) → ℕ → NodeOf Spot → Result Claim Fault → (S → Device) → Lent S → Type 0
+ClaimsImage only left image result device source = ClaimsImageBetween (device source.entry.now).bytes only left image (device source.entry.now).asked (device source.exit.now).asked result
+
+-- what a claim of all tells, by what their definition has
+abbrev pub ClaimsAll : Result (Option (List ℕ)) FitFault → Result (Option NodeName) Fault → Type 0
+ClaimsAll told (Ok found) = told ≡ Ok (option_map bytes_of found)
+ClaimsAll told (Err (of.Fit fault)) = told ≡ Err fault
+ClaimsAll told (Err (of.Blob fault at)) = ⊥
+ClaimsAll told (Err fault) = ⊤
+
+-- The images were claimed, up to the first with which payloads overlap.
+pub record ClaimsImagesBetween (file : List ℕ) (only : Option (List ℕ)) (found : List (NodeOf Spot)) (asked new : ℕ) (result : Result (Option NodeName) Fault) : Type 0 where
+  pub told : ClaimsAll (overlapping only file (length file) found) result
+  pub paid : new ≤ asked + 267 * length found
+
+abbrev pub ClaimsImages : {S : Type 0} → Option (List ℕ) → List (NodeOf Spot) → Result (Option NodeName) Fault → (S → Device) → Lent S → Type 0
+ClaimsImages only found result device source = ClaimsImagesBetween (device source.entry.now).bytes only found (device source.entry.now).asked (device source.exit.now).asked result
+
+-- what an image is allowed beside its payload, once its name and its place were asked for before
+abbrev pub take_allowance : NodeOf Spot → ℕ
+take_allowance image = 493 + allowance image.below
+
+-- What an answer tells of an image that was taken, or passed over where it is not asked for.
+abbrev pub TakesTo : Bool → Take → Result Bool Fault → Result (List ℕ) FitFault → List Take → List Take → Type 0
+TakesTo true one (Ok all) payload old new = (new ≡ old ++ one ∷ []) × (all ≡ is_kept one)
+TakesTo false one (Ok all) payload old new = (new ≡ old) × (all ≡ true)
+TakesTo true one (Err (of.Fit fault)) payload old new = (new ≡ old) × (payload ≡ Err fault)
+TakesTo false one (Err (of.Fit fault)) payload old new = ⊥
+TakesTo asked one (Err (of.Blob fault at)) payload old new = ⊥
+TakesTo asked one (Err of.Read) payload old new = new ≡ old
+TakesTo asked one (Err of.Put) payload old new = new ≡ old
+
+-- how many bytes of a payload are read, if its image is asked for
+abbrev pub size_if : Bool → Result (List ℕ) FitFault → ℕ
+size_if true (Ok message) = length message
+size_if true (Err fault) = 0
+size_if false payload = 0
+
+-- What is promised of images that are taken where their payloads have no more bytes together than the file.
+abbrev pub Fitting : Option (List ℕ) → List ℕ → List (NodeOf Spot) → Type 0 → Type 0
+Fitting only file found P = overlapping only file (length file) found ≡ Ok None → P
+
+-- Images were taken, or some of them where a device failed; no fault is found any more where they fit.
+abbrev pub TakesAll : List Take → Result Bool Fault → List Take → List Take → Type 0
+TakesAll ts (Ok all) old new = (new ≡ old ++ ts) × (all ≡ list_all is_kept ts)
+TakesAll ts (Err (of.Fit fault)) old new = ⊥
+TakesAll ts (Err (of.Blob fault at)) old new = ⊥
+TakesAll ts (Err fault) old new = GivenFirst old new ts

@@ -1,0 +1,20 @@
+//! FIT images are checked, surveyed and unpacked.
+#![tactic(auto)]
+
+mod checking;
+mod counting;
+mod named;
+mod surveying;
+mod unpacking;
+mod vouching;
+mod wrong_hashes;
+
+pub use checking::{Finding, check};
+pub use counting::count_images;
+pub use named::{locate_name, locate_named};
+pub use surveying::{
+    ConfigurationFacts, FullSurvey, HashFacts, ImageFacts, Survey, SurveyFault, read_bytes, survey,
+    survey_with_properties,
+};
+pub use unpacking::{MemTake, MemTaker, NodeName, Refusal, Taker, Unpacked, Vouched, unpack};
+pub use vouching::is_vouched;

@@ -1,0 +1,138 @@
+//! What a FIT image says of itself is gathered, without its payloads.
+
+ghost use Rattle.std.specs.Prelude.{◌≡◌, ◌+◌, ◌<◌, ℕ, List, length, false, IsTrue, IfOk};
+ghost use Rattle.uimg_blob.specs.Counts.{index_cost};
+ghost use Rattle.uimg_blob.specs.Grammar.{Siblings};
+ghost use Rattle.uimg_blob.specs.LookUps.{NodeOf, images, configurations};
+ghost use Rattle.uimg_blob.specs.Roles.{in_images};
+ghost use Rattle.uimg_blob.specs.Spots.{Spot, spots};
+ghost use Rattle.uimg_fit_reading.specs.Nodes.{Indexed, IsRead, AreFrom, IsEntryOrNone, InAnyFile};
+ghost use Rattle.uimg_fit_checking.specs.FullSurvey.{properties_of, properties_cost, read_properties, FullInside, survey_in};
+ghost use Rattle.uimg_fit_reading.specs.Rooms.{TakesNodes, UsesWithin};
+ghost use Rattle.uimg_fit_checking.specs.Survey.{said_of, read_survey, preferred_in, configurations_in, read_configuration};
+ghost use Rattle.uimg_fit_checking.specs.SurveyParts.{ConfigurationInside, SurveyInside, is_unread, lacks_room, is_changed, Surveys};
+ghost use Rattle.uimg_fit_reading.specs.PayloadPlaces.{Ends};
+ghost use Rattle.uimg_fit_reading.specs.Puts.{IfHonest};
+ghost use Rattle.std.specs.List.{All};
+ghost use Rattle.std.specs.Prelude.{map};
+ghost use Rattle.uimg_fit_base.specs.Files.{bytes_in};
+
+mod facts;
+mod fault;
+mod gathered_nodes;
+mod listed_properties;
+mod values;
+
+use crate::surveying::gathered_nodes::{gather_configurations, gather_images};
+use crate::surveying::listed_properties::configuration_properties;
+pub use facts::{ConfigurationFacts, FullSurvey, HashFacts, ImageFacts, Survey};
+pub use fault::SurveyFault;
+use std::alloc::{AllocError, Allocator, Global};
+use uimg_base::{Room, Source, Span};
+use uimg_blob::{Blob, Key};
+use uimg_fit_reading::images::first_image;
+use uimg_fit_reading::nodes::{child_of, configurations_of, root_value, value_of};
+use uimg_fit_reading::read_tree;
+pub use values::read_bytes;
+
+// The default and what the configurations say, if there are any.
+fn configurations<A: Allocator>(
+    alloc: Global,
+    blob: &Blob,
+    room: &Room<A>,
+) -> Result<(Option<Span>, Vec<ConfigurationFacts>), AllocError>
+    requires { Indexed blob.now room.now.entries }
+    ensures inside { InAnyFile blob.now room.now (λ size.
+        IfOk result (λ found. Ends size found.0 × All (ConfigurationInside size) found.1.items)) }
+    ensures said { (file : List ℕ) (t : Siblings) → IsRead file blob.now room.now.entries t →
+        IfOk result (λ found. (bytes_in file found.0 ≡ preferred_in (configurations (spots t)))
+        × (map (read_configuration file) found.1.items ≡ configurations_in (configurations (spots t)))) }
+{
+    let Some(node) = configurations_of(blob, room) else {
+        return Ok((None, Vec::new(alloc)));
+    };
+    let preferred = value_of(blob, room, node, Key::Default);
+    let all = gather_configurations(alloc, blob, room, child_of(blob, room, node))?;
+    Ok((preferred, all))
+}
+
+// What an image with these images says.
+fn gather<A: Allocator>(
+    alloc: Global,
+    blob: &Blob,
+    room: &Room<A>,
+    first: Option<usize>,
+) -> Result<Survey, AllocError>
+    requires { IsEntryOrNone blob.now room.now first }
+    ensures totalsize { IfOk result (λ survey. survey.totalsize ≡ blob.now.totalsize) }
+    ensures inside { InAnyFile blob.now room.now (λ size. IfOk result (SurveyInside size)) }
+    ensures said { (file : List ℕ) (t : Siblings) → IsRead file blob.now room.now.entries t →
+        (found : List (NodeOf Spot)) → AreFrom t in_images first found →
+        IfOk result (λ survey. read_survey file survey ≡ said_of file (spots t) found) }
+{
+    let images = gather_images(alloc, blob, room, first)?;
+    let (preferred, configurations) = configurations(alloc, blob, room)?;
+    Ok(Survey {
+        totalsize: blob.totalsize(),
+        description: root_value(blob, room, Key::Description),
+        timestamp: root_value(blob, room, Key::Timestamp),
+        images,
+        preferred,
+        configurations,
+    })
+}
+
+/// What a FIT image says of itself: of its root, its images with their hash nodes, and its configurations
+/// with the names of the nodes below them, all but the payloads. Each value is told as the place where it
+/// stands, and no value is read.
+///
+/// Refusals are those of the blob, then `NoImages`. The room holds the nodes meanwhile, and refuses memory
+/// as it does for a listing; `OutOfMemory` comes where memory for what is gathered was refused, some 300
+/// bytes for an image or a configuration, 80 for a hash node and 16 for a node below a configuration.
+pub fn survey<S: Source, A: Allocator>(
+    alloc: Global,
+    source: &mut S,
+    room: &mut Room<A>,
+) -> Result<Survey, SurveyFault>
+    ensures uses { UsesWithin index_cost (is_unread result) S.device source }
+    ensures room { TakesNodes (S.device source.old) (lacks_room result) room.old room.new }
+    ensures inside { IfOk result (SurveyInside (length (S.device source.old).bytes)) }
+    ensures unchanged { is_changed result ≡ false }
+    ensures told { IsTrue (S.device source.old).honest → Surveys (S.device source.old).bytes result }
+{
+    let blob = read_tree(source, room)?;
+    let first = first_image(&blob, room)?;
+    Ok(gather(alloc, &blob, room, first)?)
+}
+
+/// What `survey` tells, and for each configuration, in the same order, where its properties stand, in their
+/// order, those of no known key too.
+///
+/// The properties are read from the structure block again, behind what `survey` asks for: an honest source
+/// is asked for at most 44 bytes for each configuration, 268 for each of its properties and 4 for each NOP
+/// of the blob. No value is read.
+///
+/// Refusals are those of `survey`. `Stopped` with `Read` comes exactly where a read failed, `OutOfMemory`
+/// also where memory for the places was refused, 32 bytes for each property, and `Changed` only where the
+/// source has not the blob that was indexed.
+pub fn survey_with_properties<S: Source, A: Allocator>(
+    alloc: Global,
+    source: &mut S,
+    room: &mut Room<A>,
+) -> Result<FullSurvey, SurveyFault>
+    ensures uses { UsesWithin (λ file. index_cost file + properties_cost file)
+        (is_unread result) S.device source }
+    ensures room { TakesNodes (S.device source.old) (lacks_room result) room.old room.new }
+    ensures inside { IfOk result (FullInside (length (S.device source.old).bytes)) }
+    ensures told { IfHonest S.device source (λ file. Surveys file (survey_in result)) }
+    ensures properties { IfHonest S.device source (λ file. IfOk result
+        (λ full. map (read_properties file) full.properties.items ≡ properties_of file)) }
+{
+    let blob = read_tree(source, room)?;
+    let first = first_image(&blob, room)?;
+    let survey = gather(alloc, &blob, room, first)?;
+    match configuration_properties(alloc, source, &blob, room) {
+        Ok(properties) => Ok(FullSurvey { survey, properties }),
+        Err(fault) => Err(fault),
+    }
+}

@@ -1,0 +1,28 @@
+//! Values are read where a survey tells that they stand.
+
+ghost use Rattle.std.specs.Prelude.{◌≡◌, ◌+◌, ◌≤◌, length, IsTrue, IfOk};
+ghost use Rattle.uimg_base.specs.Using.{Asks};
+ghost use Rattle.uimg_fit_checking.specs.SurveyParts.{is_unread, IsOwn};
+ghost use Rattle.uimg_fit_reading.specs.Values.{in_span};
+
+use crate::surveying::fault::SurveyFault;
+use std::alloc::Global;
+use uimg_base::{Source, Span};
+
+/// The bytes at a span of a survey, read into memory by one read of just as many bytes. `OutOfMemory` comes
+/// where memory for them was refused, and `Stopped` where the read failed, and with no other fault.
+pub fn read_bytes<S: Source>(
+    alloc: Global,
+    source: &mut S,
+    span: Span,
+) -> Result<Vec<u8>, SurveyFault>
+    requires { span.place + span.length ≤ length (S.device source.old).bytes }
+    ensures uses { Asks span.length (is_unread result) (S.device source.old) (S.device source.new) }
+    ensures own { IsOwn result }
+    ensures told { IsTrue (S.device source.old).honest →
+        IfOk result (λ bytes. bytes.items ≡ in_span (S.device source.old).bytes span) }
+{
+    let mut bytes = Vec::from_elem(alloc, 0, span.length as usize)?;
+    source.fill_at(span.place, bytes.as_mut_slice())?;
+    Ok(bytes)
+}

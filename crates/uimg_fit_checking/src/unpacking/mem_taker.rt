@@ -1,0 +1,99 @@
+//! Payloads that are taken into memory.
+
+ghost use Rattle.std.specs.Prelude.{◌≡◌, [], true, map};
+ghost use Rattle.uimg_fit_checking.specs.MemTakes.{take_at};
+
+use crate::unpacking::node_names::NodeName;
+use crate::unpacking::taker::{Refusal, Taker, Vouched};
+use std::alloc::Allocator;
+use uimg_base::PutFault;
+
+/// A payload that was taken into memory, or refused.
+#[derive(Drop)]
+pub enum MemTake<A: Allocator> {
+    /// It is kept.
+    Kept {
+        /// The name of its image.
+        name: NodeName,
+        /// The payload.
+        payload: Vec<u8, A>,
+        /// What vouches for it.
+        vouched: Option<Vouched>,
+    },
+    /// It is refused.
+    Refused {
+        /// The name of its image.
+        name: NodeName,
+        /// Why.
+        refusal: Refusal,
+    },
+}
+
+/// A taker in memory, which keeps all that it is given. It refuses only where memory was refused.
+#[derive(Drop)]
+pub struct MemTaker<A: Allocator + Copy> {
+    alloc: A,
+    takes: Vec<MemTake<A>, A>,
+}
+
+impl<A: Allocator + Copy> MemTaker<A> {
+    /// A taker that was given nothing yet.
+    pub fn new(alloc: A) -> MemTaker<A>
+        ensures { ⟦<MemTaker<A> as Taker>⟧.takes result ≡ [] }
+    {
+        MemTaker {
+            alloc,
+            takes: Vec::new(alloc),
+        }
+    }
+
+    /// What it was given.
+    pub fn takes(&self) -> &[MemTake<A>]
+        ensures { map take_at result.now ≡ ⟦<MemTaker<A> as Taker>⟧.takes self.now }
+    {
+        self.takes.as_slice()
+    }
+}
+
+impl<A: Allocator + Copy> Taker for MemTaker<A> {
+    type Shelf = Vec<u8, A>;
+
+    ghost honest = { true };
+
+    ghost takes = { λ t. map take_at t.takes.items };
+
+    fn claim(&mut self, _name: &NodeName) -> Result<(), PutFault> {
+        Ok(())
+    }
+
+    fn shelf(&mut self, _name: &NodeName) -> Result<Vec<u8, A>, PutFault> {
+        Ok(Vec::new(self.alloc))
+    }
+
+    fn keep(
+        &mut self,
+        name: &NodeName,
+        shelf: Vec<u8, A>,
+        vouched: Option<Vouched>,
+    ) -> Result<(), PutFault> {
+        let take = MemTake::Kept {
+            name: *name,
+            payload: shelf,
+            vouched,
+        };
+        self.takes.push(take).map_err(|_refused| PutFault)
+    }
+
+    fn refuse(
+        &mut self,
+        name: &NodeName,
+        _shelf: Vec<u8, A>,
+        refusal: Refusal,
+    ) -> Result<(), PutFault> {
+        let take = MemTake::Refused {
+            name: *name,
+            refusal,
+        };
+        self.takes.push(take).map_err(|_refused| PutFault)
+    }
+}

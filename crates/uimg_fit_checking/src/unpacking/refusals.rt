@@ -1,0 +1,104 @@
+//! Whether the hash nodes of an image stand for what was written of its payload.
+
+ghost use Rattle.std.specs.Prelude.{◌≡◌, ◌≤◌, ◌+◌, ℕ, List, length, is_err, IfOk, IsTrue};
+ghost use Rattle.uimg_base.specs.Using.{Asks, Uses};
+ghost use Rattle.uimg_blob.specs.LookUps.{hashes};
+ghost use Rattle.uimg_blob.specs.Roles.{in_images};
+ghost use Rattle.uimg_fit_base.specs.AlgoSets.{set_of, no_algos, AreDigests};
+ghost use Rattle.uimg_fit_reading.specs.Nodes.{OfNode, HasNode};
+ghost use Rattle.uimg_fit_reading.specs.Plans.{with_all};
+ghost use Rattle.uimg_fit_checking.specs.CheckParts.{wrong_told};
+ghost use Rattle.uimg_fit_checking.specs.UnpackingParts.{FindsRefusal};
+ghost use Rattle.uimg_fit_checking.specs.Unpacking.{strongest, vouched_by, told_of};
+
+use crate::unpacking::node_names::read_name;
+use crate::unpacking::taker::{Refusal, Vouched};
+use crate::vouching::lacks;
+use crate::wrong_hashes::{WrongHash, first_wrong};
+use std::alloc::Allocator;
+use uimg_base::{Algo, Room, Source, SourceFault};
+use uimg_blob::Blob;
+use uimg_fit_base::{AlgoSet, Digests};
+use uimg_fit_reading::nodes::first_hash;
+
+// The strongest algorithm of a set.
+#[tactic(auto, unfolding(crate::specs::Unpacking::strongest))]
+fn strongest(set: AlgoSet) -> Option<Algo>
+    ensures { result ≡ strongest set }
+{
+    if set.has(Algo::Sha512) {
+        return Some(Algo::Sha512);
+    }
+    if set.has(Algo::Sha384) {
+        return Some(Algo::Sha384);
+    }
+    if set.has(Algo::Sha256) {
+        return Some(Algo::Sha256);
+    }
+    if set.has(Algo::Sha1) {
+        return Some(Algo::Sha1);
+    }
+    if set.has(Algo::Md5) {
+        return Some(Algo::Md5);
+    }
+    if set.has(Algo::Crc32) {
+        return Some(Algo::Crc32);
+    }
+    None
+}
+
+// What vouches for bytes that are compared by the algorithms of a set, by their digests.
+pub(super) fn vouched_by(set: AlgoSet, digests: &Digests) -> Option<Vouched>
+    requires { set_of digests.now ≡ set }
+    ensures { (message : List ℕ) → AreDigests digests.now message → result ≡ vouched_by set message }
+{
+    match strongest(set) {
+        Some(algo) => Some(Vouched {
+            algo,
+            digest: digests.by(algo),
+        }),
+        None => None,
+    }
+}
+
+// The refusal of a payload with a hash node that is not right.
+fn refusal<S: Source>(source: &mut S, wrong: WrongHash) -> Result<Refusal, SourceFault>
+    requires { wrong.hash.place + wrong.hash.length ≤ length (S.device source.old).bytes }
+    ensures uses { Asks 255 (is_err result) (S.device source.old) (S.device source.new) }
+    ensures told { IsTrue (S.device source.old).honest → wrong.hash.length ≤ 255 → (name : List ℕ) →
+        IfOk result (λ found. told_of name found ≡ wrong_told (S.device source.old).bytes name wrong) }
+{
+    Ok(Refusal::Wrong {
+        hash: read_name(source, wrong.hash)?,
+        word: wrong.word,
+    })
+}
+
+// Why a payload is refused by its digests, if it is: a hash node that is not right, or else that none is as
+// strong as is needed.
+pub(super) fn refusal_of<S: Source, A: Allocator>(
+    source: &mut S,
+    blob: &Blob,
+    room: &Room<A>,
+    image: usize,
+    set: AlgoSet,
+    digests: &Digests,
+    need: Option<Algo>,
+) -> Result<Option<Refusal>, SourceFault>
+    requires node { HasNode (S.device source.old) blob.now room.now image }
+    requires set { set_of digests.now ≡ set }
+    ensures uses { Uses (is_err result) (S.device source.old) (S.device source.new) }
+    ensures told { OfNode (S.device source.old) blob.now room.now in_images image
+        (λ found. (message : List ℕ) → AreDigests digests.now message →
+        set ≡ with_all no_algos (hashes found) →
+        FindsRefusal need found message result S.device source) }
+{
+    let first = first_hash(blob, room, image);
+    if let Some(wrong) = first_wrong(source, blob, room, first, digests)? {
+        return Ok(Some(refusal(source, wrong)?));
+    }
+    if lacks(set, need) {
+        return Ok(Some(Refusal::Weak));
+    }
+    Ok(None)
+}

@@ -1,0 +1,80 @@
+//! Who is given the payloads that are taken out of an image.
+
+ghost use Rattle.std.specs.Prelude.{◌≡◌, ℕ, [], List, Bool, false, Some, IfOk, IsTrue};
+ghost use Rattle.uimg_fit_checking.specs.Unpacking.{Take, kept, refused, told_of, bytes_of, AddsIf, IsVouched};
+
+use crate::unpacking::node_names::NodeName;
+use std::io::Write;
+use uimg_base::{Algo, PutFault};
+use uimg_fit_base::Verdict;
+
+/// What vouches for a payload: the strongest algorithm that its hash nodes are compared by.
+#[derive(Clone, Copy, Debug, PartialEq, Eq)]
+pub struct Vouched {
+    /// The algorithm.
+    pub algo: Algo,
+    /// The digest of the payload by it, with zeros behind it up to 64 bytes.
+    pub digest: [u8; 64],
+}
+
+/// Why a payload is not kept.
+#[derive(Clone, Copy, Debug)]
+pub enum Refusal {
+    /// A hash node of its image is not right.
+    Wrong {
+        /// The name of the hash node, the first of the image that is not right.
+        hash: NodeName,
+        /// What a report says of it.
+        word: Verdict,
+    },
+    /// No hash node of its image is compared by an algorithm at least as strong as the needed one.
+    Weak,
+}
+
+/// Who is given the payloads that are taken out of an image, one after another. An image is told by its
+/// name, which others may have too.
+///
+/// Contracts see an honest one as the list of what it was given.
+pub trait Taker {
+    /// What a payload is written to while nothing vouches for it yet. Only `keep` gives it its name.
+    type Shelf: Write + Drop;
+
+    /// Whether shelves hold what is written to them, and the list has all that was given.
+    ghost honest: { Bool } = { false };
+
+    /// What was given so far.
+    ghost takes: { Self → List Take };
+
+    /// Hears of a payload that is going to be taken, before any is. Nothing is taken if it refuses.
+    fn claim(&mut self, name: &NodeName) -> Result<(), PutFault>
+        ensures { IsTrue honest → takes self.new ≡ takes self.old };
+
+    /// What the payload of an image is to be written to. Nothing was written to it yet.
+    fn shelf(&mut self, name: &NodeName) -> Result<Self::Shelf, PutFault>
+        ensures same { IsTrue honest → takes self.new ≡ takes self.old }
+        ensures empty { IsTrue honest → IfOk result (λ shelf. Self.Shelf.contents shelf ≡ Some []) };
+
+    /// Is given a payload that is kept, with what vouches for it: of what the shelf holds this is the
+    /// digest, whatever source it was read from.
+    fn keep(
+        &mut self,
+        name: &NodeName,
+        shelf: Self::Shelf,
+        vouched: Option<Vouched>,
+    ) -> Result<(), PutFault>
+        requires { IsTrue honest → (bytes : List ℕ) → Self.Shelf.contents shelf ≡ Some bytes →
+            IsVouched bytes vouched }
+        ensures { IsTrue honest → (bytes : List ℕ) → Self.Shelf.contents shelf ≡ Some bytes →
+            AddsIf result (takes self.old) (takes self.new)
+            (kept (bytes_of name.now) bytes vouched) };
+
+    /// Hears of a payload that is not kept. What was written of it is given back, to be thrown away.
+    fn refuse(
+        &mut self,
+        name: &NodeName,
+        shelf: Self::Shelf,
+        refusal: Refusal,
+    ) -> Result<(), PutFault>
+        ensures { IsTrue honest → AddsIf result (takes self.old) (takes self.new)
+            (refused (bytes_of name.now) (told_of (bytes_of name.now) refusal)) };
+}

@@ -1,3 +1,0 @@
-pub mod SetLaws
-pub mod PieceLaws
-pub mod MissingLaws
