@@ -92,7 +92,7 @@ class Screen:
 def first_error(log):
     with open(log, encoding="utf-8", errors="replace") as file:
         lines = [it.rstrip() for it in file if not re.match(r"\S+ \S+: modules loaded=", it)]
-    found = [at for at, it in enumerate(lines) if re.search(r":\d+:\d+: error|^error", it)]
+    found = [at for at, it in enumerate(lines) if re.search(r":\d+:\d+: error|^error|^fn \S+: (not proved|no proof)", it)]
     start = found[0] if found else max(0, len(lines) - 12)
     return lines[start : start + 12]
 
