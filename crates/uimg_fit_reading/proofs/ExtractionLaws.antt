@@ -1,8 +1,22 @@
 -- What an extraction finds.
-use Rattle.std.proofs.Common.{◌≡◌, ℕ, List, Option, Some, Ok, Err, Result, ap, sym, ◌∙◌, subst}
+use Rattle.std.proofs.Common.{◌≡◌, ◌≤◌, ◌+◌, ℕ, List, length, Bool, true, false, Option, Some, Ok, Err, Result, IsTrue, refl, ap, sym, ◌∙◌, subst, arith}
 use Rattle.std.specs.List.{slice_get}
 use Rattle.uimg_texts.specs.Slices.{slice}
+use Rattle.uimg_base.specs.Device.{Device, RisesIf}
+use Rattle.uimg_base.specs.Held.{Held}
+use Rattle.uimg_base.specs.Outcome.{Outcome, Tells, unless_refused, told, done}
+use Rattle.uimg_base.specs.Ranges as moves
+use Rattle.uimg_base.specs.Ranges.{Copies, ReadsAhead}
 use Rattle.uimg_base.specs.Results.{◌>>=◌}
+use Rattle.uimg_base.specs.Sink.{Sink, AppendsPrefix, AppendsFirst}
+use Rattle.uimg_base.specs.Using.{Asks}
+use Rattle.uimg_base.specs.declared.ranges.MoveFault.{MoveFault}
+use Rattle.uimg_base.specs.declared.ranges.MoveFault.TheVariants as move
+use Rattle.uimg_base.specs.declared.status.Status.{Status}
+use Rattle.uimg_base.proofs.SinkLaws.{Appends-none, prefix_none}
+use Rattle.uimg_base.proofs.Slices.{length-slice}
+use Rattle.uimg_blob.specs.Faults.{refuses_memory}
+use Rattle.uimg_blob.proofs.PhaseLaws.{by_bool}
 use Rattle.uimg_blob.specs.Blob.{tree}
 use Rattle.uimg_blob.specs.Grammar.{Siblings}
 use Rattle.uimg_blob.specs.Roles.{in_images}
@@ -11,10 +25,12 @@ use Rattle.uimg_blob.specs.Spots.{Spot}
 use Rattle.uimg_base.specs.declared.spans.Span.{Span}
 use Rattle.uimg_fit_base.specs.declared.fault.Fault.{Fault}
 use Rattle.uimg_fit_base.specs.declared.fault.Fault.TheVariants.{Blob as OfBlob, Fit, Read, Put}
-use Rattle.uimg_fit_base.specs.Faults.{Gives}
+use Rattle.uimg_fit_base.specs.Faults.{Gives, of_move, end_of, is_refused}
 use Rattle.uimg_fit_base.specs.Places.{payload, TellsPlace}
-use Rattle.uimg_fit_base.specs.Extraction.{of_images, payload_of, payload_at}
+use Rattle.uimg_fit_base.specs.Extraction.{of_images, payload_of, payload_at, extract_of}
 use Rattle.uimg_fit_reading.specs.Nodes.{IsNode, HasImage}
+use Rattle.uimg_fit_reading.specs.Rooms.{TakesNodes, InspectsBetween, DeliversBetween}
+use Rattle.uimg_fit_reading.specs.Work.{list_work, extract_work}
 use Rattle.uimg_fit_base.proofs.FileLaws.{images_are}
 
 -- the payload at the position of an image
@@ -35,3 +51,76 @@ pub gives_payload : (file : List ℕ) (t : Siblings) (position number : ℕ) (re
     → ((found : NodeOf Spot) → IsNode t in_images number found → TellsPlace file found result) → Gives (λ (p : Span). slice file p.place p.length) result (payload_at file position)
 gives_payload file t position number result is h tells =
     subst (λ (r : Result (List ℕ) Fault). Gives (λ (p : Span). slice file p.place p.length) result r) (sym (payload_is file t position number is h)) (by_answer file h.image result (tells h.image h.node))
+
+pub at_least : (n more : ℕ) → n ≤ n + more
+at_least n more = omega arith
+
+-- the image is refused before anything is written
+pub refusal_delivers : {X : Type 0} (least most : ℕ) (e : Fault) (d m : Device) (h i : Held) (s : Sink) → least ≤ most → InspectsBetween {X = X} least (Err e) d m h i → DeliversBetween {X = Status} most (Err e) d m h i s s
+refusal_delivers least most (OfBlob fault at) d m h i s few p = record { uses = record { same = p.uses.same; asked = λ honest. omega (arith, p.uses.asked honest); failures = p.uses.failures }; room = p.room; faults = refl; no_making = p.no_making }
+refusal_delivers least most (Fit fault) d m h i s few p = record { uses = record { same = p.uses.same; asked = λ honest. omega (arith, p.uses.asked honest); failures = p.uses.failures }; room = p.room; faults = refl; no_making = p.no_making }
+refusal_delivers least most Read d m h i s few p = record { uses = record { same = p.uses.same; asked = λ honest. omega (arith, p.uses.asked honest); failures = p.uses.failures }; room = p.room; faults = refl; no_making = p.no_making }
+refusal_delivers least most Put d m h i s few p = let no : true ≡ false = p.no_put in cc
+
+pub refusal_told : (file : List ℕ) (position : ℕ) (e : Fault) (s : Sink) → Gives {X = Span} (λ (p : Span). slice file p.place p.length) (Err e) (payload_at file position) → Tells (end_of (Err e)) (extract_of file position) s s
+refusal_told file position (OfBlob fault at) s gives = by_bool (refuses_memory fault)
+    (λ yes. rw yes (prefix_none s (extract_of file position).text))
+    (λ not. rw not (let is = ap (λ (r : Result (List ℕ) Fault). unless_refused r (λ bytes. told bytes done)) (gives not) in rw is (refl, record { appended = Appends-none s.contents })))
+refusal_told file position (Fit fault) s gives =
+    let is = ap (λ (r : Result (List ℕ) Fault). unless_refused r (λ bytes. told bytes done)) gives in rw is (refl, record { appended = Appends-none s.contents })
+refusal_told file position Read s gives = prefix_none s (extract_of file position).text
+refusal_told file position Put s gives = prefix_none s (extract_of file position).text
+
+pub refusal_ahead : (d m : Device) (h i : Held) (s : Sink) (e : Fault) (text : List ℕ) → InspectsBetween {X = Span} (list_work d.bytes) (Err e) d m h i → IsTrue d.honest → ReadsAhead (list_work d.bytes) d m s s text
+refusal_ahead d m h i s e text p honest = record { count = 0; first = record { within = omega arith; appended = Appends-none s.contents }; ahead = omega (arith, p.uses.asked honest) }
+
+-- the text of an extraction is the payload that was found
+text_is : (file : List ℕ) (position : ℕ) (bytes : List ℕ) → payload_at file position ≡ Ok bytes → (extract_of file position).text ≡ bytes
+text_is file position bytes is = ap (λ (r : Result (List ℕ) Fault). (unless_refused r (λ bytes. told bytes done)).text) is
+
+-- the copy of a payload stopped
+pub stop_delivers : (position : ℕ) (p : Span) (f : MoveFault) (d m e : Device) (h i j : Held) (s t : Sink)
+    → InspectsBetween {X = Span} (list_work d.bytes) (Ok p) d m h i → p.place + p.length ≤ length d.bytes
+    → (IsTrue d.honest → payload_at d.bytes position ≡ Ok (slice d.bytes p.place p.length))
+    → Asks p.length (moves.is_read {X = Unit} (Err f)) m e → j ≡ i → RisesIf (moves.is_put {X = Unit} (Err f)) s.faults t.faults
+    → DeliversBetween {X = Status} (extract_work d.bytes position) (Err (of_move f)) d e h j s t
+stop_delivers position p move.Read d m e h i j s t q inside is asks same faults = record {
+  uses = record {
+    same = record { bytes = asks.same.bytes ∙ q.uses.same.bytes; honest = asks.same.honest ∙ q.uses.same.honest };
+    asked = λ honest. omega (arith, q.uses.asked honest, asks.asked, ap length (text_is d.bytes position _ (is honest)), length-slice d.bytes p.place p.length inside);
+    failures = subst (λ (k : ℕ). RisesIf true k e.failures) q.uses.failures asks.failures;
+  };
+  room = subst (λ (x : Held). TakesNodes d false h x) (sym same) q.room;
+  faults = faults;
+  no_making = refl;
+}
+stop_delivers position p move.Put d m e h i j s t q inside is asks same faults = record {
+  uses = record {
+    same = record { bytes = asks.same.bytes ∙ q.uses.same.bytes; honest = asks.same.honest ∙ q.uses.same.honest };
+    asked = λ honest. omega (arith, q.uses.asked honest, asks.asked, ap length (text_is d.bytes position _ (is honest)), length-slice d.bytes p.place p.length inside);
+    failures = asks.failures ∙ q.uses.failures;
+  };
+  room = subst (λ (x : Held). TakesNodes d false h x) (sym same) q.room;
+  faults = faults;
+  no_making = refl;
+}
+
+pub stop_ahead : (position : ℕ) (p : Span) (d m e : Device) (h i : Held) (s t : Sink) → InspectsBetween {X = Span} (list_work d.bytes) (Ok p) d m h i
+    → (IsTrue d.honest → payload_at d.bytes position ≡ Ok (slice d.bytes p.place p.length))
+    → (IsTrue m.honest → Copies true m e s t (slice m.bytes p.place p.length)) → IsTrue d.honest → ReadsAhead (list_work d.bytes) d e s t (extract_of d.bytes position).text
+stop_ahead position p d m e h i s t q is copied honest =
+    let c = copied (subst (λ (b : Bool). IsTrue b) (sym q.uses.same.honest) honest) in
+    let same : slice m.bytes p.place p.length ≡ (extract_of d.bytes position).text = ap (λ (w : List ℕ). slice w p.place p.length) q.uses.same.bytes ∙ sym (text_is d.bytes position _ (is honest)) in
+    record {
+      count = c.prefix.count;
+      first = subst (λ (w : List ℕ). AppendsFirst c.prefix.count s t w) same c.prefix.first;
+      ahead = omega (arith, q.uses.asked honest, c.prefix.ahead);
+    }
+
+pub stop_told : (f : MoveFault) (o : Outcome Fault) (s t : Sink) → AppendsPrefix s t o.text → Tells (end_of (Err (of_move f))) o s t
+stop_told move.Read o s t p = p
+stop_told move.Put o s t p = p
+
+pub stop_unrefused : (f : MoveFault) → IsTrue (is_refused {X = Status} (Err (of_move f))) → ⊥
+stop_unrefused move.Read is = let no : false ≡ true = is in cc
+stop_unrefused move.Put is = let no : false ≡ true = is in cc

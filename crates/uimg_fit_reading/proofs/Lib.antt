@@ -1,6 +1,7 @@
 pub mod ImageLaws
 pub mod CellLaws
 pub mod PlanLaws
+pub mod PassedLaws
 pub mod PutLaws
 pub mod ShowLaws
 pub mod ListLaws

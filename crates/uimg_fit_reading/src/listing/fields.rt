@@ -28,7 +28,6 @@ use uimg_base::{MoveFault, Out, Room, Source, Span, size_text, time_text};
 use uimg_blob::{Blob, put_text};
 
 // A line of a label and the text of a value.
-#[tactic(auto, using(uimg_base::proofs::WritingLaws::writing))]
 pub(crate) fn put_text_line<S: Source, A: Allocator, W: Write>(
     source: &mut S,
     room: &mut Room<A>,

@@ -65,7 +65,6 @@ fn put_hexadecimal<S: Source, W: Write>(
 }
 
 // A line of a label and a value in hexadecimal.
-#[tactic(auto, using(uimg_base::proofs::WritingLaws::writing))]
 pub(crate) fn put_hexadecimal_line<S: Source, W: Write>(
     source: &mut S,
     label: &[u8],

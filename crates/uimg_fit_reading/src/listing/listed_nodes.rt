@@ -24,7 +24,7 @@ use uimg_fit_base::FitFault;
 use uimg_names::Naming;
 
 /// What a listed node is.
-#[derive(Clone, Copy, Debug, PartialEq, Eq)]
+#[derive(Clone, Copy)]
 pub(crate) enum Kind {
     /// An image, listed by a set of names, and the root's time, if it has one.
     Image(Naming, Option<u32>),

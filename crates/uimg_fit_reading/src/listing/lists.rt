@@ -13,7 +13,7 @@ use std::io::Write;
 use uimg_base::{MoveFault, Out, Room, Source, Span, WINDOW, before_nul};
 
 /// Where the next byte of a list of texts stands.
-#[derive(Clone, Copy, Debug, PartialEq, Eq)]
+#[derive(Clone, Copy)]
 pub(crate) enum Line {
     /// On the first line, behind the label.
     First,

@@ -9,7 +9,7 @@ use uimg_blob::Key;
 use uimg_names::{Field, Naming};
 
 /// A line of a listing. Its label is padded with blanks.
-#[derive(Clone, Copy, Debug, PartialEq, Eq)]
+#[derive(Clone, Copy)]
 pub(crate) enum Row {
     /// A property's value, where the node has one.
     Property(Key, [u8; 16], Show),
@@ -20,7 +20,7 @@ pub(crate) enum Row {
 }
 
 /// What the rows of a node show that is no property of it.
-#[derive(Clone, Copy, Debug, PartialEq, Eq)]
+#[derive(Clone, Copy)]
 pub(crate) struct Facts {
     /// The root's time, if it has one.
     pub(crate) time: Option<u32>,

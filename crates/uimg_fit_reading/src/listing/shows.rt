@@ -3,7 +3,7 @@
 use uimg_names::{Field, Naming};
 
 /// What the value of a property is printed as.
-#[derive(Clone, Copy, Debug, PartialEq, Eq)]
+#[derive(Clone, Copy)]
 pub(crate) enum Show {
     /// Its text.
     Text,

@@ -16,7 +16,7 @@ use uimg_fit_base::{Verdict, word_text};
 
 /// What the line of a hash node is made of: where the image's name, its own and its algorithm's stand, and
 /// its word.
-#[derive(Clone, Copy, Debug, PartialEq, Eq)]
+#[derive(Clone, Copy)]
 pub(crate) struct HashLine {
     pub(crate) image: Span,
     pub(crate) hash: Span,
@@ -25,7 +25,6 @@ pub(crate) struct HashLine {
 }
 
 // Writes the bytes at a span and a blank.
-#[tactic(auto, using(uimg_base::proofs::WritingLaws::writing))]
 fn put_name<S: Source, A: Allocator, W: Write>(
     source: &mut S,
     room: &mut Room<A>,
@@ -65,7 +64,6 @@ fn put_word<W: Write>(word: Verdict, out: &mut Out<W>) -> Result<(), MoveFault>
 }
 
 // Writes the names that a hash node's line begins with.
-#[tactic(auto, using(uimg_base::proofs::WritingLaws::writing))]
 fn put_names<S: Source, A: Allocator, W: Write>(
     source: &mut S,
     room: &mut Room<A>,
@@ -82,7 +80,6 @@ fn put_names<S: Source, A: Allocator, W: Write>(
 }
 
 // Writes what a hash node's line ends with.
-#[tactic(auto, using(uimg_base::proofs::WritingLaws::writing))]
 fn put_end<S: Source, A: Allocator, W: Write>(
     source: &mut S,
     room: &mut Room<A>,
@@ -98,7 +95,6 @@ fn put_end<S: Source, A: Allocator, W: Write>(
 }
 
 // Writes the line of a hash node.
-#[tactic(auto, using(uimg_base::proofs::WritingLaws::writing))]
 pub(crate) fn put_hash_line<S: Source, A: Allocator, W: Write>(
     source: &mut S,
     room: &mut Room<A>,
@@ -114,7 +110,6 @@ pub(crate) fn put_hash_line<S: Source, A: Allocator, W: Write>(
 }
 
 // Writes the line of an image without hash nodes.
-#[tactic(auto, using(uimg_base::proofs::WritingLaws::writing))]
 pub(crate) fn put_unhashed<S: Source, A: Allocator, W: Write>(
     source: &mut S,
     room: &mut Room<A>,

@@ -17,7 +17,7 @@ use uimg_blob::{Blob, Key, short_text};
 use uimg_fit_base::{Digests, Verdict};
 
 /// What is to be done about a hash node, before any payload is read.
-#[derive(Clone, Copy, Debug, PartialEq, Eq)]
+#[derive(Clone, Copy)]
 pub(crate) enum Plan {
     Malformed,
     Unsupported,

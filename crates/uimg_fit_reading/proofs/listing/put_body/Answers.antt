@@ -1,4 +1,4 @@
-use Rattle.std.proofs.Common.{rules, ◌≡◌, true, is_err}
+use Rattle.std.proofs.Common.{is_err}
 use Rattle.std.specs.List.{sum_by}
 use Rattle.uimg_blob.specs.LookUps.{configurations}
 use Rattle.uimg_blob.specs.Spots.{spots}
@@ -7,11 +7,12 @@ use Rattle.uimg_fit_reading.specs.Listing.{configurations_lines, image_lines, nu
 use Rattle.uimg_fit_reading.specs.ListingParts.{configurations_allowance}
 use Rattle.uimg_fit_reading.proofs.OpenedLaws.{still}
 use Rattle.uimg_fit_reading.proofs.TellingLaws.{then_lists, cut_lists}
+use Rattle.uimg_fit_reading.proofs.PassedLaws.{failed_of, leaves_stops, leaves_then}
 use Rattle.uimg_fit_reading.proofs.listing.put_body.Goals as goal
 
 pub returns-in_err-put_listed_nodes-clause-told : goal.returns-in_err-put_listed_nodes-clause-told
 returns-in_err-put_listed_nodes-clause-told g c = λ t o found at.
-    let failed : is_err c.from_residual.result ≡ true = search rules in
+    let failed = failed_of c.from_residual.result c.from_residual.ensures.0 in
     let d = g.S.Source.device c.args.source.now in
     let m = g.S.Source.device c.put_listed_nodes.new.source in
     rw failed (cut_lists (sum_by node_allowance found) (configurations_allowance (configurations (spots t))) d m c.args.out.now c.put_listed_nodes.new.out
@@ -28,3 +29,9 @@ returns-clause-told g c = λ t o found at.
     let tail = c.put_configurations.ensures.told t here in
     then_lists e (sum_by node_allowance found) (configurations_allowance (configurations (spots t))) d m f c.args.out.now c.put_listed_nodes.new.out c.put_configurations.new.out
     (numbered (image_lines c.args.naming d.bytes c.args.time) 0 found) (configurations_lines (configurations (spots t))) (c.in_ok-put_listed_nodes.ensures.told t o found at) tail
+
+pub returns-in_err-put_listed_nodes-clause-leaves : goal.returns-in_err-put_listed_nodes-clause-leaves
+returns-in_err-put_listed_nodes-clause-leaves g c = leaves_stops _ _ _ _ _ _ _ _ c.from_residual.ensures.1 c.in_err-put_listed_nodes.ensures.leaves
+
+pub returns-clause-leaves : goal.returns-clause-leaves
+returns-clause-leaves g c = leaves_then tt _ _ _ _ _ _ _ _ _ _ c.in_ok-put_listed_nodes.ensures.leaves c.put_configurations.ensures.leaves

@@ -1,4 +1,4 @@
-use Rattle.std.proofs.Common.{rules, ◌≡◌, ◌+◌, ◌*◌, ℕ, List, Option, true, false, refl, is_err, codes, sym, subst, arith}
+use Rattle.std.proofs.Common.{◌+◌, ◌*◌, ℕ, List, Option, true, false, refl, is_err, codes, sym, subst, arith}
 use Rattle.std.specs.List.{sum_by}
 use Rattle.uimg_base.specs.Writing.{Written}
 use Rattle.uimg_blob.specs.LookUps.{NodeOf, listed}
@@ -16,11 +16,12 @@ use Rattle.uimg_fit_reading.proofs.PutLaws.{cut}
 use Rattle.uimg_fit_reading.proofs.SharesLaws.{one_text, children_allowed}
 use Rattle.uimg_fit_reading.proofs.TellingLaws.{then_lists, more_lists}
 use Rattle.uimg_fit_reading.proofs.WithinLaws.{value_size}
+use Rattle.uimg_fit_reading.proofs.PassedLaws.{failed_of, leaves_stops, leaves_then, puts_leave}
 use Rattle.uimg_fit_reading.proofs.listing.put_configurations.Goals as goal
 
 pub returns-in_err-put_default-clause-told : goal.returns-in_err-put_default-clause-told
 returns-in_err-put_default-clause-told g c = λ t o.
-    let failed : is_err c.from_residual.result ≡ true = search rules in
+    let failed = failed_of c.from_residual.result c.from_residual.ensures.0 in
     let d = g.S.Source.device c.args.source.now in
     let m = g.S.Source.device c.put_default.new.source in
     let h = c.in-Some.ensures.told t o.read.indexed in
@@ -55,3 +56,9 @@ returns-clause-told g c = λ t o.
     (more_lists e _ (node_allowance h.found) d f c.args.out.now c.put_listed_nodes.new.out _ (omega (arith, children_allowed h.found))
     (then_lists e (760 + 4 * text_sizes h.found.own) (sum_by node_allowance (listed h.found.below)) d m f c.args.out.now c.put_default.new.out c.put_listed_nodes.new.out
     (default_line (bytes_of h.found.own (codes "default"))) (numbered configuration_lines 0 (listed h.found.below)) head tail))
+
+pub returns-in_err-put_default-clause-leaves : goal.returns-in_err-put_default-clause-leaves
+returns-in_err-put_default-clause-leaves g c = leaves_stops _ _ _ _ _ _ _ _ c.from_residual.ensures.1 (puts_leave c.in_err-put_default.ensures)
+
+pub returns-clause-leaves : goal.returns-clause-leaves
+returns-clause-leaves g c = leaves_then tt _ _ _ _ _ _ _ _ _ _ (puts_leave c.in_ok-put_default.ensures) c.put_listed_nodes.ensures.leaves

@@ -4,12 +4,13 @@ use Rattle.uimg_fit_base.specs.declared.fault.Fault.{Fault}
 use Rattle.uimg_fit_base.specs.declared.fault.Fault.TheVariants.{Fit}
 use Rattle.uimg_fit_base.specs.Places.{place, TellsPlace}
 use Rattle.uimg_fit_reading.proofs.PlaceLaws.{payload_inside, payload_outside, payload_lacks}
+use Rattle.uimg_fit_reading.proofs.PassedLaws.{passed_on}
 use Rattle.uimg_fit_reading.proofs.places.payload_place.Goals as goal
 
 pub returns-in_err-span-clause-told : goal.returns-in_err-span-clause-told
 returns-in_err-span-clause-told g c = λ honest t read found n.
     let file = (g.S.Source.device c.args.source.now).bytes in
-    let is : c.from_residual-in_err-span.result ≡ Err (Fit c.in_err-span.field-0.0) = search rules in
+    let is : c.from_residual-in_err-span.result ≡ Err (Fit c.in_err-span.field-0.0) = passed_on c.from_residual-in_err-span.result (Fit c.in_err-span.field-0.0) c.from_residual-in_err-span.ensures.1 in
     let fault : Err c.in_err-span.field-0.0 ≡ place file found = sym c.in_err-span.was ∙ c.in_ok-find_place.ensures.place honest t read found n in
     subst (λ (r : Result Span Fault). TellsPlace file found r) (sym is) (payload_lacks file found c.in_err-span.field-0.0 fault)
 

@@ -1,4 +1,4 @@
-use Rattle.std.proofs.Common.{rules, ◌≡◌, ◌<◌, List, length, true, false, is_err, refl, take, subst, arith, ◌∙◌}
+use Rattle.std.proofs.Common.{rules, ◌≡◌, ◌<◌, List, length, false, refl, take, subst, arith, ◌∙◌, Err}
 use Rattle.std.specs.List.{sum_by}
 use Rattle.std.proofs.lemmas.List.{take_all}
 use Rattle.uimg_fit_reading.specs.declared.listing.rows.Row.{Row}
@@ -7,6 +7,7 @@ use Rattle.uimg_fit_reading.specs.Telling.{ListsBetween}
 use Rattle.uimg_fit_reading.proofs.OpenedLaws.{still}
 use Rattle.uimg_fit_reading.proofs.RowLaws.{passes_at, rows_more, rows_fail}
 use Rattle.uimg_fit_reading.proofs.TellingLaws.{no_lists}
+use Rattle.uimg_fit_reading.proofs.PassedLaws.{failed_of, leaves_stops, leaves_then}
 use Rattle.uimg_fit_reading.proofs.listing.fields.put_rows.Goals as goal
 
 pub loop-row-init : goal.loop-row-init
@@ -40,7 +41,7 @@ loop-row-preserved g c =
 pub returns-in_err-put_row-clause-told : goal.returns-in_err-put_row-clause-told
 unfolding rows_lines
 returns-in_err-put_row-clause-told g c = λ t o level found n keeps.
-    let failed : is_err c.from_residual.result ≡ true = search rules in
+    let failed = failed_of c.from_residual.result c.from_residual.ensures.0 in
     let before = c.loop-row.invariant in
     let within : c.loop-row.row-index < length c.args.rows.now = omega (arith, c.loop-row-test.true) in
     let here = still before.same before.room o in
@@ -55,3 +56,9 @@ returns-clause-told g c = λ t o level found n keeps.
     let all : take c.loop-row.row-index c.args.rows.now ≡ c.args.rows.now = take_all c.loop-row.row-index c.args.rows.now (omega (arith, c.loop-row-test.false)) in
     subst (λ (rows : List Row). ListsBetween false (sum_by (row_cost found.own) rows) d f c.args.out.now c.loop-row.out (rows_lines c.args.facts found.own rows)) all
     (c.loop-row.invariant.told t o level found n keeps)
+
+pub returns-in_err-put_row-clause-leaves : goal.returns-in_err-put_row-clause-leaves
+returns-in_err-put_row-clause-leaves g c =
+    let k = c.loop-row.invariant in
+    leaves_stops _ _ _ _ _ _ _ _ c.from_residual.ensures.1
+    (leaves_then {X = Unit} tt (Err c.in_err-put_row.field-0.0) _ _ _ _ _ _ _ _ _ (record { uses = record { same = k.same; failures = k.failures }; room = k.room; faults = k.faults }) c.in_err-put_row.ensures.leaves)

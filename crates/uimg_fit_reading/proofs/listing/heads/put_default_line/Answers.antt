@@ -1,9 +1,10 @@
-use Rattle.std.proofs.Common.{rules, ◌≡◌, ◌++◌, ◌∷◌, [], ℕ, List, true, is_err, codes, sym, subst}
+use Rattle.std.proofs.Common.{rules, ◌++◌, ◌∷◌, [], ℕ, List, true, is_err, codes, sym, subst}
 use Rattle.uimg_texts.specs.Nul.{text}
 use Rattle.uimg_texts.specs.Slices.{slice}
 use Rattle.uimg_base.specs.Writing.{Written}
 use Rattle.uimg_base.proofs.WritingLaws.{written_then}
 use Rattle.uimg_fit_reading.proofs.PutLaws.{cut, quoted_parts}
+use Rattle.uimg_fit_reading.proofs.PassedLaws.{failed_of}
 use Rattle.uimg_fit_reading.proofs.listing.heads.put_default_line.Goals as goal
 
 pub returns-in_err-put : goal.returns-in_err-put
@@ -12,7 +13,7 @@ returns-in_err-put g c = record {
   room = search rules;
   faults = search rules;
   told = λ honest.
-      let failed : is_err c.from_residual.result ≡ true = search rules in
+      let failed = failed_of c.from_residual.result c.from_residual.ensures.0 in
       let before = codes " Default Configuration: '" in
       let name = text (slice (g.S.Source.device c.args.source.now).bytes c.args.span.place c.args.span.length) in
       rw failed (subst (λ (w : List ℕ). Written true c.args.out.now c.put.new.out w) (sym (quoted_parts before name)) (cut c.args.out.now c.put.new.out before (name ++ 39 ∷ 10 ∷ []) c.in_err-put.ensures.told));
@@ -24,7 +25,7 @@ returns-in_err-put_text g c = record {
   room = search rules;
   faults = search rules;
   told = λ honest.
-      let failed : is_err c.from_residual-in_err-put_text.result ≡ true = search rules in
+      let failed = failed_of c.from_residual-in_err-put_text.result c.from_residual-in_err-put_text.ensures.0 in
       let before = codes " Default Configuration: '" in
       let name = text (slice (g.S.Source.device c.args.source.now).bytes c.args.span.place c.args.span.length) in
       rw failed (subst (λ (w : List ℕ). Written true c.args.out.now c.put_text.new.out w) (sym (quoted_parts before name))

@@ -1,28 +1,12 @@
-use Rattle.std.proofs.Common.{rules, ◌≡◌, true, is_err}
-use Rattle.uimg_base.proofs.WritingLaws.{written_then}
-use Rattle.uimg_fit_base.specs.Files.{bytes_in}
-use Rattle.uimg_fit_reading.specs.Heads.{description_line, created_line}
-use Rattle.uimg_fit_reading.proofs.PutLaws.{cut}
+use Rattle.std.proofs.Common.{arith}
+use Rattle.uimg_fit_reading.specs.Heads.{span_size, created_line}
+use Rattle.uimg_fit_reading.proofs.PutLaws.{of_own, from_stops, from_then, from_puts, puts_from}
 use Rattle.uimg_fit_reading.proofs.listing.heads.put_head.Goals as goal
 
 pub returns-in_err-put_description : goal.returns-in_err-put_description
-returns-in_err-put_description g c = record {
-  uses = search rules;
-  room = search rules;
-  faults = search rules;
-  told = λ honest.
-      let failed : is_err c.from_residual.result ≡ true = search rules in
-      let file = (g.S.Source.device c.args.source.now).bytes in
-      rw failed (cut c.args.out.now c.put_description.new.out (description_line (bytes_in file c.args.description)) (created_line c.args.time) (c.in_err-put_description.ensures.told honest));
-}
+returns-in_err-put_description g c = puts_from c.put_description.ensures.room (from_stops _ _ _ _ _ _ _ _ _ _ c.from_residual.ensures.1 (omega arith) (from_puts c.in_err-put_description.ensures))
 
 pub returns : goal.returns
-returns g c = record {
-  uses = search rules;
-  room = search rules;
-  faults = search rules;
-  told = λ honest.
-      let file = (g.S.Source.device c.args.source.now).bytes in
-      written_then (is_err c.put_created.result) c.args.out.now c.put_description.new.out c.put_created.new.out (description_line (bytes_in file c.args.description)) (created_line c.args.time)
-      (c.in_ok-put_description.ensures.told honest).all c.put_created.ensures.told;
-}
+returns g c = puts_from c.put_description.ensures.room
+    (from_then (span_size c.args.description) 0 (span_size c.args.description) _ _ _ _ _ _ _ _ _ (λ _. created_line c.args.time) (omega arith)
+    (from_puts c.in_ok-put_description.ensures) (of_own _ _ _ _ _ c.put_created.ensures))

@@ -1,4 +1,4 @@
-use Rattle.std.proofs.Common.{rules, ◌≡◌, ◌+◌, ◌++◌, ◌∙◌, IsTrue, subst, sym, ap, refl, ℕ, List, Bool, true, false, is_err, arith}
+use Rattle.std.proofs.Common.{rules, ◌≡◌, ◌+◌, ◌++◌, ◌∙◌, IsTrue, subst, sym, ap, refl, ℕ, List, Bool, true, false, arith}
 use Rattle.hex.specs.Hex.{encode_lower, encode_with}
 use Rattle.uimg_texts.specs.Slices.{slice}
 use Rattle.uimg_base.specs.Sink.{AppendsAll}
@@ -8,6 +8,7 @@ use Rattle.uimg_base.proofs.Slices.{slice-add}
 use Rattle.uimg_blob.proofs.TextLaws.{written_all}
 use Rattle.uimg_fit_reading.proofs.PutLaws.{three_parts, stopped}
 use Rattle.uimg_fit_reading.proofs.ShowLaws.{encode_append}
+use Rattle.uimg_fit_reading.proofs.PassedLaws.{failed_of}
 use Rattle.uimg_fit_reading.proofs.listing.hexadecimal.put_hexadecimal.Goals as goal
 
 pub loop-done-init : goal.loop-done-init
@@ -26,7 +27,7 @@ returns-in_err-put_part g c = record {
   uses = search rules;
   faults = search rules;
   told = λ honest.
-      let failed : is_err c.from_residual.result ≡ true = search rules in
+      let failed = failed_of c.from_residual.result c.from_residual.ensures.0 in
       let same = c.loop-done.invariant.same in
       let file = (g.S.Source.device c.args.source.now).bytes in
       let at = c.args.span.place in

@@ -1,4 +1,4 @@
-use Rattle.std.proofs.Common.{rules, ◌≡◌, ℕ, List, Option, true, refl, is_err, subst, ◌∙◌}
+use Rattle.std.proofs.Common.{rules, ℕ, List, Option, refl, subst, ◌∙◌, Err}
 use Rattle.std.specs.List.{flat_map}
 use Rattle.uimg_blob.specs.LookUps.{NodeOf}
 use Rattle.uimg_blob.specs.Spots.{Spot}
@@ -6,6 +6,7 @@ use Rattle.uimg_fit_reading.specs.Listing.{hash_lines}
 use Rattle.uimg_fit_reading.specs.Nodes.{HashesAt, FirstHash}
 use Rattle.uimg_fit_reading.proofs.OpenedLaws.{still}
 use Rattle.uimg_fit_reading.proofs.TellingLaws.{left_more, left_fails}
+use Rattle.uimg_fit_reading.proofs.PassedLaws.{failed_of, leaves_stops, leaves_then}
 use Rattle.uimg_fit_reading.proofs.listing.listed_nodes.put_hashes.Goals as goal
 
 abbrev texts : ℕ → List (NodeOf Spot) → List ℕ
@@ -13,7 +14,7 @@ texts i ns = flat_map hash_lines ns
 
 pub returns-in_err-put_hash-clause-told : goal.returns-in_err-put_hash-clause-told
 returns-in_err-put_hash-clause-told g c = λ t o hs at.
-    let failed : is_err c.from_residual.result ≡ true = search rules in
+    let failed = failed_of c.from_residual.result c.from_residual.ensures.0 in
     let same = c.loop-next.invariant.same in
     let left = c.loop-next.invariant.left t o hs at in
     let first : FirstHash t c.in-Some.hash left.rest = subst (λ (o : Option ℕ). HashesAt t o left.rest) c.in-Some.is left.at in
@@ -39,3 +40,9 @@ loop-next-preserved g c =
           left_more (HashesAt t) texts 0 0 c.loop-next.next c.next_hash-next.result _ _ _ _ _ _ hs left first.hash first.more (hash_lines first.hash) first.are refl told
           (c.next_hash-next.ensures.hashes t then.read.indexed first.hash first.more first.at);
     }
+
+pub returns-in_err-put_hash-clause-leaves : goal.returns-in_err-put_hash-clause-leaves
+returns-in_err-put_hash-clause-leaves g c =
+    let k = c.loop-next.invariant in
+    leaves_stops _ _ _ _ _ _ _ _ c.from_residual.ensures.1
+    (leaves_then {X = Unit} tt (Err c.in_err-put_hash.field-0.0) _ _ _ _ _ _ _ _ _ (record { uses = record { same = k.same; failures = k.failures }; room = k.room; faults = k.faults }) c.in_err-put_hash.ensures.leaves)

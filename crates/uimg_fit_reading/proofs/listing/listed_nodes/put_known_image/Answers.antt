@@ -1,4 +1,4 @@
-use Rattle.std.proofs.Common.{rules, ◌≡◌, ◌≤◌, ◌+◌, ◌*◌, ℕ, List, true, false, refl, ap, is_err, subst, arith, append_assoc, codes}
+use Rattle.std.proofs.Common.{◌≤◌, ◌+◌, ◌*◌, ℕ, List, true, false, refl, ap, is_err, subst, arith, append_assoc, codes}
 use Rattle.std.specs.List.{flat_map, list_all, sum_by}
 use Rattle.uimg_blob.specs.Roles.{in_images}
 use Rattle.uimg_blob.specs.LookUps.{NodeOf, hashes}
@@ -14,6 +14,7 @@ use Rattle.uimg_fit_reading.proofs.OpenedLaws.{still}
 use Rattle.uimg_fit_reading.proofs.RowLaws.{name_cost, address_cost}
 use Rattle.uimg_fit_reading.proofs.SharesLaws.{one_text}
 use Rattle.uimg_fit_reading.proofs.TellingLaws.{then_lists, cut_lists, more_lists}
+use Rattle.uimg_fit_reading.proofs.PassedLaws.{failed_of, leaves_stops, leaves_then}
 use Rattle.uimg_fit_reading.proofs.listing.listed_nodes.put_known_image.Goals as goal
 
 -- an image's own lines ask for its description, and for 144 bytes at most of the rest
@@ -30,7 +31,7 @@ image_paid naming found =
 
 pub returns-in_err-put_node-clause-told : goal.returns-in_err-put_node-clause-told
 returns-in_err-put_node-clause-told g c = λ t o found n.
-    let failed : is_err c.from_residual.result ≡ true = search rules in
+    let failed = failed_of c.from_residual.result c.from_residual.ensures.0 in
     let known = c.image_rows-rows.ensures in
     let d = g.S.Source.device c.args.source.now in
     let m = g.S.Source.device c.put_node.new.source in
@@ -51,3 +52,9 @@ returns-clause-told g c = λ t o found n.
     subst (λ (w : List ℕ). ListsBetween (is_err c.put_hashes.result) (748 + 4 * text_sizes found.own + sum_by node_allowance (hashes found)) d f c.args.out.now c.put_hashes.new.out w)
     (append_assoc (title (codes " Image ") c.args.number found.name) (rows_lines c.args.facts found.own (image_rows c.args.naming)) (flat_map hash_lines (hashes found)))
     (then_lists (is_err c.put_hashes.result) _ _ _ _ _ _ _ _ _ _ head tail)
+
+pub returns-in_err-put_node-clause-leaves : goal.returns-in_err-put_node-clause-leaves
+returns-in_err-put_node-clause-leaves g c = leaves_stops _ _ _ _ _ _ _ _ c.from_residual.ensures.1 c.in_err-put_node.ensures.leaves
+
+pub returns-clause-leaves : goal.returns-clause-leaves
+returns-clause-leaves g c = leaves_then tt _ _ _ _ _ _ _ _ _ _ c.in_ok-put_node.ensures.leaves c.put_hashes.ensures.leaves

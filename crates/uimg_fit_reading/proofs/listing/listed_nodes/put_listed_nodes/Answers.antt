@@ -1,4 +1,4 @@
-use Rattle.std.proofs.Common.{rules, ◌≡◌, ◌≤◌, ◌<◌, ◌+◌, ℕ, List, length, Option, Some, IfSome, true, is_err, ap, subst, ◌∙◌, false, arith}
+use Rattle.std.proofs.Common.{◌≤◌, ◌<◌, ◌+◌, ℕ, List, length, Option, Some, IfSome, true, ap, subst, ◌∙◌, false, arith, Err}
 use Rattle.uimg_base.specs.Held.{Held}
 use Rattle.uimg_blob.specs.LookUps.{NodeOf}
 use Rattle.uimg_blob.specs.Roles.{Level}
@@ -11,6 +11,7 @@ use Rattle.uimg_fit_reading.specs.Telling.{ListsBetween}
 use Rattle.uimg_fit_reading.proofs.OpenedLaws.{still}
 use Rattle.uimg_fit_reading.proofs.ImageLaws.{front, none_left}
 use Rattle.uimg_fit_reading.proofs.TellingLaws.{left_more, left_fails, left_ends, numbered_more, numbered_none, within_next, none_after, same_level}
+use Rattle.uimg_fit_reading.proofs.PassedLaws.{failed_of, leaves_stops, leaves_then}
 use Rattle.uimg_fit_reading.proofs.listing.listed_nodes.put_listed_nodes.Goals as goal
 
 pub returns-in_default-clause-told : goal.returns-in_default-clause-told
@@ -23,7 +24,7 @@ returns-in_default-clause-told g c = λ t o all at.
 
 pub returns-in_err-put_listed-clause-told : goal.returns-in_err-put_listed-clause-told
 returns-in_err-put_listed-clause-told g c = λ t o all at.
-    let failed : is_err c.from_residual.result ≡ true = search rules in
+    let failed = failed_of c.from_residual.result c.from_residual.ensures.0 in
     let file = (g.S.Source.device c.args.source.now).bytes in
     let kind = c.args.kind in
     let number = c.loop-number.number in
@@ -70,3 +71,9 @@ returns-clause-told g c = λ t o all at.
     let none_next = none_after c.loop-number.next c.loop-number.number _ full c.loop-number.invariant.within in
     let ended = none_left t (level_of kind) left.rest (subst (λ (o : Option ℕ). AreFrom t (level_of kind) o left.rest) none_next left.at) in
     left_ends (AreFrom t (level_of kind)) (numbered (node_lines file kind)) c.loop-number.number c.loop-number.next _ _ _ _ all left ended (numbered_none (node_lines file kind) c.loop-number.number)
+
+pub returns-in_err-put_listed-clause-leaves : goal.returns-in_err-put_listed-clause-leaves
+returns-in_err-put_listed-clause-leaves g c =
+    let k = c.loop-number.invariant in
+    leaves_stops _ _ _ _ _ _ _ _ c.from_residual.ensures.1
+    (leaves_then {X = Unit} tt (Err c.in_err-put_listed.field-0.0) _ _ _ _ _ _ _ _ _ (record { uses = record { same = k.same; failures = k.failures }; room = k.room; faults = k.faults }) c.in_err-put_listed.ensures.leaves)

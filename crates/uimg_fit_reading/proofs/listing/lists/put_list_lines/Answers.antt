@@ -6,6 +6,7 @@ use Rattle.uimg_fit_reading.specs.declared.listing.lists.Line.TheVariants.{First
 use Rattle.uimg_fit_reading.specs.Lists.{emitted, line_after, end_of_line}
 use Rattle.uimg_fit_reading.proofs.PutLaws.{◌▶◌, cut}
 use Rattle.uimg_fit_reading.proofs.ListLaws.{list_is}
+use Rattle.uimg_fit_reading.proofs.PassedLaws.{failed_of}
 use Rattle.uimg_fit_reading.proofs.listing.lists.put_list_lines.Goals as goal
 
 pub returns-in_err-put_value : goal.returns-in_err-put_value
@@ -14,7 +15,7 @@ returns-in_err-put_value g c = record {
   room = search rules;
   faults = search rules;
   told = λ honest.
-      let failed : is_err c.from_residual.result ≡ true = search rules in
+      let failed = failed_of c.from_residual.result c.from_residual.ensures.0 in
       let value = slice (g.S.Source.device c.args.source.now).bytes c.args.span.place c.args.span.length in
       rw failed (subst (λ (w : List ℕ). Written true c.args.out.now c.put_value.new.out w) (list_is c.args.label.now value)
       (cut _ _ _ (end_of_line (line_after First value)) (c.in_err-put_value.ensures.puts.told honest)));

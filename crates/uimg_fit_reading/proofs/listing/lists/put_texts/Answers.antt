@@ -1,4 +1,4 @@
-use Rattle.std.proofs.Common.{rules, ◌≡◌, ◌+◌, ◌++◌, ◌∙◌, subst, sym, ap, refl, ℕ, List, length, take, drop, true, is_err, take-append-drop, length-drop, arith}
+use Rattle.std.proofs.Common.{rules, ◌≡◌, ◌+◌, ◌++◌, ◌∙◌, subst, sym, ap, refl, ℕ, List, length, take, drop, take-append-drop, length-drop, arith}
 use Rattle.std.proofs.Math.Seq.{take-add}
 use Rattle.uimg_base.specs.Sink.{AppendsAll}
 use Rattle.uimg_base.proofs.SinkLaws.{Appends-none, all_then}
@@ -6,6 +6,7 @@ use Rattle.uimg_fit_reading.specs.declared.listing.lists.Line.{Line}
 use Rattle.uimg_fit_reading.specs.Lists.{emitted, line_after}
 use Rattle.uimg_fit_reading.proofs.PutLaws.{stopped}
 use Rattle.uimg_fit_reading.proofs.ListLaws.{emitted_append, after_append}
+use Rattle.uimg_fit_reading.proofs.PassedLaws.{failed_of}
 use Rattle.uimg_fit_reading.proofs.listing.lists.put_texts.Goals as goal
 
 pub loop-passed-init : goal.loop-passed-init
@@ -17,7 +18,7 @@ returns-in_err-line-clause-puts g c = record {
   faults = search rules;
   put = search rules;
   told =
-      let failed : is_err c.from_residual.result ≡ true = search rules in
+      let failed = failed_of c.from_residual.result c.from_residual.ensures.0 in
       let bytes = c.args.bytes.now in
       let passed = c.loop-passed.passed in
       let piece = c.first_piece-piece.result.now in

@@ -1,4 +1,4 @@
-use Rattle.std.proofs.Common.{rules, ◌≡◌, ◌+◌, ◌-◌, ◌++◌, ◌∙◌, IsTrue, subst, sym, ap, refl, ℕ, List, Bool, true, false, is_err, arith}
+use Rattle.std.proofs.Common.{rules, ◌≡◌, ◌+◌, ◌-◌, ◌++◌, ◌∙◌, IsTrue, subst, sym, ap, refl, ℕ, List, Bool, true, false, arith}
 use Rattle.uimg_texts.specs.Slices.{slice}
 use Rattle.uimg_base.specs.Sink.{AppendsAll}
 use Rattle.uimg_base.specs.Writing.{Written}
@@ -10,6 +10,7 @@ use Rattle.uimg_fit_reading.specs.declared.listing.lists.Line.TheVariants.{First
 use Rattle.uimg_fit_reading.specs.Lists.{emitted, line_after}
 use Rattle.uimg_fit_reading.proofs.PutLaws.{three_parts, stopped}
 use Rattle.uimg_fit_reading.proofs.ListLaws.{emitted_append, after_append}
+use Rattle.uimg_fit_reading.proofs.PassedLaws.{failed_of}
 use Rattle.uimg_fit_reading.proofs.listing.lists.put_value.Goals as goal
 
 pub loop-done-init : goal.loop-done-init
@@ -30,7 +31,7 @@ returns-in_err-line-clause-puts g c = record {
   faults = search rules;
   told =
       λ honest.
-      let failed : is_err c.from_residual.result ≡ true = search rules in
+      let failed = failed_of c.from_residual.result c.from_residual.ensures.0 in
       let same = c.loop-done.invariant.same in
       let file = (g.S.Source.device c.args.source.now).bytes in
       let at = c.args.span.place in

@@ -1,7 +1,8 @@
-use Rattle.std.proofs.Common.{rules, ◌≡◌, ℕ, List, true, is_err, decimal, sym, subst}
+use Rattle.std.proofs.Common.{rules, ℕ, List, true, is_err, decimal, sym, subst}
 use Rattle.uimg_texts.specs.Slices.{slice}
 use Rattle.uimg_base.specs.Writing.{Written}
 use Rattle.uimg_fit_reading.proofs.PutLaws.{◌▶◌, cut, title_parts}
+use Rattle.uimg_fit_reading.proofs.PassedLaws.{failed_of}
 use Rattle.uimg_fit_reading.proofs.listing.titles.put_title.Goals as goal
 
 pub returns-in_err-put_number : goal.returns-in_err-put_number
@@ -10,7 +11,7 @@ returns-in_err-put_number g c = record {
   room = search rules;
   faults = search rules;
   told = λ honest.
-      let failed : is_err c.from_residual.result ≡ true = search rules in
+      let failed = failed_of c.from_residual.result c.from_residual.ensures.0 in
       let name = slice (g.S.Source.device c.args.source.now).bytes c.args.name.place c.args.name.length in
       rw failed (subst (λ (w : List ℕ). Written true c.args.out.now c.put_number.new.out w) (sym (title_parts c.args.before.now (decimal c.args.number) name)) (cut _ _ _ _ c.in_err-put_number.ensures.told));
 }
@@ -21,7 +22,7 @@ returns-in_err-put_span g c = record {
   room = search rules;
   faults = search rules;
   told = λ honest.
-      let failed : is_err c.from_residual-in_err-put_span.result ≡ true = search rules in
+      let failed = failed_of c.from_residual-in_err-put_span.result c.from_residual-in_err-put_span.ensures.0 in
       let name = slice (g.S.Source.device c.args.source.now).bytes c.args.name.place c.args.name.length in
       rw failed (subst (λ (w : List ℕ). Written true c.args.out.now c.put_span.new.out w) (sym (title_parts c.args.before.now (decimal c.args.number) name))
       (c.in_ok-put_number.ensures.told.all ▶ cut _ _ _ _ (c.in_err-put_span.ensures.told honest)));

@@ -1,9 +1,9 @@
-use Rattle.std.proofs.Common.{rules, ◌≡◌, ◌∙◌, ℕ, Option, true, refl, subst, ap}
-use Rattle.std.specs.Prelude.{is_err}
+use Rattle.std.proofs.Common.{rules, ◌∙◌, ℕ, Option, refl, subst, ap}
 use Rattle.uimg_fit_reading.specs.Nodes.{HashesAt}
 use Rattle.uimg_fit_reading.specs.Plans.{with_plan}
 use Rattle.uimg_fit_reading.proofs.OpenedLaws.{still}
 use Rattle.uimg_fit_reading.proofs.HashReportLaws.{algos_first, algos_more, algos_cut, algos_all}
+use Rattle.uimg_fit_reading.proofs.PassedLaws.{failed_of}
 use Rattle.uimg_fit_reading.proofs.report.digests.compared_algos.Goals as goal
 
 pub loop-next-init : goal.loop-next-init
@@ -18,7 +18,7 @@ pub returns-in_err-plan-clause-found : goal.returns-in_err-plan-clause-found
 returns-in_err-plan-clause-found g c = λ t o hs at.
     let k = c.loop-next.invariant.left t o hs at in
     let first = subst (λ (x : Option ℕ). HashesAt t x k.left) c.in-Some.is k.at in
-    let failed : is_err c.from_residual.result ≡ true = search rules in
+    let failed = failed_of c.from_residual.result c.from_residual.ensures.0 in
     algos_cut t hs _ _ c.in-Some.hash c.loop-next.set c.loop-next.next k first _ c.from_residual.result c.plan_at.ensures.uses.asked failed
 
 pub loop-next-preserved : goal.loop-next-preserved

@@ -1,5 +1,4 @@
-use Rattle.std.proofs.Common.{rules, ◌≡◌, ◌∙◌, ℕ, List, true, refl, subst, sym, ap, arith, if◌then◌else◌}
-use Rattle.std.specs.Prelude.{is_err}
+use Rattle.std.proofs.Common.{◌∙◌, ℕ, List, refl, subst, sym, ap, arith, if◌then◌else◌}
 use Rattle.uimg_texts.specs.Slices.{slice}
 use Rattle.uimg_fit_base.specs.declared.algo_sets.AlgoSet.{AlgoSet}
 use Rattle.uimg_fit_base.specs.AlgoSets.{is_empty, no_algos, AreDigests}
@@ -7,12 +6,13 @@ use Rattle.uimg_fit_reading.specs.HashReports.{AllCovered}
 use Rattle.uimg_fit_reading.proofs.OpenedLaws.{still}
 use Rattle.uimg_fit_reading.proofs.PlanLaws.{of_answer, if_err}
 use Rattle.uimg_fit_reading.proofs.CompareLaws.{all_covered, read_where_compared}
+use Rattle.uimg_fit_reading.proofs.PassedLaws.{failed_of}
 use Rattle.uimg_fit_reading.proofs.report.digests.compared_digests.Goals as goal
 
 pub returns-in_err-set-clause-found : goal.returns-in_err-set-clause-found
 returns-in_err-set-clause-found g c = λ t o hs at.
     let found = c.in_err-set.ensures.found t o hs at in
-    let failed : is_err c.from_residual.result ≡ true = search rules in
+    let failed = failed_of c.from_residual.result c.from_residual.ensures.0 in
     record {
       digests = if_err c.from_residual.result _ failed;
       covered = if_err c.from_residual.result _ failed;

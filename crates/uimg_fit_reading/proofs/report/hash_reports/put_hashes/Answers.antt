@@ -1,5 +1,4 @@
-use Rattle.std.proofs.Common.{rules, ◌≡◌, ◌&&◌, ℕ, List, Option, Bool, true, false, subst, sym}
-use Rattle.std.specs.Prelude.{is_err}
+use Rattle.std.proofs.Common.{rules, refl, ◌∙◌, ◌&&◌, ℕ, List, Option, Bool, true, false, subst, sym, Err}
 use Rattle.uimg_texts.specs.Slices.{slice}
 use Rattle.uimg_base.specs.Writing.{Written}
 use Rattle.uimg_fit_base.specs.AlgoSets.{set_of}
@@ -7,14 +6,15 @@ use Rattle.uimg_fit_base.specs.Report.{hash_line}
 use Rattle.uimg_fit_reading.specs.Nodes.{HashesAt}
 use Rattle.uimg_fit_reading.proofs.OpenedLaws.{still}
 use Rattle.uimg_fit_reading.proofs.HashReportLaws.{LinesLeft, lines_first, lines_more, lines_cut, lines_all, covered_first}
+use Rattle.uimg_fit_reading.proofs.PassedLaws.{failed_of, leaves_stops, leaves_then}
 use Rattle.uimg_fit_reading.proofs.report.hash_reports.put_hashes.Goals as goal
 
 pub loop-next-init : goal.loop-next-init
 loop-next-init g c = record {
-  same = search rules;
-  failures = search rules;
-  faults = search rules;
-  room = search rules;
+  same = record { bytes = refl; honest = refl };
+  failures = refl;
+  faults = refl;
+  room = refl;
   within = search rules;
   left = λ t o hs at message are covered. lines_first t _ _ message c.args.image.length hs _ c.args.out.now c.args.first at covered;
 }
@@ -28,7 +28,7 @@ returns-in_err-word-clause-told g c = λ t o hs at message are covered.
     let same = c.loop-next.invariant.same in
     let here = still same c.loop-next.invariant.room o in
     let f = subst (λ (x : Option ℕ). HashesAt t x k.left) c.in-Some.is k.at in
-    let failed : is_err c.from_residual.result ≡ true = search rules in
+    let failed = failed_of c.from_residual.result c.from_residual.ensures.0 in
     let put = c.in_err-word.ensures.told t here f.hash f.more f.at message are (covered_first set k.left t c.in-Some.hash f k.covered).0 in
     let written = subst (λ (xs : List ℕ). Written true c.loop-next.out c.put_hash.new.out (hash_line (slice xs image.place image.length) message f.hash)) same.bytes put.written in
     lines_cut t set _ message image.length hs _ _ c.args.out.now c.loop-next.out c.loop-next.are_right c.loop-next.next c.in-Some.hash k f c.put_hash.new.out _
@@ -36,10 +36,10 @@ returns-in_err-word-clause-told g c = λ t o hs at message are covered.
 
 pub loop-next-preserved : goal.loop-next-preserved
 loop-next-preserved g c = record {
-  same = search rules;
-  failures = search rules;
-  faults = search rules;
-  room = search rules;
+  same = record { bytes = c.put_hash.ensures.leaves.uses.same.bytes ∙ c.loop-next.invariant.same.bytes; honest = c.put_hash.ensures.leaves.uses.same.honest ∙ c.loop-next.invariant.same.honest };
+  failures = c.in_ok-word.ensures.leaves.uses.failures ∙ c.loop-next.invariant.failures;
+  faults = c.in_ok-word.ensures.leaves.faults ∙ c.loop-next.invariant.faults;
+  room = c.put_hash.ensures.leaves.room ∙ c.loop-next.invariant.room;
   within = search rules;
   left = λ t o hs at message are covered.
       let d = g.S.Source.device in
@@ -63,3 +63,9 @@ pub returns-clause-told : goal.returns-clause-told
 returns-clause-told g c = λ t o hs at message are covered.
     lines_all t _ _ message c.args.image.length hs _ _ c.args.out.now c.loop-next.out c.loop-next.are_right c.loop-next.next (search rules)
     (c.loop-next.invariant.left t o hs at message are covered)
+
+pub returns-in_err-word-clause-leaves : goal.returns-in_err-word-clause-leaves
+returns-in_err-word-clause-leaves g c =
+    let k = c.loop-next.invariant in
+    leaves_stops _ _ _ _ _ _ _ _ c.from_residual.ensures.1
+    (leaves_then {X = Unit} tt (Err c.in_err-word.field-0.0) _ _ _ _ _ _ _ _ _ (record { uses = record { same = k.same; failures = k.failures }; room = k.room; faults = k.faults }) c.in_err-word.ensures.leaves)

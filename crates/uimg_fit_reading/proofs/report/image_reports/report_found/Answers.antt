@@ -1,15 +1,15 @@
-use Rattle.std.proofs.Common.{rules, ◌≡◌, ◌∙◌, true, false, not, refl, ap, arith}
-use Rattle.std.specs.Prelude.{is_err}
+use Rattle.std.proofs.Common.{◌∙◌, true, false, not, refl, ap, arith}
 use Rattle.uimg_texts.specs.Slices.{slice}
 use Rattle.uimg_blob.specs.Roles.{in_images}
 use Rattle.uimg_fit_reading.proofs.ImageReportLaws.{none_found, some_found, no_hashes}
 use Rattle.uimg_fit_reading.proofs.PlanLaws.{if_err}
+use Rattle.uimg_fit_reading.proofs.PassedLaws.{failed_of}
 use Rattle.uimg_fit_reading.proofs.report.image_reports.report_found.Goals as goal
 
 pub returns-in_err-put_unhashed-clause-told : goal.returns-in_err-put_unhashed-clause-told
 returns-in_err-put_unhashed-clause-told g c = λ t o found n.
     let file = (g.S.Source.device c.args.source.now).bytes in
-    let failed : is_err c.from_residual.result ≡ true = search rules in
+    let failed = failed_of c.from_residual.result c.from_residual.ensures.0 in
     none_found found _ (slice file c.args.span.place c.args.span.length) c.args.span.length _ _ true c.from_residual.result c.args.out.now c.put_unhashed.new.out
     (c.name_of-name.ensures.name file t o.read in_images found n)
     (no_hashes t c.first_hash-first.result _ (c.is_none.ensures ∙ ap not c.if-is_none.true) (c.first_hash-first.ensures.hashes t o.read.indexed found n))

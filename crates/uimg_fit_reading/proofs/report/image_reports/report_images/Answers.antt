@@ -1,4 +1,4 @@
-use Rattle.std.proofs.Common.{rules, ◌≡◌, ℕ, List, Option, Some, subst, sym}
+use Rattle.std.proofs.Common.{rules, refl, ◌∙◌, ◌≡◌, ℕ, List, Option, Some, subst, sym}
 use Rattle.std.specs.Prelude.{Result, Err}
 use Rattle.uimg_base.specs.declared.status.Status.{Status}
 use Rattle.uimg_blob.specs.LookUps.{NodeOf}
@@ -10,24 +10,25 @@ use Rattle.uimg_fit_reading.specs.Nodes.{AreFrom}
 use Rattle.uimg_fit_reading.proofs.OpenedLaws.{still}
 use Rattle.uimg_fit_reading.proofs.ImageLaws.{front}
 use Rattle.uimg_fit_reading.proofs.ImageReportLaws.{all_images, images_more, images_cut, images_done}
+use Rattle.uimg_fit_reading.proofs.PassedLaws.{passed_on}
 use Rattle.uimg_fit_reading.proofs.report.image_reports.report_images.Goals as goal
 
 pub loop-next-init : goal.loop-next-init
 loop-next-init g c = record {
-  same = search rules;
-  failures = search rules;
-  faults = search rules;
-  room = search rules;
+  same = record { bytes = refl; honest = refl };
+  failures = refl;
+  faults = refl;
+  room = refl;
   within = search rules;
   left = λ t o found from. all_images t (g.S.Source.device c.args.source.now).bytes found _ c.args.out.now c.args.first from;
 }
 
 pub loop-next-preserved : goal.loop-next-preserved
 loop-next-preserved g c = record {
-  same = search rules;
-  failures = search rules;
-  faults = search rules;
-  room = search rules;
+  same = record { bytes = c.report_image.ensures.leaves.uses.same.bytes ∙ c.loop-next.invariant.same.bytes; honest = c.report_image.ensures.leaves.uses.same.honest ∙ c.loop-next.invariant.same.honest };
+  failures = c.in_ok-right.ensures.leaves.uses.failures ∙ c.loop-next.invariant.failures;
+  faults = c.in_ok-right.ensures.leaves.faults ∙ c.loop-next.invariant.faults;
+  room = c.report_image.ensures.leaves.room ∙ c.loop-next.invariant.room;
   within = search rules;
   left = λ t o found from.
       let d = g.S.Source.device in
@@ -52,7 +53,7 @@ returns-in_err-right-clause-told g c = λ t o found from.
     let k = c.loop-next.invariant.left t o found from in
     let same = c.loop-next.invariant.same in
     let fault = c.in_err-right.field-0.0 in
-    let is : c.from_residual.result ≡ Err fault = search rules in
+    let is : c.from_residual.result ≡ Err fault = passed_on c.from_residual.result fault c.from_residual.ensures.1 in
     let f = front t in_images c.in-Some.image k.left (subst (λ (x : Option ℕ). AreFrom t in_images x k.left) c.in-Some.is k.from) in
     let cut = subst (λ (xs : List ℕ). ImageCut xs f.image (d c.loop-next.source).asked (d c.report_image.new.source).asked fault c.loop-next.out c.report_image.new.out) same.bytes
     (c.in_err-right.ensures.told t (still same c.loop-next.invariant.room o) f.image f.node) in

@@ -1,5 +1,5 @@
-use Rattle.std.proofs.Common.{rules, ℕ, List, true, false, ◌≡◌, refl, subst, arith}
-use Rattle.std.specs.Prelude.{is_err, Ok}
+use Rattle.std.proofs.Common.{ℕ, List, true, false, refl, subst, arith}
+use Rattle.std.specs.Prelude.{Ok}
 use Rattle.uimg_texts.specs.Slices.{slice}
 use Rattle.uimg_base.specs.Writing.{Written}
 use Rattle.uimg_base.proofs.SinkLaws.{prefix_none}
@@ -7,6 +7,7 @@ use Rattle.uimg_fit_reading.specs.HashReports.{line_of}
 use Rattle.uimg_fit_reading.proofs.OpenedLaws.{still}
 use Rattle.uimg_fit_reading.proofs.PlanLaws.{if_err}
 use Rattle.uimg_fit_reading.proofs.LineLaws.{puts_line}
+use Rattle.uimg_fit_reading.proofs.PassedLaws.{failed_of}
 use Rattle.uimg_fit_reading.proofs.report.judging.put_hash.Goals as goal
 
 pub returns-in_default-clause-told : goal.returns-in_default-clause-told
@@ -18,7 +19,7 @@ returns-in_err-put_judged-clause-told g c = λ t o found more at message are cov
     let same = c.judge.ensures.uses.same in
     let here = still same refl o in
     let image = c.args.image in
-    let failed : is_err c.from_residual.result ≡ true = search rules in
+    let failed = failed_of c.from_residual.result c.from_residual.ensures.0 in
     let put = c.in_err-put_judged.ensures.told t here found more at in
     let written = subst (λ (xs : List ℕ). Written true c.args.out.now c.put_judged.new.out (line_of (slice xs image.place image.length) c.in-Ok.word found)) same.bytes put.written in
     puts_line _ message image.length found _ _ _ c.in-Ok.word c.from_residual.result true c.args.out.now c.put_judged.new.out
