@@ -60,7 +60,7 @@ def copy_to(room):
 def sentinels():
     """Returns the sentinels by their crates and names, as in uimg_base/drops-last-window."""
     with open(SENTINELS, encoding="utf-8") as file:
-        return [it.split(":")[0] for it in file if it.strip() and not it.startswith("#")]
+        return [it.partition(":")[0].strip() for it in file if it.strip() and not it.startswith("#")]
 
 
 def counted(words, environment, told=None):

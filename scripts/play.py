@@ -37,8 +37,8 @@ import sys
 import tempfile
 import time
 
-# How long a command may take, in seconds.
-LIMIT = 60
+# How long a command may take, in seconds: with checks while it runs, beside other work, one takes more than a minute.
+LIMIT = 300
 
 NOT_PLAYED = {"make", "git", "apt", "apt-get", "sudo", "rt"}
 
