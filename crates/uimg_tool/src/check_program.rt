@@ -122,15 +122,24 @@ impl<'a, W: Write> Checks<'a, W> {
         let end = if request.has_nuls { 0 } else { b'\n' };
         for name in names.split(rt.alloc(), end) {
             match name {
-                Ok(name) if name.is_empty() => {}
-                Ok(name) => self.check(rt, request, name.as_slice())?,
-                Err(error) if error.kind() == ErrorKind::OutOfMemory => {
-                    return Err(Stop::NoMemory);
-                }
-                Err(_) => return Err(Stop::NoNames(path)),
+                Ok(name) => self.check_unless_empty(rt, request, name.as_slice())?,
+                Err(error) => return Err(stop_of_names(&error, path)),
             }
         }
         Ok(())
+    }
+
+    // Checks the image at a path, unless the path is empty, as on an empty line.
+    fn check_unless_empty<'b, R: Files + AllocGlobal>(
+        &mut self,
+        rt: &R,
+        request: &CheckRequest<'b>,
+        path: &[u8],
+    ) -> Result<(), Stop<'b>> {
+        if path.is_empty() {
+            return Ok(());
+        }
+        self.check(rt, request, path)
     }
 
     // Checks the image at a path, and writes its line.
@@ -146,16 +155,32 @@ impl<'a, W: Write> Checks<'a, W> {
             Err(_) => UNREAD,
         };
         self.greatest = u8::max(self.greatest, answer.status());
-        if request.as_json {
-            let text = object_text(rt.alloc(), path, &answer)?;
-            self.out.write_all(text.as_slice())?;
+        self.put_answer(rt.alloc(), request.as_json, path, &answer)
+    }
+
+    // Writes the line of an answer.
+    fn put_answer<'b>(
+        &mut self,
+        alloc: Global,
+        as_json: bool,
+        path: &[u8],
+        answer: &Answer<'_>,
+    ) -> Result<(), Stop<'b>> {
+        if as_json {
+            let text = object_text(alloc, path, answer)?;
+            self.put_line(text.as_slice())?;
         } else {
-            let text = line_text(rt.alloc(), path, &answer)?;
-            self.out.write_all(text.as_bytes())?;
+            let text = line_text(alloc, path, answer)?;
+            self.put_line(text.as_bytes())?;
         }
-        self.out.write_all(b"\n")?;
-        self.out.flush()?;
         Ok(())
+    }
+
+    // Writes a line, which is read at once.
+    fn put_line(&mut self, text: &[u8]) -> io::Result<()> {
+        self.out.write_all(text)?;
+        self.out.write_all(b"\n")?;
+        self.out.flush()
     }
 
     // Checks the file at a path.
@@ -186,6 +211,14 @@ impl<'a, W: Write> Checks<'a, W> {
             }
         }
         answer_of(end, unchecked, &mut source, names)
+    }
+}
+
+// Why the reading of the paths stopped.
+fn stop_of_names<'b>(error: &io::Error, path: &'b str) -> Stop<'b> {
+    match error.kind() {
+        ErrorKind::OutOfMemory => Stop::NoMemory,
+        _ => Stop::NoNames(path),
     }
 }
 

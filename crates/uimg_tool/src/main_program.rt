@@ -80,12 +80,24 @@ pub fn program<R: Files + AllocGlobal, W: Write, V: Write>(
         return program_by_old_name(rt, tool, words, epoch, now, out, err);
     }
     match read_words(rt.alloc(), words, epoch, now) {
-        Ok(Asked::One(request)) => tell_end(&carry_out(rt, &request, out), err),
-        Ok(Asked::Check(request)) => check_images(rt, &request, out, err),
-        Ok(Asked::Unpack(request)) => unpack_image(rt, &request, out, err),
-        Ok(Asked::Map(request)) => map_image(rt, &request, out, err),
-        Ok(Asked::Info(request)) => tell_facts(rt, &request, out, err),
+        Ok(asked) => carry_out_asked(rt, &asked, out, err),
         Err(fault) => tell_words_fault(&fault, err),
+    }
+}
+
+// Carries out what the words of a command line ask for.
+fn carry_out_asked<R: Files + AllocGlobal, W: Write, V: Write>(
+    rt: &R,
+    asked: &Asked<'_>,
+    out: &mut W,
+    err: &mut V,
+) -> u8 {
+    match asked {
+        Asked::One(request) => tell_end(&carry_out(rt, request, out), err),
+        Asked::Check(request) => check_images(rt, request, out, err),
+        Asked::Unpack(request) => unpack_image(rt, request, out, err),
+        Asked::Map(request) => map_image(rt, request, out, err),
+        Asked::Info(request) => tell_facts(rt, request, out, err),
     }
 }
 
