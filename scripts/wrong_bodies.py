@@ -19,6 +19,7 @@ refusal comes from the wrong body and not from how it is tried.
 A line for each wrong body, `refused`, `NOT REFUSED` or `BAD EDIT`, or for each right one, and last 'N passed, M
 failed'."""
 import argparse
+import contextlib
 import glob
 import os
 import re
@@ -49,6 +50,8 @@ UNSTATED = re.compile(r"no proof: antt did not admit its contract.*")
 ERROR = re.compile(r"(?:\./)?proofs/(\S+?)(?:/(?:Answers|Invariants|Proof))?\.antt:\d+:\d+: error")
 # An error by a name alone: a proof names what the wrong body took away, so that it says nothing of the contract.
 BY_NAME = "BAD EDIT: its answers only name what is not there"
+# What is said of a goal that no search proves.
+OPEN = "`search` did not prove"
 NAMED = re.compile(r".*: error: .*(has no `|has no field|is not in scope|was not admitted|were not admitted)")
 # What the prover says of a text that it cannot read.
 UNREAD = re.compile(r"(?:\./)?(?:src|specs)/\S+:\d+:\d+: error")
@@ -102,9 +105,9 @@ class Trials:
             self.kept = os.path.abspath(kept or f"{room}/kept")
             os.mkdir(self.kept)
 
-    def copy(self, texts, proved):
-        """Makes a copy of the crate with these texts in place of its own, and holes for all functions but those that
-        are to be proved, where these are told. Returns its folder."""
+    def copy(self, texts, proved, bare):
+        """Makes a copy of the crate with these texts in place of its own, holes for all functions but those that
+        are to be proved, where these are told, and no answers for those that are to be bare. Returns its folder."""
         crate = tempfile.mkdtemp(dir=self.room)
         for part in kit.PARTS:
             if os.path.isdir(f"{self.folder}/{part}"):
@@ -115,6 +118,9 @@ class Trials:
         for it in (it for file in self.known.values() for it in file if it.path and not it.is_in_cycle):
             if proved and it.path not in proved:
                 self.put_hole(f"{crate}/proofs/{it.path.replace('::', '/')}", it)
+        for it in bare:
+            with contextlib.suppress(FileNotFoundError):
+                os.remove(f"{crate}/proofs/{it.replace('::', '/')}/Answers.antt")
         return crate
 
     def put_hole(self, folder, function):
@@ -125,10 +131,10 @@ class Trials:
         with open(f"{folder}/Proof.antt", "w", encoding="utf-8") as file:
             file.write(HOLE.format(crate=self.name, module=function.path.replace("::", "."), name=function.name))
 
-    def check(self, texts, proved):
-        """Checks a copy of the crate, of which only some functions are to be proved, or all where none is told.
-        Returns the lines that the check prints, or None where it comes to no verdict."""
-        crate = self.copy(texts, proved)
+    def check(self, texts, proved, bare=()):
+        """Checks a copy of the crate, of which only some functions are to be proved, or all where none is told, some
+        without their answers. Returns the lines that the check prints, or None where it comes to no verdict."""
+        crate = self.copy(texts, proved, bare)
         words = [*self.words, "--incremental", self.kept, "--allow-holes"]
         for it in sorted(proved):
             words += ["--only", it]
@@ -147,13 +153,13 @@ class Trials:
         is_read = not any(UNREAD.match(it) for it in lines) and not any(UNSTATED.match(it) for it in said)
         return lines if ran.returncode in (0, 1) and ENDED.fullmatch(lines[-1]) and is_read else None
 
-    def refusals(self, edits, proved):
+    def refusals(self, edits, proved, bare=()):
         """Checks the crate with these wrong bodies. Returns what it says of each function that is refused for its own
         sake, by its path, with the lemmas that are refused, or None where there is no verdict."""
         texts = {}
         for edit in edits:
             texts[edit.file] = edit.apply(texts.get(edit.file) or self.text_of(edit))
-        lines = self.check(texts, proved)
+        lines = self.check(texts, proved, bare)
         return None if lines is None else refused_in(lines, self.name)
 
     def text_of(self, edit):
@@ -216,7 +222,15 @@ def try_alone(trials, edit):
     own = [why for place, why in refused.items() if edit.is_wide or place in edit.places]
     if not own:
         return False, "NOT REFUSED: it is still proved, or only what it stands beside is refused"
-    return not own[0].startswith(BY_NAME), own[0]
+    return try_bare(trials, edit, own[0]) if own[0].startswith(BY_NAME) else (True, own[0])
+
+
+def try_bare(trials, edit, before):
+    """Returns whether a wrong body is refused without the answers of its functions, since a search leaves a goal open,
+    and why, or else what was said with the answers."""
+    refused = trials.refusals([edit], edit.places, edit.places) or {}
+    own = [why for place, why in refused.items() if place in edit.places and OPEN in why]
+    return (True, own[0]) if own else (False, before)
 
 
 def try_group(trials, group):
@@ -232,7 +246,7 @@ def try_group(trials, group):
     for edit in group:
         if edit not in left:
             why = next(refused[place] for place in sorted(edit.places) if place in refused)
-            yield edit, (not why.startswith(BY_NAME), why)
+            yield edit, try_bare(trials, edit, why) if why.startswith(BY_NAME) else (True, why)
     half = (len(left) + 1) // 2 if len(left) == len(group) else len(left)
     for part in (left[:half], left[half:]):
         if part:
