@@ -35,7 +35,8 @@ def counted(lines, pattern):
 
 def tests_of(name):
     """Runs the tests of a crate. Returns how many passed and failed, and the lines to print."""
-    status, lines = run([kit.RT, "try", "--test"], f"crates/{name}")
+    # With checks, beside other work, some tests take more than the minute that is the kit's limit.
+    status, lines = run(["env", "RT_SECONDS=300", kit.RT, "try", "--test"], f"crates/{name}")
     passed, failed = counted(lines, r"^test result: \w+\. (\d+) passed; (\d+) failed")
     if status and not failed:
         failed = 1
