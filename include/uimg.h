@@ -1,20 +1,21 @@
-/* uimg.h: images for U-Boot in memory, legacy ones and FIT images, are listed and verified, and their payloads
-   are found. Link libuimg.a or libuimg.so; what it prints is what the program uimg prints, byte for byte.
+/* uimg.h: lists and verifies U-Boot images in memory, legacy images and FIT images, and locates their payloads.
+   Link libuimg.a or libuimg.so. Texts are byte for byte those of the program uimg.
 
-   For every list of bytes, well formed or not, a call returns, reads nothing beyond the image, writes nothing
-   beyond the memory that it is given, and tells just what the definition says of these bytes, or that memory
-   was refused: each function of the library is proved to do so (docs/LIBRARY.md; that memory is told to be
-   refused only where it was is tested). No call looks at signatures: that all hashes are right says that the
-   image is whole, and not who made it.
+   Proved for every image, well formed or not (docs/LIBRARY.md has the contracts): a call returns, reads nothing
+   outside the image, writes nothing outside the memory that it is given, and returns what the definition says of
+   the image's bytes, or UIMG_NO_MEMORY. Only tested: that UIMG_NO_MEMORY comes only if memory was refused, the
+   lines of faults, and the memory calls in C (library/).
 
-   It is compiled for x86-64-v2, a processor with SSE4.2, whose SSE registers are in use.
+   No call checks signatures. Right hashes say that the image is undamaged, and not who made it.
 
-   What a caller sees to:
-   - No pointer is null, not one beside a size of 0 either, and so many bytes as its size says are there.
-   - The memory for a text, and the report or payload, overlap neither one another nor the image, and have values
-     before the call (as by calloc or = {0}). Nobody else writes the image (a mapped file is not written or cut
-     short either), and nobody else reads or writes the rest, while the call runs.
-   - Calls may run at once in several threads, each over its own memory. None is made from a signal handler. */
+   The library is compiled for x86-64-v2 (SSE4.2) and uses the SSE registers.
+
+   The caller has to ensure:
+   - No pointer is null, even for a size of 0, and each points to as many bytes as its size says.
+   - The text buffer and the report or payload overlap neither each other nor the image, and are initialized (by
+     calloc or = {0}). During the call nobody else writes the image (or writes or truncates a mapped file), and
+     nobody else reads or writes the rest.
+   - Calls may run in several threads at once, each on its own memory. No call is made from a signal handler. */
 #ifndef UIMG_H
 #define UIMG_H
 
@@ -25,61 +26,58 @@
 extern "C" {
 #endif
 
-/* The status of a call: as the program's exit status. */
+/* The status of a call, like the exit status of the program. */
 enum uimg_status {
-    UIMG_DONE = 0,      /* done; of a verification: each hash that is there is right */
-    UIMG_NOT_RIGHT = 1, /* a checksum is not right, or, where fault is not 0, the image is refused */
+    UIMG_DONE = 0,      /* success; of a verification: every hash of the image is right */
+    UIMG_NOT_RIGHT = 1, /* a checksum is wrong or, if fault is not 0, the image is refused */
     UIMG_NO_MEMORY = 3  /* memory was refused: nothing is known of the image, and no text was written */
 };
 
-/* A fault is its letter and its number: UIMG_FAULT('L', 8) is L8, no such part; 0 is none. Legacy images have
-   the letter L, the blobs of FIT images B, and the images in them F. */
+/* The code of a fault: UIMG_FAULT('L', 8) is L8, no such part; 0 is no fault. The letter is L for legacy images, B
+   for the blob of a FIT image, and F for the images in it. */
 #define UIMG_FAULT(letter, number) ((uint32_t)(letter) * 256u + (uint32_t)(number))
 
-/* What a listing or a verification found, and its text. */
+/* The result of a listing or a verification. */
 typedef struct uimg_report {
     uint32_t status; /* UIMG_DONE, UIMG_NOT_RIGHT or UIMG_NO_MEMORY */
     uint32_t fault;  /* why the image is refused, or 0 */
-    uint64_t place;  /* where in the image a fault of the letter B is, else 0 */
-    size_t needed;   /* how many bytes the whole text has */
-    size_t written;  /* how many of them stand at the front of the caller's memory: the lesser of needed and its
-                        size */
-    uint64_t peak;   /* the most bytes that the table of a FIT image's nodes took, with a window of 8192 bytes that
-                        stands on the stack: at most 8192 and 128 for each node. What the text took is not in it.
-                        0 where memory was refused */
+    uint64_t place;  /* offset in the image of a fault with the letter B, else 0 */
+    size_t needed;   /* full length of the text in bytes */
+    size_t written;  /* bytes written to the buffer: the smaller of needed and the buffer's size */
+    uint64_t peak;   /* peak bytes of the table of a FIT image's nodes, plus 8192 for a window on the stack: at most
+                        8192 plus 128 per node, without the text. 0 if memory was refused */
 } uimg_report;
 
-/* Where a payload stands in an image: image[start] to image[start + size - 1], always inside the image. */
+/* The location of a payload: image[start] to image[start + size - 1], always inside the image. */
 typedef struct uimg_payload {
-    uint32_t status; /* UIMG_DONE where it was found, else UIMG_NOT_RIGHT or UIMG_NO_MEMORY */
+    uint32_t status; /* UIMG_DONE if it was found, else UIMG_NOT_RIGHT or UIMG_NO_MEMORY */
     uint32_t fault;  /* why not, or 0 */
-    uint64_t place;  /* where in the image a fault of the letter B is, else 0 */
-    size_t start;    /* 0 where none was found, as size */
+    uint64_t place;  /* offset in the image of a fault with the letter B, else 0 */
+    size_t start;    /* start and size are 0 if it was not found */
     size_t size;
-    uint64_t peak;   /* the same as of a report, where memory was refused too */
+    uint64_t peak;   /* as in a report, but also valid if memory was refused */
 } uimg_payload;
 
-/* How many parts a legacy image, or how many images a FIT image has. */
+/* The number of parts of a legacy image, or of images in a FIT image. */
 typedef struct uimg_count {
-    uint32_t status; /* UIMG_DONE where they were counted, else UIMG_NOT_RIGHT or UIMG_NO_MEMORY */
+    uint32_t status; /* UIMG_DONE if they were counted, else UIMG_NOT_RIGHT or UIMG_NO_MEMORY */
     uint32_t fault;  /* why not, or 0 */
-    uint64_t place;  /* where in the image a fault of the letter B is, else 0 */
-    size_t count;    /* 0 where they were not */
-    uint64_t peak;   /* the same as of a report, where memory was refused too */
+    uint64_t place;  /* offset in the image of a fault with the letter B, else 0 */
+    size_t count;    /* 0 if they were not counted */
+    uint64_t peak;   /* as in a report, but also valid if memory was refused */
 } uimg_count;
 
-/* The listing of an image, as of `uimg dumpimage -l`. The answer is report->status. The front of text is written,
-   as much as there is place for; what stands behind it stays, and where memory was refused all of it. */
+/* Lists an image, like `uimg dumpimage -l`. Returns report->status. The text is truncated to the buffer; the rest of
+   the buffer is unchanged, and all of it if memory was refused. */
 uint32_t uimg_list(const uint8_t *image, size_t image_size, uint8_t *text, size_t text_size, uimg_report *report);
 
-/* The report on an image's checksums, as of `uimg verify`: a line for the header and the data of a legacy image,
-   and for each hash node of each image of a FIT. The answer is report->status: 0 only where each line ends with
-   ok, or with unhashed, which the line of an image without hash nodes does. A FIT without an image has no line, and
-   0 too: uimg_check asks for more. */
+/* Verifies an image's checksums, like `uimg verify`: a line each for the header and the data of a legacy image, or for
+   each hash node of each image of a FIT. Returns report->status: 0 if and only if each line ends with ok or, for an
+   image without hash nodes, with unhashed. That includes a FIT without images: use uimg_check to ask for more. */
 uint32_t uimg_verify(const uint8_t *image, size_t image_size, uint8_t *text, size_t text_size, uimg_report *report);
 
-/* What a check needs at least: an algorithm, in the order of strength. CRC-32, MD5 and SHA-1 tell damage, and withstand
-   nobody who wants to deceive. */
+/* The weakest algorithm that a check accepts, in order of strength. CRC-32, MD5 and SHA-1 detect damage, but not
+   forgery. */
 enum uimg_need {
     UIMG_CRC32 = 1,
     UIMG_MD5 = 2,
@@ -89,38 +87,37 @@ enum uimg_need {
     UIMG_SHA512 = 6
 };
 
-/* A strict check, without a text (needed and written are 0): as uimg_verify, but 0 only where the FIT has an image, and
-   each of its images has a hash node that is compared by the needed algorithm or a stronger one. A legacy image has
-   CRC-32 alone. Another number than those above is met by nothing. The answer is report->status. */
+/* Checks an image without printing (needed and written are 0). Returns report->status: 0 only if uimg_verify returns 0,
+   the FIT has an image, and each of its images has a right hash by the needed algorithm or a stronger one. A legacy
+   image has CRC-32 alone. No image meets a number that is not in the list above. */
 uint32_t uimg_check(const uint8_t *image, size_t image_size, uint32_t need, uimg_report *report);
 
-/* Where the part of a legacy image, or the payload of a FIT image's image, at a position stands, counted from 0.
-   Of a legacy image the checksums have to be right; of a FIT nothing of the payload is read: verify it before. The
-   answer is payload->status, never UIMG_NO_MEMORY of a legacy image. Behind the last position the fault is L8 or F4; F2,
-   F3 and L7 are of this position alone, and any other fault is the image's, at every position. */
+/* Locates the part of a legacy image, or the payload of an image in a FIT, by its position, counted from 0. Returns
+   payload->status; for a legacy image that is never UIMG_NO_MEMORY. The checksums of a legacy image are verified; the
+   payload of a FIT is not read, so verify it first. L8 and F4 say that there is no such position; F2, F3 and L7 are
+   faults of this position; any other fault is one of the image, for every position. */
 uint32_t uimg_payload_at(const uint8_t *image, size_t image_size, uint32_t position, uimg_payload *payload);
 
-/* Where the payload of the first image of a name stands in a FIT image; the name has no NUL behind it. A legacy image,
-   whose parts have no names, is refused with the fault B2. The image's table is read once, so of many images, too, this
-   is quick. The answer is payload->status; F4 is the fault where no image has the name. */
+/* Locates the payload of the first image with a name in a FIT; the name is not terminated by NUL. Returns
+   payload->status. The fault is F4 if no image has the name, and B2 for a legacy image, whose parts have no names. */
 uint32_t uimg_payload_named(const uint8_t *image, size_t image_size, const uint8_t *name, size_t name_size,
                             uimg_payload *payload);
 
-/* Where the name of the image at a position, counted from 0, stands in a FIT image: payload->start and payload->size are
-   of the name, which has no NUL behind it in this count. The answer is payload->status. */
+/* Locates the name of the image at a position, counted from 0, in a FIT: payload->start and payload->size are those of
+   the name, without its NUL. Returns payload->status. */
 uint32_t uimg_payload_name(const uint8_t *image, size_t image_size, uint32_t position, uimg_payload *payload);
 
-/* How many images a FIT image has, or how many parts a legacy image: those in the table of the types multi and script, and
-   else one. Of a legacy image the checksums have to be right. At each position below the count uimg_payload_at finds
-   a payload, or tells why that one cannot be had. The answer is count->status, never UIMG_NO_MEMORY of a legacy image. */
+/* Counts the images of a FIT, or the parts of a legacy image: those in the table of the types multi and script, else
+   one. Returns count->status; for a legacy image, whose checksums are verified, that is never UIMG_NO_MEMORY. At each
+   position below the count uimg_payload_at finds a payload, or reports a fault of that payload. */
 uint32_t uimg_payload_count(const uint8_t *image, size_t image_size, uimg_count *count);
 
-/* The line of a fault, as "L8 no such part", is put to the front of text, without a NUL. The answer is how many bytes
-   the whole line has, at most 64: 0 for a number that is no fault's. Of a fault of the letter B the program prints its place
-   behind the line, as " at 40". */
+/* Writes the line of a fault, as "L8 no such part", truncated to the buffer, without a NUL. Returns the full length of
+   the line, at most 64: 0 if the number is not that of a fault. After the line of a fault with the letter B the program
+   prints its offset, as " at 40". */
 size_t uimg_fault_line(uint32_t fault, uint8_t *text, size_t text_size);
 
-/* The version, as "0.1.0", is put to the front of text, without a NUL. The answer is how many bytes it has. */
+/* Writes the version, as "0.1.0", truncated to the buffer, without a NUL. Returns its full length in bytes. */
 size_t uimg_version(uint8_t *text, size_t text_size);
 
 #ifdef __cplusplus
