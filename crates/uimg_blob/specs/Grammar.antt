@@ -14,7 +14,7 @@ pub data Siblings : Type 0 where
 abbrev pub Reads : Type 0 → Type 0
 Reads A = List Token → Result (A × List Token) Fault
 
--- a token that may not stand where it stands
+-- a token that may not stand where it stands; a stray one has its own fault
 abbrev pub misplaced : Token → Fault
 misplaced (stray at fault) = (fault, at)
 misplaced (begin_node at name) = (BadNesting, at)

@@ -32,6 +32,7 @@ or_else None None third = third
 
 -- The payload's place: `data-position` from the file's start, else `data-offset` from the blob's end, rounded up to a multiple
 -- of 4, each with `data-size`; else that of the first `data`; else there is none.
+-- Sums are of whole numbers: no limit of 32 or 64 bits cuts them.
 abbrev pub place : List ℕ → NodeOf Spot → Result Span FitFault
 place file image =
     or_else (external 0 (cell image.own (codes "data-position")) (cell image.own (codes "data-size")))

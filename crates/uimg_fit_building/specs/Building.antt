@@ -31,12 +31,14 @@ moved_own_by size made key at (p ∷ own) =
     else p ∷ moved_own_by size made key at own
 
 -- images, the first `data` of each moved: one after the other from a place on, each rounded up by an alignment
+-- An image without `data` stays as it is.
 unfoldable pub moved_from_by : {V : Type 0} → (V → ℕ) → (List ℕ → V) → ℕ → List ℕ → ℕ → NodesOf V → NodesOf V
 moved_from_by size made align key at no_node = no_node
 moved_from_by size made align key at (a_node name own below after) =
     a_node name (moved_own_by size made key at own) below (moved_from_by size made align key (at + padded_size_by size align own) after)
 
--- a tree whose payloads are placed
+-- a tree whose payloads are placed: inside the blob; at `data-offset`, counted from the blob's end;
+-- or at `data-position`, counted from the file's start
 abbrev pub moved_by : {V : Type 0} → (V → ℕ) → (List ℕ → V) → NodesOf V → Placement → NodesOf V
 moved_by size made t Inside = t
 moved_by size made t (After align) = with_images (moved_from_by size made align (codes "data-offset") 0) t

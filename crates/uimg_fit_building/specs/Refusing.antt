@@ -41,7 +41,8 @@ is_low size Inside = Bool.false
 is_low size (After align) = Bool.false
 is_low size (At p align) = nat_lt p size
 
--- whether a tree whose names are good can be built, or the first fault
+-- whether a tree whose names are good can be built, or the first fault: the blob is too large, the
+-- payloads would begin before its end, the file is too large
 unfoldable pub build_fault : Nodes → Placement → Option FitFault
 build_fault t placement =
     if nat_lt 4294967295 (length (placed_blob t placement)) then Some TooLarge

@@ -31,7 +31,7 @@ value_lines show.Address label value = line (label ++ address_text value)
 value_lines show.Hexadecimal label value = line (label ++ encode_lower value)
 value_lines show.List label value = lines_of label (pieces value)
 
--- the same of a value that may be missing
+-- the same of a value that may be missing, which then has no line
 abbrev pub shown : Show → List ℕ → Option (List ℕ) → List ℕ
 shown how label value = option_map_or (value_lines how label) value []
 

@@ -22,7 +22,7 @@ joined [] = []
 joined (last ∷ []) = last
 joined (part ∷ next ∷ more) = part ++ padding (length part) ++ joined (next ∷ more)
 
--- the size of each part as a word, and a zero word
+-- the size of each part as a word, and a zero word (mkimage(1), image type multi)
 unfoldable pub size_table : List (List ℕ) → List ℕ
 size_table parts = flat_map (λ part. to_be_bytes w32 (length part)) parts ++ to_be_bytes w32 0
 

@@ -13,7 +13,8 @@ end_of (Some t) = t.end
 abbrev pub further : Option Thing → Thing → Option Thing
 further last t = if nat_lt (end_of last) t.end then Some t else last
 
--- the thing that ends last, where another, which begins no earlier, has bytes of it
+-- the thing that ends last, where another, which begins no earlier, has bytes of it;
+-- a thing without bytes overlaps nothing
 unfoldable pub overlapped : Option Thing → Thing → Option Thing
 overlapped last t = if nat_lt t.place (min (end_of last) t.end) then last else None
 

@@ -49,6 +49,7 @@ number_if name None = []
 number_if name (Some n) = number_member name n
 
 -- a text: its bytes by base64 (RFC 4648, section 4), or as UTF-8, with U+FFFD in place of what is not
+-- (Unicode Standard, section 3.9)
 abbrev pub spelled : Bool → List ℕ → Json
 spelled true t = string (encode_of standard t)
 spelled false t = string (utf8_lossy t)

@@ -53,6 +53,7 @@ digest_size Sha384 = 48
 digest_size Sha512 = 64
 
 -- the digest of a message; that of CRC-32 is the number in four bytes, the highest first
+-- (RFC 1321; FIPS 180-4, sections 6.1, 6.2, 6.4 and 6.5)
 abbrev pub digest_by : Algo → List ℕ → List ℕ
 digest_by Crc32 message = to_be_bytes w32 (crc message)
 digest_by Md5 message = md5 message

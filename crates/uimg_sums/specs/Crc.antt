@@ -45,6 +45,6 @@ dividend message = flat_map (bits 8) message ++ replicate 32 false
 unfoldable pub invert_prefix : List Bool → List Bool
 invert_prefix bs = map not (take 32 bs) ++ drop 32 bs
 
--- CRC-32 of a message
+-- CRC-32 of a message (ISO 3309, ITU-T V.42), as U-Boot's ih_hcrc and ih_dcrc hold it
 unfoldable pub crc : List ℕ → ℕ
 crc message = number_of (map not (rem (invert_prefix (dividend message))))

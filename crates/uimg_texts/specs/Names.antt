@@ -3,6 +3,7 @@ use Rattle.std.specs.Prelude.{ℕ, List, [], ◌∷◌, ◌++◌, Option, codes,
 use Rattle.std.specs.Option.{option_map, option_map_or}
 use Rattle.std.specs.Str.{bytes_eq}
 
+-- The codes are those of image.h. Which of them have a row is this project's choice, the profile.
 -- a name as users write it, its code, and the name as it is printed
 pub record Row : Type 0 where
   pub short : List ℕ

@@ -34,6 +34,7 @@ moment_text year month day weekday hour minute second =
     ++ clock_text hour minute second ++ codes " " ++ year_text year
 
 -- the same of a second: its day's date and weekday, and the rest in hours, minutes and seconds
+-- Each day has 86400 seconds: leap seconds do not count (POSIX, "Seconds Since the Epoch").
 unfoldable pub time_text : ℕ → List ℕ
 time_text s =
     let date = civil_date (s / 86400) in
