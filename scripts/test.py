@@ -1,7 +1,7 @@
 #!/usr/bin/env python3
 """test.py: the tests, of which none needs a proof. The crates of tests are compiled with checks while they run, and run,
-side by side (`rt try --test`). So is the program, against which the command lines of cases/, README.md, docs/JSON.md and
-the manual page are played; those that set limits which its checks break are named, and left to the proved program.
+side by side (`rt try --test`). So is the program, against which the command lines of cases/, README.md, docs/GUIDE.md,
+docs/JSON.md and the manual page are played; those that set limits which its checks break are named, and left to the proved program.
 
 A line for each crate of tests and for the command lines, with what failed; then that nothing was proved, and last
 'N passed, M failed'. The status is 0 where nothing failed."""
@@ -17,7 +17,7 @@ import time
 import kit
 import try_build
 
-PLAYED = [*sorted(glob.glob("cases/*.t")), "README.md", "docs/JSON.md", "docs/uimg.1"]
+PLAYED = [*sorted(glob.glob("cases/*.t")), "README.md", "docs/GUIDE.md", "docs/JSON.md", "docs/uimg.1"]
 
 
 def run(words, folder="."):
