@@ -82,7 +82,7 @@ def functions_of(crate):
         lines, block = read(path).split("\n"), Block("")
         for at, line in enumerate(lines if os.path.basename(path) != "samples.rt" else []):
             if functions.BLOCK.match(line) or line.startswith("}"):
-                block = Block(line.lstrip("}"))
+                block = Block("" if line.startswith("}") else line)
             block.has_ghosts = block.has_ghosts or bool(GHOST.match(line))
             if functions.FUNCTION.match(line):
                 yield Function(path, lines, at, block)
