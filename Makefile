@@ -5,7 +5,7 @@ PREFIX ?= /usr/local
 IMAGE ?= examples/abc-kernel.img
 export RT
 
-.PHONY: all demo try check test gate wrong-bodies lib lib-test json-test farm-test install deb peers bench clean help
+.PHONY: all demo try check test gate wrong-bodies contracts lib lib-test json-test farm-test install deb peers bench clean help
 .NOTPARALLEL:
 
 ## make          proves what the program stands on, and builds bin/uimg
@@ -45,6 +45,12 @@ gate:
 wrong-bodies:
 	@scripts/needs.sh rt python3
 	@python3 scripts/lots.py $(CRATE)
+
+## make contracts CRATE=uimg_its   lists the public functions of a crate with their clauses; without CRATE, how much of
+##               each crate is under a contract
+contracts:
+	@scripts/needs.sh python3
+	@python3 scripts/contracts.py $(CRATE)
 
 ## make lib      proves the library for C, and leaves libuimg.a, libuimg_block.a and libuimg.so in lib/
 lib: lib/libuimg.a

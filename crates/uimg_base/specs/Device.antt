@@ -3,9 +3,13 @@ use Rattle.std.specs.Prelude.{◌≡◌, ℕ, ◌+◌, ◌-◌, ◌^◌, ◌<◌
 
 -- What a source is: its bytes, whether its answers are those bytes, and two counters.
 pub record Device : Type 0 where
+  -- its bytes, which no call changes
   pub bytes : List ℕ
+  -- whether each read that succeeds returns these bytes
   pub honest : Bool
+  -- how many bytes were requested, failed reads included; it stays at its greatest value
   pub asked : ℕ
+  -- how many calls failed; it stays at its greatest value
   pub failures : ℕ
 
 -- A counter of 64 bits rose, or stood at its greatest value.

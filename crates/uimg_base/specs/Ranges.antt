@@ -18,8 +18,10 @@ is_put _ = false
 
 -- A prefix of the bytes was appended, and at most a window more was asked for.
 pub record CopiesPrefix (d e : Device) (s t : Sink) (bytes : List ℕ) : Type 0 where
+  -- so many of the bytes were appended
   pub count : ℕ
   pub first : AppendsFirst count s t bytes
+  -- at most 8192 bytes more than these were requested
   pub ahead : e.asked ≤ d.asked + (count + 8192)
 
 -- The same, and all was appended unless a device failed.
@@ -29,6 +31,8 @@ pub record Copies (failed : Bool) (d e : Device) (s t : Sink) (bytes : List ℕ)
 
 -- A prefix of the bytes was appended, and no more than so many, and those and a window, was asked for.
 pub record ReadsAhead (most : ℕ) (d e : Device) (s t : Sink) (bytes : List ℕ) : Type 0 where
+  -- so many of the bytes were appended
   pub count : ℕ
   pub first : AppendsFirst count s t bytes
+  -- at most `most` bytes, these and 8192 more were requested
   pub ahead : e.asked ≤ d.asked + (most + (count + 8192))

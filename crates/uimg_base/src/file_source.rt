@@ -28,7 +28,7 @@ pub struct FileSource<F: Read + Seek> {
 }
 
 impl<F: Read + Seek + OpenFile + Drop> FileSource<F> {
-    /// Opens the file at a path.
+    /// Opens the file at a path, as a source of which no byte was requested and no read failed.
     ///
     /// `SourceFault` comes where the file cannot be opened, is a folder, or does not tell its
     /// length (a pipe).

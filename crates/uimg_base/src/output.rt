@@ -51,7 +51,7 @@ impl<W: Write> Out<W> {
     /// Writes all the bytes.
     ///
     /// `PutFault` comes where `write` answers an error or takes nothing; then a prefix of the bytes
-    /// was written.
+    /// was written, and the faults rose by 1 (or stood at their greatest value).
     pub fn put_all(&mut self, bytes: &[u8]) -> Result<(), PutFault>
         ensures writes { Writes (is_err result) self.old self.new bytes.now }
         ensures counted { self.new.faults ≡ (if is_err result then min (self.old.faults + 1)

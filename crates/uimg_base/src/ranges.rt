@@ -61,8 +61,9 @@ fn copy_window<S: Source, W: Write>(
 /// Copies the `len` bytes at the offset `at` of the source to the output, through a window.
 ///
 /// The caller sees to it that the range lies in the source. `MoveFault::Read` comes exactly where a
-/// read failed, `MoveFault::Put` exactly where a write did. Over an honest source, on every exit, a
-/// prefix of the range was written and at most 8192 bytes more than that were asked for.
+/// read failed, `MoveFault::Put` exactly where a write did. At most `len` bytes are requested, and just
+/// so many at `Ok`. Over an honest source, on every exit, a prefix of the range was written and at most
+/// 8192 bytes more than that were requested.
 pub fn copy_through<S: Source, W: Write>(
     source: &mut S,
     window: &mut [u8; WINDOW],
@@ -91,9 +92,9 @@ pub fn copy_through<S: Source, W: Write>(
 /// Copies the `len` bytes at the offset `at` of the source to the output, through the room's window.
 ///
 /// The caller sees to it that the range lies in the source. `MoveFault::Read` comes exactly where a
-/// read failed, `MoveFault::Put` exactly where a write did. Over an honest source, on every exit, a
-/// prefix of the range was written and at most 8192 bytes more than that were asked for. Nothing of
-/// the room changes but its window.
+/// read failed, `MoveFault::Put` exactly where a write did. At most `len` bytes are requested, and just
+/// so many at `Ok`. Over an honest source, on every exit, a prefix of the range was written and at most
+/// 8192 bytes more than that were requested. Nothing of the room changes but its window.
 pub fn copy_range<S: Source, W: Write, A: Allocator>(
     source: &mut S,
     room: &mut Room<A>,
@@ -138,8 +139,9 @@ fn feed_window<M: Summer, S: Source>(
 /// Feeds the `len` bytes at the offset `at` of the source to the sum, through a window.
 ///
 /// The caller sees to it that the range lies in the source. `SourceFault` comes exactly where a
-/// read failed; then some of the range may have been fed. Over an honest source the sum is then
-/// over the range's bytes behind those that it was fed before.
+/// read failed; then some of the range may have been fed. At most `len` bytes are requested, and just so
+/// many at `Ok`. Over an honest source the sum is then over the range's bytes behind those that it was
+/// fed before.
 pub fn feed_through<M: Summer, S: Source>(
     sum: &mut M,
     source: &mut S,
@@ -164,9 +166,10 @@ pub fn feed_through<M: Summer, S: Source>(
 /// Sums the `len` bytes at the offset `at` of the source, a window at a time. The digest goes to
 /// the first bytes of `to`, and its length is the answer.
 ///
-/// The caller sees to it that the range lies in the source. `SourceFault` comes exactly where a
-/// read failed; then `to` stays. Over an honest source the digest is that of the range's bytes.
-/// Nothing of the room changes but its window.
+/// The caller sees to it that the range lies in the source. `SourceFault` comes exactly where a read
+/// failed; then `to` stays. A digest has at most 64 bytes; over an honest source it is that of the
+/// range's bytes. At most `len` bytes are requested, and just so many at `Ok`. Nothing of the room
+/// changes but its window.
 pub fn sum_range<M: Summer, S: Source, A: Allocator>(
     source: &mut S,
     room: &mut Room<A>,
@@ -190,8 +193,8 @@ pub fn sum_range<M: Summer, S: Source, A: Allocator>(
 /// CRC-32 of the `len` bytes at the offset `at` of the source.
 ///
 /// The caller sees to it that the range lies in the source. `SourceFault` comes exactly where a
-/// read failed. Over an honest source the CRC is that of the range's bytes. Nothing of the room
-/// changes but its window.
+/// read failed. Over an honest source the CRC is that of the range's bytes. At most `len` bytes are
+/// requested, and just so many at `Ok`. Nothing of the room changes but its window.
 pub fn crc_range<S: Source, A: Allocator>(
     source: &mut S,
     room: &mut Room<A>,

@@ -91,7 +91,8 @@ impl<A: Allocator> Room<A> {
 
     /// Adds an entry at the end, taking memory for just that one.
     ///
-    /// `AllocError` comes where the memory was refused; then all entries stay.
+    /// `AllocError` comes where the memory was refused; then all entries stay, and the refusals rose by 1
+    /// (or stood at their greatest value). The peak is the most that was ever held.
     pub fn add(&mut self, entry: Entry) -> Result<(), AllocError>
         ensures entries { self.new.entries ≡ (if is_ok result then self.old.entries ++ entry ∷ []
             else self.old.entries) }

@@ -33,8 +33,8 @@ pub trait SeekRead: Drop {
         ensures { MovesToEnd result (stream self.old) (stream self.new) };
 }
 
-/// A file of the operating system. Contracts know nothing of its bytes; but that a call takes from the
-/// file's own reader what it gives, and moves to where it says, they do know.
+/// A file of the operating system. Contracts know nothing of its bytes. They do know that a read takes
+/// from the file's own reader what it returns, and that a move goes to the offset that was given.
 #[derive(Drop)]
 pub struct DiskFile<F: Read + Seek> {
     pub(crate) file: F,

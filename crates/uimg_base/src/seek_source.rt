@@ -13,9 +13,9 @@ use crate::source::{Source, SourceFault};
 
 /// An open file as a source, read by seek and read.
 ///
-/// It keeps the length that was found when it was made, and reads ahead as a `FileSource` does. Over a file whose bytes contracts know it is
-/// an honest source of these bytes; over any other, contracts see zeros in place of its bytes, and it
-/// is not claimed to be honest.
+/// It keeps the length that was found when it was made, and reads ahead as a `FileSource` does. Over a
+/// file whose bytes contracts know it is an honest source of these bytes; over any other, contracts see
+/// zeros in place of its bytes, and it is not claimed to be honest.
 #[derive(Drop)]
 pub struct SeekSource<F: SeekRead> {
     file: F,

@@ -20,7 +20,7 @@ pub trait Shelf: Write + Drop {
     /// Ends the writing, and gives what was written as a source of which nothing was asked yet. An
     /// honest shelf gives an honest source with just the bytes that were written.
     ///
-    /// `SourceFault` comes where what was written cannot be read.
+    /// `SourceFault` comes where what was written cannot be read; over a steady shelf it never comes.
     fn keep(self) -> Result<Self::Kept, SourceFault>
         ensures bytes { IsTrue honest → IfOk result (λ kept.
             Self.contents self ≡ Some (Self.Kept.device kept).bytes) }

@@ -24,7 +24,7 @@ pub trait Source: Drop {
     /// Whether each call answers. It is a fact of the type: sources in memory are steady.
     ghost steady: { Bool } = { false };
 
-    /// How many bytes the source has.
+    /// Returns how many bytes the source has. It requests none of them.
     ///
     /// `SourceFault` comes only where `failures` rose in this call, by 1 (or stood at its greatest
     /// value).

@@ -40,9 +40,13 @@ adds_entry token (Err e) = false
 -- which ends before the structure block does.
 -- Memory is refused only where a node begins.
 pub record Does (token : ReadToken) (s : State) (result : Result State IndexFault) (old new : Held) : Type 0 where
+  -- what the token does in one pass
   pub goes : (p : Phase) (t : Token) → Holds p s old.entries → IsReadAs s.at t token → is_done p t ≡ false → Goes (step p t) (next t) result old.entries new.entries
+  -- a faulty token is refused with its own fault
   pub refuses : (t : Token) → IsReadAs s.at t token → Refuses t result
+  -- the next place is beyond this one
   pub ahead : (end : ℕ) → Stands end s.at token → IfOk result (λ n. (s.at + 4 ≤ n.at) × (n.at < end + 4))
+  -- one entry more where a node begins, none elsewhere
   pub room : AddsOne (adds_entry token result) (is_out_of_memory result) old new
   pub no_read : is_read result ≡ false
   pub no_making : is_of_making result ≡ false
@@ -63,7 +67,11 @@ pub record GoesOver (x : Extent) (result : Result State IndexFault) (d e : Devic
   pub no_making : is_of_making result ≡ false
   pub few : 8 * length k.entries ≤ x.structure_end + 4
   pub within : IsTrue d.honest → Within (blocks_of d.bytes x) (begun (tokens (blocks_of d.bytes x))) d.asked e.asked k.entries
+  -- what a refusal of memory leaves
   pub prefix : IsTrue d.honest → IsPrefix (tokens (blocks_of d.bytes x)) result k.entries
+  -- what a refusal leaves
   pub stops : IsTrue d.honest → IfErr result (λ fault. StopsAt (tokens (blocks_of d.bytes x)) fault k.entries)
+  -- over any source
   pub passed : IfOk result (λ s. Passed d.honest (blocks_of d.bytes x) s k.entries)
+  -- the tree, or its first fault
   pub indexes : IsTrue d.honest → Indexes (begun (tokens (blocks_of d.bytes x))) result k.entries

@@ -20,6 +20,7 @@ begun_entry at length parent role =
 -- The entry was added, or the entries stay and a refusal was counted where memory was refused.
 pub record Enters (added no_memory : Bool) (entry : List ℕ) (old new : Held) : Type 0 where
   pub entries : new.entries ≡ (if added then old.entries ++ entry ∷ [] else old.entries)
+  -- a refusal was counted exactly if memory was refused
   pub size : AddsOne added no_memory old new
 
 -- the entries where the node of a number has ended: all entries after its own are of nodes below it
@@ -39,5 +40,7 @@ GainsProperty number p old new =
 
 -- The node of a number gains any property of a key whose value stands at a place and has so many bytes.
 pub record Keeps (key : Option Key) (place bytes number : ℕ) (old new : Held) : Type 0 where
+  -- of two properties of one name the first counts
   pub kept : (p : Property) → IsKeyOf key p.name → p.place ≡ place → bytes ≡ length p.value → GainsProperty number p old.entries new.entries
+  -- no entry was added, and no memory taken
   pub size : SameSize old new

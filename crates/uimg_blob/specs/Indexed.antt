@@ -31,9 +31,13 @@ pub record IsIndexed (t : Siblings) (blob : Blob) (es : List (List ℕ)) : Type 
 
 -- The entries and the blob are those of some tree within the device's bytes; that of an honest device is the tree of its bytes.
 pub record Finds (device : Device) (blob : Blob) (es : List (List ℕ)) : Type 0 where
+  -- some tree, whatever the source answered
   pub nodes : Siblings
+  -- that of the file, if the source is honest
   pub is : IsTrue device.honest → tree device.bytes ≡ Ok nodes
+  -- each name and each value of it ends inside the blob
   pub indexed : IsIndexed nodes blob es
+  -- the blob ends inside the source
   pub within : blob.totalsize ≤ length device.bytes
 
 -- The node of a number has this row in the table of the tree that was indexed.

@@ -100,9 +100,14 @@ pub record ReadsToken (most : ℕ) (token : List ℕ → Token) (end at : ℕ) (
 
 -- The same of the token at a place of the blocks, for which an honest device is asked for at most its cost.
 pub record ReadsTokenAt (x : Extent) (at : ℕ) (result : Result ReadToken SourceFault) (d e : Device) (h k : Held) : Type 0 where
+  -- an honest device
   pub uses : UsesAtMost (cost (token_at (blocks_of d.bytes x) at)) (is_err result) d e
+  -- any device
   pub most : e.asked ≤ d.asked + 268
   pub room : k ≡ h
+  -- what the definition of the structure block reads there
   pub read : IsTrue d.honest → IfOk result (λ found. IsReadAs at (token_at (blocks_of d.bytes x) at) found)
+  -- what some token says, over any device
   pub sound : IfOk result (λ found. IsSound found)
+  -- what it names lies inside the block, over any device
   pub stands : IfOk result (λ found. Stands x.structure_end at found)

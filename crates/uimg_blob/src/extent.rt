@@ -72,11 +72,12 @@ fn extent_in(bytes: &[u8; 40], size: u64) -> Result<Extent, IndexFault>
     }
 }
 
-// Where the blocks of a blob lie, by its header (Devicetree Specification, section 5.2), which is
-// read at once. The first that holds is the fault: `TooShort` for a source of fewer than 40 bytes,
+// Where the blocks of a blob lie, by its header (Devicetree Specification, section 5.2), which is read
+// at once. The first that holds is the fault: `TooShort` for a source of fewer than 40 bytes,
 // `BadMagic` where they do not begin with `0xd00dfeed`, `BadVersion` for a version below 17 or a last
-// compatible version above 17, `BlockOutside` where the blob lies outside the source, a block
-// outside the blob, or the structure block not at a multiple of 4. `Read` where a read failed.
+// compatible version above 17, `BlockOutside` where the blob lies outside the source, a block outside
+// the blob, or the structure block not at a multiple of 4. `Read` where a read failed. The blocks lie
+// inside the source, whatever it answers.
 #[tactic(auto, unfolding(crate::specs::Blob::blocks), using(crate::proofs::NumberLaws::heads))]
 pub(crate) fn read_extent<S: Source>(source: &mut S) -> Result<Extent, IndexFault>
     ensures uses { Asks 40 (is_read result) (S.device source.old) (S.device source.new) }

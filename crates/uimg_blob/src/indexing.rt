@@ -70,11 +70,15 @@ fn pass<S: Source, A: Allocator>(
 /// exactly where the room refused to grow, at the node that it had no entry for. `Read` comes exactly
 /// where a read failed. `TooLarge`, which is only of building a blob, never comes.
 ///
-/// After a refusal the entries are those of the nodes met before it, each with what was met of it; after
-/// a refused header there are none.
+/// At `Ok` each name and each value ends inside the blob, and the blob inside the source, whatever the
+/// source answers. Over an honest source blob and entries are then those of the file's tree, and the
+/// blob has the size that its header says. After a refusal the entries are, over an honest source,
+/// those of the nodes met before it, each with what was met of it; after a refused header there are
+/// none. At which token a read failed is shown by tests alone.
 ///
 /// No value is read: an honest source is asked for at most 44 bytes, 264 for each node that was met,
-/// 268 for each property and 4 for each NOP.
+/// 268 for each property and 4 for each NOP. The room takes memory for at most these nodes, and over
+/// any source at most 8320 bytes and 16 for each byte of the source.
 pub fn index<S: Source, A: Allocator>(
     source: &mut S,
     room: &mut Room<A>,

@@ -81,7 +81,7 @@ impl Blob {
         self.configurations
     }
 
-    /// The number of a node's first child.
+    /// The number of a node's first child, a later one that is below the count of entries.
     pub fn first_child<A: Allocator>(&self, room: &Room<A>, node: usize) -> Option<usize>
         requires { node < length room.now.entries }
         ensures child { OfRow self.now room.now.entries node (λ row. result ≡ row.first_child) }
@@ -93,7 +93,8 @@ impl Blob {
         node_under(room, node + 1, node as u64 + 1)
     }
 
-    /// The number of the next node that has the same parent.
+    /// The number of the next node that has the same parent, a later one that is below the count of
+    /// entries.
     pub fn next_sibling<A: Allocator>(&self, room: &Room<A>, node: usize) -> Option<usize>
         requires { node < length room.now.entries }
         ensures sibling { OfRow self.now room.now.entries node (λ row. result ≡ row.next_sibling) }
@@ -115,7 +116,7 @@ impl Blob {
         }
     }
 
-    /// Where a node's name stands, without its NUL.
+    /// Where a node's name stands, without its NUL. It ends inside the blob.
     pub fn name<A: Allocator>(&self, room: &Room<A>, node: usize) -> Span
         requires { node < length room.now.entries }
         ensures name { OfRow self.now room.now.entries node (λ row. result ≡ name_span row) }
@@ -125,12 +126,13 @@ impl Blob {
         span_in(room.entry(node)[NAME])
     }
 
-    /// Where the value of a node's first property of a key stands. There is none where the node has
-    /// no such property, or where its role keeps no value of that key: of the root `Description` and
-    /// `Timestamp` are kept; of an image `Description`, `Data`, `Kind`, `Arch`, `Os`, `Compression`,
-    /// `Load`, `Entry`, `DataSize`, `DataOffset` and `DataPosition`; of a hash node `Algo` and `Value`;
-    /// of the node `configurations` `Default`; of a configuration `Description`, `Kernel`, `Ramdisk`,
-    /// `Fdt`, `Loadables`, `Firmware`, `Fpga`, `Setup`, `Standalone` and `Script`.
+    /// Where the value of a node's first property of a key stands. It ends inside the blob. There is
+    /// none where the node has no such property, or where its role keeps no value of that key: of the
+    /// root `Description` and `Timestamp` are kept; of an image `Description`, `Data`, `Kind`, `Arch`,
+    /// `Os`, `Compression`, `Load`, `Entry`, `DataSize`, `DataOffset` and `DataPosition`; of a hash
+    /// node `Algo` and `Value`; of the node `configurations` `Default`; of a configuration
+    /// `Description`, `Kernel`, `Ramdisk`, `Fdt`, `Loadables`, `Firmware`, `Fpga`, `Setup`,
+    /// `Standalone` and `Script`.
     pub fn value<A: Allocator>(&self, room: &Room<A>, node: usize, key: Key) -> Option<Span>
         requires { node < length room.now.entries }
         ensures value { OfRow self.now room.now.entries node

@@ -179,7 +179,9 @@ fn read_property<S: Source, A: Allocator>(
 // What is read of the token at a place, counted in bytes from the file's start. Its word is read,
 // at most 256 bytes of a name, and a property's length and name offset, but no value. A token is
 // `Stray` with `Truncated` where the structure block ends inside its word, and with `BadToken` where
-// the word is no token. `SourceFault` comes where a read failed.
+// the word is no token. `SourceFault` comes where a read failed. At most 268 bytes are requested, of an
+// honest source no more than such a token costs. What a token names lies inside the structure block,
+// whatever the source answers.
 #[tactic(auto, unfolding(crate::specs::Tokens::token_at))]
 pub(crate) fn read_token<S: Source, A: Allocator>(
     source: &mut S,

@@ -19,9 +19,13 @@ use Rattle.uimg_c.specs.Codes.{code_of, code_of_answer, code_of_fault, code_of_f
 -- A report tells how an outcome ends, and its text, or as much of it as there is place for, stands at the front of the
 -- caller's memory; the rest of that stays.
 pub record Reports (o : Outcome Fault) (old new : List ℕ) (report : UimgReport) : Type 0 where
+  -- status, fault and place are those of the outcome
   pub code : code_of o.end ≡ Some (record { status = report.status; fault = report.fault; place = report.place })
+  -- the length of the whole text
   pub needed : report.needed ≡ length o.text
+  -- never more than the caller has memory for
   pub written : report.written ≡ min (length o.text) (length old)
+  -- the rest of the memory is unchanged
   pub text : new ≡ take report.written o.text ++ drop report.written old
 
 -- the report where memory was refused
@@ -31,6 +35,7 @@ no_report = record { status = 3; fault = 0; place = 0; needed = 0; written = 0; 
 -- A payload tells how the outcome of an extraction ends, and where the bytes that it writes stand in the image.
 pub record Finds (o : Outcome Fault) (image : List ℕ) (payload : UimgPayload) : Type 0 where
   pub code : code_of o.end ≡ Some (record { status = payload.status; fault = payload.fault; place = payload.place })
+  -- just the bytes that an extraction writes
   pub bytes : payload.status ≡ 0 → o.text ≡ slice image payload.start payload.size
 
 -- The same of what is looked for in a FIT image, where it is just these bytes, or refused.

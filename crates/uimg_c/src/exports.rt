@@ -1,4 +1,10 @@
 //! The functions that a caller in C calls.
+//!
+//! Each returns the status that it reports. Unless that is 3, status, fault, place, text and payload
+//! are those of the outcome. Never more is written than the caller's memory has; with 3 none is, and a
+//! report says nothing. A payload or a name ends inside the image, and has no bytes where none was
+//! found. The memory that is reported is at most 8192 bytes and 128 for each node; that it is not less
+//! than what was taken is tested.
 
 ghost use Rattle.std.specs.Prelude.{◌≡◌, ◌≢◌, ◌+◌, ◌≤◌, length, false};
 ghost use Rattle.uimg_names.specs.declared.naming.Naming.TheVariants as naming;

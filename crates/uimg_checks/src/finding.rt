@@ -74,10 +74,11 @@ fn check_fit<S: Source, A: Allocator>(
 /// SHA-512.
 ///
 /// Over an honest source the finding, or the fault that refuses the image, is exactly that of the
-/// definition, and no more bytes of a FIT image's payloads are asked for than the file has, however they
-/// lie. `Fault::Read` comes exactly where a read failed, `OutOfMemory` of the blob exactly where the room
-/// refused to grow, which a legacy image never asks of it. `Fault::Put` never comes, nor do the faults
-/// that only `make` answers.
+/// definition, and no more bytes of a FIT image's payloads are asked for than the file has, however
+/// they lie. A name that is returned ends inside the source, whatever that answers. `Fault::Read` comes
+/// exactly where a read failed, `OutOfMemory` of the blob exactly where the room refused to grow, which
+/// a legacy image never asks of it. `Fault::Put` never comes, nor do the faults that only `make`
+/// answers.
 pub fn check<S: Source, A: Allocator>(
     need: Option<Algo>,
     source: &mut S,

@@ -45,9 +45,13 @@ LacksSource files source _ = ⊤
 -- be opened, and complete files refuse only a source that has no bytes, and no payload where they are honest.
 pub record OpensSource {X : Type 0} (source : List ℕ) (result : Result X Fault) (old new : FileMap) : Type 0 where
   pub same : SameFiles old new
+  -- of the source, and of a file that is read into the tree (I5)
   pub text : OnFalse (is_no_payload result) (RisesIf (is_no_text result) old.refusals new.refusals)
+  -- of the file of a payload (F9)
   pub payload : IsTrue (is_no_payload result) → Rose old.refusals new.refusals
+  -- `NoFile` only for a source without bytes
   pub missing : IsTrue old.complete → IfErr result (LacksSource old.bytes source)
+  -- no F9 over complete and honest files
   pub found : IsTrue old.complete → IsTrue old.honest → is_no_payload result ≡ false
 
 -- what a building or a making did to the files
@@ -81,6 +85,7 @@ LacksFile (Tree source placement) files fault = LacksPayload files source.items 
 -- and did nothing else. A refusal was counted exactly where the memory for the nodes was refused, if the files are honest.
 pub record LeavesRefused (honest of_making no_memory : Bool) (old new : Held) : Type 0 where
   pub cleared : IsTrue of_making → new ≡ record old { entries = [] }
+  -- `OutOfMemory` of the blob is returned exactly if the refusals of the room rose
   pub refused : IsTrue honest → RisesIf no_memory old.refused new.refused
 
 -- What a making that lists a FIT image did to a room: it took memory for the nodes of what is kept, or it is refused.

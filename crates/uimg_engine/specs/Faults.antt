@@ -106,7 +106,9 @@ is_lost_payload _ = false
 
 -- No read failed, of a file that is read into a tree or of a payload's file.
 pub record LosesNothing {X : Type 0} (result : Result X Fault) : Type 0 where
+  -- neither `Read` nor I6
   pub reads : is_unread result ≡ false
+  -- no F10
   pub payloads : is_lost_payload result ≡ false
 
 -- the answer is one that only a making gives: nothing is listed then

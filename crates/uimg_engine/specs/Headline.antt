@@ -179,12 +179,18 @@ Takes false source no_memory old new = (new ≡ record old { entries = [] }) × 
 
 -- What the engine of a format did at any exit: what it asked for and took, what it wrote of the outcome, and which failures it counted.
 pub record CarriesOutBetween (fit : Bool) (what : Action) (result : Result Status Fault) (d e : Device) (old new : Held) (s t : Sink) : Type 0 where
+  -- the source is unchanged; `Read` is returned exactly if its failures rose
   pub uses : UsesAtMost (work_in fit what d.bytes) (is_read result) d e
   pub room : Takes fit d (is_no_memory result) old new
+  -- of an extraction
   pub ahead : IsTrue d.honest → ExtractsAheadBetween (work_in fit (action.List Profile) d.bytes) what (outcome_in fit what d.bytes) d e s t
+  -- an extraction that is refused wrote nothing, over any source
   pub untouched : KeepsOutput what (is_refused result) s t
+  -- `Put` is returned exactly if the faults of the output rose
   pub faults : RisesIf (is_put result) s.faults t.faults
+  -- a fault that only a making has is never returned
   pub not_making : is_of_making result ≡ false
+  -- the outcome at its end, or a prefix of its text where a call failed
   pub told : IsTrue d.honest → Tells (end_of result) (outcome_in fit what d.bytes) s t
 
 abbrev pub CarriesOut : {S : Type 0} → Bool → Action → Result Status Fault → (S → Device) → Lent S → Lent Held → Lent Sink → Type 0
@@ -221,10 +227,15 @@ WritesPrefix outcome device source out = AppendsPrefix out.entry.now out.exit.no
 -- What a call that only reads an image did, whatever it answers: it asked for at most so many bytes, and took memory for the
 -- nodes of a FIT image alone, and none for a legacy image. Neither a failed write nor a fault of a making is answered.
 pub record OnlyReadsBetween {X : Type 0} (format : Format) (most : ℕ) (result : Result X Fault) (d e : Device) (old new : Held) : Type 0 where
+  -- the source is unchanged; `Read` is returned exactly if its failures rose
   pub uses : UsesAtMost most (is_read result) d e
+  -- `OutOfMemory` of the blob is returned exactly if the refusals of the room rose
   pub room : TakesNodes d (is_no_memory result) old new
+  -- none is taken for a legacy image
   pub legacy : IsLegacy format d → Takes false d (is_no_memory result) old new
+  -- `Put` is never returned
   pub no_put : is_put result ≡ false
+  -- a fault that only a making has is never returned
   pub not_making : is_of_making result ≡ false
 
 -- .. as many bytes as this work of the source's
@@ -235,9 +246,13 @@ OnlyReads format work result device source room = OnlyReadsBetween format (work 
 -- What a call on the bytes of an image in memory did: no more memory was taken than for its nodes, and a refusal was counted
 -- exactly where memory was refused. Neither a failed read nor a fault of a making is answered.
 pub record InMemoryBetween {X : Type 0} (nodes : ℕ) (result : Result X Fault) (old new : Held) : Type 0 where
+  -- `Read` is never returned
   pub no_read : is_read result ≡ false
+  -- a fault that only a making has is never returned
   pub not_making : is_of_making result ≡ false
+  -- `OutOfMemory` of the blob is returned exactly if the refusals of the room rose
   pub no_memory : RisesIf (is_no_memory result) old.refused new.refused
+  -- 8192 bytes, and 128 for each node
   pub peak : new.peak ≤ max old.peak (held_bytes nodes)
 
 abbrev pub InMemory : {X : Type 0} → Format → List ℕ → Result X Fault → Lent Held → Type 0

@@ -21,7 +21,9 @@ ends (Err fault) = end_of (Err fault)
 
 -- An extraction with this outcome writes just the bytes at the span that is answered, or it ends by just the fault that is.
 pub record TellsSpan (file : List ℕ) (o : Outcome Fault) (result : Result Span Fault) : Type 0 where
+  -- its end, unless a read failed or memory was refused
   pub end : IfSome (ends result) (λ e. o.end ≡ e)
+  -- just the bytes that the extraction writes
   pub text : IfOk result (λ span. o.text ≡ slice file span.place span.length)
 
 -- .. the extraction from a position

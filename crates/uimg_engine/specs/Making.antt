@@ -67,7 +67,9 @@ pub record Keeps (options : Options) (files : List ℕ → Option (List ℕ)) (n
 
 -- The image of the names' parts is kept, its whole listing was appended, and the listing is not refused.
 pub record Makes (naming : Naming) (options : Options) (files : List ℕ → Option (List ℕ)) (names : List (List ℕ)) (kept : Device) (s t : Sink) : Type 0 where
+  -- the source that is kept is honest, and has the bytes of `legacy_built`
   pub keeps : Keeps options files names kept
+  -- exactly its listing was appended
   pub listed : AppendsAll s t (list_of naming (legacy_built options keeps.parts)).text
   pub done : (list_of naming (legacy_built options keeps.parts)).end ≡ done
 
@@ -136,14 +138,19 @@ Lacks files names _ = ⊤
 -- complete files refuse only a name that has no bytes.
 pub record OpensNames {X : Type 0} (names : List (List ℕ)) (result : Result X Fault) (old new : FileMap) : Type 0 where
   pub same : SameFiles old new
+  -- `NoFile` is returned exactly if the refusals rose
   pub refusals : RisesIf (is_no_file result) old.refusals new.refusals
+  -- `NoFile` only for a name without bytes
   pub missing : IsTrue old.complete → IfErr result (Lacks old.bytes names)
 
 -- What the building of an image did to its output: after an answer that comes before the first byte it is as it was, and a
 -- failed write was counted exactly where one is answered. Nothing is kept yet.
 pub record WritesImageBetween {X : Type 0} (result : Result X Fault) (old new : Sink) : Type 0 where
+  -- a refusal of files, parts, source, tree or memory, but not F9, wrote nothing
   pub untouched : IsTrue (is_before_building result) → new ≡ old
+  -- `Put` is returned exactly if the faults of the output rose
   pub faults : RisesIf (is_put result) old.faults new.faults
+  -- `Keep` is never returned
   pub never_keep : is_keep result ≡ false
 
 abbrev pub WritesImage : {X : Type 0} → Result X Fault → Lent Sink → Type 0

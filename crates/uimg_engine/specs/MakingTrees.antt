@@ -40,6 +40,7 @@ pub record SpellsTree (files : List ℕ → Option (List ℕ)) (source : List �
 pub record RefusesText (files : List ℕ → Option (List ℕ)) (source : List ℕ) (kind : Kind) : Type 0 where
   pub text : List ℕ
   pub have : files source ≡ Some text
+  -- of I5, I6 and I7 nothing is claimed
   pub none : OnFalse (is_outside kind) ((t : Nodes) → Spells (words text) files t → ⊥)
 
 -- The tree that is spelled is another one when it is filled at a time.
@@ -125,7 +126,9 @@ BuildsSource files source time placement (Err OutOfMemory) s t = ⊤
 -- ends well.
 pub record KeepsTree (files : List ℕ → Option (List ℕ)) (source : List ℕ) (time : ℕ) (placement : Placement) (kept : Device) : Type 0 where
   pub tree : Nodes
+  -- the source spells a tree, this is that tree filled, and it can be built
   pub accepts : AcceptsTree files source time placement tree
+  -- the source that is kept has the bytes of `built`
   pub bytes : kept.bytes ≡ built tree placement
   pub honest : IsTrue kept.honest
   pub reads_back : ReadsBack (built tree placement) tree
@@ -135,6 +138,7 @@ pub record KeepsTree (files : List ℕ → Option (List ℕ)) (source : List ℕ
 -- The image of the filled tree is kept, and its whole listing was appended.
 pub record MakesTree (naming : Naming) (files : List ℕ → Option (List ℕ)) (source : List ℕ) (time : ℕ) (placement : Placement) (kept : Device) (s t : Sink) : Type 0 where
   pub keeps : KeepsTree files source time placement kept
+  -- exactly its listing was appended
   pub listed : AppendsAll s t (list_of naming (built keeps.tree placement)).text
 
 -- A prefix of the listing of the image of the filled tree was appended.

@@ -38,10 +38,10 @@ fn locate_payload<S: Source, A: Allocator>(
 /// file, counted from 0: just the bytes that an extraction from there writes.
 ///
 /// Over an honest source the answer is that place, or the fault by which that extraction is refused;
-/// nothing is asked for beyond what a listing asks, so none of a FIT image's payload. `Fault::Read`
-/// comes exactly where a read failed, `OutOfMemory` of the blob exactly where the room refused to grow,
-/// which a legacy image never asks of it. `Fault::Put` never comes, nor do the faults that only `make`
-/// answers.
+/// nothing is asked for beyond what a listing asks, so none of a FIT image's payload. Over any source
+/// that place ends inside the file. `Fault::Read` comes exactly where a read failed, `OutOfMemory` of
+/// the blob exactly where the room refused to grow, which a legacy image never asks of it. `Fault::Put`
+/// never comes, nor do the faults that only `make` answers.
 pub fn locate<S: Source, A: Allocator>(
     format: Format,
     position: u32,

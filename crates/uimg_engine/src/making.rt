@@ -115,6 +115,15 @@ fn keep<H: Shelf>(shelf: H) -> Result<H::Kept, Fault>
 /// The room takes memory for the listing alone: none for a legacy image, and over honest files and an
 /// honest, empty shelf at most 128 bytes for each node of the FIT image. After a fault that no listing
 /// gives its entries are dropped and no more.
+///
+/// Over honest files and an honest, empty shelf a fault means (`StopsMaking` of `specs/Making.antt`,
+/// `StopsSource` of `specs/MakingTrees.antt`): `Legacy`, the names have bytes, and these are refused
+/// with it; `NoFile(i)` of parts, there is a name of number i and the names before it have bytes;
+/// `Keep` and `Put`, the parts are accepted, or the filled tree can be built; `Read`, the names have
+/// bytes, or the source has, or the filled tree can be built; `Its`, the source has a text, whose words
+/// spell no tree unless it is I5, I6 or I7; `Fit` and `Blob`, the words spell a tree that filling or
+/// building refuses with it, or memory for the table of nodes was refused. `OutOfMemory`, and `NoFile`
+/// of a source, say nothing of the files.
 pub fn make<F: Files, H: Shelf, W: Write, A: Allocator + Copy, B: Allocator>(
     alloc: A,
     command: &MakeCommand,

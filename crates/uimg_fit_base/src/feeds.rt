@@ -33,7 +33,9 @@ fn feed_window<S: Source>(
     Ok(())
 }
 
-/// Feeds the `len` bytes at an offset to all sums, through a window. A read that fails ends it.
+/// Feeds the `len` bytes at an offset to all sums, through a window. At most `len` bytes are requested,
+/// and a read that fails ends it. Over an honest source, at `Ok`, each sum is over these bytes behind
+/// those that it was fed before.
 pub fn feed_through<S: Source>(
     bundle: &mut Bundle,
     source: &mut S,

@@ -24,6 +24,7 @@ is_before_writing _ = false
 
 -- The file of a tree can be built.
 pub record CanBuild (t : Nodes) (placement : Placement) : Type 0 where
+  -- each name of the tree has at most 255 bytes and no NUL
   pub named : bad_name t ≡ None
   pub fits : build_fault t placement ≡ None
 

@@ -25,6 +25,7 @@ fails_to_read _ = false
 -- A call that opens files leaves them as they were, and counts each refused open. Where the files that are kept are there, those of
 -- a complete map refuse none, and what never fails is read.
 pub record OpensKeptBetween {X : Type 0} (never_fails : Bool) (AreThere : Type 0) (result : Result X FitFault) (old new : FileMap) : Type 0 where
+  -- F9 is returned exactly if the refusals of the files rose
   pub files : UsesFiles (opens_no_file result) old new
   pub found : IsTrue old.complete → AreThere → opens_no_file result ≡ false
   pub steady : IsTrue never_fails → IsTrue old.honest → AreThere → fails_to_read result ≡ false
@@ -42,9 +43,13 @@ node_in_full files image = record {
 
 -- A tree is filled as another: no file of it is read into it, and none is another.
 pub record Fills (files : List ℕ → Option (List ℕ)) (time : ℕ) (t u : Unread) : Type 0 where
+  -- no file is read into the tree
   pub source : u ≡ filled_unread files time t
+  -- filling before the files are read is filling after
   pub accepted : fill_of time (in_full files t) ≡ Ok (in_full files u)
+  -- its hashes are what a verification expects
   pub is_filled : IsFilled (in_full files u)
+  -- each file has the size that the tree keeps
   pub kept : AreKept files u
 
 -- The filling of a tree stopped at the file of an image with hash nodes: neither that image nor one before it is refused.
@@ -53,6 +58,7 @@ pub record StopsAtFile (files : List ℕ → Option (List ℕ)) (t : Unread) : T
   pub image : NodeOf Content
   pub after : List (NodeOf Content)
   pub are_images : images t ≡ Some (before ++ image ∷ after)
+  -- neither the image nor one before it has a fault of its own
   pub sound : first_fault (map (node_in_full files) (before ++ image ∷ [])) ≡ None
   pub name : List ℕ
   pub size : ℕ

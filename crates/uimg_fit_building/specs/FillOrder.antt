@@ -15,7 +15,9 @@ CanBeRead files image = hashes image ≢ [] → IsKeptImage files image
 
 -- Filling goes past an image: it has no fault in memory, and its file can be read.
 pub record IsPassed (files : List ℕ → Option (List ℕ)) (image : NodeOf Content) : Type 0 where
+  -- no F2 and no F5
   pub sound : fault_in_memory image ≡ None
+  -- if it has hash nodes, its file is there with the size that the tree keeps
   pub read : CanBeRead files image
 
 -- Filling stops at the file of an image with hash nodes; where only that file can be the reason, it is missing or has another size.
@@ -44,7 +46,9 @@ pub record StopsInOrder (files : FileMap) (steady : Bool) (found : Option (List 
   pub image : NodeOf Content
   pub after : List (NodeOf Content)
   pub are_images : found ≡ Some (before ++ image ∷ after)
+  -- no image before it has a reason to stop
   pub passed : AllByRecursion (IsPassed files.bytes) before
+  -- this image has
   pub refused : IsRefused files steady image fault
 
 -- What filling answers of a root's images: it goes past all, or there are none, or it stops at the first that it can't pass; or memory was refused.

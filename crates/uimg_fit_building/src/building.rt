@@ -143,14 +143,14 @@ fn place_and_build<F: Files, W: Write, A: Allocator + Copy>(
 /// zeros behind them, and zeros fill up to the position of the first. An image without `data` is left as
 /// it is.
 ///
-/// All memory is taken, and all is refused, before the first byte: `BadNodeName` or
-/// `BadPropertyName` of the blob, at offset 0, for the first bad name in the order of writing;
-/// `TooLarge` where the blob has more than 4294967295 bytes; `PositionTooLow` where the payloads would
-/// begin before the blob's end; `TooLarge` where the file has more than 4294967295 bytes;
-/// `OutOfMemory` where memory was refused. `Put` comes exactly where a write failed, `NoFile` exactly
-/// where the open of a file was refused, `Read` where a read of one failed or its size is another than
-/// the tree keeps; over honest files of the kept sizes a prefix of the image was written then. No file
-/// of another size is ever part of an image that was built.
+/// All memory is taken, and all is refused, before the first byte: `BadNodeName` or `BadPropertyName`
+/// of the blob, at offset 0, for the first bad name in the order of writing; `TooLarge` where the blob
+/// has more than 4294967295 bytes; `PositionTooLow` where the payloads would begin before the blob's
+/// end; `TooLarge` where the file has more than 4294967295 bytes; `OutOfMemory` where memory was
+/// refused. `Put` comes exactly where a write failed, `NoFile` exactly where the open of a file was
+/// refused, `Read` where a read of one failed or its size is another than the tree keeps; over honest
+/// files of the kept sizes a prefix of the image was written then. Over honest files, at `Ok`, each
+/// file has the size that the tree keeps.
 ///
 /// A file is opened once for each value that it is, when that is written, and goes through a window of
 /// 8192 bytes. The image of a filled tree verifies, and each payload is found in it. The depth of the

@@ -101,12 +101,15 @@ fn fill_below<F: Files, A: Allocator + Copy>(
 /// The caller sees to it that only properties named `data` are files. An image's file is opened once
 /// if the image has hash nodes, and read once through a window of 8192 bytes for all of them; it
 /// stays a file in the tree. Whatever the files answer, the tree that is given is the source's with
-/// just that changed.
+/// just that changed. Over honest files that have those of the tree its hashes are what `verify` expects.
 ///
 /// The first refusal ends it, and the tree is dropped: `NoImages`; then image by image `NoData`,
 /// `UnknownAlgo` of the first hash node whose `algo` is missing or unknown, `NoFile` exactly where the
-/// open of its file was refused, and `ReadFailed` where a read of it failed or it has another size
-/// than the tree keeps. `OutOfMemory` comes where memory for a property was refused.
+/// open of its file was refused, and `ReadFailed` where a read of it failed or it has another size than
+/// the tree keeps. `OutOfMemory` comes where memory for a property was refused. Over honest files of
+/// any sizes any other fault of an image means that no image before it has one, and at `Ok` the file of
+/// each image with hash nodes has the size that the tree keeps. Over files that have those of the tree,
+/// `NoFile` never comes if they are complete, nor `ReadFailed` if they are honest and never fail.
 pub fn fill<F: Files, A: Allocator + Copy>(
     alloc: A,
     tree: Tree<A>,

@@ -26,10 +26,14 @@ TakesPiece device source at len sums out =
 -- The digests of what was appended to an output, by the algorithms of a set; that is the payload at a span of the device if it
 -- is honest.
 pub record TakesPayloadBetween (d : Device) (payload : Span) (algos : AlgoSet) (found : Digests) (s t : Sink) : Type 0 where
+  -- what was read, whatever the source answered
   pub message : List ℕ
   pub set : set_of found ≡ algos
+  -- its digests
   pub digests : AreDigests found message
+  -- just this was written
   pub wrote : AppendsAll s t message
+  -- that of the file, if the source is honest
   pub right : IsTrue d.honest → message ≡ slice d.bytes payload.place payload.length
 
 abbrev pub TakesPayload : {S : Type 0} → (S → Device) → Lent S → Span → AlgoSet → Digests → Lent Sink → Type 0

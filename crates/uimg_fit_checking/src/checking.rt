@@ -59,7 +59,8 @@ pub enum Finding {
 /// Refusals are those of the blob, then `NoImages`, and `NoData` and `DataOutside` of an image before
 /// anything else is found of it. `OutOfMemory` comes exactly where the room refused to grow. A payload is
 /// asked for at most once, and not at all where no hash node of its image is compared, and all payloads
-/// that are asked for have no more bytes together than the file.
+/// that are asked for have no more bytes together than the file. A name that is returned ends inside the
+/// source, whatever that answers.
 pub fn check<S: Source, A: Allocator>(
     need: Option<Algo>,
     source: &mut S,

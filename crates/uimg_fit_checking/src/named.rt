@@ -91,7 +91,8 @@ fn locate_in<S: Source, A: Allocator>(
     payload_place(source, &blob, room, image)
 }
 
-/// Where the payload of the first image of a name stands in the bytes of a FIT image.
+/// Where the payload of the first image of a name stands in the bytes of a FIT image, inside which it
+/// ends.
 ///
 /// Refusals are those of the blob, then `NoImages`, `NoSuchImage`, and `NoData` and `DataOutside` of that
 /// image, in this order. `OutOfMemory` comes exactly where the room refused to grow, and `Read` never.
@@ -124,7 +125,8 @@ fn name_in<S: Source, A: Allocator>(
     Ok(name_of(&blob, room, image))
 }
 
-/// Where the name of the image at a position, counted from 0, stands in the bytes of a FIT image.
+/// Where the name of the image at a position, counted from 0, stands in the bytes of a FIT image, inside
+/// which it ends.
 ///
 /// Refusals are those of the blob, then `NoImages` and `NoSuchImage`. `OutOfMemory` comes exactly where
 /// the room refused to grow, and `Read` never.

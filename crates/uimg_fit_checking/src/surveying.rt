@@ -82,9 +82,10 @@ fn gather<A: Allocator>(
     })
 }
 
-/// What a FIT image says of itself: of its root, its images with their hash nodes, and its configurations
-/// with the names of the nodes below them, all but the payloads. Each value is told as the place where it
-/// stands, and no value is read.
+/// What a FIT image says of itself: of its root, its images with their hash nodes, and its
+/// configurations with the names of the nodes below them, all but the payloads. Each value is told as
+/// the place where it stands, which ends in the blob, and the blob in the source, whatever that
+/// answers. No value is read: an honest source is asked for no more than for an index.
 ///
 /// Refusals are those of the blob, then `NoImages`. The room holds the nodes meanwhile, and refuses memory
 /// as it does for a listing; `OutOfMemory` comes where memory for what is gathered was refused, some 300

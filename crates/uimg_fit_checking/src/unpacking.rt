@@ -38,11 +38,13 @@ pub enum Unpacked {
 /// Takes the payloads of a FIT image out of it, in their order: those of all images, or of the images of
 /// one name.
 ///
-/// Each payload is written to a shelf of the taker's while it is summed, by the algorithms of its image's
-/// hash nodes. It is kept if each hash node is right, and where an algorithm is needed one of them is
-/// compared by it or a stronger one, in the order CRC-32, MD5, SHA-1, SHA-256, SHA-384, SHA-512; else it
-/// is refused, and the next one follows. So what is kept has the digest that is told of it, whatever the
-/// source answers when it is read twice; each byte of a payload is asked for once.
+/// Each payload is written to a shelf of the taker's while it is summed, by the algorithms of its
+/// image's hash nodes. It is kept if each hash node is right, and where an algorithm is needed one of
+/// them is compared by it or a stronger one, in the order CRC-32, MD5, SHA-1, SHA-256, SHA-384,
+/// SHA-512; else it is refused, and the next one follows. So what an honest taker keeps has the digest
+/// that is told of it, whatever the source answers when it is read twice; each byte of a payload is
+/// asked for once. Over an honest source beside metadata no more is asked for than the file has bytes,
+/// and an honest taker is given just what the definition says becomes of each payload.
 ///
 /// Refusals are those of the blob, then `NoImages`, and `NoData` and `DataOutside` of the images in their
 /// order, all before anything is given; where payloads overlap, nothing is given either. `OutOfMemory`

@@ -15,8 +15,11 @@ use Rattle.uimg_fit_base.specs.declared.fault.Fault.{Fault}
 -- A refusal was counted exactly where memory was refused, and no more was taken than for the nodes that were met; of any
 -- device no more than 16 bytes for each of its bytes.
 pub record TakesNodes (device : Device) (no_memory : Bool) (old new : Held) : Type 0 where
+  -- `OutOfMemory` of the blob is returned exactly if the refusals of the room rose
   pub refused : RisesIf no_memory old.refused new.refused
+  -- 8192 bytes, and 128 for each node that was met
   pub peak : IsTrue device.honest → new.peak ≤ max old.peak (held_bytes (nodes_met device.bytes))
+  -- over any device
   pub most : new.peak ≤ max old.peak (8320 + 16 * length device.bytes)
 
 -- The source is what it was, and of one that answers its bytes at most as many bytes more were asked for as this work of them.
@@ -26,9 +29,12 @@ UsesWithin work failed device source = UsesAtMost (work (device source.entry.now
 -- The source is what it was, and of one that answers its bytes at most so many bytes more were asked for; memory was taken for the
 -- image's nodes alone. Neither a failed write nor a fault of a making is answered.
 pub record InspectsBetween {X : Type 0} (most : ℕ) (result : Result X Fault) (d e : Device) (old new : Held) : Type 0 where
+  -- the source is unchanged; `Read` is returned exactly if its failures rose
   pub uses : UsesAtMost most (is_read result) d e
   pub room : TakesNodes d (is_out_of_memory result) old new
+  -- `Put` is never returned
   pub no_put : is_put result ≡ false
+  -- B10 and F5 to F10 are never returned, over any source
   pub no_making : is_of_making result ≡ false
 
 -- .. as many as this work of the source's bytes
@@ -50,9 +56,12 @@ ReadsAny result device source room = ReadsAnyBetween result
 -- The source is what it was, and of one that answers its bytes at most so many bytes more were asked for; memory was taken for the
 -- image's nodes alone; a failed write was counted exactly where one is answered. No fault of a making is answered.
 pub record DeliversBetween {X : Type 0} (most : ℕ) (result : Result X Fault) (d e : Device) (old new : Held) (s t : Sink) : Type 0 where
+  -- the source is unchanged; `Read` is returned exactly if its failures rose
   pub uses : UsesAtMost most (is_read result) d e
   pub room : TakesNodes d (is_out_of_memory result) old new
+  -- `Put` is returned exactly if the faults of the output rose
   pub faults : RisesIf (is_put result) s.faults t.faults
+  -- B10 and F5 to F10 are never returned, over any source
   pub no_making : is_of_making result ≡ false
 
 abbrev pub Delivers : {S X : Type 0} → (List ℕ → ℕ) → Result X Fault → (S → Device) → Lent S → Lent Held → Lent Sink → Type 0
@@ -61,8 +70,10 @@ Delivers work result device source room out = DeliversBetween (work (device sour
 
 -- The same of a call that gives a taker what it read: nothing is said of failed writes.
 pub record TakesOutBetween {X : Type 0} (most : ℕ) (result : Result X Fault) (d e : Device) (old new : Held) : Type 0 where
+  -- the source is unchanged; `Read` is returned exactly if its failures rose
   pub uses : UsesAtMost most (is_read result) d e
   pub room : TakesNodes d (is_out_of_memory result) old new
+  -- B10 and F5 to F10 are never returned, over any source
   pub no_making : is_of_making result ≡ false
 
 abbrev pub TakesOut : {S X : Type 0} → (List ℕ → ℕ) → Result X Fault → (S → Device) → Lent S → Lent Held → Type 0
@@ -83,7 +94,9 @@ KeepsAhead work outcome device source out = IsTrue (device source.entry.now).hon
 -- Of bytes in memory: no more memory was taken than for the nodes that were met, and a refusal was counted exactly where it was
 -- refused. Neither a failed read, nor a failed write, nor a fault of a making is answered.
 pub record InMemoryBetween {X : Type 0} (file : List ℕ) (result : Result X Fault) (old new : Held) : Type 0 where
+  -- `OutOfMemory` of the blob is returned exactly if the refusals of the room rose
   pub refused : RisesIf (is_out_of_memory result) old.refused new.refused
+  -- 8192 bytes, and 128 for each node that was met
   pub peak : new.peak ≤ max old.peak (held_bytes (nodes_met file))
   pub no_read : is_read result ≡ false
   pub no_put : is_put result ≡ false

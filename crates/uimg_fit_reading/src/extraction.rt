@@ -17,8 +17,9 @@ use uimg_base::{Out, Room, Source, Span, Status, copy_range};
 use uimg_fit_base::Fault;
 
 /// Where the payload of the image at a position stands, counted from 0: just the bytes that `extract`
-/// writes, none of which is read. Refusals are those of `extract`, in their order, and `OutOfMemory`
-/// comes exactly where the room refused to grow.
+/// writes, none of which is read. That place ends inside the file, whatever the source answers.
+/// Refusals are those of `extract`, in their order, and `OutOfMemory` comes exactly where the room
+/// refused to grow. No more is requested than for a listing.
 pub fn locate<S: Source, A: Allocator>(
     position: u32,
     source: &mut S,
@@ -39,7 +40,8 @@ pub fn locate<S: Source, A: Allocator>(
 /// Refusals come before the first byte: those of the blob, then `NoImages`, `NoSuchImage`, and
 /// `NoData` and `DataOutside` of that image, in this order. `OutOfMemory` comes exactly where the
 /// room refused to grow. Over an honest source a prefix of the payload was written after `Read` or
-/// `Put`.
+/// `Put`, and at every exit at most as many bytes were requested as for a listing, those that were
+/// written and 8192.
 pub fn extract<S: Source, A: Allocator, W: Write>(
     position: u32,
     source: &mut S,

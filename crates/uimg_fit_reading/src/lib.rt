@@ -1,5 +1,6 @@
 //! FIT images are read: listing, verification and extraction. What checks and surveys of them stand on is
-//! public too.
+//! public too. A function that takes the number of a node has in its contract which node of the tree that
+//! is, and what the node's values are (`specs/Nodes.antt`).
 #![tactic(auto)]
 
 mod extraction;

@@ -109,7 +109,8 @@ fn list_body<S: Source, A: Allocator, W: Write>(
 /// configuration, and the lines of each configuration. Refusals of the blob come before the first line,
 /// `NoImages` after the head lines; `OutOfMemory` comes exactly where the room refused to grow. No hash
 /// is checked and no payload is read: a payload that has no place has the size `unavailable`. Over an
-/// honest source a prefix of the listing was written after `Read` or `Put`.
+/// honest source a prefix of the listing was written after `Read` or `Put`, and at most 60 bytes, 1024
+/// for each node and property, and 4 for each NOP and each byte of a text were requested.
 pub fn list<S: Source, A: Allocator, W: Write>(
     source: &mut S,
     room: &mut Room<A>,

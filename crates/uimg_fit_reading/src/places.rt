@@ -103,7 +103,8 @@ pub(crate) fn decide(
 /// multiple of 4, each with its `data-size`, else where its `data` stands. A cell that has not four bytes
 /// counts as missing.
 ///
-/// There may be no such place (`NoData`), and one that is told may lie outside the file.
+/// There may be no such place (`NoData`), and one that is returned may lie outside the file. At most 12
+/// bytes are requested.
 pub fn find_payload<S: Source>(
     source: &mut S,
     totalsize: u32,

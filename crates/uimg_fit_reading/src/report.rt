@@ -27,9 +27,10 @@ use uimg_fit_base::Fault;
 /// with `ok` or `unhashed`, else `NotRight`.
 ///
 /// The refusals of the blob and `NoImages` come without a line, `NoData` and `DataOutside` of an image
-/// before its lines. `OutOfMemory` comes exactly where the room refused to grow. A payload is asked
-/// for at most once, however many hash nodes it has, and not at all where none of them is compared. Over
-/// an honest source a prefix of the report was written after `Read` or `Put`.
+/// before its lines. `OutOfMemory` comes exactly where the room refused to grow. A payload is asked for
+/// at most once, however many hash nodes it has, and not at all where none of them is compared. Over an
+/// honest source a prefix of the report was written after `Read` or `Put`, and beside these payloads no
+/// more was requested than for a listing.
 pub fn verify<S: Source, A: Allocator, W: Write>(
     source: &mut S,
     room: &mut Room<A>,

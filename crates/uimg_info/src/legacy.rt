@@ -142,7 +142,8 @@ fn put_legacy(
 }
 
 /// The text of the object that tells what the header of a legacy image says, of a file of so many bytes
-/// at a path, and where its parts stand. It is one line, without its end.
+/// at a path, and where its parts stand. Read as JSON it is just this object; it is UTF-8 and one line,
+/// without its end. Memory for it may be refused.
 pub fn legacy_text(
     alloc: Global,
     path: &str,

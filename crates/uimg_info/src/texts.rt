@@ -43,8 +43,8 @@ fn survey_text<S: Source>(
     Ok(writer.into_inner())
 }
 
-/// The text of the object that tells what a FIT image says, of a file at a path. Read as JSON it is just
-/// this object; it is UTF-8 and one line, without its end.
+/// The text of the object that tells what a FIT image says, of a file at a path. Over an honest source it
+/// is, read as JSON, just this object, and one line, without its end; over any source it is UTF-8.
 ///
 /// Refusals are those of `survey_with_properties`. The values are read one by one, each at most once and
 /// none of more than 65,536 bytes, and no payload is: so no more is asked for than that costs, the values

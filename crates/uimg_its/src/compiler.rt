@@ -110,8 +110,12 @@ fn source<F: Files, A: Allocator + Copy>(
 /// The fault is that of the first word at which the text cannot go on. `NoFile` comes exactly where
 /// an open was refused, `ReadFailed` where a read of an opened file failed, so never where what the
 /// files open is steady, and `OutOfMemory` where memory was refused. Over honest files the others
-/// come only where the text spells no tree. The time that it takes grows with the text and the files
-/// that are read, and nodes are read by calls inside one another, at most 64 deep.
+/// come only where the text spells no tree. Tests alone show which of these it is, its line and the name
+/// of I3, that a sole `/incbin/` of `data` stays a file whose bytes are not requested, and that
+/// `ReadFailed` and `OutOfMemory` come only after a failed read and a refused growth.
+///
+/// The time that it takes grows with the text and the files that are read, and nodes are read by calls
+/// inside one another, at most 64 deep.
 ///
 /// [`Construct`]: crate::Construct
 /// [`Value::File`]: crate::Value::File

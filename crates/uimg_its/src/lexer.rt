@@ -28,7 +28,7 @@ fn stray(text: &[u8]) -> Stop
     }
 }
 
-/// The first word of a text, and the text behind it.
+/// The first word of a text, and the text behind it, which is shorter; or that no word begins there.
 pub(crate) fn next_word(text: &[u8]) -> Result<Option<(Token<'_>, &[u8])>, Stop>
     ensures sees { Sees result (words text.now) }
     ensures no_file { NeverInFile result }

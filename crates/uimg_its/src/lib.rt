@@ -1,6 +1,9 @@
 //! Image-tree source, the devicetree source that U-Boot's FIT images are described in, is compiled
 //! to the tree that it spells. `compile` is the one call; what a source may have is in its
 //! documentation.
+//!
+//! Lemmas show that what is spelled is read (`proofs/SpelledIsRead.antt`) and what is read is spelled
+//! (`ReadIsSpelled`). `Examples` tries the definitions of words and cells on worked texts.
 #![tactic(auto)]
 
 mod bytes;

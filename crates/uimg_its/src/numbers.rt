@@ -4,7 +4,7 @@ ghost use Rattle.std.specs.Prelude.{◌≡◌, ◌≤◌, ◌<◌, ◌+◌, ◌*
 ghost use Rattle.uimg_its.specs.Digits.{number, hex_digit, hex_pair};
 ghost use Rattle.uimg_its.specs.Cells.{cell};
 
-// The number that digits write in a base.
+// The number that digits write in a base; `None` where one is no digit, or 32 bits do not have it.
 #[tactic(auto, unfolding(crate::specs::Digits::number))]
 fn number(base: u32, digits: &[u8]) -> Option<u32>
     requires low { 2 ≤ base }
@@ -23,7 +23,7 @@ fn number(base: u32, digits: &[u8]) -> Option<u32>
     Some(value)
 }
 
-/// A cell's number.
+/// A cell's number; `None` where the word is none, or 32 bits do not have it.
 #[tactic(auto, unfolding(crate::specs::Cells::cell))]
 pub(crate) fn cell(word: &[u8]) -> Option<u32>
     ensures { result ≡ cell word.now }
@@ -44,7 +44,7 @@ fn hex_digit(byte: u8) -> Option<u8>
     Some(digit as u8)
 }
 
-/// The byte of two hexadecimal digits.
+/// The byte of two hexadecimal digits; `None` where one is no such digit.
 pub(crate) fn hex_pair(a: u8, b: u8) -> Option<u8>
     ensures { result ≡ hex_pair a b }
 {

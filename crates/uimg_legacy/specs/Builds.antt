@@ -14,8 +14,11 @@ use Rattle.uimg_legacy.specs.ReadsBack.{ReadsBack}
 -- The parts are what they were, and a failure of one was counted exactly where a read failed, a fault exactly where a write did.
 -- Where the parts are refused nothing was written, and no byte of them asked for.
 pub record BuildsBetween {X : Type 0} (result : Result X Fault) (old new : List Device) (from to : Sink) : Type 0 where
+  -- `Read` is returned exactly if the failures of one part rose
   pub uses : UsesAll (is_read result) old new
+  -- `Put` is returned exactly if the faults of the output rose
   pub faults : RisesIf (is_put result) from.faults to.faults
+  -- over any parts, honest or not
   pub untouched : IsTrue (is_refused result) → (to ≡ from) × (asked_of new ≡ asked_of old)
 
 -- the same of parts and an output that were lent
@@ -25,7 +28,9 @@ Builds result device parts out = BuildsBetween result (map device parts.entry.no
 -- The answer is that of parts which are accepted, or the fault that they are refused by, unless a device failed. They are accepted
 -- where a write failed.
 pub record Decides {X : Type 0} (kind : ℕ) (parts : List (List ℕ)) (result : Result X Fault) : Type 0 where
+  -- over any parts: at `Ok` they are accepted, and a refusal is the one that their lengths decide
   pub decided : Gives (λ _. data_for kind parts) result (data_to_build kind parts)
+  -- `Put` is returned only for parts that are accepted
   pub accepted : IsTrue (is_put result) → data_to_build kind parts ≡ Ok (data_for kind parts)
 
 -- Of honest parts the answer tells what a building writes: the image, a prefix of it where a device failed, or nothing and why.

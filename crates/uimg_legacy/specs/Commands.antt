@@ -24,9 +24,13 @@ UsesWithin work failed device source = UsesAtMost (work (device source.entry.now
 -- A call that only reads. Of an honest device at most so many bytes were asked for, the room has its entries dropped and is
 -- otherwise as it was, no write failed, and no fault of making is answered.
 pub record InspectsBetween {X : Type 0} (most : ℕ) (result : Result X Fault) (old new : Device) (before after : Held) : Type 0 where
+  -- the source is unchanged; `Read` is returned exactly if its failures rose
   pub uses : UsesAtMost most (is_read result) old new
+  -- it took no memory, and refused none
   pub room : after ≡ record before { entries = [] }
+  -- `Put` is never returned
   pub no_put : is_put result ≡ false
+  -- L9 and L10 are never returned, over any source
   pub no_making : is_of_making result ≡ false
 
 -- the same of a source and a room that were lent, by a measure of the source's bytes
@@ -37,9 +41,13 @@ Inspects work result device source room = InspectsBetween (work (device source.e
 -- A call that reads and writes. Of an honest device at most so many bytes were asked for, the room has its entries dropped and
 -- is otherwise as it was, a fault was counted exactly where a write failed, and no fault of making is answered.
 pub record DeliversBetween {X : Type 0} (most : ℕ) (result : Result X Fault) (old new : Device) (before after : Held) (from to : Sink) : Type 0 where
+  -- the source is unchanged; `Read` is returned exactly if its failures rose
   pub uses : UsesAtMost most (is_read result) old new
+  -- it took no memory, and refused none
   pub room : after ≡ record before { entries = [] }
+  -- `Put` is returned exactly if the faults of the output rose
   pub faults : RisesIf (is_put result) from.faults to.faults
+  -- L9 and L10 are never returned, over any source
   pub no_making : is_of_making result ≡ false
 
 -- the same of a source, a room and an output that were lent
@@ -50,8 +58,11 @@ Delivers work result device source room out = DeliversBetween (work (device sour
 -- A call that reads, and gives a taker what it read. Of an honest device at most so many bytes were asked for, the room has
 -- its entries dropped and is otherwise as it was, and no fault of making is answered.
 pub record TakesOutBetween {X : Type 0} (most : ℕ) (result : Result X Fault) (old new : Device) (before after : Held) : Type 0 where
+  -- the source is unchanged; `Read` is returned exactly if its failures rose
   pub uses : UsesAtMost most (is_read result) old new
+  -- it took no memory, and refused none
   pub room : after ≡ record before { entries = [] }
+  -- L9 and L10 are never returned, over any source
   pub no_making : is_of_making result ≡ false
 
 -- the same of a source and a room that were lent

@@ -37,7 +37,9 @@ asked_of devices = map (λ d. d.asked) devices
 
 -- The devices are what they were, and a failure of one was counted exactly where a read failed.
 pub record UsesAll (failed : Bool) (old new : List Device) : Type 0 where
+  -- neither the bytes nor the honesty of any of them changed
   pub same : SameDevices old new
+  -- those of one device rose if a read failed; all others are unchanged
   pub failures : OneRisesIf failed old new
 
 -- The same, and none was asked for a byte.

@@ -53,8 +53,11 @@ Reports uses work outcome result device source room out = ReportsBetween (uses (
 
 -- What the reading of a header did: at most its 64 bytes were asked for, no write failed, and no fault of making is answered.
 pub record ReadsHeadBetween {X : Type 0} (result : Result X Fault) (old new : Device) : Type 0 where
+  -- over any source; `Read` is returned exactly if its failures rose
   pub uses : Asks 64 (is_read result) old new
+  -- `Put` is never returned
   pub no_put : is_put result ≡ false
+  -- L9 and L10 are never returned
   pub no_making : is_of_making result ≡ false
 
 -- the same of a source that was lent

@@ -14,6 +14,7 @@ right_report = told (line (codes "header crc32 ok") ++ line (codes "data crc32 o
 -- The image's checksums are right, its listing is not refused, and the part at each position is the part that it was
 -- built from.
 pub record ReadsBack (image : List ℕ) (parts : List (List ℕ)) : Type 0 where
+  -- the report is the two `ok` lines
   pub report : verify_of image ≡ right_report
   pub listing : (naming : Naming) → (list_of naming image).end ≡ done
   pub extraction : (position : ℕ) → position < length parts →

@@ -113,11 +113,15 @@ pub record KeepsSome (only : Option ℕ) (old new : List Part) : Type 0 where
 
 -- Parts that were held are those of some image, whose checksums are right: this is its data's.
 pub record AreRight (dcrc : ℕ) (held : List Part) : Type 0 where
+  -- all parts, or the one of this number
   pub only : Option ℕ
+  -- some image: that of the source, if that is honest, is not claimed here
   pub image : List ℕ
   pub h : Header
+  -- its header, whose checksum is right
   pub read : header_of image ≡ Ok h
   pub sum : h.dcrc ≡ dcrc
+  -- the checksum of its data is right, and these are its parts
   pub told : unpack_of only image ≡ Ok (Some held)
 
 -- the same of an answer; but where all was right, nothing is kept

@@ -72,11 +72,15 @@ fn put_image<S: Source, W: Write>(
 /// the last padded with zeros to a multiple of 4; for any other type they are the one part.
 ///
 /// The caller gives at least one part, and exactly one where the type is neither multi nor script.
-/// Refusals come before the first byte: `EmptyPart` where a part of multi or script is empty, then
-/// `TooLarge` where the data have more than 4294967295 bytes. `Read` comes exactly where a part
-/// failed, `Put` exactly where a write did; over honest parts a prefix of the image was written then.
-/// No part is held in memory: each goes through a window of 8192 bytes, once for the checksum and
-/// once to be written.
+/// Refusals come before the first byte, by the lengths of the parts alone, of which no byte is
+/// requested then: `EmptyPart` where a part of multi or script is empty, then `TooLarge` where the data
+/// have more than 4294967295 bytes. `Read` comes exactly where a part failed, `Put` exactly where a
+/// write did; over honest parts a prefix of the image was written then. Over honest parts, at `Ok`, the
+/// report on the image is its two `ok` lines, its listing is not refused, and the extraction at each
+/// position is the part of that number.
+///
+/// No part is held in memory: each goes through a window of 8192 bytes. Tests show that it is read twice,
+/// for the checksum and to be written.
 pub fn build<S: Source, W: Write>(
     options: &Options,
     parts: &mut [S],

@@ -25,7 +25,7 @@ fn are_right<S: Source, A: Allocator>(source: &mut S, room: &mut Room<A>) -> Res
 
 /// Whether the image's checksums are right, that of the header and that of the data: what a report ends
 /// with, without its lines. Refusals are `TooShort` and `BadMagic`, and, where the header's checksum is
-/// right, `Truncated`.
+/// right, `Truncated`. No more is requested than for a report, and the room is only cleared.
 pub fn check<S: Source, A: Allocator>(source: &mut S, room: &mut Room<A>) -> Result<bool, Fault>
     ensures inspects { Inspects verify_work result S.device source room }
     ensures told { OfHonest ChecksAs result S.device source }

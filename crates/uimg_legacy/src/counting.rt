@@ -41,7 +41,8 @@ fn count_in_image<S: Source, A: Allocator>(source: &mut S, room: &mut Room<A>) -
 
 /// How many parts an image has: those that its table has sizes of, for the types multi and script, and
 /// else one. Refusals are `TooShort`, `BadMagic`, `BadHeaderCrc`, `Truncated`, `BadDataCrc` and
-/// `NoTableEnd`, in this order; that a part ends outside the data is no concern of a count.
+/// `NoTableEnd`, in this order; that a part ends outside the data is no concern of a count. No more is
+/// requested than for a listing, and the room is only cleared.
 pub fn count_parts<S: Source, A: Allocator>(
     source: &mut S,
     room: &mut Room<A>,

@@ -29,8 +29,9 @@ fn locate_part<S: Source, A: Allocator>(
 }
 
 /// Where the part of the image at a position stands, counted from 0: a part of type multi or script, or
-/// the data of any other type at position 0; just the bytes that `extract` writes. Refusals are those of
-/// `extract`, in their order, after which as much of the image was read as for its listing.
+/// the data of any other type at position 0; just the bytes that `extract` writes. That place ends inside
+/// the file, whatever the source answers. Refusals are those of `extract`, in their order. No more is
+/// requested than for a listing, and the room is only cleared.
 pub fn locate<S: Source, A: Allocator>(
     position: u32,
     source: &mut S,
@@ -48,7 +49,8 @@ pub fn locate<S: Source, A: Allocator>(
 /// script, or the data of any other type at position 0. Refusals come before the first byte:
 /// `TooShort`, `BadMagic`, `BadHeaderCrc`, `Truncated`, `BadDataCrc`, `NoTableEnd`, `NoSuchPart`
 /// and `PartOutside` of the part at that position, in this order. Over an honest source a prefix of
-/// the part was written after `Read` or `Put`.
+/// the part was written after `Read` or `Put`, and at every exit at most as many bytes were requested as
+/// for a listing, those that were written and 8192. The room is only cleared.
 pub fn extract<S: Source, A: Allocator, W: Write>(
     position: u32,
     source: &mut S,

@@ -92,9 +92,11 @@ pub(crate) fn fields(bytes: &[u8; HEADER_LEN]) -> Header
     }
 }
 
-/// The header of the image: `TooShort` for a source of fewer than 64 bytes, `BadMagic` where they
-/// do not begin with `0x27051956`, `BadHeaderCrc` where the header's CRC is not that of its bytes with
-/// zeros in its place; the first of these that holds. `Read` where a read failed.
+/// The header of the image: `TooShort` for a source of fewer than 64 bytes, `BadMagic` where they do
+/// not begin with `0x27051956`, `BadHeaderCrc` where the header's CRC is not that of its bytes with
+/// zeros in its place; the first of these that holds. `Read` comes exactly where a read failed. At most
+/// 64 bytes are requested. Over an honest source a header that is returned spells just the first 64
+/// bytes.
 pub fn read_header<S: Source>(source: &mut S) -> Result<Header, Fault>
     ensures reads { ReadsHead result S.device source }
     ensures gives { OfHonest (GivesBy header_of) result S.device source }

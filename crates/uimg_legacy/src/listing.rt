@@ -70,7 +70,8 @@ fn list_tail<S: Source, A: Allocator, W: Write>(
 /// `Contents:` and a line for each part. Refusals of the header and the data come before the first line:
 /// `TooShort`, `BadMagic`, `BadHeaderCrc`, `Truncated`, `BadDataCrc`, in this order. `NoTableEnd`
 /// comes after six lines, `PartOutside` before the line of its part. Over an honest source a
-/// prefix of the listing was written after `Read` or `Put`.
+/// prefix of the listing was written after `Read` or `Put`, and at most 76 bytes, the data and 16 for
+/// each size in the table were requested. The room is only cleared.
 pub fn list<S: Source, A: Allocator, W: Write>(
     source: &mut S,
     room: &mut Room<A>,

@@ -110,8 +110,10 @@ fn only_part(alloc: Global, size: u32) -> Result<Vec<Span>, AllocError>
 
 /// Where the parts of an image with this header stand: those that its table has sizes of, for the types
 /// multi and script, and else the data. The checksum of the data is not looked at. Refusals are
-/// `Truncated`, `NoTableEnd` and `PartOutside`, in this order; `Read` where a read failed, `OutOfMemory`
-/// where memory for the places was refused, 16 bytes for each.
+/// `Truncated`, `NoTableEnd` and `PartOutside`, in this order; `Read` exactly where a read failed,
+/// `OutOfMemory` where memory for the places was refused, 16 bytes for each. An honest source is asked
+/// for at most 12 bytes for each size in the table and 12 more. Nothing of the room changes but its
+/// window.
 #[tactic(auto, unfolding(crate::specs::Placing::places_of))]
 pub fn locate_parts<S: Source, A: Allocator>(
     alloc: Global,

@@ -37,10 +37,14 @@ fn settle<T: PartTaker>(right: bool, dcrc: u32, taker: &mut T) -> Result<bool, P
 /// of the types multi and script, or of another type its data as part 0.
 ///
 /// Each part is written to a shelf of the taker's while the data are summed, from the table of sizes to
-/// the last byte; when their checksum is that in the header, which was right before, the taker is told to
-/// keep the parts, and else to refuse them. The answer tells whether they are kept. The sizes are read
-/// twice, once for the sum and once to be cut by, and where both readings have not the same sum nothing is
-/// kept. So what is kept are the parts of an image with right checksums, whatever the source answers.
+/// the last byte; when their checksum is that in the header, which was right before, the taker is told
+/// to keep the parts, and else to refuse them. The answer tells whether they are kept. The sizes are
+/// read twice, once for the sum and once to be cut by, and where both readings have not the same sum
+/// nothing is kept. So what an honest taker keeps are the parts of some image with right checksums,
+/// whatever the source answers, or nothing. Over an honest source that image is the source's, and each
+/// part is just what an extraction from its position writes. Such a source is asked for at most its
+/// header, as many bytes as the data have, 8 for each size in the table and 8 more. The room is only
+/// cleared.
 ///
 /// Refusals are `TooShort`, `BadMagic`, `BadHeaderCrc`, `Truncated`, `NoTableEnd` and `NoSuchPart`, in
 /// this order and all before the taker is told of anything, and then `PartOutside`, when the part is come

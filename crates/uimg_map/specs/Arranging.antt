@@ -12,9 +12,11 @@ use Rattle.uimg_map.specs.Cover.{has, has_free, contains}
 pub record Arranges (size : ℕ) (things : List Thing) (rows : List Row) : Type 0 where
   -- each thing has its row, and there is no other thing
   pub same : IsPermutation things (things_in rows)
+  -- by place, end and number
   pub sorted : InOrder (things_in rows)
   -- what they say is what is said of sorted things
   pub told : rows ≡ rows_from size None (things_in rows)
+  -- at most twice as many as things, and one
   pub count : length rows ≤ 2 * length things + 1
   -- each byte of the file is of a row, and what a row says to be of no thing is in the file and of no thing
   pub covered : (i : ℕ) → i < size → list_any (has i) rows ≡ true

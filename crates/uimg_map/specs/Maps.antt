@@ -25,6 +25,9 @@ contents_of file = if begins_as_blob file then fit_contents file else legacy_con
 -- A map is that of a file: its rows are those of what is found in the file, whose i-th thing has the number i; the i-th label,
 -- read in the file, says what this is; and the fault is the first that is found.
 pub record IsMapOf (file : List ℕ) (found : Map) : Type 0 where
+  -- just the things that the definition finds, the i-th with the number i
   pub rows : Arranges (length file) (numbered 0 (contents_of file).found) found.rows.items
+  -- each label, read in the file, names its thing
   pub labels : map (read_label file) found.labels.items ≡ map (λ f. f.what) (contents_of file).found
+  -- the first fault, if there is one
   pub first : found.fault ≡ (contents_of file).fault

@@ -15,7 +15,7 @@ pub struct Bar {
 
 /// The bar of so many cells for what stands from a place up to an end in a file of so many bytes. Each
 /// cell stands for an equal part of the file, and is filled where bytes of the file that are of it lie in
-/// that part: a few bytes fill a cell, and none fill none.
+/// that part: a few bytes fill a cell, and none fill none. The filled cells are one range.
 #[tactic(auto, unfolding(crate::specs::Bars::is_filled))]
 pub fn bar_of(cells: u32, size: u64, place: u64, end: u64) -> Bar
     ensures inside { (result.from ≤ result.to) × (result.to ≤ cells) }

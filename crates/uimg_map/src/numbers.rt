@@ -65,7 +65,8 @@ fn numbers_of(bytes: &[u8; BLOB_HEADER_LEN]) -> BlobNumbers
 }
 
 /// The numbers of the header that a source begins with. There are none where it has fewer than 40 bytes
-/// or does not begin with `0xd00dfeed`; nothing else of them is looked at.
+/// or does not begin with `0xd00dfeed`; nothing else of them is looked at. At most 40 bytes are
+/// requested.
 #[tactic(auto, unfolding(crate::specs::Numbers::numbers_in))]
 pub fn read_numbers<S: Source>(source: &mut S) -> Result<Option<BlobNumbers>, SourceFault>
     ensures uses { Asks 40 (is_err result) (S.device source.old) (S.device source.new) }

@@ -1,4 +1,4 @@
-//! Members of objects.
+//! Members of objects. Each call appends the tokens of just these members, unless memory was refused.
 
 ghost use Rattle.std.specs.Prelude.{◌≡◌, ◌++◌, [], ◌∷◌};
 ghost use Rattle.json.specs.Token.{Token};

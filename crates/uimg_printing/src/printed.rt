@@ -12,7 +12,8 @@ use std::fmt::{Display, Formatter, Write};
 
 /// A name in a line of text: backslashes, control characters and those that end a line, turn its
 /// direction or are not seen, and in a name that is not UTF-8 all that is not ASCII, stand as `\xNN`,
-/// byte by byte.
+/// byte by byte. So the text has no byte below 32 and no DEL, whatever the name is
+/// (`proofs/ShownLaws.antt`).
 #[derive(Clone, Copy, Debug)]
 pub struct Printed<'a>(pub &'a [u8]);
 

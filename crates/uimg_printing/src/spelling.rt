@@ -20,7 +20,7 @@ pub struct Spelling {
     pub base64: Option<String>,
 }
 
-/// The spelling of a name.
+/// Spells a name. One that is UTF-8 is its own text, and has no bytes beside it. Memory may be refused.
 pub fn spell(alloc: Global, name: &[u8]) -> Result<Spelling, AllocError>
     ensures text { IfOk result (λ s. string_bytes s.text ≡ utf8_lossy name.now) }
     ensures same { IfOk result (λ s. IsUtf8 name.now →

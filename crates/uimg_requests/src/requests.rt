@@ -91,8 +91,9 @@ impl<'a> MakeRequest<'a> {
         })
     }
 
-    /// The making of a FIT image from the source at a path, whose folder is that of its files, listed by
-    /// the names of the profile. Memory for its name may be refused.
+    /// The making of a FIT image from the source at a path, whose folder is that of its files, listed
+    /// by the names of the profile. Memory for its name may be refused. Folder and name together are
+    /// the path; tests show that the folder is all up to the last slash.
     pub fn of_source(
         alloc: Global,
         path: &'a str,

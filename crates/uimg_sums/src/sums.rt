@@ -22,7 +22,8 @@ pub trait Summer: Drop {
     fn feed(&mut self, bytes: &[u8])
         ensures { (fed : List ℕ) → holds self.old fed → holds self.new (fed ++ bytes.now) };
 
-    /// Writes the digest to the first bytes of `to`, and gives its length in bytes.
+    /// Writes the digest of all bytes that were fed to the first bytes of `to`, and returns its length
+    /// in bytes, at most 64. The rest of `to` is unchanged.
     fn finish(self, to: &mut [u8; 64]) -> usize
         ensures digest { (fed : List ℕ) → holds self fed →
             PutsDigest (digest fed) to.old to.new result }

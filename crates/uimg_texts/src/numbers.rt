@@ -14,7 +14,7 @@ pub fn number_at(bytes: &[u8], offset: usize) -> u32
     BigEndian::read_u32(&bytes[offset..offset + 4])
 }
 
-/// A size rounded up to a multiple of 4.
+/// Rounds a size below 2^40 up to a multiple of 4.
 pub fn up4(size: u64) -> u64
     requires { size < 2 ^ 40 }
     ensures { result ≡ up4 size }

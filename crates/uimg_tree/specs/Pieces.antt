@@ -50,7 +50,9 @@ blob_pieces p t =
 -- What a call that writes pieces did to files and to an output. Where it ended well, and the files are honest, each piece
 -- that is a file is kept, and all was appended; else a prefix was.
 pub record WritesPieces {X : Type 0} (steady : Bool) (answer : Result X TreeFault) (old new : FileMap) (s t : Sink) (pieces : List Content) : Type 0 where
+  -- no call changes them; `NoFile` is returned exactly if their refusals rose
   pub files : UsesFiles (is_no_file answer) old new
+  -- `Put` is returned exactly if the faults of the output rose
   pub faults : RisesIf (is_put answer) s.faults t.faults
   -- complete files refuse none that is kept
   pub found : IsTrue old.complete → AllByRecursion (IsKept old.bytes) pieces → is_no_file answer ≡ false
@@ -58,5 +60,7 @@ pub record WritesPieces {X : Type 0} (steady : Bool) (answer : Result X TreeFaul
   pub reads : IsTrue steady → IsTrue old.honest → AllByRecursion (IsKept old.bytes) pieces → is_read answer ≡ false
   -- where no piece is a file, only a write can fail
   pub in_memory : AllByRecursion IsBytes pieces → is_err answer ≡ is_put answer
+  -- at success each file has the size that is kept
   pub kept : IsTrue old.honest → OnFalse (is_err answer) (AllByRecursion (IsKept old.bytes) pieces)
+  -- all pieces, or a prefix of them at a fault
   pub written : IsTrue old.honest → Written (is_err answer) s t (flat_map (bytes_in old.bytes) pieces)

@@ -10,8 +10,10 @@ use uimg_base::{Out, PutFault, WINDOW};
 /// The least alignment, and that of the values in a blob.
 pub const WORD_ALIGNMENT: u32 = 4;
 
-/// So many bytes rounded up by an alignment as mkimage of U-Boot does it, counted in words of four
-/// bytes: by a power of two from four on, to the next multiple of it.
+/// Rounds so many bytes up by an alignment as mkimage of U-Boot does it, counted in words of four
+/// bytes: by a power of two from four on, to the next multiple of it (`proofs/AlignmentLaws.antt`). It
+/// adds at most the alignment and three bytes. `proofs/Examples.antt` has what mkimage 2023.01 makes of
+/// some sizes.
 pub fn aligned(size: u64, align: u32) -> u128
     ensures place { result ≡ aligned align size }
     ensures least { size ≤ result }

@@ -11,7 +11,8 @@ use crate::fault::TreeFault;
 use std::io::Write;
 use uimg_base::{Files, Out, Source, WINDOW, copy_through};
 
-// Writes all of a source that has so many bytes; one of another size is a failed read.
+// Writes all of a source that has so many bytes; one of another size is a failed read. `Read` comes
+// exactly where the source failed, if it has so many bytes.
 fn put_source<S: Source, W: Write>(
     source: &mut S,
     size: u64,

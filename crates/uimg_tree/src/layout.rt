@@ -50,7 +50,8 @@ impl<'a, A: Allocator> Model for Layout<'a, A> {
 }
 
 impl<'a, A: Allocator> Layout<'a, A> {
-    /// How many bytes the blob has, each file counted by the size that the tree keeps of it.
+    /// How many bytes the blob has, each file counted by the size that the tree keeps of it: just those
+    /// that are written, over any files of these sizes.
     pub fn totalsize(&self) -> u32
         ensures { result ≡ totalsize self.now }
     {

@@ -1,4 +1,5 @@
-//! Trees of nodes and properties, and the flattened devicetree blobs that are made of them.
+//! Trees of nodes and properties, and the flattened devicetree blobs that are made of them. Each function
+//! that writes has in its contract the pieces that it writes (`WritesPieces` of `specs/Pieces.antt`).
 #![tactic(auto)]
 
 mod alignment;

@@ -54,8 +54,8 @@ pub trait Taker {
         ensures same { IsTrue honest → takes self.new ≡ takes self.old }
         ensures empty { IsTrue honest → IfOk result (λ shelf. Self.Shelf.contents shelf ≡ Some []) };
 
-    /// Is given a payload that is kept, with what vouches for it: of what the shelf holds this is the
-    /// digest, whatever source it was read from.
+    /// Is given a payload that is kept, with what vouches for it. For an honest taker the caller has
+    /// shown that this is the digest of what the shelf holds, whatever source it was read from.
     fn keep(
         &mut self,
         name: &NodeName,

@@ -42,8 +42,9 @@ pub trait PartTaker {
             OnOk result (held self.new ≡ held self.old ++ part_if true number bytes) }
         ensures kept { IsTrue honest → kept self.new ≡ kept self.old };
 
-    /// Keeps the parts that are held: whatever source they were read from, they are the parts of an image
-    /// with right checksums, whose data have this CRC.
+    /// Keeps the parts that are held. For an honest taker the caller has shown that they are the parts,
+    /// all or one, of some image with right checksums, whose data have this CRC, whatever source they
+    /// were read from.
     fn keep(&mut self, dcrc: u32) -> Result<(), PutFault>
         requires { IsTrue honest → AreRight dcrc (held self.old) }
         ensures ok { IsTrue honest → OnOk result (kept self.new ≡ kept self.old ++ held self.old) }
