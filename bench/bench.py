@@ -1,12 +1,12 @@
 #!/usr/bin/env python3
 """Times uimg over a large legacy image and over FIT images.
 
-The commands of one kind run several times in turn over the same file. It prints a table of the best
-and the median seconds, of MB/s at best (millions of bytes of payload a second), of peak memory, and of
-the best time beside the last row of the same kind. Tools that are not installed are left out.
+The commands of one kind run several times in turn over the same file. It prints a table: the best and
+the median seconds, the best MB/s (millions of bytes of payload a second), the peak memory, and the ratio
+of the best time to that of the last row of the same kind. Tools that are not installed are left out.
 
-The files lie in a folder that BENCH_DIR names, or else in memory where the system has /dev/shm: on a
-disk the writes' noise hides everything else.
+The files are in the folder that BENCH_DIR names, or else in /dev/shm if it exists: on a disk the noise
+of the writes hides everything else.
 """
 
 import itertools
@@ -249,9 +249,9 @@ def main():
         installed = (row for row in rows if shutil.which(row[2][0]))
         for _, kind in itertools.groupby(installed, key=lambda row: row[0]):
             print_kind(list(kind), widths)
-    print(f"\nBest and median of {RUNS} runs, taken in turn; the ratio is of the best times, to the last row of the")
-    print(f"same kind. Without another size the payload has {SIZE} bytes. The memory of a command that ends")
-    print("within a hundredth of a second is not seen.")
+    print(f"\nBest and median of {RUNS} runs; the rows of one kind run in turn. The ratio compares the best times with the")
+    print(f"last row of the same kind. The payload of the legacy image has {SIZE} bytes, that of `verify 4 sums`")
+    print(f"{INSIDE}. The peak memory of a command that takes at most 0.01 s is not measured.")
 
 
 def print_row(values, widths):
