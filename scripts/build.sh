@@ -5,7 +5,7 @@ program=$1
 scripts/needs.sh rt python3 || exit 1
 # bin/PROGRAM gets the time of the second file, so that an edit during the build counts as newer.
 mkdir -p bin out && : > "out/$program.begun" || exit 1
-echo "This proves the $(scripts/crates.sh "$program" | wc -l) crates of $program, and builds bin/$program: some 40 minutes on 4 cores the"
+echo "This proves the $(scripts/crates.sh "$program" | wc -l) crates of $program, and builds bin/$program: some 20 minutes on 4 cores the"
 echo "first time, less from then on. An interrupted run goes on from what is proved."
 python3 scripts/prove.py "$program" || exit 1
 cp "crates/$program/out/$program" "bin/$program.new" &&

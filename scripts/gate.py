@@ -95,10 +95,10 @@ class Library(threading.Thread):
     def run(self):
         """Carries out the steps, up to the first that fails."""
         os.makedirs("out", exist_ok=True)
-        archive, toolchain = os.path.abspath("out/libuimg_c.a"), ["--toolchain", f"{kit.KIT}/toolchain", "--backend", "llvm"]
+        (compile_it,) = kit.Crates().compilation("uimg_c", os.path.abspath("out"))
         steps = (
-            ("crates/uimg_c", [*kit.Crates().command("uimg_c", "build", 1), *toolchain, "-o", archive]),
-            (".", ["scripts/link.sh", archive, "out/lib"]),
+            ("crates/uimg_c", compile_it),
+            (".", ["scripts/link.sh", "out/libuimg_c.a", "out/lib"]),
             (".", ["python3", "scripts/lib_test.py", PROGRAM, "out/lib"]),
         )
         for folder, words in steps:

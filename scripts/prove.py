@@ -15,7 +15,6 @@ import shutil
 import signal
 import subprocess
 import sys
-import tempfile
 import threading
 import time
 
@@ -25,8 +24,9 @@ import kit
 MEMORY = 2_500_000_000
 # Each job is a copy of all that a check reads, so a crate has one, but for processors that would have nothing to do:
 # these go to crates that gain by them, up to so many jobs. Measured on four virtual processors, in seconds of the clock
-# (of processors): uimg_base by three jobs 93 (228), by one 179 (181).
-JOBS = {"uimg_base": 3}
+# (of processors): uimg_base by three jobs 93 (228), by one 179 (181), beside other work; uimg_blob 73 (200), by one 161;
+# uimg_tool 179 (471), by one 349.
+JOBS = {"uimg_base": 3, "uimg_blob": 3, "uimg_tool": 3}
 
 
 class Proof:
@@ -44,20 +44,19 @@ class Proof:
         os.makedirs(made, exist_ok=True)
         for it in (f"{made}/proved", f"{made}/rlib"):
             shutil.rmtree(it) if os.path.isdir(it) else os.path.exists(it) and os.remove(it)
-        with open(self.log, "w", encoding="utf-8") as log, tempfile.TemporaryDirectory(prefix="uimg-proved-") as room:
-            self.is_proved = all(self.is_done(words, log) for words in self.steps(room))
+        with open(self.log, "w", encoding="utf-8") as log:
+            self.is_proved = all(self.is_done(words, log) for words in self.steps())
         if self.is_proved:
             with open(f"{made}/proved", "w", encoding="ascii") as file:
                 file.write(self.stamp)
 
-    def steps(self, room):
+    def steps(self):
         """Yields the commands by which it is proved, and compiled where the crates above do not take its library."""
         if self.crate.makes_library():
             os.makedirs(os.path.dirname(self.crate.rlib))
             yield [*self.crates.command(self.name, "build", self.jobs), "--statements", "-o", self.crate.rlib]
         else:
-            yield [*self.crates.command(self.name, "check", self.jobs), "-o", f"{room}/checked"]
-            yield from self.crates.compilation(self.name, f"{room}/checked")
+            yield from self.crates.compilation(self.name, f"{self.crate.folder}/out")
 
     def is_done(self, words, log):
         how = {"cwd": self.crate.folder, "stdin": subprocess.DEVNULL, "start_new_session": True}
