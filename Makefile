@@ -5,7 +5,7 @@ PREFIX ?= /usr/local
 IMAGE ?= examples/abc-kernel.img
 export RT
 
-.PHONY: all demo try check test gate wrong-bodies contracts lib lib-test json-test farm-test install deb peers bench clean help
+.PHONY: all demo try check test gate wrong-bodies definitions contracts lib lib-test json-test farm-test install deb peers bench clean help
 .NOTPARALLEL:
 
 ## make          proves what the program stands on, and builds bin/uimg
@@ -45,6 +45,11 @@ gate:
 wrong-bodies:
 	@scripts/needs.sh rt python3
 	@python3 scripts/lots.py $(CRATE)
+
+## make definitions   counts the lines of the definitions that the two theorems need, and writes the counts into docs/DEFINITIONS.md
+definitions:
+	@scripts/needs.sh python3
+	@python3 scripts/definitions.py
 
 ## make contracts CRATE=uimg_its   lists the public functions of a crate with their clauses; without CRATE, how much of
 ##               each crate is under a contract
