@@ -7,9 +7,9 @@ pub record Device : Type 0 where
   pub bytes : List ℕ
   -- whether each read that succeeds returns these bytes
   pub honest : Bool
-  -- how many bytes were requested, failed reads included; never above its greatest value
+  -- how many bytes were requested, failed reads included; it saturates
   pub asked : ℕ
-  -- how many calls failed; never above its greatest value
+  -- how many calls failed; it saturates
   pub failures : ℕ
 
 -- A counter of 64 bits rose, or was at its greatest value.
@@ -26,7 +26,7 @@ pub record SameDevice (old new : Device) : Type 0 where
   pub bytes : new.bytes ≡ old.bytes
   pub honest : new.honest ≡ old.honest
 
--- the counter of 128 bits after n more requested bytes, up to its greatest value
+-- the counter after n more requested bytes; it saturates at 128 bits
 abbrev pub asked_more : ℕ → ℕ → ℕ
 asked_more asked n = max asked (min (asked + n) (2 ^ 128 - 1))
 

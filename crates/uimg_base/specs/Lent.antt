@@ -4,7 +4,6 @@ use denote.Triple.Both.{Both}
 
 -- A clause may pass a reference as a whole, such as `room`: then `room.entry.now` is `room.old`,
 -- and `room.exit.now` is `room.new`. A definition over lent references may abbreviate one over
--- their values before and after the call, named with the suffix `Between`: `Runs` for the record
--- `RunsBetween`.
+-- their values before and after, with the suffix `Between`: `Runs` for `RunsBetween`.
 abbrev pub Lent : Type 0 → Type 0
 Lent T = Both (MutBor T) (MutBor T)

@@ -29,8 +29,7 @@ pub record Copies (failed : Bool) (d e : Device) (s t : Sink) (bytes : List ℕ)
   pub prefix : CopiesPrefix d e s t bytes
   pub all : OnFalse failed (AppendsAll s t bytes)
 
--- A prefix of the bytes was appended, and at most that prefix, one window and `most` bytes were
--- requested.
+-- A prefix was appended, and at most that prefix, one window and `most` bytes were requested.
 pub record ReadsAhead (most : ℕ) (d e : Device) (s t : Sink) (bytes : List ℕ) : Type 0 where
   -- the length of that prefix
   pub count : ℕ

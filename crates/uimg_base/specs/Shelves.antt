@@ -2,8 +2,7 @@
 use Rattle.std.specs.Prelude.{ℕ, List, take, Option, Some, None, Result, IfOk, ⊤}
 use Rattle.std.specs.Io.KnownBytes.{Appends}
 
--- the contents of its file with the buffered bytes, if known; nothing is known before there is a
--- file
+-- the contents of its file with the buffered bytes, if known; unknown before there is a file
 abbrev pub contents_of : {F : Type 0} → (F → Option (List ℕ)) → Option F → Option (List ℕ)
 contents_of contents None = None
 contents_of contents (Some file) = contents file

@@ -31,8 +31,7 @@ abbrev pub MovesTo : {X E : Type 0} → ℕ → Result X E → (old new : Option
 MovesTo at (Ok _) old new = new ≡ option_map (moved at) old
 MovesTo at (Err e) old new = new ≡ old
 
--- the position is the end of the file, and the result its length; after an error the position is
--- unchanged
+-- the result is the length, and the position the end; after an error it is unchanged
 abbrev pub MovesToEnd : {E : Type 0} → Result ℕ E → (old new : Option Stream) → Type 0
 MovesToEnd (Ok n) None new = new ≡ None
 MovesToEnd (Ok n) (Some s) new = (n ≡ length s.bytes) × (new ≡ Some (moved n s))

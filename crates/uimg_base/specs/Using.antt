@@ -3,8 +3,7 @@ use Rattle.std.specs.Prelude.{◌≡◌, ℕ, ◌+◌, ◌≤◌, Bool, IsTrue}
 use Rattle.std.specs.Bool.{OnFalse}
 use Rattle.uimg_base.specs.Device.{Device, SameDevice, RisesIf, asked_more}
 
--- The device is unchanged but for its counters, and a failure was counted if and only if a read
--- failed.
+-- Bytes and honesty are unchanged, and a failure was counted if and only if a read failed.
 pub record Uses (failed : Bool) (old new : Device) : Type 0 where
   -- neither its bytes nor its honesty changed
   pub same : SameDevice old new

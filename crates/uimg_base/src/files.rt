@@ -16,11 +16,10 @@ pub trait Files {
     /// The source that an open returns.
     type Opened: Source;
 
-    /// What contracts see of the files. The count of refused opens does not exceed its greatest
-    /// value.
+    /// What contracts see of the files. The count of refused opens saturates.
     ghost map: { Self → FileMap };
 
-    /// Opens the file with this name as a source of which nothing was requested yet.
+    /// Opens the file with this name as a source; nothing was requested of it yet.
     ///
     /// Returns `SourceFault` only if the open was refused: then the count of refused opens rose by
     /// 1, or was at its greatest value.

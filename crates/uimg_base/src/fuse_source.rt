@@ -17,8 +17,7 @@ pub struct FuseSource<S: Source> {
 }
 
 impl<S: Source> FuseSource<S> {
-    /// Puts a fuse on `source` that lets `calls` calls through. Its counters continue those of the
-    /// source.
+    /// Puts a fuse on `source` that lets `calls` calls through. Its counters continue the source's.
     pub fn new(source: S, calls: u64) -> FuseSource<S>
         ensures { ⟦<FuseSource<S> as Source>⟧.device result ≡ S.device source }
     {

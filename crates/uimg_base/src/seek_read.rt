@@ -28,8 +28,7 @@ pub trait SeekRead: Drop {
     fn move_to(&mut self, at: u64) -> io::Result<()>
         ensures { MovesTo at result (stream self.old) (stream self.new) };
 
-    /// Moves to the end of the file and returns its length. After an error the position is
-    /// unchanged.
+    /// Moves to the end of the file. Returns its length. After an error the position is unchanged.
     fn move_to_end(&mut self) -> io::Result<u64>
         ensures { MovesToEnd result (stream self.old) (stream self.new) };
 }

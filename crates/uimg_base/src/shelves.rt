@@ -17,8 +17,8 @@ pub trait Shelf: Write + Drop {
     /// Whether `keep` never fails. It is a fact of the type; a shelf in memory is steady.
     ghost steady: { Bool } = { false };
 
-    /// Ends the writing and returns what was written as a source, of which nothing was requested
-    /// yet. An honest shelf returns an honest source of exactly the written bytes.
+    /// Ends the writing and returns what was written as a source; nothing was requested of it yet.
+    /// An honest shelf returns an honest source of exactly the written bytes.
     ///
     /// Returns `SourceFault` if what was written cannot be read; never over a steady shelf.
     fn keep(self) -> Result<Self::Kept, SourceFault>

@@ -51,12 +51,11 @@ pub trait Source: Drop {
             (device self.new).failures }
         ensures counted { (device self.new).failures ≤ (device self.old).failures + 1 };
 
-    /// Returns how many bytes `fill_at` requested, failed calls included. Does not exceed its
-    /// greatest value.
+    /// Returns how many bytes `fill_at` requested, failed calls included. It saturates.
     fn asked(&self) -> u128
         ensures { result ≡ (device self.now).asked };
 
-    /// Returns how many calls failed. Does not exceed its greatest value.
+    /// Returns how many calls failed. It saturates.
     fn failures(&self) -> u64
         ensures { result ≡ (device self.now).failures };
 

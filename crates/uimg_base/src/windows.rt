@@ -77,8 +77,8 @@ impl Window {
     }
 }
 
-/// Two windows, of which the one used longest ago is read anew: reads of a blob's structure block
-/// and strings block alternate.
+/// Two windows; the one used longest ago is read anew. Reads of a blob's structure block and
+/// strings block alternate.
 #[derive(Drop)]
 pub(crate) struct Windows {
     pub(crate) first: Window,

@@ -15,8 +15,7 @@ use Rattle.uimg_blob.specs.Walk.{begun}
 use Rattle.uimg_blob.specs.ReadTokens.{IsReadAs, Stands, cost}
 use Rattle.uimg_blob.specs.Passes.{Phase, Holds, step, is_done, Goes, Refuses, Steps, Indexes, Passed, Within, IsPrefix, StopsAt}
 
--- The innermost node has an entry, and there are at least eight bytes before the state's offset for
--- each entry.
+-- The innermost node has an entry, and each entry at least eight bytes before the state's offset.
 pub record Suits (s : State) (es : List (List ℕ)) : Type 0 where
   pub current : IfSome s.current (λ i. i < length es)
   pub few : 8 * length es ≤ s.at
@@ -51,8 +50,7 @@ pub record Does (token : ReadToken) (s : State) (result : Result State IndexFaul
   pub no_read : is_read result ≡ false
   pub no_making : is_of_making result ≡ false
 
--- A step requests at most the token's cost, the room grows by no more than its entries, and the
--- result is what the token does.
+-- A step requests at most the token's cost, the room only grows, and the result is the token's.
 pub record TakesStep (x : Extent) (s : State) (result : Result (Option State) IndexFault) (d e : Device) (h k : Held) : Type 0 where
   pub uses : UsesAtMost (cost (token_at (blocks_of d.bytes x) s.at)) (is_read result) d e
   pub room : Grows (is_out_of_memory result) h k
@@ -60,9 +58,8 @@ pub record TakesStep (x : Extent) (s : State) (result : Result (Option State) In
   pub no_making : is_of_making result ≡ false
   pub ahead : IfOk result (λ r. IfSome r (λ n. (s.at + 4 ≤ n.at) × (n.at < x.structure_end + 4)))
 
--- All steps together: what was requested and kept is within the token counts, and the result is the
--- tree or the first fault. The entries are those of the tree or, after a fault, those so far; if
--- memory was refused, those of the nodes before.
+-- All steps: requests and entries are within the token counts, and the result is the tree or the
+-- first fault. The entries are the tree's, or those so far: of the nodes before a refused growth.
 pub record GoesOver (x : Extent) (result : Result State IndexFault) (d e : Device) (h k : Held) : Type 0 where
   pub uses : Uses (is_read result) d e
   pub room : Grows (is_out_of_memory result) h k

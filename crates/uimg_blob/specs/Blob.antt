@@ -11,8 +11,7 @@ use Rattle.uimg_blob.specs.Grammar.{Siblings, root, without_nops}
 abbrev pub magic : ℕ
 magic = 0xd00dfeed
 
--- whether a block ends outside the blob; `at` and `size` are the header fields of its offset and
--- its size
+-- whether a block ends outside the blob, given the header fields of its offset and its size
 abbrev pub ends_outside : List ℕ → ℕ → ℕ → Bool
 ends_outside file at size = nat_lt (be32 file 4) (be32 file at + be32 file size)
 

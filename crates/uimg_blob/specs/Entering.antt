@@ -17,8 +17,7 @@ begun_entry at length parent role =
     span_word (at + 4) length ∷ number_word parent ∷ 0 ∷ role_word role
     ∷ 0 ∷ 0 ∷ 0 ∷ 0 ∷ 0 ∷ 0 ∷ 0 ∷ 0 ∷ 0 ∷ 0 ∷ 0 ∷ 0 ∷ []
 
--- The entry was added; or the entries are unchanged, and a refusal was counted if memory was
--- refused.
+-- The entry was added; or entries are unchanged, with a refusal counted if memory was refused.
 pub record Enters (added no_memory : Bool) (entry : List ℕ) (old new : Held) : Type 0 where
   pub entries : new.entries ≡ (if added then old.entries ++ entry ∷ [] else old.entries)
   -- a refusal was counted if and only if memory was refused

@@ -17,8 +17,7 @@ blocks_of file x = record {
   strings_size = x.strings_size;
 }
 
--- Both blocks are inside the blob, the blob is inside a file of this size, and the structure block
--- is at a multiple of 4.
+-- Both blocks are inside the blob, it is inside the file, and the structure block is aligned to 4.
 pub record IsInside (x : Extent) (size : ℕ) : Type 0 where
   pub ordered : x.structure ≤ x.structure_end
   pub structure_within : x.structure_end ≤ x.totalsize
@@ -38,8 +37,7 @@ pub record HeadsFile (header file : List ℕ) : Type 0 where
   pub strings_size : be32 file 32 ≡ be32 header 32
   pub structure_size : be32 file 36 ≡ be32 header 36
 
--- The result is the blocks of a file and its totalsize, or the header's first fault, unless a read
--- failed.
+-- The result is a file's blocks and totalsize, or the header's first fault, unless a read failed.
 abbrev pub GivesBlocks : List ℕ → Result Extent IndexFault → Type 0
 GivesBlocks file (Ok x) = (blocks file ≡ Ok (blocks_of file x)) × (x.totalsize ≡ be32 file 4)
 GivesBlocks file (Err (Blob fault at)) = blocks file ≡ Err (fault, at)

@@ -5,8 +5,7 @@ use Rattle.uimg_base.specs.Results.{◌>>=◌}
 use Rattle.uimg_blob.specs.Reading.{Fault}
 use Rattle.uimg_blob.specs.Tokens.{Property, Token, begin_node, end_node, prop, nop, last, stray}
 
--- Siblings: none, or a node with its offset, name, properties and children, followed by the nodes
--- after it.
+-- Siblings: none, or a node (offset, name, properties, children) and the nodes after it.
 pub data Siblings : Type 0 where
   none : Siblings
   node : ℕ → List ℕ → List Property → Siblings → Siblings → Siblings
@@ -50,8 +49,7 @@ inside children ts = do
   rest ← end below.1
   Ok ((own.0, below.0), rest)
 
--- children: a node followed by children, or nothing if the next token begins no node; n bounds
--- their depth and number
+-- children: a node and children, or nothing if no node begins; n bounds their depth and number
 unfoldable pub children : ℕ → Reads Siblings
 children (suc n) (begin_node at (Ok name) ∷ ts) = do
   first ← inside (children n) ts

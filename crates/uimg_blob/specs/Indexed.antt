@@ -29,8 +29,7 @@ pub record IsIndexed (t : Siblings) (blob : Blob) (es : List (List ℕ)) : Type 
   pub lies : AllByRecursion (LiesIn blob.totalsize) (kept_of t)
   pub small : blob.totalsize < 2 ^ 32
 
--- The entries and the blob are those of some tree inside the device's bytes; of an honest device it
--- is the tree of its bytes.
+-- These are entries and blob of some tree inside the device; if honest, of the tree of its bytes.
 pub record Finds (device : Device) (blob : Blob) (es : List (List ℕ)) : Type 0 where
   -- some tree, whatever the source returned
   pub nodes : Siblings
@@ -67,13 +66,11 @@ KeepsWithin count d k = IsTrue d.honest → length k.entries ≤ count d.bytes
 abbrev pub TakesWithin : (List ℕ → ℕ) → Device → Held → Held → Type 0
 TakesWithin count d h k = IsTrue d.honest → k.peak ≤ max h.peak (held_bytes (count d.bytes))
 
--- Over an honest device the entries are those of the tree of its bytes, or the fault is the first
--- in them.
+-- Over an honest device the entries are those of its tree, or the fault is the first.
 abbrev pub IndexesTree : {X : Type 0} → Device → Result X IndexFault → List (List ℕ) → Type 0
 IndexesTree d result es = IsTrue d.honest → Indexes (tree d.bytes) result es
 
--- Over an honest device, if memory was refused, the entries are those of the nodes before the one
--- at the fault's offset.
+-- Over an honest device, after refused memory, these are the entries of the nodes before.
 abbrev pub LeavesPrefix : {X : Type 0} → Device → Result X IndexFault → List (List ℕ) → Type 0
 LeavesPrefix d result es = IsTrue d.honest → IsPrefix (tokens_in (blocks d.bytes)) result es
 

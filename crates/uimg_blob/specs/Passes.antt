@@ -226,8 +226,7 @@ pub record Steps (honest : Bool) (b : Blocks) (p : Phase) (at : ℕ) (result : R
   pub refuses : Refuses token result
   pub lies : OnOk result (TokenLies b.structure_end token)
 
--- The result is a tree with these entries, or its first fault, unless a read failed or memory was
--- refused.
+-- The result is a tree with these entries, or its first fault, unless a read or a growth failed.
 abbrev pub Indexes : {X : Type 0} → Result Siblings Fault → Result X IndexFault → List (List ℕ) → Type 0
 Indexes whole (Ok x) es = (t : Siblings) × (whole ≡ Ok t) × (es ≡ entries t)
 Indexes whole (Err (Blob fault at)) es = refuses_memory fault ≡ false → whole ≡ Err (fault, at)
@@ -250,8 +249,7 @@ pub record Rest (b : Blocks) (whole : Result Siblings Fault) (p : Phase) (at bas
   pub places : begin_places (tokens b) ≡ map (λ k. k.at) (nodes_at p) ++ begin_places (tokens_from fuel b (Some at))
   pub begun : nodes + sum_from begun_by whole (tokens_from fuel b (Some at)) ≤ sum_from begun_by whole (tokens b)
 
--- The state of a pass: some phase holds, and if the source is honest, the remaining tokens give the
--- result of all.
+-- The state of a pass: some phase holds, and over an honest source `Rest` does.
 pub record Pass (honest : Bool) (b : Blocks) (whole : Result Siblings Fault) (s : State) (es : List (List ℕ)) (base asked : ℕ) : Type 0 where
   pub phase : Phase
   pub holds : Holds phase s es
@@ -268,8 +266,7 @@ abbrev pub tokens_in : Result Blocks Fault → List Token
 tokens_in (Ok b) = tokens b
 tokens_in (Err e) = []
 
--- If memory was refused, the entries are those of the first nodes, and the fault's offset is that
--- of the next node.
+-- If memory was refused, the entries are those of the first nodes; the fault is at the next node.
 abbrev pub IsPrefix : {X : Type 0} → List Token → Result X IndexFault → List (List ℕ) → Type 0
 IsPrefix ts (Ok x) es = ⊤
 IsPrefix ts (Err (Blob fault at)) es = refuses_memory fault ≡ true
@@ -299,8 +296,7 @@ abbrev pub IsSoFar : Result Blocks Fault → IndexFault → List (List ℕ) → 
 IsSoFar (Ok b) fault es = StopsAt (tokens b) fault es
 IsSoFar (Err e) fault es = es ≡ []
 
--- The entries and numbers are those of a tree inside the blocks; over an honest source it is the
--- tree of the tokens.
+-- Entries and numbers of a tree inside the blocks; over an honest source it is that of the tokens.
 pub record Passed (honest : Bool) (b : Blocks) (s : State) (es : List (List ℕ)) : Type 0 where
   pub nodes : Siblings
   pub is : IsTrue honest → begun (tokens b) ≡ Ok nodes

@@ -33,8 +33,7 @@ pub record EndsBy (limit : ℕ) (x : PropertyPlace) : Type 0 where
   pub value : x.value.place + x.value.length ≤ limit
   pub short : x.name.length ≤ 255
 
--- The property's value has this length and its name is at this offset in the strings block; or the
--- token has this fault.
+-- The property has a value of this length and its name at this offset, or the token this fault.
 abbrev pub IsHead : List ℕ → Extent → ℕ → Result Head BlobFault → Type 0
 IsHead bytes x at (Ok h) = property (blocks_of bytes x) at ≡ named (before_nul (reach bytes h.name (x.strings + x.strings_size))) (at + 12) (slice bytes (at + 12) h.length)
 IsHead bytes x at (Err fault) = property (blocks_of bytes x) at ≡ Err fault

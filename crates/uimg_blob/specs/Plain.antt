@@ -1,5 +1,4 @@
--- Trees of nodes without offsets: those that a blob is made of, and those that are read back from
--- it.
+-- Trees of nodes without offsets, as written to a blob and as read back.
 use Rattle.std.specs.Prelude.{◌≡◌, ℕ, ◌≤◌, List, length, map, Result, Ok, Err, None, ⊤}
 use Rattle.std.specs.List.{AllByRecursion}
 use Rattle.uimg_blob.specs.Reading.{Fault}

@@ -51,8 +51,7 @@ OfRowRead d blob es number P = IsTrue d.honest → (t : Siblings) → tree d.byt
 abbrev pub telling_cost : List Property → ℕ → ℕ
 telling_cost own nops = 4 + 268 * length own + 4 * nops
 
--- The tokens before an offset were taken: the spans so far and the remaining properties are all,
--- within the cost.
+-- The tokens before an offset were taken: the spans so far and the rest are all, within the cost.
 pub record TookFrom (b : Blocks) (at : ℕ) (own : List Property) (nops : ℕ) (old new : List PropertyPlace) (base asked : ℕ) : Type 0 where
   pub rest : List Property
   pub rest_nops : ℕ

@@ -16,8 +16,7 @@ use Rattle.uimg_blob.specs.Labels.{label_of}
 use Rattle.uimg_blob.specs.Extents.{blocks_of}
 use Rattle.uimg_blob.specs.Tokens.{Token, Property, begin_node, end_node, prop, nop, last, stray, token_at}
 
--- the most bytes that are requested to read a token: its word, 256 bytes of a name, and a
--- property's length and name offset
+-- the most bytes requested to read a token: its word, 256 of a name, a property's two fields
 abbrev pub cost : Token → ℕ
 cost (begin_node at name) = 260
 cost (end_node at) = 4
@@ -52,8 +51,7 @@ IsReadAs at token Nop = token ≡ nop at
 IsReadAs at token End = token ≡ last at
 IsReadAs at token (Stray fault) = token ≡ stray at fault
 
--- What was read ends at `end` or before, whatever the source returned; a name has fewer than 256
--- bytes.
+-- What was read ends at `end` or before, over any source; a name has fewer than 256 bytes.
 abbrev pub Stands : ℕ → ℕ → ReadToken → Type 0
 Stands end at (BeginNode size label) = (size < 256) × (at + 4 + size + 1 ≤ end)
 Stands end at (BadBeginNode fault) = ⊤
@@ -75,8 +73,7 @@ pub record IsOfToken (fault : BlobFault) : Type 0 where
   pub no_memory : refuses_memory fault ≡ false
   pub no_making : is_too_large fault ≡ false
 
--- What was read is possible for some token, whatever the source returned; a fault is one of a
--- token.
+-- What was read is possible for some token, over any source; a fault is one of a token.
 abbrev pub IsSound : ReadToken → Type 0
 IsSound (BeginNode size label) = HasName size label
 IsSound (BadBeginNode fault) = IsOfToken fault
@@ -101,8 +98,7 @@ pub record ReadsToken (most : ℕ) (token : List ℕ → Token) (end at : ℕ) (
   pub sound : IfOk result (λ found. IsSound found)
   pub stands : IfOk result (λ found. Stands end at found)
 
--- As ReadsToken for the token at an offset of the blocks; of an honest device at most the token's
--- cost is requested.
+-- As ReadsToken at an offset; of an honest device at most the token's cost is requested.
 pub record ReadsTokenAt (x : Extent) (at : ℕ) (result : Result ReadToken SourceFault) (d e : Device) (h k : Held) : Type 0 where
   -- an honest device
   pub uses : UsesAtMost (cost (token_at (blocks_of d.bytes x) at)) (is_err result) d e

@@ -9,8 +9,7 @@ use Rattle.uimg_blob.specs.declared.roles.Role.{Role}
 use Rattle.uimg_blob.specs.declared.roles.Role.TheVariants.{Root, Images, Image, Hash, Configurations, Configuration, Other}
 
 -- The level of siblings: the root alone, the root's children (and whether an `images` and a
--- `configurations` come before), the children of these two, those of an image, and those of any
--- other node.
+-- `configurations` come before), the children of these two, those of an image, and all others.
 pub data Level : Type 0 where
   top : Level
   in_root : Bool → Bool → Level

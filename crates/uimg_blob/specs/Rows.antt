@@ -5,8 +5,7 @@ use Rattle.uimg_blob.specs.Tokens.{Property}
 use Rattle.uimg_blob.specs.Grammar.{Siblings, none, node}
 use Rattle.uimg_blob.specs.Roles.{Level, top, role_at, level_in, level_after}
 
--- A node: its offset, name, properties and role, and the numbers of its parent, its first child and
--- its next sibling.
+-- A node: offset, name, properties, role, and the numbers of parent, first child and next sibling.
 pub record Row : Type 0 where
   pub at : ℕ
   pub name : List ℕ

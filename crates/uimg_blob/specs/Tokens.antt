@@ -12,8 +12,7 @@ pub record Property : Type 0 where
   pub place : ℕ
   pub value : List ℕ
 
--- A token with its offset. The rest of a token that begins a node or a property may be faulty; a
--- stray is not a token.
+-- A token with its offset. A node's name and a property may be faulty; a stray is not a token.
 pub data Token : Type 0 where
   begin_node : ℕ → Result (List ℕ) BlobFault → Token
   end_node : ℕ → Token
@@ -43,8 +42,7 @@ pub record Blocks : Type 0 where
 abbrev pub reach : List ℕ → ℕ → ℕ → List ℕ
 reach bytes at end = take 256 (take (end - at) (drop at bytes))
 
--- A node's name ends with a NUL. Without a NUL it is too long if there are 256 bytes, and truncated
--- if the block ends before.
+-- A node's name ends with a NUL. If there is none in 256 bytes it is too long, in fewer truncated.
 abbrev pub node_name : Option (List ℕ) → ℕ → Result (List ℕ) BlobFault
 node_name (Some name) size = Ok name
 node_name None size = if size == 256 then Err BadNodeName else Err Truncated
@@ -99,7 +97,6 @@ tokens_from n b None = []
 tokens_from zero b (Some at) = []
 tokens_from (suc n) b (Some at) = token_at b at ∷ tokens_from n b (next (token_at b at))
 
--- The tokens of the block. Each takes a word, so there are at most as many as the block has bytes,
--- and one stray.
+-- The tokens of the block. Each takes a word, so there are at most as many as bytes, and one stray.
 abbrev pub tokens : Blocks → List Token
 tokens b = tokens_from (suc (b.structure_end - b.structure)) b (Some b.structure)

@@ -111,9 +111,8 @@ pub(crate) fn leave<A: Allocator>(room: &mut Room<A>, number: usize)
     room.set(number, entry);
 }
 
-// Stores the span of a property's value in the entry of the innermost node. Does nothing if the
-// property has no key, the node's role keeps no value of that key, or the node has a property of
-// that name already.
+// Stores the span of a property's value in the innermost node's entry, unless it has no key, the
+// node's role keeps no value of that key, or the node already has a property with that name.
 pub(crate) fn keep<A: Allocator>(
     room: &mut Room<A>,
     number: usize,

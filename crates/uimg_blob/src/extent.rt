@@ -72,14 +72,13 @@ fn extent_in(bytes: &[u8; 40], size: u64) -> Result<Extent, IndexFault>
     }
 }
 
-// Reads the header of a blob (Devicetree Specification, section 5.2) in one read and returns its
-// blocks.
+// Reads the header of a blob (Devicetree Specification, section 5.2) at once. Returns its blocks,
+// which are inside the source, whatever it returns.
 //
 // Returns the first of these faults: `TooShort` if the source has fewer than 40 bytes; `BadMagic`
 // if they do not begin with `0xd00dfeed`; `BadVersion` if the version is below 17 or the last
 // compatible version above 17; `BlockOutside` if the blob is outside the source, a block outside
-// the blob, or the structure block not at a multiple of 4. Returns `Read` if the read failed. The
-// blocks are inside the source, whatever it returns.
+// the blob, or the structure block not at a multiple of 4. Returns `Read` if the read failed.
 #[tactic(auto, unfolding(crate::specs::Blob::blocks), using(crate::proofs::NumberLaws::heads))]
 pub(crate) fn read_extent<S: Source>(source: &mut S) -> Result<Extent, IndexFault>
     ensures uses { Asks 40 (is_read result) (S.device source.old) (S.device source.new) }

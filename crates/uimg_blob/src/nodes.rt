@@ -80,8 +80,7 @@ impl Blob {
         self.configurations
     }
 
-    /// Returns the number of a node's first child. It is greater than the node's and below the
-    /// count of entries.
+    /// Returns the number of a node's first child, greater than the node's and below the count.
     pub fn first_child<A: Allocator>(&self, room: &Room<A>, node: usize) -> Option<usize>
         requires { node < length room.now.entries }
         ensures child { OfRow self.now room.now.entries node (λ row. result ≡ row.first_child) }
@@ -127,17 +126,12 @@ impl Blob {
     }
 
     /// Returns the span of the value of a node's first property with this key. It ends inside the
-    /// blob.
-    ///
-    /// Returns `None` if the node has no such property, or its role keeps no value of that key.
-    /// Kept are:
-    /// - of the root `Description` and `Timestamp`;
-    /// - of an image `Description`, `Data`, `Kind`, `Arch`, `Os`, `Compression`, `Load`, `Entry`,
-    ///   `DataSize`, `DataOffset` and `DataPosition`;
-    /// - of a hash node `Algo` and `Value`;
-    /// - of the node `configurations` `Default`;
-    /// - of a configuration `Description`, `Kernel`, `Ramdisk`, `Fdt`, `Loadables`, `Firmware`,
-    ///   `Fpga`, `Setup`, `Standalone` and `Script`.
+    /// blob. Returns `None` if the node has no such property, or its role keeps no value of that
+    /// key. The root keeps `Description` and `Timestamp`; an image `Description`, `Data`, `Kind`,
+    /// `Arch`, `Os`, `Compression`, `Load`, `Entry`, `DataSize`, `DataOffset` and `DataPosition`; a
+    /// hash node `Algo` and `Value`; the node `configurations` `Default`; a configuration
+    /// `Description`, `Kernel`, `Ramdisk`, `Fdt`, `Loadables`, `Firmware`, `Fpga`, `Setup`,
+    /// `Standalone` and `Script`.
     pub fn value<A: Allocator>(&self, room: &Room<A>, node: usize, key: Key) -> Option<Span>
         requires { node < length room.now.entries }
         ensures value { OfRow self.now room.now.entries node

@@ -30,8 +30,7 @@ pub(crate) fn read_pair<S: Source>(source: &mut S, at: u64) -> Result<(u32, u32)
     Ok((number_at(&bytes, 0), number_at(&bytes, 4)))
 }
 
-// Reads the bytes from an offset up to `end`, at most 256, to the start of the window. Returns how
-// many.
+// Reads at most 256 bytes from an offset up to `end` into the window. Returns how many.
 pub(crate) fn read_near<S: Source>(
     source: &mut S,
     window: &mut [u8; WINDOW],

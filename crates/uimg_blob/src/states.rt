@@ -29,8 +29,7 @@ pub(crate) struct State {
     pub(crate) configurations: Option<usize>,
 }
 
-// Returns the role of a child from its parent's role, its label, and whether the root had these
-// children already.
+// Returns a child's role from its parent's, its label, and which of these children the root had.
 fn child_role(parent: Role, label: Label, had_images: bool, had_configurations: bool) -> Role
     ensures { (name : List ℕ) → label ≡ label_of name →
         result ≡ role_at (child_level parent had_images had_configurations) name }
@@ -68,8 +67,7 @@ fn role_for<A: Allocator>(room: &Room<A>, state: State, label: Label) -> Role
     }
 }
 
-// Returns the numbers of the root's `images` and `configurations` after a node of this role and
-// number began.
+// Returns the numbers of `images` and `configurations` after a node of this role began.
 fn noted(state: State, role: Role, number: usize) -> (Option<usize>, Option<usize>)
     ensures images { result.0 ≡ noted_images role number state.images }
     ensures configurations { result.1 ≡ noted_configurations role number state.configurations }
@@ -179,8 +177,7 @@ pub(crate) fn is_done<A: Allocator>(room: &Room<A>, state: State, token: ReadTok
     }
 }
 
-// Acts on a token that does not end the tree. A faulty token has its own fault if it is allowed
-// here.
+// Acts on a token that does not end the tree. A faulty token has its fault if allowed here.
 pub(crate) fn act<A: Allocator>(
     room: &mut Room<A>,
     state: State,

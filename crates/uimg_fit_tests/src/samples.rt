@@ -197,8 +197,7 @@ fn after(name: u32, shift: u8) -> u32
     name + shift as u32
 }
 
-// Adds the properties of the kernel. The names after those of its payload are `shift` bytes further
-// on.
+// Adds the properties of the kernel. Names after those of its payload are `shift` bytes later.
 fn demo_properties<A: Allocator>(
     sample: &mut Sample<A>,
     demo: Demo<'_>,
@@ -261,8 +260,7 @@ fn payload_names(payload: Payload<'_>) -> (&'static [u8], u8) {
     }
 }
 
-/// Returns the FIT image `demo` with one image `kernel` and a configuration, as dtc and mkimage
-/// make it.
+/// Returns the FIT image `demo` with an image `kernel` and a configuration, as dtc and mkimage do.
 pub fn demo_fit<A: Allocator + Copy>(alloc: A, demo: Demo<'_>) -> Result<Vec<u8, A>, AllocError> {
     let (names, shift) = payload_names(demo.payload);
     let mut sample = Sample::new(alloc);
@@ -302,8 +300,7 @@ pub fn five_hash_fit<A: Allocator + Copy>(alloc: A) -> Result<Vec<u8, A>, AllocE
     )
 }
 
-/// Returns the first with `abc` after the blob: 800 bytes, `data-offset` at 168, `data-size` at
-/// 184.
+/// Returns the first, `abc` after the blob: 800 bytes, `data-offset` at 168, `data-size` at 184.
 pub fn external_fit<A: Allocator + Copy>(alloc: A) -> Result<Vec<u8, A>, AllocError> {
     let mut fit = demo_fit(
         alloc,

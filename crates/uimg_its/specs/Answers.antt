@@ -56,8 +56,8 @@ NotInFile kind = (tells_no_file kind ≡ false) × (tells_unread kind ≡ false)
 abbrev pub NeverInFile : {X : Type 0} → Result X Stop → Type 0
 NeverInFile result = (is_no_file result ≡ false) × (is_unread result ≡ false)
 
--- A refusal for a reason in the text means that reading finds nothing. Any other refusal says
--- nothing about the text.
+-- A refusal for a reason in the text means that reading finds nothing; any other says nothing of
+-- it.
 abbrev pub Refuses : {Y : Type 0} → Kind → Option Y → Type 0
 Refuses kind read = OnFalse (is_outside kind) (read ≡ None)
 

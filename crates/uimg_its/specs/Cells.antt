@@ -6,8 +6,7 @@ use Rattle.uimg_its.specs.declared.lists.Listed.TheVariants.{Cells, Bytes}
 use Rattle.uimg_its.specs.Options.{◌>>=◌}
 use Rattle.uimg_its.specs.Digits.{number, hex_pair}
 
--- A cell's number: 0x or 0X and at least one hexadecimal digit; 0 and octal digits, or none; or
--- else decimal digits.
+-- A cell's number: 0x or 0X and hexadecimal digits; 0 and octal digits, or none; or decimal digits.
 unfoldable pub cell : List ℕ → Option ℕ
 cell [] = None
 cell (z ∷ []) = number 10 (z ∷ [])

@@ -18,8 +18,7 @@ abbrev pub fails_to_read : {X : Type 0} → Result X ItsFault → Bool
 fails_to_read (Ok x) = false
 fails_to_read (Err fault) = tells_unread fault.kind
 
--- If the words of a text spell a tree, the result is that tree, or a refusal for a reason outside
--- the text.
+-- If the words spell a tree, the result is that tree, or a refusal for a reason outside the text.
 abbrev pub Accepts : {A : Type 0} → FileBytes → Result (Tree A) ItsFault → Nodes → Type 0
 Accepts files (Ok tree) t = in_full files (node_of tree.root) ≡ t
 Accepts files (Err fault) t = IsTrue (is_outside fault.kind)

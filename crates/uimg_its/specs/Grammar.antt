@@ -28,8 +28,8 @@ AreElements l (name n ∷ ws) v =
     (first others : List ℕ) × (element l n ≡ Some first) × AreElements l ws others × (v ≡ first ++ others)
 AreElements l ws v = ⊥
 
--- A value: < cells >, [ bytes ], a string with a NUL appended, or the bytes of the file in /incbin/
--- ( string ).
+-- A value: < cells >, [ bytes ], a string and a NUL, or the bytes of the file in /incbin/ ( string
+-- ).
 pub data IsValue (files : FileBytes) (ws : List Word) (v : List ℕ) : Type 0 where
   cells : (inner : List Word) → AreElements Cells inner v
       → ws ≡ mark Less ∷ (inner ++ mark Greater ∷ []) → IsValue files ws v

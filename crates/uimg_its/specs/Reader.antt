@@ -1,5 +1,4 @@
--- Reading of words from left to right, as the code does it. `Grammar` defines what is spelled;
--- proofs join the two.
+-- Reading of words from left to right, as in the code. Proofs join it with `Grammar`.
 use Rattle.std.specs.Prelude.{ℕ, zero, suc, Bool, true, false, List, [], ◌∷◌, ◌++◌, length, Option, Some, None, nat_lt, if◌then◌else◌, codes}
 use Rattle.std.specs.Str.{bytes_eq}
 use Rattle.uimg_blob.specs.Plain.{Named}
@@ -65,8 +64,7 @@ abbrev pub name_in : Word → Option (List ℕ)
 name_in (name n) = Some n
 name_in w = None
 
--- A name followed by a colon is a label. Otherwise it is the name of an item and must have at most
--- 255 bytes.
+-- A name before a colon is a label. Otherwise it names an item and has at most 255 bytes.
 abbrev pub item_after : List ℕ → Word → Option (Option Item)
 item_after n (mark Colon) = Some None
 item_after n w = if nat_lt 255 (length n) then None else (item_of n w >>= λ i. Some (Some i))

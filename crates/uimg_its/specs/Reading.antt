@@ -8,8 +8,7 @@ use Rattle.uimg_its.specs.Reader.{expect}
 use Rattle.uimg_its.specs.Steps.{Reads}
 use Rattle.uimg_its.specs.Words.{words}
 
--- The returned value, as `view` shows it, is what reading gives, and a refusal is never for a
--- reason in a file.
+-- The returned value, seen by `view`, is what reading gives; no refusal is for a reason in a file.
 pub record ReadsText {X Y : Type 0} (view : X → Y) (result : Result X Stop) (read : Option Y) : Type 0 where
   pub gives : Gives view result read
   pub no_file : NeverInFile result

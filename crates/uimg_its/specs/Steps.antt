@@ -37,7 +37,6 @@ abbrev pub at_most : {X : Type 0} → Steps X → ℕ → Reads (List X)
 at_most step zero ws = None
 at_most step (suc n) ws = and_on (step ws) (at_most step n)
 
--- All steps up to the last. Each but the last takes a word, so there is at most one more step than
--- words.
+-- All steps up to the last. Each but the last takes a word, so at most one more than words.
 unfoldable pub all : {X : Type 0} → Steps X → Reads (List X)
 all step ws = at_most step (suc (length ws)) ws

@@ -30,8 +30,8 @@ escape (c ∷ bs) =
     else if c == 120 then hex_escape bs
     else None
 
--- The byte that a stands for in a string before the bytes bs, and how many of these it takes: an
--- escape, or itself.
+-- The byte that a stands for before the bytes bs, and how many of these it takes: an escape or
+-- itself.
 unfoldable pub unit : ℕ → List ℕ → Option (ℕ × ℕ)
 unit a bs = if a == 92 then escape bs else Some (a, 0)
 

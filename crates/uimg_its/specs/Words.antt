@@ -7,8 +7,7 @@ use Rattle.uimg_its.specs.declared.tokens.Mark.{Mark}
 use Rattle.uimg_its.specs.declared.tokens.Mark.TheVariants.{Slash, Comma, BraceOpen, BraceClose, Semicolon, Equals, Less, Greater, ParenOpen, ParenClose, BracketOpen, BracketClose, Colon, Ampersand, Apostrophe}
 use Rattle.uimg_its.specs.Strings.{string_end, string_bytes}
 
--- A name, a directive (the text between its slashes), a string (its bytes), a mark, or a byte that
--- begins no word.
+-- A name, a directive (without its slashes), a string (its bytes), a mark, or a stray byte.
 pub data Word : Type 0 where
   name : List ℕ → Word
   directive : List ℕ → Word

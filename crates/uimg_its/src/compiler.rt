@@ -51,8 +51,7 @@ fn version(text: &[u8]) -> Result<&[u8], Stop>
     }
 }
 
-// Returns the fault of a word after the root. The text after the word shows whether it begins a
-// second root.
+// Returns the fault of a word after the root, which with the text after it may begin a second root.
 fn second_root(token: Token<'_>, rest: &[u8]) -> Stop
     ensures { IsInText result.kind }
 {

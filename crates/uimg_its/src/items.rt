@@ -78,8 +78,8 @@ fn name_in(token: Token<'_>) -> Result<&[u8], Stop>
     }
 }
 
-// Reads a label, or a name and what it begins. Returns the word after the name, too, and the text
-// after that.
+// Reads a label, or a name and what it begins. Returns also the word after it, and the text after
+// that.
 #[tactic(auto, unfolding(crate::specs::Reader::labelled))]
 fn labelled(text: &[u8]) -> Result<(Option<Item<'_>>, Token<'_>, &[u8]), Stop>
     ensures { ReadsFront (λ x. option_map item_is x.0) (λ x. x.2.now) result labelled text.now }

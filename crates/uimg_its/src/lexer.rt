@@ -28,8 +28,8 @@ fn stray(text: &[u8]) -> Stop
     }
 }
 
-/// Reads the first word of a text. Returns it with the text after it, which is shorter, or `None`
-/// if there is no word. Refuses a text that begins with no word.
+/// Reads the first word of a text. Returns it and the text after it, or `None` if no word is left.
+/// Refuses a text that does not begin with a word.
 pub(crate) fn next_word(text: &[u8]) -> Result<Option<(Token<'_>, &[u8])>, Stop>
     ensures sees { Sees result (words text.now) }
     ensures no_file { NeverInFile result }
@@ -63,8 +63,7 @@ pub(crate) fn need_word(text: &[u8]) -> Result<(Token<'_>, &[u8]), Stop>
     }
 }
 
-/// Returns whether a word is this mark, which must not be a mark of lists, a comma or an equals
-/// sign.
+/// Returns whether a word is this mark: a slash, a semicolon, a brace or a parenthesis.
 pub(crate) fn is_mark(mark: Mark, word: Word<'_>) -> bool
     ensures { result ≡ is_mark mark (word_of word.entry) }
 {

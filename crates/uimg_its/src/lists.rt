@@ -96,8 +96,7 @@ fn push_element<A: Allocator>(
     }
 }
 
-// Appends the next element of a list. Returns whether it was the end of the list, and the text
-// after it.
+// Appends the next element of a list. Returns whether the list ended, and the text after it.
 #[tactic(auto, unfolding(crate::specs::Reader::element_step))]
 fn element_step<'a, A: Allocator>(
     out: &mut Vec<u8, A>,

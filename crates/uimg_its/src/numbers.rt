@@ -4,8 +4,7 @@ ghost use Rattle.std.specs.Prelude.{◌≡◌, ◌≤◌, ◌<◌, ◌+◌, ◌*
 ghost use Rattle.uimg_its.specs.Digits.{number, hex_digit, hex_pair};
 ghost use Rattle.uimg_its.specs.Cells.{cell};
 
-// Returns the number with these digits in a base, or `None` if one is not a digit or the number has
-// more than 32 bits.
+// Returns the number with these digits in a base, or `None` if one is no digit or 32 bits overflow.
 #[tactic(auto, unfolding(crate::specs::Digits::number))]
 fn number(base: u32, digits: &[u8]) -> Option<u32>
     requires low { 2 ≤ base }

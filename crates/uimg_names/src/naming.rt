@@ -38,8 +38,7 @@ impl Naming {
         }
     }
 
-    /// Returns the printed name of the code of a name, or `Unknown OS` and the like if no code has
-    /// it.
+    /// Returns the printed name of a name's code, or `Unknown OS` and the like if it has none.
     #[tactic(auto, unfolding(crate::specs::Naming::name_text))]
     pub fn name_text(self, field: Field, name: &[u8]) -> &'static str
         ensures { result.now ≡ name_text self field name.now }

@@ -1,5 +1,4 @@
-//! Members of JSON objects. Each call appends the tokens of just these members, unless memory was
-//! refused.
+//! Members of JSON objects. Each call appends just these members, unless memory was refused.
 
 ghost use Rattle.std.specs.Prelude.{◌≡◌, ◌++◌, [], ◌∷◌};
 ghost use Rattle.json.specs.Token.{Token};

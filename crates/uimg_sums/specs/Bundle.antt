@@ -21,8 +21,7 @@ abbrev pub has_bytes : List ℕ → Bool
 has_bytes [] = false
 has_bytes (b ∷ bytes) = true
 
--- The bundle has sums with these algorithms, in this order, and these bytes may have been fed to
--- each.
+-- The sums have these algorithms, in order, and these bytes may have been fed to each.
 pub record Holds (bundle : Bundle) (algos : List Algo) (fed : List ℕ) : Type 0 where
   pub order : map (option_map algo_of) bundle.sums ≡ eight_slots algos
   pub count : bundle.count ≡ length algos

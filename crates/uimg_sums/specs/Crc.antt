@@ -27,8 +27,7 @@ xor_bits (x ∷ xs) (b ∷ bs) = xor x b ∷ xor_bits xs bs
 unfoldable pub polynomial : List Bool
 polynomial = bits 32 0xEDB88320
 
--- The bits left after n division steps. If the bit that is dropped was 1, the next 32 are XORed
--- with the polynomial.
+-- The bits left after n steps. If the dropped bit was 1, the next 32 are XORed with the polynomial.
 unfoldable pub rem_by : ℕ → List Bool → List Bool
 rem_by zero bs = bs
 rem_by (suc n) [] = []

@@ -10,8 +10,7 @@ pub record Date : Type 0 where
 abbrev pub is_leap_year : ℕ → Bool
 is_leap_year y = (y % 4 == 0) && (not (y % 100 == 0) || (y % 400 == 0))
 
--- the days in a month: 30 in April, June, September and November; 28 in February, or 29 in a leap
--- year; otherwise 31
+-- days in a month: February 28, or 29 in leap years; April, June, September, November 30; others 31
 abbrev pub month_length : ℕ → ℕ → ℕ
 month_length y m =
     if m == 2 then (if is_leap_year y then 29 else 28)

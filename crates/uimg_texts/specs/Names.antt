@@ -1,5 +1,4 @@
--- The names of operating systems, architectures, image types and compressions, and their codes in
--- U-Boot's image.h.
+-- Names of operating systems, architectures, image types, compressions; codes of U-Boot's image.h.
 use Rattle.std.specs.Prelude.{ℕ, List, [], ◌∷◌, ◌++◌, Option, codes, find, ◌==◌}
 use Rattle.std.specs.Option.{option_map, option_map_or}
 use Rattle.std.specs.Str.{bytes_eq}

@@ -33,9 +33,8 @@ moment_text year month day weekday hour minute second =
     weekday_name weekday ++ codes " " ++ month_name month ++ codes " " ++ day_text day ++ codes " "
     ++ clock_text hour minute second ++ codes " " ++ year_text year
 
--- A time as text: the day's date and weekday, and the rest of the seconds as hours, minutes and
--- seconds. Each day has 86400 seconds: leap seconds do not count (POSIX, "Seconds Since the
--- Epoch").
+-- A time as text: the day's date and weekday, and the rest as hours, minutes and seconds. Each day
+-- has 86400 seconds: leap seconds do not count (POSIX, "Seconds Since the Epoch").
 unfoldable pub time_text : ℕ → List ℕ
 time_text s =
     let date = civil_date (s / 86400) in

@@ -19,16 +19,14 @@ pub const ARCHITECTURES: [CodeRow; 10] = [
     ("riscv", 26, "RISC-V"),
 ];
 
-/// Looks up an architecture's code by its short name. Returns `None` if the name is not in the
-/// table.
+/// Looks up an architecture's code by short name. Returns `None` if the table has no such name.
 pub fn arch_code(name: &[u8]) -> Option<u8>
     ensures { result ≡ code_of arch_table name.now }
 {
     code_in(&ARCHITECTURES, name)
 }
 
-/// Looks up an architecture's printed name by its code. Returns `Unknown Architecture` if the code
-/// is not in the table.
+/// Looks up an architecture's printed name by code. Returns `Unknown Architecture` if it has none.
 pub fn arch_text(code: u8) -> &'static str
     ensures { result.now ≡ printed arch_table (codes "Unknown Architecture") code }
 {

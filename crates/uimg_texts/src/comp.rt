@@ -23,8 +23,7 @@ pub fn comp_code(name: &[u8]) -> Option<u8>
     code_in(&COMPRESSIONS, name)
 }
 
-/// Looks up a compression's printed name by its code. Returns `Unknown Compression` if the code is
-/// not in the table.
+/// Looks up a compression's printed name by code. Returns `Unknown Compression` if it has none.
 pub fn comp_text(code: u8) -> &'static str
     ensures { result.now ≡ printed comp_table (codes "Unknown Compression") code }
 {

@@ -34,8 +34,7 @@ pub fn kind_code(name: &[u8]) -> Option<u8>
     code_in(&IMAGE_TYPES, name)
 }
 
-/// Looks up an image type's printed name by its code. Returns `Unknown Image` if the code is not in
-/// the table.
+/// Looks up an image type's printed name by its code. Returns `Unknown Image` if it has none.
 pub fn kind_text(code: u8) -> &'static str
     ensures { result.now ≡ printed kind_table (codes "Unknown Image") code }
 {

@@ -20,16 +20,14 @@ pub const OPERATING_SYSTEMS: [CodeRow; 11] = [
     ("efi", 28, "EFI Firmware"),
 ];
 
-/// Looks up an operating system's code by its short name. Returns `None` if the name is not in the
-/// table.
+/// Looks up an operating system's code by short name. Returns `None` if the table has none.
 pub fn os_code(name: &[u8]) -> Option<u8>
     ensures { result ≡ code_of os_table name.now }
 {
     code_in(&OPERATING_SYSTEMS, name)
 }
 
-/// Looks up an operating system's printed name by its code. Returns `Unknown OS` if the code is not
-/// in the table.
+/// Looks up an operating system's printed name by code. Returns `Unknown OS` if it has none.
 pub fn os_text(code: u8) -> &'static str
     ensures { result.now ≡ printed os_table (codes "Unknown OS") code }
 {

@@ -74,8 +74,7 @@ header total structure_size strings_size =
 abbrev pub blob_size : ℕ → ℕ → ℕ → ℕ
 blob_size align structure_size strings_size = aligned align (56 + structure_size + strings_size)
 
--- a blob: the header, an empty reservation block, the structure block, the strings block, and zeros
--- up to its end
+-- a blob: the header, an empty reservation block, the structure and strings blocks, and padding
 unfoldable pub blob : ℕ → List ℕ → List ℕ → List ℕ
 blob align structure strings =
     padded_by align (header (blob_size align (length structure) (length strings)) (length structure) (length strings) ++ replicate 16 0 ++ structure ++ strings)

@@ -5,8 +5,7 @@ use Rattle.uimg_blob.specs.Plain.{NamedOf, no_node, a_node}
 use Rattle.uimg_tree.specs.Content.{Content, Unread, size_of}
 use Rattle.uimg_tree.specs.Encoding.{names_of, strings, blob_size}
 
--- The names of the strings block, the size of the structure block in bytes, and the alignment of
--- the blob's end.
+-- The names of the strings block, the structure block's size in bytes, and the end's alignment.
 pub record Plan : Type 0 where
   pub names : List (List ℕ)
   pub structure : ℕ

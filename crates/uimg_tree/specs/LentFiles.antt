@@ -22,7 +22,6 @@ IfInFull map files t Fact = IfKept map files t (λ bytes. Fact (in_full bytes t)
 abbrev pub IfComplete : {F : Type 0} → (F → FileMap) → Lent F → Unread → Type 0 → Type 0
 IfComplete map files t Fact = IsTrue (map files.entry.now).complete → AreKept (map files.entry.now).bytes t → Fact
 
--- If they open steady sources, were honest and are those of a tree, with the stored sizes, the
--- claim holds.
+-- If they open steady sources, were honest and those of a tree with stored sizes, the claim holds.
 abbrev pub IfSteady : {F : Type 0} → Bool → (F → FileMap) → Lent F → Unread → Type 0 → Type 0
 IfSteady steady map files t Fact = IsTrue steady → IfKept map files t (λ bytes. Fact)

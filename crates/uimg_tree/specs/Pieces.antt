@@ -40,8 +40,7 @@ nodes_pieces names (a_node name own below after) =
     bytes (begin_bytes name)
     ∷ (flat_map (property_pieces names) own ++ (nodes_pieces names below ++ bytes (word 2) ∷ nodes_pieces names after))
 
--- the planned blob of a tree: the header with an empty reservation block, the nodes, FDT_END, the
--- strings block, and the padding
+-- the planned blob: header, empty reservation block, nodes, FDT_END, strings block, padding
 unfoldable pub blob_pieces : Plan → Unread → List Content
 blob_pieces p t =
     bytes (header (totalsize p) p.structure (length (strings p.names)) ++ replicate 16 0)

@@ -3,8 +3,7 @@ use Rattle.std.specs.Prelude.{Bool}
 use Rattle.uimg_base.specs.Device.{RisesIf}
 use Rattle.uimg_base.specs.Named.{FileMap, SameFiles}
 
--- The files are unchanged but for the count of refusals, which rose if and only if an open was
--- refused.
+-- The files are the same, and a refusal was counted if and only if an open was refused.
 pub record UsesFiles (refused : Bool) (old new : FileMap) : Type 0 where
   pub same : SameFiles old new
   pub refusals : RisesIf refused old.refusals new.refusals

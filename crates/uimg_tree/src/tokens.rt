@@ -62,8 +62,7 @@ pub(crate) fn put_end<W: Write>(out: &mut Out<W>) -> Result<(), PutFault>
     out.put_all(&END.to_be_bytes())
 }
 
-// Writes what comes before the value of a property: its token, its size in bytes and its name's
-// offset.
+// Writes what comes before a property's value: the token, its size in bytes, its name's offset.
 pub(crate) fn put_head<W: Write>(size: u32, offset: u32, out: &mut Out<W>) -> Result<(), PutFault>
     ensures { Writes (is_err result) out.old out.new (head_bytes size offset) }
 {

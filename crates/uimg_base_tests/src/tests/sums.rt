@@ -1,5 +1,4 @@
-//! Checksums and hashes, compared with digests from elsewhere: in any pieces, and in eight sums at
-//! once.
+//! Checksums and hashes against digests from elsewhere: in any pieces, and eight sums at once.
 
 mod algorithms;
 mod bundles;

@@ -60,8 +60,7 @@ fn code_of(end: Result<(), MoveFault>) -> u8 {
     }
 }
 
-// Checks how a copy ends and how many bytes it writes, and that it requests at most one window
-// more.
+// Checks how a copy ends, how much it writes, and that it requests at most one window more.
 fn copies(alloc: Global, range: (u64, u64), fuses: (u64, u64), end: u8, written: usize) -> bool {
     let (at, length) = range;
     let bytes = counted();

@@ -5,10 +5,10 @@ use super::steps::{number, reads_at};
 use std::cell::Cell;
 use uimg_base::SeekSource;
 
-// Reads of a file: the name, the file, how many bytes are read at once, the offsets, how many of
-// these reads succeed before one fails, and how often the file is read in all. A read of fewer than
-// 4096 bytes reads ahead once if no window has them. If that is not enough, only the requested
-// bytes are read, by at most one read per byte.
+// Reads of a file: the name, the file, the bytes per read, the offsets, how many of these reads
+// succeed before one fails, and how often the file is read in all. A read of fewer than 4096 bytes
+// reads ahead once if no window has them; if that is not enough, it reads just these bytes, with at
+// most one read per byte.
 const READS: [(&str, &str, usize, &str, u64, u64); 27] = [
     ("a far offset", "most 2", 3, "4294967299", 1, 3),
     (

@@ -162,8 +162,7 @@ fn takes_each(alloc: Global, options: &str, parts: &str, end: &str, image: &[u8]
     same
 }
 
-// Checks that a failing call is reported, with a prefix of the image written, or that none fails.
-// Returns the count of failures.
+// Checks that a failing call is reported, with a prefix written. Returns the count of failures.
 fn fails(
     alloc: Global,
     options: &str,

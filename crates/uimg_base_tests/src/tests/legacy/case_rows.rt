@@ -27,8 +27,7 @@ Load Address: 00000000
 Entry Point:  00000000
 ";
 
-/// The name, the image, the command, how it ends, what is written, and the most bytes that are
-/// requested.
+/// The name, the image, the command, how it ends, what is written, and the most bytes requested.
 pub(super) const CASES: [(&str, &str, &str, &str, &str, u64); 43] = [
     ("abc-kernel", "abc-kernel", "list", "done", ABC_LISTING, 83),
     (

@@ -15,8 +15,8 @@ fn gives(alloc: Global, command: &str, image: &[u8], end: &str, text: &str, most
         && left.held == 8192
 }
 
-// Checks that a writer that accepts `taken` bytes has that prefix of the text, and that the command
-// ends there.
+// Checks that a writer that accepts `taken` bytes has that prefix of the text, and ends the
+// command.
 fn takes(alloc: Global, command: &str, image: &[u8], end: &str, text: &[u8], taken: usize) -> bool {
     let left = ran(alloc, command, image, u64::MAX, taken as u64);
     let end = if taken < text.len() {
@@ -35,8 +35,7 @@ fn takes_each(alloc: Global, command: &str, image: &[u8], end: &str, text: &[u8]
     same
 }
 
-// Checks that a failing call is reported, with a prefix written, or that none fails. Returns the
-// count of failures.
+// Checks that a failing call is reported, with a prefix written. Returns the count of failures.
 fn fails(
     alloc: Global,
     command: &str,

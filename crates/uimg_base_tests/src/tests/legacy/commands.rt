@@ -41,8 +41,7 @@ fn run<S: Source, A: Allocator, W: Write>(
     }
 }
 
-/// Runs a command over an image that lets `calls` calls through, with a writer that accepts `taken`
-/// bytes.
+/// Runs a command over an image that lets `calls` calls through; the writer accepts `taken` bytes.
 pub(super) fn ran(alloc: Global, command: &str, image: &[u8], calls: u64, taken: u64) -> Outcome {
     let mut source = FuseSource::new(MemSource::new(image), calls);
     let mut room = Room::new(alloc);

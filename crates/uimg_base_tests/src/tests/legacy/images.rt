@@ -17,9 +17,8 @@ fn sample(name: &str) -> &'static [u8] {
     }
 }
 
-/// Makes the image of a description and returns its length. A description is the name of a sample
-/// and edits: `32=31` sets the byte at offset 32 to 31 (hexadecimal), and `to=63` cuts the image to
-/// 63 bytes.
+/// Makes the image of a description and returns its length. A description is a sample's name and
+/// edits: `32=31` sets the byte at offset 32 to 31 (hexadecimal), `to=63` cuts to 63 bytes.
 pub(super) fn make(description: &str, to: &mut [u8; PLACE]) -> usize {
     let (name, edits) = description.split_once(' ').unwrap_or((description, ""));
     let bytes = sample(name);

@@ -129,8 +129,7 @@ fn becomes<S: Source, A: Allocator + Copy>(rt: &HostRuntime, alloc: A, source: &
     }
 }
 
-// A source that first returns one byte wrong a number of times, then right a number of times, then
-// wrong.
+// A source with one byte that reads wrong some times, then right some times, then wrong.
 #[derive(Drop)]
 struct FickleSource<S: Source> {
     source: S,

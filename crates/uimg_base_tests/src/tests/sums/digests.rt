@@ -1,7 +1,6 @@
 //! Digests of published messages.
 
-// Vectors of RFC 1321, section A.5, and of NIST's examples for FIPS 180; those of CRC-32 are from
-// zlib.
+// Vectors of RFC 1321, section A.5, and NIST's examples for FIPS 180; CRC-32 is from zlib.
 use super::super::counted::counted;
 use super::{COUNTED_DIGESTS, is_entry, is_spelled};
 use uimg_base::{Crc, Md5Sum, Sha1Sum, Sha256Sum, Sha384Sum, Sha512Sum, Summer, crc_of};

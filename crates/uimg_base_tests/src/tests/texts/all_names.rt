@@ -1,5 +1,4 @@
-//! Names of both sets: what mkimage 2023.01 prints for codes in headers and for names in FIT
-//! images.
+//! Names of both sets: what mkimage 2023.01 prints for codes in headers and names in FIT images.
 
 use uimg_names::Field::{Architecture, Compression, Kind, System};
 use uimg_names::{Field, Naming};

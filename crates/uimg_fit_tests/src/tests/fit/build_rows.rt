@@ -141,8 +141,7 @@ const ALIGN_ROWS: [(&str, &str, u32, usize); 14] = [
     ("2147483647 by 2147483648", "F6 position too low, 0", 0, 0),
 ];
 
-// Checks that a blob of 796 bytes has this end in its header, and zeros from its end up to the
-// payload.
+// Checks that a blob of 796 bytes has this end in its header, and zeros up to the payload.
 fn stands(fit: &[u8], end: u32, at: usize) -> bool {
     let gap = fit.get(796..at).unwrap_or(&[]);
     let rest = fit.get(at..).unwrap_or(&[]);
@@ -237,9 +236,8 @@ fn images_of_none_and_two(rt: HostRuntime) -> Result<(), Fail> {
 }
 
 // A tree with properties in all places that filling replaces or removes, and the filled tree. The
-// first property with a name is replaced in place, whatever its value; all that is neither the
-// place of an image's payload nor the value of a hash node is unchanged. The name of an algorithm
-// ends at its NUL.
+// first property with a name is replaced in place, whatever its value. All but an image's payload
+// and a hash node's value is unchanged. The name of an algorithm ends at its NUL.
 const STALE: &str = "/dts-v1/; / {
 timestamp = \"stale\"; data-size = \"root\"; timestamp = \"second\";
 images { a {

@@ -209,8 +209,7 @@ fn read_rows(rt: HostRuntime) -> Result<(), Fail> {
     Ok(())
 }
 
-// `data-position` has priority over `data-offset`, each with `data-size`: the first bytes of the
-// file.
+// `data-position` overrides `data-offset`, each with `data-size`: the first bytes of the file.
 #[test]
 fn a_position_counts(rt: HostRuntime) -> Result<(), Fail> {
     let fit = image(rt.alloc(), "spod", 0, 0)?;

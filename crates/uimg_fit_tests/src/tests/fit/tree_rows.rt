@@ -47,8 +47,7 @@ fn image(alloc: Global, name: &[u8], size: u64) -> Result<Node<Global>, AllocErr
     node(alloc, name, Some(own), Vec::new(alloc))
 }
 
-// Returns a tree of two images, with a property of this name, if not empty, in `images` and in the
-// root.
+// Returns a tree of two images, with a property of this name, unless empty, in `images` and root.
 fn tree(
     alloc: Global,
     name: &[u8],
@@ -138,8 +137,7 @@ const NAME_ROWS: [(usize, &str, &str, &str); 7] = [
     (255, "p", "1024", "done, 1032"),
 ];
 
-// Returns the same for a tree whose first image has a name of this length, with a property of this
-// name.
+// Returns the same for a first image with a name of this length, and a property of this name.
 fn answer_of_names(
     alloc: Global,
     length: usize,

@@ -1,5 +1,4 @@
-//! Payloads that are taken out of images whose device returns other bytes the second time, or
-//! fails.
+//! Payloads taken out of images whose device returns other bytes the second time, or fails.
 
 ghost use Rattle.std.specs.Prelude.{◌≡◌, false};
 ghost use Rattle.std.proofs.Common.{rules};

@@ -23,9 +23,8 @@ fn answer(room: &mut Room<Global>, bytes: &[u8], calls: u64) -> u8 {
     }
 }
 
-// A blob, and what each failing call leaves: the nodes begun before the token that it reads. Two
-// calls are for the header, two begin a node, three are for a property, and one for each other
-// token.
+// A blob, and what each failing call leaves: the nodes begun before the token it reads. Two calls
+// are for the header, two begin a node, three are for a property, one for each other token.
 const READ_ROWS: [(&str, &str); 4] = [
     ("mixed", "000011111111."),
     ("late 76=00000004 80=00000002 84=00000009", "0000112222."),

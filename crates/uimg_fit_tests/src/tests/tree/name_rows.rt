@@ -91,9 +91,8 @@ fn name_rows(rt: HostRuntime) {
     }
 }
 
-// The name of a property, the size of the file that has its value, and the result. The greatest
-// blob has 4294967292 bytes: 92 around the value. A bad name is reported before a blob that is too
-// large.
+// The name of a property, the size of the file with its value, and the result. The greatest blob
+// has 4294967292 bytes: 92 around the value. A bad name comes before a blob that is too large.
 const SIZE_ROWS: [(&str, u64, &str); 8] = [
     ("data", 4_294_967_196, "4294967288"),
     ("data", 4_294_967_197, "4294967292"),
@@ -155,8 +154,7 @@ fn align_rows(rt: HostRuntime) -> Result<(), Fail> {
     Ok(())
 }
 
-// With an alignment a blob is the same up to its end, except for its size in the header, and zeros
-// follow.
+// With an alignment a blob is the same up to its end, but for its totalsize; zeros follow.
 #[test]
 fn aligned_blobs(rt: HostRuntime) -> Result<(), Fail> {
     let alloc = rt.alloc();
@@ -227,8 +225,8 @@ fn letters(alloc: &LocalHeap, count: u8) -> Result<Tree<&LocalHeap>, AllocError>
     })
 }
 
-// Measures over a heap of which 16 * `taken` bytes are in use. Returns the size or the fault, or
-// `None` if the heap is too small.
+// Measures over a heap with 16 * `taken` bytes in use. Returns the size or the fault, or `None` if
+// the heap is too small.
 fn measured_with<'a>(
     heap: &'a LocalHeap,
     tree: &Tree<&'a LocalHeap>,

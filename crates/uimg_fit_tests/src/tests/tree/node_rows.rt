@@ -68,7 +68,7 @@ fn links(alloc: Global, blob: Blob, room: &Room<Global>, node: usize) -> Result<
     format!(in alloc; "{child} {next} {kind}")
 }
 
-// Returns the keys of which a node has values.
+// Returns the keys for which a node has values.
 fn kept(alloc: Global, blob: Blob, room: &Room<Global>, node: usize) -> Result<String, AllocError>
     requires { node < length room.now.entries }
 {

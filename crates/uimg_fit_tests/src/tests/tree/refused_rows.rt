@@ -1,5 +1,4 @@
-//! Sources that are refused, each with the line that the program prints, and sources that are
-//! compiled.
+//! Sources that are refused, with the line that the program prints, and sources that compile.
 use super::super::answers::is_said;
 use super::sources::{NAMED, source};
 use std::alloc::{AllocError, Global};

@@ -94,8 +94,7 @@ const LENGTH_ROWS: [(usize, usize, usize); 10] = [
     (4, 8193, 8288),
 ];
 
-// Returns the size of such a blob of one node, the same from memory and from a file; 0 for any
-// other.
+// Returns the size of such a blob of one node, the same from memory and file; 0 for any other.
 fn length_of(alloc: Global, name: usize, value: usize) -> usize {
     let one = blob_in_memory(alloc, name, value);
     let other = blob_in_file(alloc, name, value);

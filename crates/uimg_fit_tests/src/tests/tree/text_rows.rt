@@ -26,8 +26,7 @@ fn written(alloc: Global, bytes: &[u8], at: Span) -> Option<Vec<u8>>
     }
 }
 
-// Returns the length of a short text, 32 for a longer one, and 99 if it is not the one that was
-// written.
+// Returns a short text's length, 32 for a longer text, and 99 if it is not the one written.
 fn short(bytes: &[u8], at: Span, text: &[u8]) -> usize
     requires { at.place + at.length ≤ length bytes.now }
 {
@@ -135,8 +134,7 @@ const ALL: Span = Span {
     length: 112,
 };
 
-// Writes a text of 112 bytes to a writer that accepts `takes` bytes. Returns the result, and how
-// much is written.
+// Writes a text of 112 bytes, of which `takes` are accepted. Returns the result and the count.
 fn put_to(alloc: Global, bytes: &[u8; 112], takes: u64) -> (Result<(), MoveFault>, usize) {
     let mut room = Room::new(alloc);
     let mut out = Out::new(FuseWriter::new(Vec::new(alloc), takes));

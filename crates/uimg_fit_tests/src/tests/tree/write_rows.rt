@@ -24,9 +24,8 @@ fn told(
     }
 }
 
-// Writes a tree over files whose opens are refused from a number on, and whose first opened file
-// lets `calls` calls through. Returns the result and the number of bytes, or nothing if the tree
-// has no layout or no prefix was written.
+// Writes a tree over files whose opens are refused from a number on, the first opened of which lets
+// `calls` calls through. Returns the result and the size, or nothing without layout or prefix.
 fn fused<F: Files + Drop>(
     alloc: Global,
     tree: &Tree<Global>,
