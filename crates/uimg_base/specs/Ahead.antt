@@ -1,15 +1,15 @@
--- What is read ahead of a file.
+-- The windows that are read ahead of a file.
 use Rattle.std.specs.Prelude.{◌≡◌, take, Option, IfSome}
 use Rattle.uimg_texts.specs.Slices.{slice}
 use Rattle.uimg_base.specs.Streams.{Stream}
 use Rattle.uimg_base.specs.declared.windows.Window.{Window}
 use Rattle.uimg_base.specs.declared.windows.Windows.{Windows}
 
--- A window has what the file has there, where that is known.
+-- The window has the file's bytes at its offset, if they are known.
 abbrev pub IsAhead : Window → Option Stream → Type 0
 IsAhead w s = IfSome s (λ stream. take w.count w.bytes ≡ slice stream.bytes w.at w.count)
 
--- Both windows do.
+-- Both windows have.
 pub record AreAhead (w : Windows) (s : Option Stream) : Type 0 where
   pub first : IsAhead w.first s
   pub second : IsAhead w.second s

@@ -1,9 +1,9 @@
--- What was lent to a call: what stands behind a reference before the call, and after it.
+-- A reference lent to a call: its value before and after the call.
 use Rattle.std.specs.Borrow.{MutBor}
 use denote.Triple.Both.{Both}
 
--- A clause passes a reference as a whole, as `room`: `room.entry.now` is then what `room.old` is, and `room.exit.now` what `room.new` is.
--- A word over lent references may stand for one over their values before and after the call, which
--- has the same name with `Between` behind it: `Runs` for the record `RunsBetween`.
+-- A clause may pass a reference as a whole, such as `room`: then `room.entry.now` is `room.old`,
+-- and `room.exit.now` is `room.new`. A definition over lent references may abbreviate one over
+-- their values before and after, with the suffix `Between`: `Runs` for `RunsBetween`.
 abbrev pub Lent : Type 0 → Type 0
 Lent T = Both (MutBor T) (MutBor T)

@@ -6,32 +6,32 @@ use Rattle.uimg_base.specs.Sink.{Sink, AppendsFirst, AppendsAll}
 use Rattle.uimg_base.specs.declared.ranges.MoveFault.{MoveFault}
 use Rattle.uimg_base.specs.declared.ranges.MoveFault.TheVariants.{Read, Put}
 
--- the answer is that a read failed
+-- the result is a failed read
 abbrev pub is_read : {X : Type 0} → Result X MoveFault → Bool
 is_read (Err Read) = true
 is_read _ = false
 
--- the answer is that a write failed
+-- the result is a failed write
 abbrev pub is_put : {X : Type 0} → Result X MoveFault → Bool
 is_put (Err Put) = true
 is_put _ = false
 
--- A prefix of the bytes was appended, and at most a window more was asked for.
+-- A prefix of the bytes was appended, and at most one window more was requested.
 pub record CopiesPrefix (d e : Device) (s t : Sink) (bytes : List ℕ) : Type 0 where
-  -- so many of the bytes were appended
+  -- the length of that prefix
   pub count : ℕ
   pub first : AppendsFirst count s t bytes
   -- at most 8192 bytes more than these were requested
   pub ahead : e.asked ≤ d.asked + (count + 8192)
 
--- The same, and all was appended unless a device failed.
+-- As CopiesPrefix, and all was appended unless a device failed.
 pub record Copies (failed : Bool) (d e : Device) (s t : Sink) (bytes : List ℕ) : Type 0 where
   pub prefix : CopiesPrefix d e s t bytes
   pub all : OnFalse failed (AppendsAll s t bytes)
 
--- A prefix of the bytes was appended, and no more than so many, and those and a window, was asked for.
+-- A prefix was appended, and at most that prefix, one window and `most` bytes were requested.
 pub record ReadsAhead (most : ℕ) (d e : Device) (s t : Sink) (bytes : List ℕ) : Type 0 where
-  -- so many of the bytes were appended
+  -- the length of that prefix
   pub count : ℕ
   pub first : AppendsFirst count s t bytes
   -- at most `most` bytes, these and 8192 more were requested

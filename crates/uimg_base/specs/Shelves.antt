@@ -1,18 +1,18 @@
--- What a shelf that is a file holds.
+-- What a shelf in a file holds.
 use Rattle.std.specs.Prelude.{ℕ, List, take, Option, Some, None, Result, IfOk, ⊤}
 use Rattle.std.specs.Io.KnownBytes.{Appends}
 
--- what its file holds and what is gathered for it, where that is known; nothing is known before there is a file
+-- the contents of its file with the buffered bytes, if known; unknown before there is a file
 abbrev pub contents_of : {F : Type 0} → (F → Option (List ℕ)) → Option F → Option (List ℕ)
 contents_of contents None = None
 contents_of contents (Some file) = contents file
 
--- Bytes were appended to a file that was made.
+-- Bytes were appended to a new file.
 pub record Begins {F : Type 0} (contents : F → Option (List ℕ)) (new : Option (List ℕ)) (bytes : List ℕ) : Type 0 where
   pub made : F
   pub appended : Appends (contents made) new bytes
 
--- What the first write did: it made a file, and appended as many bytes to it as it answers.
+-- The first write created a file and appended as many bytes as it returned.
 abbrev pub BeginsFirst : {F E : Type 0} → (F → Option (List ℕ)) → Option F → Result ℕ E → Option (List ℕ) → List ℕ → Type 0
 BeginsFirst contents None result new bytes = IfOk result (λ n. Begins contents new (take n bytes))
 BeginsFirst contents (Some file) result new bytes = ⊤

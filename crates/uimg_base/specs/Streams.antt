@@ -1,60 +1,60 @@
--- What contracts know of a file that is read from where it stands.
+-- What contracts know of a file with a position.
 use Rattle.std.specs.Prelude.{◌≡◌, ℕ, IfSome, ◌+◌, ◌^◌, ◌<◌, List, take, length, Option, Some, None, Result, Ok, Err}
 use Rattle.std.specs.Option.{option_map}
 use Rattle.uimg_texts.specs.Slices.{slice}
 use Rattle.std.proofs.Common.{subst, sym}
 use Rattle.uimg_base.specs.Zeros.{zeros, zeros_short}
 
--- its bytes, and where it stands
+-- its bytes and its position
 pub record Stream : Type 0 where
   pub bytes : List ℕ
   pub position : ℕ
 
--- the stream, where it stands at another position
+-- the stream at another position
 abbrev pub moved : ℕ → Stream → Stream
 moved position s = record { bytes = s.bytes; position = position }
 
--- `to` begins with the next so many bytes, and the file stands behind them. Of a file that nothing is known of, nothing
--- is known afterwards.
+-- `to` begins with the next `count` bytes, and the position is after them; of an unknown file
+-- nothing is known afterwards
 abbrev pub ReadsOn : ℕ → (old new : Option Stream) → List ℕ → Type 0
 ReadsOn count None new to = new ≡ None
 ReadsOn count (Some s) new to =
     (new ≡ Some (moved (s.position + count) s)) × (take count to ≡ slice s.bytes s.position count)
 
--- a read gave so many of the next bytes, and after an error the file stands where it stood
+-- a read returned some of the next bytes; after an error the position is unchanged
 abbrev pub Reads : {E : Type 0} → Result ℕ E → (old new : Option Stream) → List ℕ → Type 0
 Reads (Ok count) old new to = ReadsOn count old new to
 Reads (Err e) old new to = new ≡ old
 
--- the file stands at an offset, and after an error where it stood
+-- the position is the given offset; after an error it is unchanged
 abbrev pub MovesTo : {X E : Type 0} → ℕ → Result X E → (old new : Option Stream) → Type 0
 MovesTo at (Ok _) old new = new ≡ option_map (moved at) old
 MovesTo at (Err e) old new = new ≡ old
 
--- the file stands at its end, and the answer is its length
+-- the result is the length, and the position the end; after an error it is unchanged
 abbrev pub MovesToEnd : {E : Type 0} → Result ℕ E → (old new : Option Stream) → Type 0
 MovesToEnd (Ok n) None new = new ≡ None
 MovesToEnd (Ok n) (Some s) new = (n ≡ length s.bytes) × (new ≡ Some (moved n s))
 MovesToEnd (Err e) old new = new ≡ old
 
--- an offset, where it is noted, is where the file stands
+-- the noted offset, if any, is the file's position
 abbrev pub StandsAt : Option ℕ → Option Stream → Type 0
 StandsAt noted s = IfSome noted (λ at. IfSome s (λ stream. stream.position ≡ at))
 
--- the bytes stay, and so does whether they are known
+-- the bytes, and whether they are known, are unchanged
 abbrev pub SameBytes : (old new : Option Stream) → Type 0
 SameBytes old new = option_map (λ s. s.bytes) new ≡ option_map (λ s. s.bytes) old
 
--- the bytes of a file of a length: zeros, where nothing is known of it
+-- the bytes of a file with this length; zeros if they are unknown
 abbrev pub bytes_of : ℕ → Option Stream → List ℕ
 bytes_of count None = zeros count
 bytes_of count (Some s) = s.bytes
 
--- what is known of a file has its length
+-- the file, if known, has this length
 abbrev pub HasLength : ℕ → Option Stream → Type 0
 HasLength count s = IfSome s (λ stream. length stream.bytes ≡ count)
 
--- `to` has the bytes from an offset on, where they are known
+-- `to` has the bytes at an offset, if they are known
 abbrev pub HoldsFrom : ℕ → Option Stream → List ℕ → Type 0
 HoldsFrom at s to = IfSome s (λ stream. to ≡ slice stream.bytes at (length to))
 

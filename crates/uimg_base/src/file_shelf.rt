@@ -1,4 +1,4 @@
-//! A shelf that is a file on a disk, which is made at the first write.
+//! A shelf in a file on disk, created at the first write.
 
 ghost use Rattle.std.specs.Prelude.{◌≡◌, [], false, IfSome, IsSome, OnOk};
 ghost use Rattle.std.specs.Io.{WritesAtMost};
@@ -14,13 +14,12 @@ use std::io::{BufWriter, Write};
 use std::rt::Files;
 use std::{fs, io};
 
-/// A shelf that is a file. What is written to it is written to the file, byte for byte; small writes
-/// are gathered to pieces of 8192 bytes, and `flush` writes the last. That a disk keeps what a file
-/// was given no contract says, so the shelf is not claimed to be honest.
+/// A shelf in a file. Writes go to the file byte for byte; small ones are buffered in pieces of
+/// 8192 bytes, and `flush` writes the last piece. No contract says that a disk keeps what was
+/// written, so the shelf is not claimed to be honest.
 ///
-/// The first write (of no bytes too) creates the file, or empties it where it exists; a file that
-/// cannot be created is a failed write, as is refused memory for the piece. Until then nothing is done
-/// to the path.
+/// The first write, even of no bytes, creates the file or empties an existing one. It fails if the
+/// file cannot be created or memory for the buffer is refused. Until then the path is not touched.
 #[derive(Drop)]
 pub struct FileShelf<'a, R: Files + AllocGlobal> {
     rt: &'a R,
@@ -29,7 +28,7 @@ pub struct FileShelf<'a, R: Files + AllocGlobal> {
 }
 
 impl<'a, R: Files + AllocGlobal> FileShelf<'a, R> {
-    /// A shelf at this path. It touches no file yet.
+    /// Creates a shelf for this path. Touches no file yet.
     pub fn new(rt: &'a R, path: &'a str) -> FileShelf<'a, R> {
         FileShelf {
             rt,
@@ -42,7 +41,7 @@ impl<'a, R: Files + AllocGlobal> FileShelf<'a, R> {
 impl<'a, R: Files + AllocGlobal> Write for FileShelf<'a, R> {
     ghost contents = { λ s. contents_of (writer_contents R.File.contents) s.file };
 
-    /// Writes to the file, which the first write makes.
+    /// Writes to the file. The first write creates it.
     fn write(&mut self, buf: &[u8]) -> io::Result<usize>
         ensures bound { WritesAtMost result buf.now }
         ensures bytes { WriteAppends (contents_of (writer_contents R.File.contents) self.old.file)
@@ -60,7 +59,7 @@ impl<'a, R: Files + AllocGlobal> Write for FileShelf<'a, R> {
         count
     }
 
-    /// Writes what is gathered to the file.
+    /// Writes the buffered bytes to the file.
     fn flush(&mut self) -> io::Result<()>
         ensures bytes { Keeps (contents_of (writer_contents R.File.contents) self.old.file)
             (contents_of (writer_contents R.File.contents) self.new.file) }
@@ -78,10 +77,10 @@ impl<'a, R: Files + AllocGlobal> Shelf for FileShelf<'a, R> {
 
     ghost honest = { false };
 
-    /// Writes what was gathered, closes the file and opens its path as a source.
+    /// Writes the buffered bytes, closes the file and reopens it as a source.
     ///
-    /// `SourceFault` comes where nothing was written (no file is made then), where the last piece
-    /// cannot be written, and as from `FileSource::open`.
+    /// Returns `SourceFault` if nothing was written (then there is no file), if the last piece
+    /// cannot be written, or as `FileSource::open` does.
     fn keep(self) -> Result<FileSource<R::File>, SourceFault> {
         let FileShelf { rt, path, file } = self;
         let Some(mut file) = file else {

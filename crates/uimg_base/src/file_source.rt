@@ -15,11 +15,11 @@ use std::rt::Files;
 
 /// A file as a source, read by seek and read, as a `SeekSource` is.
 ///
-/// It keeps the length that was found when it was opened. Reads of fewer than 4096 bytes are served
-/// from two windows of 4096 bytes that are read ahead, never past that length; where a read ahead
-/// fails or is short, just the bytes that were asked for are read. No contract says which bytes a disk gives,
-/// so it is not claimed to be honest: that its reads answer the bytes of one unchanging file is the
-/// user's premise. Contracts see zeros in place of its bytes.
+/// The length is that found at opening. Reads of fewer than 4096 bytes are served from two windows
+/// of 4096 bytes that are read ahead, never past that length. If a read ahead fails or is short,
+/// only the requested bytes are read. No contract says which bytes a disk returns, so the source is
+/// not claimed to be honest: that it returns the bytes of one unchanging file is the user's
+/// premise. Contracts see zeros in place of its bytes.
 #[derive(Drop)]
 pub struct FileSource<F: Read + Seek> {
     file: DiskFile<F>,
@@ -28,10 +28,10 @@ pub struct FileSource<F: Read + Seek> {
 }
 
 impl<F: Read + Seek + OpenFile + Drop> FileSource<F> {
-    /// Opens the file at a path, as a source of which no byte was requested and no read failed.
+    /// Opens the file at a path as a source, with no byte requested and no failed read.
     ///
-    /// `SourceFault` comes where the file cannot be opened, is a folder, or does not tell its
-    /// length (a pipe).
+    /// Returns `SourceFault` if the file cannot be opened, is a folder, or has no known length (a
+    /// pipe).
     pub fn open<R: Files<File = F>>(rt: &R, path: &str) -> Result<FileSource<F>, SourceFault>
         ensures { IfOk result (λ s. IsFresh (⟦<FileSource<F> as Source>⟧.device s)) }
     {

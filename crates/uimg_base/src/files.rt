@@ -1,4 +1,4 @@
-//! Files that are opened by their names.
+//! Files that are opened by name.
 
 ghost use Rattle.std.specs.Prelude.{◌≡◌, ◌≤◌, ◌+◌, None, OnErr, IfOk, IsTrue, is_err};
 ghost use Rattle.uimg_base.specs.Device.{RisesIf};
@@ -6,23 +6,23 @@ ghost use Rattle.uimg_base.specs.Named.{FileMap, SameFiles, Opens};
 
 use crate::source::{Source, SourceFault};
 
-/// Files by their names, each opened as a source.
+/// Named files, each opened as a source.
 ///
 /// Contracts see them as a `FileMap`: the bytes at each name, whether they are honest and complete,
-/// and how many opens were refused. Honest files open honest sources with those bytes; complete ones
-/// refuse no name that has bytes. No call changes any of these, so a name that is opened twice has
-/// the same bytes.
+/// and the count of refused opens. Honest files open honest sources of those bytes; complete files
+/// refuse no name that has bytes. No call changes any of these, so a name opened twice has the same
+/// bytes.
 pub trait Files {
-    /// What a file is opened as.
+    /// The source that an open returns.
     type Opened: Source;
 
-    /// What contracts see of the files. The count of refusals stays at its greatest value.
+    /// What contracts see of the files. The count of refused opens saturates.
     ghost map: { Self → FileMap };
 
-    /// Opens the file of this name, as a source of which nothing was asked yet.
+    /// Opens the file with this name as a source; nothing was requested of it yet.
     ///
-    /// `SourceFault` comes only where the open was refused: the refusals rose in this call, by 1 (or
-    /// stood at their greatest value).
+    /// Returns `SourceFault` only if the open was refused: then the count of refused opens rose by
+    /// 1, or was at its greatest value.
     fn open(&mut self, name: &[u8]) -> Result<Self::Opened, SourceFault>
         ensures same { SameFiles (map self.old) (map self.new) }
         ensures missing { IsTrue (map self.old).complete →

@@ -1,4 +1,4 @@
-//! Files that refuse an open, or open a source that fails, for tests.
+//! Files that refuse an open, or open a failing source, for tests.
 
 ghost use Rattle.std.specs.Prelude.{◌≡◌, false};
 
@@ -6,8 +6,8 @@ use crate::files::Files;
 use crate::fuse_source::FuseSource;
 use crate::source::SourceFault;
 
-/// Files that are opened so many times and refused from then on, one of them as a source that
-/// fails in its midst: for tests of what a refused open or a failing read leaves.
+/// Files that can be opened a given number of times; one open gives a source that fails after some
+/// calls. For tests of refused opens and failed reads.
 #[derive(Drop)]
 pub struct FuseFiles<F: Files> {
     files: F,
@@ -19,12 +19,12 @@ pub struct FuseFiles<F: Files> {
 }
 
 impl<F: Files> FuseFiles<F> {
-    /// A fuse round `files`. Opens are counted from 0, those that `files` refuses too.
+    /// Puts a fuse on `files`. Opens are counted from 0, including those that `files` refuses.
     ///
-    /// The open number `from` and all later ones are refused. The open number `turn` gives a
-    /// source that lets `calls` calls through; each other open gives one that lets through 2^64 - 1.
-    /// No open was refused yet by the fuse, which counts on its own. Which opens are refused and how
-    /// many calls get through no clause says: tests show it.
+    /// Open number `from` and all later ones are refused. Open number `turn` gives a source that
+    /// lets `calls` calls through; any other gives one that lets 2^64 - 1 through. The fuse counts
+    /// refused opens itself, from 0. No clause says which opens are refused or how many calls pass;
+    /// tests show it.
     pub fn new(files: F, from: u64, turn: u64, calls: u64) -> FuseFiles<F>
         ensures { ⟦<FuseFiles<F> as Files>⟧.map result
             ≡ record (F.map files) { complete = false; refusals = 0 } }

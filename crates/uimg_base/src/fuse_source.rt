@@ -5,8 +5,8 @@ ghost use Rattle.std.specs.Prelude.{◌≡◌, ◌-◌, ◌==◌};
 
 use crate::source::{Source, SourceFault};
 
-/// A source that answers so many calls of `size` and `fill_at` as its source does, and fails from
-/// then on: for tests of what a failing read leaves.
+/// A source that answers a given number of calls of `size` and `fill_at`, then fails. For tests of
+/// failed reads.
 #[derive(Drop)]
 pub struct FuseSource<S: Source> {
     source: S,
@@ -17,7 +17,7 @@ pub struct FuseSource<S: Source> {
 }
 
 impl<S: Source> FuseSource<S> {
-    /// A fuse round `source` that lets `calls` calls through. Its counters go on from the source's.
+    /// Puts a fuse on `source` that lets `calls` calls through. Its counters continue the source's.
     pub fn new(source: S, calls: u64) -> FuseSource<S>
         ensures { ⟦<FuseSource<S> as Source>⟧.device result ≡ S.device source }
     {
@@ -31,7 +31,7 @@ impl<S: Source> FuseSource<S> {
         }
     }
 
-    // Takes one call off the fuse. It says whether none was left.
+    // Uses up one call. Returns whether none was left.
     fn burn(&mut self) -> bool
         ensures burnt { result ≡ (self.old.left == 0) }
         ensures left { self.new.left ≡ self.old.left - 1 }

@@ -1,12 +1,11 @@
-//! A writer that takes so many bytes and then fails, for tests.
+//! A writer that accepts a given number of bytes and then fails, for tests.
 
 ghost use Rattle.std.specs.Prelude.{◌≡◌};
 
 use std::io;
 use std::io::{ErrorKind, Write};
 
-/// A writer that takes so many bytes in all, and fails from then on: for tests of what a failing
-/// write leaves.
+/// A writer that accepts a given number of bytes in all, then fails. For tests of failed writes.
 #[derive(Drop)]
 pub struct FuseWriter<W: Write> {
     writer: W,
@@ -14,8 +13,8 @@ pub struct FuseWriter<W: Write> {
 }
 
 impl<W: Write> FuseWriter<W> {
-    /// A fuse round `writer` that takes `bytes` bytes. A `write` that passes them takes what is
-    /// left of them.
+    /// Puts a fuse on `writer` that accepts `bytes` bytes. A `write` of more accepts the rest of
+    /// them.
     pub fn new(writer: W, bytes: u64) -> FuseWriter<W>
         ensures { ⟦<FuseWriter<W> as Write>⟧.contents result ≡ W.contents writer }
     {
@@ -25,7 +24,7 @@ impl<W: Write> FuseWriter<W> {
         }
     }
 
-    /// The writer, with what it took.
+    /// Returns the writer, with the bytes that it accepted.
     pub fn into_inner(self) -> W
         ensures { W.contents result ≡ ⟦<FuseWriter<W> as Write>⟧.contents self }
     {

@@ -1,5 +1,5 @@
-//! What every engine stands on: sources, files and shelves, output, a room, and ranges. The sums of
-//! `uimg_sums` and the texts of `uimg_texts` are named here too.
+//! What every engine uses: sources, files, shelves, output, the room, and ranges. `uimg_sums` and
+//! `uimg_texts` are re-exported here.
 #![tactic(auto)]
 
 mod file_shelf;

@@ -6,7 +6,7 @@ ghost use Rattle.uimg_base.specs.Named.{bytes_named};
 use crate::files::Files;
 use crate::source::{MemSource, Source, SourceFault};
 
-/// Files in memory: pairs of a name and its bytes. The first of equal names counts.
+/// Files in memory: pairs of a name and its bytes. Of equal names, the first counts.
 ///
 /// They are honest, and an open takes no memory.
 #[derive(Drop)]
@@ -16,7 +16,7 @@ pub struct MemFiles<'a> {
 }
 
 impl<'a> MemFiles<'a> {
-    /// These files, of which no open was refused yet.
+    /// Creates the files, with no refused open yet.
     pub fn new(files: &'a [(&'a [u8], &'a [u8])]) -> MemFiles<'a>
         ensures { ⟦<MemFiles<'a> as Files>⟧.map result ≡ record {
           bytes = λ name. bytes_named name files.now;
@@ -39,7 +39,7 @@ impl<'a> Files for MemFiles<'a> {
       refusals = s.refusals;
     } };
 
-    /// Opens the first file of this name. `SourceFault` comes only where no file has it.
+    /// Opens the first file with this name. Returns `SourceFault` only if there is none.
     fn open(&mut self, name: &[u8]) -> Result<MemSource<'a>, SourceFault> {
         for (known, bytes) in self.files {
             if *known == name {

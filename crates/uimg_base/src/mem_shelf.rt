@@ -13,15 +13,14 @@ use std::alloc::Allocator;
 use std::io;
 use std::io::{ErrorKind, Write};
 
-/// A shelf in memory. It is honest, and what was written stays where the memory for more is
-/// refused.
+/// A shelf in memory. It is honest, and keeps what was written when memory for more is refused.
 #[derive(Drop)]
 pub struct MemShelf<A: Allocator> {
     bytes: Vec<u8, A>,
 }
 
 impl<A: Allocator> MemShelf<A> {
-    /// An empty shelf. It takes no memory until the first write.
+    /// Creates an empty shelf. Takes no memory until the first write.
     pub fn new(alloc: A) -> MemShelf<A>
         ensures { ⟦<MemShelf<A> as Write>⟧.contents result ≡ Some [] }
     {
@@ -34,7 +33,7 @@ impl<A: Allocator> MemShelf<A> {
 impl<A: Allocator> Write for MemShelf<A> {
     ghost contents = { λ s. Some s.bytes.items };
 
-    /// Appends all the bytes, or answers `ErrorKind::OutOfMemory` and none.
+    /// Appends all the bytes, or returns `ErrorKind::OutOfMemory` and appends none.
     fn write(&mut self, buf: &[u8]) -> io::Result<usize>
         ensures bound { WritesAtMost result buf.now }
         ensures bytes { WriteAppends (⟦<MemShelf<A> as Write>⟧.contents self.old)
@@ -45,7 +44,7 @@ impl<A: Allocator> Write for MemShelf<A> {
         self.bytes.write(buf)
     }
 
-    /// Does nothing. It never fails.
+    /// Does nothing. Never fails.
     fn flush(&mut self) -> io::Result<()>
         ensures ok { IsOk result }
         ensures bytes { Keeps (⟦<MemShelf<A> as Write>⟧.contents self.old)
@@ -62,7 +61,7 @@ impl<A: Allocator> Shelf for MemShelf<A> {
 
     ghost steady = { true };
 
-    /// Keeps what was written. It never fails.
+    /// Returns what was written as a source. Never fails.
     fn keep(self) -> Result<MemKept<A>, SourceFault>
         ensures ok { IsOk result }
         ensures bytes { IfOk result (λ kept.
@@ -76,7 +75,7 @@ impl<A: Allocator> Shelf for MemShelf<A> {
     }
 }
 
-/// A source that owns its bytes: what a `MemShelf` keeps. It is honest and never fails.
+/// What a `MemShelf` keeps: a source that owns its bytes. It is honest and never fails.
 #[derive(Drop)]
 pub struct MemKept<A: Allocator> {
     bytes: Vec<u8, A>,

@@ -1,4 +1,4 @@
-//! A writer with a count of its failures.
+//! A writer with a count of failed writes.
 
 ghost use Rattle.std.specs.Prelude.{◌≡◌, ◌+◌, ◌-◌, ◌^◌, ◌≤◌, min, length, take, IfSome, is_err, if◌then◌else◌};
 ghost use Rattle.std.specs.Io.KnownBytes.{Appends};
@@ -14,10 +14,9 @@ use thiserror::Error;
 #[error("write failed")]
 pub struct PutFault;
 
-/// A writer, with a count of its failures.
+/// A writer with a count of failed writes.
 ///
-/// Contracts see it as a `Sink`: what the writer holds, where that is known, and how often it
-/// failed.
+/// Contracts see it as a `Sink`: the writer's contents, if known, and the count.
 #[derive(Drop)]
 pub struct Out<W: Write> {
     writer: W,
@@ -33,14 +32,14 @@ impl<W: Write> Model for Out<W> {
 }
 
 impl<W: Write> Out<W> {
-    /// An output to this writer, which did not fail yet.
+    /// Creates an output to this writer, with no failed write yet.
     pub fn new(writer: W) -> Out<W>
         ensures { result ≡ record { contents = W.contents writer; faults = 0 } }
     {
         Out { writer, faults: 0 }
     }
 
-    /// The writer, with all that was put.
+    /// Returns the writer, with all that was written to it.
     pub fn into_inner(self) -> W
         ensures { W.contents result ≡ self.contents }
     {
@@ -50,8 +49,8 @@ impl<W: Write> Out<W> {
 
     /// Writes all the bytes.
     ///
-    /// `PutFault` comes where `write` answers an error or takes nothing; then a prefix of the bytes
-    /// was written, and the faults rose by 1 (or stood at their greatest value).
+    /// Returns `PutFault` if `write` returns an error or accepts nothing. Then a prefix of the
+    /// bytes was written, and the count of failures rose by 1, or was at its greatest value.
     pub fn put_all(&mut self, bytes: &[u8]) -> Result<(), PutFault>
         ensures writes { Writes (is_err result) self.old self.new bytes.now }
         ensures counted { self.new.faults ≡ (if is_err result then min (self.old.faults + 1)
@@ -65,9 +64,9 @@ impl<W: Write> Out<W> {
         }
     }
 
-    /// Writes several pieces as one text, in one write where they have at most 256 bytes.
+    /// Writes several pieces as one text, in one write if they have at most 256 bytes.
     ///
-    /// `PutFault` comes as in `put_all`; then a prefix of the text was written.
+    /// Returns `PutFault` as `put_all` does; then a prefix of the text was written.
     pub fn put_pieces(&mut self, pieces: &[&[u8]]) -> Result<(), PutFault>
         ensures writes { Writes (is_err result) self.old self.new
             (flat_map (λ piece. piece.now) pieces.now) }
@@ -81,7 +80,7 @@ impl<W: Write> Out<W> {
         }
     }
 
-    // Writes the pieces one after another.
+    // Writes the pieces in order.
     fn put_each(&mut self, pieces: &[&[u8]]) -> Result<(), PutFault>
         ensures writes { Writes (is_err result) self.old self.new
             (flat_map (λ piece. piece.now) pieces.now) }
@@ -95,8 +94,8 @@ impl<W: Write> Out<W> {
     }
 }
 
-// Puts the pieces one after another at the beginning of `line`, if it has room for them, and gives their
-// length.
+// Copies the pieces to the start of `line` in order. Returns their length, or `None` if they do not
+// fit.
 fn gather(pieces: &[&[u8]], line: &mut [u8; 256]) -> Option<usize>
     ensures bound { IfSome result (λ n. n ≤ 256) }
     ensures text { IfSome result (λ n. take n line.new ≡ flat_map (λ piece. piece.now) pieces.now) }
@@ -112,7 +111,7 @@ fn gather(pieces: &[&[u8]], line: &mut [u8; 256]) -> Option<usize>
     Some(length)
 }
 
-// Writes until all is written or a write fails. It gives the number of bytes written.
+// Writes until all is written or a write fails. Returns the number of bytes written.
 fn write_until_fault<W: Write>(writer: &mut W, bytes: &[u8]) -> usize
     ensures bound { result ≤ length bytes.now }
     ensures prefix { Appends (W.contents writer.old) (W.contents writer.new) (take result bytes.now) }

@@ -1,4 +1,4 @@
-//! Ranges of a source, copied to an output or fed to a sum, a window at a time.
+//! Ranges of a source, copied to an output or fed to a sum, one window at a time.
 
 ghost use Rattle.std.specs.Prelude.{◌≡◌, ℕ, ◌+◌, ◌≤◌, List, ◌++◌, length, IsTrue, OnOk, OnErr, IfOk, is_err};
 ghost use Rattle.uimg_base.specs.Device.{RisesIf, asked_more};
@@ -17,7 +17,7 @@ use std::io::Write;
 use thiserror::Error;
 use uimg_sums::{Crc, Summer};
 
-/// A copy from a source to an output stopped.
+/// The device that failed during a copy.
 #[derive(Clone, Copy, Debug, PartialEq, Eq, Error)]
 pub enum MoveFault {
     /// A read of the source failed.
@@ -29,7 +29,7 @@ pub enum MoveFault {
     Put,
 }
 
-// Copies at most a window.
+// Copies at most one window.
 #[tactic(auto, using(crate::proofs::WritingLaws::prefix_of))]
 fn copy_window<S: Source, W: Write>(
     source: &mut S,
@@ -58,12 +58,12 @@ fn copy_window<S: Source, W: Write>(
     Ok(())
 }
 
-/// Copies the `len` bytes at the offset `at` of the source to the output, through a window.
+/// Copies `len` bytes at offset `at` of the source to the output, through a window.
 ///
-/// The caller sees to it that the range lies in the source. `MoveFault::Read` comes exactly where a
-/// read failed, `MoveFault::Put` exactly where a write did. At most `len` bytes are requested, and just
-/// so many at `Ok`. Over an honest source, on every exit, a prefix of the range was written and at most
-/// 8192 bytes more than that were requested.
+/// The range must be inside the source. Returns `MoveFault::Read` if and only if a read failed,
+/// `MoveFault::Put` if and only if a write failed. Requests at most `len` bytes, and exactly `len`
+/// at `Ok`. Over an honest source, at every exit, a prefix of the range was written and at most
+/// 8192 bytes more were requested.
 pub fn copy_through<S: Source, W: Write>(
     source: &mut S,
     window: &mut [u8; WINDOW],
@@ -89,12 +89,12 @@ pub fn copy_through<S: Source, W: Write>(
     Ok(())
 }
 
-/// Copies the `len` bytes at the offset `at` of the source to the output, through the room's window.
+/// Copies `len` bytes at offset `at` of the source to the output, through the room's window.
 ///
-/// The caller sees to it that the range lies in the source. `MoveFault::Read` comes exactly where a
-/// read failed, `MoveFault::Put` exactly where a write did. At most `len` bytes are requested, and just
-/// so many at `Ok`. Over an honest source, on every exit, a prefix of the range was written and at most
-/// 8192 bytes more than that were requested. Nothing of the room changes but its window.
+/// The range must be inside the source. Returns `MoveFault::Read` if and only if a read failed,
+/// `MoveFault::Put` if and only if a write failed. Requests at most `len` bytes, and exactly `len`
+/// at `Ok`. Over an honest source, at every exit, a prefix of the range was written and at most
+/// 8192 bytes more were requested. Only the room's window changes.
 pub fn copy_range<S: Source, W: Write, A: Allocator>(
     source: &mut S,
     room: &mut Room<A>,
@@ -115,7 +115,7 @@ pub fn copy_range<S: Source, W: Write, A: Allocator>(
     copy_through(source, room.window(), at, len, out)
 }
 
-// Feeds at most a window.
+// Feeds at most one window.
 fn feed_window<M: Summer, S: Source>(
     sum: &mut M,
     source: &mut S,
@@ -136,12 +136,11 @@ fn feed_window<M: Summer, S: Source>(
     Ok(())
 }
 
-/// Feeds the `len` bytes at the offset `at` of the source to the sum, through a window.
+/// Feeds `len` bytes at offset `at` of the source to the sum, through a window.
 ///
-/// The caller sees to it that the range lies in the source. `SourceFault` comes exactly where a
-/// read failed; then some of the range may have been fed. At most `len` bytes are requested, and just so
-/// many at `Ok`. Over an honest source the sum is then over the range's bytes behind those that it was
-/// fed before.
+/// The range must be inside the source. Returns `SourceFault` if and only if a read failed; then
+/// part of the range may have been fed. Requests at most `len` bytes, and exactly `len` at `Ok`.
+/// Over an honest source, the sum then covers the earlier bytes followed by the range's bytes.
 pub fn feed_through<M: Summer, S: Source>(
     sum: &mut M,
     source: &mut S,
@@ -163,13 +162,12 @@ pub fn feed_through<M: Summer, S: Source>(
     Ok(())
 }
 
-/// Sums the `len` bytes at the offset `at` of the source, a window at a time. The digest goes to
-/// the first bytes of `to`, and its length is the answer.
+/// Sums `len` bytes at offset `at` of the source, one window at a time. Writes the digest to the
+/// start of `to` and returns its length, at most 64 bytes.
 ///
-/// The caller sees to it that the range lies in the source. `SourceFault` comes exactly where a read
-/// failed; then `to` stays. A digest has at most 64 bytes; over an honest source it is that of the
-/// range's bytes. At most `len` bytes are requested, and just so many at `Ok`. Nothing of the room
-/// changes but its window.
+/// The range must be inside the source. Returns `SourceFault` if and only if a read failed; then
+/// `to` is unchanged. Over an honest source the digest is that of the range's bytes. Requests at
+/// most `len` bytes, and exactly `len` at `Ok`. Only the room's window changes.
 pub fn sum_range<M: Summer, S: Source, A: Allocator>(
     source: &mut S,
     room: &mut Room<A>,
@@ -190,11 +188,11 @@ pub fn sum_range<M: Summer, S: Source, A: Allocator>(
     Ok(sum.finish(to))
 }
 
-/// CRC-32 of the `len` bytes at the offset `at` of the source.
+/// Returns CRC-32 of `len` bytes at offset `at` of the source.
 ///
-/// The caller sees to it that the range lies in the source. `SourceFault` comes exactly where a
-/// read failed. Over an honest source the CRC is that of the range's bytes. At most `len` bytes are
-/// requested, and just so many at `Ok`. Nothing of the room changes but its window.
+/// The range must be inside the source. Returns `SourceFault` if and only if a read failed. Over an
+/// honest source the CRC is that of the range's bytes. Requests at most `len` bytes, and exactly
+/// `len` at `Ok`. Only the room's window changes.
 pub fn crc_range<S: Source, A: Allocator>(
     source: &mut S,
     room: &mut Room<A>,

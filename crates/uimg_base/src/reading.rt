@@ -1,4 +1,4 @@
-//! A file is read at any offset, small pieces of it through windows that are read ahead.
+//! Reads of a file at any offset; small ones go through windows that are read ahead.
 
 ghost use Rattle.std.specs.Prelude.{◌≡◌, ◌≤◌, ◌+◌, length, is_err, true, Some, IfOk, IfSome, IsTrue, OnOk};
 ghost use Rattle.uimg_base.specs.Device.{RisesIf, asked_more};
@@ -10,8 +10,8 @@ use crate::source::SourceFault;
 use crate::windows::{AHEAD, Windows};
 use std::io::ErrorKind;
 
-/// How an open file is read: where it stands, where that is known, what was read ahead of it, its
-/// length, and the counters of a source.
+/// The state of an open file: its position, if known, the windows read ahead, its length, and the
+/// counters of a source.
 #[derive(Drop)]
 pub(crate) struct Reading {
     pub(crate) position: Option<u64>,
@@ -22,7 +22,7 @@ pub(crate) struct Reading {
 }
 
 impl Reading {
-    // Finds the length of a file, of which nothing was asked yet.
+    // Finds the length of a file. Nothing was requested of it yet.
     pub(crate) fn of<F: SeekRead>(file: &mut F) -> Result<Reading, SourceFault>
         ensures same { SameBytes (F.stream file.old) (F.stream file.new) }
         ensures stands { IfOk result (λ r. StandsAt r.position (F.stream file.new)) }
@@ -43,8 +43,7 @@ impl Reading {
         })
     }
 
-    // Fills `to` with the bytes of a file from an offset on, and counts what was asked for, and a
-    // failure.
+    // Fills `to` with the file's bytes at an offset. Counts the requested bytes, and a failure.
     pub(crate) fn fill_at<F: SeekRead>(
         &mut self,
         file: &mut F,
@@ -71,7 +70,8 @@ impl Reading {
         }
     }
 
-    // Fills `to` from what was read ahead, where it is small, or else by just the bytes asked for.
+    // Fills `to` from the windows if it is small, or else by reading only the requested bytes.
+    // Returns whether it is full.
     fn fill<F: SeekRead>(&mut self, file: &mut F, at: u64, to: &mut [u8]) -> bool
         requires stands { StandsAt self.old.position (F.stream file.old) }
         requires ahead { AreAhead self.old.windows (F.stream file.old) }
@@ -93,8 +93,8 @@ impl Reading {
     }
 }
 
-// Reads once, and gives how many bytes came: none where a signal interrupted it. At the file's end and
-// after any other error it gives no number.
+// Reads once. Returns the number of bytes read, 0 after an interrupt by a signal, or `None` at the
+// end of the file and after any other error.
 pub(crate) fn read_some<F: SeekRead>(file: &mut F, to: &mut [u8]) -> Option<usize>
     ensures same { SameBytes (F.stream file.old) (F.stream file.new) }
     ensures bound { IfSome result (λ n. n ≤ length to.old) }
@@ -108,7 +108,7 @@ pub(crate) fn read_some<F: SeekRead>(file: &mut F, to: &mut [u8]) -> Option<usiz
     }
 }
 
-// Reads on until `to` is full, and says whether it is. It takes at most one turn for each byte.
+// Reads until `to` is full, and returns whether it is. Reads at most once per byte.
 fn fill<F: SeekRead>(file: &mut F, to: &mut [u8]) -> bool
     ensures same { SameBytes (F.stream file.old) (F.stream file.new) }
     ensures filled { IsTrue result → ReadsOn (length to.old) (F.stream file.old)
@@ -127,8 +127,8 @@ fn fill<F: SeekRead>(file: &mut F, to: &mut [u8]) -> bool
     to.is_empty()
 }
 
-// Moves a file to an offset, unless it stands there, and says whether it does then. `position` is
-// where the file stands, or none where that is not known.
+// Moves a file to an offset, unless it is there. Returns whether it is. `position` is the file's
+// position, or `None` if unknown.
 pub(crate) fn move_to<F: SeekRead>(file: &mut F, position: &mut Option<u64>, at: u64) -> bool
     requires stands { StandsAt position.old (F.stream file.old) }
     ensures stands { StandsAt position.new (F.stream file.new) }
@@ -143,7 +143,7 @@ pub(crate) fn move_to<F: SeekRead>(file: &mut F, position: &mut Option<u64>, at:
     moved
 }
 
-// Reads at an offset until `to` is full, and says whether it is.
+// Reads at an offset until `to` is full, and returns whether it is.
 fn fill_from<F: SeekRead>(file: &mut F, position: &mut Option<u64>, at: u64, to: &mut [u8]) -> bool
     requires stands { StandsAt position.old (F.stream file.old) }
     ensures stands { StandsAt position.new (F.stream file.new) }

@@ -1,4 +1,4 @@
-//! All the memory that an engine takes: a window, and a list of entries.
+//! All the memory of an engine: a window, and a list of entries.
 
 ghost use Rattle.std.specs.Prelude.{◌≡◌, ◌+◌, ◌-◌, ◌^◌, ◌<◌, min, max, [], ◌∷◌, ◌++◌, length, is_ok, is_err, if◌then◌else◌, Some, slice_get, slice_set};
 ghost use Rattle.uimg_base.specs.Device.{RisesIf};
@@ -7,7 +7,7 @@ ghost use Rattle.uimg_base.specs.Held.{held_bytes};
 use std::alloc::{AllocError, Allocator};
 use std::marker::Model;
 
-/// How many bytes the window of a room has, through which payloads go.
+/// The size in bytes of a room's window, through which payloads go.
 pub const WINDOW: usize = 8192;
 
 /// The words of an entry.
@@ -16,8 +16,7 @@ pub type Entry = [u64; 16];
 /// All the memory of an engine: a window of 8192 bytes, and a list of entries of 128 bytes.
 ///
 /// Contracts see it as `Held`: its entries, the most bytes that it ever held, and how often it
-/// refused to grow. What it holds is what it has taken: memory for more entries than there ever
-/// were is not taken.
+/// refused to grow. It takes no memory for more entries than it has held at once.
 #[derive(Drop)]
 pub struct Room<A: Allocator> {
     window: [u8; WINDOW],
@@ -42,7 +41,7 @@ impl<A: Allocator> Room<A> {
     ghost use Rattle.std.specs.Borrow.{sem};
     ghost use Rattle.uimg_base.specs.Window.{LendsWindow};
 
-    /// A room with no entries. It takes no memory from the allocator yet.
+    /// Creates a room with no entries. Takes no memory from the allocator yet.
     pub fn new(alloc: A) -> Room<A>
         ensures { result ≡ record { entries = []; peak = 8192; refused = 0 } }
     {
@@ -54,45 +53,45 @@ impl<A: Allocator> Room<A> {
         }
     }
 
-    /// The window, to write to. Nothing else of the room changes.
+    /// Returns the window, to write to. Nothing else of the room changes.
     pub fn window(&mut self) -> &mut [u8; WINDOW]
         ensures* { sem 𝓛 (LendsWindow A.row A.Allocator self.entry result) }
     {
         &mut self.window
     }
 
-    /// Drops all entries, and keeps their memory for the next ones.
+    /// Drops all entries. Keeps their memory for the next ones.
     pub fn clear(&mut self)
         ensures { self.new ≡ record self.old { entries = [] } }
     {
         self.entries.clear();
     }
 
-    /// How many entries there are.
+    /// Returns the number of entries.
     pub fn count(&self) -> usize
         ensures { result ≡ length self.now.entries }
     {
         self.entries.len()
     }
 
-    /// How many bytes are held: the window's, and 128 for each entry.
+    /// Returns the bytes held: the window's, and 128 for each entry.
     pub fn held(&self) -> u128
         ensures { result ≡ held_bytes (length self.now.entries) }
     {
         WINDOW as u128 + 128 * self.entries.len() as u128
     }
 
-    /// The most bytes that were ever held.
+    /// Returns the most bytes ever held.
     pub fn peak(&self) -> u128
         ensures { result ≡ self.now.peak }
     {
         self.peak
     }
 
-    /// Adds an entry at the end, taking memory for just that one.
+    /// Appends an entry, taking memory for just that one.
     ///
-    /// `AllocError` comes where the memory was refused; then all entries stay, and the refusals rose by 1
-    /// (or stood at their greatest value). The peak is the most that was ever held.
+    /// Returns `AllocError` if the memory was refused. Then the entries are unchanged, and the
+    /// count of refusals rose by 1, or was at its greatest value.
     pub fn add(&mut self, entry: Entry) -> Result<(), AllocError>
         ensures entries { self.new.entries ≡ (if is_ok result then self.old.entries ++ entry ∷ []
             else self.old.entries) }
@@ -111,7 +110,7 @@ impl<A: Allocator> Room<A> {
         Ok(())
     }
 
-    /// The entry of a number below `count`, counted from 0.
+    /// Returns the entry of a number from 0, below `count`.
     pub fn entry(&self, number: usize) -> Entry
         requires { number < length self.now.entries }
         ensures { slice_get self.now.entries number ≡ Some result }
@@ -119,7 +118,7 @@ impl<A: Allocator> Room<A> {
         self.entries[number]
     }
 
-    /// Puts an entry in place of the one of a number below `count`, counted from 0.
+    /// Replaces the entry of a number from 0, below `count`.
     pub fn set(&mut self, number: usize, entry: Entry)
         requires { number < length self.old.entries }
         ensures { self.new ≡ record self.old { entries = slice_set self.old.entries number entry } }

@@ -1,4 +1,4 @@
-//! A file that is read from where it stands, and moved.
+//! Files with a position, from which they are read.
 
 ghost use Rattle.std.specs.Prelude.{◌≡◌, pos, None, Some, Option, IfSome, OnOk};
 ghost use Rattle.std.specs.Io.{ReadsAtMost};
@@ -10,31 +10,31 @@ ghost use Rattle.uimg_base.specs.Streams.{Stream, Reads, MovesTo, MovesToEnd};
 use std::io;
 use std::io::{Cursor, Read, Seek, SeekFrom};
 
-/// A file that is read from where it stands, and can be moved.
+/// A file with a position, from which it is read, and which can be moved.
 ///
-/// Contracts see it as a `Stream`, its bytes and where it stands, or as nothing: of a file on a disk
-/// they know neither. No call changes the bytes, or whether they are known.
+/// Contracts see it as a `Stream`, its bytes and its position, or as `None`: of a file on disk they
+/// know neither. No call changes the bytes, or whether they are known.
 pub trait SeekRead: Drop {
     /// What contracts know of the file.
     ghost stream: { Self → Option Stream };
 
-    /// Reads some of the next bytes into the first of `to`, and answers how many; none at the
-    /// file's end or where `to` is empty. After an error the file stands where it stood.
+    /// Reads some of the next bytes to the start of `to`. Returns how many: none at the end of the
+    /// file or if `to` is empty. After an error the position is unchanged.
     fn read_on(&mut self, to: &mut [u8]) -> io::Result<usize>
         ensures bound { ReadsAtMost result to.new }
         ensures reads { Reads result (stream self.old) (stream self.new) to.new };
 
-    /// Moves the file to an offset from its beginning. After an error it stands where it stood.
+    /// Moves to an offset from the start of the file. After an error the position is unchanged.
     fn move_to(&mut self, at: u64) -> io::Result<()>
         ensures { MovesTo at result (stream self.old) (stream self.new) };
 
-    /// Moves the file to its end, and answers its length. After an error it stands where it stood.
+    /// Moves to the end of the file. Returns its length. After an error the position is unchanged.
     fn move_to_end(&mut self) -> io::Result<u64>
         ensures { MovesToEnd result (stream self.old) (stream self.new) };
 }
 
-/// A file of the operating system. Contracts know nothing of its bytes. They do know that a read takes
-/// from the file's own reader what it returns, and that a move goes to the offset that was given.
+/// A file of the operating system. Contracts do not know its bytes. They know that a read returns
+/// bytes that the file's own reader gave, and that a move goes to the given offset.
 #[derive(Drop)]
 pub struct DiskFile<F: Read + Seek> {
     pub(crate) file: F,

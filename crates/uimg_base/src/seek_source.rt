@@ -1,4 +1,4 @@
-//! A file that is read and moved, as a source.
+//! Open files, which can be read and moved, as sources.
 
 ghost use Rattle.std.specs.Prelude.{◌≡◌, ◌^◌, ◌<◌, true, IfOk, IfSome, is_some};
 ghost use Rattle.std.proofs.Common.{rules};
@@ -13,9 +13,9 @@ use crate::source::{Source, SourceFault};
 
 /// An open file as a source, read by seek and read.
 ///
-/// It keeps the length that was found when it was made, and reads ahead as a `FileSource` does. Over a
-/// file whose bytes contracts know it is an honest source of these bytes; over any other, contracts see
-/// zeros in place of its bytes, and it is not claimed to be honest.
+/// The length is that found at creation. It reads ahead as a `FileSource` does. Over a file whose
+/// bytes contracts know, it is an honest source of these bytes. Over any other, contracts see
+/// zeros, and it is not claimed to be honest.
 #[derive(Drop)]
 pub struct SeekSource<F: SeekRead> {
     file: F,
@@ -28,9 +28,9 @@ pub struct SeekSource<F: SeekRead> {
 }
 
 impl<F: SeekRead> SeekSource<F> {
-    /// A source of an open file, of which nothing was asked yet.
+    /// Creates a source of an open file. Nothing was requested of it yet.
     ///
-    /// `SourceFault` comes where the file does not tell its length (a pipe).
+    /// Returns `SourceFault` if the file has no known length (a pipe).
     pub fn new(mut file: F) -> Result<SeekSource<F>, SourceFault>
         ensures fresh { IfOk result (λ s. IsFresh (⟦<SeekSource<F> as Source>⟧.device s)) }
         ensures known { IfSome (F.stream file) (λ stream.

@@ -1,4 +1,4 @@
-//! What is written to, and then kept as a source.
+//! What is written to and then reopened as a source.
 
 ghost use Rattle.std.specs.Prelude.{◌≡◌, Bool, false, Some, IsOk, IfOk, IsTrue};
 ghost use Rattle.uimg_base.specs.Device.{IsFresh};
@@ -6,21 +6,21 @@ ghost use Rattle.uimg_base.specs.Device.{IsFresh};
 use crate::source::{Source, SourceFault};
 use std::io::Write;
 
-/// Where an image is written, to be read afterwards.
+/// What an image is written to, to be read afterwards.
 pub trait Shelf: Write + Drop {
-    /// What is kept.
+    /// The source that `keep` returns.
     type Kept: Source;
 
-    /// Whether what is kept is what was written, and answers it.
+    /// Whether the kept source is honest and has exactly the bytes that were written.
     ghost honest: { Bool };
 
-    /// Whether `keep` always answers. It is a fact of the type; a shelf in memory is steady.
+    /// Whether `keep` never fails. It is a fact of the type; a shelf in memory is steady.
     ghost steady: { Bool } = { false };
 
-    /// Ends the writing, and gives what was written as a source of which nothing was asked yet. An
-    /// honest shelf gives an honest source with just the bytes that were written.
+    /// Ends the writing and returns what was written as a source; nothing was requested of it yet.
+    /// An honest shelf returns an honest source of exactly the written bytes.
     ///
-    /// `SourceFault` comes where what was written cannot be read; over a steady shelf it never comes.
+    /// Returns `SourceFault` if what was written cannot be read; never over a steady shelf.
     fn keep(self) -> Result<Self::Kept, SourceFault>
         ensures bytes { IsTrue honest → IfOk result (λ kept.
             Self.contents self ≡ Some (Self.Kept.device kept).bytes) }

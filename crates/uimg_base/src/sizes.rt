@@ -1,4 +1,4 @@
-//! The text of a size, written.
+//! Writes the text of a size.
 
 ghost use Rattle.std.specs.Prelude.{is_err};
 ghost use Rattle.uimg_base.specs.Writing.{Writes};
@@ -9,9 +9,10 @@ use itoa::Buffer;
 use std::io::Write;
 use uimg_texts::{hundredths, two_digits};
 
-/// Writes a size of n bytes: `<n> Bytes = <k> KiB = <m> MiB`, k being n/1024 and m n/1048576, each
-/// with two decimals, rounded to the nearest hundredth, a tie to the even hundredth. Where a write
-/// fails, the answer is `PutFault`, and a prefix of the text was written.
+/// Writes a size of n bytes as `<n> Bytes = <k> KiB = <m> MiB`, where k is n/1024 and m is
+/// n/1048576. Both have two decimals, rounded to the nearest hundredth, ties to even.
+///
+/// Returns `PutFault` if a write failed; then a prefix of the text was written.
 pub fn size_text<W: Write>(n: u32, out: &mut Out<W>) -> Result<(), PutFault>
     ensures { Writes (is_err result) out.old out.new (size_text n) }
 {

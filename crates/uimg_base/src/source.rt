@@ -1,4 +1,4 @@
-//! A device with a fixed list of bytes, read at any offset, and a slice as one.
+//! Sources: devices with a fixed list of bytes, read at any offset; and a slice as a source.
 
 ghost use Rattle.std.specs.Prelude.{◌≡◌, ℕ, ◌+◌, ◌^◌, ◌<◌, ◌≤◌, List, Bool, true, false, length, IsTrue, OnOk, IfOk, is_err};
 ghost use Rattle.std.proofs.Common.{refl};
@@ -7,27 +7,26 @@ ghost use Rattle.uimg_texts.specs.Slices.{slice};
 
 use thiserror::Error;
 
-/// A source did not answer: it could not be opened, or a read of it failed.
+/// A source could not be opened, or a read of it failed.
 #[derive(Clone, Copy, Debug, PartialEq, Eq, Error)]
 #[error("read failed")]
 pub struct SourceFault;
 
 /// A device with a fixed list of bytes, read at any offset.
 ///
-/// Contracts see a source as a `Device`: its bytes, whether its answers are honest (are those
-/// bytes), how many bytes were asked for, and how many calls failed. No call changes the bytes or
-/// the honesty.
+/// Contracts see a source as a `Device`: its bytes, whether it is honest (returns those bytes), how
+/// many bytes were requested, and how many calls failed. No call changes the bytes or the honesty.
 pub trait Source: Drop {
     /// What contracts see of the source.
     ghost device: { Self → Device };
 
-    /// Whether each call answers. It is a fact of the type: sources in memory are steady.
+    /// Whether no call fails. It is a fact of the type: sources in memory are steady.
     ghost steady: { Bool } = { false };
 
-    /// Returns how many bytes the source has. It requests none of them.
+    /// Returns the number of bytes of the source. Requests none of them.
     ///
-    /// `SourceFault` comes only where `failures` rose in this call, by 1 (or stood at its greatest
-    /// value).
+    /// Returns `SourceFault` only if `failures` rose by 1 in this call, or was at its greatest
+    /// value.
     fn size(&mut self) -> Result<u64, SourceFault>
         ensures length { IfOk result (λ n. n ≡ length (device self.old).bytes) }
         ensures same { SameDevice (device self.old) (device self.new) }
@@ -36,12 +35,11 @@ pub trait Source: Drop {
             (device self.new).failures }
         ensures counted { (device self.new).failures ≤ (device self.old).failures + 1 };
 
-    /// Fills `to` with the bytes that begin at the offset `at`.
+    /// Fills `to` with the bytes at the offset `at`.
     ///
-    /// The caller sees to it that the range lies in the source. An honest source gives the bytes
-    /// there. `asked` rises by the length of `to`, after a failure too. `SourceFault` comes only
-    /// where `failures` rose in this call, by 1 (or stood at its greatest value); what `to` holds then
-    /// is left open.
+    /// The range must be inside the source. An honest source gives the bytes there. `asked` rises
+    /// by the length of `to`, after a failure too. Returns `SourceFault` only if `failures` rose by
+    /// 1 in this call, or was at its greatest value. Then the contents of `to` are unspecified.
     fn fill_at(&mut self, at: u64, to: &mut [u8]) -> Result<(), SourceFault>
         requires { at + length to.old ≤ length (device self.old).bytes }
         ensures bytes { IsTrue (device self.old).honest →
@@ -53,12 +51,11 @@ pub trait Source: Drop {
             (device self.new).failures }
         ensures counted { (device self.new).failures ≤ (device self.old).failures + 1 };
 
-    /// How many bytes were asked for by `fill_at`, failed calls too. It stays at its greatest
-    /// value.
+    /// Returns how many bytes `fill_at` requested, failed calls included. It saturates.
     fn asked(&self) -> u128
         ensures { result ≡ (device self.now).asked };
 
-    /// How many calls failed. It stays at its greatest value.
+    /// Returns how many calls failed. It saturates.
     fn failures(&self) -> u64
         ensures { result ≡ (device self.now).failures };
 
@@ -78,7 +75,7 @@ pub struct MemSource<'a> {
 }
 
 impl<'a> MemSource<'a> {
-    /// A source of these bytes, of which nothing was asked yet.
+    /// Creates a source of these bytes. Nothing was requested of it yet.
     pub fn new(bytes: &'a [u8]) -> MemSource<'a>
         ensures { ⟦<MemSource<'a> as Source>⟧.device result
             ≡ record { bytes = bytes.now; honest = true; asked = 0; failures = 0 } }

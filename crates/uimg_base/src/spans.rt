@@ -1,10 +1,10 @@
-//! Where bytes stand in a file.
+//! The offset and length of bytes in a file.
 
-/// Where some bytes stand in a file.
+/// The offset and length of some bytes in a file.
 #[derive(Clone, Copy, Debug, PartialEq, Eq)]
 pub struct Span {
-    /// The offset of the first byte from the file's start.
+    /// The offset of the first byte from the start of the file.
     pub place: u64,
-    /// How many bytes.
+    /// The number of bytes.
     pub length: u64,
 }

@@ -1,4 +1,4 @@
-//! What was read ahead of a file, so that small reads that follow one another take few reads of it.
+//! Windows read ahead of a file, which serve consecutive small reads with few reads of the file.
 ghost use Rattle.std.specs.Prelude.{◌≤◌, length, Option, IsTrue};
 ghost use Rattle.uimg_base.specs.Streams.{Stream, StandsAt, SameBytes, HoldsFrom};
 ghost use Rattle.uimg_base.specs.Ahead.{IsAhead, AreAhead};
@@ -6,10 +6,10 @@ ghost use Rattle.uimg_base.specs.Ahead.{IsAhead, AreAhead};
 use crate::reading::{move_to, read_some};
 use crate::seek_read::SeekRead;
 
-/// How many bytes are read ahead at most.
+/// The most bytes that are read ahead.
 pub(crate) const AHEAD: usize = 4096;
 
-/// Bytes of a file that one read gave, and the offset from which on.
+/// Bytes of a file from one read, and their offset.
 #[derive(Drop)]
 pub(crate) struct Window {
     pub(crate) at: u64,
@@ -18,7 +18,7 @@ pub(crate) struct Window {
 }
 
 impl Window {
-    // A window with no bytes.
+    // Creates a window with no bytes.
     fn new() -> Window
         ensures { (s : Option Stream) → IsAhead result s }
     {
@@ -29,7 +29,7 @@ impl Window {
         }
     }
 
-    // Copies the bytes from an offset on, if the window has all of them, and says whether it has.
+    // Copies the bytes at an offset if the window has all of them. Returns whether it has.
     fn give(&self, at: u64, to: &mut [u8]) -> bool
         ensures { IsTrue result → (s : Option Stream) → IsAhead self.now s →
             HoldsFrom at s to.new }
@@ -48,7 +48,7 @@ impl Window {
         true
     }
 
-    // Reads once from an offset on, at most so many bytes. After a failure the window has none.
+    // Reads once at an offset, at most `most` bytes. After a failure the window has none.
     fn read_ahead<F: SeekRead>(
         &mut self,
         file: &mut F,
@@ -77,8 +77,8 @@ impl Window {
     }
 }
 
-/// Two windows, of which the one that was used longest ago is read anew: a blob's structure and its
-/// strings are read in turns.
+/// Two windows; the one used longest ago is read anew. Reads of a blob's structure block and
+/// strings block alternate.
 #[derive(Drop)]
 pub(crate) struct Windows {
     pub(crate) first: Window,
@@ -87,7 +87,7 @@ pub(crate) struct Windows {
 }
 
 impl Windows {
-    // Two windows with no bytes.
+    // Creates two windows with no bytes.
     pub(crate) fn new() -> Windows
         ensures { (s : Option Stream) → AreAhead result s }
     {
@@ -98,8 +98,8 @@ impl Windows {
         }
     }
 
-    // Fills `to` from a window that has its bytes, reading one anew where none has, and says whether
-    // it is filled. At most so many bytes are read.
+    // Fills `to` from a window that has its bytes. If none has, reads one anew, at most `most`
+    // bytes. Returns whether `to` is full.
     pub(crate) fn fill<F: SeekRead>(
         &mut self,
         file: &mut F,

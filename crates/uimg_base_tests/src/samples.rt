@@ -1,4 +1,4 @@
-//! Legacy images, and their listings.
+//! Legacy images and their listings.
 
 pub mod legacy;
 pub mod listings;

@@ -1,4 +1,4 @@
--- What a pass does at a token, and what it leaves of source and room.
+-- What a pass does at a token, and the source and room afterwards.
 use Rattle.std.specs.Prelude.{◌≡◌, ◌+◌, ◌*◌, ◌<◌, ◌≤◌, ℕ, List, length, Option, Result, Ok, Err, IfOk, IfErr, IfSome, Bool, true, false, IsTrue}
 use Rattle.uimg_base.specs.Device.{Device}
 use Rattle.uimg_base.specs.Held.{Held, AddsOne, Grows}
@@ -15,12 +15,12 @@ use Rattle.uimg_blob.specs.Walk.{begun}
 use Rattle.uimg_blob.specs.ReadTokens.{IsReadAs, Stands, cost}
 use Rattle.uimg_blob.specs.Passes.{Phase, Holds, step, is_done, Goes, Refuses, Steps, Indexes, Passed, Within, IsPrefix, StopsAt}
 
--- The innermost node has an entry, and no entry takes fewer than eight bytes of those before the state's place.
+-- The innermost node has an entry, and each entry at least eight bytes before the state's offset.
 pub record Suits (s : State) (es : List (List ℕ)) : Type 0 where
   pub current : IfSome s.current (λ i. i < length es)
   pub few : 8 * length es ≤ s.at
 
--- what was read begins a node
+-- the token begins a node
 abbrev pub is_begin_node : ReadToken → Bool
 is_begin_node (BeginNode size label) = true
 is_begin_node (BadBeginNode fault) = false
@@ -31,27 +31,26 @@ is_begin_node Nop = false
 is_begin_node End = false
 is_begin_node (Stray fault) = false
 
--- an entry is added where a node begins
+-- a node begins, so an entry is added
 abbrev pub adds_entry : ReadToken → Result State IndexFault → Bool
 adds_entry token (Ok s) = is_begin_node token
 adds_entry token (Err e) = false
 
--- The answer is what the token that was read does, in each phase of the pass. A pass that goes on stands behind the token,
--- which ends before the structure block does.
--- Memory is refused only where a node begins.
+-- The result of acting on a token, in each phase of the pass. The next offset is after the token,
+-- which ends inside the structure block. Memory is refused only if a node begins.
 pub record Does (token : ReadToken) (s : State) (result : Result State IndexFault) (old new : Held) : Type 0 where
   -- what the token does in one pass
   pub goes : (p : Phase) (t : Token) → Holds p s old.entries → IsReadAs s.at t token → is_done p t ≡ false → Goes (step p t) (next t) result old.entries new.entries
   -- a faulty token is refused with its own fault
   pub refuses : (t : Token) → IsReadAs s.at t token → Refuses t result
-  -- the next place is beyond this one
+  -- the next offset is after this one
   pub ahead : (end : ℕ) → Stands end s.at token → IfOk result (λ n. (s.at + 4 ≤ n.at) × (n.at < end + 4))
-  -- one entry more where a node begins, none elsewhere
+  -- one more entry if a node begins, otherwise none
   pub room : AddsOne (adds_entry token result) (is_out_of_memory result) old new
   pub no_read : is_read result ≡ false
   pub no_making : is_of_making result ≡ false
 
--- At most a token's cost was asked for, the room grew by no more than its entries, and the answer is what the token does.
+-- A step requests at most the token's cost, the room only grows, and the result is the token's.
 pub record TakesStep (x : Extent) (s : State) (result : Result (Option State) IndexFault) (d e : Device) (h k : Held) : Type 0 where
   pub uses : UsesAtMost (cost (token_at (blocks_of d.bytes x) s.at)) (is_read result) d e
   pub room : Grows (is_out_of_memory result) h k
@@ -59,17 +58,17 @@ pub record TakesStep (x : Extent) (s : State) (result : Result (Option State) In
   pub no_making : is_of_making result ≡ false
   pub ahead : IfOk result (λ r. IfSome r (λ n. (s.at + 4 ≤ n.at) × (n.at < x.structure_end + 4)))
 
--- The same of all tokens: what was asked for and kept is within their count, and the answer is their tree or first fault. The
--- entries are a tree's, or those so far, which where memory was refused are of the nodes before it.
+-- All steps: requests and entries are within the token counts, and the result is the tree or the
+-- first fault. The entries are the tree's, or those so far: of the nodes before a refused growth.
 pub record GoesOver (x : Extent) (result : Result State IndexFault) (d e : Device) (h k : Held) : Type 0 where
   pub uses : Uses (is_read result) d e
   pub room : Grows (is_out_of_memory result) h k
   pub no_making : is_of_making result ≡ false
   pub few : 8 * length k.entries ≤ x.structure_end + 4
   pub within : IsTrue d.honest → Within (blocks_of d.bytes x) (begun (tokens (blocks_of d.bytes x))) d.asked e.asked k.entries
-  -- what a refusal of memory leaves
+  -- what is left if memory was refused
   pub prefix : IsTrue d.honest → IsPrefix (tokens (blocks_of d.bytes x)) result k.entries
-  -- what a refusal leaves
+  -- what is left after a refusal
   pub stops : IsTrue d.honest → IfErr result (λ fault. StopsAt (tokens (blocks_of d.bytes x)) fault k.entries)
   -- over any source
   pub passed : IfOk result (λ s. Passed d.honest (blocks_of d.bytes x) s k.entries)

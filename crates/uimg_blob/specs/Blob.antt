@@ -1,4 +1,4 @@
--- A flattened devicetree blob (Devicetree Specification, chapter 5).
+-- Flattened devicetree blobs (Devicetree Specification, chapter 5).
 use Rattle.std.specs.Prelude.{ℕ, ◌+◌, ◌%◌, List, [], ◌∷◌, length, Result, Ok, Err, Bool, nat_lt, ◌==◌, if◌then◌else◌, not}
 use Rattle.uimg_blob.specs.declared.fault.BlobFault.TheVariants.{TooShort, BadMagic, BadVersion, BlockOutside}
 use Rattle.uimg_texts.specs.Numbers.{be32}
@@ -7,15 +7,15 @@ use Rattle.uimg_blob.specs.Reading.{Fault}
 use Rattle.uimg_blob.specs.Tokens.{Token, Blocks, offset, tokens}
 use Rattle.uimg_blob.specs.Grammar.{Siblings, root, without_nops}
 
--- the number that each blob begins with
+-- the magic number
 abbrev pub magic : ℕ
 magic = 0xd00dfeed
 
--- whether a block, by the places of its offset and of its size in the header, ends after the blob
+-- whether a block ends outside the blob, given the header fields of its offset and its size
 abbrev pub ends_outside : List ℕ → ℕ → ℕ → Bool
 ends_outside file at size = nat_lt (be32 file 4) (be32 file at + be32 file size)
 
--- the blocks that the header names
+-- the blocks given in the header
 abbrev pub blocks_named : List ℕ → Blocks
 blocks_named file = record {
   bytes = file;
@@ -25,8 +25,9 @@ blocks_named file = record {
   strings_size = be32 file 32;
 }
 
--- The blocks of a file, or the header's first fault (section 5.2): totalsize at 4, off_dt_struct at 8, off_dt_strings at 12,
--- version at 20, last_comp_version at 24, size_dt_strings at 32, size_dt_struct at 36.
+-- The blocks of a file, or the header's first fault (section 5.2): totalsize at 4, off_dt_struct at
+-- 8, off_dt_strings at 12, version at 20, last_comp_version at 24, size_dt_strings at 32,
+-- size_dt_struct at 36.
 unfoldable pub blocks : List ℕ → Result Blocks Fault
 blocks file =
     if nat_lt (length file) 40 then Err (TooShort, 0)
@@ -40,13 +41,13 @@ blocks file =
     else if ends_outside file 12 32 then Err (BlockOutside, 12)
     else Ok (blocks_named file)
 
--- the root of a file, or the first fault
+-- the root of a file's tree, or the first fault
 unfoldable pub tree : List ℕ → Result Siblings Fault
 tree file = do
   found ← blocks file
   root (without_nops (tokens found))
 
--- the tokens up to a place
+-- the tokens up to an offset
 unfoldable pub up_to : ℕ → List Token → List Token
 up_to at [] = []
 up_to at (t ∷ ts) = if nat_lt at (offset t) then [] else t ∷ up_to at ts
@@ -56,7 +57,7 @@ abbrev pub met_in : Result Siblings Fault → List Token → List Token
 met_in (Ok t) ts = ts
 met_in (Err e) ts = up_to e.1 ts
 
--- the tokens met in blocks; none where the header is refused
+-- the tokens met in blocks; none if the header is refused
 abbrev pub met_from : Result Blocks Fault → List Token
 met_from (Ok b) = met_in (root (without_nops (tokens b))) (tokens b)
 met_from (Err e) = []

@@ -1,4 +1,4 @@
--- Where the blocks of a blob lie.
+-- The offsets of a blob's blocks.
 use Rattle.std.specs.Prelude.{◌≡◌, ℕ, ◌+◌, ◌%◌, ◌^◌, ◌<◌, ◌≤◌, List, Result, Ok, Err, ⊤}
 use Rattle.uimg_blob.specs.declared.fault.IndexFault.{IndexFault}
 use Rattle.uimg_blob.specs.declared.fault.IndexFault.TheVariants.{Blob, Read}
@@ -7,7 +7,7 @@ use Rattle.uimg_texts.specs.Numbers.{be32}
 use Rattle.uimg_blob.specs.Tokens.{Blocks}
 use Rattle.uimg_blob.specs.Blob.{blocks}
 
--- the blocks that lie so in a file
+-- the blocks at these offsets in a file
 abbrev pub blocks_of : List ℕ → Extent → Blocks
 blocks_of file x = record {
   bytes = file;
@@ -17,7 +17,7 @@ blocks_of file x = record {
   strings_size = x.strings_size;
 }
 
--- Both blocks lie in the blob and the blob in a file of a size; the structure block stands at a multiple of 4.
+-- Both blocks are inside the blob, it is inside the file, and the structure block is aligned to 4.
 pub record IsInside (x : Extent) (size : ℕ) : Type 0 where
   pub ordered : x.structure ≤ x.structure_end
   pub structure_within : x.structure_end ≤ x.totalsize
@@ -26,7 +26,7 @@ pub record IsInside (x : Extent) (size : ℕ) : Type 0 where
   pub fits : x.totalsize < 2 ^ 32
   pub aligned : x.structure % 4 ≡ 0
 
--- The numbers of a header are those of the file that begins with it.
+-- The fields of the header are those of the file that begins with it.
 pub record HeadsFile (header file : List ℕ) : Type 0 where
   pub magic : be32 file 0 ≡ be32 header 0
   pub totalsize : be32 file 4 ≡ be32 header 4
@@ -37,7 +37,7 @@ pub record HeadsFile (header file : List ℕ) : Type 0 where
   pub strings_size : be32 file 32 ≡ be32 header 32
   pub structure_size : be32 file 36 ≡ be32 header 36
 
--- An answer is where the blocks of a file lie, and its totalsize, or the header's first fault, unless a read failed.
+-- The result is a file's blocks and totalsize, or the header's first fault, unless a read failed.
 abbrev pub GivesBlocks : List ℕ → Result Extent IndexFault → Type 0
 GivesBlocks file (Ok x) = (blocks file ≡ Ok (blocks_of file x)) × (x.totalsize ≡ be32 file 4)
 GivesBlocks file (Err (Blob fault at)) = blocks file ≡ Err (fault, at)

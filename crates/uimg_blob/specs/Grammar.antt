@@ -5,16 +5,16 @@ use Rattle.uimg_base.specs.Results.{◌>>=◌}
 use Rattle.uimg_blob.specs.Reading.{Fault}
 use Rattle.uimg_blob.specs.Tokens.{Property, Token, begin_node, end_node, prop, nop, last, stray}
 
--- Nodes that follow one another: none, or one, with its offset, name, properties and children, and those after it.
+-- Siblings: none, or a node (offset, name, properties, children) and the nodes after it.
 pub data Siblings : Type 0 where
   none : Siblings
   node : ℕ → List ℕ → List Property → Siblings → Siblings → Siblings
 
--- What is read from the beginning of a list of tokens, and the tokens after it.
+-- What is read at the start of a list of tokens, and the tokens after it.
 abbrev pub Reads : Type 0 → Type 0
 Reads A = List Token → Result (A × List Token) Fault
 
--- a token that may not stand where it stands; a stray one has its own fault
+-- the fault of a token that is not allowed here; a stray token has its own fault
 abbrev pub misplaced : Token → Fault
 misplaced (stray at fault) = (fault, at)
 misplaced (begin_node at name) = (BadNesting, at)
@@ -23,12 +23,12 @@ misplaced (prop at property) = (BadNesting, at)
 misplaced (nop at) = (BadNesting, at)
 misplaced (last at) = (BadNesting, at)
 
--- the first token may not stand there; the tokens of a block never end before their last or a fault
+-- the first token is not allowed here; the tokens of a block never end before their last or a fault
 abbrev pub misplaced_first : {A : Type 0} → List Token → Result A Fault
 misplaced_first [] = Err (BadNesting, 0)
 misplaced_first (t ∷ ts) = Err (misplaced t)
 
--- properties: a property and properties, or nothing where the next token is not one
+-- properties: a property followed by properties, or nothing if the next token is not a property
 unfoldable pub properties : Reads (List Property)
 properties (prop at (Ok p) ∷ ts) = do
   more ← properties ts
@@ -41,7 +41,7 @@ abbrev pub end : List Token → Result (List Token) Fault
 end (end_node at ∷ ts) = Ok ts
 end ts = misplaced_first ts
 
--- what a node has after its name: properties, children, its end
+-- the rest of a node after its name: properties, children, end
 abbrev pub inside : Reads Siblings → Reads (List Property × Siblings)
 inside children ts = do
   own ← properties ts
@@ -49,7 +49,7 @@ inside children ts = do
   rest ← end below.1
   Ok ((own.0, below.0), rest)
 
--- children: a node and children, or nothing where the next token begins none; n bounds their levels and number
+-- children: a node and children, or nothing if no node begins; n bounds their depth and number
 unfoldable pub children : ℕ → Reads Siblings
 children (suc n) (begin_node at (Ok name) ∷ ts) = do
   first ← inside (children n) ts
@@ -63,7 +63,7 @@ abbrev pub ended : {A : Type 0} → A → List Token → Result A Fault
 ended root (last at ∷ ts) = Ok root
 ended root ts = misplaced_first ts
 
--- the root, and the end of the tree
+-- the root and the end of the tree
 unfoldable pub root : List Token → Result Siblings Fault
 root (begin_node at (Ok name) ∷ ts) = do
   it ← inside (children (length ts)) ts
@@ -71,7 +71,7 @@ root (begin_node at (Ok name) ∷ ts) = do
 root (begin_node at (Err fault) ∷ ts) = Err (fault, at)
 root ts = misplaced_first ts
 
--- the tokens but for FDT_NOP, which may stand anywhere
+-- the tokens without FDT_NOP, which is allowed anywhere
 unfoldable pub without_nops : List Token → List Token
 without_nops [] = []
 without_nops (nop at ∷ ts) = without_nops ts

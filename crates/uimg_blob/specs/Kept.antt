@@ -12,8 +12,8 @@ use Rattle.uimg_blob.specs.Keys.{name_of}
 use Rattle.uimg_blob.specs.Roles.{Level, top, role_at, level_in, level_after, keys_of}
 use Rattle.uimg_blob.specs.Rows.{size}
 
--- A node: its offset, name, properties and role, the number of its parent, and the number of the first node that is neither
--- it nor below it.
+-- A node: its offset, name, properties and role, its parent's number, and the number of the first
+-- node after its descendants.
 pub record Kept : Type 0 where
   pub at : ℕ
   pub name : List ℕ
@@ -22,17 +22,17 @@ pub record Kept : Type 0 where
   pub parent : Option ℕ
   pub end : ℕ
 
--- the place of a name among those of some keys, if it is there
+-- the index of a name among those of some keys, if it is one of them
 abbrev pub slot : List ℕ → List Key → Option ℕ
 slot name [] = None
 slot name (key ∷ keys) = if bytes_eq (name_of key) name then Some 0 else option_map suc (slot name keys)
 
--- An answer is the place of a key's value among the eleven at most that are kept of a role.
+-- The result is the slot of the key's value, one of at most eleven that the role keeps.
 pub record IsSlot (role : Role) (key : Key) (result : Option ℕ) : Type 0 where
   pub within : IfSome result (λ i. i < 11)
   pub slot : result ≡ slot (name_of key) (keys_of role)
 
--- what is kept of nodes that are numbered from i on, under a parent
+-- what is kept of siblings that are numbered from i on and have this parent
 unfoldable pub kept : Level → Option ℕ → ℕ → Siblings → List Kept
 kept level parent i none = []
 kept level parent i (node at name own below after) =
@@ -51,20 +51,20 @@ kept level parent i (node at name own below after) =
 abbrev pub kept_of : Siblings → List Kept
 kept_of t = kept top None 0 t
 
--- the first property of a name
+-- the first property with this name
 abbrev pub property_named : List Property → List ℕ → Option Property
 property_named own name = find (λ p. bytes_eq name p.name) own
 
--- a place and a length of 32 bits in one word; no place is 0
+-- an offset and a length of 32 bits in one word; no offset is 0
 abbrev pub span_word : ℕ → ℕ → ℕ
 span_word place length = place * 2 ^ 32 + length
 
--- the word of a value, 0 where there is none
+-- the word of a value, 0 for none
 abbrev pub value_word : Option Property → ℕ
 value_word (Some p) = span_word p.place (length p.value)
 value_word None = 0
 
--- the word of a number, 0 where there is none
+-- the word of a number, 0 for none
 abbrev pub number_word : Option ℕ → ℕ
 number_word (Some i) = i + 1
 number_word None = 0
@@ -78,7 +78,7 @@ role_word Configurations = 4
 role_word Configuration = 5
 role_word Other = 6
 
--- the words of the first property of each key, and zeros up to eleven
+-- the words of the first property of each key, padded with zeros to eleven
 abbrev pub value_words : List Key → List Property → List ℕ
 value_words keys own = map (λ key. value_word (property_named own (name_of key))) keys ++ replicate (11 - length keys) 0
 
@@ -90,17 +90,17 @@ entry_of k = span_word (k.at + 4) (length k.name) ∷ number_word k.parent ∷ k
 abbrev pub entries : Siblings → List (List ℕ)
 entries t = map entry_of (kept_of t)
 
--- the number of the first of some nodes, numbered from i on, whose role is such
+-- the number of the first node with such a role, numbered from i on
 abbrev pub number_of_role : (Role → Bool) → ℕ → List Kept → Option ℕ
 number_of_role is_it i [] = None
 number_of_role is_it i (k ∷ ks) = if is_it k.role then Some i else number_of_role is_it (i + 1) ks
 
--- A node's name and values end at most at a place; no value stands at the file's first byte.
+-- A node's name and values end at `limit` or before; no value is at offset 0.
 pub record LiesIn (limit : ℕ) (k : Kept) : Type 0 where
   pub named : k.at + 4 + length k.name ≤ limit
   pub valued : AllByRecursion (λ p. (0 < p.place) × (p.place + length p.value ≤ limit)) k.own
 
--- a number, if its entry has a parent's word
+-- the number, if its entry has this parent word
 abbrev pub entry_under : ℕ → ℕ → Option (List ℕ) → Option ℕ
 entry_under number parent None = None
 entry_under number parent (Some e) = if get_or e 1 0 == parent then Some number else None

@@ -1,4 +1,5 @@
--- The properties that FIT gives a meaning (Flattened Image Tree format, "Root node", "'/images' node", "'/configurations' node").
+-- The properties to which FIT gives a meaning (Flattened Image Tree format, "Root node", "'/images'
+-- node", "'/configurations' node").
 use Rattle.std.specs.Prelude.{ℕ, List, [], ◌∷◌, Option, Bool, codes, find}
 use Rattle.std.specs.Borrow.{Bor}
 use Rattle.std.specs.List.{list_any}
@@ -47,11 +48,11 @@ pub record KeyRow : Type 0 where
   pub name : List ℕ
   pub key : Key
 
--- the key of the first row of that name
+-- the key in the first row with this name
 abbrev pub key_of_name : List KeyRow → List ℕ → Option Key
 key_of_name table name = option_map (λ r. r.key) (find (λ r. bytes_eq name r.name) table)
 
--- a row of the code's table
+-- a row of the table in the code
 abbrev pub key_row_of : Bor (List ℕ) × Key → KeyRow
 key_row_of r = record { name = r.0.now; key = r.1 }
 

@@ -1,4 +1,4 @@
--- What a node's name says of its role.
+-- What a node's name says about its role.
 use Rattle.std.specs.Prelude.{ℕ, List, if◌then◌else◌}
 use Rattle.uimg_blob.specs.declared.labels.Label.{Label}
 use Rattle.uimg_blob.specs.declared.labels.Label.TheVariants.{Images, Configurations, Hash, Other}

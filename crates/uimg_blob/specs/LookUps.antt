@@ -1,5 +1,5 @@
--- What is looked up in a tree of nodes (Flattened Image Tree format, "Root node", "'/images' node", "'/configurations' node",
--- "Hash nodes").
+-- Queries on a tree of nodes (Flattened Image Tree format, "Root node", "'/images' node",
+-- "'/configurations' node", "Hash nodes").
 use Rattle.std.specs.Prelude.{ℕ, List, [], ◌∷◌, Option, None, codes, find}
 use Rattle.std.specs.List.{filter}
 use Rattle.std.specs.Option.{option_map}
@@ -7,22 +7,22 @@ use Rattle.std.specs.Str.{bytes_eq}
 use Rattle.uimg_blob.specs.Roles.{is_hash}
 use Rattle.uimg_blob.specs.Plain.{NamedOf, NodesOf, no_node, a_node}
 
--- A node among those that follow it: its name, properties and children.
+-- A node: its name, properties and children.
 pub record NodeOf (V : Type 0) : Type 0 where
   pub name : List ℕ
   pub own : List (NamedOf V)
   pub below : NodesOf V
 
--- nodes that follow one another, as a list
+-- siblings as a list
 unfoldable pub listed : {V : Type 0} → NodesOf V → List (NodeOf V)
 listed no_node = []
 listed (a_node name own below after) = record { name = name; own = own; below = below } ∷ listed after
 
--- the value of the first property of a name
+-- the value of the first property with this name
 abbrev pub first : {V : Type 0} → List (NamedOf V) → List ℕ → Option V
 first own key = option_map (λ p. p.value) (find (λ p. bytes_eq key p.name) own)
 
--- the root's first child of a name
+-- the root's first child with this name
 abbrev pub child : {V : Type 0} → NodesOf V → List ℕ → Option (NodeOf V)
 child no_node key = None
 child (a_node name own below after) key = find (λ c. bytes_eq key c.name) (listed below)
@@ -35,6 +35,6 @@ images t = option_map (λ c. listed c.below) (child t (codes "images"))
 abbrev pub configurations : {V : Type 0} → NodesOf V → Option (NodeOf V)
 configurations t = child t (codes "configurations")
 
--- the hash nodes of an image: the children whose name begins with `hash`
+-- the hash nodes of an image: its children whose name begins with `hash`
 abbrev pub hashes : {V : Type 0} → NodeOf V → List (NodeOf V)
 hashes image = filter (λ h. is_hash h.name) (listed image.below)

@@ -1,4 +1,4 @@
--- How far a pass over the tokens is, and what a token does.
+-- The phases of a pass over the tokens, and what a token does.
 use Rattle.std.specs.Prelude.{map, ◌≡◌, ◌+◌, ℕ, ◌*◌, ◌-◌, ◌≤◌, ◌<◌, List, [], ◌∷◌, ◌++◌, length, Option, Some, None, Result, Ok, Err, Bool, true, false, IsTrue, OnOk, ⊤}
 use Rattle.std.specs.List.{AllByRecursion, sum_by}
 use Rattle.std.specs.Option.{is_some}
@@ -26,7 +26,7 @@ pub data Phase : Type 0 where
   inside : List Open → Phase
   after : Open → Phase
 
--- what the tokens give from here on
+-- the result of the remaining tokens
 abbrev pub left : Phase → List Token → Result Siblings Fault
 left (inside []) ts = begun ts
 left (inside (o ∷ ls)) ts = walk o ls ts
@@ -42,7 +42,7 @@ abbrev pub nodes_at : Phase → List Kept
 nodes_at (inside ls) = so_far ls
 nodes_at (after o) = kept_of (as_node o)
 
--- the place of the node that a token begins
+-- the offset of the node that a token begins
 abbrev pub begin_place : Token → List ℕ
 begin_place (begin_node at name) = at ∷ []
 begin_place (end_node at) = []
@@ -51,7 +51,7 @@ begin_place (nop at) = []
 begin_place (last at) = []
 begin_place (stray at fault) = []
 
--- the places of the nodes that some tokens begin
+-- the offsets of the nodes that the tokens begin
 abbrev pub begin_places : List Token → List ℕ
 begin_places [] = []
 begin_places (t ∷ ts) = begin_place t ++ begin_places ts
@@ -61,7 +61,7 @@ abbrev pub stack : Phase → List Open
 stack (inside ls) = ls
 stack (after o) = []
 
--- a token goes on, or is the last
+-- the pass goes on, or ends with a result
 pub data Step : Type 0 where
   on : Phase → Step
   stop : Result Siblings Fault → Step
@@ -97,17 +97,17 @@ step p (nop at) = on p
 step p (last at) = last_in p at
 step p (stray at fault) = stop (Err (fault, at))
 
--- a step, and then a token's where it goes on
+-- a step followed by the next token's, if the pass goes on
 abbrev pub then_step : Step → Token → Step
 then_step (on p) t = step p t
 then_step (stop r) t = stop r
 
--- a step, and then some tokens' in turn
+-- a step followed by those of the tokens in turn
 abbrev pub in_turn : Step → List Token → Step
 in_turn x [] = x
 in_turn x (t ∷ ts) = in_turn (then_step x t) ts
 
--- what a step and the tokens after it give
+-- the result of a step and the tokens after it
 abbrev pub then_left : Step → List Token → Result Siblings Fault
 then_left (on p) ts = left p ts
 then_left (stop r) ts = r
@@ -127,21 +127,21 @@ is_done (after o) (nop at) = false
 is_done (after o) (last at) = true
 is_done (after o) (stray at fault) = false
 
--- the innermost node's number, where a property may stand
+-- the number of the innermost node, if a property is allowed in it
 abbrev pub bare : Phase → Option ℕ
 bare (inside []) = None
 bare (inside (opened at name own none ∷ ls)) = Some (count ls)
 bare (inside (opened at name own (node a b c d e) ∷ ls)) = None
 bare (after o) = None
 
--- where children of the root stand, once the open one is done
+-- the level of further children of the root, once the open one is closed
 abbrev pub root_level : List Open → Level
 root_level [] = in_root false false
 root_level (o ∷ []) = next_level (o ∷ [])
 root_level (opened at name own below ∷ p ∷ []) = level_after (next_level (p ∷ [])) name
 root_level (o ∷ p ∷ q ∷ ls) = root_level (p ∷ q ∷ ls)
 
--- where the children of a node stand, by its role and the children that the root had
+-- the level of a node's children, from its role and the children that the root had already
 abbrev pub child_level : Role → Bool → Bool → Level
 child_level Root had_images had_configurations = in_root had_images had_configurations
 child_level Images had_images had_configurations = in_images
@@ -151,7 +151,7 @@ child_level Configurations had_images had_configurations = in_configurations
 child_level Configuration had_images had_configurations = elsewhere
 child_level Other had_images had_configurations = elsewhere
 
--- the number of the node `images`, with a node of a role and a number more
+-- the number of `images` after one more node
 abbrev pub noted_images : Role → ℕ → Option ℕ → Option ℕ
 noted_images Root n found = found
 noted_images Images n found = Some n
@@ -161,7 +161,7 @@ noted_images Configurations n found = found
 noted_images Configuration n found = found
 noted_images Other n found = found
 
--- the number of the node `configurations`, with a node of a role and a number more
+-- the number of `configurations` after one more node
 abbrev pub noted_configurations : Role → ℕ → Option ℕ → Option ℕ
 noted_configurations Root n found = found
 noted_configurations Images n found = found
@@ -171,7 +171,7 @@ noted_configurations Configurations n found = Some n
 noted_configurations Configuration n found = found
 noted_configurations Other n found = found
 
--- all kept places are above 0
+-- all kept values have offsets above 0
 abbrev pub IsPlaced : Open → Type 0
 IsPlaced (opened at name own below) = AllByRecursion (λ q. 0 < q.place) own
 
@@ -189,25 +189,25 @@ pub record Holds (p : Phase) (s : State) (es : List (List ℕ)) : Type 0 where
   pub images : s.images ≡ number_of_role is_images_role 0 (nodes_at p)
   pub configurations : s.configurations ≡ number_of_role is_configurations_role 0 (nodes_at p)
 
--- An answer is what a step does, unless memory was refused: then the entries stay.
+-- The result is that of the step, unless memory was refused: then the entries are unchanged.
 abbrev pub Goes : Step → Option ℕ → Result State IndexFault → List (List ℕ) → List (List ℕ) → Type 0
 Goes x following (Ok s) old new = (q : Phase) × (x ≡ on q) × (following ≡ Some s.at) × Holds q s new
 Goes x following (Err (Blob fault at)) old new = (new ≡ old) × (refuses_memory fault ≡ false → x ≡ stop (Err (fault, at)))
 Goes x following (Err Read) old new = new ≡ old
 
--- The same, where the last token ends the pass.
+-- As Goes, or the last token ends the pass.
 abbrev pub Acts : Step → Option ℕ → Result (Option State) IndexFault → List (List ℕ) → List (List ℕ) → Type 0
 Acts x following (Ok (Some s)) old new = Goes x following (Ok s) old new
 Acts x following (Ok None) old new = (o : Open) × (x ≡ stop (Ok (as_node o))) × (new ≡ entries (as_node o)) × (new ≡ old)
 Acts x following (Err e) old new = Goes x following (Err e) old new
 
--- Memory is refused where a node begins, at its place.
+-- Memory is refused only for a node that begins, at its offset.
 abbrev pub Refuses : {X : Type 0} → Token → Result X IndexFault → Type 0
 Refuses t (Ok x) = ⊤
 Refuses t (Err (Blob fault at)) = refuses_memory fault ≡ true → begin_place t ≡ at ∷ []
 Refuses t (Err Read) = ⊤
 
--- What a token names ends at most at a place; no value stands at the file's first byte.
+-- What a token names ends at `limit` or before; no value is at offset 0.
 abbrev pub TokenLies : ℕ → Token → Type 0
 TokenLies limit (begin_node at (Ok name)) = at + 4 + length name ≤ limit
 TokenLies limit (begin_node at (Err fault)) = ⊤
@@ -218,7 +218,7 @@ TokenLies limit (nop at) = ⊤
 TokenLies limit (last at) = ⊤
 TokenLies limit (stray at fault) = ⊤
 
--- What a token did, whichever a source that is not honest told.
+-- What a token did; of a source that is not honest, some token.
 pub record Steps (honest : Bool) (b : Blocks) (p : Phase) (at : ℕ) (result : Result (Option State) IndexFault) (old new : List (List ℕ)) : Type 0 where
   pub token : Token
   pub is : IsTrue honest → token ≡ token_at b at
@@ -226,18 +226,18 @@ pub record Steps (honest : Bool) (b : Blocks) (p : Phase) (at : ℕ) (result : R
   pub refuses : Refuses token result
   pub lies : OnOk result (TokenLies b.structure_end token)
 
--- An answer is a tree, whose entries these are, or its first fault, unless a read failed or memory was refused.
+-- The result is a tree with these entries, or its first fault, unless a read or a growth failed.
 abbrev pub Indexes : {X : Type 0} → Result Siblings Fault → Result X IndexFault → List (List ℕ) → Type 0
 Indexes whole (Ok x) es = (t : Siblings) × (whole ≡ Ok t) × (es ≡ entries t)
 Indexes whole (Err (Blob fault at)) es = refuses_memory fault ≡ false → whole ≡ Err (fault, at)
 Indexes whole (Err Read) es = ⊤
 
--- a sum over the tokens that are met from a place on, and over all
+-- a sum over the given tokens that are met
 abbrev pub sum_from : (Token → ℕ) → Result Siblings Fault → List Token → ℕ
 sum_from f whole ts = sum_by f (met_in whole ts)
 
--- The tokens before a place were taken, in turn from the beginning. What those from it on give is what all give; what was asked
--- for and will be, is what all tokens are counted for.
+-- The tokens before an offset were taken in turn. The remaining tokens give the result of all, and
+-- the costs so far and to come are within those of all tokens.
 pub record Rest (b : Blocks) (whole : Result Siblings Fault) (p : Phase) (at base asked nodes : ℕ) : Type 0 where
   pub fuel : ℕ
   pub enough : b.structure_end - at < fuel
@@ -249,38 +249,38 @@ pub record Rest (b : Blocks) (whole : Result Siblings Fault) (p : Phase) (at bas
   pub places : begin_places (tokens b) ≡ map (λ k. k.at) (nodes_at p) ++ begin_places (tokens_from fuel b (Some at))
   pub begun : nodes + sum_from begun_by whole (tokens_from fuel b (Some at)) ≤ sum_from begun_by whole (tokens b)
 
--- A pass is here: some phase holds, and where the source is honest, the rest of its tokens gives what all give.
+-- The state of a pass: some phase holds, and over an honest source `Rest` does.
 pub record Pass (honest : Bool) (b : Blocks) (whole : Result Siblings Fault) (s : State) (es : List (List ℕ)) (base asked : ℕ) : Type 0 where
   pub phase : Phase
   pub holds : Holds phase s es
   pub lies : AllByRecursion (LiesIn b.structure_end) (nodes_at phase)
   pub rest : IsTrue honest → Rest b whole phase s.at base asked (length es)
 
--- What a pass asked for and kept is within what the tokens are counted for.
+-- What a pass requested and kept is within the counts of the tokens.
 pub record Within (b : Blocks) (whole : Result Siblings Fault) (base asked : ℕ) (es : List (List ℕ)) : Type 0 where
   pub costs : asked ≤ base + 4 + sum_from weight whole (tokens b)
   pub nodes : length es ≤ sum_from begun_by whole (tokens b)
 
--- the tokens of a file; none where the header is refused
+-- the tokens of a file; none if the header is refused
 abbrev pub tokens_in : Result Blocks Fault → List Token
 tokens_in (Ok b) = tokens b
 tokens_in (Err e) = []
 
--- Where memory was refused, the entries are of nodes whose places are a prefix of all, and the fault's is the next.
+-- If memory was refused, the entries are those of the first nodes; the fault is at the next node.
 abbrev pub IsPrefix : {X : Type 0} → List Token → Result X IndexFault → List (List ℕ) → Type 0
 IsPrefix ts (Ok x) es = ⊤
 IsPrefix ts (Err (Blob fault at)) es = refuses_memory fault ≡ true
     → (ks : List Kept) × (es ≡ map entry_of ks) × (more : List ℕ) × (begin_places ts ≡ map (λ k. k.at) ks ++ at ∷ more)
 IsPrefix ts (Err Read) es = ⊤
 
--- A token is refused in a phase: it stops with the fault, or memory was refused for the node that it begins at the fault's
--- place. A read may fail at any token.
+-- A token is refused in a phase: the pass stops with the fault, or memory was refused for the node
+-- that it begins at the fault's offset. A read may fail at any token.
 abbrev pub IsRefused : Phase → Token → IndexFault → Type 0
 IsRefused p t (Blob fault at) = (refuses_memory fault ≡ false → step p t ≡ stop (Err (fault, at)))
     × (refuses_memory fault ≡ true → begin_place t ≡ at ∷ [])
 IsRefused p t Read = ⊤
 
--- All tokens before one went on, in turn from the beginning, and the entries are those so far; that one was refused.
+-- All tokens before one were taken in turn, and the entries are those so far; that one was refused.
 pub record StopsAt (ts : List Token) (fault : IndexFault) (es : List (List ℕ)) : Type 0 where
   pub taken : List Token
   pub token : Token
@@ -291,12 +291,12 @@ pub record StopsAt (ts : List Token) (fault : IndexFault) (es : List (List ℕ))
   pub entries : es ≡ entries_at phase
   pub refused : IsRefused phase token fault
 
--- A fault leaves the entries so far: none where the header is refused.
+-- After a fault the entries are those so far; none if the header is refused.
 abbrev pub IsSoFar : Result Blocks Fault → IndexFault → List (List ℕ) → Type 0
 IsSoFar (Ok b) fault es = StopsAt (tokens b) fault es
 IsSoFar (Err e) fault es = es ≡ []
 
--- The entries and numbers are those of a tree within the blocks; over an honest source that is the tree of the tokens.
+-- Entries and numbers of a tree inside the blocks; over an honest source it is that of the tokens.
 pub record Passed (honest : Bool) (b : Blocks) (s : State) (es : List (List ℕ)) : Type 0 where
   pub nodes : Siblings
   pub is : IsTrue honest → begun (tokens b) ≡ Ok nodes

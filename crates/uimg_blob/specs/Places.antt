@@ -1,4 +1,4 @@
--- Where the properties of a node stand, and what is met behind its name.
+-- The spans of a node's properties, and what is met after its name.
 use Rattle.std.specs.Prelude.{◌≡◌, ℕ, ◌+◌, ◌≤◌, List, Option, Some, None, Result, Ok, Err, IfOk, IsTrue, Bool, true, false, is_ok, is_err, cond, ⊤}
 use Rattle.uimg_texts.specs.Nul.{before_nul}
 use Rattle.uimg_texts.specs.Slices.{slice}
@@ -19,36 +19,36 @@ use Rattle.uimg_blob.specs.Plain.{NamedOf}
 use Rattle.uimg_blob.specs.Indexed.{property_span}
 use Rattle.uimg_blob.specs.Extents.{blocks_of}
 
--- what a place says in a file: a name, and where the value stands
+-- the name and the value's span that these spans give in a file
 abbrev pub read_place : List ℕ → PropertyPlace → NamedOf Span
 read_place file x = record { name = slice file x.name.place x.name.length; value = x.value }
 
--- the same of a property
+-- the name and the value's span of a property
 abbrev pub placed : Property → NamedOf Span
 placed p = record { name = p.name; value = property_span p }
 
--- Name and value end at most at a place, and the name has at most 255 bytes.
+-- Name and value end at `limit` or before, and the name has at most 255 bytes.
 pub record EndsBy (limit : ℕ) (x : PropertyPlace) : Type 0 where
   pub name : x.name.place + x.name.length ≤ limit
   pub value : x.value.place + x.value.length ≤ limit
   pub short : x.name.length ≤ 255
 
--- A property's token has a value of this length and a name from this place among the strings, or a fault.
+-- The property has a value of this length and its name at this offset, or the token this fault.
 abbrev pub IsHead : List ℕ → Extent → ℕ → Result Head BlobFault → Type 0
 IsHead bytes x at (Ok h) = property (blocks_of bytes x) at ≡ named (before_nul (reach bytes h.name (x.strings + x.strings_size))) (at + 12) (slice bytes (at + 12) h.length)
 IsHead bytes x at (Err fault) = property (blocks_of bytes x) at ≡ Err fault
 
--- A property's value lies in the structure block, and its name begins in the strings.
+-- The property's value is inside the structure block, and its name begins inside the strings block.
 pub record HeadWithin (x : Extent) (at : ℕ) (h : Head) : Type 0 where
   pub value : at + 12 + h.length ≤ x.structure_end
   pub name : h.name ≤ x.strings + x.strings_size
 
--- The name at a place below an end has so many bytes, or no NUL.
+-- The name at an offset before `end` has this length, or no NUL.
 abbrev pub NameIs : List ℕ → ℕ → ℕ → Option ℕ → Type 0
 NameIs bytes at end (Some n) = before_nul (reach bytes at end) ≡ Some (slice bytes at n)
 NameIs bytes at end None = before_nul (reach bytes at end) ≡ None
 
--- A place is that of the property of a token; there is none where the token is faulty.
+-- The spans are those of the token's property, or `None` if the token is faulty.
 abbrev pub FindsPlace : List ℕ → Result Property BlobFault → Option PropertyPlace → Type 0
 FindsPlace file found (Some x) = (p : Property) × (found ≡ Ok p) × (read_place file x ≡ placed p)
 FindsPlace file found None = is_ok found ≡ false
@@ -62,7 +62,7 @@ is_edge (nop at) = false
 is_edge (last at) = false
 is_edge (stray at fault) = false
 
--- the token may not stand among a node's properties
+-- the token is not allowed among a node's properties
 abbrev pub is_strange : Token → Bool
 is_strange (begin_node at name) = false
 is_strange (end_node at) = false
@@ -79,26 +79,26 @@ IsMet file at token Nop = token ≡ nop at
 IsMet file at token Edge = is_edge token ≡ true
 IsMet file at token Strange = is_strange token ≡ true
 
--- A place found at a token: its value stands behind the token's head, in the structure block, and its name, of at most 255
--- bytes, in the blob.
+-- The value is after the token's fields, inside the structure block; the name, of at most 255
+-- bytes, is inside the blob.
 pub record Lies (x : Extent) (at : ℕ) (found : PropertyPlace) : Type 0 where
   pub value : found.value.place ≡ at + 12
   pub within : at + 12 + found.value.length ≤ x.structure_end
   pub name : found.name.place + found.name.length ≤ x.totalsize
   pub short : found.name.length ≤ 255
 
--- What was met lies in the blocks, whatever the source said.
+-- What was met is inside the blocks, whatever the source returned.
 abbrev pub MetWithin : Extent → ℕ → Met → Type 0
 MetWithin x at (Place found) = Lies x at found
 MetWithin x at Nop = at + 4 ≤ x.structure_end
 MetWithin x at Edge = ⊤
 MetWithin x at Strange = ⊤
 
--- the most bytes that are asked for to meet a token: its word, and a property's head and its name
+-- the most bytes that are requested to meet a token: its word, and a property's fields and name
 abbrev pub meeting_cost : Token → ℕ
 meeting_cost t = cond (is_prop t) 268 4
 
--- What is met at a place of the blocks, and what that costs.
+-- What is met at an offset, and what that costs.
 pub record Meets (x : Extent) (at : ℕ) (result : Result Met SourceFault) (d e : Device) (h k : Held) : Type 0 where
   pub uses : UsesAtMost (meeting_cost (token_at (blocks_of d.bytes x) at)) (is_err result) d e
   pub room : k ≡ h

@@ -16,7 +16,7 @@ use Rattle.uimg_blob.specs.Labels.{label_of}
 use Rattle.uimg_blob.specs.Extents.{blocks_of}
 use Rattle.uimg_blob.specs.Tokens.{Token, Property, begin_node, end_node, prop, nop, last, stray, token_at}
 
--- the most bytes that are asked for to read a token: its word, and 256 of a name, and a property's length and name offset
+-- the most bytes requested to read a token: its word, 256 of a name, a property's two fields
 abbrev pub cost : Token → ℕ
 cost (begin_node at name) = 260
 cost (end_node at) = 4
@@ -25,14 +25,14 @@ cost (nop at) = 4
 cost (last at) = 4
 cost (stray at fault) = 4
 
--- The token begins a node whose name has so many bytes and this label.
+-- The token begins a node whose name has this length and label.
 pub record ReadsBeginNode (at : ℕ) (token : Token) (size : ℕ) (label : Label) : Type 0 where
   pub name : List ℕ
   pub is : token ≡ begin_node at (Ok name)
   pub sized : size ≡ length name
   pub labelled : label ≡ label_of name
 
--- The token is a property whose value has so many bytes, and this key.
+-- The token is a property with this key, whose value has this length.
 pub record ReadsProp (at : ℕ) (token : Token) (size : ℕ) (key : Option Key) : Type 0 where
   pub property : Property
   pub is : token ≡ prop at (Ok property)
@@ -40,7 +40,7 @@ pub record ReadsProp (at : ℕ) (token : Token) (size : ℕ) (key : Option Key) 
   pub sized : size ≡ length property.value
   pub keyed : key ≡ key_named property.name
 
--- This is read of a token at a place.
+-- This is read of a token at an offset.
 abbrev pub IsReadAs : ℕ → Token → ReadToken → Type 0
 IsReadAs at token (BeginNode size label) = ReadsBeginNode at token size label
 IsReadAs at token (BadBeginNode fault) = token ≡ begin_node at (Err fault)
@@ -51,7 +51,7 @@ IsReadAs at token Nop = token ≡ nop at
 IsReadAs at token End = token ≡ last at
 IsReadAs at token (Stray fault) = token ≡ stray at fault
 
--- What was read at a place lies below an end, whatever the source said; a name has fewer than 256 bytes.
+-- What was read ends at `end` or before, over any source; a name has fewer than 256 bytes.
 abbrev pub Stands : ℕ → ℕ → ReadToken → Type 0
 Stands end at (BeginNode size label) = (size < 256) × (at + 4 + size + 1 ≤ end)
 Stands end at (BadBeginNode fault) = ⊤
@@ -62,18 +62,18 @@ Stands end at Nop = at + 4 ≤ end
 Stands end at End = at + 4 ≤ end
 Stands end at (Stray fault) = ⊤
 
--- Some name has so many bytes and this label.
+-- Some name has this length and label.
 pub record HasName (size : ℕ) (label : Label) : Type 0 where
   pub name : List ℕ
   pub sized : size ≡ length name
   pub labelled : label ≡ label_of name
 
--- The fault of a token is not want of memory, and not one of building a blob.
+-- The fault of a token is neither refused memory nor a fault of building.
 pub record IsOfToken (fault : BlobFault) : Type 0 where
   pub no_memory : refuses_memory fault ≡ false
   pub no_making : is_too_large fault ≡ false
 
--- What was found is what some token is found as, whatever the source said; a fault is one of a token.
+-- What was read is possible for some token, over any source; a fault is one of a token.
 abbrev pub IsSound : ReadToken → Type 0
 IsSound (BeginNode size label) = HasName size label
 IsSound (BadBeginNode fault) = IsOfToken fault
@@ -84,13 +84,13 @@ IsSound Nop = ⊤
 IsSound End = ⊤
 IsSound (Stray fault) = IsOfToken fault
 
--- At most so many bytes were asked for, and what an honest device answers is so of its bytes.
+-- At most `most` bytes were requested, and P holds for an honest device's bytes and the result.
 pub record Answers {X : Type 0} (most : ℕ) (result : Result X SourceFault) (P : List ℕ → X → Type 0) (d e : Device) : Type 0 where
   pub uses : Asks most (is_err result) d e
   pub told : IsTrue d.honest → IfOk result (P d.bytes)
 
--- At most so many bytes were asked for, and the room stays. What was read stands below an end, whatever the source said; of an
--- honest device it is what the token is read as.
+-- At most `most` bytes were requested, and the room is unchanged. What was read ends at `end` or
+-- before, whatever the source returned; of an honest device it is the token.
 pub record ReadsToken (most : ℕ) (token : List ℕ → Token) (end at : ℕ) (result : Result ReadToken SourceFault) (d e : Device) (h k : Held) : Type 0 where
   pub uses : Asks most (is_err result) d e
   pub room : k ≡ h
@@ -98,16 +98,16 @@ pub record ReadsToken (most : ℕ) (token : List ℕ → Token) (end at : ℕ) (
   pub sound : IfOk result (λ found. IsSound found)
   pub stands : IfOk result (λ found. Stands end at found)
 
--- The same of the token at a place of the blocks, for which an honest device is asked for at most its cost.
+-- As ReadsToken at an offset; of an honest device at most the token's cost is requested.
 pub record ReadsTokenAt (x : Extent) (at : ℕ) (result : Result ReadToken SourceFault) (d e : Device) (h k : Held) : Type 0 where
   -- an honest device
   pub uses : UsesAtMost (cost (token_at (blocks_of d.bytes x) at)) (is_err result) d e
   -- any device
   pub most : e.asked ≤ d.asked + 268
   pub room : k ≡ h
-  -- what the definition of the structure block reads there
+  -- the token by the definition of the structure block
   pub read : IsTrue d.honest → IfOk result (λ found. IsReadAs at (token_at (blocks_of d.bytes x) at) found)
-  -- what some token says, over any device
+  -- what some token gives, over any device
   pub sound : IfOk result (λ found. IsSound found)
-  -- what it names lies inside the block, over any device
+  -- what it names is inside the block, over any device
   pub stands : IfOk result (λ found. Stands x.structure_end at found)

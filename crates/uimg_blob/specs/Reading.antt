@@ -1,7 +1,7 @@
--- What reading gives, or the first fault and its offset from the file's start.
+-- The result of reading, or the first fault with its offset from the start of the file.
 use Rattle.std.specs.Prelude.{ℕ}
 use Rattle.uimg_blob.specs.declared.fault.BlobFault.{BlobFault}
 
--- a fault, and where it stands
+-- a fault and its offset
 abbrev pub Fault : Type 0
 Fault = BlobFault × ℕ

@@ -1,5 +1,5 @@
--- What a node is, by its place in the tree (Flattened Image Tree format, "Root node", "'/images' node", "'/configurations'
--- node", "Hash nodes").
+-- What a node is by its place in the tree (Flattened Image Tree format, "Root node", "'/images'
+-- node", "'/configurations' node", "Hash nodes").
 use Rattle.std.specs.Prelude.{ℕ, ◌==◌, ◌||◌, List, [], ◌∷◌, Bool, true, false, codes, if◌then◌else◌}
 use Rattle.std.specs.List.{starts_with}
 use Rattle.std.specs.Str.{bytes_eq}
@@ -8,8 +8,8 @@ use Rattle.uimg_blob.specs.declared.keys.Key.TheVariants.{Description, Timestamp
 use Rattle.uimg_blob.specs.declared.roles.Role.{Role}
 use Rattle.uimg_blob.specs.declared.roles.Role.TheVariants.{Root, Images, Image, Hash, Configurations, Configuration, Other}
 
--- Where siblings stand: the root alone, the root's children (and whether an `images` and a `configurations` stand before
--- them), the children of these two, those of an image, and those of any other node.
+-- The level of siblings: the root alone, the root's children (and whether an `images` and a
+-- `configurations` come before), the children of these two, those of an image, and all others.
 pub data Level : Type 0 where
   top : Level
   in_root : Bool → Bool → Level
@@ -24,17 +24,17 @@ is_images name = bytes_eq name (codes "images")
 abbrev pub is_configurations : List ℕ → Bool
 is_configurations name = bytes_eq name (codes "configurations")
 
--- a hash node's name begins so
+-- the name is that of a hash node
 abbrev pub is_hash : List ℕ → Bool
 is_hash name = starts_with (λ a b. a == b) name (codes "hash")
 
--- the first child of the root of each of the two names has a meaning
+-- only the root's first `images` and first `configurations` have a role
 abbrev pub root_child : Bool → Bool → Bool → Bool → Role
 root_child had_images had_configurations true named_configurations = if had_images then Other else Images
 root_child had_images had_configurations false true = if had_configurations then Other else Configurations
 root_child had_images had_configurations false false = Other
 
--- what a node of a name is
+-- the role of a node with this name
 abbrev pub role_at : Level → List ℕ → Role
 role_at top name = Root
 role_at (in_root had_images had_configurations) name = root_child had_images had_configurations (is_images name) (is_configurations name)
@@ -43,7 +43,7 @@ role_at in_image name = if is_hash name then Hash else Other
 role_at in_configurations name = Configuration
 role_at elsewhere name = Other
 
--- where the children of a node stand
+-- the level of a node's children
 abbrev pub level_in : Role → Level
 level_in Root = in_root false false
 level_in Images = in_images
@@ -53,7 +53,7 @@ level_in Configurations = in_configurations
 level_in Configuration = elsewhere
 level_in Other = elsewhere
 
--- where the nodes after one of a name stand
+-- the level of the nodes after a node with this name
 abbrev pub level_after : Level → List ℕ → Level
 level_after top name = top
 level_after (in_root had_images had_configurations) name = in_root (had_images || is_images name) (had_configurations || is_configurations name)
@@ -62,7 +62,7 @@ level_after in_image name = in_image
 level_after in_configurations name = in_configurations
 level_after elsewhere name = elsewhere
 
--- the keys that are kept of a node
+-- the keys whose values are kept of a node
 abbrev pub keys_of : Role → List Key
 keys_of Root = Description ∷ Timestamp ∷ []
 keys_of Images = []

@@ -1,4 +1,4 @@
--- What is kept of the nodes so far, while some are open. Of several open nodes the innermost is the first.
+-- What is kept of the nodes so far, while some are open. The innermost open node comes first.
 use Rattle.std.specs.Prelude.{ℕ, ◌+◌, List, [], ◌∷◌, ◌++◌, map, Option, Some, None}
 use Rattle.uimg_blob.specs.Tokens.{Property}
 use Rattle.uimg_blob.specs.Grammar.{Siblings, none, node}
@@ -7,12 +7,12 @@ use Rattle.uimg_blob.specs.Roles.{Level, top, role_at, level_in, level_after}
 use Rattle.uimg_blob.specs.Rows.{size}
 use Rattle.uimg_blob.specs.Kept.{Kept, kept, entry_of}
 
--- where the nodes after some siblings stand
+-- the level of the nodes after some siblings
 unfoldable pub level_past : Level → Siblings → Level
 level_past level none = level
 level_past level (node at name own below after) = level_past (level_after level name) after
 
--- where the next child of the innermost open node stands
+-- the level of the next child of the innermost open node
 unfoldable pub next_level : List Open → Level
 next_level [] = top
 next_level (opened at name own below ∷ ls) = level_past (level_in (role_at (next_level ls) name)) below
@@ -27,7 +27,7 @@ abbrev pub innermost : List Open → Option ℕ
 innermost [] = None
 innermost (o ∷ ls) = Some (count ls)
 
--- a node that is still open, inside open nodes
+-- what is kept of a node that is still open, inside other open nodes
 abbrev pub open_row : List Open → ℕ → List ℕ → List Property → Kept
 open_row ls at name own = record { at = at; name = name; own = own; role = role_at (next_level ls) name; parent = innermost ls; end = 0 }
 

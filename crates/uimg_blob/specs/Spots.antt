@@ -1,10 +1,10 @@
--- The nodes of a file, each value with the place where it stands.
+-- The nodes of a file, each value with its offset.
 use Rattle.std.specs.Prelude.{ℕ, List, map}
 use Rattle.uimg_blob.specs.Tokens.{Property}
 use Rattle.uimg_blob.specs.Grammar.{Siblings, none, node}
 use Rattle.uimg_blob.specs.Plain.{NamedOf, NodesOf, no_node, a_node}
 
--- A value, and where it stands in the file.
+-- A value and its offset in the file.
 pub record Spot : Type 0 where
   pub place : ℕ
   pub bytes : List ℕ
@@ -12,7 +12,7 @@ pub record Spot : Type 0 where
 abbrev pub spot_of : Property → NamedOf Spot
 spot_of p = record { name = p.name; value = record { place = p.place; bytes = p.value } }
 
--- nodes that were read, without their own offsets
+-- the nodes that were read, without their own offsets
 unfoldable pub spots : Siblings → NodesOf Spot
 spots none = no_node
 spots (node at name own below after) = a_node name (map spot_of own) (spots below) (spots after)

@@ -1,10 +1,10 @@
--- Where the nodes of a tree stand in its table.
+-- The positions of siblings in the table of their tree.
 use Rattle.std.specs.Prelude.{◌≡◌, ℕ, List, ◌++◌, length, Option}
 use Rattle.uimg_blob.specs.Grammar.{Siblings}
 use Rattle.uimg_blob.specs.Roles.{Level}
 use Rattle.uimg_blob.specs.Rows.{Row, rows, table}
 
--- Siblings at a level and under a parent stand in a tree from a number on: their rows are the tree's.
+-- Siblings at a level and under a parent begin at this number: their rows are rows of the tree.
 pub record Stand (t : Siblings) (level : Level) (parent : Option ℕ) (number : ℕ) (s : Siblings) : Type 0 where
   pub before : List Row
   pub past : List Row

@@ -1,4 +1,4 @@
--- What is written of a text, and what a short one is read as.
+-- Texts as written, and short texts as read.
 use Rattle.std.specs.Prelude.{◌≡◌, ◌<◌, ℕ, List, length, take, Option, Some, None, Result, is_err, IsTrue}
 use Rattle.uimg_texts.specs.Nul.{text}
 use Rattle.uimg_texts.specs.Slices.{slice}
@@ -9,13 +9,13 @@ use Rattle.uimg_base.specs.Using.{Asks}
 use Rattle.uimg_base.specs.Writing.{Written}
 use Rattle.uimg_base.specs.Ranges.{is_read, is_put}
 
--- The text that some bytes begin with was written, no more than these bytes were asked for, and each fault was counted.
+-- The text in these bytes was written, at most these bytes were requested, faults were counted.
 pub record PutsText {X : Type 0} (at count : ℕ) (result : Result X MoveFault) (d e : Device) (s t : Sink) : Type 0 where
   pub uses : Asks count (is_read result) d e
   pub faults : RisesIf (is_put result) s.faults t.faults
   pub told : IsTrue d.honest → Written (is_err result) s t (text (slice d.bytes at count))
 
--- A text of at most 31 bytes is given: a list begins with it, and its length is told. A longer one is not.
+-- A text of at most 31 bytes is at the start of a list, with its length; a longer one is `None`.
 abbrev pub GivesShort : List ℕ → Option ℕ → List ℕ → Type 0
 GivesShort text (Some n) to = (n ≡ length text) × (n < 32) × (take n to ≡ text)
 GivesShort text None to = 31 < length text

@@ -6,13 +6,13 @@ use Rattle.uimg_blob.specs.declared.fault.BlobFault.{BlobFault}
 use Rattle.uimg_blob.specs.declared.fault.BlobFault.TheVariants.{BadToken, Truncated, BadNodeName, BadPropertyName}
 use Rattle.uimg_texts.specs.Numbers.{be32, up4}
 
--- A property: its name, where its value stands in the file, and the value.
+-- A property: its name, the offset of its value in the file, and the value.
 pub record Property : Type 0 where
   pub name : List ℕ
   pub place : ℕ
   pub value : List ℕ
 
--- A token and its offset. What follows a token that begins a node or a property may be faulty; a stray is no token.
+-- A token with its offset. A node's name and a property may be faulty; a stray is not a token.
 pub data Token : Type 0 where
   begin_node : ℕ → Result (List ℕ) BlobFault → Token
   end_node : ℕ → Token
@@ -21,7 +21,7 @@ pub data Token : Type 0 where
   last : ℕ → Token
   stray : ℕ → BlobFault → Token
 
--- where a token stands
+-- the offset of a token
 abbrev pub offset : Token → ℕ
 offset (begin_node at name) = at
 offset (end_node at) = at
@@ -30,7 +30,7 @@ offset (nop at) = at
 offset (last at) = at
 offset (stray at fault) = at
 
--- The file, where its structure block begins and ends, and where its strings begin and how many bytes they have.
+-- The file, the start and end of its structure block, and the start and size of its strings block.
 pub record Blocks : Type 0 where
   pub bytes : List ℕ
   pub structure : ℕ
@@ -38,21 +38,21 @@ pub record Blocks : Type 0 where
   pub strings : ℕ
   pub strings_size : ℕ
 
--- the bytes from a place that lie below an end, at most 256: a name and its NUL
+-- the bytes from an offset up to `end`, at most 256: a name and its NUL
 abbrev pub reach : List ℕ → ℕ → ℕ → List ℕ
 reach bytes at end = take 256 (take (end - at) (drop at bytes))
 
--- A node's name ends with a NUL; it is too long where there is none in 256 bytes, and cut where the block ends before.
+-- A node's name ends with a NUL. If there is none in 256 bytes it is too long, in fewer truncated.
 abbrev pub node_name : Option (List ℕ) → ℕ → Result (List ℕ) BlobFault
 node_name (Some name) size = Ok name
 node_name None size = if size == 256 then Err BadNodeName else Err Truncated
 
--- the property of a name that is found among the strings
+-- the property, if its name is in the strings block
 abbrev pub named : Option (List ℕ) → ℕ → List ℕ → Result Property BlobFault
 named (Some name) place value = Ok (record { name = name; place = place; value = value })
 named None place value = Err BadPropertyName
 
--- The property of a token: a length, an offset among the strings, and a value of that length.
+-- The property of a token: a length, an offset in the strings block, and a value of that length.
 abbrev pub property : Blocks → ℕ → Result Property BlobFault
 property b at =
     if nat_lt b.structure_end (at + 12) then Err Truncated
@@ -66,7 +66,7 @@ property b at =
 abbrev pub begins : ℕ → List ℕ → Token
 begins at near = begin_node at (node_name (before_nul near) (length near))
 
--- FDT_BEGIN_NODE, FDT_END_NODE, FDT_PROP, FDT_NOP, FDT_END, or no token
+-- FDT_BEGIN_NODE, FDT_END_NODE, FDT_PROP, FDT_NOP, FDT_END, or not a token
 abbrev pub by_word : Blocks → ℕ → ℕ → Token
 by_word b at word =
     if word == 1 then begins at (reach b.bytes (at + 4) b.structure_end)
@@ -76,11 +76,11 @@ by_word b at word =
     else if word == 9 then last at
     else stray at BadToken
 
--- the token at a place, unless the block ends inside its word
+-- the token at an offset, unless the block ends inside its word
 unfoldable pub token_at : Blocks → ℕ → Token
 token_at b at = if nat_lt b.structure_end (at + 4) then stray at Truncated else by_word b at (be32 b.bytes at)
 
--- where the next token stands: none after FDT_END and after a fault
+-- the offset of the next token: none after FDT_END or a fault
 abbrev pub next : Token → Option ℕ
 next (begin_node at (Ok name)) = Some (at + 4 + up4 (length name + 1))
 next (begin_node at (Err fault)) = None
@@ -91,12 +91,12 @@ next (nop at) = Some (at + 4)
 next (last at) = None
 next (stray at fault) = None
 
--- the tokens from a place on, at most n
+-- the tokens from an offset on, at most n
 unfoldable pub tokens_from : ℕ → Blocks → Option ℕ → List Token
 tokens_from n b None = []
 tokens_from zero b (Some at) = []
 tokens_from (suc n) b (Some at) = token_at b at ∷ tokens_from n b (next (token_at b at))
 
--- The tokens of the block. Each has a word, so there are no more than the block has bytes, and a stray one.
+-- The tokens of the block. Each takes a word, so there are at most as many as bytes, and one stray.
 abbrev pub tokens : Blocks → List Token
 tokens b = tokens_from (suc (b.structure_end - b.structure)) b (Some b.structure)

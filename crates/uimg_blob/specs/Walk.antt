@@ -1,4 +1,4 @@
--- The grammar in one pass over the tokens, with the nodes that are open.
+-- The grammar as one pass over the tokens, with a stack of open nodes.
 use Rattle.std.specs.Prelude.{ℕ, List, [], ◌∷◌, ◌++◌, Result, Ok, Err}
 use Rattle.uimg_blob.specs.declared.fault.BlobFault.{BlobFault}
 use Rattle.uimg_blob.specs.declared.fault.BlobFault.TheVariants.{BadNesting}
@@ -10,25 +10,25 @@ use Rattle.uimg_blob.specs.Grammar.{Siblings, none, node}
 pub data Open : Type 0 where
   opened : ℕ → List ℕ → List Property → Siblings → Open
 
--- siblings, and more of them
+-- siblings followed by more siblings
 abbrev pub join : Siblings → Siblings → Siblings
 join none more = more
 join (node at name own below after) more = node at name own below (join after more)
 
--- an open node with a child more
+-- an open node with one more child
 abbrev pub with_child : Open → ℕ → List ℕ → List Property → Siblings → Open
 with_child (opened at name own below) child_at child_name child_own child_below =
     opened at name own (join below (node child_at child_name child_own child_below none))
 
--- a node is closed inside its parent
+-- a node closed inside its parent
 abbrev pub close : Open → Open → Open
 close (opened at name own below) parent = with_child parent at name own below
 
--- a node that is closed with no parent
+-- a node closed without a parent
 abbrev pub as_node : Open → Siblings
 as_node (opened at name own below) = node at name own below none
 
--- a property may stand only before the first child
+-- a property is allowed only before the first child
 abbrev pub at_prop : ℕ → Result Property BlobFault → Open → (Open → Result Siblings Fault) → Result Siblings Fault
 at_prop at (Ok p) (opened place name own none) go_on = go_on (opened place name (own ++ p ∷ []) none)
 at_prop at (Err fault) (opened place name own none) go_on = Err (fault, at)
@@ -44,7 +44,7 @@ finished root (end_node at ∷ ts) = Err (BadNesting, at)
 finished root (prop at p ∷ ts) = Err (BadNesting, at)
 finished root (stray at fault ∷ ts) = Err (fault, at)
 
--- inside an open node and the open nodes outside it
+-- inside an open node and those around it
 unfoldable pub walk : Open → List Open → List Token → Result Siblings Fault
 walk o ls [] = Err (BadNesting, 0)
 walk o ls (nop at ∷ ts) = walk o ls ts

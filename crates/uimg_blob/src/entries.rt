@@ -10,8 +10,8 @@ use crate::slots::slot_of;
 use std::alloc::{AllocError, Allocator};
 use uimg_base::Room;
 
-// The words of an entry: where the node's name stands, its parent's number, the number of the first
-// node that is neither it nor below it, its role, and where the values of its keys stand.
+// The words of an entry: the span of the node's name, its parent's number, the number of the first
+// node after its descendants, its role, and the spans of its keys' values.
 pub(crate) const NAME: usize = 0;
 
 pub(crate) const PARENT: usize = 1;
@@ -22,7 +22,7 @@ pub(crate) const ROLE: usize = 3;
 
 pub(crate) const VALUES: usize = 5;
 
-// A place and a length in one word.
+// Packs an offset and a length into one word.
 fn span_word(place: u64, length: u32) -> u64
     requires { place < 2 ^ 32 }
     ensures { result ≡ span_word place length }
@@ -30,7 +30,7 @@ fn span_word(place: u64, length: u32) -> u64
     place * 0x1_0000_0000 + length as u64
 }
 
-// A number in one word, 0 for none.
+// Packs a number into one word, 0 for none.
 fn number_word(number: Option<usize>) -> u64
     requires { IfSome number (λ i. i < 2 ^ 63) }
     ensures { result ≡ number_word number }
@@ -55,7 +55,7 @@ fn role_word(role: Role) -> u64
     }
 }
 
-// The number that a word stands for.
+// Unpacks a number from a word.
 pub(crate) fn number_in(word: u64) -> Option<usize>
     ensures { word ≡ number_word result }
 {
@@ -66,7 +66,7 @@ pub(crate) fn number_in(word: u64) -> Option<usize>
     }
 }
 
-// The role that a word stands for.
+// Unpacks a role from a word.
 pub(crate) fn role_in(word: u64) -> Role
     ensures { (role : Role) → word ≡ role_word role → result ≡ role }
 {
@@ -81,7 +81,7 @@ pub(crate) fn role_in(word: u64) -> Role
     }
 }
 
-// Adds the entry of a node that begins at a place inside its parent.
+// Adds the entry of a node whose token is at offset `at`, under its parent.
 pub(crate) fn enter<A: Allocator>(
     room: &mut Room<A>,
     at: u64,
@@ -101,7 +101,7 @@ pub(crate) fn enter<A: Allocator>(
     room.add(entry)
 }
 
-// Ends the node of a number: all entries after it are of nodes below it.
+// Ends a node: all entries after its own are of its descendants.
 pub(crate) fn leave<A: Allocator>(room: &mut Room<A>, number: usize)
     requires { number < length room.old.entries }
     ensures { room.new ≡ record room.old { entries = ended_entries number room.old.entries } }
@@ -111,8 +111,8 @@ pub(crate) fn leave<A: Allocator>(room: &mut Room<A>, number: usize)
     room.set(number, entry);
 }
 
-// Keeps where the value of a property of the innermost node stands, unless the property has no key,
-// the node's role keeps none of that key, or it has a property of that name.
+// Stores the span of a property's value in the innermost node's entry, unless it has no key, the
+// node's role keeps no value of that key, or the node already has a property with that name.
 pub(crate) fn keep<A: Allocator>(
     room: &mut Room<A>,
     number: usize,

@@ -1,4 +1,4 @@
-//! The header of a blob: where its blocks lie.
+//! The header of a blob: the offsets of its blocks.
 
 ghost use Rattle.std.specs.Prelude.{◌≡◌, ℕ, ◌+◌, ◌≤◌, List, length, false, IsTrue, IfOk};
 ghost use Rattle.uimg_blob.specs.Extents.{IsInside, HeadsFile, GivesBlocks};
@@ -8,28 +8,28 @@ ghost use Rattle.uimg_base.specs.Using.{Asks};
 use crate::fault::{BlobFault, IndexFault};
 use uimg_base::{Source, number_at};
 
-/// What each blob begins with (Devicetree Specification, section 5.2).
+/// The magic number of a blob (Devicetree Specification, section 5.2).
 pub const BLOB_MAGIC: u32 = 0xd00d_feed;
 
 // The version of the format that is read.
 const VERSION: u32 = 17;
 
-/// Where the blocks of a blob lie: places are counted in bytes from the file's start.
+/// The blocks of a blob, as offsets in bytes from the start of the file.
 #[derive(Clone, Copy, Debug, PartialEq, Eq)]
 pub(crate) struct Extent {
-    /// How many bytes the blob has.
+    /// The size of the blob in bytes.
     pub(crate) totalsize: u64,
-    /// Where the structure block begins.
+    /// The offset of the structure block.
     pub(crate) structure: u64,
-    /// Where the structure block ends.
+    /// The end of the structure block.
     pub(crate) structure_end: u64,
-    /// Where the strings block begins.
+    /// The offset of the strings block.
     pub(crate) strings: u64,
-    /// How many bytes the strings have.
+    /// The size of the strings block in bytes.
     pub(crate) strings_size: u64,
 }
 
-// Where the blocks lie by the 40 bytes of the header, in a file of so many bytes.
+// Finds the blocks by the 40 bytes of the header of a file of `size` bytes.
 #[tactic(auto, unfolding(crate::specs::Blob::blocks))]
 fn extent_in(bytes: &[u8; 40], size: u64) -> Result<Extent, IndexFault>
     requires { 40 ≤ size }
@@ -72,12 +72,13 @@ fn extent_in(bytes: &[u8; 40], size: u64) -> Result<Extent, IndexFault>
     }
 }
 
-// Where the blocks of a blob lie, by its header (Devicetree Specification, section 5.2), which is read
-// at once. The first that holds is the fault: `TooShort` for a source of fewer than 40 bytes,
-// `BadMagic` where they do not begin with `0xd00dfeed`, `BadVersion` for a version below 17 or a last
-// compatible version above 17, `BlockOutside` where the blob lies outside the source, a block outside
-// the blob, or the structure block not at a multiple of 4. `Read` where a read failed. The blocks lie
-// inside the source, whatever it answers.
+// Reads the header of a blob (Devicetree Specification, section 5.2) at once. Returns its blocks,
+// which are inside the source, whatever it returns.
+//
+// Returns the first of these faults: `TooShort` if the source has fewer than 40 bytes; `BadMagic`
+// if they do not begin with `0xd00dfeed`; `BadVersion` if the version is below 17 or the last
+// compatible version above 17; `BlockOutside` if the blob is outside the source, a block outside
+// the blob, or the structure block not at a multiple of 4. Returns `Read` if the read failed.
 #[tactic(auto, unfolding(crate::specs::Blob::blocks), using(crate::proofs::NumberLaws::heads))]
 pub(crate) fn read_extent<S: Source>(source: &mut S) -> Result<Extent, IndexFault>
     ensures uses { Asks 40 (is_read result) (S.device source.old) (S.device source.new) }

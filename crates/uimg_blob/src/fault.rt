@@ -1,10 +1,10 @@
-//! What is refused, and why.
+//! The faults of this crate.
 
 use thiserror::Error;
 use uimg_base::SourceFault;
 
-/// What is wrong with a blob, or with a tree that one is to be made of. Its text is the beginning of
-/// the line that the program prints; the offset follows.
+/// What is wrong with a blob, or with a tree to be written as one. The text is the start of the
+/// line that the program prints; the offset follows.
 #[derive(Clone, Copy, Debug, PartialEq, Eq, Error)]
 pub enum BlobFault {
     /// The file has fewer than 40 bytes.
@@ -16,10 +16,10 @@ pub enum BlobFault {
     /// The version is below 17, or the last compatible version above 17.
     #[error("B3 bad version")]
     BadVersion,
-    /// A block lies outside the blob, or the blob outside the file.
+    /// A block is outside the blob, or the blob outside the file.
     #[error("B4 block outside")]
     BlockOutside,
-    /// A word of the structure block is no token.
+    /// A word of the structure block is not a token.
     #[error("B5 bad token")]
     BadToken,
     /// The structure block ends inside a token.
@@ -28,10 +28,10 @@ pub enum BlobFault {
     /// A node's name has more than 255 bytes, or a NUL.
     #[error("B7 bad node name")]
     BadNodeName,
-    /// A token stands where it may not.
+    /// A token is not allowed at its offset.
     #[error("B8 bad nesting")]
     BadNesting,
-    /// A property's name has more than 255 bytes, or a NUL, or is not among the strings.
+    /// A property's name has more than 255 bytes, or a NUL, or is not in the strings block.
     #[error("B9 bad property name")]
     BadPropertyName,
     /// The blob has more than 4294967295 bytes.
@@ -45,7 +45,7 @@ pub enum BlobFault {
 /// Why a blob is not indexed.
 #[derive(Clone, Copy, Debug, PartialEq, Eq, Error)]
 pub enum IndexFault {
-    /// The blob is refused; the offset is counted from the file's start.
+    /// The blob is refused; the offset is from the start of the file.
     #[error("{0} at {1}")]
     Blob(BlobFault, u64),
     /// A read failed.

@@ -18,7 +18,7 @@ use crate::tokens::read_token;
 use std::alloc::Allocator;
 use uimg_base::{Room, Source};
 
-// Reads a token and does what it says; `None` where it ends the tree.
+// Reads a token and acts on it. Returns `None` if it ends the tree.
 fn step<S: Source, A: Allocator>(
     source: &mut S,
     room: &mut Room<A>,
@@ -39,7 +39,7 @@ fn step<S: Source, A: Allocator>(
     Ok(Some(next))
 }
 
-// Goes over the tokens from the structure block's first to the last or the first fault.
+// Reads the tokens of the structure block up to the last, or up to the first fault.
 fn pass<S: Source, A: Allocator>(
     source: &mut S,
     room: &mut Room<A>,
@@ -61,23 +61,23 @@ fn pass<S: Source, A: Allocator>(
     Ok(state)
 }
 
-/// Indexes the devicetree blob of a source (Devicetree Specification, chapter 5): the room is cleared
-/// and given one entry for each node, in reading order.
+/// Indexes the devicetree blob of a source (Devicetree Specification, chapter 5). Clears the room,
+/// then adds one entry for each node, in reading order.
 ///
-/// The first fault in the order of the bytes is told, with its offset from the file's start: those of
-/// the header (`TooShort`, `BadMagic`, `BadVersion`, `BlockOutside`), and then of the tokens
-/// (`BadToken`, `Truncated`, `BadNodeName`, `BadNesting`, `BadPropertyName`). `OutOfMemory` comes
-/// exactly where the room refused to grow, at the node that it had no entry for. `Read` comes exactly
-/// where a read failed. `TooLarge`, which is only of building a blob, never comes.
+/// Returns the first fault in byte order, with its offset from the start of the file: of the header
+/// (`TooShort`, `BadMagic`, `BadVersion`, `BlockOutside`), then of the tokens (`BadToken`,
+/// `Truncated`, `BadNodeName`, `BadNesting`, `BadPropertyName`). Returns `OutOfMemory` if and only
+/// if the room refused to grow, with the offset of the node that got no entry. Returns `Read` if
+/// and only if a read failed. Never returns `TooLarge`, a fault of building.
 ///
-/// At `Ok` each name and each value ends inside the blob, and the blob inside the source, whatever the
-/// source answers. Over an honest source blob and entries are then those of the file's tree, and the
-/// blob has the size that its header says. After a refusal the entries are, over an honest source,
-/// those of the nodes met before it, each with what was met of it; after a refused header there are
-/// none. At which token a read failed is shown by tests alone.
+/// At `Ok` each name and value ends inside the blob, and the blob inside the source, whatever the
+/// source returns. Over an honest source, blob and entries are those of the file's tree, and the
+/// blob has the size in its header. After a refusal over an honest source, the entries are those of
+/// the nodes met before it, each with what was met of it; after a refused header there are none. At
+/// which token a read failed is only tested.
 ///
-/// No value is read: an honest source is asked for at most 44 bytes, 264 for each node that was met,
-/// 268 for each property and 4 for each NOP. The room takes memory for at most these nodes, and over
+/// No value is read. Of an honest source it requests at most 44 bytes, 264 for each node met, 268
+/// for each property and 4 for each NOP. The room takes memory for at most these nodes, and over
 /// any source at most 8320 bytes and 16 for each byte of the source.
 pub fn index<S: Source, A: Allocator>(
     source: &mut S,

@@ -1,14 +1,14 @@
-//! The properties that FIT gives a meaning, and their names.
+//! The properties to which FIT gives a meaning, and their names.
 
 ghost use Rattle.std.specs.Prelude.{◌≡◌, map};
 ghost use Rattle.uimg_blob.specs.Keys.{key_of_name, key_row_of, key_named};
 
-/// A property that FIT gives a meaning. Each variant is named after its property.
+/// A property to which FIT gives a meaning. Each variant is named after its property.
 #[derive(Clone, Copy, Debug, PartialEq, Eq)]
 pub enum Key {
     /// `description`: a text.
     Description,
-    /// `timestamp`: seconds since 1970, a cell.
+    /// `timestamp`: seconds since 1970, one cell.
     Timestamp,
     /// `data`: the payload itself.
     Data,
@@ -24,39 +24,39 @@ pub enum Key {
     Load,
     /// `entry`: an address of one or two cells.
     Entry,
-    /// `data-size`: the payload's length, a cell.
+    /// `data-size`: the payload's length, one cell.
     DataSize,
-    /// `data-offset`: where the payload stands after the blob, a cell.
+    /// `data-offset`: the payload's offset after the blob, one cell.
     DataOffset,
-    /// `data-position`: where the payload stands in the file, a cell.
+    /// `data-position`: the payload's offset in the file, one cell.
     DataPosition,
     /// `algo`: a text.
     Algo,
     /// `value`: a digest.
     Value,
-    /// `default`: a configuration's name.
+    /// `default`: the name of a configuration.
     Default,
-    /// `kernel`: an image's name.
+    /// `kernel`: the name of an image.
     Kernel,
-    /// `ramdisk`: an image's name.
+    /// `ramdisk`: the name of an image.
     Ramdisk,
     /// `fdt`: names of images.
     Fdt,
     /// `loadables`: names of images.
     Loadables,
-    /// `firmware`: an image's name.
+    /// `firmware`: the name of an image.
     Firmware,
-    /// `fpga`: an image's name.
+    /// `fpga`: the name of an image.
     Fpga,
-    /// `setup`: an image's name.
+    /// `setup`: the name of an image.
     Setup,
-    /// `standalone`: an image's name.
+    /// `standalone`: the name of an image.
     Standalone,
-    /// `script`: an image's name.
+    /// `script`: the name of an image.
     Script,
 }
 
-// The names of the properties that FIT gives a meaning.
+// The names of the properties to which FIT gives a meaning.
 const NAMES: [(&str, Key); 24] = [
     ("description", Key::Description),
     ("timestamp", Key::Timestamp),
@@ -84,7 +84,7 @@ const NAMES: [(&str, Key); 24] = [
     ("script", Key::Script),
 ];
 
-// The key of the first row of a name.
+// Looks up the key in the first row with this name.
 fn key_in(rows: &[(&str, Key)], name: &[u8]) -> Option<Key>
     ensures { result ≡ key_of_name (map key_row_of rows.now) name.now }
 {
@@ -96,7 +96,7 @@ fn key_in(rows: &[(&str, Key)], name: &[u8]) -> Option<Key>
     None
 }
 
-// The key of a property's name, `None` for a name that FIT gives no meaning.
+// Looks up the key of a property's name. Returns `None` if FIT gives the name no meaning.
 pub(crate) fn key_named(name: &[u8]) -> Option<Key>
     ensures { result ≡ key_named name.now }
 {

@@ -1,9 +1,9 @@
-//! What a node's name says of its role.
+//! What a node's name says about its role.
 
 ghost use Rattle.std.specs.Prelude.{◌≡◌};
 ghost use Rattle.uimg_blob.specs.Labels.{label_of};
 
-/// What a node's name says of its role.
+/// What a node's name says about its role.
 #[derive(Clone, Copy, Debug, PartialEq, Eq)]
 pub(crate) enum Label {
     /// `images`.
@@ -16,7 +16,7 @@ pub(crate) enum Label {
     Other,
 }
 
-// The label of a name.
+// Returns the label of a name.
 pub(crate) fn label_of(name: &[u8]) -> Label
     ensures { result ≡ label_of name.now }
 {

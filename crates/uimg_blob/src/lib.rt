@@ -1,10 +1,9 @@
-//! Flattened devicetree blobs: their header, the tokens of the structure block, and the index of
-//! their nodes.
+//! Flattened devicetree blobs: the header, the tokens of the structure block, the index of nodes.
 //!
-//! The index is made in one pass. Lemmas show that this pass is the grammar (`proofs/WalkLaws.antt`),
-//! what it costs (`CostLaws`), that the properties of a node are what stands behind its name
-//! (`OwnLaws`), and that the first node of the role `images` or `configurations` is the root's first
-//! child of that name (`NumberedLaws`). `Examples` tries the definitions on worked blobs.
+//! The index is made in one pass. Lemmas prove that this pass follows the grammar
+//! (`proofs/WalkLaws.antt`), what it costs (`CostLaws`), that a node's properties are those after
+//! its name (`OwnLaws`), and that the first node of the role `images` or `configurations` is the
+//! root's first child of that name (`NumberedLaws`). `Examples` has worked blobs.
 #![tactic(auto)]
 
 mod entries;

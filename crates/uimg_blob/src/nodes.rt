@@ -1,4 +1,4 @@
-//! The indexed blob, and what is looked up in it.
+//! The indexed blob, and queries on it.
 
 ghost use Rattle.std.specs.Prelude.{◌≡◌, ℕ, ◌+◌, ◌*◌, ◌^◌, ◌<◌, ◌≤◌, List, length, Option, IfSome};
 ghost use Rattle.std.specs.List.{slice_get};
@@ -15,11 +15,10 @@ use crate::slots::slot_of;
 use std::alloc::Allocator;
 use uimg_base::{Room, Span};
 
-/// A devicetree blob whose nodes have entries in a room, and are numbered from 0 in reading order.
+/// A devicetree blob whose nodes have entries in a room and are numbered from 0 in reading order.
 ///
-/// What is looked up in it is exactly what the tree has that `index` read. The caller sees to it that
-/// the room's entries are those that `index` left, and that a node's number is below their count. No
-/// look-up reads or takes memory.
+/// Queries return exactly what is in the tree that `index` read. The room's entries must be those
+/// that `index` left, and a node's number below their count. No query reads or takes memory.
 #[derive(Clone, Copy, Debug, PartialEq, Eq)]
 pub struct Blob {
     pub(crate) totalsize: u32,
@@ -27,7 +26,7 @@ pub struct Blob {
     pub(crate) configurations: Option<usize>,
 }
 
-// Where a word says that a name or a value stands.
+// Unpacks the span of a name or a value from a word.
 fn span_in(word: u64) -> Span
     ensures { (place size : ℕ) → size < 2 ^ 32 → word ≡ span_word place size →
         result ≡ record { place = place; length = size } }
@@ -38,7 +37,7 @@ fn span_in(word: u64) -> Span
     }
 }
 
-// Where a word says that a value stands; there is none where it is 0.
+// Unpacks the span of a value from a word; 0 is none.
 fn value_in(word: u64) -> Option<Span>
     ensures { (found : Option Property) →
         IfSome found (λ p. (0 < p.place) × (length p.value < 2 ^ 32)) →
@@ -47,7 +46,7 @@ fn value_in(word: u64) -> Option<Span>
     if word == 0 { None } else { Some(span_in(word)) }
 }
 
-// A number, if it is that of a node whose parent has this word.
+// Returns the number if its node has the parent of this word.
 fn node_under<A: Allocator>(room: &Room<A>, number: usize, parent: u64) -> Option<usize>
     ensures under { result ≡ entry_under number parent (slice_get room.now.entries number) }
     ensures within { IfSome result (λ i. (i ≡ number) × (i < length room.now.entries)) }
@@ -60,28 +59,28 @@ fn node_under<A: Allocator>(room: &Room<A>, number: usize, parent: u64) -> Optio
 }
 
 impl Blob {
-    /// How many bytes the blob has, by its header.
+    /// Returns the size of the blob in bytes, from its header.
     pub fn totalsize(&self) -> u32
         ensures { result ≡ self.now.totalsize }
     {
         self.totalsize
     }
 
-    /// The number of the root's first child `images`.
+    /// Returns the number of the root's first child `images`.
     pub fn images(&self) -> Option<usize>
         ensures { result ≡ self.now.images }
     {
         self.images
     }
 
-    /// The number of the root's first child `configurations`.
+    /// Returns the number of the root's first child `configurations`.
     pub fn configurations(&self) -> Option<usize>
         ensures { result ≡ self.now.configurations }
     {
         self.configurations
     }
 
-    /// The number of a node's first child, a later one that is below the count of entries.
+    /// Returns the number of a node's first child, greater than the node's and below the count.
     pub fn first_child<A: Allocator>(&self, room: &Room<A>, node: usize) -> Option<usize>
         requires { node < length room.now.entries }
         ensures child { OfRow self.now room.now.entries node (λ row. result ≡ row.first_child) }
@@ -93,8 +92,8 @@ impl Blob {
         node_under(room, node + 1, node as u64 + 1)
     }
 
-    /// The number of the next node that has the same parent, a later one that is below the count of
-    /// entries.
+    /// Returns the number of the next node with the same parent. It is greater than the node's and
+    /// below the count of entries.
     pub fn next_sibling<A: Allocator>(&self, room: &Room<A>, node: usize) -> Option<usize>
         requires { node < length room.now.entries }
         ensures sibling { OfRow self.now room.now.entries node (λ row. result ≡ row.next_sibling) }
@@ -105,7 +104,7 @@ impl Blob {
         node_under(room, entry[END] as usize, entry[PARENT])
     }
 
-    /// Whether a node is a hash node: a child of an image, whose name begins with `hash`.
+    /// Returns whether a node is a hash node: a child of an image whose name begins with `hash`.
     pub fn is_hash<A: Allocator>(&self, room: &Room<A>, node: usize) -> bool
         requires { node < length room.now.entries }
         ensures { OfRow self.now room.now.entries node (λ row. result ≡ is_hash_role row.role) }
@@ -116,7 +115,7 @@ impl Blob {
         }
     }
 
-    /// Where a node's name stands, without its NUL. It ends inside the blob.
+    /// Returns the span of a node's name, without its NUL. It ends inside the blob.
     pub fn name<A: Allocator>(&self, room: &Room<A>, node: usize) -> Span
         requires { node < length room.now.entries }
         ensures name { OfRow self.now room.now.entries node (λ row. result ≡ name_span row) }
@@ -126,11 +125,11 @@ impl Blob {
         span_in(room.entry(node)[NAME])
     }
 
-    /// Where the value of a node's first property of a key stands. It ends inside the blob. There is
-    /// none where the node has no such property, or where its role keeps no value of that key: of the
-    /// root `Description` and `Timestamp` are kept; of an image `Description`, `Data`, `Kind`, `Arch`,
-    /// `Os`, `Compression`, `Load`, `Entry`, `DataSize`, `DataOffset` and `DataPosition`; of a hash
-    /// node `Algo` and `Value`; of the node `configurations` `Default`; of a configuration
+    /// Returns the span of the value of a node's first property with this key. It ends inside the
+    /// blob. Returns `None` if the node has no such property, or its role keeps no value of that
+    /// key. The root keeps `Description` and `Timestamp`; an image `Description`, `Data`, `Kind`,
+    /// `Arch`, `Os`, `Compression`, `Load`, `Entry`, `DataSize`, `DataOffset` and `DataPosition`; a
+    /// hash node `Algo` and `Value`; the node `configurations` `Default`; a configuration
     /// `Description`, `Kernel`, `Ramdisk`, `Fdt`, `Loadables`, `Firmware`, `Fpga`, `Setup`,
     /// `Standalone` and `Script`.
     pub fn value<A: Allocator>(&self, room: &Room<A>, node: usize, key: Key) -> Option<Span>

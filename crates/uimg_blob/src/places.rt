@@ -1,4 +1,4 @@
-//! Where a property stands, as its token says.
+//! The spans of a property, read from its token.
 
 ghost use Rattle.std.specs.Prelude.{◌≡◌, ◌+◌, ◌^◌, ◌<◌, ◌≤◌, length, IfOk, IfSome};
 ghost use Rattle.uimg_blob.specs.Extents.{IsInside, blocks_of};
@@ -12,16 +12,16 @@ use crate::tokens::{FDT_BEGIN_NODE, FDT_END_NODE, FDT_NOP, FDT_PROP, read_head};
 use std::alloc::Allocator;
 use uimg_base::{Room, Source, SourceFault, Span, first_nul};
 
-/// Where a property of a node stands.
+/// The spans of a property's name and value.
 #[derive(Clone, Copy, Debug, PartialEq, Eq)]
 pub struct PropertyPlace {
-    /// Its name, among the strings, without its NUL.
+    /// The name in the strings block, without its NUL.
     pub name: Span,
-    /// Its value.
+    /// The value.
     pub value: Span,
 }
 
-/// What is met behind a node's name.
+/// What is met after a node's name.
 #[derive(Clone, Copy)]
 pub(crate) enum Met {
     /// A property.
@@ -34,7 +34,7 @@ pub(crate) enum Met {
     Strange,
 }
 
-// How many bytes the name at a place below an end has; `None` where it has no NUL.
+// Returns the length of the name at an offset before `end`, or `None` if it has no NUL.
 fn name_length<S: Source, A: Allocator>(
     source: &mut S,
     room: &mut Room<A>,
@@ -53,7 +53,7 @@ fn name_length<S: Source, A: Allocator>(
     Ok(first_nul(&window[..length]))
 }
 
-// Where the property of a token stands; `None` where the token is faulty.
+// Finds the spans of a property by its token. Returns `None` if the token is faulty.
 fn find_place<S: Source, A: Allocator>(
     source: &mut S,
     room: &mut Room<A>,
@@ -86,7 +86,7 @@ fn find_place<S: Source, A: Allocator>(
     Ok(Some(PropertyPlace { name, value }))
 }
 
-// What is met at a place. Of a token that begins a node its word alone is read.
+// Reads what is at an offset. Of a token that begins a node, only the word is read.
 #[tactic(auto, unfolding(crate::specs::Tokens::token_at))]
 pub(crate) fn meet<S: Source, A: Allocator>(
     source: &mut S,

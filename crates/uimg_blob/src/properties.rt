@@ -1,4 +1,4 @@
-//! The properties of a node, read from the structure block again.
+//! The properties of a node, read again from the structure block.
 
 ghost use Rattle.std.specs.Prelude.{◌≡◌, ◌+◌, ◌*◌, ◌^◌, ◌<◌, ◌≤◌, length, Ok, IfOk, IsTrue};
 ghost use Rattle.std.specs.List.{All};
@@ -19,7 +19,7 @@ use std::alloc::{Allocator, Global};
 use thiserror::Error;
 use uimg_base::{Room, Source, up4};
 
-/// Why the properties of a node are not told.
+/// Why the properties of a node are not returned.
 #[derive(Clone, Copy, Debug, PartialEq, Eq, Error)]
 pub enum PropertiesFault {
     /// A read failed.
@@ -28,13 +28,13 @@ pub enum PropertiesFault {
     /// Memory was refused.
     #[error("out of memory")]
     OutOfMemory,
-    /// The source has not the blob that was indexed.
+    /// The source does not have the blob that was indexed.
     #[error("changed while it was read")]
     Changed,
 }
 
-// Takes the token at a place: a property's place is added. `None` where the token begins or ends a
-// node, and otherwise the place of the next token.
+// Takes the token at an offset and adds its spans if it is a property. Returns the offset of the
+// next token, or `None` if the token begins or ends a node.
 fn step<S: Source, A: Allocator>(
     source: &mut S,
     room: &mut Room<A>,
@@ -63,7 +63,7 @@ fn step<S: Source, A: Allocator>(
     }
 }
 
-// Where the properties from a place on stand.
+// Collects the properties from an offset on.
 fn gather<S: Source, A: Allocator>(
     alloc: Global,
     source: &mut S,
@@ -84,7 +84,7 @@ fn gather<S: Source, A: Allocator>(
     Ok(places)
 }
 
-// Where the blocks lie, by the header read again.
+// Reads the header again and returns the blocks.
 fn extent_again<S: Source>(source: &mut S, totalsize: u32) -> Result<Extent, PropertiesFault>
     ensures uses { Asks 40 (is_unread result) (S.device source.old) (S.device source.new) }
     ensures inside { IfOk result (λ extent. IsInside extent (length (S.device source.old).bytes)) }
@@ -101,18 +101,18 @@ fn extent_again<S: Source>(source: &mut S, totalsize: u32) -> Result<Extent, Pro
     }
 }
 
-/// Where the properties of a node stand, in their order (Devicetree Specification, section 5.4), those
-/// of no known key too.
+/// Returns the spans of all properties of a node, in order (Devicetree Specification, section 5.4),
+/// including those without a key.
 ///
-/// They are read from the structure block again: what stands behind the node's name up to the first
-/// token that begins or ends a node. The caller sees to it that blob and room are as `index` left them,
-/// and that the node's number is below the count of entries. No value is read: an honest source is
-/// asked for at most 44 bytes, 268 for each property and 4 for each NOP of the blob. Nothing of the room
-/// changes but its window. A name has at most 255 bytes, and the blob at least 12 for each property,
-/// whatever the source says.
+/// They are read again from the structure block: from the node's name up to the first token that
+/// begins or ends a node. Blob and room must be as `index` left them, and the node's number below
+/// the count of entries. No value is read. Of an honest source it requests at most 44 bytes, 268
+/// for each property of the node and 4 for each NOP of the blob. Only the room's window changes.
+/// Whatever the source returns, a name has at most 255 bytes, and the blob at least 12 for each
+/// property.
 ///
-/// `Read` comes exactly where a read failed, and `OutOfMemory` only where memory for the places was
-/// refused. `Changed` comes only where the source has not the blob that was indexed.
+/// Returns `Read` if and only if a read failed, `OutOfMemory` only if memory for the spans was
+/// refused, and `Changed` only if the source does not have the blob that was indexed.
 pub fn properties_of<S: Source, A: Allocator>(
     alloc: Global,
     source: &mut S,

@@ -1,4 +1,4 @@
-//! The words and names of the structure block, read from a source.
+//! Reads of words and names of the structure block.
 
 ghost use Rattle.std.specs.Prelude.{◌≡◌, ◌+◌, ◌≤◌, length, take, IfOk};
 ghost use Rattle.uimg_texts.specs.Numbers.{be32};
@@ -7,7 +7,7 @@ ghost use Rattle.uimg_blob.specs.ReadTokens.{Answers};
 
 use uimg_base::{Source, SourceFault, WINDOW, number_at};
 
-// The number of the four bytes at a place of the source.
+// Reads the big-endian number at an offset.
 #[tactic(auto, unfolding(uimg_texts::specs::Numbers::be32))]
 pub(crate) fn read_word<S: Source>(source: &mut S, at: u64) -> Result<u32, SourceFault>
     requires { at + 4 ≤ length (S.device source.old).bytes }
@@ -19,7 +19,7 @@ pub(crate) fn read_word<S: Source>(source: &mut S, at: u64) -> Result<u32, Sourc
     Ok(number_at(&bytes, 0))
 }
 
-// The two numbers of the eight bytes at a place of the source.
+// Reads the two big-endian numbers at an offset.
 pub(crate) fn read_pair<S: Source>(source: &mut S, at: u64) -> Result<(u32, u32), SourceFault>
     requires { at + 8 ≤ length (S.device source.old).bytes }
     ensures { Answers 8 result (λ bytes n. (n.0 ≡ be32 bytes at) × (n.1 ≡ be32 bytes (at + 4)))
@@ -30,7 +30,7 @@ pub(crate) fn read_pair<S: Source>(source: &mut S, at: u64) -> Result<(u32, u32)
     Ok((number_at(&bytes, 0), number_at(&bytes, 4)))
 }
 
-// Reads the bytes from a place that lie below an end, at most 256, to the first bytes of the window.
+// Reads at most 256 bytes from an offset up to `end` into the window. Returns how many.
 pub(crate) fn read_near<S: Source>(
     source: &mut S,
     window: &mut [u8; WINDOW],

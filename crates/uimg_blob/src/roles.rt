@@ -1,6 +1,6 @@
-//! The roles of nodes: what FIT makes of each.
+//! The roles of nodes in a FIT image.
 
-/// What a node is, by its place in the tree.
+/// What a node is by its place in the tree.
 #[derive(Clone, Copy, Debug, PartialEq, Eq)]
 pub(crate) enum Role {
     Root,

@@ -1,20 +1,20 @@
-//! Blobs for tests, this crate's and those above: well formed ones, and faulty ones.
+//! Well formed and faulty blobs for tests of this crate and those above.
 
 use std::alloc::{AllocError, Allocator};
 
-/// The structure block of a blob, made token by token (Devicetree Specification, section 5.4). Nothing
-/// of it is checked.
+/// The structure block of a blob, built token by token (Devicetree Specification, section 5.4).
+/// Nothing is checked.
 #[derive(Drop)]
 pub struct Sample<A: Allocator> {
     structure: Vec<u8, A>,
 }
 
-// The lowest 32 bits of a number of bytes.
+// Returns the lowest 32 bits of a number of bytes.
 fn low(count: usize) -> u32 {
     (count as u64 % 0x1_0000_0000) as u32
 }
 
-// Adds zeros up to a multiple of 4.
+// Pads with zeros to a multiple of 4.
 fn pad<A: Allocator>(bytes: &mut Vec<u8, A>) -> Result<(), AllocError> {
     let past = bytes.len() % 4;
     if past != 0 {
@@ -24,20 +24,20 @@ fn pad<A: Allocator>(bytes: &mut Vec<u8, A>) -> Result<(), AllocError> {
 }
 
 impl<A: Allocator> Sample<A> {
-    /// A structure block without tokens.
+    /// Creates a structure block without tokens.
     pub fn new(alloc: A) -> Sample<A> {
         Sample {
             structure: Vec::new(alloc),
         }
     }
 
-    /// Adds a word.
+    /// Appends a word.
     pub fn word(&mut self, word: u32) -> Result<(), AllocError> {
         self.structure.extend_from_slice(&word.to_be_bytes())?;
         Ok(())
     }
 
-    /// Adds FDT_BEGIN_NODE and a node's name.
+    /// Appends FDT_BEGIN_NODE with a node's name.
     pub fn begin(&mut self, name: &[u8]) -> Result<(), AllocError> {
         self.word(1)?;
         self.structure.extend_from_slice(name)?;
@@ -45,7 +45,7 @@ impl<A: Allocator> Sample<A> {
         pad(&mut self.structure)
     }
 
-    /// Adds FDT_PROP and a property's value, whose name stands at an offset among the strings.
+    /// Appends FDT_PROP with a value, and its name's offset in the strings block.
     pub fn prop(&mut self, name_offset: u32, value: &[u8]) -> Result<(), AllocError> {
         self.word(3)?;
         self.word(low(value.len()))?;
@@ -54,18 +54,18 @@ impl<A: Allocator> Sample<A> {
         pad(&mut self.structure)
     }
 
-    /// Adds FDT_END_NODE.
+    /// Appends FDT_END_NODE.
     pub fn end_node(&mut self) -> Result<(), AllocError> {
         self.word(2)
     }
 
-    /// Adds FDT_NOP.
+    /// Appends FDT_NOP.
     pub fn nop(&mut self) -> Result<(), AllocError> {
         self.word(4)
     }
 
-    /// The blob with these strings: the header, an empty reservation block, the structure block from 56
-    /// on, which FDT_END ends, the strings, and zeros up to a multiple of 4.
+    /// Returns the blob with these strings: header, empty reservation block, structure block at 56
+    /// ended with FDT_END, strings block, and zeros up to a multiple of 4.
     pub fn finish(mut self, alloc: A, strings: &[u8]) -> Result<Vec<u8, A>, AllocError> {
         self.word(9)?;
         let structure = low(self.structure.len());

@@ -1,11 +1,11 @@
-//! Which values are kept of a node, and where in its entry.
+//! The values that are kept of a node, and their slots in its entry.
 
 ghost use Rattle.uimg_blob.specs.Kept.{IsSlot};
 
 use crate::keys::Key;
 use crate::roles::Role;
 
-// Where a key's value stands among those that are kept of a role.
+// Returns the slot of a key's value among those kept of a role.
 pub(crate) fn slot_of(role: Role, key: Key) -> Option<usize>
     ensures { IsSlot role key result }
 {

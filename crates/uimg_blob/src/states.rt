@@ -1,4 +1,4 @@
-//! How far a pass is, and what each token does to it.
+//! The state of a pass, and what each token does to it.
 
 ghost use Rattle.std.specs.Prelude.{◌≡◌, ◌+◌, ◌-◌, ◌^◌, ◌<◌, ℕ, List, length, IfSome};
 ghost use Rattle.uimg_blob.specs.Tokens.{Token};
@@ -19,8 +19,8 @@ use crate::tokens::ReadToken;
 use std::alloc::Allocator;
 use uimg_base::{Room, up4};
 
-/// How far a pass over the tokens is: where the next token stands, and the numbers of the innermost
-/// open node and of the root's first children `images` and `configurations`.
+/// The state of a pass over the tokens: the offset of the next token, and the numbers of the
+/// innermost open node and of the root's first children `images` and `configurations`.
 #[derive(Clone, Copy)]
 pub(crate) struct State {
     pub(crate) at: u64,
@@ -29,7 +29,7 @@ pub(crate) struct State {
     pub(crate) configurations: Option<usize>,
 }
 
-// The role of a child, by its parent's role, its label, and the children that the root had.
+// Returns a child's role from its parent's, its label, and which of these children the root had.
 fn child_role(parent: Role, label: Label, had_images: bool, had_configurations: bool) -> Role
     ensures { (name : List ℕ) → label ≡ label_of name →
         result ≡ role_at (child_level parent had_images had_configurations) name }
@@ -50,7 +50,7 @@ fn child_role(parent: Role, label: Label, had_images: bool, had_configurations: 
     }
 }
 
-// The role of a node of a label that begins inside the innermost one.
+// Returns the role of a node with this label that begins in the innermost node.
 fn role_for<A: Allocator>(room: &Room<A>, state: State, label: Label) -> Role
     requires { IfSome state.current (λ i. i < length room.now.entries) }
     ensures { (p : Phase) (name : List ℕ) → Holds p state room.now.entries → label ≡ label_of name →
@@ -67,7 +67,7 @@ fn role_for<A: Allocator>(room: &Room<A>, state: State, label: Label) -> Role
     }
 }
 
-// The numbers of the root's `images` and `configurations`, after a node of a role and a number began.
+// Returns the numbers of `images` and `configurations` after a node of this role began.
 fn noted(state: State, role: Role, number: usize) -> (Option<usize>, Option<usize>)
     ensures images { result.0 ≡ noted_images role number state.images }
     ensures configurations { result.1 ≡ noted_configurations role number state.configurations }
@@ -79,7 +79,7 @@ fn noted(state: State, role: Role, number: usize) -> (Option<usize>, Option<usiz
     }
 }
 
-// A node begins.
+// Begins a node.
 fn begin<A: Allocator>(
     room: &mut Room<A>,
     state: State,
@@ -107,7 +107,7 @@ fn begin<A: Allocator>(
     })
 }
 
-// The innermost node ends.
+// Ends the innermost node.
 fn end_node<A: Allocator>(room: &mut Room<A>, state: State) -> Result<State, IndexFault>
     requires place { state.at < 2 ^ 32 }
     requires suits { Suits state room.old.entries }
@@ -126,7 +126,7 @@ fn end_node<A: Allocator>(room: &mut Room<A>, state: State) -> Result<State, Ind
     })
 }
 
-// The number of the innermost node, where it has no child yet.
+// Returns the number of the innermost node if it has no child yet.
 fn bare<A: Allocator>(room: &Room<A>, state: State) -> Option<usize>
     ensures bare { (p : Phase) → Holds p state room.now.entries → result ≡ bare p }
     ensures within { IfSome result (λ i. i < length room.now.entries) }
@@ -137,14 +137,14 @@ fn bare<A: Allocator>(room: &Room<A>, state: State) -> Option<usize>
     }
 }
 
-// Whether the root has ended.
+// Returns whether the root has ended.
 fn is_after<A: Allocator>(room: &Room<A>, state: State) -> bool
     ensures { (p : Phase) → Holds p state room.now.entries → result ≡ is_after p }
 {
     state.current.is_none() && room.count() > 0
 }
 
-// The innermost node has a property.
+// Adds a property to the innermost node.
 fn property<A: Allocator>(
     room: &mut Room<A>,
     state: State,
@@ -166,7 +166,7 @@ fn property<A: Allocator>(
     })
 }
 
-// Whether the token ends the tree.
+// Returns whether the token ends the tree.
 pub(crate) fn is_done<A: Allocator>(room: &Room<A>, state: State, token: ReadToken) -> bool
     ensures { (p : Phase) (t : Token) → Holds p state room.now.entries → IsReadAs state.at t token →
         result ≡ is_done p t }
@@ -177,7 +177,7 @@ pub(crate) fn is_done<A: Allocator>(room: &Room<A>, state: State, token: ReadTok
     }
 }
 
-// Does what the token says, unless it ends the tree. A faulty token is told where it may stand.
+// Acts on a token that does not end the tree. A faulty token has its fault if allowed here.
 pub(crate) fn act<A: Allocator>(
     room: &mut Room<A>,
     state: State,

@@ -1,4 +1,4 @@
-//! The texts of values, written or read from where they stand.
+//! Texts of values, written or read from their spans.
 
 ghost use Rattle.std.specs.Prelude.{◌≡◌, ◌+◌, ◌<◌, ◌≤◌, length, is_err, nat_lt, Some, None, IsTrue, IfOk, IfSome, if◌then◌else◌};
 ghost use Rattle.std.specs.Option.{is_some};
@@ -14,7 +14,7 @@ use std::alloc::Allocator;
 use std::io::Write;
 use uimg_base::{MoveFault, Out, Room, Source, SourceFault, Span, WINDOW, before_nul};
 
-// Puts the text at the beginning of at most a window's bytes; true where a NUL ends it.
+// Writes the text at the start of at most one window of bytes. Returns whether a NUL ended it.
 fn put_window<S: Source, W: Write>(
     source: &mut S,
     window: &mut [u8; WINDOW],
@@ -40,7 +40,7 @@ fn put_window<S: Source, W: Write>(
     Ok(text.len() < len)
 }
 
-// Puts a text through a window.
+// Writes a text through a window.
 fn put_through<S: Source, W: Write>(
     source: &mut S,
     window: &mut [u8; WINDOW],
@@ -62,12 +62,11 @@ fn put_through<S: Source, W: Write>(
     Ok(())
 }
 
-/// Writes a value's text: its bytes up to the first NUL, or all of them.
+/// Writes the text of a value: its bytes up to the first NUL, or all of them.
 ///
-/// The caller sees to it that the span lies in the source, which is asked for at most the span's
-/// bytes. `MoveFault::Read` comes exactly where a read failed, `MoveFault::Put` exactly where a write
-/// did. Over an honest source, on every exit, a prefix of the text was written. Nothing of the room
-/// changes but its window.
+/// The span must be inside the source; at most its bytes are requested. Returns `MoveFault::Read`
+/// if and only if a read failed, `MoveFault::Put` if and only if a write failed. Over an honest
+/// source, at every exit, a prefix of the text was written. Only the room's window changes.
 pub fn put_text<S: Source, A: Allocator, W: Write>(
     source: &mut S,
     room: &mut Room<A>,
@@ -84,7 +83,7 @@ pub fn put_text<S: Source, A: Allocator, W: Write>(
     put_through(source, room.window(), span, out)
 }
 
-// The length of the text that the first bytes of a value begin with, if it is below 32.
+// Returns the length of the text at the start of a value if it is below 32.
 fn short_in(bytes: &[u8]) -> Option<usize>
     ensures { result ≡ (if nat_lt (length (text bytes.now)) 32 then Some (length (text bytes.now))
         else None) }
@@ -93,11 +92,11 @@ fn short_in(bytes: &[u8]) -> Option<usize>
     if length < 32 { Some(length) } else { None }
 }
 
-/// Reads a value's text where it has at most 31 bytes, to the first bytes of `to`, and gives its
-/// length; `None` for a longer one.
+/// Reads a value's text of at most 31 bytes to the start of `to`. Returns its length, or `None` if
+/// it is longer.
 ///
-/// The caller sees to it that the span lies in the source, which is asked for at most the span's
-/// bytes, and for at most 32. `SourceFault` comes exactly where a read failed.
+/// The span must be inside the source; at most its bytes, and at most 32, are requested. Returns
+/// `SourceFault` if and only if a read failed.
 pub fn short_text<S: Source>(
     source: &mut S,
     span: Span,

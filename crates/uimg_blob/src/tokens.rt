@@ -1,4 +1,4 @@
-//! The tokens of the structure block, as they are read.
+//! The tokens of the structure block, as read.
 
 ghost use Rattle.std.specs.Prelude.{◌≡◌, ℕ, ◌+◌, ◌^◌, ◌<◌, ◌≤◌, length, IfOk, IfErr};
 ghost use Rattle.std.specs.Option.{option_map};
@@ -33,24 +33,24 @@ const FDT_END: u32 = 9;
 pub(crate) enum ReadToken {
     /// FDT_BEGIN_NODE: the length and the label of the node's name.
     BeginNode { length: u32, label: Label },
-    /// FDT_BEGIN_NODE whose name is too long or cut.
+    /// FDT_BEGIN_NODE whose name is too long or truncated.
     BadBeginNode(BlobFault),
     /// FDT_END_NODE.
     EndNode,
     /// FDT_PROP: the length of the value and the key of the property's name.
     Prop { length: u32, key: Option<Key> },
-    /// FDT_PROP that is cut, or whose name is not among the strings.
+    /// FDT_PROP that is truncated, or whose name is not in the strings block.
     BadProp(BlobFault),
     /// FDT_NOP.
     Nop,
     /// FDT_END.
     End,
-    /// No token, or a cut word.
+    /// Not a token, or a truncated word.
     Stray(BlobFault),
 }
 
-// What is read of a token that begins a node, by the bytes near its name: without a NUL the fault is
-// `BadNodeName` where they are 256, and `Truncated` where the block ends before.
+// Reads a token that begins a node from the bytes near its name. If they have no NUL, the fault is
+// `BadNodeName` if they are 256, and `Truncated` if the block ends before.
 fn begin_node_in(near: &[u8]) -> ReadToken
     requires { length near.now ≤ 256 }
     ensures read { (at : ℕ) → IsReadAs at (begins at near.now) result }
@@ -67,7 +67,7 @@ fn begin_node_in(near: &[u8]) -> ReadToken
     }
 }
 
-// The key of the name that the bytes begin with; `None` where they have no NUL.
+// Returns the key of the name at the start of these bytes, or `None` if they have no NUL.
 fn key_in(near: &[u8]) -> Option<Option<Key>>
     ensures { result ≡ option_map key_named (before_nul near.now) }
 {
@@ -75,7 +75,7 @@ fn key_in(near: &[u8]) -> Option<Option<Key>>
     Some(key_named(&near[..length]))
 }
 
-// What is read of a token that begins a node, in a structure block that ends there.
+// Reads a token that begins a node, in a structure block that ends at `end`.
 fn read_begin_node<S: Source, A: Allocator>(
     source: &mut S,
     room: &mut Room<A>,
@@ -92,7 +92,7 @@ fn read_begin_node<S: Source, A: Allocator>(
     Ok(begin_node_in(&window[..length]))
 }
 
-// The key of the name at a place below an end; `None` where it has no NUL.
+// Returns the key of the name at an offset before `end`, or `None` if it has no NUL.
 fn read_key<S: Source, A: Allocator>(
     source: &mut S,
     room: &mut Room<A>,
@@ -111,17 +111,17 @@ fn read_key<S: Source, A: Allocator>(
     Ok(key_in(&window[..length]))
 }
 
-/// What a property's token says of it.
+/// The fields of a property's token.
 #[derive(Clone, Copy)]
 pub(crate) struct Head {
-    /// How many bytes its value has.
+    /// The length of its value in bytes.
     pub(crate) length: u32,
-    /// Where its name begins, among the strings.
+    /// The offset of its name, in the strings block.
     pub(crate) name: u64,
 }
 
-// What the token of a property says. The fault is `Truncated` where the structure block ends inside
-// the property, and `BadPropertyName` where its name does not begin among the strings.
+// Reads the fields of a property's token. The fault is `Truncated` if the structure block ends
+// inside the property, and `BadPropertyName` if its name does not begin in the strings block.
 pub(crate) fn read_head<S: Source>(
     source: &mut S,
     extent: Extent,
@@ -148,8 +148,8 @@ pub(crate) fn read_head<S: Source>(
     Ok(Ok(Head { length, name }))
 }
 
-// What is read of a property's token: the fault is `Truncated` where the structure block ends inside
-// it, and `BadPropertyName` where its name is not among the strings.
+// Reads a property's token. The fault is `Truncated` if the structure block ends inside it, and
+// `BadPropertyName` if its name is not in the strings block.
 fn read_property<S: Source, A: Allocator>(
     source: &mut S,
     room: &mut Room<A>,
@@ -176,12 +176,13 @@ fn read_property<S: Source, A: Allocator>(
     }
 }
 
-// What is read of the token at a place, counted in bytes from the file's start. Its word is read,
-// at most 256 bytes of a name, and a property's length and name offset, but no value. A token is
-// `Stray` with `Truncated` where the structure block ends inside its word, and with `BadToken` where
-// the word is no token. `SourceFault` comes where a read failed. At most 268 bytes are requested, of an
-// honest source no more than such a token costs. What a token names lies inside the structure block,
-// whatever the source answers.
+// Reads the token at an offset in bytes from the start of the file: its word, at most 256 bytes of
+// a name, and a property's length and name offset, but no value.
+//
+// A token is `Stray` with `Truncated` if the structure block ends inside its word, and with
+// `BadToken` if the word is not a token. Returns `SourceFault` if a read failed. Requests at most
+// 268 bytes, and of an honest source at most the token's cost. What a token names is inside the
+// structure block, whatever the source returns.
 #[tactic(auto, unfolding(crate::specs::Tokens::token_at))]
 pub(crate) fn read_token<S: Source, A: Allocator>(
     source: &mut S,

@@ -1,4 +1,4 @@
-//! Tests of blobs, of trees, of image-tree source and of FIT images, and the images that they and the tests
+//! Tests of blobs, trees, image-tree source and FIT images, with the images that they and the tests
 //! of the program use.
 #![tactic(auto)]
 

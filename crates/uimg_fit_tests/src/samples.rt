@@ -1,11 +1,11 @@
-//! FIT images. The demos are, byte for byte, what dtc makes of the same trees.
+//! FIT images. The demos are byte for byte what dtc makes of the same trees.
 
 ghost use Rattle.std.specs.Prelude.{◌<◌, ◌^◌};
 
 use std::alloc::{AllocError, Allocator};
 use uimg_blob::samples::Sample;
 
-// Where the name of each property stands among the strings that `finish` gives a sample.
+// The offset of each property's name in the strings block that `finish` gives a sample.
 pub const DESCRIPTION: u32 = 0;
 
 pub const TIMESTAMP: u32 = 27;
@@ -78,14 +78,14 @@ pub enum Payload<'a> {
     /// In `data`.
     Inside(&'a [u8]),
 
-    /// From an offset behind the blob on, so many bytes: `data-offset` and `data-size`.
+    /// After the blob, at an offset and of a length: `data-offset` and `data-size`.
     Offset(u32, u32),
 
-    /// From a position in the file on, so many bytes: `data-position` and `data-size`.
+    /// In the file, at an offset and of a length: `data-position` and `data-size`.
     Position(u32, u32),
 }
 
-/// Ends a sample with the strings that have all these names.
+/// Finishes a sample with the strings block that has all these names.
 pub fn finish<A: Allocator>(sample: Sample<A>, alloc: A) -> Result<Vec<u8, A>, AllocError> {
     sample.finish(
         alloc,
@@ -94,7 +94,7 @@ algo\0value\0default\0kernel\0data-offset\0data-size\0data-position\0ramdisk\0fd
     )
 }
 
-/// A sample with the root and its child `images` begun.
+/// Begins a sample: the root and its child `images`.
 pub fn begin_images<A: Allocator>(alloc: A) -> Result<Sample<A>, AllocError> {
     let mut sample = Sample::new(alloc);
     sample.begin(b"")?;
@@ -102,7 +102,7 @@ pub fn begin_images<A: Allocator>(alloc: A) -> Result<Sample<A>, AllocError> {
     Ok(sample)
 }
 
-// Adds two numbers, whose names stand at these offsets.
+// Adds two numbers whose names have these offsets.
 fn numbers<A: Allocator>(
     sample: &mut Sample<A>,
     names: [u32; 2],
@@ -138,7 +138,7 @@ pub fn put_hash<A: Allocator>(
     sample.end_node()
 }
 
-/// Ends `images` and the root, and the sample.
+/// Ends `images`, the root and the sample.
 pub fn finish_images<A: Allocator>(
     mut sample: Sample<A>,
     alloc: A,
@@ -148,8 +148,8 @@ pub fn finish_images<A: Allocator>(
     finish(sample, alloc)
 }
 
-/// A FIT image of one image `a` with a payload and so many right CRC-32 nodes, each named `hash`, and
-/// no other property.
+/// Returns a FIT image with one image `a` that has a payload, `hashes` right CRC-32 nodes, each
+/// named `hash`, and no other property.
 pub fn crc_fit<A: Allocator + Copy>(
     alloc: A,
     data: Payload<'_>,
@@ -166,10 +166,10 @@ pub fn crc_fit<A: Allocator + Copy>(
     finish_images(sample, alloc)
 }
 
-/// What differs between the images of a kernel.
+/// The differences between the images of a kernel.
 #[derive(Clone, Copy)]
 pub struct Demo<'a> {
-    /// Where the payload stands.
+    /// Where the payload is.
     pub payload: Payload<'a>,
 
     /// The value of `load`.
@@ -178,7 +178,7 @@ pub struct Demo<'a> {
     /// The value of `entry`.
     pub entry: &'a [u8],
 
-    /// Whether there is a fifth hash node, of SHA-512.
+    /// Whether there is a fifth hash node, with SHA-512.
     pub sha512: bool,
 }
 
@@ -190,14 +190,14 @@ pub const FOUR_HASHES: Demo<'static> = Demo {
     sha512: false,
 };
 
-// Where a name stands that is so many bytes further.
+// Returns the offset of a name that is `shift` bytes further on.
 fn after(name: u32, shift: u8) -> u32
     requires { name < 2 ^ 16 }
 {
     name + shift as u32
 }
 
-// Adds the properties of the kernel. The names behind those of its payload stand `shift` bytes further.
+// Adds the properties of the kernel. Names after those of its payload are `shift` bytes later.
 fn demo_properties<A: Allocator>(
     sample: &mut Sample<A>,
     demo: Demo<'_>,
@@ -251,7 +251,7 @@ fn demo_configurations<A: Allocator>(sample: &mut Sample<A>, shift: u8) -> Resul
     sample.end_node()
 }
 
-// The names of the payload's properties.
+// Returns the names of the payload's properties, and how far they shift the names after them.
 fn payload_names(payload: Payload<'_>) -> (&'static [u8], u8) {
     match payload {
         Payload::Inside(_) => (b"data\0", 0),
@@ -260,7 +260,7 @@ fn payload_names(payload: Payload<'_>) -> (&'static [u8], u8) {
     }
 }
 
-/// The FIT image `demo` of one image `kernel`, with a configuration, as dtc and mkimage make it.
+/// Returns the FIT image `demo` with an image `kernel` and a configuration, as dtc and mkimage do.
 pub fn demo_fit<A: Allocator + Copy>(alloc: A, demo: Demo<'_>) -> Result<Vec<u8, A>, AllocError> {
     let (names, shift) = payload_names(demo.payload);
     let mut sample = Sample::new(alloc);
@@ -284,12 +284,12 @@ pub fn demo_fit<A: Allocator + Copy>(alloc: A, demo: Demo<'_>) -> Result<Vec<u8,
     sample.finish(alloc, &strings)
 }
 
-/// The demo with `abc` in `data` and four hash nodes: 760 bytes, `abc` at 168.
+/// Returns the demo with `abc` in `data` and four hash nodes: 760 bytes, `abc` at 168.
 pub fn four_hash_fit<A: Allocator + Copy>(alloc: A) -> Result<Vec<u8, A>, AllocError> {
     demo_fit(alloc, FOUR_HASHES)
 }
 
-/// The same with a fifth hash node, of SHA-512: 872 bytes.
+/// Returns the same with a fifth hash node, with SHA-512: 872 bytes.
 pub fn five_hash_fit<A: Allocator + Copy>(alloc: A) -> Result<Vec<u8, A>, AllocError> {
     demo_fit(
         alloc,
@@ -300,7 +300,7 @@ pub fn five_hash_fit<A: Allocator + Copy>(alloc: A) -> Result<Vec<u8, A>, AllocE
     )
 }
 
-/// The same as the first with `abc` behind the blob: 800 bytes, `data-offset` at 168, `data-size` at 184.
+/// Returns the first, `abc` after the blob: 800 bytes, `data-offset` at 168, `data-size` at 184.
 pub fn external_fit<A: Allocator + Copy>(alloc: A) -> Result<Vec<u8, A>, AllocError> {
     let mut fit = demo_fit(
         alloc,
@@ -313,7 +313,7 @@ pub fn external_fit<A: Allocator + Copy>(alloc: A) -> Result<Vec<u8, A>, AllocEr
     Ok(fit)
 }
 
-/// The same with `abc` at the position 1024: 1028 bytes.
+/// Returns the same with `abc` at offset 1024: 1028 bytes.
 pub fn position_fit<A: Allocator + Copy>(alloc: A) -> Result<Vec<u8, A>, AllocError> {
     let mut fit = demo_fit(
         alloc,
@@ -327,7 +327,7 @@ pub fn position_fit<A: Allocator + Copy>(alloc: A) -> Result<Vec<u8, A>, AllocEr
     Ok(fit)
 }
 
-/// Puts a number into an image, at a place that lies in it.
+/// Sets a number in an image, if the offset is inside it.
 pub fn set_cell(image: &mut [u8], at: usize, number: u32) {
     if let Some(rest) = image.get_mut(at..)
         && rest.len() >= 4

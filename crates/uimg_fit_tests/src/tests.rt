@@ -1,4 +1,4 @@
-//! Tables of cases, and what plays them. A row that fails is named in the panic.
+//! Tables of cases, and the functions that play them. The panic names a row that fails.
 
 mod answers;
 mod fit;

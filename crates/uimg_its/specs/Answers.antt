@@ -1,4 +1,4 @@
--- What an answer says of what is read.
+-- What a result says about the text that was read.
 use Rattle.std.specs.Prelude.{◌≡◌, Bool, true, false, IsTrue, Option, Some, None, Result, Ok, Err, ⊤}
 use Rattle.std.specs.Bool.{OnFalse}
 use Rattle.uimg_base.specs.Lent.{Lent}
@@ -8,7 +8,7 @@ use Rattle.uimg_its.specs.declared.fault.Kind.{Kind}
 use Rattle.uimg_its.specs.declared.fault.Kind.TheVariants.{BadToken, BadSyntax, OutOfProfile, BadNumber, NoFile, ReadFailed, OutOfMemory}
 use Rattle.uimg_its.specs.declared.stop.Stop.{Stop}
 
--- the reason lies outside the text: in a file, or in memory
+-- the reason is outside the text: a file or memory
 abbrev pub is_outside : Kind → Bool
 is_outside BadToken = false
 is_outside BadSyntax = false
@@ -18,7 +18,7 @@ is_outside NoFile = true
 is_outside ReadFailed = true
 is_outside OutOfMemory = true
 
--- the reason is that the open of a file was refused
+-- the reason is a refused open
 abbrev pub tells_no_file : Kind → Bool
 tells_no_file BadToken = false
 tells_no_file BadSyntax = false
@@ -28,12 +28,12 @@ tells_no_file NoFile = true
 tells_no_file ReadFailed = false
 tells_no_file OutOfMemory = false
 
--- an answer has that reason
+-- the result is a refused open
 abbrev pub is_no_file : {X : Type 0} → Result X Stop → Bool
 is_no_file (Ok x) = false
 is_no_file (Err stop) = tells_no_file stop.kind
 
--- the reason is that a read of a file failed
+-- the reason is a failed read of a file
 abbrev pub tells_unread : Kind → Bool
 tells_unread BadToken = false
 tells_unread BadSyntax = false
@@ -43,45 +43,46 @@ tells_unread NoFile = false
 tells_unread ReadFailed = true
 tells_unread OutOfMemory = false
 
--- an answer has that reason
+-- the result is a failed read of a file
 abbrev pub is_unread : {X : Type 0} → Result X Stop → Bool
 is_unread (Ok x) = false
 is_unread (Err stop) = tells_unread stop.kind
 
--- the reason lies in no file
+-- the reason is not in a file
 abbrev pub NotInFile : Kind → Type 0
 NotInFile kind = (tells_no_file kind ≡ false) × (tells_unread kind ≡ false)
 
--- Any refusal is for a reason that lies in no file.
+-- A refusal is never for a reason in a file.
 abbrev pub NeverInFile : {X : Type 0} → Result X Stop → Type 0
 NeverInFile result = (is_no_file result ≡ false) × (is_unread result ≡ false)
 
--- A refusal for a reason in the text says that there is nothing to read. Any other says nothing of the text.
+-- A refusal for a reason in the text means that reading finds nothing; any other says nothing of
+-- it.
 abbrev pub Refuses : {Y : Type 0} → Kind → Option Y → Type 0
 Refuses kind read = OnFalse (is_outside kind) (read ≡ None)
 
--- What was returned, as it is seen, is what reading gives.
+-- The returned value, as `view` shows it, is what reading gives.
 abbrev pub Gives : {X Y : Type 0} → (X → Y) → Result X Stop → Option Y → Type 0
 Gives view (Ok x) read = read ≡ Some (view x)
 Gives view (Err stop) read = Refuses stop.kind read
 
--- Any refusal is for a reason outside the text.
+-- A refusal is for a reason outside the text.
 abbrev pub IsOutside : {X : Type 0} → Result X Stop → Type 0
 IsOutside (Ok x) = ⊤
 IsOutside (Err stop) = is_outside stop.kind ≡ true
 
--- The reason lies in the text, and so in no file.
+-- The reason is in the text, so not in a file.
 pub record IsInText (kind : Kind) : Type 0 where
   pub in_text : is_outside kind ≡ false
   pub no_file : NotInFile kind
 
--- Any refusal is for want of memory: for a reason outside the text, which lies in no file.
+-- A refusal is only for refused memory: outside the text, and not in a file.
 pub record OnlyMemory {X : Type 0} (result : Result X Stop) : Type 0 where
   pub outside : IsOutside result
   pub no_file : NeverInFile result
 
--- Files were opened: they are what they were, a refusal was counted exactly where the answer is one, and of what never fails each read
--- was answered.
+-- Files were opened. They are unchanged, a refusal was counted if and only if an open was refused,
+-- and no read of steady sources failed.
 pub record OpensFilesBetween {X : Type 0} (never_fails : Bool) (result : Result X Stop) (old new : FileMap) : Type 0 where
   pub files : UsesFiles (is_no_file result) old new
   pub steady : IsTrue never_fails → is_unread result ≡ false

@@ -6,7 +6,7 @@ use Rattle.uimg_its.specs.declared.lists.Listed.TheVariants.{Cells, Bytes}
 use Rattle.uimg_its.specs.Options.{◌>>=◌}
 use Rattle.uimg_its.specs.Digits.{number, hex_pair}
 
--- A cell's number: 0x or 0X and hexadecimal digits, at least one; 0 and octal digits, none too; or else decimal digits.
+-- A cell's number: 0x or 0X and hexadecimal digits; 0 and octal digits, or none; or decimal digits.
 unfoldable pub cell : List ℕ → Option ℕ
 cell [] = None
 cell (z ∷ []) = number 10 (z ∷ [])
@@ -15,7 +15,7 @@ cell (z ∷ x ∷ d ∷ ds) =
     if z == 48 then (if x == 120 || x == 88 then number 16 (d ∷ ds) else number 8 (x ∷ d ∷ ds))
     else number 10 (z ∷ x ∷ d ∷ ds)
 
--- the bytes of a word, of two hexadecimal digits each
+-- the bytes of a word, two hexadecimal digits each
 unfoldable pub hex_bytes : List ℕ → Option (List ℕ)
 hex_bytes [] = Some []
 hex_bytes (a ∷ []) = None
@@ -24,7 +24,7 @@ hex_bytes (a ∷ b ∷ rest) = do
   more ← hex_bytes rest
   Some (first ∷ more)
 
--- What a name word stands for in a list: a cell's number as four bytes, the highest first, or bytes.
+-- The bytes of a list's name word: a cell's number as four bytes, big-endian, or bytes.
 abbrev pub element : Listed → List ℕ → Option (List ℕ)
 element Cells n = do
   c ← cell n

@@ -1,4 +1,4 @@
--- What compiling gives.
+-- The result of compiling.
 use Rattle.std.specs.Prelude.{◌≡◌, Bool, false, IsTrue, Result, Ok, Err}
 use Rattle.uimg_blob.specs.Plain.{Nodes}
 use Rattle.uimg_tree.specs.declared.tree.Tree.{Tree}
@@ -8,17 +8,17 @@ use Rattle.uimg_its.specs.declared.fault.ItsFault.{ItsFault}
 use Rattle.uimg_its.specs.Parts.{FileBytes}
 use Rattle.uimg_its.specs.Answers.{is_outside, tells_no_file, tells_unread}
 
--- the answer is that the open of a file was refused
+-- the result is a refused open
 abbrev pub finds_no_file : {X : Type 0} → Result X ItsFault → Bool
 finds_no_file (Ok x) = false
 finds_no_file (Err fault) = tells_no_file fault.kind
 
--- the answer is that a read of a file failed
+-- the result is a failed read of a file
 abbrev pub fails_to_read : {X : Type 0} → Result X ItsFault → Bool
 fails_to_read (Ok x) = false
 fails_to_read (Err fault) = tells_unread fault.kind
 
--- Where the words of a text spell a tree, the answer is that tree, or a refusal for a reason outside the text.
+-- If the words spell a tree, the result is that tree, or a refusal for a reason outside the text.
 abbrev pub Accepts : {A : Type 0} → FileBytes → Result (Tree A) ItsFault → Nodes → Type 0
 Accepts files (Ok tree) t = in_full files (node_of tree.root) ≡ t
 Accepts files (Err fault) t = IsTrue (is_outside fault.kind)

@@ -1,11 +1,11 @@
--- Numbers in digits.
+-- Numbers as digits.
 use Rattle.std.specs.Prelude.{ℕ, ◌+◌, ◌*◌, ◌^◌, List, Option, Some, None, nat_lt, ◌&&◌, if◌then◌else◌}
 use Rattle.std.specs.List.{list_all}
 use Rattle.std.specs.Char.{is_digit, digit_value}
 use Rattle.std.specs.Str.Parse.{digits_value}
 use Rattle.uimg_its.specs.Options.{◌>>=◌}
 
--- The number that bytes write in a base, the first the highest, where each is a digit and 32 bits have the number.
+-- The number with these digits in a base, highest first, if all are digits and it fits in 32 bits.
 unfoldable pub number : ℕ → List ℕ → Option ℕ
 number base ds =
     if list_all (λ d. is_digit d base) ds && nat_lt (digits_value base ds) (2 ^ 32) then Some (digits_value base ds) else None

@@ -7,7 +7,7 @@ use Rattle.uimg_tree.specs.declared.tree.Node.{Node}
 use Rattle.uimg_tree.specs.Content.{Content, Unread, bytes, file, IsKept}
 use Rattle.uimg_its.specs.Parts.{FileBytes}
 
--- A file stands under the name `data` alone, and honest files have it, with as many bytes as are kept of it.
+-- Only the value of `data` is a file, and honest files have it, with the stored size.
 abbrev pub IsSound : Bool → FileBytes → List ℕ → Content → Type 0
 IsSound honest files n (bytes b) = ⊤
 IsSound honest files n (file name size) = (n ≡ codes "data") × (IsTrue honest → IsKept files (file name size))
@@ -15,16 +15,16 @@ IsSound honest files n (file name size) = (n ≡ codes "data") × (IsTrue honest
 abbrev pub IsSoundIn : FileMap → List ℕ → Content → Type 0
 IsSoundIn map n c = IsSound map.honest map.bytes n c
 
--- of properties
+-- the same for properties
 abbrev pub AreSound : FileMap → List (NamedOf Content) → Type 0
 AreSound map ps = AllByRecursion (λ p. IsSound map.honest map.bytes p.name p.value) ps
 
--- of all nodes
+-- the same for all nodes
 abbrev pub IsSoundTree : FileMap → Unread → Type 0
 IsSoundTree map no_node = ⊤
 IsSoundTree map (a_node name own below after) = AreSound map own × IsSoundTree map below × IsSoundTree map after
 
--- of nodes of the code
+-- the same for nodes of the code
 abbrev pub IsSoundNode : {A : Type 0} → FileMap → Node A → Type 0
 IsSoundNode map n = AreSound map n.props × IsSoundTree map n.children
 

@@ -8,27 +8,28 @@ use Rattle.uimg_its.specs.Words.{Word, name, directive, text, mark}
 use Rattle.uimg_its.specs.Parts.{FileBytes}
 use Rattle.uimg_its.specs.Cells.{element}
 
--- Labels: name words, each with a colon behind it.
+-- Labels: name words, each followed by a colon.
 abbrev pub AreLabels : List Word → Type 0
 AreLabels [] = ⊤
 AreLabels (name n ∷ mark Colon ∷ ws) = AreLabels ws
 AreLabels ws = ⊥
 
--- Labels, and a name of at most 255 bytes.
+-- Labels, then a name of at most 255 bytes.
 pub record Names (ws : List Word) (n : List ℕ) : Type 0 where
   pub labels : List Word
   pub are_labels : AreLabels labels
   pub short : length n ≤ 255
   pub whole : ws ≡ labels ++ name n ∷ []
 
--- Cells or bytes, each a name word, and the bytes that they stand for, joined.
+-- Cells or bytes, each a name word, and their bytes in order.
 abbrev pub AreElements : Listed → List Word → List ℕ → Type 0
 AreElements l [] v = v ≡ []
 AreElements l (name n ∷ ws) v =
     (first others : List ℕ) × (element l n ≡ Some first) × AreElements l ws others × (v ≡ first ++ others)
 AreElements l ws v = ⊥
 
--- A value: < cells >, [ bytes ], a string with a NUL behind it, or the bytes of the file in /incbin/ ( string ).
+-- A value: < cells >, [ bytes ], a string and a NUL, or the bytes of the file in /incbin/ ( string
+-- ).
 pub data IsValue (files : FileBytes) (ws : List Word) (v : List ℕ) : Type 0 where
   cells : (inner : List Word) → AreElements Cells inner v
       → ws ≡ mark Less ∷ (inner ++ mark Greater ∷ []) → IsValue files ws v
@@ -38,7 +39,7 @@ pub data IsValue (files : FileBytes) (ws : List Word) (v : List ℕ) : Type 0 wh
   incbin : (n : List ℕ) → files n ≡ Some v
       → ws ≡ directive (codes "incbin") ∷ mark ParenOpen ∷ text n ∷ mark ParenClose ∷ [] → IsValue files ws v
 
--- Values with a comma between two, put one after the other.
+-- Values separated by commas, appended in order.
 pub data AreValues (files : FileBytes) : List Word → List ℕ → Type 0 where
   one : {ws : List Word} {v : List ℕ} → IsValue files ws v → AreValues files ws v
   more : {ws first rest : List Word} {v u w : List ℕ} → IsValue files first u → AreValues files rest w
@@ -59,7 +60,7 @@ AreProperties files ws (p ∷ ps) =
 abbrev pub body : List Word → List Word → List Word → List Word
 body own children after = mark BraceOpen ∷ (own ++ (children ++ mark BraceClose ∷ after))
 
--- Nodes of at most so many levels, one after the other: each is labels, name, body ;
+-- Nodes of at most this many levels, in order: each is labels, name, body ;
 abbrev pub AreNodes : FileBytes → ℕ → List Word → Nodes → Type 0
 AreNodes files levels ws no_node = ws ≡ []
 AreNodes files zero ws (a_node n props below after) = ⊥
@@ -68,8 +69,8 @@ AreNodes files (suc levels) ws (a_node n props below after) =
     × AreNodes files levels children below × AreNodes files (suc levels) rest after
     × (ws ≡ head ++ body own children (mark Semicolon ∷ rest))
 
--- The words of a source spell a tree: /dts-v1/ ; / body ; where the body is that of the root, which has no name and is at
--- the first of 64 levels.
+-- The words of a source spell a tree: /dts-v1/ ; / body ; where the body is that of the root, which
+-- has no name and is at the first of 64 levels.
 pub record Spells (words : List Word) (files : FileBytes) (t : Nodes) : Type 0 where
   pub props : List Named
   pub children : Nodes

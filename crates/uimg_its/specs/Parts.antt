@@ -1,4 +1,4 @@
--- A node by its parts, and files by their bytes.
+-- Nodes as parts, and files as bytes.
 use Rattle.std.specs.Prelude.{ℕ, Bool, true, false, List, [], ◌∷◌, map, Option, Some, None}
 use Rattle.uimg_its.specs.Words.{Word}
 use Rattle.uimg_blob.specs.Plain.{Named, NamedOf, Nodes, no_node, a_node, with_value}
@@ -9,7 +9,7 @@ use Rattle.uimg_tree.specs.Content.{Content, bytes_in, in_full}
 abbrev pub FileBytes : Type 0
 FileBytes = List ℕ → Option (List ℕ)
 
--- a node: its name, its properties, and the nodes below it
+-- a node: its name, its properties, and its children
 pub record NodeParts : Type 0 where
   pub name : List ℕ
   pub props : List Named
@@ -20,15 +20,15 @@ abbrev pub chain : List NodeParts → Nodes
 chain [] = no_node
 chain (t ∷ ts) = a_node t.name t.props t.children (chain ts)
 
--- a node by itself
+-- one node
 abbrev pub single : NodeParts → Nodes
 single t = a_node t.name t.props t.children no_node
 
--- properties with the bytes of each file in its place
+-- properties with each file replaced by its bytes
 abbrev pub props_in_full : FileBytes → List (NamedOf Content) → List Named
 props_in_full files ps = map (with_value (bytes_in files)) ps
 
--- a node of the code likewise
+-- the same for a node of the code
 abbrev pub parts_of : {A : Type 0} → FileBytes → Node A → NodeParts
 parts_of files n = record { name = n.name; props = props_in_full files n.props; children = in_full files n.children }
 

@@ -1,4 +1,4 @@
--- Reading words from left to right, as the code does. `Grammar` says what is spelled; proofs join the two.
+-- Reading of words from left to right, as in the code. Proofs join it with `Grammar`.
 use Rattle.std.specs.Prelude.{ℕ, zero, suc, Bool, true, false, List, [], ◌∷◌, ◌++◌, length, Option, Some, None, nat_lt, if◌then◌else◌, codes}
 use Rattle.std.specs.Str.{bytes_eq}
 use Rattle.uimg_blob.specs.Plain.{Named}
@@ -12,13 +12,13 @@ use Rattle.uimg_its.specs.Steps.{Reads, Step, Steps, all}
 use Rattle.uimg_its.specs.Cells.{element}
 use Rattle.uimg_its.specs.Parts.{FileBytes, NodeParts, chain}
 
--- the next word; there has to be one
+-- the next word, which must exist
 abbrev pub next : Reads Word
 next [] = None
 next (stray ∷ ws) = None
 next (w ∷ ws) = Some (w, ws)
 
--- whether a word is that mark
+-- whether a word is this mark
 abbrev pub is_mark : Mark → Word → Bool
 is_mark Slash (mark Slash) = true
 is_mark BraceOpen (mark BraceOpen) = true
@@ -28,7 +28,7 @@ is_mark ParenOpen (mark ParenOpen) = true
 is_mark ParenClose (mark ParenClose) = true
 is_mark m w = false
 
--- the words behind a mark that has to be there
+-- the words after a mark that must come next
 abbrev pub expect : Mark → List Word → Option (List Word)
 expect m ws = do
   w ← next ws
@@ -45,14 +45,14 @@ string ws = do
   s ← string_in w.0
   Some (s, w.1)
 
--- What stands in a body: a property without a value, or with one, a child, or the body's end.
+-- An item of a body: a property without or with a value, a child, or the end of the body.
 pub data Item : Type 0 where
   empty : List ℕ → Item
   assigned : List ℕ → Item
   opens : List ℕ → Item
   closes : Item
 
--- by the word behind its name
+-- the item of a name, from the word after it
 abbrev pub item_of : List ℕ → Word → Option Item
 item_of n (mark Semicolon) = Some (empty n)
 item_of n (mark Equals) = Some (assigned n)
@@ -64,7 +64,7 @@ abbrev pub name_in : Word → Option (List ℕ)
 name_in (name n) = Some n
 name_in w = None
 
--- Behind a name a colon makes it a label. Any other word makes it an item's name, which has to be short.
+-- A name before a colon is a label. Otherwise it names an item and has at most 255 bytes.
 abbrev pub item_after : List ℕ → Word → Option (Option Item)
 item_after n (mark Colon) = Some None
 item_after n w = if nat_lt 255 (length n) then None else (item_of n w >>= λ i. Some (Some i))
@@ -77,7 +77,7 @@ labelled ws = do
   i ← item_after n second.0
   Some (i, second.1)
 
--- an item behind labels, of which there may be any number, without effect
+-- an item after any number of labels, which have no effect
 unfoldable pub named : Reads Item
 named (name n ∷ mark Colon ∷ ws) = named ws
 named (name n ∷ w ∷ ws) =
@@ -108,7 +108,7 @@ element_step l ws = do
 abbrev pub listed : Listed → Reads (List ℕ)
 listed l = all (element_step l)
 
--- the bytes of a file, its name in parentheses
+-- the bytes of a file whose name is in parentheses
 unfoldable pub file : FileBytes → Reads (List ℕ)
 file files ws = do
   after ← expect ParenOpen ws
@@ -130,7 +130,7 @@ value files ws = do
   w ← next ws
   value_of files w.0 w.1
 
--- whether a value is the last
+-- whether a value is the last, from the word after it
 abbrev pub ends : Word → Option Bool
 ends (mark Comma) = Some false
 ends (mark Semicolon) = Some true
@@ -143,7 +143,7 @@ value_step files ws = do
   last ← ends w.0
   Some (last, v.0, w.1)
 
--- values joined by commas, up to the semicolon
+-- values separated by commas, up to the semicolon
 abbrev pub values : FileBytes → Reads (List ℕ)
 values files = all (value_step files)
 
@@ -159,11 +159,11 @@ property_step files ws = do
   it ← item ws
   property_named files ws it.0 it.1
 
--- properties, as long as there are some
+-- all properties that come next
 abbrev pub properties : FileBytes → Reads (List Named)
 properties files = all (property_step files)
 
--- a node behind its opening brace: properties, and children up to its closing brace
+-- a node after its opening brace: properties, and children up to its closing brace
 unfoldable pub inside : FileBytes → Reads (List NodeParts) → List ℕ → Reads NodeParts
 inside files children n ws = do
   own ← properties files ws
@@ -184,7 +184,7 @@ child_step node ws = do
   it ← item ws
   child_named node it.0 it.1
 
--- a node below which there may be so many levels, itself the first of them
+-- a node with at most this many levels, its own included
 unfoldable pub node_within : ℕ → FileBytes → List ℕ → Reads NodeParts
 node_within zero files n ws = None
 node_within (suc levels) files n ws = inside files (all (child_step (node_within levels files))) n ws
@@ -219,12 +219,12 @@ source files ws = do
   rest ← expect Semicolon t.1
   alone t.0 rest
 
--- whether a word is the directive of a file
+-- whether a word is the directive /incbin/
 abbrev pub is_incbin : Word → Bool
 is_incbin (directive d) = bytes_eq d (codes "incbin")
 is_incbin w = false
 
--- a file that is the whole value of a property, by its name
+-- the name of a file that is the whole value of a property
 unfoldable pub lone_file : Reads (List ℕ)
 lone_file ws = do
   w ← next ws

@@ -1,4 +1,4 @@
--- What the calls do that read words.
+-- What the calls that read words do.
 use Rattle.std.specs.Prelude.{◌<◌, ℕ, List, length, Option, Result, IfOk}
 use Rattle.std.specs.Borrow.{Bor}
 use Rattle.uimg_its.specs.declared.stop.Stop.{Stop}
@@ -8,18 +8,18 @@ use Rattle.uimg_its.specs.Reader.{expect}
 use Rattle.uimg_its.specs.Steps.{Reads}
 use Rattle.uimg_its.specs.Words.{words}
 
--- What was returned, as it is seen, is what reading gives, and any refusal is for a reason that lies in no file.
+-- The returned value, seen by `view`, is what reading gives; no refusal is for a reason in a file.
 pub record ReadsText {X Y : Type 0} (view : X → Y) (result : Result X Stop) (read : Option Y) : Type 0 where
   pub gives : Gives view result read
   pub no_file : NeverInFile result
 
--- The same from the front of a text, by a reader of its words; and what is left of the text is shorter.
+-- The same for a reader of the words at the start of a text; the remaining text is shorter.
 pub record ReadsFront {X Y : Type 0} (view : X → Y) (rest : X → List ℕ) (result : Result X Stop) (reader : Reads Y) (text : List ℕ) : Type 0 where
   pub gives : Gives (λ x. (view x, words (rest x))) result (reader (words text))
   pub no_file : NeverInFile result
   pub shorter : IfOk result (λ x. length (rest x) < length text)
 
--- The same of a mark that has to be there.
+-- The same for a mark that must come next.
 pub record PassesMark (mark : Mark) (result : Result (Bor (List ℕ)) Stop) (text : List ℕ) : Type 0 where
   pub gives : Gives (λ rest. words rest.now) result (expect mark (words text))
   pub no_file : NeverInFile result

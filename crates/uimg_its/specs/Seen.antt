@@ -1,4 +1,4 @@
--- What the code sees of a text.
+-- How the specification sees what the code finds.
 use Rattle.std.specs.Prelude.{◌≡◌, ℕ, ◌≤◌, List, [], ◌∷◌, Option, Some, None, Result, Ok, Err}
 use Rattle.std.specs.Borrow.{Bor}
 use Rattle.uimg_its.specs.declared.tokens.Word.{Word as Found}
@@ -13,26 +13,26 @@ use Rattle.uimg_its.specs.Reader.{Item, empty, assigned, opens, closes}
 use Rattle.uimg_its.specs.Strings.{string_bytes}
 use Rattle.uimg_its.specs.Words.{Word, name, directive, text, mark, stray, Piece, gap, word, words}
 
--- a word by its bytes
+-- a word from its bytes
 abbrev pub word_of : Found → Word
 word_of (found.Name bytes) = name bytes.now
 word_of (found.Directive bytes) = directive bytes.now
 word_of (found.Text bytes) = text (string_bytes 0 bytes.now)
 word_of (found.Mark m) = mark m
 
--- what is found is that piece, of no more bytes than there are
+-- the found piece is this piece, and its length is within the text
 abbrev pub IsPiece : FoundPiece → Piece → ℕ → Type 0
 IsPiece (found_piece.Gap n) p most = (p ≡ gap n) × (n ≤ most)
 IsPiece (found_piece.Word w n) p most = (p ≡ word (word_of w) n) × (n ≤ most)
 IsPiece found_piece.Stray p most = p ≡ word stray 0
 
--- what is seen of the words of a text: none, the first and those behind it, or that the first is no word
+-- the first word of a text with the words after it, no word, or a start that is not a word
 abbrev pub Sees : Result (Option (Token × Bor (List ℕ))) Stop → List Word → Type 0
 Sees (Ok None) ws = ws ≡ []
 Sees (Ok (Some x)) ws = ws ≡ word_of x.0.word ∷ words x.1.now
 Sees (Err stop) ws = (rest : List Word) × (ws ≡ stray ∷ rest)
 
--- an item by its name's bytes
+-- an item from the bytes of its name
 abbrev pub item_is : FoundItem → Item
 item_is (found_item.Empty n) = empty n.now
 item_is (found_item.Assigned n) = assigned n.now

@@ -1,10 +1,10 @@
--- Strings and their escapes (Devicetree Specification, section 6.3, with the escapes of this profile).
+-- Strings and their escapes (Devicetree Specification, section 6.3, with this profile's escapes).
 use Rattle.std.specs.Prelude.{ℕ, zero, suc, List, [], ◌∷◌, Option, Some, None, ◌&&◌, nat_le, ◌==◌, if◌then◌else◌}
 use Rattle.std.specs.Option.{option_map}
 use Rattle.uimg_its.specs.Options.{◌>>=◌}
 use Rattle.uimg_its.specs.Digits.{hex_pair}
 
--- \0, unless an octal digit follows it
+-- \0, not followed by an octal digit
 abbrev pub zero_escape : List ℕ → Option (ℕ × ℕ)
 zero_escape [] = Some (0, 1)
 zero_escape (b ∷ bs) = if nat_le 48 b && nat_le b 55 then None else Some (0, 1)
@@ -17,7 +17,7 @@ hex_escape (h ∷ l ∷ bs) = do
   b ← hex_pair h l
   Some (b, 3)
 
--- What an escape stands for, which is one of \\ \" \n \t \r \0 and \x, and how many bytes it takes behind its backslash.
+-- The byte of an escape, one of \\ \" \n \t \r \0 and \x, and its length after the backslash.
 unfoldable pub escape : List ℕ → Option (ℕ × ℕ)
 escape [] = None
 escape (c ∷ bs) =
@@ -30,12 +30,13 @@ escape (c ∷ bs) =
     else if c == 120 then hex_escape bs
     else None
 
--- What the byte a stands for in a string before the bytes bs, and how many of these it takes: an escape, or itself.
+-- The byte that a stands for before the bytes bs, and how many of these it takes: an escape or
+-- itself.
 unfoldable pub unit : ℕ → List ℕ → Option (ℕ × ℕ)
 unit a bs = if a == 92 then escape bs else Some (a, 0)
 
--- How many bytes a string has behind its opening quote, the first k of them left out and its closing quote counted. There
--- is none where no quote closes it, or where an escape is none of these.
+-- The length of a string after its opening quote, without its first k bytes, the closing quote
+-- included. There is none if no quote closes it or an escape is bad.
 unfoldable pub string_end : ℕ → List ℕ → Option ℕ
 string_end k [] = None
 string_end (suc k) (b ∷ bs) = option_map suc (string_end k bs)
@@ -43,7 +44,7 @@ string_end zero (b ∷ bs) =
     if b == 34 then Some 1
     else elim (unit b bs) as (λ _. Option ℕ) [ None ↦ None | Some u ↦ option_map suc (string_end u.1 bs) ]
 
--- The bytes that it stands for, the first k left out likewise.
+-- The bytes of that string, without the first k in the same way.
 unfoldable pub string_bytes : ℕ → List ℕ → List ℕ
 string_bytes k [] = []
 string_bytes (suc k) (b ∷ bs) = string_bytes k bs

@@ -7,7 +7,7 @@ use Rattle.uimg_its.specs.declared.tokens.Mark.{Mark}
 use Rattle.uimg_its.specs.declared.tokens.Mark.TheVariants.{Slash, Comma, BraceOpen, BraceClose, Semicolon, Equals, Less, Greater, ParenOpen, ParenClose, BracketOpen, BracketClose, Colon, Ampersand, Apostrophe}
 use Rattle.uimg_its.specs.Strings.{string_end, string_bytes}
 
--- A name, a directive by what stands between its slashes, a string by its bytes, a mark, or a byte that begins no word.
+-- A name, a directive (without its slashes), a string (its bytes), a mark, or a stray byte.
 pub data Word : Type 0 where
   name : List ℕ → Word
   directive : List ℕ → Word
@@ -29,7 +29,7 @@ is_name_byte b =
 abbrev pub is_directive_byte : ℕ → Bool
 is_directive_byte b = is_ascii_alphabetic b || is_ascii_digit b || b == 45
 
--- a byte that is a word alone
+-- the mark of a byte that is a word by itself
 abbrev pub mark_of : ℕ → Option Mark
 mark_of b =
     if b == 123 then Some BraceOpen
@@ -47,33 +47,33 @@ mark_of b =
     else if b == 39 then Some Apostrophe
     else None
 
--- how many bytes a comment has behind its opening, up to the end of the first */
+-- the length of a comment after its opening, up to the end of the first */
 unfoldable pub comment : List ℕ → Option ℕ
 comment [] = None
 comment (b ∷ bs) = if starts_with nat_eq (b ∷ bs) (codes "*/") then Some 2 else option_map suc (comment bs)
 
--- What a text begins with, and how many bytes more than the first it takes: a gap, or a word.
+-- The start of a text, with its length in bytes less one: a gap or a word.
 pub data Piece : Type 0 where
   gap : ℕ → Piece
   word : Word → ℕ → Piece
 
--- the name word that is just a comma is a mark
+-- a name word; a single comma is a mark
 abbrev pub name_word : List ℕ → Word
 name_word (b ∷ []) = if b == 44 then mark Comma else name (b ∷ [])
 name_word bs = name bs
 
--- a comment, which has to end
+-- a comment, which must end
 abbrev pub comment_piece : Option ℕ → Piece
 comment_piece None = word stray 0
 comment_piece (Some n) = gap (1 + n)
 
--- a directive of n bytes, if its other slash follows; else a slash
+-- a directive of n bytes if a slash follows; otherwise a slash
 abbrev pub directive_piece : ℕ → List ℕ → Piece
 directive_piece zero bs = word (mark Slash) 0
 directive_piece (suc n) bs =
     if slice_index bs (suc n) == 47 then word (directive (take (suc n) bs)) (n + 2) else word (mark Slash) 0
 
--- what a slash before the bytes begins
+-- what begins with a slash before these bytes
 abbrev pub slash_piece : List ℕ → Piece
 slash_piece [] = word (mark Slash) 0
 slash_piece (b ∷ bs) =
@@ -81,17 +81,17 @@ slash_piece (b ∷ bs) =
     else if b == 47 then gap (1 + prefix_len (λ c. not (c == 10)) bs)
     else directive_piece (prefix_len is_directive_byte (b ∷ bs)) (b ∷ bs)
 
--- a string, which has to end
+-- a string, which must end
 abbrev pub string_piece : List ℕ → Option ℕ → Piece
 string_piece bs None = word stray 0
 string_piece bs (Some n) = word (text (string_bytes 0 bs)) n
 
--- a mark, or no word
+-- a mark, or not a word
 abbrev pub mark_piece : Option Mark → Piece
 mark_piece None = word stray 0
 mark_piece (Some m) = word (mark m) 0
 
--- what the byte b before the bytes bs begins
+-- what begins with the byte b before the bytes bs
 unfoldable pub piece : ℕ → List ℕ → Piece
 piece b bs =
     if is_blank b then gap 0
@@ -100,17 +100,17 @@ piece b bs =
     else if b == 34 then string_piece bs (string_end 0 bs)
     else mark_piece (mark_of b)
 
--- the words from a piece on, by what goes on n bytes behind its first
+-- the words from a piece on; `behind n` are those after n further bytes
 abbrev pub goes_on : Piece → (ℕ → List Word) → List Word
 goes_on (gap n) behind = behind n
 goes_on (word w n) behind = w ∷ behind n
 
--- The words of a text but for its first k bytes.
+-- The words of a text without its first k bytes.
 unfoldable pub words_from : ℕ → List ℕ → List Word
 words_from k [] = []
 words_from (suc k) (b ∷ bs) = words_from k bs
 words_from zero (b ∷ bs) = goes_on (piece b bs) (λ n. words_from n bs)
 
--- the words of a text, each the longest that fits
+-- the words of a text, each as long as possible
 abbrev pub words : List ℕ → List Word
 words bs = words_from 0 bs

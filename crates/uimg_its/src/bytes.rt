@@ -1,4 +1,4 @@
-//! What a byte is in a source text.
+//! The classes of bytes in a source text.
 
 ghost use Rattle.std.specs.Prelude.{◌≡◌, ◌==◌, ◌≤◌, not, length, drop};
 ghost use Rattle.std.specs.List.{prefix_len};
@@ -6,7 +6,7 @@ ghost use Rattle.uimg_its.specs.Words.{mark_of, is_blank, is_name_byte, is_direc
 
 use crate::tokens::Mark;
 
-/// The text behind its first n bytes.
+/// Returns the text after its first n bytes.
 pub(crate) fn after(text: &[u8], n: usize) -> &[u8]
     requires { n ≤ length text.now }
     ensures { result.now ≡ drop n text.now }
@@ -37,7 +37,7 @@ fn is_directive_byte(b: u8) -> bool
     b.is_ascii_alphabetic() || b.is_ascii_digit() || b == b'-'
 }
 
-/// The mark that a byte is by itself.
+/// Returns the mark of a byte that is a word by itself.
 pub(crate) fn mark_of(b: u8) -> Option<Mark>
     ensures { result ≡ mark_of b }
 {
@@ -60,7 +60,7 @@ pub(crate) fn mark_of(b: u8) -> Option<Mark>
     Some(mark)
 }
 
-/// How many bytes of a name a text begins with.
+/// Returns how many bytes of a name the text begins with.
 pub(crate) fn name_length(text: &[u8]) -> usize
     ensures length { result ≡ prefix_len is_name_byte text.now }
     ensures within { result ≤ length text.now }
@@ -68,7 +68,7 @@ pub(crate) fn name_length(text: &[u8]) -> usize
     text.iter().take_while(|b| is_name_byte(**b)).count()
 }
 
-/// How many bytes of a directive a text begins with.
+/// Returns how many bytes of a directive the text begins with.
 pub(crate) fn directive_length(text: &[u8]) -> usize
     ensures length { result ≡ prefix_len is_directive_byte text.now }
     ensures within { result ≤ length text.now }
@@ -76,7 +76,7 @@ pub(crate) fn directive_length(text: &[u8]) -> usize
     text.iter().take_while(|b| is_directive_byte(**b)).count()
 }
 
-/// How many bytes a text has before its first newline.
+/// Returns how many bytes come before the first newline.
 pub(crate) fn line_length(text: &[u8]) -> usize
     ensures length { result ≡ prefix_len (λ b. not (b == 10)) text.now }
     ensures within { result ≤ length text.now }

@@ -1,4 +1,4 @@
-//! The whole text: `compile`.
+//! The whole source text: `compile`.
 
 ghost use Rattle.std.specs.Prelude.{◌≡◌, ◌<◌, List, IfOk, IsTrue, false};
 ghost use Rattle.uimg_blob.specs.Plain.{Nodes};
@@ -26,10 +26,10 @@ use std::alloc::Allocator;
 use uimg_base::Files;
 use uimg_tree::{Node, Tree};
 
-/// The most levels of nodes that a tree has, the root being at the first.
+/// The most levels of nodes in a tree; the root is at the first.
 const MOST_LEVELS: u8 = 64;
 
-// Whether a word is the directive that begins a source.
+// Returns whether a word is the directive that begins a source.
 fn is_version(word: Found<'_>) -> bool
     ensures { result ≡ is_version (word_of word.entry) }
 {
@@ -39,7 +39,7 @@ fn is_version(word: Found<'_>) -> bool
     }
 }
 
-// The text behind the directive that begins a source.
+// Reads the directive that begins a source and returns the text after it.
 fn version(text: &[u8]) -> Result<&[u8], Stop>
     ensures { ReadsText (λ x. words x.now) result (version (words text.now)) }
 {
@@ -51,7 +51,7 @@ fn version(text: &[u8]) -> Result<&[u8], Stop>
     }
 }
 
-// A word stands behind the root: the text behind the word tells whether it begins a second root.
+// Returns the fault of a word after the root, which with the text after it may begin a second root.
 fn second_root(token: Token<'_>, rest: &[u8]) -> Stop
     ensures { IsInText result.kind }
 {
@@ -65,7 +65,7 @@ fn second_root(token: Token<'_>, rest: &[u8]) -> Stop
     }
 }
 
-// The root, if no word is left.
+// Returns the root if no word is left.
 fn alone<A: Allocator>(root: Node<A>, text: &[u8]) -> Result<Node<A>, Stop>
     ensures root { IfOk result (λ node. node ≡ root) }
     ensures gives { (files : FileBytes) →
@@ -78,7 +78,7 @@ fn alone<A: Allocator>(root: Node<A>, text: &[u8]) -> Result<Node<A>, Stop>
     }
 }
 
-// The root of the tree of a source text.
+// Reads the root of the tree of a source text.
 #[tactic(auto, unfolding(crate::specs::Reader::source))]
 fn source<F: Files, A: Allocator + Copy>(
     alloc: A,
@@ -102,20 +102,20 @@ fn source<F: Files, A: Allocator + Copy>(
 /// Compiles a source text to its tree.
 ///
 /// The text is image-tree source: devicetree source (Devicetree Specification 0.4, chapter 6, and
-/// dtc's `/incbin/`) with one root and at most 64 levels, and without the constructs that
-/// [`Construct`] names. A value `/incbin/("name")` is the bytes of that file. Where it is the whole
-/// value of a property named `data`, the file is opened for its size alone and stays a
-/// [`Value::File`]; any other is read whole.
+/// dtc's `/incbin/`) with one root, at most 64 levels, and without the constructs in [`Construct`].
+/// A value `/incbin/("name")` is the bytes of that file. If it is the whole value of a property
+/// named `data`, the file is opened only for its size and stays a [`Value::File`]; any other file
+/// is read whole.
 ///
-/// The fault is that of the first word at which the text cannot go on. `NoFile` comes exactly where
-/// an open was refused, `ReadFailed` where a read of an opened file failed, so never where what the
-/// files open is steady, and `OutOfMemory` where memory was refused. Over honest files the others
-/// come only where the text spells no tree. Tests alone show which of these it is, its line and the name
-/// of I3, that a sole `/incbin/` of `data` stays a file whose bytes are not requested, and that
+/// Returns the fault of the first word at which the text cannot continue. Returns `NoFile` if and
+/// only if an open was refused, `ReadFailed` if a read of an opened file failed (never over steady
+/// sources), and `OutOfMemory` if memory was refused. Over honest files any other fault means that
+/// the text spells no tree. Only tested are: which of the other faults it is, its line and the name
+/// of I3; that a sole `/incbin/` of `data` stays a file whose bytes are not requested; that
 /// `ReadFailed` and `OutOfMemory` come only after a failed read and a refused growth.
 ///
-/// The time that it takes grows with the text and the files that are read, and nodes are read by calls
-/// inside one another, at most 64 deep.
+/// The time grows with the text and the files that are read. Calls nest as deep as the nodes, at
+/// most 64.
 ///
 /// [`Construct`]: crate::Construct
 /// [`Value::File`]: crate::Value::File
@@ -124,20 +124,20 @@ pub fn compile<F: Files, A: Allocator + Copy>(
     text: &[u8],
     files: &mut F,
 ) -> Result<Tree<A>, ItsFault>
-    // The files are what they were, and `NoFile` comes exactly where they refused an open.
+    // The files are unchanged, and `NoFile` is returned if and only if they refused an open.
     ensures files { UsesFiles (finds_no_file result) (F.map files.old) (F.map files.new) }
-    // Where what the files open never fails, `ReadFailed` is not answered.
+    // If opened files never fail, `ReadFailed` is never returned.
     ensures steady { IsTrue F.Opened.steady → fails_to_read result ≡ false }
     // Only properties named `data` are files.
     ensures at_data { IfOk result (λ tree. FilesAtData (node_of tree.root)) }
-    // Each of these files is there, with the size that is kept.
+    // Each of these files exists, with the stored size.
     ensures kept { IfHonest F.map files (λ there.
         IfOk result (λ tree. AreKept there (node_of tree.root))) }
     // The text spells the tree.
     ensures only { IfHonest F.map files (λ there. IfOk result (λ tree.
         Spells (words text.now) there (in_full there (node_of tree.root)))) }
-    // A tree that the text spells is the answer, unless a file or memory is not there. So any other
-    // refusal comes only where the text spells none.
+    // If the text spells a tree, that tree is returned, unless a file or memory is missing. So any
+    // other fault means that the text spells none.
     ensures accepted { IfHonest F.map files (λ there.
         (t : Nodes) → Spells (words text.now) there t → Accepts there result t) }
 {

@@ -2,35 +2,35 @@
 
 use thiserror::Error;
 
-/// A construct of devicetree source that this profile leaves out.
+/// A construct of devicetree source that this profile omits.
 #[derive(Clone, Copy, Debug, PartialEq, Eq, Error)]
 pub enum Construct {
     /// `&`, which begins a reference to a label or a path.
     #[error("reference")]
     Reference,
-    /// `'`, which begins a character as a number.
+    /// `'`, which begins a character literal.
     #[error("character literal")]
     CharacterLiteral,
     /// `(` among cells, which begins an expression.
     #[error("expression")]
     Expression,
-    /// A directive that is not `/dts-v1/` or `/incbin/` in its place.
+    /// A directive other than `/dts-v1/` or `/incbin/` where these are allowed.
     #[error("directive")]
     Directive,
     /// `/` and `{` after the root.
     #[error("second root")]
     SecondRoot,
-    /// The comma after the name of a file, behind which a part of the file would be told.
+    /// The comma after the name of a file, which begins a range of the file.
     #[error("incbin range")]
     IncbinRange,
-    /// An escape other than `\\ \" \n \t \r`, `\0` before no octal digit, and `\x` with two
-    /// hexadecimal digits.
+    /// An escape other than `\\ \" \n \t \r`, `\0` not followed by an octal digit, and `\x` with
+    /// two hexadecimal digits.
     #[error("escape")]
     Escape,
-    /// A word outside the root that begins with `#`, as a line for the C preprocessor does.
+    /// A word outside the root that begins with `#`, such as a C preprocessor line.
     #[error("preprocessor")]
     Preprocessor,
-    /// A node at a level below the 64th, the root being at the first.
+    /// A node below the 64th level; the root is at the first.
     #[error("depth")]
     Depth,
 }
@@ -41,14 +41,14 @@ pub enum Kind {
     /// A byte begins no word, or a comment or a string is not closed.
     #[error("I1 bad token")]
     BadToken,
-    /// A word stands where the grammar has another, a name has more than 255 bytes, or the text
-    /// ends too early.
+    /// The grammar has another word here, a name has more than 255 bytes, or the text ends too
+    /// early.
     #[error("I2 bad syntax")]
     BadSyntax,
-    /// The text has a construct that this profile leaves out.
+    /// The text has a construct that this profile omits.
     #[error("I3 out of profile: {0}")]
     OutOfProfile(Construct),
-    /// A cell is no number below 2^32, or the digits of a byte list are not hexadecimal pairs.
+    /// A cell is not a number below 2^32, or the digits of a byte list are not hexadecimal pairs.
     #[error("I4 bad number")]
     BadNumber,
     /// A file could not be opened.
@@ -62,13 +62,13 @@ pub enum Kind {
     OutOfMemory,
 }
 
-/// Why a source text is not compiled, and where. Its text is the line that the program prints.
+/// Why a source text is not compiled, and where. The text is the line that the program prints.
 #[derive(Clone, Copy, Debug, PartialEq, Eq, Error)]
 #[error("{kind} at line {line}")]
 pub struct ItsFault {
     /// The reason.
     pub kind: Kind,
-    /// The line of the first byte of the word at which the text cannot go on, counted from 1. Where
-    /// the text ends too early it is the last line, which a newline at the end belongs to.
+    /// The line of the first byte of the word at which the text cannot continue, from 1. If the
+    /// text ends too early, its last line; a newline at the end belongs to that line.
     pub line: u64,
 }

@@ -1,4 +1,4 @@
-//! Growths that tell at which word memory was refused.
+//! Growths of memory whose fault names the word at which memory was refused.
 
 ghost use Rattle.std.specs.Prelude.{◌≡◌, ◌++◌, OnOk, IfOk, true};
 ghost use Rattle.uimg_its.specs.Strings.{string_bytes};
@@ -10,7 +10,7 @@ use crate::strings::push_string;
 use std::alloc::Allocator;
 use uimg_tree::ByteList;
 
-/// Memory was refused at a word.
+/// Returns the fault of refused memory at a word.
 pub(crate) fn out_of_memory(left: usize) -> Stop
     ensures outside { is_outside result.kind ≡ true }
     ensures no_file { NotInFile result.kind }
@@ -36,7 +36,7 @@ pub(crate) fn append<A: Allocator>(
     }
 }
 
-/// Appends what a string stands for, from the text behind its opening quote.
+/// Appends the bytes of a string, given the text after its opening quote.
 pub(crate) fn append_string<A: Allocator>(
     out: &mut Vec<u8, A>,
     text: &[u8],
@@ -51,7 +51,7 @@ pub(crate) fn append_string<A: Allocator>(
     }
 }
 
-/// A copy of a name.
+/// Copies a name.
 pub(crate) fn copied<A: Allocator>(alloc: A, name: &[u8], left: usize) -> Result<ByteList<A>, Stop>
     ensures name { IfOk result (λ l. l ≡ name.now) }
     ensures memory { OnlyMemory result }

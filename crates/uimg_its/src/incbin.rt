@@ -1,4 +1,4 @@
-//! The files that values name, read whole or kept by name and size.
+//! The files that values name, read whole or kept as name and size.
 
 ghost use Rattle.std.specs.Prelude.{◌≡◌, ◌<◌, Some, IfOk, IsTrue, length, codes, false};
 ghost use Rattle.uimg_tree.specs.Content.{bytes_in};
@@ -23,7 +23,7 @@ use std::alloc::Allocator;
 use uimg_base::{Files, MoveFault, Out, Source, WINDOW, copy_through};
 use uimg_tree::{ByteList, Value};
 
-// All the bytes of a source that a word names.
+// Reads all the bytes of a source.
 fn read_whole<S: Source, A: Allocator>(
     alloc: A,
     source: &mut S,
@@ -51,8 +51,8 @@ fn read_whole<S: Source, A: Allocator>(
     }
 }
 
-// The bytes of the file of a name. It is not inlined, so that its window and its source are in no frame
-// of a function that calls itself.
+// Reads the file with this name. Not inlined, to keep its window and its source out of the frames
+// of recursive functions.
 #[inline(never)]
 fn read_file<F: Files, A: Allocator>(
     alloc: A,
@@ -72,7 +72,7 @@ fn read_file<F: Files, A: Allocator>(
     }
 }
 
-// The text behind the opening quote of a string.
+// Returns the text after the opening quote of a string.
 fn string_in(token: Token<'_>) -> Result<&[u8], Stop>
     ensures { ReadsText (λ s. string_bytes 0 s.now) result (string_in (word_of token.entry.word)) }
 {
@@ -82,7 +82,7 @@ fn string_in(token: Token<'_>) -> Result<&[u8], Stop>
     }
 }
 
-// The same for a string at the front of a text, and the text behind it.
+// Reads a string at the start of the text. Returns it and the text after it.
 fn string(text: &[u8]) -> Result<(&[u8], &[u8]), Stop>
     ensures { ReadsFront (λ x. string_bytes 0 x.0.now) (λ x. x.1.now) result string text.now }
 {
@@ -91,7 +91,7 @@ fn string(text: &[u8]) -> Result<(&[u8], &[u8]), Stop>
     Ok((string, rest))
 }
 
-// A word behind the name of a file that does not close the parentheses.
+// Returns the fault of a word after a file's name that does not close the parentheses.
 fn not_closed(token: Token<'_>) -> Stop
     ensures { IsInText result.kind }
 {
@@ -104,7 +104,7 @@ fn not_closed(token: Token<'_>) -> Stop
     }
 }
 
-// The text behind the parenthesis that closes the name of a file.
+// Returns the text after the parenthesis that closes a file's name.
 fn close(text: &[u8]) -> Result<&[u8], Stop>
     ensures { PassesMark ParenClose result text.now }
 {
@@ -116,8 +116,8 @@ fn close(text: &[u8]) -> Result<&[u8], Stop>
     }
 }
 
-/// Appends the bytes of a file, which is named in parentheses behind the word `/incbin/`, and gives
-/// the text behind them.
+/// Appends the bytes of a file whose name is in parentheses after the word `/incbin/`. Returns the
+/// text after them.
 #[tactic(auto, unfolding(crate::specs::Reader::file))]
 pub(crate) fn file<'a, F: Files, A: Allocator + Copy>(
     alloc: A,
@@ -141,7 +141,7 @@ pub(crate) fn file<'a, F: Files, A: Allocator + Copy>(
     Ok(rest)
 }
 
-// Whether a word is the directive of a file.
+// Returns whether a word is the directive `/incbin/`.
 fn is_incbin(word: Word<'_>) -> bool
     ensures { result ≡ is_incbin (word_of word.entry) }
 {
@@ -154,16 +154,16 @@ fn is_incbin(word: Word<'_>) -> bool
 /// A file that is the whole value of a property.
 #[derive(Clone, Copy, Debug)]
 pub(crate) struct LoneFile<'a> {
-    /// Its name, by the text behind the opening quote.
+    /// Its name: the text after the opening quote.
     pub(crate) name: &'a [u8],
-    /// How many bytes of the text were left at the word `/incbin/`.
+    /// How many bytes of the text remain at the word `/incbin/`.
     pub(crate) left: usize,
-    /// The text behind the property.
+    /// The text after the property.
     pub(crate) rest: &'a [u8],
 }
 
-/// The file that is the whole value of a property, from behind the equals sign. A refusal says that
-/// the value is something else. No more than six words are looked at.
+/// Reads a file that is the whole value of a property, after the equals sign. A refusal means that
+/// the value is something else. Reads at most six words.
 #[tactic(auto, unfolding(crate::specs::Reader::lone_file))]
 pub(crate) fn lone_file(text: &[u8]) -> Result<LoneFile<'_>, Stop>
     ensures gives { Gives (λ l. (string_bytes 0 l.name.now, words l.rest.now)) result
@@ -185,8 +185,8 @@ pub(crate) fn lone_file(text: &[u8]) -> Result<LoneFile<'_>, Stop>
     })
 }
 
-/// The value of a property named `data` that is one file: its name and its size. None of its bytes
-/// is asked for.
+/// Returns the value of a property named `data` that is one file: its name and its size. Requests
+/// none of its bytes.
 #[inline(never)]
 pub(crate) fn kept<F: Files, A: Allocator>(
     files: &mut F,

@@ -1,4 +1,4 @@
-//! What stands in a body, up to the word that tells what it is.
+//! The items of a body, up to the word that shows what they are.
 
 ghost use Rattle.std.specs.Prelude.{◌<◌};
 ghost use Rattle.std.specs.Option.{option_map};
@@ -12,23 +12,23 @@ use crate::lexer::{is_mark, need_word};
 use crate::stop::{Place, Stop, unexpected};
 use crate::tokens::{Mark, Token, Word};
 
-/// The most bytes that a name of a node or a property has.
+/// The greatest length in bytes of a node's or a property's name.
 const LONGEST_NAME: usize = 255;
 
-/// What stands in a body.
+/// An item of a body.
 #[derive(Clone, Copy, Debug)]
 pub(crate) enum Item<'a> {
-    /// A property of this name without a value.
+    /// A property with this name without a value.
     Empty(&'a [u8]),
-    /// A property of this name with a value, up to its equals sign.
+    /// A property with this name and a value, up to its equals sign.
     Assigned(&'a [u8]),
-    /// A child of this name, up to its opening brace.
+    /// A child with this name, up to its opening brace.
     Opens(&'a [u8]),
-    /// The body's end.
+    /// The end of the body.
     Closes,
 }
 
-/// An item, its last word, and the text behind it.
+/// An item, its last word, and the text after it.
 #[derive(Clone, Copy, Debug)]
 pub(crate) struct Head<'a> {
     pub(crate) item: Item<'a>,
@@ -47,7 +47,7 @@ fn item_of<'a>(name: &'a [u8], token: Token<'a>) -> Result<Item<'a>, Stop>
     }
 }
 
-// A name of an item is too long.
+// Returns the fault of a name that is too long.
 fn long_name(left: usize) -> Stop
     ensures { IsInText result.kind }
 {
@@ -57,7 +57,7 @@ fn long_name(left: usize) -> Stop
     }
 }
 
-// The item that a name begins, by the word behind it; `None` where the name is a label.
+// Returns the item that a name begins, from the word after it, or `None` if the name is a label.
 fn item_after<'a>(name: &'a [u8], left: usize, token: Token<'a>) -> Result<Option<Item<'a>>, Stop>
     ensures { ReadsText (option_map item_is) result
         (item_after name.now (word_of token.entry.word)) }
@@ -78,7 +78,8 @@ fn name_in(token: Token<'_>) -> Result<&[u8], Stop>
     }
 }
 
-// A label, or a name and what it begins; the word behind the name, and the text behind that.
+// Reads a label, or a name and what it begins. Returns also the word after it, and the text after
+// that.
 #[tactic(auto, unfolding(crate::specs::Reader::labelled))]
 fn labelled(text: &[u8]) -> Result<(Option<Item<'_>>, Token<'_>, &[u8]), Stop>
     ensures { ReadsFront (λ x. option_map item_is x.0) (λ x. x.2.now) result labelled text.now }
@@ -90,7 +91,7 @@ fn labelled(text: &[u8]) -> Result<(Option<Item<'_>>, Token<'_>, &[u8]), Stop>
     Ok((item, second, rest))
 }
 
-// A name and what it begins, behind labels.
+// Reads labels, then a name and what it begins.
 fn named(text: &[u8]) -> Result<Head<'_>, Stop>
     ensures { ReadsFront (λ h. item_is h.item) (λ h. h.rest.now) result named text.now }
 {
@@ -104,7 +105,7 @@ fn named(text: &[u8]) -> Result<Head<'_>, Stop>
     }
 }
 
-/// An item of a body, or its end.
+/// Reads an item of a body, or its end.
 #[tactic(auto, unfolding(crate::specs::Reader::item))]
 pub(crate) fn read_item(text: &[u8]) -> Result<Head<'_>, Stop>
     ensures { ReadsFront (λ h. item_is h.item) (λ h. h.rest.now) result item text.now }

@@ -1,4 +1,4 @@
-//! The words of a text, one after another.
+//! The words of a text, in order.
 
 ghost use Rattle.std.specs.Prelude.{◌≡◌, ◌<◌, length, IfSome, IfOk, false};
 ghost use Rattle.uimg_its.specs.Words.{words};
@@ -14,7 +14,7 @@ use crate::stop::{Place, Stop, ends_early, unexpected};
 use crate::strings::string_fault;
 use crate::tokens::{Mark, Token, Word};
 
-// No word begins at the front of a text.
+// Returns the fault of a text that does not begin with a word.
 fn stray(text: &[u8]) -> Stop
     ensures { IsInText result.kind }
 {
@@ -28,7 +28,8 @@ fn stray(text: &[u8]) -> Stop
     }
 }
 
-/// The first word of a text, and the text behind it, which is shorter; or that no word begins there.
+/// Reads the first word of a text. Returns it and the text after it, or `None` if no word is left.
+/// Refuses a text that does not begin with a word.
 pub(crate) fn next_word(text: &[u8]) -> Result<Option<(Token<'_>, &[u8])>, Stop>
     ensures sees { Sees result (words text.now) }
     ensures no_file { NeverInFile result }
@@ -52,7 +53,7 @@ pub(crate) fn next_word(text: &[u8]) -> Result<Option<(Token<'_>, &[u8])>, Stop>
     Ok(None)
 }
 
-/// The next word, which has to be there, and the text behind it.
+/// Reads the next word, which must exist. Returns it with the text after it.
 pub(crate) fn need_word(text: &[u8]) -> Result<(Token<'_>, &[u8]), Stop>
     ensures { ReadsFront (λ x. word_of x.0.word) (λ x. x.1.now) result next text.now }
 {
@@ -62,7 +63,7 @@ pub(crate) fn need_word(text: &[u8]) -> Result<(Token<'_>, &[u8]), Stop>
     }
 }
 
-/// Whether a word is that mark, which is none of a list, a comma or an equals sign.
+/// Returns whether a word is this mark: a slash, a semicolon, a brace or a parenthesis.
 pub(crate) fn is_mark(mark: Mark, word: Word<'_>) -> bool
     ensures { result ≡ is_mark mark (word_of word.entry) }
 {
@@ -77,7 +78,7 @@ pub(crate) fn is_mark(mark: Mark, word: Word<'_>) -> bool
     }
 }
 
-/// The text behind a mark, which has to be there.
+/// Reads this mark, which must come next. Returns the text after it.
 pub(crate) fn expect(mark: Mark, place: Place, text: &[u8]) -> Result<&[u8], Stop>
     ensures { PassesMark mark result text.now }
 {

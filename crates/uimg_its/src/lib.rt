@@ -1,9 +1,8 @@
-//! Image-tree source, the devicetree source that U-Boot's FIT images are described in, is compiled
-//! to the tree that it spells. `compile` is the one call; what a source may have is in its
-//! documentation.
+//! Image-tree source, the devicetree source of U-Boot's FIT images, compiled to its tree. `compile`
+//! is the one call; its documentation says what a source may contain.
 //!
-//! Lemmas show that what is spelled is read (`proofs/SpelledIsRead.antt`) and what is read is spelled
-//! (`ReadIsSpelled`). `Examples` tries the definitions of words and cells on worked texts.
+//! Lemmas prove that what is spelled is read (`proofs/SpelledIsRead.antt`) and that what is read is
+//! spelled (`ReadIsSpelled`). `Examples` tries the definitions of words and cells on worked texts.
 #![tactic(auto)]
 
 mod bytes;

@@ -1,7 +1,7 @@
-//! The line that a text is at.
+//! Line numbers of a text.
 
-/// The line of the byte of a text from which on so many bytes are left, counted from 1. Where none
-/// is left it is the text's last line, to which a newline at the end belongs.
+/// Returns the line, from 1, of the byte at which `left` bytes remain. If none remain, returns the
+/// last line; a newline at the end belongs to it.
 pub(crate) fn line_of(text: &[u8], left: usize) -> u64 {
     let mut line = 1u64;
     let before = text.len().saturating_sub(usize::max(left, 1));

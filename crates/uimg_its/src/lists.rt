@@ -19,14 +19,14 @@ use crate::stop::{Place, Stop, unexpected};
 use crate::tokens::{Mark, Token, Word};
 use std::alloc::Allocator;
 
-/// What a list has: cells between `<` and `>`, or bytes between `[` and `]`.
+/// The elements of a list: cells between `<` and `>`, or bytes between `[` and `]`.
 #[derive(Clone, Copy, Debug, PartialEq, Eq)]
 pub(crate) enum Listed {
     Cells,
     Bytes,
 }
 
-// The name word of an element of a list, or `None` for the list's end.
+// Returns the name word of a list's element, or `None` at the end of the list.
 fn element_word(list: Listed, token: Token<'_>) -> Result<Option<&[u8]>, Stop>
     ensures { ReadsText (option_map (λ n. n.now)) result
         (element_word list (word_of token.entry.word)) }
@@ -40,7 +40,7 @@ fn element_word(list: Listed, token: Token<'_>) -> Result<Option<&[u8]>, Stop>
     }
 }
 
-// A word is no number, or no bytes.
+// Returns the fault of a word that is not a number or not bytes.
 fn bad_number(left: usize) -> Stop
     ensures { IsInText result.kind }
 {
@@ -96,7 +96,7 @@ fn push_element<A: Allocator>(
     }
 }
 
-// Appends the next element of a list: whether it is the list's end, and the text behind it.
+// Appends the next element of a list. Returns whether the list ended, and the text after it.
 #[tactic(auto, unfolding(crate::specs::Reader::element_step))]
 fn element_step<'a, A: Allocator>(
     out: &mut Vec<u8, A>,
@@ -117,7 +117,7 @@ fn element_step<'a, A: Allocator>(
     }
 }
 
-/// Appends the bytes of a list up to its end, and gives the text behind it.
+/// Appends the bytes of a list up to its end. Returns the text after it.
 pub(crate) fn read_list<'a, A: Allocator>(
     out: &mut Vec<u8, A>,
     list: Listed,

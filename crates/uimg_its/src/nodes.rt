@@ -1,4 +1,4 @@
-//! Nodes and their children, by calls inside one another.
+//! Nodes and their children, by recursion.
 
 ghost use Rattle.std.specs.Prelude.{◌≡◌, ◌<◌, ◌≤◌, ◌++◌, ◌∷◌, [], IfSome, IfOk, OnOk, length};
 ghost use Rattle.uimg_base.specs.Named.{FileMap};
@@ -20,7 +20,7 @@ use std::alloc::Allocator;
 use uimg_base::Files;
 use uimg_tree::{ByteList, Node, Nodes, Props};
 
-// A node of these parts.
+// Builds a node from its parts.
 fn node_of<A: Allocator>(name: ByteList<A>, props: Props<A>, children: Vec<Node<A>, A>) -> Node<A>
     ensures parts { (files : FileBytes) → parts_of files result ≡ record {
       name = name;
@@ -55,7 +55,7 @@ fn push_node<A: Allocator>(
     Ok(())
 }
 
-// A node is more levels below the root than there may be.
+// Returns the fault of a node that is too deep.
 fn too_deep(left: usize) -> Stop
     ensures { IsInText result.kind }
 {
@@ -65,8 +65,8 @@ fn too_deep(left: usize) -> Stop
     }
 }
 
-// A node of this name from behind its opening brace, below which there may be so many levels, and
-// the text behind its closing brace.
+// Reads a node with this name after its opening brace, with at most `levels` levels below it.
+// Returns it and the text after its closing brace.
 #[cycle(tree)]
 #[tactic(auto, unfolding(crate::specs::Reader::inside))]
 fn inside<'a, F: Files, A: Allocator + Copy>(
@@ -87,8 +87,8 @@ fn inside<'a, F: Files, A: Allocator + Copy>(
     Ok((node_of(name, props, children), rest))
 }
 
-/// A node of this name from behind its opening brace, itself the first of at most so many levels,
-/// and the text behind its closing brace.
+/// Reads a node with this name after its opening brace, with at most `levels` levels, its own
+/// included. Returns it and the text after its closing brace.
 #[cycle(tree)]
 pub(crate) fn node<'a, F: Files, A: Allocator + Copy>(
     alloc: A,
@@ -111,7 +111,7 @@ pub(crate) fn node<'a, F: Files, A: Allocator + Copy>(
     inside(alloc, files, levels - 1, name, text)
 }
 
-// The next child, or `None` for the end of the body, and the text behind it.
+// Reads the next child. Returns it, or `None` at the end of the body, and the text after it.
 #[cycle(tree)]
 #[tactic(auto, unfolding(crate::specs::Reader::child_step))]
 fn child<'a, F: Files, A: Allocator + Copy>(
@@ -139,7 +139,7 @@ fn child<'a, F: Files, A: Allocator + Copy>(
     }
 }
 
-// The children at the front of a text, up to the end of the body, and the text behind it.
+// Reads children up to the end of the body. Returns them and the text after it.
 #[cycle(tree)]
 fn children<'a, F: Files, A: Allocator + Copy>(
     alloc: A,

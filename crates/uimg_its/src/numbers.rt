@@ -1,10 +1,10 @@
-//! The number of a cell.
+//! Numbers of cells.
 
 ghost use Rattle.std.specs.Prelude.{◌≡◌, ◌≤◌, ◌<◌, ◌+◌, ◌*◌, IfSome};
 ghost use Rattle.uimg_its.specs.Digits.{number, hex_digit, hex_pair};
 ghost use Rattle.uimg_its.specs.Cells.{cell};
 
-// The number that digits write in a base; `None` where one is no digit, or 32 bits do not have it.
+// Returns the number with these digits in a base, or `None` if one is no digit or 32 bits overflow.
 #[tactic(auto, unfolding(crate::specs::Digits::number))]
 fn number(base: u32, digits: &[u8]) -> Option<u32>
     requires low { 2 ≤ base }
@@ -23,7 +23,7 @@ fn number(base: u32, digits: &[u8]) -> Option<u32>
     Some(value)
 }
 
-/// A cell's number; `None` where the word is none, or 32 bits do not have it.
+/// Returns a cell's number, or `None` if the word is not a number or has more than 32 bits.
 #[tactic(auto, unfolding(crate::specs::Cells::cell))]
 pub(crate) fn cell(word: &[u8]) -> Option<u32>
     ensures { result ≡ cell word.now }
@@ -44,7 +44,7 @@ fn hex_digit(byte: u8) -> Option<u8>
     Some(digit as u8)
 }
 
-/// The byte of two hexadecimal digits; `None` where one is no such digit.
+/// Returns the byte with these hexadecimal digits, or `None` if one is not such a digit.
 pub(crate) fn hex_pair(a: u8, b: u8) -> Option<u8>
     ensures { result ≡ hex_pair a b }
 {

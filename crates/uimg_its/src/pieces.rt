@@ -1,4 +1,4 @@
-//! What a text begins with: a gap, a word, or neither.
+//! The start of a text: a gap, a word, or neither.
 
 ghost use Rattle.std.specs.Prelude.{◌≡◌, ◌≤◌, ◌<◌, ◌-◌, length, drop, slice_index, IfSome};
 ghost use Rattle.uimg_its.specs.Strings.{string_end};
@@ -11,17 +11,17 @@ use crate::bytes::{
 use crate::strings::string_length;
 use crate::tokens::{Mark, Word};
 
-/// What a text begins with, and how many bytes more than one it takes.
+/// The start of a text, with its length in bytes less one.
 #[derive(Clone, Copy)]
 pub(crate) enum Piece<'a> {
-    /// Blanks, or a comment.
+    /// Blanks or a comment.
     Gap(usize),
     Word(Word<'a>, usize),
     /// No word begins here.
     Stray,
 }
 
-// How many bytes a comment has behind its opening, its end too.
+// Returns the length of a comment after its opening, its end included.
 fn comment_length(text: &[u8]) -> Option<usize>
     ensures length { result ≡ comment text.now }
     ensures within { IfSome result (λ n. n ≤ length text.now) }
@@ -36,7 +36,7 @@ fn comment_length(text: &[u8]) -> Option<usize>
     None
 }
 
-// What begins with a slash, by the text behind it.
+// Reads what begins with a slash, given the text after the slash.
 fn slash_piece(text: &[u8]) -> Piece<'_>
     ensures { IsPiece result (slash_piece text.now) (length text.now) }
 {
@@ -57,7 +57,7 @@ fn slash_piece(text: &[u8]) -> Piece<'_>
     }
 }
 
-// What begins with a quote, by the text behind it.
+// Reads what begins with a quote, given the text after the quote.
 fn string_piece(text: &[u8]) -> Piece<'_>
     ensures { IsPiece result (string_piece text.now (string_end 0 text.now)) (length text.now) }
 {
@@ -67,7 +67,7 @@ fn string_piece(text: &[u8]) -> Piece<'_>
     }
 }
 
-// A name word, or the comma.
+// Returns a name word, or the mark of a comma.
 fn name_word(name: &[u8]) -> Word<'_>
     ensures { word_of result ≡ name_word name.now }
 {
@@ -77,7 +77,7 @@ fn name_word(name: &[u8]) -> Word<'_>
     }
 }
 
-/// What a text that is not empty begins with.
+/// Reads the start of a text that is not empty.
 #[tactic(auto, unfolding(crate::specs::Words::piece))]
 pub(crate) fn first_piece(text: &[u8]) -> Piece<'_>
     requires { 0 < length text.now }

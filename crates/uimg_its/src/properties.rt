@@ -40,7 +40,7 @@ fn push_property<A: Allocator>(
     Ok(())
 }
 
-// Adds the next property: whether there was none, and the text behind it.
+// Adds the next property. Returns whether there was none, and the text after it.
 #[tactic(auto, unfolding(crate::specs::Reader::property_step))]
 fn property_step<'a, F: Files, A: Allocator + Copy>(
     alloc: A,
@@ -74,7 +74,7 @@ fn property_step<'a, F: Files, A: Allocator + Copy>(
     }
 }
 
-/// The properties at the front of a body, and the text behind them.
+/// Reads the properties at the start of a body. Returns them and the text after them.
 pub(crate) fn properties<'a, F: Files, A: Allocator + Copy>(
     alloc: A,
     files: &mut F,

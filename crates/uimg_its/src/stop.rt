@@ -1,4 +1,4 @@
-//! Why reading stopped, and where: which fault a word is at its place.
+//! Why and where reading stopped: the fault of a word at its place.
 
 ghost use Rattle.uimg_its.specs.Answers.{IsInText};
 ghost use Rattle.uimg_its.specs.declared.fault.Kind.TheVariants as kinds;
@@ -6,17 +6,17 @@ ghost use Rattle.uimg_its.specs.declared.fault.Kind.TheVariants as kinds;
 use crate::fault::{Construct, Kind};
 use crate::tokens::{Mark, Token, Word};
 
-/// Why reading stopped, and how many bytes of the text were left at the word at which it did.
+/// Why reading stopped, and how many bytes of the text remain at the word where it did.
 #[derive(Clone, Copy, Debug)]
 pub(crate) struct Stop {
     pub(crate) kind: Kind,
     pub(crate) left: usize,
 }
 
-/// Where in a source text a word stands.
+/// The place of a word in a source text.
 #[derive(Clone, Copy, Debug, PartialEq, Eq)]
 pub(crate) enum Place {
-    /// Before the root's body or behind it.
+    /// Before or after the root's body.
     Outside,
     /// In the root's body.
     Body,
@@ -24,7 +24,7 @@ pub(crate) enum Place {
     Cells,
 }
 
-/// A text ends too early.
+/// Returns the fault of a text that ends too early.
 pub(crate) fn ends_early() -> Stop
     ensures { IsInText result.kind }
 {
@@ -34,7 +34,7 @@ pub(crate) fn ends_early() -> Stop
     }
 }
 
-/// A text cannot go on with a word at this place.
+/// Returns the fault of a word that is not allowed at this place.
 pub(crate) fn unexpected(token: Token<'_>, place: Place) -> Stop
     ensures { IsInText result.kind }
 {

@@ -28,7 +28,7 @@ fn hex_escape(text: &[u8]) -> Option<(u8, usize)>
     }
 }
 
-// What an escape stands for, and how many bytes it takes behind its backslash.
+// Decodes an escape. Returns its byte, and its length after the backslash.
 #[tactic(auto, unfolding(crate::specs::Strings::escape))]
 fn escape(text: &[u8]) -> Option<(u8, usize)>
     ensures value { result ≡ escape text.now }
@@ -47,7 +47,7 @@ fn escape(text: &[u8]) -> Option<(u8, usize)>
     }
 }
 
-// What a byte stands for in a string, and how many bytes behind it belong to it.
+// Decodes a byte of a string. Returns what it stands for, and how many bytes after it it takes.
 #[tactic(auto, unfolding(crate::specs::Strings::unit))]
 fn unit(a: u8, after: &[u8]) -> Option<(u8, usize)>
     ensures unit { result ≡ unit a after.now }
@@ -60,7 +60,7 @@ fn unit(a: u8, after: &[u8]) -> Option<(u8, usize)>
     }
 }
 
-/// How many bytes a string has behind its opening quote, its closing quote too.
+/// Returns the length of a string after its opening quote, the closing quote included.
 pub(crate) fn string_length(text: &[u8]) -> Option<usize>
     ensures length { result ≡ string_end 0 text.now }
     ensures within { IfSome result (λ n. n ≤ length text.now) }
@@ -76,7 +76,7 @@ pub(crate) fn string_length(text: &[u8]) -> Option<usize>
     None
 }
 
-/// Why no string begins behind a quote: it is not closed, or else an escape in it is bad.
+/// Returns why no string begins after a quote: it is not closed, or else it has a bad escape.
 pub(crate) fn string_fault(text: &[u8]) -> Kind
     ensures { IsInText result }
 {
@@ -90,7 +90,7 @@ pub(crate) fn string_fault(text: &[u8]) -> Kind
     Kind::BadToken
 }
 
-/// Appends what a string stands for, from the text behind its opening quote.
+/// Appends the bytes of a string, given the text after its opening quote.
 pub(crate) fn push_string<A: Allocator>(out: &mut Vec<u8, A>, text: &[u8]) -> Result<(), AllocError>
     ensures { OnOk result (out.new.items ≡ out.old.items ++ string_bytes 0 text.now) }
 {

@@ -20,8 +20,8 @@ pub(crate) enum Mark {
     Apostrophe,
 }
 
-/// A word of a source text: a name word, a directive by what stands between its slashes, a string
-/// by the text behind its opening quote, or a mark.
+/// A word of a source text: a name word, a directive (the text between its slashes), a string (the
+/// text after its opening quote), or a mark.
 #[derive(Clone, Copy, Debug)]
 pub(crate) enum Word<'a> {
     Name(&'a [u8]),
@@ -30,7 +30,7 @@ pub(crate) enum Word<'a> {
     Mark(Mark),
 }
 
-/// A word, and how many bytes of the text are left where it begins.
+/// A word, and how many bytes of the text remain where it begins.
 #[derive(Clone, Copy, Debug)]
 pub(crate) struct Token<'a> {
     pub(crate) word: Word<'a>,

@@ -1,4 +1,4 @@
-//! Values, and which of them stay files.
+//! Values, some of which stay files.
 
 ghost use Rattle.std.specs.Prelude.{◌≡◌, ◌<◌, ◌≤◌, Some, IfSome, IfOk, length, codes, false};
 ghost use Rattle.uimg_tree.specs.Content.{bytes_in};
@@ -22,7 +22,7 @@ use std::alloc::Allocator;
 use uimg_base::Files;
 use uimg_tree::{ByteList, Value};
 
-// Whether a value is the last, by the word behind it.
+// Returns whether a value is the last, from the word after it.
 fn ends(token: Token<'_>) -> Result<bool, Stop>
     ensures { ReadsText (λ x. x) result (ends (word_of token.entry.word)) }
 {
@@ -33,7 +33,7 @@ fn ends(token: Token<'_>) -> Result<bool, Stop>
     }
 }
 
-// Appends a value, which a word begins, and gives the text behind it.
+// Appends the value that a word begins. Returns the text after it.
 #[tactic(auto, unfolding(crate::specs::Reader::value_of))]
 fn value_of<'a, F: Files, A: Allocator + Copy>(
     alloc: A,
@@ -63,7 +63,7 @@ fn value_of<'a, F: Files, A: Allocator + Copy>(
     }
 }
 
-// Appends a value: whether it is the last, and the text behind the word that tells so.
+// Appends a value. Returns whether it is the last, and the text after the word that shows this.
 #[tactic(auto, unfolding(crate::specs::Reader::value_step, crate::specs::Reader::value))]
 fn value_step<'a, F: Files, A: Allocator + Copy>(
     alloc: A,
@@ -83,7 +83,7 @@ fn value_step<'a, F: Files, A: Allocator + Copy>(
     Ok((last, rest))
 }
 
-// Appends values up to their end, and gives the text behind it.
+// Appends values up to their end. Returns the text after it.
 fn values<'a, F: Files, A: Allocator + Copy>(
     alloc: A,
     files: &mut F,
@@ -105,8 +105,8 @@ fn values<'a, F: Files, A: Allocator + Copy>(
     }
 }
 
-// The value of a property named `data` that is one file, and the text behind the property; `None`
-// where the value is something else.
+// Reads the value of a property named `data` if it is one file. Returns it with the text after the
+// property, or `None` if the value is something else.
 fn data_file<'a, F: Files, A: Allocator>(
     alloc: A,
     files: &mut F,
@@ -129,8 +129,8 @@ fn data_file<'a, F: Files, A: Allocator>(
     Ok(Some((value, found.rest)))
 }
 
-/// The value behind the equals sign of a property, and the text behind the property. Where the
-/// property is named `data` and its value is one file and nothing else, the file stays a file.
+/// Reads the value after the equals sign of a property. Returns it and the text after the property.
+/// If the property is named `data` and its value is just one file, the value stays a file.
 pub(crate) fn assigned<'a, F: Files, A: Allocator + Copy>(
     alloc: A,
     files: &mut F,

@@ -1,4 +1,4 @@
--- All names of image.h of U-Boot 2023.01, with its codes, sorted by the short names.
+-- All names of image.h of U-Boot 2023.01, with their codes, sorted by short name.
 use Rattle.std.specs.Prelude.{List, [], ◌∷◌, codes}
 use Rattle.uimg_texts.specs.Names.{Row, row}
 

@@ -1,4 +1,4 @@
--- What codes are called, and which code a name stands for, by one of two sets of tables.
+-- The names of codes and the codes of names, in one of two sets of tables.
 use Rattle.std.specs.Prelude.{ℕ, List, Option, codes, find}
 use Rattle.std.specs.Option.{option_map, option_map_or}
 use Rattle.std.specs.Str.{str_eq_ignore_ascii_case}
@@ -23,27 +23,27 @@ all_rows System = all_systems
 all_rows Kind = all_types
 all_rows Compression = all_compressions
 
--- what is printed where there is no such code or name
+-- the text printed for an unknown code or name
 abbrev pub unknown : Field → List ℕ
 unknown Architecture = codes "Unknown Architecture"
 unknown System = codes "Unknown OS"
 unknown Kind = codes "Unknown Image"
 unknown Compression = codes "Unknown Compression"
 
--- the code of the first row of that name, in capital or small letters
+-- the code in the first row with this name, ignoring case
 abbrev pub code_in_any_case : List Row → List ℕ → Option ℕ
 code_in_any_case table name = option_map (λ r. r.code) (find (λ r. str_eq_ignore_ascii_case r.short name) table)
 
--- what a code is called
+-- the printed name of a code
 unfoldable pub code_text : Naming → Field → ℕ → List ℕ
 code_text Profile field code = printed (profile_rows field) (unknown field) code
 code_text All field code = printed (all_rows field) (unknown field) code
 
--- the code of a name, whose letters are taken as they are in the profile alone
+-- the code of a name; case matters in the profile only
 abbrev pub code_named : Naming → Field → List ℕ → Option ℕ
 code_named Profile field name = code_of (profile_rows field) name
 code_named All field name = code_in_any_case (all_rows field) name
 
--- what the code of a name is called
+-- the printed name of the code of a name
 unfoldable pub name_text : Naming → Field → List ℕ → List ℕ
 name_text naming field name = option_map_or (code_text naming field) (code_named naming field name) (unknown field)

@@ -1,9 +1,8 @@
-//! All names of image.h of U-Boot 2023.01, with its codes, sorted by the short names.
+//! All names of image.h of U-Boot 2023.01, with their codes, sorted by short name.
 
 use uimg_texts::CodeRow;
 
-// The architectures, by their `IH_ARCH_` codes. `ppc`, which is another name of
-// `powerpc`, stands at the end.
+// The architectures, with their `IH_ARCH_` codes. `ppc`, another name of `powerpc`, comes last.
 pub(crate) const ARCHITECTURES: [CodeRow; 26] = [
     ("alpha", 1, "Alpha"),
     ("arc", 23, "ARC"),
@@ -33,7 +32,7 @@ pub(crate) const ARCHITECTURES: [CodeRow; 26] = [
     ("ppc", 7, "PowerPC"),
 ];
 
-// The operating systems, by their `IH_OS_` codes.
+// The operating systems, with their `IH_OS_` codes.
 pub(crate) const SYSTEMS: [CodeRow; 26] = [
     ("4_4bsd", 4, "4_4BSD"),
     ("arm-trusted-firmware", 25, "ARM Trusted Firmware"),
@@ -63,7 +62,7 @@ pub(crate) const SYSTEMS: [CodeRow; 26] = [
     ("vxworks", 14, "VxWorks"),
 ];
 
-// The image types, by their `IH_TYPE_` codes.
+// The image types, with their `IH_TYPE_` codes.
 pub(crate) const TYPES: [CodeRow; 41] = [
     ("aisimage", 13, "Davinci AIS image"),
     ("atmelimage", 18, "ATMEL ROM-Boot Image"),
@@ -108,7 +107,7 @@ pub(crate) const TYPES: [CodeRow; 41] = [
     ("zynqmpimage", 27, "Xilinx ZynqMP Boot Image"),
 ];
 
-// The compressions, by their `IH_COMP_` codes.
+// The compressions, with their `IH_COMP_` codes.
 pub(crate) const COMPRESSIONS: [CodeRow; 7] = [
     ("bzip2", 2, "bzip2 compressed"),
     ("gzip", 1, "gzip compressed"),

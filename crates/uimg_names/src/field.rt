@@ -26,8 +26,8 @@ pub enum Field {
 }
 
 impl Field {
-    /// All its names in image.h of U-Boot 2023.01, sorted by the short ones; `ppc`, which is another
-    /// name of `powerpc`, is the last of the architectures.
+    /// Returns all names of the field in image.h of U-Boot 2023.01, sorted by short name. `ppc`,
+    /// another name of `powerpc`, is the last architecture.
     pub fn rows(self) -> &'static [CodeRow]
         ensures { map row_of result.now ≡ all_rows self }
     {
@@ -39,7 +39,7 @@ impl Field {
         }
     }
 
-    /// What is printed for a code or a name that there is not, as `Unknown OS`.
+    /// Returns the text printed for an unknown code or name, such as `Unknown OS`.
     pub fn unknown(self) -> &'static str
         ensures { result.now ≡ unknown self }
     {
@@ -51,7 +51,7 @@ impl Field {
         }
     }
 
-    // What a code is called in image.h.
+    // Returns the printed name of a code in image.h.
     pub(crate) fn text_of(self, code: u8) -> &'static str
         ensures { result.now ≡ printed (all_rows self) (unknown self) code }
     {
@@ -64,7 +64,7 @@ impl Field {
         self.unknown()
     }
 
-    // The code of a name of image.h, in capital or small letters.
+    // Looks up the code of a name of image.h. Case does not matter.
     pub(crate) fn code_of(self, name: &[u8]) -> Option<u8>
         ensures { result ≡ code_in_any_case (all_rows self) name.now }
     {
@@ -78,7 +78,7 @@ impl Field {
     }
 }
 
-// Whether a name is another one but for capital letters.
+// Returns whether two names are equal, ignoring case.
 fn is_same(short: &str, name: &[u8]) -> bool
     ensures { result ≡ str_eq_ignore_ascii_case short.now name.now }
 {

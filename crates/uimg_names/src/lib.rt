@@ -1,5 +1,5 @@
-//! What the codes of architectures, operating systems, image types and compressions are called: by the
-//! names of the profile, or by all that U-Boot has.
+//! Printed names of architectures, operating systems, image types and compressions: the profile's,
+//! or all that U-Boot has.
 #![tactic(auto)]
 
 mod all_names;

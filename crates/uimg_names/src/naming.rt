@@ -9,15 +9,15 @@ use crate::profile::{profile_code, profile_text};
 /// A set of names.
 #[derive(Clone, Copy, Debug, PartialEq, Eq)]
 pub enum Naming {
-    /// The names of the profile, spelled exactly.
+    /// The names of the profile; case matters.
     Profile,
 
-    /// All names of image.h of U-Boot 2023.01, in capital or small letters.
+    /// All names of image.h of U-Boot 2023.01; case does not matter.
     All,
 }
 
 impl Naming {
-    /// What a code of a field is called, `Unknown OS` and the like where it has no name.
+    /// Returns the printed name of a code, or `Unknown OS` and the like if it has none.
     #[tactic(auto, unfolding(crate::specs::Naming::code_text))]
     pub fn code_text(self, field: Field, code: u8) -> &'static str
         ensures { result.now ≡ code_text self field code }
@@ -28,7 +28,7 @@ impl Naming {
         }
     }
 
-    /// The code of a name of a field, `None` where no code has it.
+    /// Returns the code of a name, or `None` if no code has it.
     pub fn code_named(self, field: Field, name: &[u8]) -> Option<u8>
         ensures { result ≡ code_named self field name.now }
     {
@@ -38,7 +38,7 @@ impl Naming {
         }
     }
 
-    /// What the code of a name is called, `Unknown OS` and the like where no code has it.
+    /// Returns the printed name of a name's code, or `Unknown OS` and the like if it has none.
     #[tactic(auto, unfolding(crate::specs::Naming::name_text))]
     pub fn name_text(self, field: Field, name: &[u8]) -> &'static str
         ensures { result.now ≡ name_text self field name.now }

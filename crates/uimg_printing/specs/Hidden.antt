@@ -1,9 +1,9 @@
--- Letters that are not seen as letters: the general categories Cc, Cf, Zl and Zp of Unicode 15 (Unicode Standard, section 4.5),
--- with the letters between them that are not assigned, and the backslash.
+-- Characters that are not visible as such: the general categories Cc, Cf, Zl and Zp of Unicode 15
+-- (Unicode Standard, section 4.5), the unassigned ones between them, and the backslash.
 use Rattle.std.specs.Prelude.{ℕ, nat_le, ◌&&◌, List, [], ◌∷◌, Bool}
 use Rattle.std.specs.List.{list_any}
 
--- the first and the last letter of each range
+-- the first and last character of each range
 abbrev pub hidden_ranges : List (ℕ × ℕ)
 hidden_ranges =
     (0, 0x1f) ∷ (0x5c, 0x5c) ∷ (0x7f, 0x9f) ∷ (0xad, 0xad) ∷ (0x600, 0x605) ∷ (0x61c, 0x61c) ∷ (0x6dd, 0x6dd) ∷ (0x70f, 0x70f)
@@ -11,7 +11,7 @@ hidden_ranges =
     ∷ (0xfeff, 0xfeff) ∷ (0xfff9, 0xfffb) ∷ (0x110bd, 0x110bd) ∷ (0x110cd, 0x110cd) ∷ (0x13430, 0x1343f)
     ∷ (0x1bca0, 0x1bca3) ∷ (0x1d173, 0x1d17a) ∷ (0xe0001, 0xe007f) ∷ []
 
--- whether a letter is of a range
+-- whether a character is in a range
 abbrev pub is_in : ℕ → ℕ × ℕ → Bool
 is_in letter range = nat_le range.0 letter && nat_le letter range.1
 

@@ -1,4 +1,4 @@
--- Members of an object of JSON (RFC 8259), and names as such, which need not be UTF-8.
+-- Members of a JSON object (RFC 8259), and names, which need not be UTF-8.
 use Rattle.std.specs.Prelude.{ℕ, List, [], ◌∷◌, ◌++◌, codes, decimal, Bool, true, false, Option, Some, None}
 use Rattle.std.specs.List.{flat_map}
 use Rattle.std.specs.Str.{is_utf8}
@@ -9,11 +9,11 @@ use Rattle.json.specs.Json.{Json, object, array, string, number, Items, no_items
 use Rattle.json.specs.Token.{Token}
 use Rattle.json.specs.Tree.{json_tokens}
 
--- a member: its name and its value
+-- a member: name and value
 abbrev pub Member : Type 0
 Member = List ℕ × Json
 
--- the members of an object, in their order
+-- the members of an object, in order
 abbrev pub members_of : List Member → Members
 members_of [] = no_members
 members_of (m ∷ ms) = member m.0 m.1 (members_of ms)
@@ -21,7 +21,7 @@ members_of (m ∷ ms) = member m.0 m.1 (members_of ms)
 abbrev pub object_of : List Member → Json
 object_of ms = object (members_of ms)
 
--- the items of an array, in their order
+-- the items of an array, in order
 abbrev pub items_of : List Json → Items
 items_of [] = no_items
 items_of (j ∷ js) = item j (items_of js)
@@ -29,7 +29,7 @@ items_of (j ∷ js) = item j (items_of js)
 abbrev pub array_of : List Json → Json
 array_of js = array (items_of js)
 
--- the tokens of members, without those of the object that has them
+-- the tokens of members, without those of the enclosing object
 abbrev pub member_tokens : Member → List Token
 member_tokens m = Token.key m.0 ∷ json_tokens m.1
 
@@ -40,7 +40,7 @@ tokens_of = flat_map member_tokens
 abbrev pub string_member : List ℕ → List ℕ → List Member
 string_member name s = (name, string s) ∷ []
 
--- a number that is there
+-- a number
 abbrev pub number_member : List ℕ → ℕ → List Member
 number_member name n = (name, number (decimal n)) ∷ []
 
@@ -48,17 +48,17 @@ abbrev pub number_if : List ℕ → Option ℕ → List Member
 number_if name None = []
 number_if name (Some n) = number_member name n
 
--- a text: its bytes by base64 (RFC 4648, section 4), or as UTF-8, with U+FFFD in place of what is not
--- (Unicode Standard, section 3.9)
+-- a text: in base64 (RFC 4648, section 4), or as UTF-8 with U+FFFD in place of other bytes (Unicode
+-- Standard, section 3.9)
 abbrev pub spelled : Bool → List ℕ → Json
 spelled true t = string (encode_of standard t)
 spelled false t = string (utf8_lossy t)
 
--- the name of the member beside, that has the bytes of what is not UTF-8
+-- the name of the member that has the bytes of a text that is not UTF-8
 abbrev pub of_bytes : List ℕ → List ℕ
 of_bytes name = name ++ codes "_base64"
 
--- the member beside, where it is needed
+-- that member, if it is needed
 abbrev pub beside : Bool → List ℕ → Json → List Member
 beside true name bytes = []
 beside false name bytes = (of_bytes name, bytes) ∷ []

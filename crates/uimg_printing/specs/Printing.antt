@@ -1,4 +1,4 @@
--- Names as they stand in lines of text.
+-- Names in lines of text.
 use Rattle.std.specs.Prelude.{ℕ, ◌/◌, ◌%◌, ◌==◌, ◌&&◌, ◌||◌, not, nat_le, nat_lt, List, [], ◌∷◌, ◌++◌, codes, chars, encode_utf8, Bool, false, if◌then◌else◌}
 use Rattle.std.specs.Fmt.{digit_glyph}
 use Rattle.std.specs.List.{flat_map, list_all}
@@ -13,11 +13,11 @@ digits_of byte = digit_glyph false (byte / 16 % 16) ∷ digit_glyph false (byte 
 abbrev pub byte_text : ℕ → List ℕ
 byte_text byte = codes "\\x" ++ digits_of byte
 
--- whether a letter ends a word of a line
+-- whether a character ends a word of a line: space, colon or comma
 abbrev pub ends_word : ℕ → Bool
 ends_word letter = letter == 32 || letter == 58 || letter == 44
 
--- a letter, or its bytes, where it is hidden, or would end the word that the name is
+-- a character, or its bytes as \xNN if it is hidden or would end a word
 unfoldable pub letter_text : Bool → ℕ → List ℕ
 letter_text is_word letter =
     if is_hidden letter || (is_word && ends_word letter) then flat_map byte_text (encode_utf8 letter) else encode_utf8 letter
@@ -26,11 +26,11 @@ letter_text is_word letter =
 unfoldable pub odd_text : Bool → ℕ → List ℕ
 odd_text is_word byte = if nat_lt byte 128 then letter_text is_word byte else byte_text byte
 
--- a name, as a word of a line or as all that stands there
+-- a name in a line, as one word or not
 unfoldable pub printed : Bool → List ℕ → List ℕ
 printed is_word name =
     if is_utf8 name then flat_map (letter_text is_word) (chars name) else flat_map (odd_text is_word) name
 
--- no byte of a text is a control character of ASCII, as those that end a line are
+-- no byte is a control character of ASCII, so none ends a line
 abbrev pub is_shown : List ℕ → Bool
 is_shown = list_all (λ byte. nat_le 32 byte && not (byte == 127))

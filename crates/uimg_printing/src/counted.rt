@@ -1,4 +1,4 @@
-//! Numbers of things, and bytes in hexadecimal.
+//! Counts with a noun, and bytes in hexadecimal.
 
 ghost use Rattle.std.specs.Prelude.{◌≡◌, Some};
 ghost use Rattle.std.specs.Fmt.{WritesOnOk};
@@ -10,16 +10,16 @@ use crate::digits::put_digits;
 use std::fmt;
 use std::fmt::{Display, Formatter, Write};
 
-/// A number of things, with their noun: `1 hash`, `2 hashes`.
+/// A count with its noun: `1 hash`, `2 hashes`.
 #[derive(Clone, Copy, Debug)]
 pub struct Counted {
-    /// How many they are.
+    /// The count.
     pub count: u64,
 
-    /// The noun of one.
+    /// The noun in the singular.
     pub one: &'static str,
 
-    /// That of another number.
+    /// The noun in the plural.
     pub many: &'static str,
 }
 
@@ -33,7 +33,7 @@ impl Display for Counted {
     }
 }
 
-/// Bytes in hexadecimal, two small digits each.
+/// Bytes in hexadecimal, two lowercase digits each.
 #[derive(Clone, Copy, Debug)]
 pub struct Hexadecimal<'a>(pub &'a [u8]);
 

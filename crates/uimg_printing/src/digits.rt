@@ -7,7 +7,6 @@ ghost use Rattle.uimg_printing.specs.Printing.{digits_of};
 use std::fmt;
 use std::fmt::{Formatter, Write};
 
-// A hexadecimal digit.
 fn digit(value: u8) -> u8
     requires { value < 16 }
     ensures { result ≡ digit_glyph false value }
@@ -19,7 +18,7 @@ fn digit(value: u8) -> u8
     }
 }
 
-// Writes both digits of a byte.
+// Writes both hexadecimal digits of a byte.
 pub(crate) fn put_digits<W: Write>(byte: u8, f: &mut Formatter<W>) -> fmt::Result
     ensures { WritesOnOk W.Write.write_str_gives f.old result (digits_of byte) f.new }
 {

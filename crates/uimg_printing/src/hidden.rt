@@ -1,11 +1,11 @@
-//! Letters that are not seen as letters.
+//! Characters that are not visible as such.
 
 ghost use Rattle.std.specs.Prelude.{◌≡◌};
 ghost use Rattle.std.specs.List.{list_any};
 ghost use Rattle.uimg_printing.specs.Hidden.{is_in, is_hidden};
 
-// The control and format characters of Unicode 15, its separators of lines and of paragraphs, and the
-// backslash: the first and the last of each range.
+// The control and format characters of Unicode 15, its line and paragraph separators, and the
+// backslash, as ranges: first and last character.
 const HIDDEN: [(char, char); 22] = [
     ('\0', '\x1f'),
     ('\\', '\\'),
@@ -31,7 +31,7 @@ const HIDDEN: [(char, char); 22] = [
     ('\u{e0001}', '\u{e007f}'),
 ];
 
-// Whether a letter is of one of some ranges.
+// Returns whether a character is in one of the ranges.
 fn is_among(letter: char, ranges: &[(char, char)]) -> bool
     ensures { result ≡ list_any (is_in letter) ranges.now }
 {
@@ -43,8 +43,8 @@ fn is_among(letter: char, ranges: &[(char, char)]) -> bool
     false
 }
 
-/// Whether a letter is a backslash, or is not seen as a letter: a control or format character of Unicode
-/// (Cc, Cf), or a separator of lines or paragraphs (Zl, Zp).
+/// Returns whether a character is a backslash or not visible: a control or format character of
+/// Unicode (Cc, Cf), or a line or paragraph separator (Zl, Zp).
 #[tactic(auto, unfolding(crate::specs::Hidden::is_hidden))]
 pub fn is_hidden(letter: char) -> bool
     ensures { result ≡ is_hidden letter }

@@ -1,5 +1,5 @@
-//! What stands in lines and in JSON objects: names, of which none makes a line of its own, numbers of
-//! things, bytes, members of objects one by one, and names that need not be UTF-8.
+//! Parts of lines and of JSON objects: names that cannot break a line, counts, bytes, members of
+//! objects, and names that need not be UTF-8.
 #![tactic(auto)]
 
 mod counted;

@@ -1,4 +1,4 @@
-//! Members of objects. Each call appends the tokens of just these members, unless memory was refused.
+//! Members of JSON objects. Each call appends just these members, unless memory was refused.
 
 ghost use Rattle.std.specs.Prelude.{◌≡◌, ◌++◌, [], ◌∷◌};
 ghost use Rattle.json.specs.Token.{Token};
@@ -9,7 +9,7 @@ use crate::spelling::spell;
 use json::Writer;
 use std::alloc::{AllocError, Global};
 
-/// Writes the key of a name that another word ends.
+/// Writes a key: a name with a suffix.
 pub fn put_key(alloc: Global, writer: &mut Writer, name: &str, end: &str) -> Result<(), AllocError>
     ensures { Appends result writer.old writer.new (Token.key (name.now ++ end.now) ∷ []) }
 {
@@ -47,7 +47,7 @@ pub fn put_number_if(writer: &mut Writer, name: &str, number: Option<u64>) -> Re
     }
 }
 
-// Writes the bytes of what is not UTF-8, by base64.
+// Writes the bytes of a text that is not UTF-8, in base64.
 fn put_base64(
     alloc: Global,
     writer: &mut Writer,
@@ -62,7 +62,7 @@ fn put_base64(
     Ok(())
 }
 
-/// Writes a text, with its bytes beside it where it is not UTF-8.
+/// Writes a text and, if it is not UTF-8, its bytes in another member.
 pub fn put_text(
     alloc: Global,
     writer: &mut Writer,

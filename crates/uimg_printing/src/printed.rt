@@ -1,4 +1,4 @@
-//! Names in lines.
+//! Names in lines of text.
 
 ghost use Rattle.std.specs.Prelude.{◌≡◌, Some, true, false, chars};
 ghost use Rattle.std.specs.Fmt.{WritesOnOk};
@@ -10,9 +10,9 @@ use crate::hidden::is_hidden;
 use std::fmt;
 use std::fmt::{Display, Formatter, Write};
 
-/// A name in a line of text: backslashes, control characters and those that end a line, turn its
-/// direction or are not seen, and in a name that is not UTF-8 all that is not ASCII, stand as `\xNN`,
-/// byte by byte. So the text has no byte below 32 and no DEL, whatever the name is
+/// A name in a line of text. Printed as `\xNN`, byte by byte, are: backslashes; characters that are
+/// control characters, end a line, change its direction or are not visible; and, in a name that is
+/// not UTF-8, every byte that is not ASCII. The text never has a byte below 32 or a DEL
 /// (`proofs/ShownLaws.antt`).
 #[derive(Clone, Copy, Debug)]
 pub struct Printed<'a>(pub &'a [u8]);
@@ -25,7 +25,7 @@ impl<'a> Display for Printed<'a> {
     }
 }
 
-/// A name that is a word of a line: as `Printed`, and spaces, colons and commas stand as `\xNN` too.
+/// A name that is one word of a line: as `Printed`, with spaces, colons and commas as `\xNN` too.
 #[derive(Clone, Copy, Debug)]
 pub struct PrintedWord<'a>(pub &'a [u8]);
 

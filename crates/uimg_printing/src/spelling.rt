@@ -1,4 +1,4 @@
-//! How a name is spelled that need not be UTF-8.
+//! Spelling of names that need not be UTF-8.
 
 ghost use Rattle.std.specs.Prelude.{◌≡◌, Some, None, IfOk, option_map};
 ghost use Rattle.std.specs.Str.{IsUtf8};
@@ -10,17 +10,17 @@ ghost use Rattle.base64.specs.GeneralPurpose.{encode_of};
 use base64::engine::general_purpose::STANDARD;
 use std::alloc::{AllocError, Global};
 
-/// How a name is spelled.
+/// A spelled name.
 #[derive(Drop)]
 pub struct Spelling {
-    /// The name, with U+FFFD in place of what is not UTF-8.
+    /// The name, with U+FFFD in place of bytes that are not UTF-8.
     pub text: String,
 
-    /// The bytes of a name that is not UTF-8, by base64 (RFC 4648, section 4).
+    /// The bytes in base64 (RFC 4648, section 4), if the name is not UTF-8.
     pub base64: Option<String>,
 }
 
-/// Spells a name. One that is UTF-8 is its own text, and has no bytes beside it. Memory may be refused.
+/// Spells a name. A UTF-8 name is its own text, alone. Returns `AllocError` if memory was refused.
 pub fn spell(alloc: Global, name: &[u8]) -> Result<Spelling, AllocError>
     ensures text { IfOk result (λ s. string_bytes s.text ≡ utf8_lossy name.now) }
     ensures same { IfOk result (λ s. IsUtf8 name.now →

@@ -1,4 +1,4 @@
--- The algorithms of checksums and hashes: their names, the length of their digests, and the digests.
+-- The checksum and hash algorithms: names, digest lengths, and digests.
 use Rattle.std.specs.Prelude.{ℕ, List, [], ◌∷◌, Option, codes, find}
 use Rattle.std.specs.Borrow.{Bor}
 use Rattle.std.specs.Int.{to_be_bytes, w32}
@@ -20,7 +20,7 @@ pub record AlgoRow : Type 0 where
 abbrev algo_row : List ℕ → Algo → AlgoRow
 algo_row name algo = record { name = name; algo = algo }
 
--- the names as the hash nodes of a FIT image spell them, and U-Boot's hash.c
+-- the names, as in the hash nodes of a FIT image and in U-Boot's hash.c
 abbrev pub algo_table : List AlgoRow
 algo_table =
     algo_row (codes "crc32") Crc32
@@ -31,15 +31,15 @@ algo_table =
     ∷ algo_row (codes "sha512") Sha512
     ∷ []
 
--- the algorithm of the first row of that name
+-- the algorithm in the first row with this name
 abbrev pub algo_of_name : List AlgoRow → List ℕ → Option Algo
 algo_of_name table name = option_map (λ r. r.algo) (find (λ r. bytes_eq name r.name) table)
 
--- the same by that table
+-- the algorithm of this name in `algo_table`
 abbrev pub algo_named : List ℕ → Option Algo
 algo_named name = algo_of_name algo_table name
 
--- a row of the code's table
+-- a row of the table in the code
 abbrev pub algo_row_of : Bor (List ℕ) × Algo → AlgoRow
 algo_row_of r = algo_row r.0.now r.1
 
@@ -52,8 +52,8 @@ digest_size Sha256 = 32
 digest_size Sha384 = 48
 digest_size Sha512 = 64
 
--- the digest of a message; that of CRC-32 is the number in four bytes, the highest first
--- (RFC 1321; FIPS 180-4, sections 6.1, 6.2, 6.4 and 6.5)
+-- the digest of a message; for CRC-32 the number in four bytes, big-endian (RFC 1321; FIPS 180-4,
+-- sections 6.1, 6.2, 6.4 and 6.5)
 abbrev pub digest_by : Algo → List ℕ → List ℕ
 digest_by Crc32 message = to_be_bytes w32 (crc message)
 digest_by Md5 message = md5 message

@@ -1,4 +1,4 @@
--- A sum by any of the algorithms.
+-- A sum with any of the algorithms.
 use Rattle.std.specs.Prelude.{◌≡◌, ◌<◌, ◌-◌, ℕ, List, ◌++◌, length, replicate}
 use Rattle.std.specs.List.{AllByRecursion}
 use Rattle.md5.specs.Md5 as md5
@@ -19,7 +19,7 @@ algo_of (Sha256 sum) = algos.Sha256
 algo_of (Sha384 sum) = algos.Sha384
 algo_of (Sha512 sum) = algos.Sha512
 
--- Those bytes may have been fed to the sum.
+-- These bytes may have been fed to the sum.
 abbrev pub SumHolds : AnySum → List ℕ → Type 0
 SumHolds (Crc32 sum) fed = (sum.register ≡ register_of fed) × AllByRecursion (λ b. b < 256) fed
 SumHolds (Md5 sum) fed = md5.Holds sum.hasher fed
@@ -28,6 +28,6 @@ SumHolds (Sha256 sum) fed = Holds256 sum.hasher fed
 SumHolds (Sha384 sum) fed = Holds384 sum.hasher fed
 SumHolds (Sha512 sum) fed = Holds512 sum.hasher fed
 
--- a digest in 64 bytes, with zeros behind it, and its length
+-- a digest, padded with zeros to 64 bytes, and its length
 abbrev pub padded_digest : List ℕ → List ℕ × ℕ
 padded_digest digest = (digest ++ replicate (64 - length digest) 0, length digest)

@@ -8,31 +8,31 @@ use Rattle.uimg_sums.specs.declared.algo.Algo.{Algo}
 use Rattle.uimg_sums.specs.declared.any_sum.AnySum.{AnySum}
 use Rattle.uimg_sums.specs.declared.bundle.Bundle.{Bundle}
 
--- the algorithms, and `None` for each slot that is left of eight
+-- the algorithms, padded with `None` to eight slots
 abbrev pub eight_slots : List Algo → List (Option Algo)
 eight_slots algos = map Some algos ++ replicate (8 - length algos) None
 
--- Where the slot has a sum, those bytes may have been fed to it.
+-- If the slot has a sum, these bytes may have been fed to it.
 abbrev pub SlotHolds : List ℕ → Option AnySum → Type 0
 SlotHolds fed slot = IfSome slot (λ sum. SumHolds sum fed)
 
--- whether there is a byte
+-- whether the list has a byte
 abbrev pub has_bytes : List ℕ → Bool
 has_bytes [] = false
 has_bytes (b ∷ bytes) = true
 
--- The sums are by these algorithms, in this order, and those bytes may have been fed to each.
+-- The sums have these algorithms, in order, and these bytes may have been fed to each.
 pub record Holds (bundle : Bundle) (algos : List Algo) (fed : List ℕ) : Type 0 where
   pub order : map (option_map algo_of) bundle.sums ≡ eight_slots algos
   pub count : bundle.count ≡ length algos
   pub has_fed : bundle.has_fed ≡ has_bytes fed
   pub each : All (SlotHolds fed) bundle.sums
 
--- the digest by the algorithm of a slot, or nothing where it has none
+-- the digest for a slot's algorithm, or nothing if it has none
 abbrev pub digest_at : List ℕ → Option Algo → List ℕ
 digest_at fed None = []
 digest_at fed (Some algo) = digest_by algo fed
 
--- The digest of each of the eight slots.
+-- the padded digests of the eight slots
 abbrev pub padded_digests : List Algo → List ℕ → List (List ℕ × ℕ)
 padded_digests algos fed = map (λ slot. padded_digest (digest_at fed slot)) (eight_slots algos)

@@ -1,8 +1,8 @@
--- The register of the CRC, a bit and a byte at a time.
+-- The CRC register, by bit steps and byte steps.
 use Rattle.std.specs.Prelude.{ℕ, zero, suc, ◌-◌, ◌^◌, ◌/◌, ◌%◌, List, bit_xor, ◌==◌, if◌then◌else◌}
 use Rattle.std.specs.List.{fold}
 
--- Half the number, whole. Where its lowest bit was 1, that half XOR the polynomial.
+-- the number shifted right by one, and XORed with the polynomial if its lowest bit was 1
 abbrev pub bit_step : ℕ → ℕ
 bit_step x = if x % 2 == 1 then bit_xor (x / 2) 0xEDB88320 else x / 2
 

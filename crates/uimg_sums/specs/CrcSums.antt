@@ -1,9 +1,9 @@
--- What may have been fed to a CRC.
+-- Which bytes may have been fed to a CRC.
 use Rattle.std.specs.Prelude.{◌≡◌, ◌<◌, ℕ, List}
 use Rattle.std.specs.List.{AllByRecursion}
 use Rattle.uimg_sums.specs.CrcSteps.{register_of}
 use Rattle.uimg_sums.specs.declared.crc.Crc.{Crc}
 
--- Those bytes may have been fed to it.
+-- These bytes may have been fed to it.
 abbrev pub Holds : Crc → List ℕ → Type 0
 Holds sum fed = (sum.register ≡ register_of fed) × AllByRecursion (λ b. b < 256) fed

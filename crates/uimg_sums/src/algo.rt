@@ -1,9 +1,9 @@
-//! An algorithm, by its name.
+//! Algorithms and their names.
 
 ghost use Rattle.std.specs.Prelude.{◌≡◌, map};
 ghost use Rattle.uimg_sums.specs.Algorithms.{algo_of_name, algo_row_of, algo_named, digest_size};
 
-/// The algorithm of a checksum or a hash, by ITU-T V.42 (CRC-32), RFC 1321 (MD5) or FIPS 180-4.
+/// A checksum or hash algorithm: ITU-T V.42 (CRC-32), RFC 1321 (MD5) or FIPS 180-4 (SHA).
 #[derive(Clone, Copy, Debug, PartialEq, Eq)]
 pub enum Algo {
     Crc32,
@@ -14,7 +14,7 @@ pub enum Algo {
     Sha512,
 }
 
-// The names, spelled as in the `algo` property of a FIT image's hash nodes, and in U-Boot's `hash.c`.
+// The names, as in the `algo` property of a FIT hash node and in U-Boot's `hash.c`.
 const NAMES: [(&str, Algo); 6] = [
     ("crc32", Algo::Crc32),
     ("md5", Algo::Md5),
@@ -24,7 +24,7 @@ const NAMES: [(&str, Algo); 6] = [
     ("sha512", Algo::Sha512),
 ];
 
-// The algorithm of the first row of a name.
+// Looks up the algorithm in the first row with this name.
 fn algo_in(rows: &[(&str, Algo)], name: &[u8]) -> Option<Algo>
     ensures { result ≡ algo_of_name (map algo_row_of rows.now) name.now }
 {
@@ -37,17 +37,17 @@ fn algo_in(rows: &[(&str, Algo)], name: &[u8]) -> Option<Algo>
 }
 
 impl Algo {
-    /// The algorithm of a name, `None` for a name outside the table.
+    /// Looks up an algorithm by its name. Returns `None` if the name is not in the table.
     ///
-    /// The names are spelled as in the `algo` property of a FIT image's hash nodes, and in U-Boot's
-    /// `hash.c`. Case counts.
+    /// The names are spelled as in the `algo` property of a FIT hash node and in U-Boot's `hash.c`.
+    /// Case matters.
     pub fn named(name: &[u8]) -> Option<Algo>
         ensures { result ≡ algo_named name.now }
     {
         algo_in(&NAMES, name)
     }
 
-    /// The length of a digest, in bytes.
+    /// Returns the length of a digest in bytes.
     pub fn len(self) -> usize
         ensures { result ≡ digest_size self }
     {

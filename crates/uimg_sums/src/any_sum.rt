@@ -1,4 +1,4 @@
-//! A sum by any of the algorithms.
+//! A sum with any of the algorithms.
 
 ghost use Rattle.std.specs.Prelude.{◌≡◌, ℕ, List, [], ◌++◌};
 ghost use Rattle.uimg_sums.specs.Algorithms.{digest_by};
@@ -9,7 +9,7 @@ use crate::crc::Crc;
 use crate::digests::{Md5Sum, Sha1Sum, Sha256Sum, Sha384Sum, Sha512Sum};
 use crate::sums::Summer;
 
-/// A sum by an algorithm that is chosen while the program runs.
+/// A sum whose algorithm is chosen at run time.
 #[derive(Drop)]
 pub(crate) enum AnySum {
     Crc32(Crc),
@@ -21,7 +21,7 @@ pub(crate) enum AnySum {
 }
 
 impl AnySum {
-    /// A sum over no bytes.
+    /// Starts a sum over no bytes.
     pub fn start(algo: Algo) -> AnySum
         ensures algo { algo_of result ≡ algo }
         ensures fed { SumHolds result [] }
@@ -36,7 +36,7 @@ impl AnySum {
         }
     }
 
-    /// Adds the bytes after those that were fed.
+    /// Adds the bytes after those fed so far.
     pub fn feed(&mut self, bytes: &[u8])
         ensures algo { algo_of self.new ≡ algo_of self.old }
         ensures fed { (fed : List ℕ) → SumHolds self.old fed →
@@ -52,7 +52,7 @@ impl AnySum {
         }
     }
 
-    /// The digest, with zeros behind it, and its length in bytes.
+    /// Returns the digest, padded with zeros, and its length in bytes.
     pub fn finish(self) -> ([u8; 64], usize)
         ensures { (fed : List ℕ) → SumHolds self fed →
             result ≡ padded_digest (digest_by (algo_of self) fed) }

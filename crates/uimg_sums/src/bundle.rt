@@ -9,10 +9,10 @@ ghost use Rattle.uimg_sums.specs.declared.algo.Algo.{Algo};
 use crate::algo::Algo;
 use crate::any_sum::AnySum;
 
-/// Up to eight sums over the same bytes, each by an algorithm of its own.
+/// Up to eight sums over the same bytes, each with its own algorithm.
 ///
-/// Sums are added first, and then all are fed at once. An algorithm may be added more than once.
-/// No call takes memory, and none but `add` refuses.
+/// Sums are added first, then all are fed at once. An algorithm may be added more than once. No
+/// call takes memory, and only `add` can refuse.
 #[derive(Drop)]
 pub struct Bundle {
     sums: [Option<AnySum>; 8],
@@ -21,7 +21,7 @@ pub struct Bundle {
 }
 
 impl Bundle {
-    /// A bundle of no sums.
+    /// Creates a bundle of no sums.
     pub fn new() -> Bundle
         ensures { Holds result [] [] }
     {
@@ -32,9 +32,9 @@ impl Bundle {
         }
     }
 
-    /// Adds a sum by an algorithm after those that are there, before any byte is fed.
+    /// Adds a sum after the existing ones. All sums are added before the first byte is fed.
     ///
-    /// It gives `false` where eight sums are there, or a byte was fed; then nothing changes.
+    /// Returns `false`, and changes nothing, if there are eight sums or a byte was fed.
     pub fn add(&mut self, algo: Algo) -> bool
         ensures room { (algos : List Algo) (fed : List ℕ) → Holds self.old algos fed →
             (IsTrue result ↔ (length algos < 8) × (fed ≡ [])) }
@@ -53,7 +53,7 @@ impl Bundle {
         true
     }
 
-    /// How many sums there are.
+    /// Returns the number of sums.
     pub fn len(&self) -> usize
         ensures { (algos : List Algo) (fed : List ℕ) → Holds self.now algos fed →
             result ≡ length algos }
@@ -61,7 +61,7 @@ impl Bundle {
         self.count
     }
 
-    /// Whether there is no sum.
+    /// Returns whether the bundle has no sums.
     pub fn is_empty(&self) -> bool
         ensures { (algos : List Algo) (fed : List ℕ) → Holds self.now algos fed →
             result ≡ (length algos == 0) }
@@ -69,7 +69,7 @@ impl Bundle {
         self.len() == 0
     }
 
-    /// Feeds the bytes to each sum, after those that were fed.
+    /// Feeds the bytes to each sum, after those fed so far.
     pub fn feed(&mut self, bytes: &[u8])
         ensures { (algos : List Algo) (fed : List ℕ) → Holds self.old algos fed →
             Holds self.new algos (fed ++ bytes.now) }
@@ -82,10 +82,10 @@ impl Bundle {
         }
     }
 
-    /// The digest of all that was fed by each algorithm, in the order in which they were added.
+    /// Returns the digest of all fed bytes for each sum, in the order of addition.
     ///
-    /// A digest lies in the first of its 64 bytes, with zeros behind it, and its length in bytes is
-    /// beside it. The slots past `len` have zeros and length 0.
+    /// A digest is at the start of its 64 bytes, padded with zeros; its length in bytes is beside
+    /// it. Slots from `len` on have zeros and length 0.
     pub fn finish(self) -> [([u8; 64], usize); 8]
         ensures { (algos : List Algo) (fed : List ℕ) → Holds self algos fed →
             result ≡ padded_digests algos fed }
@@ -94,7 +94,7 @@ impl Bundle {
     }
 }
 
-// Feeds the bytes to the sum of a slot, where it has one.
+// Feeds the bytes to the sum of a slot, if it has one.
 fn feed_slot(slot: &mut Option<AnySum>, bytes: &[u8])
     ensures algo { option_map algo_of slot.new ≡ option_map algo_of slot.old }
     ensures fed { (fed : List ℕ) → SlotHolds fed slot.old → SlotHolds (fed ++ bytes.now) slot.new }
@@ -104,7 +104,7 @@ fn feed_slot(slot: &mut Option<AnySum>, bytes: &[u8])
     }
 }
 
-// The digest of the sum of a slot, or zeros and length 0 where it has none.
+// Returns the digest of a slot's sum, or zeros and length 0 if it has none.
 fn digest_of(slot: Option<AnySum>) -> ([u8; 64], usize)
     ensures { (fed : List ℕ) → SlotHolds fed slot →
         result ≡ padded_digest (digest_at fed (option_map algo_of slot)) }

@@ -12,23 +12,23 @@ use crate::sums::Summer;
 
 /// CRC-32 of bytes that come in pieces, sixteen bytes a step.
 ///
-/// The CRC is that of ITU-T V.42, section 8.1.1.6.2, and of RFC 1952, section 8: the lowest bit of
-/// a byte comes first, the polynomial is `0xEDB88320`, the register starts all ones, and the result is
-/// inverted.
+/// It is the CRC of ITU-T V.42, section 8.1.1.6.2, and RFC 1952, section 8. The lowest bit of a
+/// byte comes first, the polynomial is `0xEDB88320`, the register starts as all ones, and the
+/// result is inverted.
 #[derive(Drop)]
 pub struct Crc {
     register: u32,
 }
 
 impl Crc {
-    /// The CRC of what was fed.
+    /// Returns the CRC of the bytes fed so far.
     pub fn value(&self) -> u32
         ensures { (fed : List ℕ) → Holds self.now fed → result ≡ crc fed }
     {
         !self.register
     }
 
-    /// The same sum once more, which is fed on its own from here on.
+    /// Returns a copy of the sum, which is then fed separately.
     pub fn copied(&self) -> Crc
         ensures { result ≡ self.now }
     {
@@ -37,8 +37,8 @@ impl Crc {
         }
     }
 
-    /// Whether the two are the same sum, whatever else both are fed: what may have been fed to one of them
-    /// may then have been fed to the other. Those that were fed the same are.
+    /// Returns whether the two sums agree: whatever may have been fed to one may have been fed to
+    /// the other. Two sums that were fed the same bytes agree.
     pub fn is_same(&self, other: &Crc) -> bool
         ensures other { IsTrue result →
             (fed : List ℕ) → Holds other.now fed → Holds self.now fed }
@@ -72,7 +72,7 @@ impl Summer for Crc {
     }
 }
 
-/// CRC-32 of the bytes, by ITU-T V.42, section 8.1.1.6.2, as `Crc` sums it.
+/// Returns CRC-32 of the bytes (ITU-T V.42, section 8.1.1.6.2), as `Crc` does.
 pub fn crc_of(bytes: &[u8]) -> u32
     ensures { result ≡ crc bytes.now }
 {

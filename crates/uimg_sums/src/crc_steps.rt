@@ -1,4 +1,4 @@
-//! The steps of CRC-32 over one byte, and over sixteen at once.
+//! The steps of CRC-32: one byte, or sixteen at once.
 
 ghost use Rattle.std.specs.Prelude.{◌≡◌, ◌≤◌, ◌+◌, ◌*◌};
 ghost use Rattle.std.specs.List.{concat, fold};
@@ -6,7 +6,7 @@ ghost use Rattle.uimg_sums.specs.CrcSteps.{bit_steps, byte_step};
 
 use crate::crc_table::{crc_entry, entry_after};
 
-// Eight bit steps, by the table.
+// Does eight bit steps with one table look-up.
 #[tactic(auto, using(crate::proofs::CrcTable::eight_steps))]
 fn table_step(state: u64) -> u64
     ensures { result ≡ bit_steps 8 state }
@@ -14,14 +14,12 @@ fn table_step(state: u64) -> u64
     crc_entry((state % 256) as u8) as u64 ^ (state >> 8)
 }
 
-// The register after a byte.
 fn byte_step_of(register: u32, byte: u8) -> u32
     ensures { result ≡ byte_step register byte }
 {
     table_step((register ^ byte as u32) as u64) as u32
 }
 
-// The register after the bytes.
 pub(crate) fn byte_steps_of(mut register: u32, bytes: &[u8]) -> u32
     ensures { result ≡ fold byte_step register bytes.now }
 {
@@ -31,8 +29,8 @@ pub(crate) fn byte_steps_of(mut register: u32, bytes: &[u8]) -> u32
     register
 }
 
-// The bit steps of eight bytes and of so many zeros after them, by the tables. The lowest bytes come
-// last, since the register is in them: what a step waits for is then XORed last.
+// Does the bit steps of eight bytes and of `zeros` zero bytes after them. The lowest bytes come
+// last because they hold the register, which a step waits for.
 fn entries_after(zeros: usize, number: u64) -> u32
     requires { zeros + 8 ≤ 16 }
     ensures { result ≡ bit_steps (8 * (zeros + 8)) number }
@@ -47,8 +45,8 @@ fn entries_after(zeros: usize, number: u64) -> u32
         ^ entry_after(zeros + 7, (number % 256) as u8)
 }
 
-// The register after sixteen bytes, which are taken at once. The last eight come first, since they
-// do not wait for the register.
+// Steps over sixteen bytes at once. The last eight come first because they do not need the
+// register.
 fn word_step_of(register: u32, word: [u8; 16]) -> u32
     ensures { result ≡ fold byte_step register word }
 {
@@ -57,8 +55,8 @@ fn word_step_of(register: u32, word: [u8; 16]) -> u32
     entries_after(0, (number >> 64) as u64) ^ entries_after(8, low)
 }
 
-// The register after the words, one after another. The function stays apart, so that its loop has
-// the registers of the processor for itself.
+// Steps over the words in order. It is not inlined so that its loop has the processor's registers
+// to itself.
 #[inline(never)]
 pub(crate) fn word_steps_of(mut register: u32, words: &[[u8; 16]]) -> u32
     ensures { result ≡ fold byte_step register (concat words.now) }

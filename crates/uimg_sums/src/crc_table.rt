@@ -1,9 +1,9 @@
-//! The tables of CRC-32, made when the program is compiled.
+//! The CRC-32 tables, computed at compile time.
 
 ghost use Rattle.std.specs.Prelude.{◌≡◌, ◌<◌, ◌+◌, ◌*◌};
 ghost use Rattle.uimg_sums.specs.CrcSteps.{bit_steps};
 
-// The sums of some words: at each place those that its bits choose, the lowest the first word.
+// All XOR combinations of some words: bit i of the index selects word i.
 macro_rules! sums {
     ([$($sum:expr),*]) => {
         [$($sum),*]
@@ -13,8 +13,8 @@ macro_rules! sums {
     };
 }
 
-// At place k the register after each byte and k zeros, which is 8 * (k + 1) bit steps from the byte.
-// A line has those of the bytes with one bit.
+// Table k maps a byte to the register after it and k zero bytes: 8 * (k + 1) bit steps. Each line
+// gives the entries of the bytes with one bit set.
 const CRC_TABLES: [[u32; 256]; 16] = [
     sums!([0] 0x77073096 0xEE0E612C 0x076DC419 0x0EDB8832 0x1DB71064 0x3B6E20C8 0x76DC4190 0xEDB88320),
     sums!([0] 0x191B3141 0x32366282 0x646CC504 0xC8D98A08 0x4AC21251 0x958424A2 0xF0794F05 0x3B83984B),
@@ -34,18 +34,18 @@ const CRC_TABLES: [[u32; 256]; 16] = [
     sums!([0] 0xAE689191 0x87A02563 0xD4314C87 0x73139F4F 0xE6273E9E 0x173F7B7D 0x2E7EF6FA 0x5CFDEDF4),
 ];
 
-/// The entry of the table of CRC-32 at an index: eight bit steps from the index.
+/// Returns an entry of the CRC-32 table: eight bit steps from the index.
 ///
-/// A bit step takes the whole half of a number and, where its lowest bit was 1, XORs it with
-/// `0xEDB88320`. That is the polynomial of ITU-T V.42, section 8.1.1.6.2, with the lowest bit for
-/// the highest power. RFC 1952, section 8, makes the same table.
+/// A bit step shifts a number right by one and, if the lowest bit was 1, XORs it with `0xEDB88320`.
+/// This is the polynomial of ITU-T V.42, section 8.1.1.6.2, with the lowest bit for the highest
+/// power. RFC 1952, section 8, has the same table.
 pub fn crc_entry(index: u8) -> u32
     ensures { result ≡ bit_steps 8 index }
 {
     entry_after(0, index)
 }
 
-// The entry at an index after so many zeros.
+// Returns the entry of an index after `zeros` zero bytes.
 #[tactic(auto, using(crate::proofs::CrcTable::tables_at))]
 pub(crate) fn entry_after(zeros: usize, index: u8) -> u32
     requires { zeros < 16 }

@@ -1,4 +1,4 @@
-//! Hashes by the kit's hashers.
+//! Hashes, computed with the kit's hashers.
 
 mod md5_sum;
 mod sha1_sum;

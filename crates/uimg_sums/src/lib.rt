@@ -1,4 +1,4 @@
-//! Checksums and hashes over bytes that come in pieces: CRC-32, MD5 and the SHAs, by their names, and
+//! Checksums and hashes over bytes that come in pieces: CRC-32, MD5 and SHA, by name, one or
 //! several at once.
 #![tactic(auto)]
 

@@ -1,4 +1,4 @@
--- A number below 100 in two decimal digits.
+-- A number below 100 as two decimal digits.
 use Rattle.std.specs.Prelude.{ℕ, ◌+◌, ◌/◌, ◌%◌, List, [], ◌∷◌}
 
 abbrev pub two_digits : ℕ → List ℕ

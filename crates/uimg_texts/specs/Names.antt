@@ -1,10 +1,10 @@
--- The names of operating systems, architectures, image types and compressions, and the codes that U-Boot's image.h gives them.
+-- Names of operating systems, architectures, image types, compressions; codes of U-Boot's image.h.
 use Rattle.std.specs.Prelude.{ℕ, List, [], ◌∷◌, ◌++◌, Option, codes, find, ◌==◌}
 use Rattle.std.specs.Option.{option_map, option_map_or}
 use Rattle.std.specs.Str.{bytes_eq}
 
--- The codes are those of image.h. Which of them have a row is this project's choice, the profile.
--- a name as users write it, its code, and the name as it is printed
+-- a name as users write it, its code, and the name as printed; the codes are those of image.h, the
+-- choice of rows (the profile) is this project's
 pub record Row : Type 0 where
   pub short : List ℕ
   pub code : ℕ
@@ -13,11 +13,11 @@ pub record Row : Type 0 where
 abbrev pub row : List ℕ → ℕ → List ℕ → Row
 row short code printed = record { short = short; code = code; printed = printed }
 
--- the code of the first row of that name
+-- the code in the first row with this name
 abbrev pub code_of : List Row → List ℕ → Option ℕ
 code_of table name = option_map (λ r. r.code) (find (λ r. bytes_eq name r.short) table)
 
--- the printed name of the first row of that code, or what is printed where no row has it
+-- the printed name in the first row with this code, or `unknown` if no row has it
 abbrev pub printed : List Row → List ℕ → ℕ → List ℕ
 printed table unknown code = option_map_or (λ r. r.printed) (find (λ r. code == r.code) table) unknown
 

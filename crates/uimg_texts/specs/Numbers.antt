@@ -1,9 +1,9 @@
--- Numbers of 32 bits, the highest byte first (U-Boot's image.h; Devicetree Specification, section 5.2).
+-- Big-endian numbers of 32 bits (U-Boot's image.h; Devicetree Specification, section 5.2).
 use Rattle.std.specs.Prelude.{ℕ, ◌+◌, ◌*◌, ◌/◌, List}
 use Rattle.std.specs.Int.{from_be_bytes, w32}
 use Rattle.uimg_texts.specs.Slices.{slice}
 
--- the number of the four bytes at an offset, the first the highest
+-- the big-endian number of the four bytes at an offset
 unfoldable pub be32 : List ℕ → ℕ → ℕ
 be32 bytes at = from_be_bytes w32 (slice bytes at 4)
 

@@ -1,20 +1,20 @@
--- The text of a time in seconds since 1 January 1970, 00:00:00 UTC.
+-- Times in seconds since 1 January 1970, 00:00:00 UTC as texts.
 use Rattle.std.specs.Prelude.{ℕ, ◌+◌, ◌-◌, ◌/◌, ◌%◌, nat_lt, if◌then◌else◌, List, [], ◌∷◌, ◌++◌, slice_index_or, codes}
 use Rattle.uimg_texts.specs.Digits.{two_digits}
 use Rattle.uimg_texts.specs.Calendar.{civil_date, weekday}
 
--- from 0 for Sunday
+-- 0 is Sunday
 abbrev pub weekday_name : ℕ → List ℕ
 weekday_name w =
     slice_index_or (codes "Sun" ∷ codes "Mon" ∷ codes "Tue" ∷ codes "Wed" ∷ codes "Thu" ∷ codes "Fri" ∷ codes "Sat" ∷ []) w []
 
--- from 1 for January
+-- 1 is January
 abbrev pub month_name : ℕ → List ℕ
 month_name m =
     slice_index_or (codes "Jan" ∷ codes "Feb" ∷ codes "Mar" ∷ codes "Apr" ∷ codes "May" ∷ codes "Jun"
     ∷ codes "Jul" ∷ codes "Aug" ∷ codes "Sep" ∷ codes "Oct" ∷ codes "Nov" ∷ codes "Dec" ∷ []) (m - 1) []
 
--- a day of the month, right in two places
+-- a day of the month in two places, with a leading space below 10
 abbrev pub day_text : ℕ → List ℕ
 day_text d = if nat_lt d 10 then codes " " ++ (48 + d) ∷ [] else two_digits d
 
@@ -33,8 +33,8 @@ moment_text year month day weekday hour minute second =
     weekday_name weekday ++ codes " " ++ month_name month ++ codes " " ++ day_text day ++ codes " "
     ++ clock_text hour minute second ++ codes " " ++ year_text year
 
--- the same of a second: its day's date and weekday, and the rest in hours, minutes and seconds
--- Each day has 86400 seconds: leap seconds do not count (POSIX, "Seconds Since the Epoch").
+-- A time as text: the day's date and weekday, and the rest as hours, minutes and seconds. Each day
+-- has 86400 seconds: leap seconds do not count (POSIX, "Seconds Since the Epoch").
 unfoldable pub time_text : ℕ → List ℕ
 time_text s =
     let date = civil_date (s / 86400) in

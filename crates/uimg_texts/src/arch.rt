@@ -5,7 +5,7 @@ ghost use Rattle.uimg_texts.specs.Names.{code_of, printed, arch_table};
 
 use crate::codes::{CodeRow, code_in, printed_in};
 
-/// The architectures that are known, by the `IH_ARCH_` codes of U-Boot's `image.h`.
+/// The known architectures, with the `IH_ARCH_` codes of U-Boot's `image.h`.
 pub const ARCHITECTURES: [CodeRow; 10] = [
     ("arm", 2, "ARM"),
     ("x86", 3, "Intel x86"),
@@ -19,14 +19,14 @@ pub const ARCHITECTURES: [CodeRow; 10] = [
     ("riscv", 26, "RISC-V"),
 ];
 
-/// The code of an architecture by its short name, `None` for a name outside the table.
+/// Looks up an architecture's code by short name. Returns `None` if the table has no such name.
 pub fn arch_code(name: &[u8]) -> Option<u8>
     ensures { result ≡ code_of arch_table name.now }
 {
     code_in(&ARCHITECTURES, name)
 }
 
-/// The printed name of an architecture by its code, `Unknown Architecture` for a code outside the table.
+/// Looks up an architecture's printed name by code. Returns `Unknown Architecture` if it has none.
 pub fn arch_text(code: u8) -> &'static str
     ensures { result.now ≡ printed arch_table (codes "Unknown Architecture") code }
 {

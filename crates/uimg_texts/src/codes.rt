@@ -1,14 +1,14 @@
-//! Tables of codes, and what is looked up in them.
+//! Tables of codes, and look-ups in them.
 
 ghost use Rattle.std.specs.Prelude.{◌≡◌, map};
 ghost use Rattle.uimg_texts.specs.Names.{code_of, printed};
 ghost use Rattle.uimg_texts.specs.CodeRows.{row_of};
 
-/// A row of a table of codes: a name as command lines and the properties of a FIT image spell it, its
-/// code in a legacy image's header, and the name as listings print it.
+/// A row of a table of codes: a name as in command lines and FIT properties, its code in a legacy
+/// header, and the name as in listings.
 pub type CodeRow = (&'static str, u8, &'static str);
 
-// The code of the first row of a short name.
+// Looks up the code in the first row with this short name.
 pub(crate) fn code_in(rows: &[CodeRow], name: &[u8]) -> Option<u8>
     ensures { result ≡ code_of (map row_of rows.now) name.now }
 {
@@ -20,7 +20,7 @@ pub(crate) fn code_in(rows: &[CodeRow], name: &[u8]) -> Option<u8>
     None
 }
 
-// The printed name of the first row of a code, or `unknown` where no row has it.
+// Looks up the printed name in the first row with this code. Returns `unknown` if no row has it.
 pub(crate) fn printed_in(rows: &[CodeRow], unknown: &'static str, code: u8) -> &'static str
     ensures { result.now ≡ printed (map row_of rows.now) unknown.now code }
 {

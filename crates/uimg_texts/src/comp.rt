@@ -5,7 +5,7 @@ ghost use Rattle.uimg_texts.specs.Names.{code_of, printed, comp_table};
 
 use crate::codes::{CodeRow, code_in, printed_in};
 
-/// The compressions that are known, by the `IH_COMP_` codes of U-Boot's `image.h`.
+/// The known compressions, with the `IH_COMP_` codes of U-Boot's `image.h`.
 pub const COMPRESSIONS: [CodeRow; 7] = [
     ("none", 0, "uncompressed"),
     ("gzip", 1, "gzip compressed"),
@@ -16,14 +16,14 @@ pub const COMPRESSIONS: [CodeRow; 7] = [
     ("zstd", 6, "zstd compressed"),
 ];
 
-/// The code of a compression by its short name, `None` for a name outside the table.
+/// Looks up a compression's code by its short name. Returns `None` if the name is not in the table.
 pub fn comp_code(name: &[u8]) -> Option<u8>
     ensures { result ≡ code_of comp_table name.now }
 {
     code_in(&COMPRESSIONS, name)
 }
 
-/// The printed name of a compression by its code, `Unknown Compression` for a code outside the table.
+/// Looks up a compression's printed name by code. Returns `Unknown Compression` if it has none.
 pub fn comp_text(code: u8) -> &'static str
     ensures { result.now ≡ printed comp_table (codes "Unknown Compression") code }
 {

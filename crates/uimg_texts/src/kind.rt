@@ -5,7 +5,7 @@ ghost use Rattle.uimg_texts.specs.Names.{code_of, printed, kind_table};
 
 use crate::codes::{CodeRow, code_in, printed_in};
 
-/// The type of an image of several parts (`IH_TYPE_MULTI`).
+/// The type of a multi-file image (`IH_TYPE_MULTI`).
 pub const MULTI: u8 = 4;
 
 /// The type of a script (`IH_TYPE_SCRIPT`), which has parts too.
@@ -14,7 +14,7 @@ pub const SCRIPT: u8 = 6;
 /// The type of a devicetree blob (`IH_TYPE_FLATDT`).
 pub const FLAT_DT: u8 = 8;
 
-/// The image types that are known, by the `IH_TYPE_` codes of U-Boot's `image.h`.
+/// The known image types, with the `IH_TYPE_` codes of U-Boot's `image.h`.
 pub const IMAGE_TYPES: [CodeRow; 9] = [
     ("standalone", 1, "Standalone Program"),
     ("kernel", 2, "Kernel Image"),
@@ -27,14 +27,14 @@ pub const IMAGE_TYPES: [CodeRow; 9] = [
     ("kernel_noload", 14, "Kernel Image (no loading done)"),
 ];
 
-/// The code of an image type by its short name, `None` for a name outside the table.
+/// Looks up an image type's code by its short name. Returns `None` if the name is not in the table.
 pub fn kind_code(name: &[u8]) -> Option<u8>
     ensures { result ≡ code_of kind_table name.now }
 {
     code_in(&IMAGE_TYPES, name)
 }
 
-/// The printed name of an image type by its code, `Unknown Image` for a code outside the table.
+/// Looks up an image type's printed name by its code. Returns `Unknown Image` if it has none.
 pub fn kind_text(code: u8) -> &'static str
     ensures { result.now ≡ printed kind_table (codes "Unknown Image") code }
 {

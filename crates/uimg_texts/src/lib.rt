@@ -1,4 +1,4 @@
-//! Numbers, names and times as bytes and as texts. Nothing here reads, writes or takes memory.
+//! Numbers, names and times as bytes and texts. Nothing here reads, writes or takes memory.
 #![tactic(auto)]
 
 mod arch;

@@ -1,9 +1,9 @@
-//! Texts that a NUL ends.
+//! NUL-terminated texts.
 
 ghost use Rattle.std.specs.Prelude.{◌≡◌, ◌<◌, length, take, Some, None, IfSome, MatchOption};
 ghost use Rattle.uimg_texts.specs.Nul.{before_nul, text};
 
-/// Where the first NUL stands, which ends a text; `None` where there is none.
+/// Finds the first NUL, which ends a text. Returns its index, or `None` if there is none.
 pub fn first_nul(bytes: &[u8]) -> Option<usize>
     ensures within { IfSome result (λ n. n < length bytes.now) }
     ensures text { MatchOption result (before_nul bytes.now ≡ None)
@@ -17,7 +17,7 @@ pub fn first_nul(bytes: &[u8]) -> Option<usize>
     None
 }
 
-/// The bytes before the first NUL, or all where there is none.
+/// Returns the bytes before the first NUL, or all bytes if there is none.
 #[tactic(auto, unfolding(crate::specs::Nul::text))]
 pub fn before_nul(bytes: &[u8]) -> &[u8]
     ensures { result.now ≡ text bytes.now }

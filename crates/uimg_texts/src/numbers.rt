@@ -1,11 +1,11 @@
-//! Numbers of 32 bits with the highest byte first, and sizes rounded up to a multiple of 4.
+//! Big-endian numbers of 32 bits, and sizes rounded up to a multiple of 4.
 
 ghost use Rattle.std.specs.Prelude.{◌≡◌, ◌+◌, ◌^◌, ◌<◌, ◌≤◌, length};
 ghost use Rattle.uimg_texts.specs.Numbers.{be32, up4};
 
 use byteorder::{BigEndian, ByteOrder};
 
-/// The number of the four bytes at an offset, the first the highest.
+/// Reads a big-endian number of four bytes at an offset.
 #[tactic(auto, unfolding(crate::specs::Numbers::be32))]
 pub fn number_at(bytes: &[u8], offset: usize) -> u32
     requires { offset + 4 ≤ length bytes.now }

@@ -5,7 +5,7 @@ ghost use Rattle.uimg_texts.specs.Names.{code_of, printed, os_table};
 
 use crate::codes::{CodeRow, code_in, printed_in};
 
-/// The operating systems that are known, by the `IH_OS_` codes of U-Boot's `image.h`.
+/// The known operating systems, with the `IH_OS_` codes of U-Boot's `image.h`.
 pub const OPERATING_SYSTEMS: [CodeRow; 11] = [
     ("netbsd", 2, "NetBSD"),
     ("linux", 5, "Linux"),
@@ -20,14 +20,14 @@ pub const OPERATING_SYSTEMS: [CodeRow; 11] = [
     ("efi", 28, "EFI Firmware"),
 ];
 
-/// The code of an operating system by its short name, `None` for a name outside the table.
+/// Looks up an operating system's code by short name. Returns `None` if the table has none.
 pub fn os_code(name: &[u8]) -> Option<u8>
     ensures { result ≡ code_of os_table name.now }
 {
     code_in(&OPERATING_SYSTEMS, name)
 }
 
-/// The printed name of an operating system by its code, `Unknown OS` for a code outside the table.
+/// Looks up an operating system's printed name by code. Returns `Unknown OS` if it has none.
 pub fn os_text(code: u8) -> &'static str
     ensures { result.now ≡ printed os_table (codes "Unknown OS") code }
 {

@@ -1,10 +1,10 @@
-//! Hundredths of a size, the nearest.
+//! A size in hundredths of a unit, rounded to the nearest.
 
 ghost use Rattle.std.specs.Prelude.{◌≡◌, ◌<◌, IsTrue};
 ghost use Rattle.uimg_texts.specs.Sizes.{is_nearest, hundredths};
 
-/// The hundredths of a number over a unit that is not 0, rounded to the nearest, a tie to the even
-/// one (IEEE 754, section 4.3.1).
+/// Returns a number in hundredths of a unit that is not 0, rounded to the nearest, ties to even
+/// (IEEE 754, section 4.3.1).
 pub fn hundredths(number: u32, unit: u32) -> u64
     requires { 0 < unit }
     ensures value { result ≡ hundredths number unit }

@@ -1,4 +1,4 @@
-//! The text of a time.
+//! Times as texts.
 
 ghost use Rattle.std.specs.Prelude.{◌≡◌, ◌*◌, ◌/◌, ◌%◌, ◌<◌, ◌≤◌, pos};
 ghost use Rattle.jiff_core.specs.DateTime.{civil_nanos};
@@ -10,7 +10,7 @@ use jiff::Timestamp;
 use jiff::tz::Offset;
 use jiff_core::civil::DateTime;
 
-// What a calendar and a clock in UTC show.
+// A date and a time of day in UTC.
 #[derive(Clone, Copy)]
 struct Moment {
     year: u16,
@@ -30,7 +30,7 @@ struct Moment {
     ghost second_in: { second < 60 },
 }
 
-// The date and the time of day in UTC so many seconds after 1 January 1970.
+// Returns the date and time of day in UTC that many seconds after 1 January 1970.
 fn utc_datetime(seconds: u32) -> DateTime
     ensures { civil_nanos result ≡ pos (seconds * 1_000_000_000) }
 {
@@ -40,14 +40,14 @@ fn utc_datetime(seconds: u32) -> DateTime
     Offset::UTC.to_datetime(instant).to_plain()
 }
 
-// The day of the week from 0 for Sunday. Day 0 was a Thursday.
+// Returns the day of the week, 0 for Sunday. Day 0 was a Thursday.
 fn weekday_of(seconds: u32) -> u8
     ensures { result ≡ weekday (seconds / 86400) }
 {
     ((seconds / 86_400 + 4) % 7) as u8
 }
 
-// The calendar's and the clock's parts so many seconds after 1 January 1970.
+// Returns the parts of the date and time that many seconds after 1 January 1970.
 fn moment_at(seconds: u32) -> Moment
     ensures year { result.year ≡ (civil_date (seconds / 86400)).year }
     ensures month { result.month ≡ (civil_date (seconds / 86400)).month }
@@ -105,7 +105,7 @@ fn month_name(month: u8) -> [u8; 3]
     }
 }
 
-// A day of the month, right in two places.
+// Returns a day of the month in two places, with a leading space below 10.
 fn day_text(day: u8) -> [u8; 2]
     requires { day < 100 }
     ensures { result ≡ day_text day }
@@ -117,7 +117,6 @@ fn day_text(day: u8) -> [u8; 2]
     }
 }
 
-// The text of what a calendar and a clock show.
 fn moment_text(moment: Moment) -> [u8; 24]
     ensures { result
         ≡ moment_text moment.year moment.month moment.day moment.weekday moment.hour moment.minute
@@ -138,9 +137,10 @@ fn moment_text(moment: Moment) -> [u8; 24]
     ]
 }
 
-/// The text of a time in seconds since 1 January 1970, 00:00:00 UTC, as `Www Mmm dd hh:mm:ss yyyy`:
-/// in UTC, with English names of three letters, the day right in two places with a blank, and
-/// hours, minutes and seconds in two digits. The date is of the Gregorian calendar (ISO 8601).
+/// Returns a time, in seconds since 1 January 1970, 00:00:00 UTC, as `Www Mmm dd hh:mm:ss yyyy`.
+///
+/// The text is in UTC, with English names of three letters. The day has a leading space below 10;
+/// hours, minutes and seconds have two digits. The date is in the Gregorian calendar (ISO 8601).
 pub fn time_text(seconds: u32) -> [u8; 24]
     ensures { result ≡ time_text seconds }
 {

@@ -1,4 +1,4 @@
--- A code by which proofs tell trees apart.
+-- An encoding of trees by which proofs tell them apart.
 use Rattle.std.specs.Prelude.{◌≡◌, ℕ, List, [], ◌∷◌, ◌++◌, Option, Some, None, refl}
 use Rattle.std.specs.Coded.{Coded, code_by, coded_list, coded_option, coded×, coded_ℕ}
 use Rattle.std.proofs.Common.{ap, sym, ◌∙◌, append_assoc, append-nil}
@@ -24,7 +24,7 @@ content_code = code_by (List ℕ × Option ℕ) (coded× (coded_list coded_ℕ) 
 abbrev named_code : Coded (NamedOf Content)
 named_code = code_by (List ℕ × Content) (coded× (coded_list coded_ℕ) content_code) (λ p. (p.name, p.value)) (λ q. record { name = q.0; value = q.1 }) (λ _. refl)
 
--- A step that builds nodes: none, or one over the last two.
+-- A step that builds nodes: none, or a node over the last two.
 abbrev Step : Type 0
 Step = Option (List ℕ × List (NamedOf Content))
 
@@ -33,7 +33,7 @@ abbrev steps : Unread → List Step
 steps no_node = None ∷ []
 steps (a_node name own below after) = steps below ++ (steps after ++ Some (name, own) ∷ [])
 
--- what steps build over what is there
+-- what the steps build on a stack of trees
 abbrev built : List Step → List Unread → List Unread
 built [] ts = ts
 built (None ∷ ss) ts = built ss (no_node ∷ ts)

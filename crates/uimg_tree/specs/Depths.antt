@@ -1,4 +1,4 @@
--- What lies below each node of a list is smaller than the list.
+-- What is below a node of a list is smaller than the list.
 use Rattle.std.specs.Prelude.{◌≡◌, ◌≤◌, ◌+◌, max, List, [], ◌∷◌, refl}
 use Rattle.std.proofs.Common.{arith}
 use denote.Param.Weighed.{most}
@@ -8,7 +8,7 @@ use Rattle.uimg_tree.specs.declared.tree.Nodes.TheDeep.{deep-Node}
 use Rattle.uimg_tree.specs.Content.{count}
 use Rattle.uimg_tree.specs.Trees.{siblings}
 
--- a node is as deep as the count of its children says
+-- the measure of a node is that of its children and one more
 pub deep-node : (A : Type 0) (g : Ghosts A) (n : Node A) → deep-Node A g n ≡ max (count n.children + 1) 0
 deep-node A g n = refl
 

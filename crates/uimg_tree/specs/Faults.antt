@@ -1,4 +1,4 @@
--- What the answers of a writing say.
+-- Results of writing.
 use Rattle.std.specs.Prelude.{Result, Ok, Err, Bool, true, false}
 use Rattle.uimg_base.specs.declared.ranges.MoveFault.{MoveFault}
 use Rattle.uimg_base.specs.declared.ranges.MoveFault.TheVariants as move
@@ -10,21 +10,21 @@ abbrev pub moved : MoveFault → TreeFault
 moved move.Read = Read
 moved move.Put = Put
 
--- the answer is that a write failed
+-- the result is a failed write
 abbrev pub is_put : {X : Type 0} → Result X TreeFault → Bool
 is_put (Ok x) = false
 is_put (Err Put) = true
 is_put (Err Read) = false
 is_put (Err NoFile) = false
 
--- the answer is that an open was refused
+-- the result is a refused open
 abbrev pub is_no_file : {X : Type 0} → Result X TreeFault → Bool
 is_no_file (Ok x) = false
 is_no_file (Err Put) = false
 is_no_file (Err Read) = false
 is_no_file (Err NoFile) = true
 
--- the answer is that a read failed, or that a file has another size
+-- the result is a failed read, or a file of another size
 abbrev pub is_read : {X : Type 0} → Result X TreeFault → Bool
 is_read (Ok x) = false
 is_read (Err Put) = false

@@ -1,4 +1,4 @@
--- What measuring a tree gives.
+-- The result of measuring a tree.
 use Rattle.std.specs.Prelude.{◌≡◌, ℕ, List, [], ◌∷◌, length, Option, Some, None, Result, Ok, Err, Bool, ⊤, nat_le, nat_lt, is_none, ◌&&◌, if◌then◌else◌}
 use Rattle.std.specs.Option.{option_or}
 use Rattle.uimg_texts.specs.Nul.{before_nul}
@@ -23,21 +23,21 @@ bad_name no_node = None
 bad_name (a_node name own below after) =
     if is_name name then option_or (bad_property own) (option_or (bad_name below) (bad_name after)) else Some BadNodeName
 
--- the plan of a tree whose names are good, or TooLarge where its blob has more than 4294967295 bytes
+-- the plan if all names are good, or TooLarge if the blob has more than 4294967295 bytes
 abbrev pub measured_with : Option BlobFault → Plan → Result Plan BlobFault
 measured_with (Some fault) p = Err fault
 measured_with None p = if nat_lt 4294967295 (totalsize p) then Err TooLarge else Ok p
 
--- the plan of a tree by an alignment, or the fault of its first bad name, or TooLarge
+-- the plan of a tree for an alignment, or the fault of its first bad name, or TooLarge
 abbrev pub measured : ℕ → Unread → Result Plan BlobFault
 measured align t = measured_with (bad_name t) (plan_of align t)
 
--- the fault of an answer, if it is one
+-- the fault of a result, if it is one
 abbrev pub fault_in : {X : Type 0} → Result X BlobFault → Option BlobFault
 fault_in (Ok x) = None
 fault_in (Err fault) = Some fault
 
--- An answer is what a definition gives, unless memory was refused.
+-- The result is that of the definition, unless memory was refused.
 abbrev pub Measures : Result Plan BlobFault → Result Plan BlobFault → Type 0
 Measures (Err OutOfMemory) r = ⊤
 Measures (Err fault) r = r ≡ Err fault

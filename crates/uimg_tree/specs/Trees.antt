@@ -4,7 +4,7 @@ use Rattle.uimg_tree.specs.declared.tree.Node.{Node}
 use Rattle.uimg_blob.specs.Plain.{no_node, a_node}
 use Rattle.uimg_tree.specs.Content.{Unread}
 
--- nodes in order
+-- nodes as siblings
 abbrev pub siblings : {A : Type 0} → List (Node A) → Unread
 siblings [] = no_node
 siblings (n ∷ ns) = a_node n.name n.props n.children (siblings ns)

@@ -1,4 +1,4 @@
-//! Places that are rounded up by an alignment, and the zeros up to them.
+//! Sizes rounded up to an alignment, and the zeros that pad to it.
 
 ghost use Rattle.std.specs.Prelude.{◌≡◌, ◌≤◌, ◌+◌, is_err, replicate};
 ghost use Rattle.uimg_base.specs.Writing.{Writes};
@@ -7,12 +7,12 @@ ghost use Rattle.uimg_tree.specs.Alignment.{aligned, padding_by};
 use std::io::Write;
 use uimg_base::{Out, PutFault, WINDOW};
 
-/// The least alignment, and that of the values in a blob.
+/// The least alignment, and that of values in a blob.
 pub const WORD_ALIGNMENT: u32 = 4;
 
-/// Rounds so many bytes up by an alignment as mkimage of U-Boot does it, counted in words of four
-/// bytes: by a power of two from four on, to the next multiple of it (`proofs/AlignmentLaws.antt`). It
-/// adds at most the alignment and three bytes. `proofs/Examples.antt` has what mkimage 2023.01 makes of
+/// Rounds `size` bytes up to an alignment as mkimage of U-Boot does, in words of four bytes. For a
+/// power of two from four on this is the next multiple (`proofs/AlignmentLaws.antt`). It adds at
+/// most the alignment and three bytes. `proofs/Examples.antt` has what mkimage 2023.01 makes of
 /// some sizes.
 pub fn aligned(size: u64, align: u32) -> u128
     ensures place { result ≡ aligned align size }
@@ -24,7 +24,7 @@ pub fn aligned(size: u64, align: u32) -> u128
     (words - (words & mask)) * 4
 }
 
-/// Writes so many zeros, a window at a time. `PutFault` comes exactly where a write failed.
+/// Writes `count` zeros, one window at a time. Returns `PutFault` if and only if a write failed.
 pub fn put_zeros<W: Write>(count: u64, out: &mut Out<W>) -> Result<(), PutFault>
     ensures { Writes (is_err result) out.old out.new (replicate count 0) }
 {
@@ -38,7 +38,7 @@ pub fn put_zeros<W: Write>(count: u64, out: &mut Out<W>) -> Result<(), PutFault>
     Ok(())
 }
 
-// Writes the zeros behind so many bytes, up to where an alignment has them end.
+// Writes the zeros that pad `size` bytes to an alignment.
 pub(crate) fn put_gap<W: Write>(size: u64, align: u32, out: &mut Out<W>) -> Result<(), PutFault>
     ensures { Writes (is_err result) out.old out.new (padding_by align size) }
 {

@@ -1,11 +1,11 @@
-//! Bytes, as contracts see them: a list.
+//! Bytes, which contracts see as a list.
 
 ghost use Rattle.std.specs.Prelude.{◌≡◌};
 
 use std::alloc::Allocator;
 use std::marker::Model;
 
-/// Bytes in memory of their own, as a name or a value has. Contracts see them as a list.
+/// The bytes of a name or a value, in memory of their own. Contracts see them as a list.
 #[derive(Drop)]
 pub struct ByteList<A: Allocator> {
     bytes: Vec<u8, A>,
@@ -20,21 +20,21 @@ impl<A: Allocator> Model for ByteList<A> {
 }
 
 impl<A: Allocator> ByteList<A> {
-    /// The list of these bytes. It takes no memory.
+    /// Creates a list of these bytes. Takes no memory.
     pub fn of(bytes: Vec<u8, A>) -> ByteList<A>
         ensures { result ≡ bytes.items }
     {
         ByteList { bytes }
     }
 
-    /// The bytes.
+    /// Returns the bytes.
     pub fn items(&self) -> &[u8]
         ensures { result.now ≡ self.now }
     {
         self.bytes.as_slice()
     }
 
-    /// The bytes as a `Vec`. It takes no memory.
+    /// Returns the bytes as a `Vec`. Takes no memory.
     pub fn into_vec(self) -> Vec<u8, A>
         ensures { result.items ≡ self }
     {

@@ -10,17 +10,17 @@ use std::alloc::Allocator;
 use uimg_base::first_nul;
 use uimg_blob::BlobFault;
 
-// The most bytes of a name.
+// The greatest length of a name in bytes.
 const LONGEST_NAME: usize = 255;
 
-// Whether a name has at most 255 bytes and no NUL.
+// Returns whether a name has at most 255 bytes and no NUL.
 fn is_name(name: &[u8]) -> bool
     ensures { result ≡ is_name name.now }
 {
     name.len() <= LONGEST_NAME && first_nul(name).is_none()
 }
 
-// Refuses properties with a bad name.
+// Refuses properties if one has a bad name.
 fn check_properties<A: Allocator>(props: &Props<A>) -> Result<(), BlobFault>
     ensures { fault_in result ≡ bad_property props.now }
 {
@@ -32,8 +32,8 @@ fn check_properties<A: Allocator>(props: &Props<A>) -> Result<(), BlobFault>
     Ok(())
 }
 
-// Refuses a node where its name, or one of a property or node below it, is bad: the first in the
-// order of writing counts.
+// Refuses a node if its name, or one of a property or node below it, is bad. Returns the fault of
+// the first in the order of writing.
 pub(crate) fn check_names<A: Allocator>(this: ThisNode<A>) -> Result<(), BlobFault>
     ensures { fault_in result ≡ bad_name (node_of this.entry.node.now) }
 {

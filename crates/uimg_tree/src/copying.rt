@@ -8,7 +8,7 @@ use crate::props::{Prop, Props, Value};
 use crate::tree::{Node, Nodes};
 use std::alloc::{AllocError, Allocator};
 
-/// A copy of bytes. `AllocError` comes only where memory was refused.
+/// Copies bytes. Returns `AllocError` only if memory was refused.
 pub fn copy_bytes<A: Allocator>(alloc: A, bytes: &[u8]) -> Result<ByteList<A>, AllocError>
     ensures { IfOk result (λ copy. copy ≡ bytes.now) }
 {
@@ -17,7 +17,7 @@ pub fn copy_bytes<A: Allocator>(alloc: A, bytes: &[u8]) -> Result<ByteList<A>, A
     Ok(ByteList::of(copies))
 }
 
-/// A copy of a value; one that is in a file stays there. `AllocError` comes only where memory was
+/// Copies a value; the bytes of a file stay in the file. Returns `AllocError` only if memory was
 /// refused.
 pub fn copy_value<A: Allocator + Copy>(alloc: A, value: &Value<A>) -> Result<Value<A>, AllocError>
     ensures { IfOk result (λ copy. copy ≡ value.now) }
@@ -31,7 +31,7 @@ pub fn copy_value<A: Allocator + Copy>(alloc: A, value: &Value<A>) -> Result<Val
     }
 }
 
-/// A copy of a property. `AllocError` comes only where memory was refused.
+/// Copies a property. Returns `AllocError` only if memory was refused.
 pub fn copy_property<A: Allocator + Copy>(alloc: A, prop: &Prop<A>) -> Result<Prop<A>, AllocError>
     ensures { IfOk result (λ copy. copy ≡ prop.now) }
 {
@@ -40,7 +40,7 @@ pub fn copy_property<A: Allocator + Copy>(alloc: A, prop: &Prop<A>) -> Result<Pr
     Ok(Prop { name, value })
 }
 
-/// A copy of properties. `AllocError` comes only where memory was refused.
+/// Copies properties. Returns `AllocError` only if memory was refused.
 pub fn copy_properties<A: Allocator + Copy>(
     alloc: A,
     props: &Props<A>,
@@ -55,7 +55,7 @@ pub fn copy_properties<A: Allocator + Copy>(
     Ok(Props::of(copies))
 }
 
-// A copy of a node and of those below it.
+// Copies a node and its descendants.
 fn copy_this<A: Allocator + Copy>(alloc: A, this: ThisNode<A>) -> Result<Node<A>, AllocError>
     ensures { IfOk result (λ copy. copy ≡ this.entry.node.now) }
 {
@@ -74,16 +74,16 @@ fn copy_this<A: Allocator + Copy>(alloc: A, this: ThisNode<A>) -> Result<Node<A>
     })
 }
 
-/// A copy of a node and of those below it. `AllocError` comes only where memory was refused. The depth
-/// of its calls is that of the node.
+/// Copies a node and its descendants. Returns `AllocError` only if memory was refused. Its calls
+/// nest as deep as the node.
 pub fn copy_node<A: Allocator + Copy>(alloc: A, node: &Node<A>) -> Result<Node<A>, AllocError>
     ensures { IfOk result (λ copy. copy ≡ node.now) }
 {
     copy_this(alloc, ThisNode { node })
 }
 
-/// A copy of nodes and of those below them. `AllocError` comes only where memory was refused. The depth
-/// of its calls is that of the nodes.
+/// Copies nodes and their descendants. Returns `AllocError` only if memory was refused. Its calls
+/// nest as deep as the nodes.
 pub fn copy_nodes<A: Allocator + Copy>(alloc: A, nodes: &Nodes<A>) -> Result<Nodes<A>, AllocError>
     ensures { IfOk result (λ copy. copy ≡ nodes.now) }
 {

@@ -9,7 +9,7 @@ pub enum TreeFault {
     /// A write failed.
     #[error("write failed")]
     Put,
-    /// A read of a file failed, or the file has not the size that the tree keeps.
+    /// A read of a file failed, or its size is not the one that the tree stores.
     #[error("read failed")]
     Read,
     /// The open of a file was refused.

@@ -1,4 +1,4 @@
-//! Files that stand in a blob, moved through a window.
+//! Files as values of a blob, copied through a window.
 
 ghost use Rattle.std.specs.Prelude.{◌≡◌, ◌∷◌, [], length, IsTrue, OnOk, is_err, false};
 ghost use Rattle.uimg_base.specs.Device.{RisesIf};
@@ -11,8 +11,8 @@ use crate::fault::TreeFault;
 use std::io::Write;
 use uimg_base::{Files, Out, Source, WINDOW, copy_through};
 
-// Writes all of a source that has so many bytes; one of another size is a failed read. `Read` comes
-// exactly where the source failed, if it has so many bytes.
+// Writes all of a source that has `size` bytes. A source of another size counts as a failed read.
+// If it has `size` bytes, returns `Read` if and only if the source failed.
 fn put_source<S: Source, W: Write>(
     source: &mut S,
     size: u64,
@@ -34,8 +34,8 @@ fn put_source<S: Source, W: Write>(
     Ok(())
 }
 
-// Writes the file of a name, which has so many bytes. It is not inlined, so that its window and its
-// source are in no frame of a function that calls itself.
+// Writes the file with this name, which has `size` bytes. Not inlined, to keep its window and its
+// source out of the frames of recursive functions.
 #[inline(never)]
 pub(crate) fn put_file<F: Files, W: Write>(
     name: &[u8],

@@ -1,4 +1,4 @@
-//! What measuring finds: the names and the sizes of a blob.
+//! The result of measuring: the names and sizes of a blob.
 
 ghost use Rattle.std.specs.Prelude.{◌≡◌, ◌+◌, length};
 ghost use Rattle.uimg_tree.specs.Encoding.{strings};
@@ -8,12 +8,12 @@ use crate::alignment::aligned;
 use std::alloc::Allocator;
 use std::marker::Model;
 
-/// Where the structure block begins: behind the header of 40 bytes and the one pair of zeros that
-/// ends the reservation block.
+/// The offset of the structure block: after the header of 40 bytes and the pair of zeros that ends
+/// the reservation block.
 pub(crate) const STRUCTURE_OFFSET: u32 = 56;
 
-/// What is known of a tree's blob before it is written: the names of the strings block, which it
-/// borrows from the tree, the sizes of the two blocks, and the alignment of its end.
+/// The layout of a tree's blob, known before it is written: the names of the strings block,
+/// borrowed from the tree, the sizes of the two blocks, and the alignment of the blob's end.
 ///
 /// Contracts see it as a `Plan`. `measure` makes it.
 #[derive(Drop)]
@@ -50,15 +50,15 @@ impl<'a, A: Allocator> Model for Layout<'a, A> {
 }
 
 impl<'a, A: Allocator> Layout<'a, A> {
-    /// How many bytes the blob has, each file counted by the size that the tree keeps of it: just those
-    /// that are written, over any files of these sizes.
+    /// Returns the size of the blob in bytes, with the stored size of each file. Exactly as many
+    /// bytes are written, over any files of these sizes.
     pub fn totalsize(&self) -> u32
         ensures { result ≡ totalsize self.now }
     {
         aligned(self.end(), self.align) as u32
     }
 
-    // Where the strings block ends.
+    // Returns the end of the strings block.
     pub(crate) fn end(&self) -> u64
         ensures { result ≡ 56 + self.now.structure + length (strings self.now.names) }
     {

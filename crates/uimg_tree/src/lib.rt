@@ -1,5 +1,6 @@
-//! Trees of nodes and properties, and the flattened devicetree blobs that are made of them. Each function
-//! that writes has in its contract the pieces that it writes (`WritesPieces` of `specs/Pieces.antt`).
+//! Trees of nodes and properties, and the flattened devicetree blobs made of them. The contract of
+//! each function that writes gives the pieces that it writes (`WritesPieces` of
+//! `specs/Pieces.antt`).
 #![tactic(auto)]
 
 mod alignment;

@@ -1,4 +1,4 @@
-//! How large the blob of a tree is.
+//! The size of a tree's blob.
 
 ghost use Rattle.std.specs.Prelude.{◌≡◌, ◌≢◌, ℕ, List, [], length, Option, Err, OnOk, IfOk};
 ghost use Rattle.uimg_blob.specs.Plain.{AreNamed};
@@ -19,7 +19,7 @@ use crate::tree::Tree;
 use std::alloc::Allocator;
 use uimg_blob::BlobFault;
 
-// The most bytes of a blob.
+// The greatest size of a blob in bytes.
 const LARGEST: u128 = 0xffff_ffff;
 
 /// Measures the blob of a tree: the names of its properties, each once in the order of first use,

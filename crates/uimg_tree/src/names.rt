@@ -1,4 +1,4 @@
-//! The distinct names of properties, and where each stands.
+//! The distinct names of properties, and their offsets.
 
 ghost use Rattle.std.specs.Prelude.{◌≡◌, ◌^◌, ◌<◌, length, OnOk, OnErr};
 ghost use Rattle.std.specs.List.{list_any};
@@ -11,7 +11,7 @@ use crate::nodes::ThisNode;
 use crate::props::Props;
 use std::alloc::{AllocError, Allocator};
 
-// Where a name begins among the strings.
+// Returns the offset of a name in the strings block.
 pub(crate) fn name_offset(names: &[&[u8]], name: &[u8]) -> u32
     requires { length (strings (texts names.now)) < 2 ^ 32 }
     ensures { result ≡ name_offset (texts names.now) name.now }
@@ -26,7 +26,7 @@ pub(crate) fn name_offset(names: &[&[u8]], name: &[u8]) -> u32
     at
 }
 
-// Whether a name is among names.
+// Returns whether a name is one of these names.
 fn has_name(names: &[&[u8]], name: &[u8]) -> bool
     ensures { result ≡ list_any (bytes_eq name.now) (texts names.now) }
 {
@@ -38,7 +38,7 @@ fn has_name(names: &[&[u8]], name: &[u8]) -> bool
     false
 }
 
-// Adds a name, unless it is there.
+// Adds a name, unless it is one of the names already.
 fn add_name<'a, A: Allocator>(
     names: &mut Vec<&'a [u8], A>,
     name: &'a [u8],
@@ -69,7 +69,7 @@ fn add_names<'a, A: Allocator>(
     Ok(())
 }
 
-// Adds the names of the properties of a node and of those below it, each once.
+// Adds the names of the properties of a node and of its descendants, each once.
 pub(crate) fn add_all_names<'a, A: Allocator>(
     names: &mut Vec<&'a [u8], A>,
     this: ThisNode<'a, A>,

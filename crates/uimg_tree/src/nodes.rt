@@ -1,4 +1,4 @@
-//! Nodes are written, by calls inside one another.
+//! Writing of nodes, by recursion.
 
 ghost use Rattle.std.specs.Prelude.{◌≡◌, ◌^◌, ◌<◌, length};
 ghost use Rattle.uimg_blob.specs.Plain.{AllValues};
@@ -16,20 +16,20 @@ use std::alloc::Allocator;
 use std::io::Write;
 use uimg_base::{Files, Out, WINDOW};
 
-// A node that is read. A recursion takes it in place of the reference, whose size as a recursion's
-// measure the check does not find.
+// A node to read. Recursive functions take it in place of a reference because the check does not
+// find the size of a reference as a measure.
 #[derive(Clone, Copy)]
 pub(crate) struct ThisNode<'a, A: Allocator> {
     pub(crate) node: &'a Node<A>,
 }
 
-// Nodes that are read, likewise.
+// Nodes to read, for the same reason.
 #[derive(Clone, Copy)]
 struct TheseNodes<'a, A: Allocator> {
     nodes: &'a Nodes<A>,
 }
 
-// Writes a node and those below it.
+// Writes a node and its descendants.
 #[cycle(put_nodes)]
 pub(crate) fn put_node<F: Files, W: Write, A: Allocator>(
     this: ThisNode<A>,
@@ -54,7 +54,7 @@ pub(crate) fn put_node<F: Files, W: Write, A: Allocator>(
     Ok(())
 }
 
-// Writes nodes and those below them.
+// Writes nodes and their descendants.
 #[cycle(put_nodes)]
 fn put_nodes<F: Files, W: Write, A: Allocator>(
     these: TheseNodes<A>,

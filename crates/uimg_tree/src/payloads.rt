@@ -1,4 +1,4 @@
-//! A value is written, with the zeros behind it.
+//! Writing of a value with its padding.
 
 ghost use Rattle.std.specs.Prelude.{◌≡◌, ◌∷◌, [], length};
 ghost use Rattle.uimg_tree.specs.Alignment.{padding_by};
@@ -34,7 +34,7 @@ fn put_value<F: Files, W: Write, A: Allocator>(
     }
 }
 
-/// How many bytes a value has: of a file, how many the tree keeps.
+/// Returns the size of a value in bytes; for a file, the size that the tree stores.
 pub fn value_size<A: Allocator>(value: &Value<A>) -> u64
     ensures { result ≡ size_of (content value.now) }
 {
@@ -44,7 +44,7 @@ pub fn value_size<A: Allocator>(value: &Value<A>) -> u64
     }
 }
 
-// Writes a value, and the zeros that bring it to a multiple of 4.
+// Writes a value and the zeros that pad it to a multiple of 4.
 pub(crate) fn put_padded<F: Files, W: Write, A: Allocator>(
     value: &Value<A>,
     files: &mut F,
@@ -59,12 +59,12 @@ pub(crate) fn put_padded<F: Files, W: Write, A: Allocator>(
     Ok(())
 }
 
-/// Writes a value, and the zeros that bring it to where an alignment has it end.
+/// Writes a value and the zeros that pad it to an alignment.
 ///
-/// A file is opened, goes through the window, and is never held in memory whole. One whose size is not
-/// the one that is kept is answered as a failed read, before a byte of it. `Put` comes exactly where a
-/// write failed, `NoFile` exactly where an open was refused. Over honest files of the kept sizes all was
-/// written, or at a refusal a prefix.
+/// A file is opened and copied through the window, never held in memory as a whole. If its size is
+/// not the stored one, that counts as a failed read, before any of its bytes is written. Returns
+/// `Put` if and only if a write failed, `NoFile` if and only if an open was refused. Over honest
+/// files of the stored sizes all was written, or at a fault a prefix.
 pub fn put_aligned<F: Files, W: Write, A: Allocator>(
     value: &Value<A>,
     align: u32,

@@ -1,4 +1,4 @@
-//! Properties are written.
+//! Writing of properties.
 
 ghost use Rattle.std.specs.Prelude.{◌≡◌, ◌^◌, ◌<◌, ◌++◌, ◌∷◌, [], length, is_err};
 ghost use Rattle.std.specs.List.{flat_map, AllByRecursion};
@@ -18,7 +18,7 @@ use std::alloc::Allocator;
 use std::io::Write;
 use uimg_base::{Files, Out, WINDOW};
 
-// Writes a property whose value is in a file, and whose name stands at an offset.
+// Writes a property whose value is in a file, and whose name has this offset.
 fn put_from_file<F: Files, W: Write>(
     offset: u32,
     name: &[u8],
@@ -37,7 +37,6 @@ fn put_from_file<F: Files, W: Write>(
     Ok(())
 }
 
-// Writes a property.
 fn put_property<F: Files, W: Write, A: Allocator>(
     prop: &Prop<A>,
     names: &[&[u8]],
@@ -63,7 +62,6 @@ fn put_property<F: Files, W: Write, A: Allocator>(
     }
 }
 
-// Writes properties.
 pub(crate) fn put_properties<F: Files, W: Write, A: Allocator>(
     props: &Props<A>,
     names: &[&[u8]],

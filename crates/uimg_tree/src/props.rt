@@ -1,4 +1,4 @@
-//! Properties, as contracts see them: a list.
+//! Properties, which contracts see as a list.
 
 ghost use Rattle.std.specs.Prelude.{◌≡◌, map};
 ghost use Rattle.uimg_tree.specs.Properties.{property};
@@ -12,19 +12,19 @@ use std::marker::Model;
 pub enum Value<A: Allocator> {
     /// These bytes.
     Bytes(ByteList<A>),
-    /// The bytes of the file of this name, which has so many. They stay in the file until the tree
-    /// is written.
+    /// The bytes of the file with this name and size. They stay in the file until the tree is
+    /// written.
     File { name: ByteList<A>, size: u64 },
 }
 
-/// A property: a name, and a value.
+/// A property: name and value.
 #[derive(Drop)]
 pub struct Prop<A: Allocator> {
     pub name: ByteList<A>,
     pub value: Value<A>,
 }
 
-/// The properties of a node, in order. Contracts see them as a list of names with their values.
+/// The properties of a node, in order. Contracts see them as a list of names and values.
 #[derive(Drop)]
 pub struct Props<A: Allocator> {
     props: Vec<Prop<A>, A>,
@@ -43,21 +43,21 @@ impl<A: Allocator> Model for Props<A> {
 }
 
 impl<A: Allocator> Props<A> {
-    /// The list of these properties. It takes no memory.
+    /// Creates a list of these properties. Takes no memory.
     pub fn of(props: Vec<Prop<A>, A>) -> Props<A>
         ensures { result ≡ map property props.items }
     {
         Props { props }
     }
 
-    /// The properties.
+    /// Returns the properties.
     pub fn items(&self) -> &[Prop<A>]
         ensures { map property result.now ≡ self.now }
     {
         self.props.as_slice()
     }
 
-    /// The properties as a `Vec`. It takes no memory.
+    /// Returns the properties as a `Vec`. Takes no memory.
     pub fn into_vec(self) -> Vec<Prop<A>, A>
         ensures { map property result.items ≡ self }
     {

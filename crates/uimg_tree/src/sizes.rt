@@ -1,4 +1,4 @@
-//! How many bytes nodes and properties take.
+//! The sizes in bytes of nodes and properties.
 
 ghost use Rattle.std.specs.Prelude.{◌≡◌, ◌^◌, min, length};
 ghost use Rattle.uimg_tree.specs.Encoding.{strings};
@@ -12,10 +12,10 @@ use crate::props::Props;
 use std::alloc::Allocator;
 use uimg_base::up4;
 
-// Sizes are counted up to 2^36, which is too large for a blob: so no sum of them wraps.
+// Sizes are counted up to 2^36, which is too large for a blob, so no sum of them wraps.
 const MOST: u64 = 0x10_0000_0000;
 
-// How many bytes the tokens of properties take, at most 2^36.
+// Returns the size of the tokens of properties in bytes, at most 2^36.
 fn properties_size<A: Allocator>(props: &Props<A>) -> u64
     ensures { result ≡ min (properties_size props.now) (2 ^ 36) }
 {
@@ -27,7 +27,7 @@ fn properties_size<A: Allocator>(props: &Props<A>) -> u64
     size
 }
 
-// How many bytes a node takes with those below it, at most 2^36.
+// Returns the size of a node with its descendants in bytes, at most 2^36.
 pub(crate) fn node_size<A: Allocator>(this: ThisNode<A>) -> u64
     ensures { result ≡ min (nodes_size (node_of this.entry.node.now)) (2 ^ 36) }
 {
@@ -39,7 +39,7 @@ pub(crate) fn node_size<A: Allocator>(this: ThisNode<A>) -> u64
     size
 }
 
-// How many bytes the strings block of names has, at most 2^36.
+// Returns the size of the strings block of these names in bytes, at most 2^36.
 pub(crate) fn strings_size(names: &[&[u8]]) -> u64
     ensures { result ≡ min (length (strings (texts names.now))) (2 ^ 36) }
 {

@@ -1,4 +1,4 @@
-//! The tokens of a blob, written.
+//! Writing of the tokens of a blob.
 
 ghost use Rattle.std.specs.Prelude.{◌≡◌, ◌++◌, ◌-◌, ◌^◌, ◌<◌, length, is_err};
 ghost use Rattle.uimg_base.specs.Writing.{Writes};
@@ -9,7 +9,7 @@ ghost use Rattle.uimg_tree.specs.Pieces.{begin_bytes, head_bytes, padding};
 use std::io::Write;
 use uimg_base::{Out, PutFault};
 
-// The words that tokens of the structure block begin with (Devicetree Specification, section 5.4.1).
+// The first words of the tokens of the structure block (Devicetree Specification, section 5.4.1).
 const BEGIN_NODE: u32 = 1;
 
 const END_NODE: u32 = 2;
@@ -18,10 +18,10 @@ const PROP: u32 = 3;
 
 const END: u32 = 9;
 
-// Zeros, of which tokens end with at most four.
+// Zeros for padding: at most four end a token.
 const ZEROS: [u8; 4] = [0; 4];
 
-// How many zeros bring so many bytes to a multiple of 4.
+// Returns how many zeros pad `size` bytes to a multiple of 4.
 fn padding_size(size: u64) -> usize
     ensures few { result < 4 }
     ensures size { result ≡ up4 size - size }
@@ -29,7 +29,7 @@ fn padding_size(size: u64) -> usize
     ((4 - size % 4) % 4) as usize
 }
 
-// Writes the zeros that bring so many bytes to a multiple of 4.
+// Writes the zeros that pad `size` bytes to a multiple of 4.
 pub(crate) fn put_padding<W: Write>(size: u64, out: &mut Out<W>) -> Result<(), PutFault>
     ensures { Writes (is_err result) out.old out.new (padding size) }
 {
@@ -62,7 +62,7 @@ pub(crate) fn put_end<W: Write>(out: &mut Out<W>) -> Result<(), PutFault>
     out.put_all(&END.to_be_bytes())
 }
 
-// Writes what stands before the value of a property: of so many bytes, whose name stands at an offset.
+// Writes what comes before a property's value: the token, its size in bytes, its name's offset.
 pub(crate) fn put_head<W: Write>(size: u32, offset: u32, out: &mut Out<W>) -> Result<(), PutFault>
     ensures { Writes (is_err result) out.old out.new (head_bytes size offset) }
 {
@@ -73,7 +73,7 @@ pub(crate) fn put_head<W: Write>(size: u32, offset: u32, out: &mut Out<W>) -> Re
     ])
 }
 
-// Writes a property whose value is these bytes, and whose name stands at an offset.
+// Writes a property with this value, whose name has this offset.
 pub(crate) fn put_whole<W: Write>(
     offset: u32,
     value: &[u8],

@@ -1,4 +1,4 @@
-//! A tree of nodes, in memory.
+//! A tree of nodes in memory.
 
 ghost use Rattle.std.specs.Prelude.{◌≡◌};
 ghost use Rattle.uimg_tree.specs.Trees.{siblings};
@@ -8,7 +8,7 @@ use crate::props::Props;
 use std::alloc::Allocator;
 use std::marker::Model;
 
-/// A node: its name, its properties, and the nodes directly below it.
+/// A node: its name, its properties and its children.
 #[cycle(node)]
 #[derive(Drop)]
 pub struct Node<A: Allocator> {
@@ -17,9 +17,9 @@ pub struct Node<A: Allocator> {
     pub children: Nodes<A>,
 }
 
-/// Nodes in order. Contracts see them as nodes that follow one another, each with those below it.
+/// Nodes in order. Contracts see them as siblings, each with its descendants.
 ///
-/// To drop them takes as many calls inside one another as they are deep.
+/// The calls that drop them nest as deep as they are.
 #[cycle(node)]
 #[derive(Drop)]
 pub struct Nodes<A: Allocator> {
@@ -46,21 +46,21 @@ impl<A: Allocator> Model for Nodes<A> {
 }
 
 impl<A: Allocator> Nodes<A> {
-    /// The list of these nodes. It takes no memory.
+    /// Creates a list of these nodes. Takes no memory.
     pub fn of(nodes: Vec<Node<A>, A>) -> Nodes<A>
         ensures { result ≡ siblings nodes.items }
     {
         Nodes { nodes }
     }
 
-    /// The nodes.
+    /// Returns the nodes.
     pub fn items(&self) -> &[Node<A>]
         ensures { siblings result.now ≡ self.now }
     {
         self.nodes.as_slice()
     }
 
-    /// The nodes as a `Vec`. It takes no memory.
+    /// Returns the nodes as a `Vec`. Takes no memory.
     pub fn into_vec(self) -> Vec<Node<A>, A>
         ensures { siblings result.items ≡ self }
     {

@@ -1,4 +1,4 @@
-//! The blob of a tree is written.
+//! Writing of a tree's blob.
 
 ghost use Rattle.std.specs.Prelude.{◌≡◌, ◌<◌, ◌^◌, ◌++◌, length, replicate, IsTrue, OnOk, is_err, false};
 ghost use Rattle.uimg_base.specs.Device.{RisesIf};
@@ -25,7 +25,7 @@ use std::io::Write;
 use uimg_base::{Files, Out, PutFault, WINDOW};
 use uimg_blob::BLOB_MAGIC;
 
-// The numbers of the header (Devicetree Specification, section 5.2).
+// The fields of the header (Devicetree Specification, section 5.2).
 const RESERVATION_OFFSET: u32 = 40;
 
 const VERSION: u32 = 17;
@@ -107,21 +107,23 @@ fn put_blob<F: Files, W: Write, A: Allocator>(
     Ok(())
 }
 
-/// Writes the blob of a tree (Devicetree Specification, chapter 5): the header, an empty reservation
-/// block, the nodes and properties in order, the names of the properties, each once, and zeros up to the
-/// blob's end.
+/// Writes the blob of a tree (Devicetree Specification, chapter 5): the header, an empty
+/// reservation block, the nodes and properties in order, the names of the properties, each once,
+/// and zeros up to the end of the blob.
 ///
-/// The caller gives the layout that `measure` made of this tree. A file is opened when its value is
-/// written, and goes through a window of 8192 bytes; it is never held in memory whole. A file whose
-/// size is not the one that the tree keeps is answered as a failed read, before a byte of it.
+/// The layout must be the one that `measure` made of this tree. A file is opened when its value is
+/// written, and copied through a window of 8192 bytes; it is never held in memory as a whole. If
+/// its size is not the one that the tree stores, that counts as a failed read, before any of its
+/// bytes is written.
 ///
-/// `Put` comes exactly where a write failed, `NoFile` exactly where an open was refused, `Read`
-/// where a read of a file failed or its size is another; a tree without files is refused by a failed
-/// write alone, and no read fails over honest files of the kept sizes that are opened as steady sources
-/// (those in memory). Over honest files of the kept sizes the bytes of `encode_by` were written, or at a
-/// refusal a prefix of them; and a file that begins with these bytes reads back as the tree.
+/// Returns `Put` if and only if a write failed, `NoFile` if and only if an open was refused, and
+/// `Read` if a read of a file failed or its size differs. A tree without files is refused only by a
+/// failed write. No read fails over honest files of the stored sizes that are opened as steady
+/// sources (those in memory). Over honest files of the stored sizes the bytes of `encode_by` were
+/// written, or at a fault a prefix of them. A file that begins with these bytes reads back as the
+/// tree.
 ///
-/// It takes no memory. The depth of its calls is that of the tree.
+/// Takes no memory. Its calls nest as deep as the tree.
 pub fn write_tree<F: Files, W: Write, A: Allocator>(
     tree: &Tree<A>,
     layout: &Layout<A>,

@@ -1,4 +1,4 @@
-//! Listings: what is printed of the images that `legacy` has.
+//! Listings of the images in `legacy`.
 
 /// The listing of the kernel of three bytes.
 pub const ABC_LISTING: &str = "Image Name:   01234567890123456789012345678901

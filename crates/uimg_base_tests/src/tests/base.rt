@@ -1,7 +1,8 @@
-//! What no clause says: that calls succeed, what a failing device leaves, and what a real file gives.
+//! What no contract claims: that calls succeed, what a failing device leaves, and what a real file
+//! returns.
 //!
-//! Many rows have a script: steps with a `|` between them, each a word and what it is about. A step that does
-//! not end as it says is named with its row.
+//! Many rows have a script: steps separated by `|`, each a word and its argument. A step that does
+//! not end as it says is reported with its row.
 
 mod disk;
 mod faults;

@@ -1,5 +1,5 @@
-//! What no clause says: the cases in bytes and text, that calls succeed, and what a failing device
-//! leaves.
+//! What no contract claims: the cases as bytes and text, that calls succeed, and what a failing
+//! device leaves.
 
 mod building;
 mod case_rows;

@@ -1,10 +1,10 @@
-//! Checksums and hashes, against digests from elsewhere: by any cutting, and by eight sums at once.
+//! Checksums and hashes against digests from elsewhere: in any pieces, and eight sums at once.
 
 mod algorithms;
 mod bundles;
 mod digests;
 
-/// CRC-32, MD5 and the SHAs of the counted text, from zlib and the tools of coreutils.
+/// CRC-32, MD5 and SHA of the counted text, from zlib and coreutils.
 const COUNTED_DIGESTS: [(&str, &str); 6] = [
     ("crc32", "c1607408"),
     ("md5", "046b3239eaade30920069f171518d956"),
@@ -23,7 +23,7 @@ const COUNTED_DIGESTS: [(&str, &str); 6] = [
     ),
 ];
 
-// Whether 64 bytes have, of that length, the digest that `hex` spells, and zeros behind it.
+// Checks that an entry has the digest that `hex` spells, with its length, and zeros after it.
 fn is_entry(entry: &([u8; 64], usize), hex: &str) -> bool {
     let (bytes, length) = entry;
     *length <= 64
@@ -31,7 +31,7 @@ fn is_entry(entry: &([u8; 64], usize), hex: &str) -> bool {
         && bytes[*length..].iter().all(|byte| *byte == 0)
 }
 
-// Whether the bytes are spelled so, in lowercase hexadecimal digits.
+// Checks that `hex` spells these bytes in lowercase.
 fn is_spelled(bytes: &[u8], hex: &[u8]) -> bool {
     let digits = b"0123456789abcdef";
     let mut same = hex.len() % 2 == 0 && hex.len() / 2 == bytes.len();

@@ -1,4 +1,4 @@
-//! Numbers, names and times as texts, as U-Boot and GNU `date` have them.
+//! Numbers, names and times as texts, as in U-Boot and GNU `date`.
 
 mod all_names;
 mod names;

@@ -1,8 +1,8 @@
-//! Answers in words.
+//! Results in words.
 use std::alloc::AllocError;
 use std::process::Abort;
 
-/// Asserts that an answer is the one that is wanted; the row is told by a text and a number of its own.
+/// Asserts that a result is the expected one; a text and a number name the row.
 pub(super) fn is_said<R: Abort>(
     rt: &R,
     answer: Result<String, AllocError>,

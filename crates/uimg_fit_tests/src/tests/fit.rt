@@ -1,4 +1,4 @@
-//! FIT images: what is read of them, and how they are filled and built.
+//! FIT images: reading, filling and building.
 
 mod build_rows;
 mod device_rows;

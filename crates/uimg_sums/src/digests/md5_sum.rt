@@ -6,9 +6,9 @@ ghost use Rattle.md5.specs.Md5.{Holds, md5};
 use crate::sums::Summer;
 use md5::{Digest, Md5};
 
-/// MD5 of bytes that come in pieces, by RFC 1321, section 3: 16 bytes.
+/// MD5 of bytes that come in pieces (RFC 1321, section 3): 16 bytes.
 ///
-/// MD5 is broken as a cryptographic hash. It finds damage, and not forgery.
+/// MD5 is broken as a cryptographic hash. It detects damage, not forgery.
 #[derive(Drop)]
 pub struct Md5Sum {
     hasher: Md5,

@@ -6,9 +6,9 @@ ghost use Rattle.sha1.specs.Sha1.{Holds, sha1};
 use crate::sums::Summer;
 use sha1::Sha1;
 
-/// SHA-1 of bytes that come in pieces, by FIPS 180-4, section 6.1: 20 bytes.
+/// SHA-1 of bytes that come in pieces (FIPS 180-4, section 6.1): 20 bytes.
 ///
-/// SHA-1 is broken as a cryptographic hash. It finds damage, and not forgery.
+/// SHA-1 is broken as a cryptographic hash. It detects damage, not forgery.
 #[derive(Drop)]
 pub struct Sha1Sum {
     hasher: Sha1,

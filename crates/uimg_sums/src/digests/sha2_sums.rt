@@ -8,7 +8,7 @@ ghost use Rattle.sha2.specs.Sha512.{sha384, sha512};
 use crate::sums::Summer;
 use sha2::{Digest, Sha256, Sha384, Sha512};
 
-/// SHA-256 of bytes that come in pieces, by FIPS 180-4, section 6.2: 32 bytes.
+/// SHA-256 of bytes that come in pieces (FIPS 180-4, section 6.2): 32 bytes.
 #[derive(Drop)]
 pub struct Sha256Sum {
     hasher: Sha256,
@@ -36,7 +36,7 @@ impl Summer for Sha256Sum {
     }
 }
 
-/// SHA-384 of bytes that come in pieces, by FIPS 180-4, section 6.5: 48 bytes.
+/// SHA-384 of bytes that come in pieces (FIPS 180-4, section 6.5): 48 bytes.
 #[derive(Drop)]
 pub struct Sha384Sum {
     hasher: Sha384,
@@ -64,7 +64,7 @@ impl Summer for Sha384Sum {
     }
 }
 
-/// SHA-512 of bytes that come in pieces, by FIPS 180-4, section 6.4: 64 bytes.
+/// SHA-512 of bytes that come in pieces (FIPS 180-4, section 6.4): 64 bytes.
 #[derive(Drop)]
 pub struct Sha512Sum {
     hasher: Sha512,

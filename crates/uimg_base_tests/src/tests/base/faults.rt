@@ -1,4 +1,4 @@
-//! The lines of faults.
+//! The texts of faults.
 
 use std::alloc::Global;
 use std::fmt::Display;

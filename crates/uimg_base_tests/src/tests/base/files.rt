@@ -1,4 +1,4 @@
-//! A file that gives few bytes at a read, or fails.
+//! A file that returns few bytes per read, or fails.
 ghost use Rattle.std.specs.Prelude.{None};
 
 use super::steps::{cut, number};
@@ -12,28 +12,28 @@ use uimg_base::SeekRead;
 pub(super) struct DigitFile<'a> {
     at: u64,
 
-    /// How many bytes a read gives at most.
+    /// The most bytes that a read returns.
     most: usize,
 
-    /// From where on a read gives none, or an error.
+    /// The offset from which on a read returns no bytes, or an error.
     end: u64,
     fails: bool,
 
-    /// What no read may go past.
+    /// The offset that no read may pass.
     bad: u64,
 
     /// How many reads are interrupted first.
     interrupts: u64,
 
-    /// The length that the file tells.
+    /// The length that the file reports.
     length: u64,
 
-    /// How many reads there were.
+    /// The number of reads so far.
     turns: &'a Cell<u64>,
 }
 
 impl<'a> DigitFile<'a> {
-    /// The file of a description. What it does not say is without an end.
+    /// Creates the file of a description. What is not given has no limit.
     pub(super) fn new(description: &str, turns: &'a Cell<u64>) -> DigitFile<'a> {
         let mut file = DigitFile {
             at: 0,
@@ -64,7 +64,7 @@ impl<'a> DigitFile<'a> {
         }
     }
 
-    // Whether a read of so many bytes is an error, and of which kind.
+    // Returns the error of a read of `count` bytes, if it has one.
     fn error(&mut self, count: usize) -> Option<ErrorKind> {
         if self.interrupts > 0 {
             self.interrupts -= 1;

@@ -1,4 +1,4 @@
-//! Ranges that are copied or summed, over devices that fail.
+//! Ranges that are copied or summed, over failing devices.
 
 use super::super::counted::counted;
 use std::alloc::Global;
@@ -10,8 +10,8 @@ use uimg_base::{
 // Three windows: two of 8192 bytes and one of 3616.
 const LONG: usize = 20000;
 
-// Copies: the name, the offset, the length, how many calls get through, how many bytes the writer takes,
-// how the copy ends (0 well, 1 by a read, 2 by a write), and how many bytes are written then.
+// Copies: the name, the offset, the length, how many calls pass, how many bytes the writer accepts,
+// how the copy ends (0 done, 1 failed read, 2 failed write), and how many bytes are written.
 const COPIES: [(&str, u64, u64, u64, u64, u8, usize); 16] = [
     ("a range", 1, 19998, 99, 99999, 0, 19998),
     ("no byte", 20000, 0, 99, 99999, 0, 0),
@@ -31,8 +31,8 @@ const COPIES: [(&str, u64, u64, u64, u64, u8, usize); 16] = [
     ("20000 bytes are taken", 0, 20000, 99, 20000, 0, 20000),
 ];
 
-// Sums: the name, the offset, the length, how many calls get through, whether that is enough, and the CRC-32 of
-// the range, by zlib.
+// Sums: the name, the offset, the length, how many calls pass, whether that is enough, and CRC-32
+// of the range, from zlib.
 const SUMS: [(&str, u64, u64, u64, bool, u32); 9] = [
     ("all", 0, 20000, 3, true, 0x361f_c6e7),
     ("all but the ends", 1, 19998, 3, true, 0x6c96_887e),
@@ -60,7 +60,7 @@ fn code_of(end: Result<(), MoveFault>) -> u8 {
     }
 }
 
-// Whether a copy ends so, with so many bytes written, and asks for at most a window more.
+// Checks how a copy ends, how much it writes, and that it requests at most one window more.
 fn copies(alloc: Global, range: (u64, u64), fuses: (u64, u64), end: u8, written: usize) -> bool {
     let (at, length) = range;
     let bytes = counted();
@@ -79,7 +79,7 @@ fn copies(alloc: Global, range: (u64, u64), fuses: (u64, u64), end: u8, written:
         && (end != 0 || asked == length as u128)
 }
 
-// Whether the CRC-32 of a range is this, or a read fails.
+// Checks CRC-32 of a range, or that a read fails.
 fn has_crc(alloc: Global, range: (u64, u64), calls: u64, enough: bool, sum: u32) -> bool {
     let (at, length) = range;
     let bytes = counted();
@@ -93,7 +93,7 @@ fn has_crc(alloc: Global, range: (u64, u64), calls: u64, enough: bool, sum: u32)
         && (!enough || source.asked() == length as u128)
 }
 
-// Whether a digest of sevens has the CRC-32 of a range at its beginning, or stays where a read fails.
+// Checks that a buffer of sevens begins with CRC-32 of a range, or is unchanged if a read fails.
 fn puts_crc(alloc: Global, range: (u64, u64), calls: u64, enough: bool, sum: u32) -> bool {
     let (at, length) = range;
     let bytes = counted();

@@ -1,4 +1,4 @@
-//! Files by their names, whose opens and reads may fail.
+//! Named files whose opens and reads may fail.
 
 use super::steps::reads_at;
 use uimg_base::{Files, FuseFiles, MemFiles, Source};
@@ -17,7 +17,7 @@ const ONE: [(&[u8], &[u8]); 1] = [(b"ab", b"two")];
 
 const LETTER: [(&[u8], &[u8]); 1] = [(b"a", b"bytes")];
 
-// Which files there are (none, one or many), a name, and its bytes; `refused`, if it has none.
+// Which files exist (none, one or many), a name, and its bytes, or `refused`.
 const NAMES: [(usize, &str, &str); 16] = [
     (2, "ab", "two"),
     (2, "a", "first"),
@@ -37,9 +37,9 @@ const NAMES: [(usize, &str, &str); 16] = [
     (0, "", "refused"),
 ];
 
-// Opens behind a fuse: the number from which on they are refused, the one whose source has a fuse, and how many
-// calls that lets through. Then names that are opened one after another (only `a` is there), and for each how many of
-// four calls its source answers; `-`, where the open is refused.
+// Opens through a fuse: the number of the first refused open, the number of the open whose source
+// has a fuse, and how many calls that lets through. Then the names opened in order (only `a`
+// exists), and for each how many of four calls its source answers, or `-` if the open is refused.
 const OPENS: [(u64, u64, u64, &str, &str); 22] = [
     (0, 0, 1, "aaaaa", "-----"),
     (1, 0, 1, "aaaaa", "1----"),
@@ -99,7 +99,7 @@ fn names_have_their_bytes(rt: HostRuntime) {
     }
 }
 
-// How many of four calls a source answers, as a digit; its failures are the others.
+// Returns, as a digit, how many of four calls a source answers; the others must be its failures.
 fn answers<S: Source>(mut source: S) -> u8 {
     let mut count = 0u8;
     for _call in 0..4u64 {
@@ -139,7 +139,7 @@ fn opens_behind_a_fuse(rt: HostRuntime) {
     }
 }
 
-// A source that was opened first goes on beside one of the same name.
+// A source stays readable when its name is opened again.
 #[test]
 fn a_name_is_opened_twice(rt: HostRuntime) {
     let mut files = FuseFiles::new(MemFiles::new(&ONE), 2, 0, 3);

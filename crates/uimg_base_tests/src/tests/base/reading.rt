@@ -5,9 +5,10 @@ use super::steps::{number, reads_at};
 use std::cell::Cell;
 use uimg_base::SeekSource;
 
-// Reads of a file: the name, the file, how many bytes are read at once, the offsets, how many of these reads succeed
-// before one fails, and how often the file is read in all. A read of fewer than 4096 bytes reads once ahead where no
-// window has them; where that is not enough, just the bytes asked for are read, by at most one turn for each byte.
+// Reads of a file: the name, the file, the bytes per read, the offsets, how many of these reads
+// succeed before one fails, and how often the file is read in all. A read of fewer than 4096 bytes
+// reads ahead once if no window has them; if that is not enough, it reads just these bytes, with at
+// most one read per byte.
 const READS: [(&str, &str, usize, &str, u64, u64); 27] = [
     ("a far offset", "most 2", 3, "4294967299", 1, 3),
     (
@@ -129,7 +130,7 @@ const READS: [(&str, &str, usize, &str, u64, u64); 27] = [
     ),
 ];
 
-// Whether the bytes are the digits from an offset on.
+// Checks that the bytes are the digits from an offset on.
 fn are_digits(at: u64, bytes: &[u8]) -> bool {
     let mut same = true;
     for (number, byte) in bytes.iter().enumerate() {
@@ -138,7 +139,7 @@ fn are_digits(at: u64, bytes: &[u8]) -> bool {
     same
 }
 
-// How many reads succeed before one fails, and whether they gave the right digits.
+// Returns how many reads succeed before one fails, if they returned the right digits.
 fn succeeding<'a>(
     source: &mut SeekSource<DigitFile<'a>>,
     size: usize,

@@ -7,8 +7,8 @@ use std::process::Abort;
 use std::test::Fail;
 use uimg_base::Room;
 
-// The name, the bytes of the heap, and the steps. An entry is named by the number that each of its words has. A heap of
-// 1024 bytes has place for three entries, since each takes memory for itself alone.
+// The name, the size of the heap in bytes, and the steps. An entry is named by the number in each
+// of its words. A heap of 1024 bytes has room for three entries, as each takes memory for itself.
 const ROOMS: [(&str, usize, &str); 4] = [
     (
         "no entry",

@@ -1,4 +1,4 @@
-//! Shelves in memory and on a disk.
+//! Shelves in memory and on disk.
 
 use super::steps::{cut, file_step, plays_file, plays_source, spell};
 use linked_list_allocator::LocalHeap;
@@ -8,7 +8,7 @@ use std::rt::Files;
 use std::test::Fail;
 use uimg_base::{FileShelf, MemShelf, Shelf};
 
-// Shelves that are files: the name, the path, the steps before the end of the writing, whether it was kept,
+// Shelves in files: the name, the path, the steps before the end of writing, whether it was kept,
 // and the steps after that.
 const FILE_SHELVES: [(&str, &str, &str, bool, &str); 12] = [
     (
@@ -91,8 +91,8 @@ const FILE_SHELVES: [(&str, &str, &str, bool, &str); 12] = [
     ),
 ];
 
-// Shelves in memory: the name, the bytes of the heap, the steps before the end of the writing, and those
-// after it.
+// Shelves in memory: the name, the size of the heap in bytes, the steps before the end of writing,
+// and those after it.
 const MEMORY_SHELVES: [(&str, usize, &str, &str); 4] = [
     (
         "what was written in pieces is kept",
@@ -115,7 +115,7 @@ const MEMORY_SHELVES: [(&str, usize, &str, &str); 4] = [
     ),
 ];
 
-// How a write ends: 0 where all is taken, 1 where less is, 2 for want of memory, and 3 by another error.
+// Returns how a write ends: 0 all accepted, 1 fewer accepted, 2 out of memory, 3 another error.
 fn written<W: Write>(writer: &mut W, bytes: &[u8]) -> u8 {
     match writer.write(bytes) {
         Ok(count) => (count != bytes.len()) as u8,
@@ -144,7 +144,7 @@ fn shelf_step<R: Files + AllocGlobal, H: Shelf>(
     }
 }
 
-// The bytes that a text spells.
+// Returns the bytes that a text spells.
 fn buffer_of<'a>(text: &str, buffer: &'a mut [u8; 20000]) -> &'a [u8] {
     let count = spell(text, buffer);
     buffer.get(..count).unwrap_or(b"")
@@ -162,7 +162,7 @@ fn plays_writing<R: Files + AllocGlobal + Abort, H: Shelf>(
     }
 }
 
-// Plays the steps after the end of the writing, and says whether it was kept.
+// Plays the steps after the end of writing. Returns whether the shelf was kept.
 fn plays_kept<R: Files + AllocGlobal + Abort, H: Shelf>(
     rt: &R,
     name: &str,
@@ -182,7 +182,7 @@ fn plays_kept<R: Files + AllocGlobal + Abort, H: Shelf>(
     }
 }
 
-// Plays a row, and says whether what was written was kept.
+// Plays a row. Returns whether the shelf was kept.
 fn plays_shelf<R: Files + AllocGlobal + Abort, H: Shelf>(
     rt: &R,
     name: &str,

@@ -8,8 +8,8 @@ use uimg_base::{FuseSource, MemSource, SeekSource, Source};
 
 const ANY_PLACE: &str = "size 9|read 3 456|read 6 789|read 0 12|read 9 |asked 8|failures 0";
 
-// Sources of the bytes `123456789`: the name, how many calls get through, and the steps. A step that reads
-// asks for the size first.
+// Sources of the bytes `123456789`: the name, how many calls pass, and the steps. A step that reads
+// requests the size first.
 const SOURCES: [(&str, u64, &str); 6] = [
     ("any place", 99, ANY_PLACE),
     (
@@ -39,7 +39,7 @@ const SOURCES: [(&str, u64, &str); 6] = [
     ),
 ];
 
-// How many calls get through, whether `size`, `fill_at` and `size` are answered, and how many fail.
+// How many calls pass, whether `size`, `fill_at` and `size` succeed, and how many fail.
 const FUSES: [(u64, bool, bool, bool, u64); 5] = [
     (0, false, false, false, 3),
     (1, true, false, false, 2),
@@ -65,7 +65,7 @@ fn slices_behind_a_fuse(rt: HostRuntime) {
     }
 }
 
-// A slice as a file is read as any source is.
+// A slice as a file is read like any source.
 #[test]
 fn a_cursor_is_read_at_any_place(rt: HostRuntime) {
     match SeekSource::new(Cursor::new(b"123456789".as_slice())) {
@@ -74,7 +74,7 @@ fn a_cursor_is_read_at_any_place(rt: HostRuntime) {
     }
 }
 
-// Whether `size`, `fill_at` and `size` are answered so behind a fuse, with so many failures.
+// Checks which of `size`, `fill_at` and `size` succeed through a fuse, and the count of failures.
 fn burns(calls: u64, first: bool, second: bool, third: bool, failures: u64) -> bool {
     let mut source = FuseSource::new(MemSource::new(b"abc"), calls);
     let mut two = [0; 2];
@@ -86,7 +86,7 @@ fn burns(calls: u64, first: bool, second: bool, third: bool, failures: u64) -> b
         && source.asked() == 2
 }
 
-// A fuse of k calls lets k calls through, and each later one is a failure.
+// A fuse of k calls lets k calls through; each later one is a failure.
 #[test]
 fn a_source_fails_from_its_fuse_on(rt: HostRuntime) {
     for (calls, first, second, third, failures) in &FUSES {

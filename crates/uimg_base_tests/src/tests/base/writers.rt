@@ -1,11 +1,11 @@
-//! Writers that fail, and what was written until then.
+//! Failing writers, and what was written before.
 
 use super::super::counted::counted;
 use std::alloc::Global;
 use uimg_base::{FuseWriter, Out};
 
-// A text in five pieces: where the first four end, and its end. The first is put alone, and the others are put at once.
-// Then how many bytes the writer takes.
+// A text in five pieces: the ends of the first four, and of the text. The first is written alone,
+// the others in one call. Then how many bytes the writer accepts.
 const PUTS: [(&str, usize, usize, usize, usize, usize); 15] = [
     ("short pieces, none is taken", 3, 5, 5, 6, 0),
     ("short pieces, 1 is taken", 3, 5, 5, 6, 1),
@@ -24,7 +24,7 @@ const PUTS: [(&str, usize, usize, usize, usize, usize); 15] = [
     ("long pieces, 558 are taken", 0, 200, 500, 557, 558),
 ];
 
-// Whether a writer takes its bytes, also in the midst of a write, and then fails.
+// Checks that a writer accepts its bytes, also in the middle of a write, and then fails.
 fn takes(alloc: Global, first: &[u8], rest: &[&[u8]], taken: usize, text: &[u8]) -> bool {
     let mut out = Out::new(FuseWriter::new(Vec::new(alloc), taken as u64));
     let is_first_put = out.put_all(first).is_ok();

@@ -1,4 +1,4 @@
-//! Images that are built, by bytes from outside.
+//! Built images, compared with bytes from elsewhere.
 
 use super::commands::says;
 use super::images::{PLACE, make};
@@ -7,7 +7,7 @@ use std::io::Write;
 use uimg_base::{FuseSource, FuseWriter, MemSource, Out, Source};
 use uimg_legacy::{Fault, Options, build, has_parts, name_field};
 
-// The name, the options, the parts, how the building ends, and the image: none, if it is refused.
+// The name, the options, the parts, how building ends, and the image; none if it is refused.
 const BUILDS: [(&str, &str, &str, &str, &str); 9] = [
     ("abc-kernel", "kernel", "abc", "done", "abc-kernel"),
     (
@@ -44,7 +44,7 @@ const BUILDS: [(&str, &str, &str, &str, &str); 9] = [
     ),
 ];
 
-/// The options of a kernel, or of an image of parts: multi or script.
+/// Returns the options of a kernel, or of an image with parts: multi or script.
 pub(super) fn options_of(kind: &str) -> Options {
     if kind == "kernel" {
         return Options {
@@ -70,7 +70,7 @@ pub(super) fn options_of(kind: &str) -> Options {
     }
 }
 
-/// Builds, where there are as many parts as the type asks for; nothing is answered otherwise.
+/// Builds, if the number of parts is one that the type allows; otherwise returns `None`.
 pub(super) fn try_build<S: Source, W: Write>(
     options: &Options,
     parts: &mut [S],
@@ -82,7 +82,7 @@ pub(super) fn try_build<S: Source, W: Write>(
     Some(build(options, parts, out))
 }
 
-/// Whether a building ends so: well, or with the fault of a line.
+/// Checks how building ends: `done`, or the line of a fault.
 pub(super) fn ends_as(alloc: Global, end: Option<Result<(), Fault>>, wanted: &str) -> bool {
     match end {
         Some(Ok(())) => wanted == "done",
@@ -91,7 +91,7 @@ pub(super) fn ends_as(alloc: Global, end: Option<Result<(), Fault>>, wanted: &st
     }
 }
 
-// What a building leaves.
+// The result of building.
 #[derive(Drop)]
 struct Outcome {
     end: Option<Result<(), Fault>>,
@@ -99,7 +99,7 @@ struct Outcome {
     failures: u64,
 }
 
-// Which part fails after so many calls, and how many bytes the writer takes.
+// The part that fails, after how many calls, and how many bytes the writer accepts.
 #[derive(Clone, Copy)]
 struct Fuses {
     turn: usize,
@@ -135,7 +135,7 @@ fn built(alloc: Global, options: &str, parts: &str, fuses: Fuses) -> Outcome {
     }
 }
 
-// Whether a writer that takes so many bytes has the first of the image.
+// Checks that a writer that accepts `taken` bytes has that prefix of the image.
 fn takes(alloc: Global, options: &str, parts: &str, end: &str, image: &[u8], taken: usize) -> bool {
     let fuses = Fuses {
         turn: 0,
@@ -153,7 +153,7 @@ fn takes(alloc: Global, options: &str, parts: &str, end: &str, image: &[u8], tak
         && Some(left.image.as_slice()) == image.get(..usize::min(taken, image.len()))
 }
 
-// Whether each writer has the first of the image, up to one that takes more than all.
+// Checks this for each writer, up to one that accepts more than the image.
 fn takes_each(alloc: Global, options: &str, parts: &str, end: &str, image: &[u8]) -> bool {
     let mut same = true;
     for taken in 0..=PLACE {
@@ -162,7 +162,7 @@ fn takes_each(alloc: Global, options: &str, parts: &str, end: &str, image: &[u8]
     same
 }
 
-// Whether a failing call is answered, with a prefix of the image written, or none fails. It gives the failures then.
+// Checks that a failing call is reported, with a prefix written. Returns the count of failures.
 fn fails(
     alloc: Global,
     options: &str,
@@ -188,7 +188,7 @@ fn fails(
     }
 }
 
-// Whether each failing call of a part is answered, up to a part that does not fail.
+// Checks this for each call of a part, up to a part that does not fail.
 fn fails_each(
     alloc: Global,
     options: &str,

@@ -1,4 +1,4 @@
-//! Commands on images, and what they leave.
+//! Commands on images, and their results.
 use crate::samples::listings::{ABC_LISTING, THREE_PART_LISTING};
 
 const EMPTY_LISTING: &str = "Image Name:   01234567890123456789012345678901
@@ -27,7 +27,7 @@ Load Address: 00000000
 Entry Point:  00000000
 ";
 
-/// The name, the image, the command, how it ends, what is written, and how many bytes are asked for at most.
+/// The name, the image, the command, how it ends, what is written, and the most bytes requested.
 pub(super) const CASES: [(&str, &str, &str, &str, &str, u64); 43] = [
     ("abc-kernel", "abc-kernel", "list", "done", ABC_LISTING, 83),
     (
@@ -354,7 +354,7 @@ pub(super) const CASES: [(&str, &str, &str, &str, &str, u64); 43] = [
     ),
 ];
 
-/// Cases where so many calls of the source get through, and the writer takes so many bytes.
+/// Cases over a source that lets some calls through, and a writer that accepts some bytes.
 pub(super) const DEVICES: [(&str, &str, &str, u64, u64, &str, &str); 5] = [
     (
         "first-read-fails",

@@ -1,11 +1,11 @@
-//! How a command ends, and what it wrote, over sources and writers that fail.
+//! How commands end and what they write, over failing sources and writers.
 
 use super::case_rows::{CASES, DEVICES};
 use super::commands::{ends_as, ran};
 use super::images::{PLACE, make};
 use std::alloc::Global;
 
-// Whether a command ends so, holding no more than the window.
+// Checks the result of a command, which holds no more than the window.
 fn gives(alloc: Global, command: &str, image: &[u8], end: &str, text: &str, most: u64) -> bool {
     let left = ran(alloc, command, image, u64::MAX, u64::MAX);
     ends_as(alloc, left.end, end)
@@ -15,7 +15,8 @@ fn gives(alloc: Global, command: &str, image: &[u8], end: &str, text: &str, most
         && left.held == 8192
 }
 
-// Whether a writer that takes so many bytes has the first of the text, and the command ends there.
+// Checks that a writer that accepts `taken` bytes has that prefix of the text, and ends the
+// command.
 fn takes(alloc: Global, command: &str, image: &[u8], end: &str, text: &[u8], taken: usize) -> bool {
     let left = ran(alloc, command, image, u64::MAX, taken as u64);
     let end = if taken < text.len() {
@@ -34,7 +35,7 @@ fn takes_each(alloc: Global, command: &str, image: &[u8], end: &str, text: &[u8]
     same
 }
 
-// Whether a failing call is answered, with a prefix written, or none fails. It gives the failures then.
+// Checks that a failing call is reported, with a prefix written. Returns the count of failures.
 fn fails(
     alloc: Global,
     command: &str,
@@ -60,7 +61,7 @@ fn fails(
     }
 }
 
-// Whether each failing call of the source is answered, up to a source that does not fail.
+// Checks this for each call of the source, up to a source that does not fail.
 fn fails_each(alloc: Global, command: &str, image: &[u8], end: &str, text: &[u8]) -> bool {
     for calls in 0..40u64 {
         match fails(alloc, command, image, end, text, calls) {
@@ -94,7 +95,7 @@ fn cases(rt: HostRuntime) {
     }
 }
 
-// Whether a command ends so over failing devices.
+// Checks the result of a command over failing devices.
 fn leaves(
     alloc: Global,
     command: &str,

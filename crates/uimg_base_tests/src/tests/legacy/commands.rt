@@ -1,11 +1,11 @@
-//! Commands by their words, over devices that may fail.
+//! Commands by name, over devices that may fail.
 use std::alloc::{Allocator, Global};
 use std::io::Write;
 use uimg_base::{FuseSource, FuseWriter, MemSource, Out, Room, Source, Status};
 use uimg_legacy::{Fault, extract, list, verify};
 use uimg_names::Naming;
 
-/// What a command leaves.
+/// The result of a command.
 #[derive(Drop)]
 pub(super) struct Outcome {
     pub(super) end: Result<Status, Fault>,
@@ -15,7 +15,7 @@ pub(super) struct Outcome {
     pub(super) held: u128,
 }
 
-// The position behind `extract`: the number of a command's digits.
+// Returns the position after `extract`: the number with a command's digits.
 fn position_of(command: &str) -> u32 {
     let mut position = 0u32;
     for byte in command.bytes() {
@@ -26,7 +26,7 @@ fn position_of(command: &str) -> u32 {
     position
 }
 
-// Runs `list` by the names of the profile or by all, `verify` or `extract` of a position.
+// Runs `list` with the profile's names or all, `verify`, or `extract` of a position.
 fn run<S: Source, A: Allocator, W: Write>(
     command: &str,
     source: &mut S,
@@ -41,7 +41,7 @@ fn run<S: Source, A: Allocator, W: Write>(
     }
 }
 
-/// Runs a command over an image of which so many calls get through, to a writer that takes so many bytes.
+/// Runs a command over an image that lets `calls` calls through; the writer accepts `taken` bytes.
 pub(super) fn ran(alloc: Global, command: &str, image: &[u8], calls: u64, taken: u64) -> Outcome {
     let mut source = FuseSource::new(MemSource::new(image), calls);
     let mut room = Room::new(alloc);
@@ -56,7 +56,7 @@ pub(super) fn ran(alloc: Global, command: &str, image: &[u8], calls: u64, taken:
     }
 }
 
-/// Whether a fault has this line.
+/// Checks the line of a fault.
 pub(super) fn says(alloc: Global, fault: Fault, line: &str) -> bool {
     match format!(in alloc; "{fault}") {
         Ok(text) => text.as_str() == line,
@@ -64,7 +64,7 @@ pub(super) fn says(alloc: Global, fault: Fault, line: &str) -> bool {
     }
 }
 
-/// Whether a command ends so: well, with something that is not right, or with the fault of a line.
+/// Checks how a command ends: `done`, `not right`, or the line of a fault.
 pub(super) fn ends_as(alloc: Global, end: Result<Status, Fault>, wanted: &str) -> bool {
     match end {
         Ok(Status::Done) => wanted == "done",

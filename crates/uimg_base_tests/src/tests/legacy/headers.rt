@@ -17,7 +17,7 @@ const HEADER: Header = Header {
     name: *b"01234567890123456789012345678901",
 };
 
-// A name, and what of it stands in a header's field of 32 bytes, zeros behind it.
+// A name, and what of it is in a header's field of 32 bytes, which zeros pad.
 const NAMES: [(&str, &str); 5] = [
     ("", ""),
     ("abc", "abc"),

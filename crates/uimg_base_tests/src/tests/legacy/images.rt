@@ -1,9 +1,9 @@
-//! Images by their names, with edits.
+//! Named images with edits.
 use crate::samples::legacy::{
     ABC_KERNEL, NO_TABLE_END, PART_OUTSIDE, SIZE_TOO_LARGE, THREE_PART_MULTI,
 };
 
-/// How many bytes an image has place for.
+/// The most bytes of an image here.
 pub(super) const PLACE: usize = 128;
 
 fn sample(name: &str) -> &'static [u8] {
@@ -17,8 +17,8 @@ fn sample(name: &str) -> &'static [u8] {
     }
 }
 
-/// Makes the image of a description, and gives its length: the name of a sample, and edits behind it. `32=31` puts the
-/// byte 31, in hexadecimal digits, at the offset 32, and `to=63` cuts the image to 63 bytes.
+/// Makes the image of a description and returns its length. A description is a sample's name and
+/// edits: `32=31` sets the byte at offset 32 to 31 (hexadecimal), `to=63` cuts to 63 bytes.
 pub(super) fn make(description: &str, to: &mut [u8; PLACE]) -> usize {
     let (name, edits) = description.split_once(' ').unwrap_or((description, ""));
     let bytes = sample(name);
@@ -30,7 +30,7 @@ pub(super) fn make(description: &str, to: &mut [u8; PLACE]) -> usize {
     length
 }
 
-// Does an edit, and gives the image's length after it.
+// Applies an edit and returns the new length of the image.
 fn edited(edit: &str, length: usize, to: &mut [u8; PLACE]) -> usize {
     let (place, value) = edit.split_once('=').unwrap_or((edit, ""));
     if place == "to" {

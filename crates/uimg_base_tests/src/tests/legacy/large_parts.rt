@@ -5,8 +5,8 @@ use super::zeros::ZeroSource;
 use std::alloc::Global;
 use uimg_base::{Out, Source};
 
-// Parts of zeros: the options, how many parts there are, their lengths, and how the building ends. Nothing is asked or
-// written.
+// Parts of zeros: the options, the number of parts, their lengths, and how building ends. Nothing
+// is requested or written.
 const LARGE: [(&str, &str, usize, u64, u64, &str); 6] = [
     (
         "too-large-parts: one",

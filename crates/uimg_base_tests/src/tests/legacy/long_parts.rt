@@ -5,7 +5,7 @@ use super::commands::ran;
 use std::alloc::Global;
 use uimg_base::{MemSource, Out, Source, Status};
 
-// Lengths about the window's 8192 bytes, and of several windows.
+// Lengths around the window's 8192 bytes, and of several windows.
 const LENGTHS: [usize; 6] = [1, 8191, 8192, 8193, 16384, 20000];
 
 fn numbered() -> [u8; 20000] {
@@ -21,7 +21,7 @@ fn writes(alloc: Global, command: &str, image: &[u8], text: &[u8]) -> bool {
     left.end == Ok(Status::Done) && left.text.as_slice() == text
 }
 
-// Whether a long part and a short one are read twice, built and read back.
+// Checks that a long and a short part are read twice, built and read back.
 fn reads_back(alloc: Global, first: &[u8]) -> bool {
     let mut parts = [MemSource::new(first), MemSource::new(b"end")];
     let mut out = Out::new(Vec::new(alloc));

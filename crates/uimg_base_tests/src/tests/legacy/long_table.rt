@@ -5,7 +5,7 @@ use std::alloc::Global;
 use uimg_base::Status;
 use uimg_legacy::{Header, header_bytes};
 
-// The extraction of a part, and the part's one byte: the remainder of its position by 251.
+// The extraction of a part, and the part's one byte: its position modulo 251.
 const PARTS: [(&str, u8); 7] = [
     ("extract 0", 0),
     ("extract 1", 1),
@@ -16,8 +16,8 @@ const PARTS: [(&str, u8); 7] = [
     ("extract 4999", 230),
 ];
 
-// At an offset of a multi image's data: 5000 sizes of one byte and the end of their table, and then the parts, each in
-// four bytes but for the last.
+// Returns a byte of a multi image's data: 5000 sizes of one byte, the end of their table, then the
+// parts, each in four bytes except the last.
 fn byte_at(offset: usize) -> u8 {
     if offset < 20004 {
         return (offset < 20000 && offset % 4 == 3) as u8;
@@ -52,7 +52,7 @@ fn long_table() -> [u8; 40065] {
     image
 }
 
-// Whether so many lines are written, which end so.
+// Checks the number of lines written, and how they end.
 fn lists(alloc: Global, image: &[u8], lines: usize, end: &[u8]) -> bool {
     let left = ran(alloc, "list", image, u64::MAX, u64::MAX);
     left.end == Ok(Status::Done)

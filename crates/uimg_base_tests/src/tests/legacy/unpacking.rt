@@ -1,5 +1,5 @@
-//! Parts are taken out of images, also where memory is refused, and the device fails or answers
-//! differently the second time.
+//! Parts that are taken out of images, also when memory is refused, or the device fails or returns
+//! other bytes the second time.
 
 ghost use Rattle.std.specs.Prelude.{◌≡◌, false};
 ghost use Rattle.std.proofs.Common.{rules};
@@ -14,7 +14,7 @@ use uimg_legacy::{Fault, LegacyFault, MemPart, MemParts, unpack};
 
 const NO_DATA: &str = "abc-kernel to=64 4=94 5=0c 6=1c 7=8d 15=00 24=00 25=00 26=00 27=00";
 
-// The parts that are kept: none, where nothing is.
+// The parts that are kept; none if nothing is.
 const ABC: [(u32, &str); 1] = [(0, "abc")];
 
 const EMPTY: [(u32, &str); 1] = [(0, "")];
@@ -27,7 +27,7 @@ const LAST: [(u32, &str); 1] = [(2, "hijkl")];
 
 const NONE: [(u32, &str); 0] = [];
 
-// The image, the part that is asked for, if one is, whether the parts are kept, or the fault, and the parts.
+// The image, the requested part, if any, whether the parts are kept, or the fault, and the parts.
 const ROWS: [(&str, Option<u32>, Result<bool, LegacyFault>, &[(u32, &str)]); 24] = [
     ("abc-kernel", None, Ok(true), &ABC),
     ("abc-kernel", Some(0), Ok(true), &ABC),
@@ -68,7 +68,7 @@ const ROWS: [(&str, Option<u32>, Result<bool, LegacyFault>, &[(u32, &str)]); 24]
         Err(LegacyFault::PartOutside),
         &NONE,
     ),
-    // A size, the padding of a part, and the last byte; and that there are no parts.
+    // A size, the padding of a part, and the last byte; and a table without parts.
     ("three-part-multi 67=04", None, Ok(false), &NONE),
     ("three-part-multi 83=01", None, Ok(false), &NONE),
     ("three-part-multi 92=6d", Some(0), Ok(false), &NONE),
@@ -112,8 +112,8 @@ fn parts_by_rows(rt: HostRuntime) {
     }
 }
 
-// What becomes of the parts of an image of three: 0 where the sum is not right, 1 where they are kept, 2
-// where a read failed, 3 where the image is refused, 4 where the taker failed, and 9 where others are kept.
+// Returns what happens to the parts of an image of three: 0 the sum is not right, 1 they are kept,
+// 2 a read failed, 3 the image is refused, 4 the taker failed, 9 others are kept.
 fn becomes<S: Source, A: Allocator + Copy>(rt: &HostRuntime, alloc: A, source: &mut S) -> u8 {
     let mut taker = MemParts::new(alloc);
     let mut room = Room::new(rt.alloc());
@@ -129,7 +129,7 @@ fn becomes<S: Source, A: Allocator + Copy>(rt: &HostRuntime, alloc: A, source: &
     }
 }
 
-// A source of which some reads of a byte are wrong, then some right, and the others wrong.
+// A source with one byte that reads wrong some times, then right some times, then wrong.
 #[derive(Drop)]
 struct FickleSource<S: Source> {
     source: S,
@@ -180,9 +180,9 @@ impl<S: Source> Source for FickleSource<S> {
     }
 }
 
-// A byte, how many reads of it are wrong before the right ones, how many are right then, and what becomes of
-// the parts. What stands behind the table is read with it, and once more to be summed. The sizes are read
-// once to be summed, and once to be cut by: a part of two bytes is not kept.
+// A byte, how many reads of it are wrong first, how many are right then, and what happens to the
+// parts. What follows the table is read with it, and once more to be summed. The sizes are read
+// once for the sum and once to split the parts: a part of two bytes is not kept.
 const CHANGES: [(u64, u64, u64, u8); 7] = [
     (80, 0, 9, 1),
     (80, 1, 9, 1),
@@ -207,7 +207,7 @@ fn parts_of_changing_sources(rt: HostRuntime) {
     }
 }
 
-// Reads of any byte are wrong behind so many right ones: no others are kept than the parts of the image.
+// Reads of any byte are wrong after some right ones: only the parts of the image are ever kept.
 #[test]
 fn parts_of_changing_places(rt: HostRuntime) {
     for place in 0..THREE_PART_MULTI.len() {
@@ -224,7 +224,7 @@ fn parts_of_changing_places(rt: HostRuntime) {
     }
 }
 
-// A source that answers so many calls: nothing is kept, or else all.
+// A source that answers some calls: nothing is kept, or everything.
 #[test]
 fn parts_where_each_read_fails(rt: HostRuntime) {
     let mut whole = false;
@@ -237,7 +237,7 @@ fn parts_where_each_read_fails(rt: HostRuntime) {
     assert!(rt; whole);
 }
 
-// A taker with so many bytes of memory: its shelves and its list are refused some, or else all is kept.
+// A taker with little memory: its shelves and its list are refused some, or everything is kept.
 #[test]
 fn parts_where_memory_is_refused(rt: HostRuntime) -> Result<(), Fail> {
     let mut whole = false;

@@ -1,4 +1,4 @@
-//! A source of zeros that holds no memory.
+//! A source of zeros that takes no memory.
 
 ghost use Rattle.std.specs.Prelude.{◌≡◌, ◌^◌, ◌<◌, false};
 ghost use Rattle.std.proofs.Common.{rules};
@@ -6,7 +6,7 @@ ghost use Rattle.uimg_base.specs.Zeros.{zeros, zeros_short};
 
 use uimg_base::{Source, SourceFault};
 
-/// So many zeros, that take no memory. It is not claimed to be honest.
+/// A number of zeros that take no memory. It is not claimed to be honest.
 #[derive(Drop)]
 pub struct ZeroSource {
     length: u64,

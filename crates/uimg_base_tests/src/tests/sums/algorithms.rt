@@ -1,9 +1,8 @@
-//! Algorithms by their names.
+//! Algorithms by name.
 
 use uimg_base::{Algo, crc_entry};
 
-// Names, with the length of their digests: no two are of one length. Length 0 is that of a name that no
-// algorithm has.
+// Names and the lengths of their digests, all different; 0 if no algorithm has the name.
 const NAMES: [(&str, usize); 14] = [
     ("crc32", 4),
     ("md5", 16),
@@ -21,7 +20,7 @@ const NAMES: [(&str, usize); 14] = [
     ("md", 0),
 ];
 
-// Entries of the table of CRC-32, by RFC 1952, section 8.
+// Entries of the CRC-32 table, from RFC 1952, section 8.
 const ENTRIES: [(u8, u32); 4] = [
     (0, 0),
     (1, 0x7707_3096),

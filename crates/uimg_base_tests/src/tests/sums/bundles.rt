@@ -4,8 +4,8 @@ use super::super::counted::counted;
 use super::{COUNTED_DIGESTS, is_entry};
 use uimg_base::{Algo, Bundle};
 
-// The name, the algorithms that are added before the counted text is fed and those that are tried after
-// it, and how many sums there are then.
+// The name, the algorithms that are added before the counted text is fed and those that are tried
+// after it, and the number of sums.
 const BUNDLES: [(&str, &str, &str, usize); 6] = [
     (
         "eight sums are fed at once",
@@ -35,7 +35,7 @@ const BUNDLES: [(&str, &str, &str, usize); 6] = [
     ),
 ];
 
-// Adds sums, as many as there is place for, and says whether just these were added.
+// Adds as many sums as there is room for. Returns whether exactly these were added.
 fn adds(bundle: &mut Bundle, algorithms: &str, place: usize) -> bool {
     let mut same = true;
     for (number, name) in algorithms.split_whitespace().enumerate() {
@@ -51,7 +51,7 @@ fn adds(bundle: &mut Bundle, algorithms: &str, place: usize) -> bool {
     same
 }
 
-// The digest of the counted text by an algorithm, and none by one without a name.
+// Returns the digest of the counted text for an algorithm, or none for another name.
 fn digest_by(algorithm: &str) -> &'static str {
     match algorithm {
         "crc32" => COUNTED_DIGESTS[0].1,
@@ -64,7 +64,7 @@ fn digest_by(algorithm: &str) -> &'static str {
     }
 }
 
-// Whether the bundle's digests are those by the algorithms, as many as are counted, with empty places behind them.
+// Checks that the bundle has the digests for the first `count` algorithms, then empty slots.
 fn finishes(bundle: Bundle, algorithms: &str, count: usize) -> bool {
     let mut names = algorithms.split_whitespace();
     let mut same = true;

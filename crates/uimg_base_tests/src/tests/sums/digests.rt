@@ -1,6 +1,6 @@
 //! Digests of published messages.
 
-// Vectors of RFC 1321, section A.5, and of NIST's examples for FIPS 180; those of CRC-32 are zlib's.
+// Vectors of RFC 1321, section A.5, and NIST's examples for FIPS 180; CRC-32 is from zlib.
 use super::super::counted::counted;
 use super::{COUNTED_DIGESTS, is_entry, is_spelled};
 use uimg_base::{Crc, Md5Sum, Sha1Sum, Sha256Sum, Sha384Sum, Sha512Sum, Summer, crc_of};
@@ -79,7 +79,7 @@ const VECTORS: [(&str, &str, &str, &str); 15] = [
     ),
 ];
 
-// Places to cut a text at; one behind its end counts as its end.
+// Offsets at which a text is cut; one after its end counts as its end.
 const CUTS: [usize; 18] = [
     0, 1, 4, 7, 55, 63, 64, 65, 127, 128, 129, 2047, 2048, 2049, 2500, 4096, 4999, 5000,
 ];
@@ -106,7 +106,7 @@ fn is_digest_of_singles<S: Summer>(text: &[u8], hex: &str) -> bool {
     is_digest(sum, hex)
 }
 
-// Whether the text has this digest: byte by byte, and cut at each place.
+// Checks the digest of a text, fed byte by byte and cut at each offset.
 fn has_digest<S: Summer>(text: &[u8], hex: &str) -> bool {
     let mut same = is_digest_of_singles::<S>(text, hex);
     for cut in &CUTS {
@@ -128,7 +128,7 @@ fn sums_to(algorithm: &str, text: &[u8], hex: &str) -> bool {
     }
 }
 
-// Whether the text has this CRC-32, at once and in two pieces.
+// Checks CRC-32 of a text, at once and in two pieces.
 fn has_crc(text: &[u8], hex: &str) -> bool {
     let (first, second) = text.split_at(text.len() / 2);
     let mut sum = Crc::start();

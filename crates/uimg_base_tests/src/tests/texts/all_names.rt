@@ -1,9 +1,9 @@
-//! Names by either set: what mkimage 2023.01 prints for codes of headers, and for names of FIT images.
+//! Names of both sets: what mkimage 2023.01 prints for codes in headers and names in FIT images.
 
 use uimg_names::Field::{Architecture, Compression, Kind, System};
 use uimg_names::{Field, Naming};
 
-// A field, a name, its code among all names, and what the code is called.
+// A field, a name, its code among all names, and the printed name.
 const ROWS: [(Field, &str, Option<u8>, &str); 14] = [
     (Architecture, "invalid", Some(0), "Invalid ARCH"),
     (Architecture, "M68K", Some(12), "M68K"),
@@ -21,7 +21,7 @@ const ROWS: [(Field, &str, Option<u8>, &str); 14] = [
     (Compression, "xz", None, "Unknown Compression"),
 ];
 
-// A field, a code, and what it is called in the profile and among all names.
+// A field, a code, and its printed name in the profile and among all names.
 const CODES: [(Field, u8, &str, &str); 6] = [
     (
         Architecture,

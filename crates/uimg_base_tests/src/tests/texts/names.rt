@@ -50,7 +50,7 @@ const ROWS: [(&str, &str, u8, &str); 37] = [
     ("comp", "zstd", 6, "zstd compressed"),
 ];
 
-// Names that a table has not.
+// Names that are not in a table.
 const NO_NAMES: [(&str, &str); 16] = [
     ("os", ""),
     ("os", "Linux"),
@@ -70,7 +70,7 @@ const NO_NAMES: [(&str, &str); 16] = [
     ("comp", "lz"),
 ];
 
-// Codes that a table has not, and the text of each.
+// Codes that are not in a table, and the text of each.
 const NO_CODES: [(&str, u8, &str); 12] = [
     ("os", 0, "Unknown OS"),
     ("os", 1, "Unknown OS"),

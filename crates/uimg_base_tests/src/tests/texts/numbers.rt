@@ -5,7 +5,7 @@ use uimg_base::{
     FuseWriter, Out, PutFault, before_nul, first_nul, number_at, size_text, time_text, up4,
 };
 
-// What GNU `date -u -d @SECONDS '+%a %b %e %H:%M:%S %Y'` prints.
+// The output of GNU `date -u -d @SECONDS '+%a %b %e %H:%M:%S %Y'`.
 const TIME_TEXTS: [(u32, &str); 14] = [
     (0, "Thu Jan  1 00:00:00 1970"),
     (68_169_599, "Mon Feb 28 23:59:59 1972"),
@@ -23,8 +23,8 @@ const TIME_TEXTS: [(u32, &str); 14] = [
     (4_294_967_295, "Sun Feb  7 06:28:15 2106"),
 ];
 
-// A size, how many bytes the writer takes, and what it has then: the text of the size, or the beginning
-// of it.
+// A size, how many bytes the writer accepts, and what it has then: the text of the size, or a
+// prefix of it.
 const SIZE_TEXTS: [(u32, u64, &str); 8] = [
     (0, 99, "0 Bytes = 0.00 KiB = 0.00 MiB"),
     (128, 99, "128 Bytes = 0.12 KiB = 0.00 MiB"),
@@ -40,7 +40,7 @@ const SIZE_TEXTS: [(u32, u64, &str); 8] = [
     (128, 31, "128 Bytes = 0.12 KiB = 0.00 MiB"),
 ];
 
-// A text, where its first NUL stands (its length, if it has none), and what stands before that.
+// A text, the index of its first NUL (its length, if it has none), and the text before it.
 const NULS: [(&str, usize, &str); 4] = [
     ("", 0, ""),
     ("abc", 3, "abc"),

@@ -1,4 +1,4 @@
-//! Images that are filled and built, by bytes from outside.
+//! Images that are filled and built, compared with bytes from elsewhere.
 use super::super::answers::is_said;
 use super::images::image;
 use super::making::{FOUR_HASH, built, filled, told};
@@ -11,7 +11,7 @@ use uimg_its::compile;
 
 const ABC: [(&[u8], &[u8]); 1] = [(b"abc.bin", b"abc")];
 
-// The source of four-hash-fit with its payload in memory, if a row says so.
+// Returns the source of four-hash-fit, with its payload in memory if a row says so.
 fn source(alloc: Global, place: &str) -> Result<String, AllocError> {
     let file = "/incbin/(\"abc.bin\")";
     let (head, tail) = FOUR_HASH.split_once(file).unwrap_or((FOUR_HASH, ""));
@@ -19,7 +19,7 @@ fn source(alloc: Global, place: &str) -> Result<String, AllocError> {
     format!(in alloc; "{head}{payload}{tail}")
 }
 
-// What is answered, and written, where a source is filled and built over the files of the tests.
+// Fills and builds a source over the files of the tests. Returns the result and what is written.
 fn made(alloc: Global, text: &str, time: u32, placement: &str) -> (Result<(), Fault>, Vec<u8>) {
     match filled(alloc, text, time, &ABC, &mut MemFiles::new(&ABC)) {
         Ok(tree) => built(alloc, &tree, placement, &mut MemFiles::new(&ABC)),
@@ -27,8 +27,8 @@ fn made(alloc: Global, text: &str, time: u32, placement: &str) -> (Result<(), Fa
     }
 }
 
-// Where the payload is, the time, the placement, how many bytes are written, the image of whose bytes
-// they are, and a place in it at which another number stands.
+// Where the payload is, the time, the placement, how many bytes are written, the image that has
+// these bytes, and an offset with another number.
 const ROWS: [(&str, u32, &str, usize, &str, usize, u32); 12] = [
     ("file", 0, "inside", 760, "four-hash-fit", 0, 0),
     ("memory", 0, "inside", 760, "four-hash-fit", 0, 0),
@@ -76,7 +76,7 @@ const ROWS: [(&str, u32, &str, usize, &str, usize, u32); 12] = [
     ("memory", 0, "1024", 1028, "position-fit", 0, 0),
 ];
 
-// Whether an image is made, and of these bytes.
+// Checks that an image with these bytes is made.
 fn makes(alloc: Global, text: &str, time: u32, placement: &str, wanted: &[u8]) -> bool {
     let (answer, fit) = made(alloc, text, time, placement);
     answer == Ok(()) && fit.as_slice() == wanted
@@ -97,8 +97,8 @@ fn demo_rows(rt: HostRuntime) -> Result<(), Fail> {
     Ok(())
 }
 
-// The same payload as a position in memory, and the lowest position: at the blob's end there is no gap
-// before it, and one before the end is refused.
+// The same payload at an offset in the file, and the lowest such offset: at the end of the blob
+// there is no gap, and one before the end is refused.
 const POSITION_ROWS: [(&str, &str); 5] = [
     ("1024", "done, 1028"),
     ("796", "done, 800"),
@@ -122,8 +122,8 @@ fn position_rows(rt: HostRuntime) -> Result<(), Fail> {
     Ok(())
 }
 
-// The placement by an alignment, what is answered, where the blob says that it ends, and where the payload
-// stands: as mkimage 2023.01 rounds up, also by 12 and 20480, which are no powers of two.
+// The placement with an alignment, the result, the blob's end by its header, and the offset of the
+// payload: mkimage 2023.01 rounds up like this, also for 12 and 20480, which are not powers of two.
 const ALIGN_ROWS: [(&str, &str, u32, usize); 14] = [
     ("after by 4", "done, 800", 796, 796),
     ("after by 0", "done, 800", 796, 796),
@@ -141,7 +141,7 @@ const ALIGN_ROWS: [(&str, &str, u32, usize); 14] = [
     ("2147483647 by 2147483648", "F6 position too low, 0", 0, 0),
 ];
 
-// Whether a blob of 796 bytes says that it ends at a place, and has zeros from its end up to the payload.
+// Checks that a blob of 796 bytes has this end in its header, and zeros up to the payload.
 fn stands(fit: &[u8], end: u32, at: usize) -> bool {
     let gap = fit.get(796..at).unwrap_or(&[]);
     let rest = fit.get(at..).unwrap_or(&[]);
@@ -168,8 +168,8 @@ const TWO: &str = "/dts-v1/; / { images {
 a { data = /incbin/(\"f\"); };
 b { data = [], /incbin/(\"f\"); }; }; };";
 
-// How many bytes each of two payloads has, the first in a file, and how many with its padding: below, at
-// and above the window's size. The blob has 200 bytes, and the second `data-offset` stands at 140.
+// The size in bytes of each of two payloads, the first in a file, and the size with padding: below,
+// at and above the window's size. The blob has 200 bytes, and the second `data-offset` is at 140.
 const SIZE_ROWS: [(usize, u32); 6] = [
     (0, 0),
     (1, 4),
@@ -179,7 +179,7 @@ const SIZE_ROWS: [(usize, u32); 6] = [
     (8193, 8196),
 ];
 
-// Whether an image ends with a payload twice.
+// Checks that an image ends with a payload twice.
 fn has_both(fit: &[u8], padded: u32, payload: &[u8]) -> bool {
     let rest = fit.get(200..).unwrap_or(&[]);
     let cell = fit.get(140..).unwrap_or(&[]);
@@ -189,7 +189,7 @@ fn has_both(fit: &[u8], padded: u32, payload: &[u8]) -> bool {
         && cell.starts_with(&padded.to_be_bytes())
 }
 
-// Two payloads of so many bytes, the first in a file, are built with their padding.
+// Builds two payloads of `size` bytes with their padding, the first in a file.
 fn plays_size<R: AllocGlobal + Abort>(rt: &R, size: usize, padded: u32) -> Result<(), Fail> {
     let alloc = rt.alloc();
     let mut payload = Vec::from_elem(alloc, 0x5au8, size)?;
@@ -216,7 +216,7 @@ const NONE_AND_TWO: &[u8] = b"/dts-v1/; / { images {
 a { };
 b { data = [6669727374]; data = [7365636f6e64]; }; }; };";
 
-// An image without `data` stays as it is, and of two `data` the first alone is moved.
+// An image without `data` is unchanged, and of two `data` only the first is moved.
 #[test]
 fn images_of_none_and_two(rt: HostRuntime) -> Result<(), Fail> {
     let alloc = rt.alloc();
@@ -235,9 +235,9 @@ fn images_of_none_and_two(rt: HostRuntime) -> Result<(), Fail> {
     Ok(())
 }
 
-// A tree with properties in all places that filling is to replace or to remove, and the same as it is
-// filled: the first property of a name is replaced in its place, whatever it held; what is no image's
-// place and no hash node's value stays. The name of an algorithm ends at its NUL.
+// A tree with properties in all places that filling replaces or removes, and the filled tree. The
+// first property with a name is replaced in place, whatever its value. All but an image's payload
+// and a hash node's value is unchanged. The name of an algorithm ends at its NUL.
 const STALE: &str = "/dts-v1/; / {
 timestamp = \"stale\"; data-size = \"root\"; timestamp = \"second\";
 images { a {

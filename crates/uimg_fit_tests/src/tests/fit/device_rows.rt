@@ -1,4 +1,4 @@
-//! What is answered and left where files, the output or memory fail.
+//! Results and output if files, the output or memory fail.
 use super::super::answers::is_said;
 use super::making::{FOUR_HASH, built, filled, placement, told};
 use linked_list_allocator::LocalHeap;
@@ -11,8 +11,8 @@ use uimg_tree::Tree;
 
 const ABC: [(&[u8], &[u8]); 1] = [(b"abc.bin", b"abc")];
 
-// What is answered where the tree of four-hash-fit is built over files with a fuse, and the number of
-// bytes; nothing where they are no prefix of the whole.
+// Builds the tree of four-hash-fit over files with a fuse. Returns the result and the number of
+// bytes, or nothing if these are not a prefix of the whole.
 fn fused<F: Files + Drop>(
     alloc: Global,
     tree: &Tree<Global>,
@@ -35,9 +35,9 @@ fn fused<F: Files + Drop>(
     }
 }
 
-// A placement, the content of the payload's file, the first open that is refused, how many calls the
-// file lets through, and what is answered: a file that is missing or has another size, and a read that
-// fails, leave a prefix of the image.
+// A placement, the content of the payload's file, the first refused open, how many calls the file
+// lets through, and the result. A file that is missing or has another size, and a failed read,
+// leave a prefix of the image.
 const ROWS: [(&str, &str, u64, u64, &str); 13] = [
     ("inside", "abc", 0, 9, "F9 no file, 168"),
     ("after", "abc", 0, 9, "F9 no file, 796"),
@@ -67,7 +67,7 @@ fn file_rows(rt: HostRuntime) -> Result<(), Fail> {
     Ok(())
 }
 
-// Whether a writer that takes so many bytes of an image leaves that prefix.
+// Checks that a writer that accepts `taken` bytes of an image leaves that prefix.
 fn leaves_prefix(alloc: Global, tree: &Tree<Global>, whole: &[u8], taken: usize) -> bool {
     let mut files = MemFiles::new(&ABC);
     let mut out = Out::new(FuseWriter::new(Vec::new(alloc), taken as u64));
@@ -76,7 +76,7 @@ fn leaves_prefix(alloc: Global, tree: &Tree<Global>, whole: &[u8], taken: usize)
     answer == Err(Fault::Put) && written.len() == taken && whole.starts_with(&written)
 }
 
-// The first length of which a writer does not leave that prefix, up to the whole image.
+// Returns the first length at which a writer does not leave that prefix, up to the whole image.
 fn first_wrong(alloc: Global, tree: &Tree<Global>, whole: &[u8]) -> Option<usize> {
     for taken in 0..whole.len() {
         if !leaves_prefix(alloc, tree, whole, taken) {
@@ -95,8 +95,8 @@ fn each_write_failing(rt: HostRuntime) -> Result<(), Fail> {
     Ok(())
 }
 
-// How far four-hash-fit comes over a heap of so many bytes: 0 where it is not compiled, 1 where filling,
-// and 2 where building finds no memory and writes nothing, 3 where it is built, and 9 for all else.
+// Returns how far four-hash-fit gets with a heap of this size: 0 not compiled, 1 no memory to fill,
+// 2 no memory to build and nothing written, 3 built, 9 anything else.
 fn comes_to(alloc: Global, bytes: usize, word: &str) -> Result<u8, Fail> {
     let heap = LocalHeap::new(alloc, bytes)?;
     let Ok(tree) = compile(&heap, FOUR_HASH.as_bytes(), &mut MemFiles::new(&ABC)) else {
@@ -122,8 +122,8 @@ fn comes_to(alloc: Global, bytes: usize, word: &str) -> Result<u8, Fail> {
     }
 }
 
-// From a heap with hardly any place to one with ample, filling and building are refused at each growth,
-// and never go well with less than what was refused.
+// From a tiny heap to an ample one, filling and building are refused at each growth, and never
+// succeed with less memory than was refused.
 #[test]
 fn each_growth_refused(rt: HostRuntime) -> Result<(), Fail> {
     let mut filling = false;

@@ -1,4 +1,4 @@
-//! What `fill` answers.
+//! Results of `fill`.
 use super::super::answers::is_said;
 use super::making::{FOUR_HASH, built, filled};
 use std::alloc::{AllocError, Global};
@@ -6,7 +6,7 @@ use std::test::Fail;
 use uimg_base::{Files, FuseFiles, MemFiles};
 use uimg_fit::{Fault, FitFault};
 
-// The files that are there when a source is compiled.
+// The files when a source is compiled.
 const KEPT: [(&[u8], &[u8]); 5] = [
     (b"abc.bin", b"abc"),
     (b"missing", b"abc"),
@@ -15,7 +15,7 @@ const KEPT: [(&[u8], &[u8]); 5] = [
     (b"none", b""),
 ];
 
-// The files that are there when the tree is filled.
+// The files when the tree is filled.
 const HELD: [(&[u8], &[u8]); 4] = [
     (b"abc.bin", b"abc"),
     (b"two", b"abc"),
@@ -23,8 +23,8 @@ const HELD: [(&[u8], &[u8]); 4] = [
     (b"none", b"abc"),
 ];
 
-// Adds an image: its file, if it has one, then after a `:` the algorithms of its hash nodes, `-` for a
-// hash node without one.
+// Adds an image: its file, if any, then after `:` the algorithms of its hash nodes, `-` for a hash
+// node without one.
 fn put_image(text: &mut String, image: &str) -> Result<(), AllocError> {
     let (file, algos) = image.split_once(':').unwrap_or((image, ""));
     text.push_str("a { ")?;
@@ -39,7 +39,7 @@ fn put_image(text: &mut String, image: &str) -> Result<(), AllocError> {
     text.push_str("}; ")
 }
 
-// Adds a hash node of an algorithm, if it is told.
+// Adds a hash node with an algorithm, if one is given.
 fn put_hash(text: &mut String, algo: &str) -> Result<(), AllocError> {
     match algo {
         "" => Ok(()),
@@ -52,7 +52,7 @@ fn put_hash(text: &mut String, algo: &str) -> Result<(), AllocError> {
     }
 }
 
-// The source of two images.
+// Returns the source of two images.
 fn source(alloc: Global, first: &str, second: &str) -> Result<String, AllocError> {
     let mut text = String::from_str(alloc, "/dts-v1/; / { images { ")?;
     put_image(&mut text, first)?;
@@ -61,7 +61,7 @@ fn source(alloc: Global, first: &str, second: &str) -> Result<String, AllocError
     Ok(text)
 }
 
-// What is answered for a source, in words.
+// Returns the result for a source in words.
 fn answer<F: Files>(
     alloc: Global,
     text: &str,
@@ -74,7 +74,7 @@ fn answer<F: Files>(
     }
 }
 
-// Two images, and the fault that is met first.
+// Two images, and the first fault.
 const ROWS: [(&str, &str, &str); 16] = [
     ("abc.bin:crc32", "abc.bin:crc32", "filled"),
     (":crc32", "abc.bin:crc32", "F2 no data"),
@@ -109,8 +109,8 @@ fn image_rows(rt: HostRuntime) -> Result<(), Fail> {
     Ok(())
 }
 
-// Sources whose files are all refused, and what is answered: no file is opened for a payload in memory,
-// nor for an image without hash nodes; a tree may have no images, but needs their node.
+// Sources whose files are all refused, and the result. No file is opened for a payload in memory,
+// or for an image without hash nodes. A tree may have no images, but needs the node `images`.
 const CLOSED_ROWS: [(&str, &str); 5] = [
     (FOUR_HASH, "F9 no file"),
     (
@@ -134,14 +134,14 @@ fn closed_rows(rt: HostRuntime) {
     }
 }
 
-// Nine hash nodes of six algorithms.
+// Nine hash nodes with six algorithms.
 const NINE: &str = "/dts-v1/; / { images { a { data = /incbin/(\"f\");
 hash { algo = \"sha256\"; }; hash { algo = \"crc32\"; }; hash { algo = \"md5\"; };
 hash { algo = \"sha1\"; }; hash { algo = \"md5\"; }; hash { algo = \"sha384\"; };
 hash { algo = \"sha512\"; }; hash { algo = \"sha256\"; }; hash { algo = \"crc32\"; }; }; }; };";
 
-// The same with the values of the numbers from 0 to 250, again and again, 20000 bytes: from zlib and the
-// tools of coreutils.
+// The same with its values for the numbers from 0 to 250, repeated to 20000 bytes: from zlib and
+// coreutils.
 const NINE_DONE: &str = "/dts-v1/; / { timestamp = <0>; images { a { data = /incbin/(\"f\");
 hash { algo = \"sha256\";
 value = [93a6015a3874a774dd59fdd5db19414b301525381eb5ddcc265cdcc68bb9d350]; };
@@ -157,7 +157,7 @@ hash { algo = \"sha256\";
 value = [93a6015a3874a774dd59fdd5db19414b301525381eb5ddcc265cdcc68bb9d350]; };
 hash { algo = \"crc32\"; value = [361fc6e7]; }; }; }; };";
 
-// What filling over a fuse gives, built over the files themselves.
+// Fills over a fuse, then builds over the files themselves.
 fn fused<F: Files + Drop, G: Files>(
     alloc: Global,
     named: &[(&[u8], &[u8])],
@@ -172,7 +172,7 @@ fn fused<F: Files + Drop, G: Files>(
     }
 }
 
-// The numbers from 0 to 250, again and again.
+// Returns the numbers from 0 to 250, repeated.
 fn numbers(alloc: Global) -> Result<Vec<u8>, AllocError> {
     let mut content = Vec::from_elem(alloc, 0u8, 20000)?;
     for (number, byte) in content.as_mut_slice().iter_mut().enumerate() {
@@ -181,8 +181,8 @@ fn numbers(alloc: Global) -> Result<Vec<u8>, AllocError> {
     Ok(content)
 }
 
-// A file of three windows is opened once and read once for all hash nodes: one call asks its size, three
-// read it, and no fourth is made. A read that fails ends it.
+// A file of three windows is opened once and read once for all hash nodes: one call for its size,
+// three reads, and no fourth. A failed read ends it.
 #[test]
 fn one_pass_for_all_hashes(rt: HostRuntime) -> Result<(), Fail> {
     let alloc = rt.alloc();

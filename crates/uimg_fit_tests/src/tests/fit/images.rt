@@ -8,7 +8,7 @@ use crate::samples::{
 use std::alloc::{AllocError, Global};
 use uimg_blob::samples::Sample;
 
-// The demo with addresses of two cells; `short` makes the second one of three bytes.
+// Returns the demo with addresses of two cells; `short` gives the second three bytes.
 fn two_cells(alloc: Global, short: bool) -> Result<Vec<u8>, AllocError> {
     let entry: &[u8] = if short {
         &[0, 8, 0]
@@ -26,8 +26,8 @@ fn two_cells(alloc: Global, short: bool) -> Result<Vec<u8>, AllocError> {
     )
 }
 
-// Missing properties, a type that no table has, and lists: one with an empty text and a text that no NUL
-// ends, and one without a text.
+// Missing properties, an unknown type, and lists: one with an empty text and a text without a NUL,
+// and one without a text.
 fn lists(alloc: Global) -> Result<Vec<u8>, AllocError> {
     let mut sample = begin_images(alloc)?;
     sample.begin(b"a")?;
@@ -47,7 +47,7 @@ fn lists(alloc: Global) -> Result<Vec<u8>, AllocError> {
     finish(sample, alloc)
 }
 
-// A root with a description alone.
+// A root with only a description.
 fn bare(alloc: Global) -> Result<Vec<u8>, AllocError> {
     let mut sample = Sample::new(alloc);
     sample.begin(b"")?;
@@ -56,7 +56,7 @@ fn bare(alloc: Global) -> Result<Vec<u8>, AllocError> {
     finish(sample, alloc)
 }
 
-// The hash nodes of an image whose report has all words.
+// Adds the hash nodes of an image whose report has all words.
 fn put_words(sample: &mut Sample<Global>) -> Result<(), AllocError> {
     sample.begin(b"hash-1")?;
     sample.end_node()?;
@@ -71,7 +71,7 @@ fn put_words(sample: &mut Sample<Global>) -> Result<(), AllocError> {
     put_hash(sample, b"hash", b"crc32", &ABC_CRC)
 }
 
-// An image `a` of `abc` with these hash nodes, and an image `b` without any.
+// An image `a` with `abc` and these hash nodes, and an image `b` without any.
 fn words(alloc: Global) -> Result<Vec<u8>, AllocError> {
     let mut sample = begin_images(alloc)?;
     sample.begin(b"a")?;
@@ -84,9 +84,9 @@ fn words(alloc: Global) -> Result<Vec<u8>, AllocError> {
     finish_images(sample, alloc)
 }
 
-// An image whose payload is told by the letters of a word: `s` for a `data-size` of 4, `p` for a
-// `data-position` of 0, `o` for a `data-offset` of 4, and `d` for `xyz` in `data`. Eight letters stand
-// behind the blob.
+// An image whose payload the letters of a word describe: `s` a `data-size` of 4, `p` a
+// `data-position` of 0, `o` a `data-offset` of 4, `d` the bytes `xyz` in `data`. Eight letters
+// follow the blob.
 fn placed(alloc: Global, word: &str) -> Result<Vec<u8>, AllocError> {
     let mut sample = begin_images(alloc)?;
     sample.begin(b"a")?;
@@ -104,7 +104,7 @@ fn placed(alloc: Global, word: &str) -> Result<Vec<u8>, AllocError> {
     Ok(fit)
 }
 
-// The image of a name; any other word tells where a payload is.
+// Returns the image with this name; any other word describes a payload.
 fn named(alloc: Global, name: &str) -> Result<Vec<u8>, AllocError> {
     match name {
         "four-hash-fit" => four_hash_fit(alloc),
@@ -121,7 +121,7 @@ fn named(alloc: Global, name: &str) -> Result<Vec<u8>, AllocError> {
     }
 }
 
-/// The image of a name, with a cell at a place where that is not 0.
+/// Returns the image with this name, with a cell set at an offset other than 0.
 pub(super) fn image(
     alloc: Global,
     name: &str,
@@ -135,7 +135,7 @@ pub(super) fn image(
     Ok(fit)
 }
 
-/// An image of so many right hash nodes.
+/// Returns an image with `count` right hash nodes.
 pub(super) fn hashed(alloc: Global, count: u32) -> Result<Vec<u8>, AllocError> {
     crc_fit(alloc, Payload::Inside(b"abc"), ABC_CRC, count)
 }

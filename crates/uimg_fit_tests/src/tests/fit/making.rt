@@ -1,4 +1,4 @@
-//! Images that are made of sources.
+//! Images that are made from sources.
 use std::alloc::{AllocError, Global};
 use uimg_base::{Files, MemFiles, Out};
 use uimg_fit::{Fault, Placement, build, fill};
@@ -51,7 +51,7 @@ pub(super) fn placement(word: &str) -> Placement {
     }
 }
 
-/// An answer in words, with the number of bytes that were written.
+/// Returns a result in words, with the number of bytes written.
 pub(super) fn told(
     alloc: Global,
     answer: Result<(), Fault>,
@@ -63,7 +63,7 @@ pub(super) fn told(
     }
 }
 
-/// The filled tree of a source, compiled over some files and filled over others.
+/// Compiles a source over some files and fills its tree over others.
 pub(super) fn filled<F: Files>(
     alloc: Global,
     text: &str,

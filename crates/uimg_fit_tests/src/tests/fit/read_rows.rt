@@ -1,4 +1,4 @@
-//! What `list`, `verify` and `extract` answer and write.
+//! Results and output of `list`, `verify` and `extract`.
 use super::super::answers::is_said;
 use super::images::{hashed, image};
 use std::alloc::{AllocError, Global};
@@ -7,7 +7,7 @@ use uimg_base::{MemSource, Out, Room, Status, crc_of};
 use uimg_fit::{Fault, extract, list, verify};
 use uimg_names::Naming;
 
-// An end in words.
+// Returns an end in words.
 fn told(alloc: Global, end: Result<Status, Fault>) -> Result<String, AllocError> {
     match end {
         Ok(Status::Done) => format!(in alloc; "done"),
@@ -16,8 +16,8 @@ fn told(alloc: Global, end: Result<Status, Fault>) -> Result<String, AllocError>
     }
 }
 
-// What is answered for an image, and what is written: by `list` of either set of names, by `verify`, or by `extract` at the
-// position that a digit tells.
+// Calls `list` with either set of names, `verify`, or `extract` at the position of a digit. Returns
+// the result and what is written.
 fn read(alloc: Global, fit: &[u8], call: &str) -> (Result<Status, Fault>, Vec<u8>) {
     let mut source = MemSource::new(fit);
     let mut room = Room::new(alloc);
@@ -73,7 +73,7 @@ Created:         Thu Jan  1 00:00:00 1970
   Entry Point:  unavailable
 HASHES";
 
-// What the listings of the kernel end with.
+// The end of the kernel's listings.
 const HASHES: &str = "  Hash algo:    crc32
   Hash value:   352441c2
   Hash algo:    md5
@@ -140,7 +140,7 @@ a hash crc32 ok
 b - none unhashed
 ";
 
-// An image, the place of a cell, its number, the call, what is answered, and what is written.
+// An image, the offset of a cell, its number, the call, the result, and what is written.
 const ROWS: [(&str, usize, u32, &str, &str, &str); 30] = [
     ("four-hash-fit", 0, 0, "list", "done", KERNEL),
     ("four-hash-fit", 0, 0, "list by all names", "done", KERNEL),
@@ -188,7 +188,7 @@ const ROWS: [(&str, usize, u32, &str, &str, &str); 30] = [
     ("four-hash-fit", 4, 761, "list", "B4 block outside at 4", ""),
 ];
 
-// Whether a text is what was wanted; `HASHES` at its end stands for the text of that name.
+// Checks a text; `HASHES` at the end of the expected one stands for the text of that name.
 fn is_text(text: &str, wanted: &str) -> bool {
     match wanted.strip_suffix("HASHES") {
         Some(head) => text.strip_prefix(head) == Some(HASHES),
@@ -209,7 +209,7 @@ fn read_rows(rt: HostRuntime) -> Result<(), Fail> {
     Ok(())
 }
 
-// `data-position` counts before `data-offset`, each with `data-size` alone: the file's first bytes.
+// `data-position` overrides `data-offset`, each with `data-size`: the first bytes of the file.
 #[test]
 fn a_position_counts(rt: HostRuntime) -> Result<(), Fail> {
     let fit = image(rt.alloc(), "spod", 0, 0)?;
@@ -231,7 +231,7 @@ fn many_hash_nodes(rt: HostRuntime) -> Result<(), Fail> {
     Ok(())
 }
 
-// The images, their sizes, and their sums: those of the files that dtc makes of the same trees.
+// The images, their sizes, and CRC-32 of the files that dtc makes of the same trees.
 const SUM_ROWS: [(&str, usize, u32); 5] = [
     ("four-hash-fit", 760, 0x8c427da1),
     ("five-hash-fit", 872, 0x6a227cb7),

@@ -1,4 +1,4 @@
-//! How much images say of themselves.
+//! Surveys of images.
 
 use super::super::answers::is_said;
 use super::images::image;
@@ -7,7 +7,7 @@ use std::test::Fail;
 use uimg_base::{FuseSource, MemSource, Room, Source};
 use uimg_fit_checking::{SurveyFault, survey};
 
-// How many images there are, how many hash nodes the first of them has, and how many configurations.
+// Returns the number of images, of hash nodes of the first, and of configurations.
 fn counts<S: Source>(alloc: Global, source: &mut S) -> Result<(usize, usize, usize), SurveyFault> {
     let mut room = Room::new(alloc);
     let facts = survey(alloc, source, &mut room)?;
@@ -27,7 +27,7 @@ fn answer<S: Source>(alloc: Global, source: &mut S) -> Result<String, AllocError
     }
 }
 
-// Images by their names, and what is said of them: the first two are as dtc and mkimage make them.
+// Named images, and their survey: the first two are as dtc and mkimage make them.
 const ROWS: [(&str, &str); 6] = [
     ("four-hash-fit", "1, 4, 1"),
     ("five-hash-fit", "1, 5, 1"),
@@ -48,7 +48,7 @@ fn survey_rows(rt: HostRuntime) -> Result<(), Fail> {
     Ok(())
 }
 
-// A source that answers so many calls: all is said, or else that a read failed.
+// A source that answers some calls: the whole survey, or a failed read.
 #[test]
 fn surveys_whose_reads_fail(rt: HostRuntime) -> Result<(), Fail> {
     let alloc = rt.alloc();

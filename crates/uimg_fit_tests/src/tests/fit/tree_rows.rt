@@ -8,7 +8,7 @@ use uimg_blob::BlobFault;
 use uimg_fit::{Fault, FitFault};
 use uimg_tree::{ByteList, Node, Nodes, Prop, Props, Tree, Value};
 
-// A node of a property, if it has one, and of some children.
+// Returns a node with a property, if any, and some children.
 fn node(
     alloc: Global,
     name: &[u8],
@@ -26,7 +26,7 @@ fn node(
     })
 }
 
-// A property of no bytes; none where the name is empty.
+// Returns a property of no bytes, or none if the name is empty.
 fn empty(alloc: Global, name: &[u8]) -> Result<Option<Prop<Global>>, AllocError> {
     if name.is_empty() {
         return Ok(None);
@@ -37,7 +37,7 @@ fn empty(alloc: Global, name: &[u8]) -> Result<Option<Prop<Global>>, AllocError>
     }))
 }
 
-// An image of so many bytes in the file `abc.bin`.
+// Returns an image of `size` bytes in the file `abc.bin`.
 fn image(alloc: Global, name: &[u8], size: u64) -> Result<Node<Global>, AllocError> {
     let file = ByteList::of(Vec::from_slice(alloc, b"abc.bin")?);
     let own = Prop {
@@ -47,7 +47,7 @@ fn image(alloc: Global, name: &[u8], size: u64) -> Result<Node<Global>, AllocErr
     node(alloc, name, Some(own), Vec::new(alloc))
 }
 
-// A tree of two images, with a property of a name, if it is not empty, in `images` and in the root.
+// Returns a tree of two images, with a property of this name, unless empty, in `images` and root.
 fn tree(
     alloc: Global,
     name: &[u8],
@@ -65,8 +65,8 @@ fn tree(
 
 const ABC: [(&[u8], &[u8]); 1] = [(b"abc.bin", b"abc")];
 
-// The sizes of two files that the tree keeps, the placement, and what is answered: a file that would be
-// too large is refused before its first byte; the largest one is not, and its payload is then found to
+// The stored sizes of two files, the placement, and the result. A file that would be too large is
+// refused before its first byte; the largest allowed one is not, and its payload is then found to
 // have another size.
 const SIZE_ROWS: [(u64, u64, &str, &str); 14] = [
     (4294967296, 3, "inside", "F7 too large, 0"),
@@ -100,13 +100,13 @@ const SIZE_ROWS: [(u64, u64, &str, &str); 14] = [
     (4294967093, 0, "after", "F7 too large, 0"),
 ];
 
-// What is answered, and how many bytes are written, where a tree is built.
+// Returns the result of building a tree, and how many bytes are written.
 fn answer(alloc: Global, tree: &Tree<Global>, placement: &str) -> Result<String, AllocError> {
     let (answer, fit) = built(alloc, tree, placement, &mut MemFiles::new(&ABC));
     told(alloc, answer, fit.len())
 }
 
-// The same of a tree of two files of these sizes.
+// Returns the same for a tree of two files of these sizes.
 fn answer_of_sizes(
     alloc: Global,
     first: u64,
@@ -126,7 +126,7 @@ fn size_rows(rt: HostRuntime) {
     }
 }
 
-// How long an image's name is, the name of a property, the placement, and what is answered.
+// The length of an image's name, the name of a property, the placement, and the result.
 const NAME_ROWS: [(usize, &str, &str, &str); 7] = [
     (256, "p", "inside", "B7 bad node name at 0, 0"),
     (256, "p", "after", "B7 bad node name at 0, 0"),
@@ -137,7 +137,7 @@ const NAME_ROWS: [(usize, &str, &str, &str); 7] = [
     (255, "p", "1024", "done, 1032"),
 ];
 
-// The same of a tree whose first image has a name of so many bytes, with a property of a name.
+// Returns the same for a first image with a name of this length, and a property of this name.
 fn answer_of_names(
     alloc: Global,
     length: usize,

@@ -1,4 +1,4 @@
-//! Payloads are taken out of images whose device answers differently the second time, or fails.
+//! Payloads taken out of images whose device returns other bytes the second time, or fails.
 
 ghost use Rattle.std.specs.Prelude.{◌≡◌, false};
 ghost use Rattle.std.proofs.Common.{rules};
@@ -11,7 +11,7 @@ use uimg_fit::Fault;
 use uimg_fit_checking::{MemTake, MemTaker, Unpacked, unpack};
 use uimg_fit_reading::locate;
 
-// A source that answers some reads of a place rightly, and the others not.
+// A source that returns one byte right in some reads, and wrong in the others.
 #[derive(Drop)]
 struct FickleSource<S: Source> {
     source: S,
@@ -62,11 +62,11 @@ impl<S: Source> Source for FickleSource<S> {
     }
 }
 
-// How the SHA-256 of `abc` begins (FIPS 180-2, appendix B.1).
+// The start of SHA-256 of `abc` (FIPS 180-2, appendix B.1).
 const ABC: [u8; 4] = [0xba, 0x78, 0x16, 0xbf];
 
-// What becomes of the only payload of an image: 0 where it is refused, 1 where it is kept as `abc`, with its
-// digest, 2 where a read failed and nothing was given, 3 where the image is refused, and 9 for all else.
+// Returns what happens to the only payload of an image: 0 refused, 1 kept as `abc` with its digest,
+// 2 a read failed and nothing was given, 3 the image is refused, 9 anything else.
 fn becomes<S: Source>(alloc: Global, source: &mut S) -> u8 {
     let mut taker = MemTaker::new(alloc);
     let mut room = Room::new(alloc);
@@ -93,8 +93,8 @@ fn becomes<S: Source>(alloc: Global, source: &mut S) -> u8 {
     }
 }
 
-// How many reads of the payload are wrong before the right ones, how many are right then, and what becomes
-// of it: only the first read counts.
+// How many reads of the payload are wrong first, how many are right then, and what happens to it:
+// only the first read counts.
 const ROWS: [(u64, u64, u8); 4] = [(0, 1, 1), (0, 9, 1), (0, 0, 0), (1, 9, 0)];
 
 #[test]
@@ -117,7 +117,7 @@ fn changing_sources(rt: HostRuntime) -> Result<(), Fail> {
     Ok(())
 }
 
-// Reads of any place are wrong behind so many right ones: then no payload is kept that is not `abc`.
+// Reads of any byte are wrong after some right ones: only `abc` is ever kept.
 #[test]
 fn changing_places(rt: HostRuntime) -> Result<(), Fail> {
     let alloc = rt.alloc();
@@ -137,7 +137,7 @@ fn changing_places(rt: HostRuntime) -> Result<(), Fail> {
     Ok(())
 }
 
-// A source that answers so many calls: nothing is given, or else all.
+// A source that answers some calls: nothing is given, or everything.
 #[test]
 fn each_read_failing(rt: HostRuntime) -> Result<(), Fail> {
     let alloc = rt.alloc();

@@ -1,7 +1,7 @@
-//! Bytes that stand in rows as text.
+//! Bytes that rows have as text.
 use std::alloc::{AllocError, Global};
 
-// The number of a hexadecimal digit.
+// Returns the value of a hexadecimal digit.
 fn digit(byte: u8) -> Option<u8> {
     match byte {
         b'0'..=b'9' => Some(byte - b'0'),
@@ -10,7 +10,7 @@ fn digit(byte: u8) -> Option<u8> {
     }
 }
 
-/// The bytes that pairs of hexadecimal digits give; what is no digit is passed over.
+/// Returns the bytes of pairs of hexadecimal digits; other characters are skipped.
 pub(super) fn unhex(alloc: Global, text: &str) -> Result<Vec<u8>, AllocError> {
     let mut bytes = Vec::new(alloc);
     let mut high = None;
@@ -28,7 +28,7 @@ pub(super) fn unhex(alloc: Global, text: &str) -> Result<Vec<u8>, AllocError> {
     Ok(bytes)
 }
 
-/// The bytes of a text in which `;` stands for a NUL, and `~` for 255 letters `n`.
+/// Returns the bytes of a text in which `;` is a NUL, and `~` 255 letters `n`.
 pub(super) fn plain(alloc: Global, text: &str) -> Result<Vec<u8>, AllocError> {
     let mut bytes = Vec::new(alloc);
     for byte in text.bytes() {

@@ -1,4 +1,4 @@
-//! Blobs whose reads fail, whose entries find no memory, or that are cut.
+//! Blobs whose reads fail, whose entries are refused memory, or that are cut.
 ghost use Rattle.std.specs.Prelude.{◌<◌};
 
 use super::made::made;
@@ -9,8 +9,8 @@ use std::test::Fail;
 use uimg_base::{FuseSource, MemSource, Room, Source};
 use uimg_blob::{BlobFault, IndexFault, index};
 
-// What is answered over a source that lets so many calls through: `.` where the blob is indexed; where the
-// read failed and was counted, how many entries are left; and `?` for all else.
+// Returns the result over a source that lets `calls` calls through: `.` if the blob is indexed, the
+// number of entries left if a read failed and was counted, `?` for anything else.
 fn answer(room: &mut Room<Global>, bytes: &[u8], calls: u64) -> u8 {
     let mut source = FuseSource::new(MemSource::new(bytes), calls);
     let found = index(&mut source, room);
@@ -23,8 +23,8 @@ fn answer(room: &mut Room<Global>, bytes: &[u8], calls: u64) -> u8 {
     }
 }
 
-// A blob, and what each call leaves that fails: the nodes that were begun before the token that it reads.
-// Two calls are for the header, two begin a node, three are for a property, and one for each other token.
+// A blob, and what each failing call leaves: the nodes begun before the token it reads. Two calls
+// are for the header, two begin a node, three are for a property, one for each other token.
 const READ_ROWS: [(&str, &str); 4] = [
     ("mixed", "000011111111."),
     ("late 76=00000004 80=00000002 84=00000009", "0000112222."),
@@ -35,7 +35,7 @@ const READ_ROWS: [(&str, &str); 4] = [
     (".,+,.,-,.", "000001111."),
 ];
 
-// How many of these answers come, up to the first other one.
+// Returns how many of these results come, up to the first other one.
 fn right_answers(alloc: Global, bytes: &[u8], answers: &str) -> usize {
     let mut room = Room::new(alloc);
     for (calls, expected) in answers.bytes().enumerate() {
@@ -46,7 +46,7 @@ fn right_answers(alloc: Global, bytes: &[u8], answers: &str) -> usize {
     answers.len()
 }
 
-// Each read that fails is told, and leaves the entries so far.
+// Each failing read is reported, and leaves the entries so far.
 #[test]
 fn reads_fail_in_turn(rt: HostRuntime) -> Result<(), Fail> {
     for (blob, answers) in &READ_ROWS {
@@ -57,14 +57,14 @@ fn reads_fail_in_turn(rt: HostRuntime) -> Result<(), Fail> {
     Ok(())
 }
 
-// A few bytes behind a hole of so many.
+// Returns a few bytes after a hole of this size.
 fn wall_behind(heap: &LocalHeap, hole: usize) -> Result<Vec<u8, &LocalHeap>, AllocError> {
     let _hole: Vec<u8, &LocalHeap> = Vec::with_capacity(heap, hole)?;
     Vec::with_capacity(heap, 16)
 }
 
-// The index of some bytes over a heap with two holes, each with place for so many entries and no more:
-// the entries go from one to the other as they grow, until neither has place.
+// Indexes a blob over a heap with two holes, each with room for `entries` entries and no more: the
+// entries move from one to the other as they grow, until neither has room.
 fn indexed_in_holes(
     alloc: Global,
     bytes: &[u8],
@@ -79,7 +79,7 @@ fn indexed_in_holes(
     Ok((room.count(), found.err()))
 }
 
-// The nodes of four-hash-fit begin at these places; each growth is refused in turn.
+// The nodes of four-hash-fit begin at these offsets; each growth is refused in turn.
 #[test]
 fn node_places(rt: HostRuntime) -> Result<(), Fail> {
     let bytes = made(rt.alloc(), "demo")?;
@@ -93,7 +93,7 @@ fn node_places(rt: HostRuntime) -> Result<(), Fail> {
     Ok(())
 }
 
-// Why a blob is refused, and where.
+// Returns why a blob is refused, and where.
 fn fault_of(alloc: Global, bytes: &[u8]) -> Option<(BlobFault, u64)> {
     let mut room = Room::new(alloc);
     match index(&mut MemSource::new(bytes), &mut room) {
@@ -102,7 +102,7 @@ fn fault_of(alloc: Global, bytes: &[u8]) -> Option<(BlobFault, u64)> {
     }
 }
 
-// Why a blob is refused, as the case of four-hash-fit cut to each length.
+// four-hash-fit cut to each length, and why it is refused.
 #[test]
 fn every_cut(rt: HostRuntime) -> Result<(), Fail> {
     let bytes = made(rt.alloc(), "demo")?;
@@ -118,7 +118,7 @@ fn every_cut(rt: HostRuntime) -> Result<(), Fail> {
     Ok(())
 }
 
-// The size of four-hash-fit's structure block set to each that is too small.
+// The size of four-hash-fit's structure block, set to each size that is too small.
 #[test]
 fn every_struct_size(rt: HostRuntime) -> Result<(), Fail> {
     let mut bytes = made(rt.alloc(), "demo")?;

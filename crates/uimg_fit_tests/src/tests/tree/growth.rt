@@ -1,4 +1,4 @@
-//! Want of memory while a source is compiled.
+//! Refused memory during compilation.
 use super::sources::{FOUR_HASH, NAMED};
 use linked_list_allocator::LocalHeap;
 use std::alloc::Global;
@@ -20,8 +20,8 @@ a =
 \"a text that asks for more than the heap has, and so is refused\";
 };";
 
-// The line of the word that memory was wanted for, where a source is compiled over a heap of so many
-// bytes; none where it is compiled, and line 0 where all else comes.
+// Compiles a source over a heap of this size. Returns the line of the word for which memory was
+// refused, `None` if it is compiled, and line 0 for anything else.
 fn line_of_want(alloc: Global, text: &str, bytes: usize) -> Option<u64> {
     let Ok(heap) = LocalHeap::new(alloc, bytes) else {
         return Some(0);
@@ -33,8 +33,8 @@ fn line_of_want(alloc: Global, text: &str, bytes: usize) -> Option<u64> {
     }
 }
 
-// From a heap with hardly any place to one with ample, 16 bytes at a time, so that each growth is
-// refused in turn: want of memory is told, and nothing else.
+// From a tiny heap to an ample one, in steps of 16 bytes, each growth is refused in turn: only
+// refused memory is reported.
 #[test]
 fn growth_fails(rt: HostRuntime) {
     for text in [ALL_VALUES, FOUR_HASH] {
@@ -49,7 +49,7 @@ fn growth_fails(rt: HostRuntime) {
     }
 }
 
-// The line is that of the word that memory was wanted for.
+// The line is that of the word for which memory was refused.
 #[test]
 fn the_line_of_a_refused_growth(rt: HostRuntime) -> Result<(), Fail> {
     assert_eq!(rt; line_of_want(rt.alloc(), LONG_TEXT, 48), Some(4));

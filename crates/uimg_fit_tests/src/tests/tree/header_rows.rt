@@ -1,8 +1,8 @@
-//! What `index` answers of headers, of blobs that are cut, and of cells that lie.
+//! Results of `index` for headers, cut blobs, and cells with wrong numbers.
 use super::index_rows::plays_rows;
 use std::test::Fail;
 
-// The rows are those of `index_rows`.
+// The rows are as those of `index_rows`.
 const ROWS: [(&str, &str, &str, u128); 41] = [
     (
         "mixed-values-index",

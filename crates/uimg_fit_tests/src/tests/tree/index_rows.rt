@@ -1,4 +1,4 @@
-//! What `index` answers, and what it asks of the source.
+//! Results of `index`, and the bytes that it requests.
 use super::super::answers::is_said;
 use super::made::{made, shown};
 use std::alloc::{AllocError, Global};
@@ -7,7 +7,7 @@ use std::test::Fail;
 use uimg_base::{MemSource, Room, Source};
 use uimg_blob::{Blob, IndexFault, index};
 
-// What is answered of a blob.
+// Returns the result for a blob in words.
 fn told(
     alloc: Global,
     room: &Room<Global>,
@@ -28,7 +28,7 @@ fn told(
     }
 }
 
-// Goes over rows.
+// Plays the rows.
 pub(super) fn plays_rows<R: AllocGlobal + Abort>(
     rt: &R,
     rows: &[(&str, &str, &str, u128)],
@@ -45,8 +45,8 @@ pub(super) fn plays_rows<R: AllocGlobal + Abort>(
     Ok(())
 }
 
-// A name, a blob, the answer, and the most bytes that it may ask for. Of a blob that is indexed its
-// size, its nodes, the bytes held, and the numbers of `images` and `configurations` are told.
+// A name, a blob, the result, and the most bytes requested. The result for an indexed blob has its
+// size, its nodes, the bytes held, and the numbers of `images` and `configurations`.
 const ROWS: [(&str, &str, &str, u128); 43] = [
     (
         "no token",

@@ -6,7 +6,7 @@ use uimg_base::{MemSource, Room, Source};
 use uimg_blob::index;
 use uimg_blob::samples::Sample;
 
-// So many nodes of empty names, one inside the other.
+// Returns `levels` nodes with empty names, one inside the other.
 fn nested(alloc: Global, levels: u32) -> Result<Vec<u8>, AllocError> {
     let mut sample = Sample::new(alloc);
     for _ in 0..levels {
@@ -18,7 +18,7 @@ fn nested(alloc: Global, levels: u32) -> Result<Vec<u8>, AllocError> {
     sample.finish(alloc, b"")
 }
 
-// A root with so many children.
+// Returns a root with `count` children.
 fn row(alloc: Global, count: u32) -> Result<Vec<u8>, AllocError> {
     let mut sample = Sample::new(alloc);
     sample.begin(b"")?;
@@ -30,7 +30,7 @@ fn row(alloc: Global, count: u32) -> Result<Vec<u8>, AllocError> {
     sample.finish(alloc, b"")
 }
 
-// No number of levels is too many.
+// Any depth is indexed.
 #[test]
 fn ten_thousand_deep(rt: HostRuntime) -> Result<(), Fail> {
     let bytes = nested(rt.alloc(), 10000)?;
@@ -43,8 +43,8 @@ fn ten_thousand_deep(rt: HostRuntime) -> Result<(), Fail> {
     Ok(())
 }
 
-// How many nodes have the one behind them as the next sibling, from the first child of the root on. The
-// root has none, and the last one has none.
+// Returns how many nodes, from the root's first child on, have the node after them as next sibling.
+// The root and the last node have none.
 fn siblings(alloc: Global, bytes: &[u8]) -> usize {
     let mut room = Room::new(alloc);
     let found = index(&mut MemSource::new(bytes), &mut room);

@@ -10,7 +10,7 @@ d00dfeed 00000070 00000038 0000006c 00000028 00000011 00000010 00000000
 00000003 0000000c 00000000 61000000 00010000 000200ff 00000003 00000000
 00000002 00000002 00000009 76006500";
 
-// A root with a child `a`, and after it a property `data` of the root.
+// A root with a child `a`, followed by a property `data` of the root.
 const LATE: &str = "
 d00dfeed 00000065 00000038 00000060 00000028 00000011 00000010 00000000
 00000005 00000028 00000000 00000000 00000000 00000000 00000001 00000000
@@ -68,7 +68,7 @@ d00dfeed 00000260 00000038 00000208 00000028 00000011 00000010 00000000
 
 const DIGITS: [&str; 10] = ["0", "1", "2", "3", "4", "5", "6", "7", "8", "9"];
 
-// All properties that FIT gives a meaning, and their names: what `ALL` and `KEYS` in a script stand for.
+// All properties to which FIT gives a meaning, and their names: `ALL` and `KEYS` in a script.
 const ALL: [u32; 24] = [
     0, 12, 22, 27, 32, 37, 40, 52, 57, 63, 73, 85, 99, 104, 110, 118, 125, 133, 137, 147, 156, 161,
     167, 178,
@@ -77,7 +77,7 @@ const ALL: [u32; 24] = [
 const KEYS: &str =
     "description;timestamp;data;type;arch;os;compression;load;entry;data-size;data-offset;data-position;algo;value;default;kernel;ramdisk;fdt;loadables;firmware;fpga;setup;standalone;script;";
 
-/// A number of one digit, `?` for a greater one, and `-` for none.
+/// Returns a number of one digit, `?` for a greater one, and `-` for none.
 pub(super) fn shown(number: Option<usize>) -> &'static str {
     match number {
         Some(number) => DIGITS.get(number).unwrap_or(&"?"),
@@ -99,7 +99,7 @@ fn begin(alloc: Global, sample: &mut Sample<Global>, name: &str) -> Result<(), A
     sample.begin(&name)
 }
 
-// Adds a node by itself.
+// Adds a node without children.
 fn put_node(alloc: Global, sample: &mut Sample<Global>, name: &str) -> Result<(), AllocError> {
     begin(alloc, sample, name)?;
     sample.end_node()
@@ -117,8 +117,8 @@ fn put_prop(
     }
 }
 
-// Does what a word of a script says: `+NAME` begins a node and `-` ends one, `|NAME` is a node by
-// itself, `.` is a NOP, `OFFSET=VALUE` and `OFFSET:HEX` are properties, and `#HEX` is a word.
+// Executes a word of a script: `+NAME` begins a node and `-` ends one, `|NAME` is a node without
+// children, `.` is a NOP, `OFFSET=VALUE` and `OFFSET:HEX` are properties, and `#HEX` is a word.
 fn put_word(alloc: Global, sample: &mut Sample<Global>, word: &str) -> Result<(), AllocError> {
     if let Some(name) = word.strip_prefix('+') {
         begin(alloc, sample, name)
@@ -139,7 +139,7 @@ fn put_word(alloc: Global, sample: &mut Sample<Global>, word: &str) -> Result<()
     }
 }
 
-// How often a word stands, and the word: `1000*+` is `+` a thousand times.
+// Returns how often a word is repeated, and the word: `1000*+` is `+` a thousand times.
 fn counted(word: &str) -> (u32, &str) {
     match word.split_once('*') {
         Some((count, word)) => (count.parse().unwrap_or(0), word),
@@ -147,7 +147,7 @@ fn counted(word: &str) -> (u32, &str) {
     }
 }
 
-// Does what words with commas between them say.
+// Executes words separated by commas.
 fn put_words(alloc: Global, sample: &mut Sample<Global>, words: &str) -> Result<(), AllocError> {
     for word in words.split(',') {
         let (count, word) = counted(word);
@@ -158,7 +158,7 @@ fn put_words(alloc: Global, sample: &mut Sample<Global>, words: &str) -> Result<
     Ok(())
 }
 
-// The blob of a script: words with commas between them, and after a `/` the strings.
+// Returns the blob of a script: words separated by commas, and after a `/` the strings block.
 fn scripted(alloc: Global, script: &str) -> Result<Vec<u8>, AllocError> {
     let (words, strings) = script.split_once('/').unwrap_or((script, ""));
     let strings = plain(alloc, if strings == "KEYS" { KEYS } else { strings })?;
@@ -169,7 +169,7 @@ fn scripted(alloc: Global, script: &str) -> Result<Vec<u8>, AllocError> {
     }
 }
 
-// Puts bytes into a blob, from a place on.
+// Sets bytes of a blob at an offset.
 fn put_bytes(blob: &mut [u8], at: usize, bytes: &[u8]) {
     if let Some(rest) = blob.get_mut(at..)
         && rest.len() >= bytes.len()
@@ -178,7 +178,7 @@ fn put_bytes(blob: &mut [u8], at: usize, bytes: &[u8]) {
     }
 }
 
-// Does an edit: `AT=HEX` puts bytes at a place, `<LENGTH` cuts, and `>TEXT` adds text.
+// Applies an edit: `AT=HEX` sets bytes at an offset, `<LENGTH` cuts, and `>TEXT` appends text.
 fn edit(alloc: Global, blob: &mut Vec<u8>, word: &str) -> Result<(), AllocError> {
     if let Some(length) = word.strip_prefix('<') {
         blob.truncate(length.parse().unwrap_or(0));
@@ -194,7 +194,7 @@ fn edit(alloc: Global, blob: &mut Vec<u8>, word: &str) -> Result<(), AllocError>
     }
 }
 
-// The blob of a name, of hexadecimal digits, or of a script.
+// Returns the blob with a name, of hexadecimal digits, or of a script.
 fn base(alloc: Global, text: &str) -> Result<Vec<u8>, AllocError> {
     match text {
         "mixed" => unhex(alloc, MIXED),
@@ -208,7 +208,7 @@ fn base(alloc: Global, text: &str) -> Result<Vec<u8>, AllocError> {
     }
 }
 
-/// The blob that a row tells: a base, and edits of it with blanks between them.
+/// Returns the blob of a row: a base, and edits of it separated by spaces.
 pub(super) fn made(alloc: Global, text: &str) -> Result<Vec<u8>, AllocError> {
     let (first, edits) = text.split_once(' ').unwrap_or((text, ""));
     let mut blob = base(alloc, first)?;

@@ -1,4 +1,4 @@
-//! What `measure` answers: bad names, sizes, and want of memory.
+//! Results of `measure`: bad names, sizes, and refused memory.
 ghost use Rattle.std.specs.Prelude.{◌<◌};
 
 use super::super::answers::is_said;
@@ -27,14 +27,14 @@ fn measured_by(alloc: Global, tree: &Tree<Global>, align: u32) -> Result<String,
     }
 }
 
-// A node without children and with one property.
+// Returns a node without children and with one property.
 fn leaf(alloc: Global, name: &str, property: &str) -> Result<Node<Global>, AllocError> {
     let name = plain(alloc, name)?;
     let property = plain(alloc, property)?;
     node(alloc, &name, prop(alloc, &property, b"")?, Vec::new(alloc))
 }
 
-// A root, and its two children.
+// Returns a tree of a root and two children.
 fn parent(
     alloc: Global,
     root: &str,
@@ -52,7 +52,7 @@ fn parent(
 }
 
 // The names of the root, its property, its first child, the property of that, and its second child,
-// with `~` for 255 letters and `;` for a NUL; and what is measured: the first bad name counts.
+// with `~` for 255 letters and `;` for a NUL; and the result: the first bad name counts.
 const NAME_ROWS: [(&str, &str, &str, &str, &str, &str); 11] = [
     ("~", "~", "~", "~", "~", "1148"),
     ("~n", "p", "c", "p", "d", "B7 bad node name"),
@@ -67,7 +67,7 @@ const NAME_ROWS: [(&str, &str, &str, &str, &str, &str); 11] = [
     ("", "p", "first", "p", "second;", "B7 bad node name"),
 ];
 
-// What is measured of the tree of these names.
+// Measures the tree with these names.
 fn measured_names(
     alloc: Global,
     root: &str,
@@ -91,8 +91,8 @@ fn name_rows(rt: HostRuntime) {
     }
 }
 
-// A property's name, the size of the file that has its value, and what is measured. The greatest blob is
-// one of 4294967292 bytes: 92 around the value. A bad name is told before a blob that is too large.
+// The name of a property, the size of the file with its value, and the result. The greatest blob
+// has 4294967292 bytes: 92 around the value. A bad name comes before a blob that is too large.
 const SIZE_ROWS: [(&str, u64, &str); 8] = [
     ("data", 4_294_967_196, "4294967288"),
     ("data", 4_294_967_197, "4294967292"),
@@ -104,7 +104,7 @@ const SIZE_ROWS: [(&str, u64, &str); 8] = [
     ("d;", 0xffff_ffff_ffff_ffff, "B9 bad property name"),
 ];
 
-// What is measured of a root with a property of a name, in a file of so many bytes.
+// Measures a root with a property of this name in a file of this size.
 fn measured_file(alloc: Global, name: &str, size: u64) -> Result<String, AllocError> {
     let name = plain(alloc, name)?;
     let tree = root_in_file(alloc, &name, size)?;
@@ -119,8 +119,8 @@ fn size_rows(rt: HostRuntime) {
     }
 }
 
-// The size of a file, an alignment, and what is measured of a root with that file: the blob's end is
-// rounded up as mkimage 2023.01 rounds it, also by no power of two.
+// The size of a file, an alignment, and the result for a root with that file: the blob's end is
+// rounded up as by mkimage 2023.01, also for no power of two.
 const ALIGN_ROWS: [(u64, u32, &str); 14] = [
     (0, 4, "92"),
     (0, 0, "92"),
@@ -138,7 +138,7 @@ const ALIGN_ROWS: [(u64, u32, &str); 14] = [
     (0, 0xffff_fffc, "B10 too large"),
 ];
 
-// What is measured of a root with a file of so many bytes, by an alignment.
+// Measures a root with a file of this size, for an alignment.
 fn measured_root(alloc: Global, size: u64, align: u32) -> Result<String, AllocError> {
     let tree = root_in_file(alloc, b"data", size)?;
     measured_by(alloc, &tree, align)
@@ -154,7 +154,7 @@ fn align_rows(rt: HostRuntime) -> Result<(), Fail> {
     Ok(())
 }
 
-// By an alignment a blob is the same up to its end, but for the number that tells that, and zeros follow.
+// With an alignment a blob is the same up to its end, but for its totalsize; zeros follow.
 #[test]
 fn aligned_blobs(rt: HostRuntime) -> Result<(), Fail> {
     let alloc = rt.alloc();
@@ -179,8 +179,8 @@ fn aligned_blobs(rt: HostRuntime) -> Result<(), Fail> {
     Ok(())
 }
 
-// A source and what is measured of its tree: a root of 16 bytes with its end, nodes of 20 and 12 bytes
-// with theirs, properties of 36 and 40.
+// A source and the size of its tree's blob: a root of 16 bytes with its end, nodes of 20 and 12
+// bytes with theirs, properties of 36 and 40.
 const SOURCE_ROWS: [(&str, &str); 3] = [
     ("mixed-values", "112"),
     ("family", "192"),
@@ -201,7 +201,7 @@ fn measured_source(alloc: Global, text: &str) -> Result<String, AllocError> {
     }
 }
 
-// A property of no bytes, whose name is a letter.
+// Returns a property of no bytes whose name is a letter.
 fn lettered(alloc: &LocalHeap, letter: u8) -> Result<Prop<&LocalHeap>, AllocError> {
     let name = Vec::from_slice(alloc, &[letter])?;
     Ok(Prop {
@@ -210,7 +210,7 @@ fn lettered(alloc: &LocalHeap, letter: u8) -> Result<Prop<&LocalHeap>, AllocErro
     })
 }
 
-// A root with a property of each letter.
+// Returns a root with a property for each letter.
 fn letters(alloc: &LocalHeap, count: u8) -> Result<Tree<&LocalHeap>, AllocError> {
     let mut props = Vec::with_capacity(alloc, count as usize)?;
     for letter in 0..count {
@@ -225,8 +225,8 @@ fn letters(alloc: &LocalHeap, count: u8) -> Result<Tree<&LocalHeap>, AllocError>
     })
 }
 
-// What is measured over a heap of which 16 times so many bytes are taken: the size, or the fault; none
-// where so many cannot be taken.
+// Measures over a heap with 16 * `taken` bytes in use. Returns the size or the fault, or `None` if
+// the heap is too small.
 fn measured_with<'a>(
     heap: &'a LocalHeap,
     tree: &Tree<&'a LocalHeap>,
@@ -246,7 +246,7 @@ fn measured_with<'a>(
 const LETTERS_SIZE: u32 = 56 + 8 + 20 * 12 + 8 + 40;
 
 // With less and less of the heap left, measuring is refused at each growth of the names, and never
-// after it went well with less.
+// succeeds with less memory than was refused.
 #[test]
 fn each_growth_refused(rt: HostRuntime) -> Result<(), Fail> {
     let heap = LocalHeap::new(rt.alloc(), 8192)?;

@@ -1,4 +1,4 @@
-//! What is looked up in a blob that is indexed.
+//! Queries on an indexed blob.
 ghost use Rattle.std.specs.Prelude.{◌<◌, length};
 
 use super::super::answers::is_said;
@@ -8,7 +8,7 @@ use std::test::Fail;
 use uimg_base::{MemSource, Room, Span};
 use uimg_blob::{Blob, Key, index};
 
-// The keys, in the order of the documentation, by the names of their properties.
+// The keys, in the order of the documentation, with the names of their properties.
 const KEYS: [(&str, Key); 24] = [
     ("description", Key::Description),
     ("timestamp", Key::Timestamp),
@@ -36,7 +36,7 @@ const KEYS: [(&str, Key); 24] = [
     ("script", Key::Script),
 ];
 
-// The key of a property's name.
+// Returns the key of a property's name.
 fn key_of(name: &str) -> Option<Key> {
     for (known, key) in &KEYS {
         if *known == name {
@@ -46,7 +46,7 @@ fn key_of(name: &str) -> Option<Key> {
     None
 }
 
-// Where something stands, and its length.
+// Returns an offset and a length in words.
 fn placed(alloc: Global, span: Option<Span>) -> Result<String, AllocError> {
     match span {
         Some(Span { place, length }) => format!(in alloc; "{place}+{length}"),
@@ -54,7 +54,7 @@ fn placed(alloc: Global, span: Option<Span>) -> Result<String, AllocError> {
     }
 }
 
-// A node's first child, its next sibling, and whether it is a hash node.
+// Returns a node's first child, its next sibling, and whether it is a hash node.
 fn links(alloc: Global, blob: Blob, room: &Room<Global>, node: usize) -> Result<String, AllocError>
     requires { node < length room.now.entries }
 {
@@ -68,7 +68,7 @@ fn links(alloc: Global, blob: Blob, room: &Room<Global>, node: usize) -> Result<
     format!(in alloc; "{child} {next} {kind}")
 }
 
-// The keys of which a node has values.
+// Returns the keys for which a node has values.
 fn kept(alloc: Global, blob: Blob, room: &Room<Global>, node: usize) -> Result<String, AllocError>
     requires { node < length room.now.entries }
 {
@@ -82,7 +82,7 @@ fn kept(alloc: Global, blob: Blob, room: &Room<Global>, node: usize) -> Result<S
     Ok(names)
 }
 
-// What a look-up of a node gives; a word that is no other look-up is the name of a key's property.
+// Returns the result of a query on a node; any other word is the name of a key's property.
 fn looked_up(
     alloc: Global,
     blob: Blob,
@@ -104,7 +104,7 @@ fn looked_up(
     }
 }
 
-// A name, a blob, the number of a node, the look-up, and what it gives.
+// A name, a blob, the number of a node, the query, and its result.
 const ROWS: [(&str, &str, usize, &str, &str); 95] = [
     ("four-hash-fit", "demo", 0, "links", "1 - -"),
     ("four-hash-fit", "demo", 1, "links", "2 7 -"),
@@ -527,7 +527,7 @@ const ROWS: [(&str, &str, usize, &str, &str); 95] = [
     ("mixed-values", "mixed", 0, "name", "60+0"),
 ];
 
-// What a look-up gives in a blob of some bytes.
+// Returns the result of a query on the blob with these bytes.
 fn found_in(alloc: Global, bytes: &[u8], node: usize, what: &str) -> Result<String, AllocError> {
     let mut room = Room::new(alloc);
     match index(&mut MemSource::new(bytes), &mut room) {

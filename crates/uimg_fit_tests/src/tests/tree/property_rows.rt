@@ -1,4 +1,4 @@
-//! What properties are told of a node of an indexed blob.
+//! The properties of a node of an indexed blob.
 ghost use Rattle.std.specs.Prelude.{◌<◌, length};
 
 use super::super::answers::is_said;
@@ -8,14 +8,14 @@ use std::test::Fail;
 use uimg_base::{FuseSource, MemSource, Room, Source, Span};
 use uimg_blob::{Blob, PropertiesFault, PropertyPlace, index, properties_of};
 
-// The text at a place of some bytes.
+// Returns the text at a span of some bytes.
 fn text_at(bytes: &[u8], span: Span) -> &str {
     let from = bytes.get(span.place as usize..).unwrap_or(b"?");
     let text = from.get(..span.length as usize).unwrap_or(b"?");
     str::from_utf8(text).unwrap_or("?")
 }
 
-// The names of properties, and where their values stand.
+// Returns the names of properties, and the spans of their values.
 fn listed(alloc: Global, bytes: &[u8], places: &[PropertyPlace]) -> Result<String, AllocError> {
     let mut list = String::new(alloc);
     for PropertyPlace { name, value } in places {
@@ -27,7 +27,7 @@ fn listed(alloc: Global, bytes: &[u8], places: &[PropertyPlace]) -> Result<Strin
     Ok(list)
 }
 
-// What is told of a node whose blob is read again of some bytes.
+// Returns the properties of a node whose blob is read again from these bytes.
 fn told(
     alloc: Global,
     bytes: &[u8],
@@ -44,7 +44,7 @@ fn told(
     }
 }
 
-// The same of a node of a blob that was indexed.
+// Returns the same for a node of a blob that is indexed first.
 fn told_of(alloc: Global, indexed: &[u8], bytes: &[u8], node: usize) -> Result<String, AllocError> {
     let mut room = Room::new(alloc);
     match index(&mut MemSource::new(indexed), &mut room) {
@@ -121,7 +121,7 @@ fn property_rows(rt: HostRuntime) -> Result<(), Fail> {
     Ok(())
 }
 
-// A blob, what its file holds when its root's properties are read, and what is told.
+// A blob, the content of its file when its root's properties are read, and the result.
 const CHANGED_ROWS: [(&str, &str, &str); 7] = [
     ("+,0=x,-/foo;", "+,0=x,-/bar;", "bar=76+1 "),
     (
@@ -159,8 +159,8 @@ fn changed_rows(rt: HostRuntime) -> Result<(), Fail> {
     Ok(())
 }
 
-// What is answered of the root over a source that lets so many calls through: `.` for its properties,
-// `r` where the read failed and was counted, and `?` for all else.
+// Returns the result for the root over a source that lets `calls` calls through: `.` for its
+// properties, `r` if the read failed and was counted, `?` for anything else.
 fn answer(alloc: Global, bytes: &[u8], blob: Blob, room: &mut Room<Global>, calls: u64) -> u8 {
     let mut source = FuseSource::new(MemSource::new(bytes), calls);
     if room.count() == 0 {
@@ -173,7 +173,7 @@ fn answer(alloc: Global, bytes: &[u8], blob: Blob, room: &mut Room<Global>, call
     }
 }
 
-// How many calls are let through before the root's properties are told.
+// Returns how many calls must pass to get the root's properties.
 fn calls_needed(alloc: Global, bytes: &[u8], most: u64) -> Option<u64> {
     let mut room = Room::new(alloc);
     let blob = index(&mut MemSource::new(bytes), &mut room).ok()?;
@@ -187,7 +187,7 @@ fn calls_needed(alloc: Global, bytes: &[u8], most: u64) -> Option<u64> {
     None
 }
 
-// Two calls are for the header, three for each property, and one for the token behind.
+// Two calls are for the header, three for each property, and one for the token after them.
 #[test]
 fn property_reads_fail_in_turn(rt: HostRuntime) -> Result<(), Fail> {
     for (text, calls) in [("mixed", 9), ("demo", 12), ("+,.,.,-", 5)] {

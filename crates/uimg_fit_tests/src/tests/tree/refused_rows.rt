@@ -1,11 +1,11 @@
-//! Sources that are refused, each with the line that the program prints, and sources that are compiled.
+//! Sources that are refused, with the line that the program prints, and sources that compile.
 use super::super::answers::is_said;
 use super::sources::{NAMED, source};
 use std::alloc::{AllocError, Global};
 use uimg_base::{Files, MemFiles};
 use uimg_its::compile;
 
-/// What is answered for a source.
+/// Returns the result for a source in words.
 pub(super) fn answer<F: Files>(
     alloc: Global,
     text: &[u8],
@@ -17,12 +17,12 @@ pub(super) fn answer<F: Files>(
     }
 }
 
-// The same over the files of the tests.
+// Returns the same over the files of the tests.
 fn answered(alloc: Global, text: &[u8]) -> Result<String, AllocError> {
     answer(alloc, text, &mut MemFiles::new(&NAMED))
 }
 
-// Sources and their answers.
+// Sources and their results.
 const ROWS: [(&str, &str); 70] = [
     // The case refused-sources.
     ("", "I2 bad syntax at line 1"),
@@ -131,8 +131,8 @@ const ROWS: [(&str, &str); 70] = [
         "/dts-v1/; / { v = \"\\01\"; };",
         "I3 out of profile: escape at line 1",
     ),
-    // Where the grammar leaves room, this is what is chosen: each is a sentence of docs/DECISIONS.md.
-    // A missing file comes at its place, before a later fault.
+    // Choices where the grammar leaves room, each a sentence of docs/DECISIONS.md. A missing file
+    // is reported at its place, before a later fault.
     (
         "/dts-v1/; / { v = /incbin/(\"none\")\n]; };",
         "I5 no file at line 1",
@@ -152,14 +152,14 @@ const ROWS: [(&str, &str); 70] = [
         "/dts-v1/;\n/ { v = \"\n\\q\n\";",
         "I3 out of profile: escape at line 2",
     ),
-    // Behind the last word it is the last line.
+    // After the last word it is the last line.
     ("/dts-v1/;\n", "I2 bad syntax at line 1"),
     ("/dts-v1/;\n/ {", "I2 bad syntax at line 2"),
     ("\n\n", "I2 bad syntax at line 2"),
-    // A bad escape comes also where no string may stand, and an open string before it.
+    // A bad escape is reported also where no string is allowed, and an unclosed string before it.
     ("\"\\q\"", "I3 out of profile: escape at line 1"),
     ("\"\\q", "I1 bad token at line 1"),
-    // A comma by itself is no cell; in a name word it is a bad one.
+    // A comma by itself is not a cell; in a name word it is a bad one.
     ("/dts-v1/; / { v = < , >; };", "I2 bad syntax at line 1"),
     ("/dts-v1/; / { v = [ , ]; };", "I2 bad syntax at line 1"),
     ("/dts-v1/; / { v = <1,2>; };", "I4 bad number at line 1"),
@@ -173,7 +173,7 @@ const ROWS: [(&str, &str); 70] = [
         "/dts-v1/; / {\n#include \"x\"\n };",
         "I2 bad syntax at line 2",
     ),
-    // However a source is laid out, it is compiled.
+    // Any layout of a source is compiled.
     ("/dts-v1/;/{};", "compiled"),
     ("/dts-v1/ ; / { } ;", "compiled"),
     ("/dts-v1/;\x0b\x0c\r\n/{};// end", "compiled"),
@@ -211,9 +211,9 @@ fn stray_bytes(rt: HostRuntime) {
     }
 }
 
-// A beginning, how often what follows stands, both parts of it, the end, and the answer: 64 levels are
-// compiled, and the brace that opens the 65th is refused; a name has at most 255 bytes, a label any
-// number.
+// A beginning, how often both parts after it are repeated, these parts, the end, and the result: 64
+// levels are compiled, and the brace that opens the 65th is refused; a name has at most 255 bytes,
+// a label any number.
 const LONG_ROWS: [(&str, usize, &str, &str, &str, &str); 7] = [
     ("/dts-v1/;\n/ {", 63, "\na {", " };", " };", "compiled"),
     (
@@ -245,7 +245,7 @@ const LONG_ROWS: [(&str, usize, &str, &str, &str, &str); 7] = [
     ("/dts-v1/;\n/ {\n", 256, "a", "", ":\nb;\n};", "compiled"),
 ];
 
-/// A beginning, two parts so often each, and an end.
+/// Returns a beginning, `count` times each of two parts, and an end.
 pub(super) fn long_text(
     alloc: Global,
     head: &str,
@@ -265,7 +265,7 @@ pub(super) fn long_text(
     Ok(text)
 }
 
-// The answer for such a text.
+// Returns the result for such a text.
 fn answered_long(
     alloc: Global,
     head: &str,

@@ -1,8 +1,8 @@
-//! The blobs that scripts make, against dtc's bytes.
+//! The blobs that scripts make, compared with dtc's bytes.
 use super::made::made;
 use std::test::Fail;
 
-// A script, and the blob of dtc that it gives.
+// A script, and the blob of dtc that it makes.
 const ROWS: [(&str, &str); 1] = [("+,0:6100000000010000000200ff,2=,-/v;e;", "mixed")];
 
 #[test]

@@ -1,4 +1,4 @@
-//! Blobs of trees by their sizes.
+//! Blobs of trees by size.
 use super::bytes::unhex;
 use super::refused_rows::long_text;
 use super::sources::{blob_of, tree_of};
@@ -7,8 +7,8 @@ use super::trees::{chain, prop, root_in_file, root_of};
 use std::alloc::{AllocError, Global};
 use std::test::Fail;
 
-// A name, a value, and the end of the blob of a root with that property: a value is padded to a multiple
-// of 4, and the strings too.
+// A name, a value, and the end of the blob of a root with that property: a value is padded to a
+// multiple of 4, and the strings block too.
 const PADDED_ROWS: [(&str, &str, &str); 5] = [
     ("abc", "", "00000000 00000000 00000002 00000009 61626300"),
     (
@@ -33,7 +33,7 @@ const PADDED_ROWS: [(&str, &str, &str); 5] = [
     ),
 ];
 
-// The blob of a root with a property.
+// Returns the blob of a root with a property.
 fn blob_of_property(
     alloc: Global,
     name: &[u8],
@@ -43,7 +43,7 @@ fn blob_of_property(
     Ok(blob_of(alloc, &tree, &[]))
 }
 
-// Whether the blob of a property ends so, at a multiple of 4.
+// Checks that the blob of a property ends like this, at a multiple of 4.
 fn is_padded(alloc: Global, name: &str, value: &str, end: &[u8]) -> bool {
     match blob_of_property(alloc, name.as_bytes(), value.as_bytes()) {
         Ok(Some(blob)) => blob.ends_with(end) && blob.len() % 4 == 0,
@@ -63,14 +63,14 @@ fn padded_rows(rt: HostRuntime) -> Result<(), Fail> {
     Ok(())
 }
 
-// The blob of a root with a property whose name and value have so many bytes, from memory.
+// Returns the blob of a root with a property in memory whose name and value have these lengths.
 fn blob_in_memory(alloc: Global, name: usize, value: usize) -> Result<Option<Vec<u8>>, AllocError> {
     let name = Vec::from_elem(alloc, b'n', name)?;
     let value = Vec::from_elem(alloc, 0x5au8, value)?;
     blob_of_property(alloc, &name, &value)
 }
 
-// The same from a file.
+// Returns the same with the value in a file.
 fn blob_in_file(alloc: Global, name: usize, value: usize) -> Result<Option<Vec<u8>>, AllocError> {
     let name = Vec::from_elem(alloc, b'n', name)?;
     let value = Vec::from_elem(alloc, 0x5au8, value)?;
@@ -79,8 +79,8 @@ fn blob_in_file(alloc: Global, name: usize, value: usize) -> Result<Option<Vec<u
     Ok(blob_of(alloc, &tree, &named))
 }
 
-// How many bytes a name and a value have, and the blob of a root with that property. Some are longer
-// than what is gathered for one write, some are below, at and above the window's size.
+// The lengths of a name and a value, and the size of the blob of a root with that property. Some
+// are longer than what is gathered for one write, some are below, at and above the window's size.
 const LENGTH_ROWS: [(usize, usize, usize); 10] = [
     (1, 243, 332),
     (1, 244, 332),
@@ -94,7 +94,7 @@ const LENGTH_ROWS: [(usize, usize, usize); 10] = [
     (4, 8193, 8288),
 ];
 
-// The length of such a blob of one node, the same from memory and from a file; 0 for any other.
+// Returns the size of such a blob of one node, the same from memory and file; 0 for any other.
 fn length_of(alloc: Global, name: usize, value: usize) -> usize {
     let one = blob_in_memory(alloc, name, value);
     let other = blob_in_file(alloc, name, value);
@@ -118,7 +118,7 @@ fn length_rows(rt: HostRuntime) {
     }
 }
 
-// How many nodes the blob of so many levels has.
+// Returns the number of nodes of a blob of `levels` levels.
 fn nodes_of_levels(alloc: Global, levels: u64) -> Result<u64, AllocError> {
     let tree = chain(alloc, levels)?;
     let blob = blob_of(alloc, &tree, &[]).unwrap_or(Vec::new(alloc));
@@ -133,7 +133,7 @@ fn deep_trees(rt: HostRuntime) -> Result<(), Fail> {
     Ok(())
 }
 
-// The length of the blob of a source's tree, if it has one node; 0 otherwise.
+// Returns the size of the blob of a source's tree, if it has one node; 0 otherwise.
 fn length_of_source(alloc: Global, text: &str) -> usize {
     let Some(tree) = tree_of(alloc, text) else {
         return 0;
@@ -147,7 +147,7 @@ fn length_of_source(alloc: Global, text: &str) -> usize {
 const EIGHT: &str = " a = [76616c7565]; b = [76616c7565]; c = [76616c7565]; d = [76616c7565]; \
 e = [76616c7565]; f = [76616c7565]; g = [76616c7565]; h = [76616c7565];";
 
-// Many properties of few names.
+// Many properties with few names.
 #[test]
 fn many_properties(rt: HostRuntime) -> Result<(), Fail> {
     let text = long_text(rt.alloc(), "/dts-v1/; / {", 1000, EIGHT, "", " };")?;

@@ -9,7 +9,7 @@ use uimg_base::{Files, FuseFiles, MemFiles};
 use uimg_its::compile;
 use uimg_tree::{Node, Prop, Tree, Value};
 
-// A value, as that of the root's only property, and the bytes that it gives.
+// The value of the root's only property, and its bytes.
 const VALUE_ROWS: [(&str, &str); 14] = [
     ("<>, [], \"\\0\"", "0000"),
     ("<0xffffffff 010>", "ffffffff00000008"),
@@ -36,7 +36,7 @@ const VALUE_ROWS: [(&str, &str); 14] = [
     ("\"\"", "00"),
 ];
 
-// Whether these bytes are the value of a root's only property.
+// Checks that these bytes are the value of a root's only property.
 fn is_value(tree: &Tree<Global>, bytes: &[u8]) -> bool {
     match tree.root.props.items() {
         [own] => match &own.value {
@@ -47,7 +47,7 @@ fn is_value(tree: &Tree<Global>, bytes: &[u8]) -> bool {
     }
 }
 
-// Whether a value gives these bytes.
+// Checks the bytes of a value.
 fn gives(alloc: Global, value: &str, bytes: &[u8]) -> Result<bool, AllocError> {
     let text = format!(in alloc; "/dts-v1/; / {{ v = {value}; }};")?;
     match tree_of(alloc, text.as_str()) {
@@ -66,12 +66,12 @@ fn value_rows(rt: HostRuntime) -> Result<(), Fail> {
     Ok(())
 }
 
-// A byte list as text, or `?`.
+// Returns bytes as text, or `?`.
 fn text_of(bytes: &[u8]) -> &str {
     str::from_utf8(bytes).unwrap_or("?")
 }
 
-// A property as it is told: its name, and its bytes as text, or the file and its size.
+// Returns a property in words: its name, and its bytes as text, or the file and its size.
 fn told(alloc: Global, own: &Prop<Global>) -> Result<String, AllocError> {
     let name = text_of(own.name.items());
     match &own.value {
@@ -86,8 +86,8 @@ fn told(alloc: Global, own: &Prop<Global>) -> Result<String, AllocError> {
     }
 }
 
-// What a node has at a number: that property, or behind the last how many there are of properties and
-// of children, with the node's name.
+// Returns a node's property in words or, after the last, the node's name and the numbers of its
+// properties and children.
 fn part(alloc: Global, node: &Node<Global>, number: usize) -> Result<String, AllocError> {
     let props = node.props.items();
     match props.get(number) {
@@ -101,7 +101,7 @@ fn part(alloc: Global, node: &Node<Global>, number: usize) -> Result<String, All
     }
 }
 
-// The part of a number of the node at a path: a digit for each step down.
+// Returns that part of the node at a path: a digit for each step down.
 fn part_at(
     alloc: Global,
     tree: &Tree<Global>,
@@ -122,7 +122,7 @@ fn part_at(
     part(alloc, node, number)
 }
 
-// A source, a path, the number of a property, and what is there; 99 tells of the node.
+// A source, a path, the number of a property, and the part; 99 is the node itself.
 const PART_ROWS: [(&str, &str, usize, &str); 20] = [
     ("mixed-values", "", 99, ": 2, 0"),
     ("mixed-values", "", 1, "e=\"\""),
@@ -146,7 +146,7 @@ const PART_ROWS: [(&str, &str, usize, &str); 20] = [
     ("file-values", "", 6, "data=\"\""),
 ];
 
-// The same of a source.
+// Returns that part of a source's tree.
 fn part_of_source(
     alloc: Global,
     text: &str,
@@ -167,8 +167,8 @@ fn part_rows(rt: HostRuntime) {
     }
 }
 
-// A file that stays a file, one of 8193 bytes that is read, and three that are opened in the order of
-// the text.
+// A file that stays a file, one of 8193 bytes that is read, and three that are opened in the order
+// of the text.
 const STAYS: &str = "/dts-v1/; / { data = /incbin/(\"abc.bin\"); };";
 
 const BIG: &str = "/dts-v1/; / {\nv =\n/incbin/(\"big\"); };";
@@ -178,9 +178,9 @@ const THREE: &str = "/dts-v1/; / { a =
 /incbin/(\"a\"); b = [00],
 /incbin/(\"a\"); };";
 
-// A source, the first open that is refused, the open that gives a file which lets so many calls through,
-// and the answer. A file that stays a file is asked for its size and for nothing else; the one of 8193
-// bytes for its size, and read in two windows.
+// A source, the first refused open, the open whose file has a fuse, how many calls that lets
+// through, and the result. For a file that stays a file only its size is requested; for the one of
+// 8193 bytes its size, and two windows.
 const FILE_ROWS: [(&str, u64, u64, u64, &str); 19] = [
     ("stays", 9, 0, 1, "compiled"),
     ("stays", 9, 0, 0, "I6 read failed at line 1"),
@@ -203,7 +203,7 @@ const FILE_ROWS: [(&str, u64, u64, u64, &str); 19] = [
     ("four-hash-fit", 1, 0, 0, "I6 read failed at line 8"),
 ];
 
-// The source of a row.
+// Returns the source of a row.
 fn filed(name: &str) -> &str {
     match name {
         "stays" => STAYS,
@@ -213,7 +213,7 @@ fn filed(name: &str) -> &str {
     }
 }
 
-// What compiling answers over files with a fuse.
+// Compiles over files with a fuse. Returns the result in words.
 fn fused<F: Files + Drop>(
     alloc: Global,
     text: &str,

@@ -48,14 +48,14 @@ const MIXED: &str = "/dts-v1/;
 };
 ";
 
-/// Two nodes below the root, with properties of equal names in each, one value in the file `abc.bin`.
+/// Two nodes below the root, with properties of the same names, one value in the file `abc.bin`.
 pub(super) const FAMILY: &str = "/dts-v1/;
 / {
 \tkernel-1 { type = \"kernel\"; data = /incbin/(\"abc.bin\"); };
 \tfdt { data = [0102030405]; type = \"flat_dt\"; };
 };";
 
-/// The source of the case file-values: what stays a file, and what is read.
+/// The source of the case file-values: which values stay files, and which are read.
 const FILE_VALUES: &str = "/dts-v1/; / {
 \tdata = /incbin/(\"abc.bin\");
 \tdata = /incbin/(\"abc.bin\"), [00];
@@ -66,7 +66,7 @@ const FILE_VALUES: &str = "/dts-v1/; / {
 \tdata;
 };";
 
-/// The source of a name; any other text is one itself.
+/// Returns the source with a name; any other text is a source itself.
 pub(super) fn source(text: &str) -> &str {
     match text {
         "four-hash-fit" => FOUR_HASH,
@@ -77,12 +77,12 @@ pub(super) fn source(text: &str) -> &str {
     }
 }
 
-/// The tree of a source over the files of the tests, if it is compiled.
+/// Returns the tree of a source over the files of the tests, if it is compiled.
 pub(super) fn tree_of(alloc: Global, text: &str) -> Option<Tree<Global>> {
     compile(alloc, source(text).as_bytes(), &mut MemFiles::new(&NAMED)).ok()
 }
 
-/// The blob of a tree over these files, if it is written, and measured as it is.
+/// Returns the blob of a tree over these files, if it is written and has its measured size.
 pub(super) fn blob_of(
     alloc: Global,
     tree: &Tree<Global>,
@@ -91,7 +91,7 @@ pub(super) fn blob_of(
     blob_by(alloc, tree, WORD_ALIGNMENT, named)
 }
 
-/// The same by an alignment.
+/// Returns the same for an alignment.
 pub(super) fn blob_by(
     alloc: Global,
     tree: &Tree<Global>,

@@ -1,4 +1,4 @@
-//! What `put_text` and `short_text` give.
+//! Results of `put_text` and `short_text`.
 ghost use Rattle.std.specs.Prelude.{◌+◌, ◌≤◌, length};
 
 use super::bytes::unhex;
@@ -10,7 +10,7 @@ use uimg_base::{
 };
 use uimg_blob::{put_text, short_text};
 
-// What is written of a text, if it is.
+// Returns what is written of a text, if it is written.
 fn written(alloc: Global, bytes: &[u8], at: Span) -> Option<Vec<u8>>
     requires { at.place + at.length ≤ length bytes.now }
 {
@@ -26,7 +26,7 @@ fn written(alloc: Global, bytes: &[u8], at: Span) -> Option<Vec<u8>>
     }
 }
 
-// The length of a short text, 32 for a longer one, and 99 where it is not the one that was written.
+// Returns a short text's length, 32 for a longer text, and 99 if it is not the one written.
 fn short(bytes: &[u8], at: Span, text: &[u8]) -> usize
     requires { at.place + at.length ≤ length bytes.now }
 {
@@ -39,9 +39,9 @@ fn short(bytes: &[u8], at: Span, text: &[u8]) -> usize
     }
 }
 
-// A place and a length in the blob of the case mixed-values, and the text there: the value of `v` is
-// `a`, a NUL and more; 40 bytes of the reservation block and the root begin with a NUL; the magic has
-// none.
+// An offset and a length in the blob of the case mixed-values, and the text there: the value of `v`
+// is `a`, a NUL and more; 24 bytes from the reservation block on begin with a NUL; the magic number
+// has none.
 const MIXED_ROWS: [(u64, u64, &str); 5] = [
     (76, 12, "61"),
     (76, 1, "61"),
@@ -50,7 +50,7 @@ const MIXED_ROWS: [(u64, u64, &str); 5] = [
     (0, 4, "d00dfeed"),
 ];
 
-// Whether a text is written, and is short.
+// Checks that a text is written, and is short.
 fn is_text(alloc: Global, bytes: &[u8], place: u64, length: u64, wanted: &[u8]) -> bool {
     if place > 100 || length > 100 || (bytes.len() as u64) < place + length {
         return false;
@@ -76,9 +76,9 @@ fn texts_of_mixed_values(rt: HostRuntime) -> Result<(), Fail> {
     Ok(())
 }
 
-// How many letters there are, where a NUL stands in their place, how long the value is that begins with
-// them, and the lengths of its text and of the short text, 32 for none: a text of 31 bytes is short, one
-// of 32 is not, whatever stands behind it.
+// The number of letters, the index of a NUL among them, the length of the value that they begin,
+// and the lengths of its text and of the short text, 32 for none: a text of 31 bytes is short, one
+// of 32 is not, whatever follows it.
 const LONG_ROWS: [(usize, usize, u64, usize, usize); 12] = [
     (20000, 8191, 20000, 8191, 32),
     (20000, 8192, 20000, 8192, 32),
@@ -94,7 +94,7 @@ const LONG_ROWS: [(usize, usize, u64, usize, usize); 12] = [
     (40, 5, 40, 5, 5),
 ];
 
-// So many letters, with a NUL in the place of one.
+// Returns `count` letters, with a NUL in place of one.
 fn letters(alloc: Global, count: usize, end: usize) -> Result<Vec<u8>, AllocError> {
     let mut bytes = Vec::from_elem(alloc, b'x', count)?;
     if let Some(last) = bytes.as_mut_slice().get_mut(end) {
@@ -103,7 +103,7 @@ fn letters(alloc: Global, count: usize, end: usize) -> Result<Vec<u8>, AllocErro
     Ok(bytes)
 }
 
-// The lengths of a text that is written and of the short one.
+// Returns the lengths of the written text and of the short one.
 fn lengths_of(alloc: Global, bytes: &[u8], at: Span) -> Option<(usize, usize)>
     requires { at.place + at.length ≤ length bytes.now }
 {
@@ -134,7 +134,7 @@ const ALL: Span = Span {
     length: 112,
 };
 
-// What is answered, and how much is written, where so many bytes are taken of a text of 112.
+// Writes a text of 112 bytes, of which `takes` are accepted. Returns the result and the count.
 fn put_to(alloc: Global, bytes: &[u8; 112], takes: u64) -> (Result<(), MoveFault>, usize) {
     let mut room = Room::new(alloc);
     let mut out = Out::new(FuseWriter::new(Vec::new(alloc), takes));
@@ -142,7 +142,7 @@ fn put_to(alloc: Global, bytes: &[u8; 112], takes: u64) -> (Result<(), MoveFault
     (put, out.into_inner().into_inner().len())
 }
 
-// A write that takes some bytes and then fails leaves a prefix of the text.
+// A write that accepts some bytes and then fails leaves a prefix of the text.
 #[test]
 fn writes_of_a_text_fail(rt: HostRuntime) {
     let alloc = rt.alloc();
@@ -158,7 +158,7 @@ fn writes_of_a_text_fail(rt: HostRuntime) {
     }
 }
 
-// A read that fails is told.
+// A failed read is reported.
 #[test]
 fn reads_of_a_text_fail(rt: HostRuntime) {
     let bytes = [b'x'; 112];

@@ -1,4 +1,4 @@
-//! The blobs of trees that sources spell, by bytes from outside.
+//! The blobs of trees that sources spell, compared with bytes from elsewhere.
 use super::made::made;
 use super::sources::{NAMED, blob_of, tree_of};
 use std::alloc::Global;
@@ -7,8 +7,8 @@ use uimg_base::{MemSource, Room};
 use uimg_blob::index;
 use uimg_tree::{Tree, copy_node};
 
-// A source, how many bytes its blob has, how many nodes, and how it ends: by the name of a blob, or by
-// hexadecimal digits. Names stand among the strings once, in the order of first use.
+// A source, the size of its blob, the number of nodes, and how it ends: the name of a blob, or
+// hexadecimal digits. Names are in the strings block once, in the order of first use.
 const ROWS: [(&str, usize, usize, &str); 4] = [
     ("mixed-values", 112, 1, "mixed"),
     (
@@ -26,7 +26,7 @@ const ROWS: [(&str, usize, usize, &str); 4] = [
     ("four-hash-fit", 608, 9, "plain"),
 ];
 
-/// How many nodes are found in a blob.
+/// Returns the number of nodes in a blob.
 pub(super) fn nodes_in(alloc: Global, blob: &[u8]) -> usize {
     let mut room = Room::new(alloc);
     match index(&mut MemSource::new(blob), &mut room) {
@@ -35,7 +35,7 @@ pub(super) fn nodes_in(alloc: Global, blob: &[u8]) -> usize {
     }
 }
 
-// Whether the blob of a tree has so many bytes and nodes, and ends so.
+// Checks the size of a tree's blob, its number of nodes, and how it ends.
 fn is_blob(alloc: Global, blob: Option<Vec<u8>>, length: usize, nodes: usize, end: &[u8]) -> bool {
     match blob {
         Some(blob) => {
@@ -45,13 +45,13 @@ fn is_blob(alloc: Global, blob: Option<Vec<u8>>, length: usize, nodes: usize, en
     }
 }
 
-// The blob of a source's tree, if it has one.
+// Returns the blob of a source's tree, if it has one.
 fn blob_of_source(alloc: Global, text: &str) -> Option<Vec<u8>> {
     let tree = tree_of(alloc, text)?;
     blob_of(alloc, &tree, &NAMED)
 }
 
-// A copy of a tree.
+// Copies a tree.
 fn copied(alloc: Global, tree: &Tree<Global>) -> Option<Tree<Global>> {
     match copy_node(alloc, &tree.root) {
         Ok(root) => Some(Tree { root }),
@@ -59,7 +59,7 @@ fn copied(alloc: Global, tree: &Tree<Global>) -> Option<Tree<Global>> {
     }
 }
 
-// The blob of a copy of it.
+// Returns the blob of a copy of it.
 fn blob_of_copy(alloc: Global, text: &str) -> Option<Vec<u8>> {
     match tree_of(alloc, text) {
         Some(tree) => blob_of(alloc, &copied(alloc, &tree)?, &NAMED),
@@ -67,7 +67,7 @@ fn blob_of_copy(alloc: Global, text: &str) -> Option<Vec<u8>> {
     }
 }
 
-// A copy of a tree is written as the tree is.
+// A copy of a tree has the same blob.
 #[test]
 fn blob_rows(rt: HostRuntime) -> Result<(), Fail> {
     let alloc = rt.alloc();

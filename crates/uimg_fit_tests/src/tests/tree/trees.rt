@@ -2,20 +2,20 @@
 use std::alloc::{AllocError, Global};
 use uimg_tree::{ByteList, Node, Nodes, Prop, Props, Tree, Value};
 
-/// A property whose value is bytes.
+/// Returns a property whose value is bytes.
 pub(super) fn prop(alloc: Global, name: &[u8], value: &[u8]) -> Result<Prop<Global>, AllocError> {
     let name = ByteList::of(Vec::from_slice(alloc, name)?);
     let value = Value::Bytes(ByteList::of(Vec::from_slice(alloc, value)?));
     Ok(Prop { name, value })
 }
 
-/// A value in the file `f`.
+/// Returns a value in the file `f`.
 pub(super) fn in_file(alloc: Global, size: u64) -> Result<Value<Global>, AllocError> {
     let name = ByteList::of(Vec::from_slice(alloc, b"f")?);
     Ok(Value::File { name, size })
 }
 
-/// A node of one property.
+/// Returns a node with one property.
 pub(super) fn node(
     alloc: Global,
     name: &[u8],
@@ -31,13 +31,13 @@ pub(super) fn node(
     })
 }
 
-/// A root of one property.
+/// Returns a root with one property.
 pub(super) fn root_of(alloc: Global, own: Prop<Global>) -> Result<Tree<Global>, AllocError> {
     let root = node(alloc, b"", own, Vec::new(alloc))?;
     Ok(Tree { root })
 }
 
-/// A root with a value in the file `f`.
+/// Returns a root with a value in the file `f`.
 pub(super) fn root_in_file(
     alloc: Global,
     name: &[u8],
@@ -48,7 +48,7 @@ pub(super) fn root_in_file(
     root_of(alloc, Prop { name, value })
 }
 
-/// A chain of so many nodes below the root.
+/// Returns a chain of `levels` nodes below the root.
 pub(super) fn chain(alloc: Global, levels: u64) -> Result<Tree<Global>, AllocError> {
     let mut root = node(alloc, b"", prop(alloc, b"p", b"")?, Vec::new(alloc))?;
     for _level in 0..levels {

@@ -1,4 +1,4 @@
-//! What `write_tree` and `put_padded` answer and leave where files or the output fail.
+//! Results and output of `write_tree` and `put_aligned` if files or the output fail.
 use super::super::answers::is_said;
 use super::bytes::unhex;
 use super::sources::{FAMILY, NAMED, blob_of, tree_of};
@@ -12,7 +12,7 @@ use uimg_tree::{
     write_tree,
 };
 
-// An answer in words, and how many bytes were written.
+// Returns a result in words, and how many bytes were written.
 fn told(
     alloc: Global,
     answer: Result<(), TreeFault>,
@@ -24,8 +24,8 @@ fn told(
     }
 }
 
-// What is answered, and written, where opens are refused from a number on, and the first file that is
-// opened lets so many calls through; nothing where a tree has no layout, or no prefix was written.
+// Writes a tree over files whose opens are refused from a number on, the first opened of which lets
+// `calls` calls through. Returns the result and the size, or nothing without layout or prefix.
 fn fused<F: Files + Drop>(
     alloc: Global,
     tree: &Tree<Global>,
@@ -47,9 +47,9 @@ fn fused<F: Files + Drop>(
     told(alloc, answer, written.len())
 }
 
-// The size of the value that the tree keeps, that of the file when the tree is written, the file's name
-// then, the first open that is refused, how many calls the file lets through, and the answer: the file
-// is asked for its size, and then for its bytes, and 112 bytes stand before them.
+// The stored size of the value, the size of the file when the tree is written, its name then, the
+// first refused open, how many calls the file lets through, and the result. Of the file first its
+// size is requested, then its bytes; 112 bytes come before them.
 const FILE_ROWS: [(usize, usize, &str, u64, u64, &str); 13] = [
     (3, 3, "abc.bin", 1, 0, "read failed, 112"),
     (3, 3, "abc.bin", 1, 1, "read failed, 112"),
@@ -68,12 +68,12 @@ const FILE_ROWS: [(usize, usize, &str, u64, u64, &str); 13] = [
 
 const BYTES: [u8; 8193] = [0x5a; 8193];
 
-// So many bytes of a file.
+// Returns the first `count` bytes of a file.
 fn bytes(count: usize) -> &'static [u8] {
     BYTES.get(..count).unwrap_or(&[])
 }
 
-// The answer of a row.
+// Returns the result of a row.
 fn kept_as(
     alloc: Global,
     kept: &[(&[u8], &[u8])],
@@ -115,8 +115,8 @@ fn leaves_prefix(alloc: Global, tree: &Tree<Global>, whole: &[u8], taken: usize)
     answer == wanted && written.len() == taken && whole.starts_with(&written)
 }
 
-// How many writers, from one that takes nothing to one that takes all, leave what they have to of a
-// source's blob of 192 bytes.
+// Returns how many writers, from one that accepts nothing to one that accepts everything, leave the
+// right prefix of a source's blob of 192 bytes.
 fn prefixes(alloc: Global, text: &str) -> usize {
     let Some(tree) = tree_of(alloc, text) else {
         return 0;
@@ -138,7 +138,7 @@ fn each_write_failing(rt: HostRuntime) {
     assert_eq!(rt; prefixes(rt.alloc(), "family"), 193);
 }
 
-// What is answered, and written, for a value over files that fail.
+// Writes a value over failing files. Returns the result and what is written.
 fn put<F: Files + Drop>(
     alloc: Global,
     value: &Value<Global>,
@@ -153,7 +153,7 @@ fn put<F: Files + Drop>(
     (answer, out.into_inner().into_inner())
 }
 
-// A value, and how it is written: with the zeros that bring it to a multiple of 4.
+// A value, and how it is written: padded with zeros to a multiple of 4.
 const PADDED_ROWS: [(&str, &str); 6] = [
     ("", ""),
     ("1", "31000000"),
@@ -163,14 +163,14 @@ const PADDED_ROWS: [(&str, &str); 6] = [
     ("12345", "3132333435000000"),
 ];
 
-// Whether a value has this size, and is written so.
+// Checks the size of a value, and how it is written.
 fn is_written(alloc: Global, value: &Value<Global>, content: &[u8], wanted: &[u8]) -> bool {
     let named: [(&[u8], &[u8]); 1] = [(b"f", content)];
     let (answer, written) = put(alloc, value, MemFiles::new(&named), 9, 9);
     answer.is_ok() && written.as_slice() == wanted && value_size(value) == content.len() as u64
 }
 
-// The same of a value and its copy.
+// Checks the same for a value and its copy.
 fn are_written(alloc: Global, value: &Value<Global>, content: &[u8], wanted: &[u8]) -> bool {
     match copy_value(alloc, value) {
         Ok(copy) => {
@@ -180,13 +180,13 @@ fn are_written(alloc: Global, value: &Value<Global>, content: &[u8], wanted: &[u
     }
 }
 
-// A value in memory.
+// Returns a value in memory.
 fn in_memory(alloc: Global, content: &[u8]) -> Result<Value<Global>, AllocError> {
     let bytes = Vec::from_slice(alloc, content)?;
     Ok(Value::Bytes(ByteList::of(bytes)))
 }
 
-// Whether a content is written so from memory and from a file.
+// Checks how a content is written, from memory and from a file.
 fn is_padded(alloc: Global, content: &[u8], wanted: &[u8]) -> bool {
     match (
         in_memory(alloc, content),
@@ -211,8 +211,8 @@ fn padded_values(rt: HostRuntime) -> Result<(), Fail> {
     Ok(())
 }
 
-// The bytes of the file `f`, how many calls it lets through, how many bytes the output takes, and what
-// is answered for a value of five bytes in it. A file that has another size leaves nothing.
+// The bytes of the file `f`, how many calls it lets through, how many bytes the output accepts, and
+// the result for a value of five bytes in it. A file of another size leaves nothing.
 const VALUE_ROWS: [(&str, u64, u64, &str); 14] = [
     ("12345", 2, 8, "written, 8"),
     ("1234", 2, 8, "read failed, 0"),
@@ -230,7 +230,7 @@ const VALUE_ROWS: [(&str, u64, u64, &str); 14] = [
     ("12345", 2, 7, "write failed, 7"),
 ];
 
-// The answer for such a value over some files.
+// Returns the result for such a value over some files.
 fn put_in_words(
     alloc: Global,
     named: &[(&[u8], &[u8])],
