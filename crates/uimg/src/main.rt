@@ -1,6 +1,6 @@
-//! The program: words, streams and the clock of the operating system are handed to `program`.
+//! The program: passes words, streams and the clock of the operating system to `program`.
 
-// The program uimg, which is a function of uimg_tool.
+// The program uimg, a function of uimg_tool.
 #![tactic(auto)]
 
 use std::process::ExitCode;

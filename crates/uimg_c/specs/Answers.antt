@@ -1,4 +1,4 @@
--- What the exports tell of the outcome of a command.
+-- What the exports report of the outcome of a command.
 use Rattle.std.specs.Prelude.{◌≡◌, ℕ, min, List, ◌++◌, length, take, drop, Option, Some, None, Result, Ok, Err}
 use Rattle.uimg_sums.specs.declared.algo.Algo.{Algo}
 use Rattle.uimg_texts.specs.Slices.{slice}
@@ -16,10 +16,10 @@ use Rattle.uimg_checks.specs.Checking.{check_of}
 use Rattle.uimg_engine.specs.Headline.{is_fit, nodes_in}
 use Rattle.uimg_c.specs.Codes.{code_of, code_of_answer, code_of_fault, code_of_found, strength}
 
--- A report tells how an outcome ends, and its text, or as much of it as there is place for, stands at the front of the
--- caller's memory; the rest of that stays.
+-- A report has the end of an outcome. The text is copied to the caller's memory, truncated to its
+-- length; the rest of that memory is unchanged.
 pub record Reports (o : Outcome Fault) (old new : List ℕ) (report : UimgReport) : Type 0 where
-  -- status, fault and place are those of the outcome
+  -- status, fault and offset are those of the outcome
   pub code : code_of o.end ≡ Some (record { status = report.status; fault = report.fault; place = report.place })
   -- the length of the whole text
   pub needed : report.needed ≡ length o.text
@@ -28,27 +28,28 @@ pub record Reports (o : Outcome Fault) (old new : List ℕ) (report : UimgReport
   -- the rest of the memory is unchanged
   pub text : new ≡ take report.written o.text ++ drop report.written old
 
--- the report where memory was refused
+-- the report if memory was refused
 abbrev pub no_report : UimgReport
 no_report = record { status = 3; fault = 0; place = 0; needed = 0; written = 0; peak = 0 }
 
--- A payload tells how the outcome of an extraction ends, and where the bytes that it writes stand in the image.
+-- A payload has the end of an extraction's outcome, and the span of the extracted bytes in the
+-- image.
 pub record Finds (o : Outcome Fault) (image : List ℕ) (payload : UimgPayload) : Type 0 where
   pub code : code_of o.end ≡ Some (record { status = payload.status; fault = payload.fault; place = payload.place })
-  -- just the bytes that an extraction writes
+  -- exactly the bytes that an extraction writes
   pub bytes : payload.status ≡ 0 → o.text ≡ slice image payload.start payload.size
 
--- The same of what is looked for in a FIT image, where it is just these bytes, or refused.
+-- The same for a search in a FIT image, which finds exactly these bytes, or a fault.
 pub record FindsNamed (found : Result (List ℕ) FitEngineFault) (image : List ℕ) (payload : UimgPayload) : Type 0 where
   pub code : code_of_found found ≡ Some (record { status = payload.status; fault = payload.fault; place = payload.place })
   pub bytes : payload.status ≡ 0 → found ≡ Ok (slice image payload.start payload.size)
 
--- how a check ends; nothing vouches by an algorithm that there is not
+-- the end of a check; an unknown algorithm vouches for nothing
 abbrev pub check_by : Option Algo → List ℕ → End Fault
 check_by None image = not_right
 check_by (Some need) image = check_of need image
 
--- A report without a text tells how a check ends.
+-- A report without a text has the end of a check.
 pub record Checks (need : ℕ) (image : List ℕ) (report : UimgReport) : Type 0 where
   pub code : code_of (check_by (strength need) image) ≡ Some (record { status = report.status; fault = report.fault; place = report.place })
   pub no_text : (report.needed ≡ 0) × (report.written ≡ 0)
@@ -62,7 +63,7 @@ abbrev pub code_of_count : Result ℕ Fault → Option Code
 code_of_count (Ok count) = code_of_answer (Ok Done)
 code_of_count (Err fault) = code_of_fault fault
 
--- A count tells how many there are, or why they can't be counted.
+-- A count has the number of payloads, or why they cannot be counted.
 pub record Counts (counted : Result ℕ Fault) (count : UimgCount) : Type 0 where
   pub code : code_of_count counted ≡ Some (record { status = count.status; fault = count.fault; place = count.place })
   pub is : count.status ≡ 0 → counted ≡ Ok count.count

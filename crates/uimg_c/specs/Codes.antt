@@ -1,4 +1,4 @@
--- The numbers that tell callers in C how a command ended.
+-- The numbers by which callers in C see how a command ended.
 use Rattle.std.specs.Prelude.{ℕ, ◌+◌, ◌*◌, ◌==◌, if◌then◌else◌, Option, Some, None, Result, Ok, Err}
 use Rattle.uimg_sums.specs.declared.algo.Algo.{Algo}
 use Rattle.uimg_sums.specs.declared.algo.Algo.TheVariants as algo
@@ -57,13 +57,14 @@ fit_number fit.OutOfMemory = 8
 fit_number fit.NoFile = 9
 fit_number fit.ReadFailed = 10
 
--- A refusal: the status 1, the letter of the fault as its ASCII code times 256 with its number, and its place, which only a
--- blob's fault has.
+-- A refusal: the status 1, the letter of the fault as its ASCII code times 256 plus its number, and
+-- its offset, which only a blob's fault has.
 abbrev pub refusal : ℕ → ℕ → ℕ → Code
 refusal letter number place = record { status = 1; fault = 256 * letter + number; place = place }
 
--- The numbers for a fault of an image or its blob; none where the memory for the table of nodes was refused, a device
--- failed, or a making's files are at fault. What no reading answers (L9, L10, B10, F5 to F10) has numbers too.
+-- The numbers of a fault of an image or its blob; none if memory for the table of nodes was
+-- refused, a device failed, or the files of a making are at fault. Faults that no reading returns
+-- (L9, L10, B10, F5 to F10) have numbers too.
 abbrev pub code_of_fault : Fault → Option Code
 code_of_fault (Legacy f) = Some (refusal 76 (legacy_number f) 0)
 code_of_fault (Blob blob.OutOfMemory place) = None
@@ -71,24 +72,25 @@ code_of_fault (Blob f place) = Some (refusal 66 (blob_number f) place)
 code_of_fault (Fit f) = Some (refusal 70 (fit_number f) 0)
 code_of_fault _ = None
 
--- the numbers for an answer: the status 0 where all is done, 1 where something is not right or the image is refused
+-- the numbers of a result: the status is 0 if all is done, 1 if something is not right or the image
+-- is refused
 abbrev pub code_of_answer : Result Status Fault → Option Code
 code_of_answer (Ok Done) = Some (record { status = 0; fault = 0; place = 0 })
 code_of_answer (Ok NotRight) = Some (record { status = 1; fault = 0; place = 0 })
 code_of_answer (Err fault) = code_of_fault fault
 
--- the numbers for what is found in a FIT image, or for the fault that refuses it
+-- the numbers of what is found in a FIT image, or of the fault that refuses it
 abbrev pub code_of_found : {X : Type 0} → Result X FitEngineFault → Option Code
 code_of_found (Ok x) = code_of_answer (Ok Done)
 code_of_found (Err fault) = code_of_fault (of_fit fault)
 
--- the numbers for the end of an outcome
+-- the numbers of the end of an outcome
 abbrev pub code_of : End Fault → Option Code
 code_of done = code_of_answer (Ok Done)
 code_of not_right = code_of_answer (Ok NotRight)
 code_of (refused fault) = code_of_fault fault
 
--- the algorithms by the numbers of their strength
+-- the algorithms, by the numbers of their strength
 abbrev pub strength : ℕ → Option Algo
 strength n =
     if n == 1 then Some algo.Crc32 else if n == 2 then Some algo.Md5 else if n == 3 then Some algo.Sha1 else if n == 4 then Some algo.Sha256

@@ -1,4 +1,4 @@
-//! Whether an image in memory is whole, and vouched for.
+//! Whether an image in memory is whole and vouched for.
 
 ghost use Rattle.std.specs.Prelude.{◌≡◌, ◌≢◌, ◌≤◌, Some};
 ghost use Rattle.uimg_requests.specs.declared.command.Format.TheVariants as format;
@@ -13,7 +13,7 @@ use uimg_base::{Algo, Room, Status};
 use uimg_checks::check_in_memory;
 use uimg_engine::Fault;
 
-// The algorithm of a strength.
+// Returns the algorithm of a strength.
 fn strength(need: u32) -> Option<Algo>
     ensures { result ≡ strength need }
 {
@@ -28,7 +28,7 @@ fn strength(need: u32) -> Option<Algo>
     }
 }
 
-// The report without a text on an answer, for which so much memory was taken.
+// Returns the report without a text on a result; `peak` is the memory that was taken.
 fn report_of(end: Result<Status, Fault>, peak: u64) -> UimgReport
     ensures code { result.status ≢ 3 → code_of_answer end ≡ Some (record {
       status = result.status;
@@ -59,7 +59,7 @@ fn report_of(end: Result<Status, Fault>, peak: u64) -> UimgReport
     }
 }
 
-/// Checks the bytes of an image, which need an algorithm of a strength.
+/// Checks the bytes of an image, with `need` as the number of the needed strength.
 pub(crate) fn check(alloc: Global, image: &[u8], need: u32, report: &mut UimgReport) -> u32
     ensures told { result ≢ 3 → Checks need image.now report.new }
     ensures status { result ≡ report.new.status }

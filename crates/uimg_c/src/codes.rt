@@ -1,4 +1,4 @@
-//! The numbers that tell how a command ended.
+//! The numbers that show how a command ended.
 
 ghost use Rattle.std.specs.Prelude.{◌≡◌, ◌+◌, ◌*◌, ◌<◌};
 ghost use Rattle.uimg_c.specs.Codes.{legacy_number, blob_number, fit_number, code_of_fault, code_of_answer};
@@ -18,7 +18,7 @@ pub(crate) const NOT_RIGHT: u32 = 1;
 /// Memory was refused.
 pub(crate) const NO_MEMORY: u32 = 3;
 
-/// The numbers that tell how a command ended: a status, the fault, and its place.
+/// The numbers that show how a command ended: a status, the fault, and its offset.
 #[derive(Clone, Copy, Debug, PartialEq, Eq)]
 pub struct Code {
     pub status: u32,
@@ -78,7 +78,7 @@ fn number_of_fit(fault: FitFault) -> u32
     }
 }
 
-// A refusal by the fault of a letter and a number.
+// Returns a refusal, by the letter, the number and the offset of a fault.
 fn refusal(letter: u32, number: u32, place: u64) -> Code
     requires letter { letter < 128 }
     requires number { number < 256 }
@@ -91,8 +91,8 @@ fn refusal(letter: u32, number: u32, place: u64) -> Code
     }
 }
 
-// The numbers for a fault of an image or its blob; none where the memory for the table of nodes was
-// refused, a device failed, or a making's files are at fault.
+// Returns the numbers of a fault of an image or its blob; none if memory for the table of nodes was
+// refused, a device failed, or the files of a making are at fault.
 pub(crate) fn fault_code(fault: Fault) -> Option<Code>
     ensures { result ≡ code_of_fault fault }
 {
@@ -105,7 +105,7 @@ pub(crate) fn fault_code(fault: Fault) -> Option<Code>
     }
 }
 
-/// The numbers for an answer, or `None` where memory was refused.
+/// Returns the numbers of a result, or `None` if memory was refused.
 pub(crate) fn answer_code(end: Result<Status, Fault>) -> Option<Code>
     ensures { result ≡ code_of_answer end }
 {

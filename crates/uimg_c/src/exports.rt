@@ -1,10 +1,10 @@
-//! The functions that a caller in C calls.
+//! The functions for callers in C.
 //!
-//! Each returns the status that it reports. Unless that is 3, status, fault, place, text and payload
-//! are those of the outcome. Never more is written than the caller's memory has; with 3 none is, and a
-//! report says nothing. A payload or a name ends inside the image, and has no bytes where none was
-//! found. The memory that is reported is at most 8192 bytes and 128 for each node; that it is not less
-//! than what was taken is tested.
+//! Each returns the status that it reports. Unless that is 3, status, fault, place, text and
+//! payload are those of the outcome. Output is truncated to the caller's memory; with status 3
+//! nothing is written, and a report says nothing. A payload or a name ends inside the image, and
+//! has no bytes if none was found. The reported memory is at most 8192 bytes and 128 for each node;
+//! tests show that it is not less than what was taken.
 
 ghost use Rattle.std.specs.Prelude.{◌≡◌, ◌≢◌, ◌+◌, ◌≤◌, length, false};
 ghost use Rattle.uimg_names.specs.declared.naming.Naming.TheVariants as naming;
@@ -51,7 +51,7 @@ pub extern "C" fn uimg_list(
     report_on(alloc, &command, image, text, report)
 }
 
-/// Verifies an image: the report of `uimg verify` is put to the front of `text`.
+/// Verifies an image: writes the report of `uimg verify` to `text`.
 #[unsafe(no_mangle)]
 pub extern "C" fn uimg_verify(
     alloc: Global,
@@ -76,8 +76,8 @@ pub extern "C" fn uimg_verify(
     report_on(alloc, &command, image, text, report)
 }
 
-/// Checks an image strictly: it is whole, it has images, and each of them has a hash node of at least a
-/// strength, from 1, CRC-32, to 6, SHA-512; a legacy image has CRC-32. No text is told.
+/// Checks an image strictly: it is whole and has images, each with a hash node of at least the
+/// strength `need`, from 1, CRC-32, to 6, SHA-512; a legacy image has CRC-32. Writes no text.
 #[unsafe(no_mangle)]
 pub extern "C" fn uimg_check(alloc: Global, image: &[u8], need: u32, report: &mut UimgReport) -> u32
     ensures told { result ≢ 3 → Checks need image.now report.new }
@@ -88,8 +88,8 @@ pub extern "C" fn uimg_check(alloc: Global, image: &[u8], need: u32, report: &mu
     check(alloc, image, need, report)
 }
 
-/// Finds the part of a legacy image, or the payload of a FIT image's image, at a position, counted from 0:
-/// the bytes that `uimg dumpimage -p` writes.
+/// Finds the part of a legacy image, or the payload of a FIT image's image, at a position, counted
+/// from 0: the bytes that `uimg dumpimage -p` writes.
 #[unsafe(no_mangle)]
 pub extern "C" fn uimg_payload_at(
     alloc: Global,
@@ -156,8 +156,8 @@ pub extern "C" fn uimg_payload_count(alloc: Global, image: &[u8], count: &mut Ui
     payload_count(alloc, image, count)
 }
 
-/// Puts the line of a fault, as `L8 no such part`, to the front of `text`, and says how many bytes the
-/// whole line has: 0 for a number that is no fault's.
+/// Writes the line of a fault, as `L8 no such part`, to `text`, and returns the length of the whole
+/// line in bytes: 0 for a number without a fault.
 #[unsafe(no_mangle)]
 pub extern "C" fn uimg_fault_line(fault: u32, text: &mut [u8]) -> usize
     ensures { result ≤ 64 }
@@ -165,7 +165,7 @@ pub extern "C" fn uimg_fault_line(fault: u32, text: &mut [u8]) -> usize
     put_fault_line(fault, text)
 }
 
-/// Puts the version of the library to the front of `text`, and says how many bytes it has.
+/// Writes the version of the library to `text`, and returns its length in bytes.
 #[unsafe(no_mangle)]
 pub extern "C" fn uimg_version(text: &mut [u8]) -> usize {
     copy_front(VERSION.as_bytes(), text);

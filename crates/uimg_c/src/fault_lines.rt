@@ -74,7 +74,7 @@ impl Write for Line {
     }
 }
 
-// The line of a fault, if it is one.
+// Writes the line of a fault, if there is one.
 fn put_line<F: Display>(fault: Option<&F>, text: &mut [u8]) -> usize
     ensures { result ≤ 64 }
 {
@@ -92,8 +92,8 @@ fn put_line<F: Display>(fault: Option<&F>, text: &mut [u8]) -> usize
     line.length
 }
 
-/// Puts the line of a fault, by its letter and number, to the front of `text`, and says how many bytes
-/// the whole line has.
+/// Writes the line of a fault, by its letter and number, to `text`, and returns the length of the
+/// whole line in bytes.
 pub(crate) fn put_fault_line(fault: u32, text: &mut [u8]) -> usize
     ensures { result ≤ 64 }
 {

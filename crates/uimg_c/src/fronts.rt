@@ -1,8 +1,8 @@
-//! The front of the caller's memory.
+//! Copies to the caller's memory.
 
 ghost use Rattle.std.specs.Prelude.{◌≡◌, ◌++◌, min, length, take, drop};
 
-/// Copies as many bytes as there is place for to the front of `to`, and says how many.
+/// Copies bytes to `to`, truncated to its length, and returns how many were copied.
 pub(crate) fn copy_front(from: &[u8], to: &mut [u8]) -> usize
     ensures count { result ≡ min (length from.now) (length to.old) }
     ensures copied { to.new ≡ take result from.now ++ drop result to.old }

@@ -1,7 +1,7 @@
-//! A static library for C: images in memory are listed and verified, and their payloads are found.
+//! A static library for C that lists and verifies images in memory, and finds their payloads.
 //!
-//! Each export calls one function of the crates below and states its clauses again. `include/uimg.h` says
-//! what a caller in C has to see to.
+//! Each export calls one function of the crates below and repeats its clauses. `include/uimg.h`
+//! says what a caller in C has to ensure.
 #![tactic(auto)]
 
 mod checks;

@@ -1,4 +1,4 @@
-//! Where a payload stands in an image in memory.
+//! Where a payload is in an image in memory.
 
 ghost use Rattle.std.specs.Prelude.{◌≡◌, ◌≢◌, ◌+◌, ◌≤◌, length, false, Some, None};
 ghost use Rattle.uimg_requests.specs.declared.command.Action.TheVariants as action;
@@ -49,7 +49,7 @@ fn unfound(fault: Fault, peak: u64) -> UimgPayload
     }
 }
 
-// What is told of a payload at a span, for which so much memory was taken.
+// Returns the payload at a span; `peak` is the memory that was taken.
 fn found(span: Span, peak: u64) -> UimgPayload
     ensures { result ≡ record { status = 0; fault = 0; place = 0; start = span.place; size = span.length; peak = peak } }
 {
@@ -63,7 +63,7 @@ fn found(span: Span, peak: u64) -> UimgPayload
     }
 }
 
-/// Where the part or the payload at a position stands in the bytes of an image.
+/// Finds the part or the payload at a position in the bytes of an image.
 pub(crate) fn payload_at(
     alloc: Global,
     image: &[u8],
@@ -90,7 +90,7 @@ pub(crate) fn payload_at(
     payload.status
 }
 
-/// Where the payload of the first image of a name stands in the bytes of a FIT image.
+/// Finds the payload of the first image of a name in the bytes of a FIT image.
 pub(crate) fn payload_named(
     alloc: Global,
     image: &[u8],
@@ -113,7 +113,7 @@ pub(crate) fn payload_named(
     payload.status
 }
 
-/// Where the name of the image at a position stands in the bytes of a FIT image.
+/// Finds the name of the image at a position in the bytes of a FIT image.
 pub(crate) fn payload_name(
     alloc: Global,
     image: &[u8],

@@ -5,7 +5,7 @@ ghost use Rattle.std.specs.Prelude.{◌≡◌, ◌^◌, ◌-◌, min};
 use std::alloc::Allocator;
 use uimg_base::Room;
 
-/// The most bytes that a room held, or the greatest number of 64 bits.
+/// Returns the most bytes that a room held, at most the greatest number of 64 bits.
 pub(crate) fn peak_of<A: Allocator>(room: &Room<A>) -> u64
     ensures { result ≡ min room.now.peak (2 ^ 64 - 1) }
 {

@@ -13,7 +13,8 @@ use uimg_base::Room;
 use uimg_engine::run_in_memory;
 use uimg_requests::Command;
 
-/// Carries out a command on the bytes of an image, and copies its text to the front of `text`.
+/// Carries out a command on the bytes of an image, and copies its text to `text`, truncated to its
+/// length.
 pub(crate) fn report_on(
     alloc: Global,
     command: &Command,

@@ -1,4 +1,4 @@
--- What a check tells of an image: its status and its word.
+-- The result of a check: its status and its word.
 use Rattle.std.specs.Prelude.{ℕ, List, codes}
 use Rattle.uimg_fit_base.specs.Report.{word_text}
 use Rattle.uimg_checks.specs.declared.answer.Answer.{Answer}

@@ -1,4 +1,4 @@
--- When an image is whole, and vouched for.
+-- When an image is whole and vouched for.
 use Rattle.std.specs.Prelude.{ℕ, List, Result, Ok, Err, Bool, true, false}
 use Rattle.uimg_sums.specs.declared.algo.Algo.{Algo}
 use Rattle.uimg_sums.specs.declared.algo.Algo.TheVariants as algo
@@ -11,7 +11,7 @@ use Rattle.uimg_engine.specs.declared.fault.Fault.{Fault}
 use Rattle.uimg_engine.specs.Faults.{of_fit}
 use Rattle.uimg_engine.specs.Headline.{is_fit, outcome_of}
 
--- how a check ends by what is said of the hash nodes
+-- the end of a check, by whether the hash nodes vouch for the images
 abbrev pub end_by : Result Bool FitEngineFault → End Fault
 end_by (Ok true) = done
 end_by (Ok false) = not_right
@@ -22,12 +22,12 @@ abbrev pub is_crc32 : Algo → Bool
 is_crc32 algo.Crc32 = true
 is_crc32 _ = false
 
--- what is said of a FIT image's hash nodes, or of a legacy image
+-- whether a FIT image's hash nodes vouch for its images, or CRC-32 for a legacy image
 abbrev pub vouched : Bool → Algo → List ℕ → Result Bool FitEngineFault
 vouched true need file = vouched_in need file
 vouched false need file = Ok (is_crc32 need)
 
--- an end, which is as good as done only where the image is vouched for
+-- an end, which stays `done` only if the image is vouched for
 abbrev pub stricter : Result Bool FitEngineFault → End Fault → End Fault
 stricter says done = end_by says
 stricter says not_right = not_right

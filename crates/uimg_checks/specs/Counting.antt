@@ -6,7 +6,7 @@ use Rattle.uimg_engine.specs.declared.fault.Fault.{Fault}
 use Rattle.uimg_engine.specs.declared.fault.Fault.TheVariants.{Legacy}
 use Rattle.uimg_engine.specs.Faults.{of_fit, is_no_memory}
 
--- a count whose fault is told in another way
+-- a count with its fault named for its format
 abbrev pub count_as : {F : Type 0} → (F → Fault) → Result ℕ F → Result ℕ Fault
 count_as name (Ok count) = Ok count
 count_as name (Err fault) = Err (name fault)
@@ -16,6 +16,6 @@ abbrev pub count_of : Bool → List ℕ → Result ℕ Fault
 count_of true file = count_as of_fit (fit.count_of file)
 count_of false file = count_as Legacy (legacy.count_of file)
 
--- An answer is a count or the fault that refuses the image, unless memory was refused.
+-- The result is a count or the fault that refuses the image, unless memory was refused.
 abbrev pub TellsCount : Result ℕ Fault → Result ℕ Fault → Type 0
 TellsCount counted result = is_no_memory result ≡ false → counted ≡ result

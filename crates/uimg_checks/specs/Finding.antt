@@ -1,4 +1,4 @@
--- What a check finds of an image.
+-- What a check of an image finds.
 use Rattle.std.specs.Prelude.{◌≡◌, ⊤, ℕ, ◌+◌, List, length, Bool, true, false, Option, Some, None, Result, Ok, Err, IsTrue, IfOk}
 use Rattle.uimg_sums.specs.declared.algo.Algo.{Algo}
 use Rattle.uimg_sums.specs.declared.algo.Algo.TheVariants as algo
@@ -20,7 +20,7 @@ use Rattle.uimg_checks.specs.declared.finding.Checked.TheVariants as checked
 use Rattle.uimg_engine.specs.Faults.{of_fit, is_read, is_put, is_no_memory, is_of_making}
 use Rattle.uimg_engine.specs.Headline.{is_fit, Takes}
 
--- the most bytes that the engine of a format asks for
+-- the most bytes that a check of a format requests
 abbrev pub work_in : Bool → List ℕ → ℕ
 work_in true file = fit.check_work file
 work_in false file = legacy.verify_work file
@@ -34,13 +34,13 @@ abbrev pub EndsInside : ℕ → Checked → Type 0
 EndsInside size (checked.Fit finding) = fit.EndsInside size finding
 EndsInside size _ = ⊤
 
--- the checksums of a legacy image are CRC-32
+-- whether CRC-32, the checksum of a legacy image, is strong enough
 abbrev pub stands_by_crc32 : Option Algo → Bool
 stands_by_crc32 None = true
 stands_by_crc32 (Some algo.Crc32) = true
 stands_by_crc32 (Some _) = false
 
--- What is found of an image, that of a FIT image by the names that stand in it.
+-- The finding about an image; that about a FIT image has the names of its nodes.
 pub data Found : Type 0 where
   in_fit : fit.Told → Found
   right : Found
@@ -53,33 +53,33 @@ found_at file checked.Right = right
 found_at file checked.Damaged = damaged
 found_at file checked.Weak = weak
 
--- what is found of a legacy image whose checksums are right
+-- the finding about a legacy image whose checksums are right
 abbrev pub if_strong : Bool → Found
 if_strong true = right
 if_strong false = weak
 
--- what is found of a legacy image by how its report ends, or the fault that refuses it
+-- the finding about a legacy image by the end of its report, or the fault that refuses it
 abbrev pub found_by : Option Algo → End LegacyFault → Result Found Fault
 found_by need done = Ok (if_strong (stands_by_crc32 need))
 found_by need not_right = Ok damaged
 found_by need (refused fault) = Err (Legacy fault)
 
--- what is found of a FIT image, or the fault that refuses it
+-- the finding about a FIT image, or the fault that refuses it
 abbrev pub found_in_fit : Result fit.Told FitEngineFault → Result Found Fault
 found_in_fit (Ok told) = Ok (in_fit told)
 found_in_fit (Err fault) = Err (of_fit fault)
 
--- what a check finds of a file that is read as a FIT image, or as a legacy image
+-- the finding about a file that is read as a FIT image, or as a legacy image
 abbrev pub check_of : Bool → Option Algo → List ℕ → Result Found Fault
 check_of true need file = found_in_fit (fit.check_of need file)
 check_of false need file = found_by need (legacy_report.verify_of file).end
 
--- an answer, with the names that stand at its places
+-- a result with the names at its spans
 abbrev pub told_at : List ℕ → Result Checked Fault → Result Found Fault
 told_at file (Ok finding) = Ok (found_at file finding)
 told_at file (Err fault) = Err fault
 
--- An answer is what the definition finds, unless a read failed or memory was refused.
+-- The result is the finding of the definition, unless a read failed or memory was refused.
 abbrev pub TellsCheckIn : Bool → Option Algo → List ℕ → Result Checked Fault → Type 0
 TellsCheckIn fit need file result = is_read result ≡ false → is_no_memory result ≡ false → check_of fit need file ≡ told_at file result
 

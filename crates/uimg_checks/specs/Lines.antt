@@ -1,4 +1,4 @@
--- The line of an image that was checked: its path, the word of what was found, and what this is about.
+-- The line of a checked image: its path, the word of the finding, and the details.
 use Rattle.std.specs.Prelude.{ℕ, ◌==◌, List, [], ◌++◌, codes, false, if◌then◌else◌, Option, Some, None}
 use Rattle.std.specs.Borrow.{Bor}
 use Rattle.uimg_printing.specs.Counting.{counted}
@@ -7,7 +7,7 @@ use Rattle.uimg_checks.specs.declared.answer.Answer.{Answer}
 use Rattle.uimg_checks.specs.declared.answer.Answer.TheVariants.{Right, Unhashed, Wrong, Weak, Overlapping, Empty, Missing, RightChecksums, BadChecksum, WeakChecksums, Refused, Failed}
 use Rattle.uimg_checks.specs.Answers.{word_of}
 
--- nodes of configurations, where there are some that were counted
+-- the number of unchecked nodes of configurations, if they were counted and there are any
 abbrev pub nodes_text : ℕ → List ℕ
 nodes_text n = codes ", " ++ counted n (codes "node") (codes "nodes") ++ codes " of configurations unchecked"
 
@@ -18,7 +18,7 @@ abbrev pub unchecked_text : Option ℕ → List ℕ
 unchecked_text None = []
 unchecked_text (Some n) = some_unchecked n
 
--- a name behind a space
+-- a name after a space
 abbrev pub named : List ℕ → List ℕ
 named name = codes " " ++ printed false name
 
@@ -26,7 +26,7 @@ abbrev pub named_if : Option (Bor (List ℕ)) → List ℕ
 named_if None = []
 named_if (Some name) = named name.now
 
--- what a line has behind its word
+-- the details after the word
 abbrev pub details_of : Answer → List ℕ
 details_of (Right images hashes unchecked) =
     codes " " ++ counted images (codes "payload") (codes "payloads") ++ codes ", " ++ counted hashes (codes "hash") (codes "hashes")
@@ -47,7 +47,7 @@ details_of (Failed stop) = codes " " ++ stop.message.now
 abbrev pub line_of : List ℕ → Answer → List ℕ
 line_of path answer = printed false path ++ codes ": " ++ word_of answer ++ details_of answer
 
--- the text of a fault or of a property's name, as far as an answer has one
+-- the text of a fault, or a property's name, if there is one
 abbrev pub own_text : Answer → List ℕ
 own_text (Right images hashes unchecked) = []
 own_text (Unhashed image) = []

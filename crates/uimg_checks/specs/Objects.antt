@@ -1,4 +1,4 @@
--- The object of JSON of an image that was checked (docs/JSON.md).
+-- The JSON object of a checked image (docs/JSON.md).
 use Rattle.std.specs.Prelude.{ℕ, List, [], ◌++◌, codes, Option, Some, None}
 use Rattle.std.specs.Borrow.{Bor}
 use Rattle.json.specs.Json.{Json}
@@ -22,12 +22,12 @@ abbrev pub string_if : List ℕ → Option (Bor (List ℕ)) → List Member
 string_if key None = []
 string_if key (Some text) = string_member key text.now
 
--- a name under a key, where there is one
+-- a name under a key, if there is one
 abbrev pub name_if : List ℕ → Option (Bor (List ℕ)) → List Member
 name_if key None = []
 name_if key (Some name) = text_members key name.now
 
--- the format of the image, where it is known
+-- the format of the image, if it is known
 abbrev pub format_of : Answer → Option Format
 format_of (Right images hashes unchecked) = Some Fit
 format_of (Unhashed image) = Some Fit
@@ -42,12 +42,12 @@ format_of WeakChecksums = Some Legacy
 format_of (Refused stop) = stop.format
 format_of (Failed stop) = stop.format
 
--- the line of a fault, with the letter and number that it begins with before it, and with the fault's place behind it
+-- a fault: its code, its line, and its offset
 abbrev pub stop_members : Stop → List Member
 stop_members stop =
     string_if (codes "fault") stop.code ++ (string_member (codes "message") stop.message.now ++ number_if (codes "offset") stop.offset)
 
--- what an object has behind the format
+-- the members after the format
 abbrev pub about : Answer → List Member
 about (Right images hashes unchecked) =
     number_member (codes "images") images ++ (number_member (codes "hashes") hashes ++ number_if (codes "unchecked") unchecked)
@@ -65,7 +65,7 @@ about WeakChecksums = string_member (codes "algo") (codes "crc32")
 about (Refused stop) = stop_members stop
 about (Failed stop) = stop_members stop
 
--- what each object begins with
+-- the first members of each object
 abbrev pub head_members : List ℕ → Answer → List Member
 head_members path answer =
     text_members (codes "path") path ++ (number_member (codes "status") (status_of answer)

@@ -1,4 +1,4 @@
--- Names in a set, and at places of a file.
+-- Names in a set, and at spans of a file.
 use Rattle.std.specs.Prelude.{◌≡◌, ◌||◌, ℕ, List, Bool, not, Result, IfOk, IsTrue, Vec}
 use Rattle.std.specs.List.{list_any}
 use Rattle.std.specs.Str.{bytes_eq}
@@ -14,7 +14,7 @@ use Rattle.uimg_fit_checking.specs.declared.surveying.facts.ConfigurationFacts.{
 abbrev pub has : {Z : Type 0} → BTreeSet (Vec ℕ Z) → List ℕ → Bool
 has names name = list_any (λ known. bytes_eq name known.items) names.keys
 
--- A set has just the names of a list.
+-- A set has exactly the names of a list.
 abbrev pub HasNames : {Z : Type 0} → BTreeSet (Vec ℕ Z) → List (List ℕ) → Type 0
 HasNames names list = (name : List ℕ) → has names name ≡ list_any (bytes_eq name) list
 
@@ -22,12 +22,12 @@ HasNames names list = (name : List ℕ) → has names name ≡ list_any (bytes_e
 abbrev pub AddsName : {Z W : Type 0} → List ℕ → BTreeSet (Vec ℕ Z) → BTreeSet (Vec ℕ W) → Type 0
 AddsName added old new = (name : List ℕ) → has new name ≡ (bytes_eq name added || has old name)
 
--- Of a source that answers its bytes, a set has just the names of a list that these say.
+-- Over an honest source a set has exactly the names of a list, read from its bytes.
 abbrev pub TellsNames : {S Z E : Type 0} → (List ℕ → List (List ℕ)) → Result (BTreeSet (Vec ℕ Z)) E → (S → Device) → Lent S → Type 0
 TellsNames list result device source = IsTrue (device source.entry.now).honest
     → IfOk result (λ names. HasNames names (list (device source.entry.now).bytes))
 
--- whether a name is none of a list
+-- whether a name is not in a list
 abbrev pub is_lost : List (List ℕ) → List ℕ → Bool
 is_lost list name = not (list_any (bytes_eq name) list)
 

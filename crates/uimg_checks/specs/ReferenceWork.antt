@@ -1,4 +1,4 @@
--- The most bytes that are asked for: each name and each value once.
+-- The most bytes requested: each name and each value once.
 use Rattle.std.specs.Prelude.{ℕ, ◌+◌, Option}
 use Rattle.std.specs.List.{sum_by}
 use Rattle.uimg_base.specs.declared.spans.Span.{Span}
@@ -8,7 +8,7 @@ use Rattle.uimg_fit_reading.specs.Heads.{span_size}
 use Rattle.uimg_checks.specs.declared.references.reference.Reference.{Reference}
 use Rattle.uimg_checks.specs.Given.{given_facts}
 
--- of a value that is given
+-- of a value
 abbrev pub given_size : Reference × Option Span → ℕ
 given_size given = span_size given.1
 
@@ -16,7 +16,7 @@ given_size given = span_size given.1
 abbrev pub values_size : ConfigurationFacts → ℕ
 values_size c = sum_by given_size (given_facts c)
 
--- of all
+-- of all names and values
 abbrev pub missing_work : Survey → ℕ
 missing_work survey =
     sum_by (λ c. c.name.length) survey.configurations.items + span_size survey.preferred

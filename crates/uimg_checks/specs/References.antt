@@ -1,4 +1,5 @@
--- Names that a FIT image gives and does not have (Flattened Image Tree format, "'/configurations' node").
+-- Names in a FIT image without an image or a configuration (Flattened Image Tree format,
+-- "'/configurations' node").
 use Rattle.std.specs.Prelude.{◌≡◌, ℕ, List, [], ◌∷◌, map, Option, Some, None, Result, IfOk, IsTrue, Vec}
 use Rattle.std.specs.BTreeSet.{BTreeSet}
 use Rattle.std.specs.List.{find}
@@ -20,36 +21,36 @@ use Rattle.uimg_checks.specs.declared.references.reference.Reference.TheVariants
 use Rattle.uimg_checks.specs.Given.{given_by, read_given}
 use Rattle.uimg_checks.specs.ReferenceNames.{HasNames, is_lost}
 
--- A name that is given: by which configuration, or by the node of all of them, and under which property.
+-- A missing name: the configuration that gives it, none for the default, and the property.
 pub record MissingSaid : Type 0 where
   pub configuration : Option (List ℕ)
   pub reference : Reference
   pub name : List ℕ
 
--- the first text of a value that is none of some names
+-- the first text of a value that is not among these names
 abbrev pub lost_in : List (List ℕ) → Option (List ℕ) → Option (List ℕ)
 lost_in names None = None
 lost_in names (Some value) = find (is_lost names) (pieces value)
 
--- the same, with who gives it
+-- the same with the configuration and the property that give it
 abbrev pub missing_under : List (List ℕ) → Option (List ℕ) → Reference → Option (List ℕ) → Option MissingSaid
 missing_under names giver property value = option_map (λ text. record { configuration = giver; reference = property; name = text }) (lost_in names value)
 
--- the first of two that is there
+-- the first of two, if there is one
 abbrev pub first_of : Option MissingSaid → Option MissingSaid → Option MissingSaid
 first_of (Some found) later = Some found
 first_of None later = later
 
--- the first of the values of some properties
+-- the first in the values of several properties
 abbrev pub missing_among : List (List ℕ) → Option (List ℕ) → List (Reference × Option (List ℕ)) → Option MissingSaid
 missing_among names giver [] = None
 missing_among names giver (given ∷ more) = first_of (missing_under names giver given.0 given.1) (missing_among names giver more)
 
--- the first name of a configuration that no image has
+-- the first name in a configuration that no image has
 abbrev pub missing_of : List (List ℕ) → ConfigurationSaid → Option MissingSaid
 missing_of images c = missing_among images (Some c.name) (given_by c)
 
--- of some configurations
+-- the first in several configurations
 abbrev pub first_missing : List (List ℕ) → List ConfigurationSaid → Option MissingSaid
 first_missing images [] = None
 first_missing images (c ∷ cs) = first_of (missing_of images c) (first_missing images cs)
@@ -60,15 +61,16 @@ missing_in said =
     first_of (missing_under (map (λ c. c.name) said.configurations) None Default said.preferred)
     (first_missing (map (λ i. i.name) said.images) said.configurations)
 
--- what is told of one, in a file
+-- a missing name, read in a file
 abbrev pub read_missing : List ℕ → Missing → MissingSaid
 read_missing file missing = record { configuration = bytes_in file missing.configuration; reference = missing.reference; name = missing.name.items }
 
--- An answer tells what is missing, in a file.
+-- The result is what is missing in a file.
 abbrev pub TellsMissing : List ℕ → Option MissingSaid → Result (Option Missing) SurveyFault → Type 0
 TellsMissing file said result = IfOk result (λ found. option_map (read_missing file) found ≡ said)
 
--- What is missing by the places of values in a file: of a property, of some, of a configuration, and of some.
+-- What is missing by the spans of values in a file: for a property, for several, for a
+-- configuration, and for several.
 abbrev pub under_property : Option Span → Reference → Option Span → List (List ℕ) → List ℕ → Option MissingSaid
 under_property giver property value names file = missing_under names (bytes_in file giver) property (bytes_in file value)
 
@@ -81,8 +83,9 @@ of_configuration configuration images file = missing_of images (read_configurati
 abbrev pub of_configurations : List ConfigurationFacts → List (List ℕ) → List ℕ → Option MissingSaid
 of_configurations configurations images file = first_missing images (map (read_configuration file) configurations)
 
--- At most so many bytes were asked for, a failed read was counted exactly where one is answered, and of other faults only want of
--- memory is; of a source that answers its bytes, and a set that has just the names of a list, what is missing is told.
+-- At most `most` bytes were requested, and a failed read was counted exactly if it is returned;
+-- other faults are refused memory alone. Over an honest source, and with a set of exactly the names
+-- of a list, the result is what is missing.
 pub record FindsBetween {Z : Type 0} (most : ℕ) (said : List (List ℕ) → List ℕ → Option MissingSaid) (names : BTreeSet (Vec ℕ Z)) (result : Result (Option Missing) SurveyFault) (d e : Device) : Type 0 where
   pub uses : Asks most (is_unread result) d e
   pub own : IsOwn result
@@ -91,7 +94,7 @@ pub record FindsBetween {Z : Type 0} (most : ℕ) (said : List (List ℕ) → Li
 abbrev pub Finds : {S Z : Type 0} → ℕ → (List (List ℕ) → List ℕ → Option MissingSaid) → BTreeSet (Vec ℕ Z) → Result (Option Missing) SurveyFault → (S → Device) → Lent S → Type 0
 Finds most said names result device source = FindsBetween most said names result (device source.entry.now) (device source.exit.now)
 
--- Of a source that answers its bytes, what is missing of a survey is told.
+-- Over an honest source the result is what is missing in a survey.
 abbrev pub TellsFirst : {S : Type 0} → Survey → Result (Option Missing) SurveyFault → (S → Device) → Lent S → Type 0
 TellsFirst survey result device source = IsTrue (device source.entry.now).honest
     → TellsMissing (device source.entry.now).bytes (missing_in (read_survey (device source.entry.now).bytes survey)) result

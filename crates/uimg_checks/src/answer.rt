@@ -1,4 +1,4 @@
-//! What is told of an image that was checked.
+//! The result of a check.
 
 ghost use Rattle.std.specs.Prelude.{◌≡◌};
 ghost use Rattle.uimg_checks.specs.Answers.{status_of, word_of};
@@ -21,32 +21,32 @@ pub struct Stop<'a> {
     pub message: &'a str,
     /// The letter and number that it begins with, if it does.
     pub code: Option<&'a str>,
-    /// The format of the image, where it is known.
+    /// The format of the image, if it is known.
     pub format: Option<Format>,
-    /// The place of the fault, counted from the file's beginning, if it has one.
+    /// The offset of the fault in the file, if it has one.
     pub offset: Option<u64>,
 }
 
-/// What is told of an image. Names are those of nodes, without their NULs.
+/// The result of a check. Names are those of nodes, without their NULs.
 #[derive(Clone, Copy, Debug, PartialEq, Eq)]
 pub enum Answer<'a> {
-    /// Each hash of a FIT's images is right, and each image has one. A strict check counts the nodes of the
-    /// configurations, which are not checked.
+    /// Each hash of a FIT image's images is right, and each image has one. A strict check counts
+    /// the nodes of the configurations, which are not checked.
     Right {
-        /// How many images there are.
+        /// The number of images.
         images: u64,
-        /// How many hash nodes these have.
+        /// The number of their hash nodes.
         hashes: u64,
-        /// How many nodes the configurations have, where they were counted.
+        /// The number of nodes of the configurations, if they were counted.
         unchecked: Option<u64>,
     },
 
-    /// The hashes are right, and this image of a FIT has none.
+    /// The hashes are right, and this image of a FIT image has none.
     Unhashed(&'a [u8]),
 
-    /// A hash node of an image of a FIT is not right.
+    /// A hash node of a FIT image is not right.
     Wrong {
-        /// What it is.
+        /// The word that a report prints for it.
         word: Verdict,
         /// The name of the image.
         image: &'a [u8],
@@ -54,18 +54,18 @@ pub enum Answer<'a> {
         hash: &'a [u8],
     },
 
-    /// This image of a FIT has no hash that is strong enough.
+    /// This image of a FIT image has no hash that is strong enough.
     Weak(&'a [u8]),
 
-    /// With the payload of this image there are more bytes than the file has.
+    /// With the payload of this image, those to compare have more bytes than the file.
     Overlapping(&'a [u8]),
 
-    /// There is no image in a FIT, and a strength is needed.
+    /// A FIT image has no image, but a strength is needed.
     Empty,
 
-    /// A name is given that is not there.
+    /// A name has no image or configuration.
     Missing {
-        /// The name of the configuration that gives it. There is none of the default.
+        /// The name of the configuration that gives it, none for the default.
         configuration: Option<&'a [u8]>,
         /// The property that gives it.
         property: &'static str,
@@ -76,7 +76,7 @@ pub enum Answer<'a> {
     /// Both checksums of a legacy image are right.
     RightChecksums,
 
-    /// The checksum of a legacy image's data is not right.
+    /// The checksum of the header or of the data of a legacy image is not right.
     BadChecksum,
 
     /// The checksums of a legacy image are not strong enough.
@@ -85,12 +85,12 @@ pub enum Answer<'a> {
     /// The image is refused.
     Refused(Stop<'a>),
 
-    /// A read failed, memory was refused, or the file cannot be opened.
+    /// A read failed, memory was refused, or the file could not be opened.
     Failed(Stop<'a>),
 }
 
 impl<'a> Answer<'a> {
-    /// The exit status: 0 where the image is right, 3 where a check failed, and else 1.
+    /// Returns the exit status: 0 if the image is right, 3 if a check failed, else 1.
     pub fn status(&self) -> u8
         ensures { result ≡ status_of self.now }
     {
@@ -101,7 +101,7 @@ impl<'a> Answer<'a> {
         }
     }
 
-    /// The word that says what was found.
+    /// Returns the word of the finding.
     pub fn word(&self) -> &'static str
         ensures { result.now ≡ word_of self.now }
     {

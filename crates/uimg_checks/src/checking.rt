@@ -1,4 +1,4 @@
-//! Whether an image in memory is whole, and vouched for by checksums of a certain strength.
+//! Whether an image in memory is whole, and vouched for by checksums of a needed strength.
 
 ghost use Rattle.std.specs.Prelude.{◌≡◌, false, Some, Ok};
 ghost use Rattle.uimg_requests.specs.declared.command.Format.TheVariants as format;
@@ -21,7 +21,7 @@ fn is_crc32(need: Algo) -> bool
     }
 }
 
-// The status by what is said of the hash nodes.
+// Returns the status, by whether the hash nodes vouch for the images.
 fn status_of(is_vouched: bool) -> Status
     ensures { end_of (Ok result) ≡ Some (end_by (Ok is_vouched)) }
 {
@@ -32,7 +32,7 @@ fn status_of(is_vouched: bool) -> Status
     }
 }
 
-// How a check ends by the hash nodes of a FIT image, or by what a legacy image has.
+// Returns whether a FIT image's hash nodes, or a legacy image's CRC-32, are strong enough.
 fn vouch<A: Allocator>(need: Algo, image: &[u8], room: &mut Room<A>) -> Result<Status, Fault>
     ensures end { is_no_memory result ≡ false → end_of result
         ≡ Some (end_by (vouched (is_fit format.Guess image.now) need image.now)) }
@@ -46,14 +46,14 @@ fn vouch<A: Allocator>(need: Algo, image: &[u8], room: &mut Room<A>) -> Result<S
     Ok(status_of(is_crc32(need)))
 }
 
-/// Whether an image in memory is whole and vouched for: its verification ends well, and each image of a
-/// FIT, of which there is one at least, has a hash node that is compared by an algorithm at least as
-/// strong as one, in the order CRC-32, MD5, SHA-1, SHA-256, SHA-384, SHA-512. A legacy image has CRC-32
-/// alone. `NotRight` where it is not, and the faults are those of a verification.
+/// Returns whether an image in memory is whole and vouched for: its verification ends well, and a
+/// FIT image has images, each with a hash node that is compared by an algorithm at least as strong
+/// as `need`, in the order CRC-32, MD5, SHA-1, SHA-256, SHA-384, SHA-512. A legacy image has CRC-32
+/// alone. Returns `NotRight` if not, or the fault of the verification.
 ///
-/// `Fault::Put` comes only where the memory for the report was refused, and `OutOfMemory` of the blob
-/// only where that for the table of a FIT image's nodes was. `Fault::Read` never comes, nor do the faults
-/// that only `make` answers. The room takes at most 128 bytes for each node of a FIT image.
+/// Returns `Fault::Put` only if memory for the report was refused, `OutOfMemory` of the blob only
+/// if memory for the table of a FIT image's nodes was, and never `Fault::Read` or a fault of
+/// making. The room takes at most 128 bytes for each node of a FIT image.
 pub fn check_in_memory<A: Allocator, B: Allocator>(
     alloc: B,
     need: Algo,

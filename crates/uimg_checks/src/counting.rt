@@ -1,4 +1,4 @@
-//! How many payloads an image in memory has, by the engine of its format.
+//! How many payloads an image in memory has.
 
 ghost use Rattle.std.specs.Prelude.{◌≡◌, false};
 ghost use Rattle.uimg_requests.specs.declared.command.Format.TheVariants as format;

@@ -1,4 +1,4 @@
-//! What a check finds of an image, over any source.
+//! What a check of an image finds, over any source.
 
 ghost use Rattle.std.specs.Prelude.{◌≡◌, true, false, length, IfOk};
 ghost use Rattle.uimg_requests.specs.declared.command.Format.TheVariants as format;
@@ -14,20 +14,20 @@ use uimg_requests::Format;
 /// What is found of an image.
 #[derive(Clone, Copy, Debug, PartialEq, Eq)]
 pub enum Checked {
-    /// This is found of a FIT image.
+    /// The finding about a FIT image.
     Fit(Finding),
 
-    /// The two checksums of a legacy image are right, and as strong as is needed.
+    /// Both checksums of a legacy image are right and strong enough.
     Right,
 
     /// A checksum of a legacy image is not right.
     Damaged,
 
-    /// The checksums of a legacy image are right, and a stronger algorithm than CRC-32 is needed.
+    /// The checksums of a legacy image are right, but a stronger algorithm than CRC-32 is needed.
     Weak,
 }
 
-// Whether a legacy image, which has CRC-32 alone, is strong enough.
+// Returns whether CRC-32, the checksum of a legacy image, is strong enough.
 fn stands_by_crc32(need: Option<Algo>) -> bool
     ensures { result ≡ stands_by_crc32 need }
 {
@@ -37,7 +37,7 @@ fn stands_by_crc32(need: Option<Algo>) -> bool
     }
 }
 
-// What is found of a legacy image.
+// Checks a legacy image.
 fn check_legacy<S: Source, A: Allocator>(
     need: Option<Algo>,
     source: &mut S,
@@ -56,7 +56,7 @@ fn check_legacy<S: Source, A: Allocator>(
     }
 }
 
-// What is found of a FIT image.
+// Checks a FIT image.
 fn check_fit<S: Source, A: Allocator>(
     need: Option<Algo>,
     source: &mut S,
@@ -68,17 +68,16 @@ fn check_fit<S: Source, A: Allocator>(
     Ok(Checked::Fit(finding))
 }
 
-/// Checks the checksums and hashes of an image, up to the first finding. The first four bytes tell its
-/// format. Where an algorithm is needed, each image of a FIT, of which there is one at least, needs a hash
-/// node that is compared by it or a stronger one, in the order CRC-32, MD5, SHA-1, SHA-256, SHA-384,
-/// SHA-512.
+/// Checks the checksums and hashes of an image, up to the first finding. The first four bytes
+/// decide its format. If an algorithm is needed, a FIT image has to have images, each with a hash
+/// node that is compared by it or a stronger one, in the order CRC-32, MD5, SHA-1, SHA-256,
+/// SHA-384, SHA-512.
 ///
 /// Over an honest source the finding, or the fault that refuses the image, is exactly that of the
-/// definition, and no more bytes of a FIT image's payloads are asked for than the file has, however
-/// they lie. A name that is returned ends inside the source, whatever that answers. `Fault::Read` comes
-/// exactly where a read failed, `OutOfMemory` of the blob exactly where the room refused to grow, which
-/// a legacy image never asks of it. `Fault::Put` never comes, nor do the faults that only `make`
-/// answers.
+/// definition, and of a FIT image's payloads no more bytes are requested than the file has, even if
+/// they overlap. A returned name ends inside the source, whatever that returns. Returns
+/// `Fault::Read` exactly if a read failed, `OutOfMemory` of the blob exactly if the room refused to
+/// grow, which a legacy image never requests, and never `Fault::Put` or a fault of making.
 pub fn check<S: Source, A: Allocator>(
     need: Option<Algo>,
     source: &mut S,

@@ -1,5 +1,5 @@
-//! Images of both formats are checked: what is found of one, over any source and in memory, and what is told
-//! of it, as a status, a word, a line of text, and an object of JSON. The payloads of one in memory are counted.
+//! Checks images of both formats, over any source and in memory. The result is a status, a word, a
+//! line of text, or a JSON object. Counts the payloads of an image in memory.
 #![tactic(auto)]
 
 mod answer;

@@ -1,4 +1,4 @@
-//! The line of an image that was checked.
+//! The line of a checked image.
 
 ghost use Rattle.std.specs.Prelude.{◌≡◌, ◌++◌, Some, codes, true, IfOk};
 ghost use Rattle.std.specs.String.{string_bytes};
@@ -12,14 +12,14 @@ use std::fmt;
 use std::fmt::{Display, Formatter, Write};
 use uimg_printing::{Counted, Printed};
 
-/// The line of the image at a path, without its end. It begins with the path and the word of what was
-/// found. Names and the path stand in it as `Printed` has them, so that none makes a line of its own.
+/// The line of the image at a path, without its end. It begins with the path and the word of the
+/// finding. Names and the path are printed as by `Printed`, so none adds a line.
 #[derive(Clone, Copy, Debug)]
 pub struct Line<'a> {
     /// The path.
     pub path: &'a [u8],
 
-    /// What is told of the image.
+    /// The result of the check.
     pub answer: Answer<'a>,
 }
 
@@ -32,7 +32,7 @@ impl<'a> Display for Line<'a> {
     }
 }
 
-// Writes what stands behind the word.
+// Writes the details after the word.
 fn put_details<W: Write>(answer: &Answer<'_>, f: &mut Formatter<W>) -> fmt::Result
     ensures { WritesOnOk W.Write.write_str_gives f.old result (details_of answer.now) f.new }
 {
@@ -89,7 +89,7 @@ fn put_counts<W: Write>(
     }
 }
 
-// Writes how many nodes of configurations there are.
+// Writes the number of unchecked nodes of configurations.
 fn put_nodes<W: Write>(count: u64, f: &mut Formatter<W>) -> fmt::Result
     ensures { WritesOnOk W.Write.write_str_gives f.old result (nodes_text count) f.new }
 {
@@ -101,7 +101,7 @@ fn put_nodes<W: Write>(count: u64, f: &mut Formatter<W>) -> fmt::Result
     write!(f, ", {nodes} of configurations unchecked")
 }
 
-// The same, if there are some.
+// Does the same, if there are any.
 #[tactic(auto, unfolding(crate::specs::Lines::some_unchecked))]
 fn put_unchecked<W: Write>(count: u64, f: &mut Formatter<W>) -> fmt::Result
     ensures { WritesOnOk W.Write.write_str_gives f.old result (some_unchecked count) f.new }
@@ -112,14 +112,14 @@ fn put_unchecked<W: Write>(count: u64, f: &mut Formatter<W>) -> fmt::Result
     put_nodes(count, f)
 }
 
-// Writes a name behind a space.
+// Writes a name after a space.
 fn put_named<W: Write>(name: &[u8], f: &mut Formatter<W>) -> fmt::Result
     ensures { WritesOnOk W.Write.write_str_gives f.old result (named name.now) f.new }
 {
     write!(f, " {}", Printed(name))
 }
 
-// Writes a name that is missing, and who gives it.
+// Writes a missing name, and what gives it.
 fn put_missing<W: Write>(
     configuration: Option<&[u8]>,
     property: &str,
@@ -136,9 +136,9 @@ fn put_missing<W: Write>(
     put_named(name, f)
 }
 
-/// The text of the line of the image at a path, without its end. No byte of it is a control character of
-/// ASCII, whatever the path and the names are, if none of the answer's own text is: so it is one line.
-/// Memory for it may be refused.
+/// Returns the text of the line of the image at a path, without its end. It has no ASCII control
+/// character, whatever the path and the names are, unless the text of a fault has one: so it is one
+/// line. Fails if memory for it is refused.
 pub fn line_text(alloc: Global, path: &[u8], answer: &Answer<'_>) -> Result<String, AllocError>
     ensures text { IfOk result (λ text. string_bytes text ≡ line_of path.now answer.now) }
     ensures shown { is_shown (own_text answer.now) ≡ true →

@@ -1,4 +1,4 @@
-//! The object of an image that was checked.
+//! The JSON object of a checked image.
 
 ghost use Rattle.std.specs.Prelude.{◌≡◌, ◌++◌, codes, true, Some, IfOk};
 ghost use Rattle.std.specs.Str.{IsUtf8};
@@ -16,7 +16,7 @@ use std::alloc::{AllocError, Global};
 use uimg_printing::{put_number, put_number_if, put_string, put_text};
 
 impl Format {
-    // Its name.
+    // Returns its name.
     fn name(self) -> &'static str
         ensures { result.now ≡ name_of self }
     {
@@ -27,7 +27,7 @@ impl Format {
     }
 }
 
-// The format of an image, where it is known.
+// Returns the format of an image, if it is known.
 fn format_of(answer: &Answer<'_>) -> Option<Format>
     ensures { result ≡ format_of answer.now }
 {
@@ -40,7 +40,7 @@ fn format_of(answer: &Answer<'_>) -> Option<Format>
     }
 }
 
-// Writes the format, where it is known.
+// Writes the format, if it is known.
 fn put_format(writer: &mut Writer, format: Option<Format>) -> Result<(), AllocError>
     ensures { Appends result writer.old writer.new (tokens_of (format_if format)) }
 {
@@ -101,7 +101,7 @@ fn put_counts(
     Ok(())
 }
 
-// Writes a name that is missing, and who gives it.
+// Writes a missing name, and what gives it.
 fn put_missing(
     alloc: Global,
     writer: &mut Writer,
@@ -134,7 +134,7 @@ fn put_wrong(
     Ok(())
 }
 
-// Writes what an answer is about.
+// Writes the members after the format.
 fn put_about(alloc: Global, writer: &mut Writer, answer: &Answer<'_>) -> Result<(), AllocError>
     ensures { Appends result writer.old writer.new (tokens_of (about answer.now)) }
 {
@@ -160,7 +160,7 @@ fn put_about(alloc: Global, writer: &mut Writer, answer: &Answer<'_>) -> Result<
     }
 }
 
-// Writes what each object begins with.
+// Writes the first members of each object.
 fn put_head(
     alloc: Global,
     writer: &mut Writer,
@@ -192,9 +192,9 @@ fn put_object(
     Ok(())
 }
 
-/// The text of the object of the image at a path, without the end of a line. Read as JSON it is just
-/// this object; it is UTF-8 and one line, whatever the path and the names are. Memory for it may be
-/// refused.
+/// Returns the text of the object of the image at a path, without the end of a line. It is UTF-8
+/// and one line, whatever the path and the names are, and reads as this object. Fails if memory for
+/// it is refused.
 pub fn object_text(alloc: Global, path: &[u8], answer: &Answer<'_>) -> Result<Vec<u8>, AllocError>
     ensures text { IfOk result (λ text. text.items ≡ print (json_tokens (check_json path.now answer.now))) }
     ensures reads_back { IfOk result (λ text.

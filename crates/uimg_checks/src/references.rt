@@ -1,4 +1,4 @@
-//! Names of images and of configurations that a FIT image gives and does not have. `find_missing` is the one call.
+//! Finds names in a FIT image without an image or a configuration: `find_missing`.
 
 mod missing;
 mod names;

@@ -1,4 +1,4 @@
-//! The image source that mkimage makes itself, by -f auto.
+//! The image source that mkimage makes itself for -f auto.
 
 ghost use Rattle.std.specs.Prelude.{◌<◌, IfSome};
 ghost use Rattle.uimg_compat.specs.Getopt.{left};
@@ -11,17 +11,17 @@ use std::fmt::{Display, Formatter, Write};
 use uimg_legacy::Options;
 use uimg_names::{Field, Naming};
 
-/// The most bytes of a device tree's description.
+/// The longest description of a device tree, in bytes.
 const LONGEST: usize = 99;
 
-/// The image source that mkimage 2023.01 makes of a file, of device trees and of a RAM disk. What it
-/// is displayed as is its text.
+/// The image source that mkimage 2023.01 makes for a file, device trees and a RAM disk. Displayed,
+/// it is the text of the source.
 #[derive(Clone, Copy, Debug)]
 pub struct AutoSource<'a> {
-    /// What the image of the file is: its type, and where it is loaded.
+    /// The type of the file's image, and its load address.
     pub(crate) options: Options,
 
-    /// What is said of it.
+    /// The image's description.
     pub(crate) name: &'a str,
 
     /// The path of the file.
@@ -30,7 +30,7 @@ pub struct AutoSource<'a> {
     /// The path of the RAM disk.
     pub ramdisk: Option<&'a str>,
 
-    /// The words behind mkimage's name. Those of -b are the paths of the device trees.
+    /// The words after mkimage's name. Those of -b are the paths of the device trees.
     pub(crate) words: &'a [&'a str],
 }
 
@@ -41,14 +41,14 @@ pub struct TreePaths<'a> {
 }
 
 impl<'a> AutoSource<'a> {
-    /// The paths of the device trees.
+    /// Returns the paths of the device trees.
     pub fn trees(&self) -> TreePaths<'a> {
         TreePaths {
             words: Words::new(self.words),
         }
     }
 
-    // What the image of the file is called, by the short name of its type.
+    // Returns the name of the file's image, by the short name of its type.
     fn kind(&self) -> &'static str {
         short_name(Field::Kind, self.options.kind)
     }
@@ -113,7 +113,7 @@ impl<'a> AutoSource<'a> {
         )
     }
 
-    // The RAM disk, as each configuration names it.
+    // Writes the name of the RAM disk, as each configuration has it.
     fn put_ramdisk_name<W: Write>(&self, f: &mut Formatter<W>) -> fmt::Result {
         match self.ramdisk {
             Some(_) => f.write_str("ramdisk = \"ramdisk-1\"; "),
@@ -121,7 +121,7 @@ impl<'a> AutoSource<'a> {
         }
     }
 
-    // A configuration for each device tree, or one without.
+    // Writes a configuration for each device tree, or one without.
     fn put_configurations<W: Write>(&self, f: &mut Formatter<W>) -> fmt::Result {
         let mut trees = self.trees();
         let mut number = 0u32;
@@ -189,7 +189,7 @@ impl<'a> TreePaths<'a> {
     }
 }
 
-// The first short name of a code.
+// Returns the first short name of a code.
 fn short_name(field: Field, code: u8) -> &'static str {
     for (short, known, _) in field.rows() {
         if code == *known {
@@ -199,7 +199,7 @@ fn short_name(field: Field, code: u8) -> &'static str {
     "unknown"
 }
 
-// The name of the file at a path, without what stands behind its last dot.
+// Returns the name of the file at a path, without its last dot and what follows it.
 fn base_name(path: &str) -> &[u8] {
     let name = match path.rsplit_once('/') {
         Some((_, name)) => name,

@@ -1,16 +1,16 @@
-//! Numbers as strtoull and strtol of the C library read them.
+//! Reads numbers as strtoull and strtol of the C library do.
 
 ghost use Rattle.std.specs.Prelude.{◌≡◌, ◌≤◌, ◌^◌, ◌%◌};
 
-/// The most seconds after 1970 that gmtime has a year for, the last of 2147485547.
+/// The most seconds after 1970 that gmtime has a year for, the end of year 2147485547.
 const MOST_AFTER: u64 = 67_768_036_191_676_799;
 
 /// The most seconds before 1970 that gmtime has a year for.
 const MOST_BEFORE: u64 = 67_768_040_609_740_800;
 
-/// The number of a text as strtoull reads it in a base, where that reads it to its end: blanks, a sign,
-/// for base 16 `0x` or `0X`, and digits, and 0 for an empty text. A number of more than 64 bits is
-/// 2^64 - 1, and a minus gives what is missing to 2^64. `None` where something is left.
+/// Reads a text to its end as strtoull does in a base: blanks, a sign, for base 16 `0x` or `0X`,
+/// and digits; an empty text is 0. A number of more than 64 bits is 2^64 - 1, and a negative one
+/// counts from 2^64 down. Returns `None` if anything is left.
 pub fn unsigned_long(text: &str, base: u32) -> Option<u64>
     requires least { 2 ≤ base }
     requires most { base ≤ 36 }
@@ -30,9 +30,9 @@ pub fn unsigned_long(text: &str, base: u32) -> Option<u64>
     }
 }
 
-/// The low 32 bits of the number that a text begins with, as strtol reads it in base 10: blanks, a sign
-/// and digits, and 0 where there is no digit. `None` for seconds since 1970 that are in no year of gmtime,
-/// which has years of 32 bits.
+/// Reads the beginning of a text as strtol does in base 10: blanks, a sign and digits; without a
+/// digit it is 0. Returns the low 32 bits, or `None` for seconds since 1970 in no year of gmtime,
+/// whose years have 32 bits.
 pub fn long_prefix(text: &str) -> Option<u32> {
     let signed = text.trim_start_matches(is_blank);
     let unsigned = without_sign(signed);
@@ -58,14 +58,14 @@ pub fn long_prefix(text: &str) -> Option<u32> {
     })
 }
 
-/// The low 32 bits of a number.
+/// Returns the low 32 bits of a number.
 pub fn low_half(number: u64) -> u32
     ensures { result ≡ number % 2 ^ 32 }
 {
     (number % 4294967296) as u32
 }
 
-// A text without the sign that it begins with.
+// Returns a text without its sign.
 fn without_sign(text: &str) -> &str {
     match text.strip_prefix('-') {
         Some(rest) => rest,
@@ -73,7 +73,7 @@ fn without_sign(text: &str) -> &str {
     }
 }
 
-// A text without the mark of base 16, where something follows it.
+// Returns a text without the mark of base 16, if something follows the mark.
 fn without_mark(text: &str, base: u32) -> &str {
     if base != 16 {
         return text;
@@ -85,7 +85,7 @@ fn without_mark(text: &str, base: u32) -> &str {
     if rest.is_empty() { text } else { rest }
 }
 
-// What isspace of the C library takes for a blank.
+// Returns whether isspace of the C library takes a letter for a blank.
 fn is_blank(letter: char) -> bool {
     letter == ' ' || ('\t' <= letter && letter <= '\r')
 }

@@ -1,7 +1,7 @@
-//! The words for dtc that change nothing of an image.
+//! The words for dtc that change nothing in an image.
 
-/// Whether words for dtc, with blanks between them, change nothing: `-I dts`, `-O dtb`, `-q`, and `-p`
-/// with a number, for padding that mkimage takes away again.
+/// Returns whether words for dtc, separated by blanks, change nothing: `-I dts`, `-O dtb`, `-q`,
+/// and `-p` with a number, for padding that mkimage removes again.
 pub(crate) fn change_nothing(words: &str) -> bool {
     let mut waiting = None;
     for word in words.split(' ') {
@@ -22,7 +22,8 @@ pub(crate) fn change_nothing(words: &str) -> bool {
     waiting.is_none()
 }
 
-// Whether a word changes nothing alone: none, `-q`, and an option with its value joined to it.
+// Returns whether a word changes nothing by itself: the empty word, `-q`, or an option with a
+// joined value.
 fn is_whole(word: &str) -> bool {
     match word.strip_prefix("-p") {
         Some(value) => is_number(value),
@@ -30,7 +31,7 @@ fn is_whole(word: &str) -> bool {
     }
 }
 
-// Whether a word is a decimal or, behind `0x`, a hexadecimal number.
+// Returns whether a word is a decimal number or, after `0x`, a hexadecimal one.
 fn is_number(word: &str) -> bool {
     match word.strip_prefix("0x") {
         Some(digits) => u32::from_str_radix(digits, 16).is_ok(),
@@ -38,7 +39,7 @@ fn is_number(word: &str) -> bool {
     }
 }
 
-// The letter of an option whose value is the next word.
+// Returns the letter of an option whose value is the next word.
 fn letter_with_value(word: &str) -> Option<char> {
     match word {
         "-I" => Some('I'),

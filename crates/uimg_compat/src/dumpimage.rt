@@ -10,7 +10,7 @@ use std::alloc::Global;
 use uimg_names::{Field, Naming};
 use uimg_requests::{Action, Command, RunRequest};
 
-/// The options, by their letters. There are no long names.
+/// The options by their letters; they have no long names.
 const DUMPIMAGE_OPTIONS: [OptionRow; 6] = [
     ('h', "", false),
     ('l', "", false),
@@ -20,7 +20,7 @@ const DUMPIMAGE_OPTIONS: [OptionRow; 6] = [
     ('V', "", false),
 ];
 
-/// What the options of a command line say so far. Each may be given again, and the last counts.
+/// The options of a command line so far. Of a repeated one the last counts.
 #[derive(Clone, Copy, Debug)]
 struct Settings<'a> {
     kind: Option<u8>,
@@ -31,7 +31,7 @@ struct Settings<'a> {
     is_list: bool,
 }
 
-/// Reads the words behind dumpimage's name.
+/// Reads the words after dumpimage's name.
 pub fn read_dumpimage<'a>(
     alloc: Global,
     words: &'a [&'a str],
@@ -54,7 +54,7 @@ pub fn read_dumpimage<'a>(
 }
 
 impl<'a> Settings<'a> {
-    // Takes what a command line gives next, or tells the text that it asks for.
+    // Takes the next option or operand, or returns the requested text.
     fn take(&mut self, alloc: Global, given: Given<'a>) -> Result<Option<Show>, OldFault<'a>> {
         match given {
             Given::Operand(word) if self.image.is_none() => self.image = Some(word),
@@ -77,7 +77,7 @@ impl<'a> Settings<'a> {
         Ok(None)
     }
 
-    // What is asked for, once all words are taken.
+    // Returns the request, once all words are read.
     fn request(self) -> Result<OldRequest<'a>, OldFault<'a>> {
         let Some(image) = self.image else {
             return Err(OldFault::NoImage);
@@ -101,7 +101,7 @@ impl<'a> Settings<'a> {
     }
 }
 
-// The low 32 bits of a decimal number.
+// Reads the low 32 bits of a decimal number.
 fn position(word: &str) -> Result<u32, OldFault<'_>> {
     match unsigned_long(word, 10) {
         Some(number) => Ok(low_half(number)),

@@ -1,17 +1,18 @@
-//! Why the words of a command line ask for nothing.
+//! Why the words of a command line request nothing.
 
 use crate::getopt::Misuse;
 use std::alloc::AllocError;
 use thiserror::Error;
 
-/// Why the words of a command line ask for nothing. Its text is the line behind the name of the tool.
+/// Why the words of a command line request nothing. Its text is the line after the name of the
+/// tool.
 #[derive(Clone, Copy, Debug, Error)]
 pub enum OldFault<'a> {
-    /// The words are not options and operands as getopt has them.
+    /// The words are not options and operands as getopt reads them.
     #[error("{0}")]
     Misused(Misuse<'a>),
 
-    /// The word of -A, -O, -T or -C is no name of its field.
+    /// The word of -A, -O, -T or -C is not a name of its field.
     #[error("-{letter}: unknown {title} '{word}'; see mkimage -{letter} list")]
     UnknownName {
         letter: char,
@@ -19,7 +20,7 @@ pub enum OldFault<'a> {
         word: &'a str,
     },
 
-    /// The word of -A, -O, -T or -C is no name of its field, and near to one.
+    /// The word of -A, -O, -T or -C is not a name of its field, but near to one.
     #[error("-{letter}: unknown {title} '{word}', which is near to '{nearest}'; see mkimage -{letter} list")]
     NearName {
         letter: char,
@@ -28,7 +29,7 @@ pub enum OldFault<'a> {
         nearest: &'static str,
     },
 
-    /// The word of an option is no number.
+    /// The word of an option is not a number.
     #[error("-{letter}: '{word}' is no {title} number")]
     NoNumber {
         letter: char,
@@ -36,7 +37,7 @@ pub enum OldFault<'a> {
         word: &'a str,
     },
 
-    /// Payloads behind the tree are to stand where those that read the image look for none.
+    /// Readers of the image look only at multiples of 4 for payloads after the tree.
     #[error("-B: '{0}' is no multiple of 4, where readers look for payloads")]
     UnevenAlignment(&'a str),
 
@@ -48,39 +49,39 @@ pub enum OldFault<'a> {
     #[error("no image is named")]
     NoImage,
 
-    /// dumpimage is asked neither for a listing nor for an outfile.
+    /// dumpimage was given neither -l nor -o.
     #[error("neither -l nor -o is given")]
     NoOutfile,
 
-    /// mkimage is asked neither for a listing nor for an image of data or of a source.
+    /// mkimage was given none of -l, -d and -f.
     #[error("none of -l, -d and -f is given")]
     NothingToMake,
 
-    /// There are data and a source.
+    /// Both data and a source are named.
     #[error("-d is given with -f")]
     DataWithSource,
 
-    /// An image is to be listed and made.
+    /// -l was given with a source.
     #[error("-l is given with -f")]
     ListWithSource,
 
-    /// All the names that an image could be written by are taken.
+    /// Files exist at all names under which the image could be written.
     #[error("cannot write {0}: a file is at each of {0}.uimg-new1 to {0}.uimg-new100")]
     NamesTaken(&'a str),
 
-    /// An image is to be made as a pipe, from which it could not be read back.
+    /// An image would be written to a pipe, from which it could not be read back.
     #[error("cannot write {0}: an image is not made as a pipe")]
     MadeAsPipe(&'a str),
 
-    /// A source is to be made of no data.
+    /// -f auto was given without data.
     #[error("-f auto: no data is named; see -d")]
     NoData,
 
-    /// flat_dt is asked for without a source.
+    /// The type flat_dt was given without a source.
     #[error("-T flat_dt: a FIT image is made by -f")]
     NoSource,
 
-    /// Images of this type are neither legacy ones nor FITs.
+    /// Images of this type are neither legacy nor FIT images.
     #[error("-T {0}: uimg has no such images; see mkimage of u-boot-tools")]
     OtherImages(&'a str),
 
@@ -88,7 +89,7 @@ pub enum OldFault<'a> {
     #[error("-{0}: uimg signs nothing; see mkimage -F of u-boot-tools, which signs an image that is made")]
     Signs(char),
 
-    /// What the option asks for is not done.
+    /// The option is not supported.
     #[error("-{letter}: uimg {what}; see mkimage of u-boot-tools")]
     NotDone {
         letter: char,

@@ -1,18 +1,18 @@
-//! The words of a command line as getopt_long of the GNU C library reads them.
+//! Reads the words of a command line as getopt_long of the GNU C library does.
 //!
-//! Options may stand before and behind operands, letters may be joined, a value may be joined to its
-//! letter or be the next word, a long option's value stands behind a `=` or is the next word, and all
-//! words behind `--` are operands. A long option is given by its whole name.
+//! Options may come before and after operands. Letters may be joined. A value is joined to its
+//! letter or is the next word; the value of a long option comes after a `=` or is the next word.
+//! All words after `--` are operands. Long options are not abbreviated.
 
 ghost use Rattle.std.specs.Prelude.{◌≡◌, ◌+◌, ◌<◌, ◌≤◌, length, IfOk, IfSome};
 ghost use Rattle.uimg_compat.specs.Getopt.{left};
 
 use thiserror::Error;
 
-/// An option: its letter, its long name (empty where it has none), and whether it has a value.
+/// An option: its letter, its long name (empty without one), and whether it has a value.
 pub type OptionRow = (char, &'static str, bool);
 
-/// What a command line gives next.
+/// What comes next on a command line.
 #[derive(Clone, Copy, Debug, PartialEq, Eq)]
 pub enum Given<'a> {
     /// The option of this letter, without a value.
@@ -21,11 +21,11 @@ pub enum Given<'a> {
     /// The option of this letter, with its value.
     Value(char, &'a str),
 
-    /// A word that is no option.
+    /// A word that is not an option.
     Operand(&'a str),
 }
 
-/// Why a command line cannot be read on.
+/// Why a command line cannot be read further.
 #[derive(Clone, Copy, Debug, Error, PartialEq, Eq)]
 pub enum Misuse<'a> {
     /// No option has this letter.
@@ -36,20 +36,20 @@ pub enum Misuse<'a> {
     #[error("there is no option '--{0}'")]
     UnknownName(&'a str),
 
-    /// The option of this letter has a value, and no word is left.
+    /// The option of this letter needs a value, and no word is left.
     #[error("the option '-{0}' lacks its value")]
     NoValueOfLetter(&'a str),
 
-    /// The option of this long name has a value, and no word is left.
+    /// The option of this long name needs a value, and no word is left.
     #[error("the option '--{0}' lacks its value")]
     NoValueOfName(&'a str),
 
-    /// The option of this long name has no value, and one is joined to it.
+    /// The option of this long name has no value, but one is joined to it.
     #[error("the option '--{0}' has no value")]
     ValueNotWanted(&'a str),
 }
 
-/// The words of a command line that are not read yet.
+/// The unread words of a command line.
 #[derive(Clone, Copy, Debug)]
 pub struct Words<'a> {
     words: &'a [&'a str],
@@ -59,7 +59,7 @@ pub struct Words<'a> {
 }
 
 impl<'a> Words<'a> {
-    /// The words behind the program's name.
+    /// Returns the words after the program's name, all unread.
     pub fn new(words: &'a [&'a str]) -> Words<'a> {
         Words {
             words,
@@ -69,7 +69,7 @@ impl<'a> Words<'a> {
         }
     }
 
-    /// Takes what comes next: an option of these rows, or an operand. `None` at the end.
+    /// Takes the next option of these rows, or operand. Returns `None` at the end.
     pub fn take(&mut self, rows: &[OptionRow]) -> Result<Option<Given<'a>>, Misuse<'a>>
         ensures less { IfOk result (λ given. IfSome given (λ _. left self.new < left self.old)) }
     {
@@ -95,7 +95,7 @@ impl<'a> Words<'a> {
         }
     }
 
-    // The next word.
+    // Takes the next word.
     fn take_word(&mut self) -> Option<&'a str>
         ensures letters { self.new.letters ≡ self.old.letters }
         ensures less { IfSome result (λ word. left self.new + length word.now < left self.old) }
@@ -105,7 +105,7 @@ impl<'a> Words<'a> {
         Some(word)
     }
 
-    // The option of the first of the letters.
+    // Takes the option of the first letter.
     fn take_letter(&mut self, rows: &[OptionRow]) -> Result<Option<Given<'a>>, Misuse<'a>>
         ensures less { IfOk result (λ given. IfSome given (λ _. left self.new < left self.old)) }
     {
@@ -127,7 +127,7 @@ impl<'a> Words<'a> {
         }
     }
 
-    // The option of the text behind two dashes.
+    // Takes the option whose text follows two dashes.
     fn take_long(
         &mut self,
         rows: &[OptionRow],
@@ -154,7 +154,8 @@ impl<'a> Words<'a> {
     }
 }
 
-// The option whose letter is the first of these, whether it has a value, and the letters behind it.
+// Returns the option of the first of these letters, whether it has a value, and the letters after
+// it.
 fn option_by_letter<'a>(rows: &[OptionRow], letters: &'a str) -> Option<(char, bool, &'a str)>
     ensures shorter { IfSome result (λ found. length found.2.now < length letters.now) }
 {
@@ -166,7 +167,7 @@ fn option_by_letter<'a>(rows: &[OptionRow], letters: &'a str) -> Option<(char, b
     None
 }
 
-// The option of a long name, and whether it has a value.
+// Returns the option of a long name, and whether it has a value.
 fn option_by_name(rows: &[OptionRow], name: &str) -> Option<(char, bool)> {
     for row in rows {
         if row.1 == name && !name.is_empty() {

@@ -1,4 +1,4 @@
-//! The helps of the commands by the old names.
+//! The help of the commands with the old names.
 
 /// The help of mkimage.
 pub(crate) const MKIMAGE_HELP: &str = "Make a U-Boot image, or list one: uimg by mkimage's name

@@ -19,13 +19,13 @@ use uimg_requests::{Action, Command, MakeRequest, RunRequest};
 /// The word of -f for a source that mkimage makes itself.
 const AUTO: &str = "auto";
 
-/// How many bytes a header has.
+/// The length of a header, in bytes.
 const HEADER_BYTES: u32 = 64;
 
-/// The path whose file has no data, of which an image is made where none is to be copied.
+/// The path of an empty file, for an image without data.
 const NO_DATA: &str = "/dev/null";
 
-/// What the options of a command line say so far. Each may be given again, and the last counts.
+/// The options of a command line so far. Of a repeated one the last counts.
 #[derive(Clone, Copy, Debug)]
 struct Settings<'a> {
     arch: u8,
@@ -50,8 +50,8 @@ struct Settings<'a> {
     has_no_data: bool,
 }
 
-/// Reads the words behind mkimage's name. `epoch` is SOURCE_DATE_EPOCH where it is set, and `now` the
-/// clock's moment.
+/// Reads the words after mkimage's name. `epoch` is SOURCE_DATE_EPOCH if it is set, and `now` the
+/// current time in seconds since 1970.
 pub fn read_mkimage<'a>(
     alloc: Global,
     words: &'a [&'a str],
@@ -90,7 +90,7 @@ pub fn read_mkimage<'a>(
 }
 
 impl<'a> Settings<'a> {
-    // Takes what a command line gives next, or tells the text that it asks for.
+    // Takes the next option or operand, or returns the requested text.
     fn take(&mut self, alloc: Global, given: Given<'a>) -> Result<Option<Show>, OldFault<'a>> {
         match given {
             Given::Operand(word) => {
@@ -170,7 +170,7 @@ impl<'a> Settings<'a> {
         Ok(None)
     }
 
-    // What is asked for, once all words are taken.
+    // Returns the request, once all words are read.
     fn request(
         self,
         alloc: Global,
@@ -297,7 +297,8 @@ impl<'a> Settings<'a> {
         }
     }
 
-    // The entry point where none is given: behind the header of what is run in its place.
+    // Returns the entry point if none is given: for an image that runs in place, the address after
+    // its header.
     fn default_entry(&self) -> u32 {
         if self.is_xip {
             self.load.wrapping_add(HEADER_BYTES)
@@ -306,7 +307,7 @@ impl<'a> Settings<'a> {
         }
     }
 
-    // The fields of the header. The type `invalid` is as none.
+    // Returns the fields of the header. The type `invalid` counts as none.
     fn options(&self) -> Options {
         let kind = match self.kind {
             None | Some(0) => 2,
@@ -325,12 +326,12 @@ impl<'a> Settings<'a> {
     }
 }
 
-// Whether images of a type have parts, with a table of their sizes.
+// Returns whether images of a type have parts, with a table of their sizes.
 fn has_parts(kind: u8) -> bool {
     kind == MULTI || kind == SCRIPT
 }
 
-// The low 32 bits of a hexadecimal number.
+// Reads the low 32 bits of a hexadecimal number.
 fn address(letter: char, word: &str) -> Result<u32, OldFault<'_>> {
     match unsigned_long(word, 16) {
         Some(number) => Ok(low_half(number)),

@@ -1,4 +1,4 @@
-//! The names that the words of -A, -O, -T and -C are.
+//! The names that the words of -A, -O, -T and -C may be.
 
 use crate::fault::OldFault;
 use crate::nearest::nearest;
@@ -10,14 +10,14 @@ use uimg_requests::Format;
 /// The type of a kernel that runs where it stands (`IH_TYPE_KERNEL_NOLOAD`).
 const KERNEL_NOLOAD: u8 = 14;
 
-/// The type of firmware with what HABv4 wants (`IH_TYPE_FIRMWARE_IVT`): a legacy image and more.
+/// The type of firmware for HABv4: a legacy image and more.
 const FIRMWARE_IVT: u8 = 32;
 
-/// The types that say nothing of a format, by which mkimage lists an image of any: gpimage, x86_setup,
-/// fpga, tee, pmmc and copro.
+/// The types that do not decide a format; with them mkimage lists an image of any: gpimage,
+/// x86_setup, fpga, tee, pmmc and copro.
 const ANY_FORMAT: [u8; 6] = [17, 20, 29, 31, 33, 39];
 
-/// The letter of the option that has a name of a field.
+/// Returns the letter of the option for a field.
 pub(crate) fn letter_of(field: Field) -> char {
     match field {
         Field::Architecture => 'A',
@@ -27,7 +27,7 @@ pub(crate) fn letter_of(field: Field) -> char {
     }
 }
 
-/// What a field is called.
+/// Returns the name of a field.
 pub fn title_of(field: Field) -> &'static str {
     match field {
         Field::Architecture => "architecture",
@@ -37,7 +37,7 @@ pub fn title_of(field: Field) -> &'static str {
     }
 }
 
-/// What a name stands for.
+/// The meaning of a name.
 #[derive(Clone, Copy, Debug, PartialEq, Eq)]
 pub(crate) enum Named {
     /// A code of the header.
@@ -47,7 +47,8 @@ pub(crate) enum Named {
     List,
 }
 
-/// What the word of an option stands for: the code of a name, in any case, or the list.
+/// Returns the meaning of an option's word: the code of a name, in upper or lower case, or the
+/// list.
 pub(crate) fn name_of<'a>(
     alloc: Global,
     field: Field,
@@ -84,7 +85,7 @@ fn unknown_name<'a>(
     })
 }
 
-/// Refuses a type, by its name, of which no image is made of data.
+/// Refuses a type, by its name, whose images are not made from data.
 pub(crate) fn check_made(kind: u8, name: &str) -> Result<(), OldFault<'_>> {
     if is_made(kind) {
         return Ok(());
@@ -104,7 +105,7 @@ pub(crate) fn format_of(kind: Option<u8>, name: &str) -> Result<Format, OldFault
     }
 }
 
-// Whether images of a type are legacy ones or FITs.
+// Returns whether images of a type are legacy or FIT images.
 fn is_made(kind: u8) -> bool {
     kind <= FLAT_DT || kind == KERNEL_NOLOAD
 }

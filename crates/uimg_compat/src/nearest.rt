@@ -1,10 +1,10 @@
-//! The name that a mistaken one is near to.
+//! The known name that is nearest to a mistaken one.
 
 use std::alloc::{AllocError, Global};
 use strsim::levenshtein;
 use uimg_names::Field;
 
-/// The short name of a field that has the fewest edits to a word, at most two.
+/// Returns the short name of a field with the fewest edits to a word, at most two.
 pub(crate) fn nearest(
     alloc: Global,
     field: Field,

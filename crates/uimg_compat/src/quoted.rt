@@ -1,10 +1,10 @@
-//! Texts of image-tree source.
+//! Texts in image-tree source.
 
 use std::fmt;
 use std::fmt::{Display, Formatter, Write};
 
-/// A text on one line: what is no printable letter of ASCII, a quote or a backslash stands as `\xNN`,
-/// byte by byte.
+/// A text on one line: each byte that is not a printable ASCII letter, or is a quote or a
+/// backslash, is printed as `\xNN`.
 #[derive(Clone, Copy, Debug)]
 pub struct Escaped<'a>(pub &'a [u8]);
 
@@ -17,7 +17,7 @@ impl<'a> Display for Escaped<'a> {
     }
 }
 
-/// The same between quotes, as image-tree source has it.
+/// The same in quotes, as in image-tree source.
 #[derive(Clone, Copy, Debug)]
 pub struct Quoted<'a>(pub &'a [u8]);
 

@@ -1,4 +1,4 @@
-//! What a command line asks for.
+//! What a command line requests.
 
 use crate::auto_source::AutoSource;
 use uimg_fit_base::Placement;
@@ -8,32 +8,32 @@ use uimg_requests::{MakeRequest, RunRequest};
 /// What the words of a command line ask for.
 #[derive(Drop)]
 pub enum OldRequest<'a> {
-    /// A command on an image. A quiet one prints no listing.
+    /// A command on an image, whose listing may be suppressed.
     Run {
         request: RunRequest<'a>,
         is_quiet: bool,
     },
 
-    /// The making of an image. A quiet one prints no listing.
+    /// The making of an image, whose listing may be suppressed.
     Make {
         request: MakeRequest<'a>,
         is_quiet: bool,
     },
 
-    /// The making of a FIT image of the source that mkimage makes itself.
+    /// The making of a FIT image from the source that mkimage makes itself.
     MakeAuto(AutoRequest<'a>),
 
     /// A text.
     Show(Show),
 }
 
-/// The making of a FIT image of the source that mkimage makes itself.
+/// The making of a FIT image from the source that mkimage makes itself.
 #[derive(Clone, Copy, Debug)]
 pub struct AutoRequest<'a> {
     /// The source.
     pub source: AutoSource<'a>,
 
-    /// Where the payloads stand.
+    /// Where the payloads are placed.
     pub placement: Placement,
 
     /// The time of the making, in seconds since 1970.
@@ -42,19 +42,19 @@ pub struct AutoRequest<'a> {
     /// The path of the image.
     pub outfile: &'a str,
 
-    /// Whether no listing is printed.
+    /// Whether the listing is suppressed.
     pub is_quiet: bool,
 }
 
-/// A text that is asked for.
+/// A requested text.
 #[derive(Clone, Copy, Debug, PartialEq, Eq)]
 pub enum Show {
-    /// The help of this text.
+    /// This help text.
     Help(&'static str),
 
     /// The version.
     Version,
 
-    /// The names that a field has.
+    /// The names of a field.
     Names(Field),
 }

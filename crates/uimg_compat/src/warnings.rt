@@ -1,5 +1,5 @@
-//! What mkimage warns of where an image is made of a source: what the original refuses, or a board
-//! stumbles over. The image is made all the same. `warn` is the one call.
+//! mkimage's warnings about a source: what the original refuses, or a board fails on. The image is
+//! made nevertheless. `warn` is the one call.
 
 mod configurations;
 mod equal_names;

@@ -1,4 +1,4 @@
--- Checking the images of a FIT image one after the other.
+-- Checks of the images of a FIT image, one after the other.
 use Rattle.std.specs.Prelude.{◌≡◌, ⊤, ℕ, ◌+◌, ◌≤◌, ◌*◌, List, length, Option, Some, None, Result, Ok, Err, IfOk, IfSome}
 use Rattle.std.specs.List.{sum_by}
 use Rattle.std.specs.Option.{option_map}
@@ -23,11 +23,11 @@ use Rattle.uimg_fit_reading.specs.Allowances.{node_allowance}
 use Rattle.uimg_fit_reading.specs.Work.{hashed}
 use Rattle.uimg_fit_checking.specs.Checks.{Told, wrong, told_of, EndsInside, wrong_in, found_of, image_told, first_told}
 
--- what is told of an image of a name with a hash node that is not right
+-- the finding about an image with a hash node that is not right
 abbrev pub wrong_told : List ℕ → List ℕ → WrongHash → Told
 wrong_told file name found = wrong name (slice file found.hash.place found.hash.length) found.word
 
--- The first hash node that is not right was found; at most 96 bytes were asked for about each node.
+-- The first hash node that is not right was found; at most 96 bytes were requested for each node.
 pub record FindsWrongBetween (file message : List ℕ) (hs : List (NodeOf Spot)) (asked new : ℕ) (result : Result (Option WrongHash) SourceFault) : Type 0 where
   pub told : (name : List ℕ) → IfOk result (λ found. option_map (wrong_told file name) found ≡ wrong_in name message hs)
   pub short : IfOk result (λ found. IfSome found (λ w. w.hash.length ≤ 255))
@@ -36,12 +36,12 @@ pub record FindsWrongBetween (file message : List ℕ) (hs : List (NodeOf Spot))
 abbrev pub FindsWrong : {S : Type 0} → List ℕ → List (NodeOf Spot) → Result (Option WrongHash) SourceFault → (S → Device) → Lent S → Type 0
 FindsWrong message hs result device source = FindsWrongBetween (device source.entry.now).bytes message hs (device source.entry.now).asked (device source.exit.now).asked result
 
--- what is told of an image: that so many bytes of its payload were read, or what was found of it
+-- the result for an image: that `size` bytes of its payload were read, or the finding
 abbrev pub IsChecked : List ℕ → ℕ → ℕ → Option Told → Checked → Type 0
 IsChecked file left size told (On rest) = (told ≡ None) × (rest + size ≡ left)
 IsChecked file left size told (Ended finding) = told ≡ Some (told_of file finding)
 
--- the same, or that its payload is refused
+-- the same, or the fault of its payload
 abbrev pub TellsChecked : List ℕ → ℕ → ℕ → Result (Option Told) Fault → Result Checked Fault → Type 0
 TellsChecked file left size told (Ok (On rest)) = (told ≡ Ok None) × (rest + size ≡ left)
 TellsChecked file left size told (Ok (Ended finding)) = told ≡ Ok (Some (told_of file finding))
@@ -49,18 +49,19 @@ TellsChecked file left size told (Err (of.Fit fault)) = told ≡ Err (of.Fit fau
 TellsChecked file left size told (Err (of.Blob fault at)) = ⊥
 TellsChecked file left size told (Err _) = ⊤
 
--- how many bytes are left for the next images
+-- how many bytes are left for the following images
 abbrev pub left_of : {F : Type 0} → Result Checked F → ℕ
 left_of (Ok (On rest)) = rest
 left_of (Ok (Ended finding)) = 0
 left_of (Err fault) = 0
 
--- each span of what is told of an image ends in a file of so many bytes
+-- each span of a finding ends within a file of this size
 abbrev pub StaysInside : ℕ → Checked → Type 0
 StaysInside size (On rest) = ⊤
 StaysInside size (Ended finding) = EndsInside size finding
 
--- An image was checked whose payload is known; its place took at most 12 bytes.
+-- An image whose payload is known was checked; 12 bytes of its allowance are left for finding the
+-- payload.
 pub record ChecksPayloadBetween (file : List ℕ) (need : Option Algo) (left : ℕ) (image : NodeOf Spot) (message : List ℕ) (asked new : ℕ) (result : Result Checked SourceFault) : Type 0 where
   pub told : IfOk result (IsChecked file left (hashed image (Ok message)) (found_of need left image message))
   pub paid : new + left_of result + 12 ≤ asked + left + node_allowance image
@@ -77,7 +78,7 @@ pub record ChecksImageBetween (file : List ℕ) (need : Option Algo) (left : ℕ
 abbrev pub ChecksImage : {S : Type 0} → Option Algo → ℕ → NodeOf Spot → Result Checked Fault → (S → Device) → Lent S → Type 0
 ChecksImage need left image result device source = ChecksImageBetween (device source.entry.now).bytes need left image (device source.entry.now).asked (device source.exit.now).asked result
 
--- Images were checked, up to the first that something was found of.
+-- Images were checked, up to the first finding.
 pub record ChecksImagesBetween (file : List ℕ) (need : Option Algo) (found : List (NodeOf Spot)) (asked new : ℕ) (result : Result (Option Finding) Fault) : Type 0 where
   pub told : Gives (option_map (told_of file)) result (first_told need file (length file) found)
   pub paid : new ≤ asked + length file + sum_by node_allowance found

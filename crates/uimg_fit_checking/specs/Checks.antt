@@ -1,4 +1,4 @@
--- What a check finds of a FIT image.
+-- What a check of a FIT image finds.
 use Rattle.std.specs.Prelude.{⊤, ℕ, ◌+◌, ◌-◌, ◌≤◌, List, [], ◌∷◌, length, not, nat_lt, Bool, false, if◌then◌else◌, Option, Some, None, Result, Ok, Err}
 use Rattle.std.specs.List.{sum_by}
 use Rattle.uimg_sums.specs.declared.algo.Algo.{Algo}
@@ -18,11 +18,13 @@ use Rattle.uimg_fit_checking.specs.declared.checking.Finding.TheVariants.{Right,
 use Rattle.uimg_fit_checking.specs.Vouching.{is_vouched}
 use Rattle.uimg_fit_reading.specs.Work.{own_meta, hashed}
 
--- the most that a check asks for: the payloads that are read have no more bytes together than the file
+-- the most bytes that a check requests: all payloads that are read have at most the file's length
+-- together
 abbrev pub check_work : List ℕ → ℕ
 check_work file = own_meta file + length file
 
--- What is found of a FIT image whose blob and payload places are in order; images and hash nodes are told by their names.
+-- The finding about a FIT image whose blob and payloads are in order, with the names of images and
+-- hash nodes.
 pub data Told : Type 0 where
   right : ℕ → ℕ → Told
   unhashed : List ℕ → Told
@@ -31,7 +33,7 @@ pub data Told : Type 0 where
   overlapping : List ℕ → Told
   no_image : Told
 
--- a finding by the names that stand at its spans
+-- a finding with the names at its spans
 abbrev pub told_of : List ℕ → Finding → Told
 told_of file (Right images nodes) = right images nodes
 told_of file (Unhashed image) = unhashed (slice file image.place image.length)
@@ -40,7 +42,7 @@ told_of file (Weak image) = weak (slice file image.place image.length)
 told_of file (Overlapping image) = overlapping (slice file image.place image.length)
 told_of file NoImage = no_image
 
--- each span of a finding ends in a file of so many bytes
+-- each span of a finding ends within a file of this size
 abbrev pub EndsInside : ℕ → Finding → Type 0
 EndsInside size (Right images nodes) = ⊤
 EndsInside size (Unhashed image) = image.place + image.length ≤ size
@@ -49,51 +51,53 @@ EndsInside size (Weak image) = image.place + image.length ≤ size
 EndsInside size (Overlapping image) = image.place + image.length ≤ size
 EndsInside size NoImage = ⊤
 
--- the first of some hash nodes of an image that is not right
+-- the first of these hash nodes of an image that is not right
 unfoldable pub wrong_in : List ℕ → List ℕ → List (NodeOf Spot) → Option Told
 wrong_in image message [] = None
 wrong_in image message (h ∷ hs) =
     if is_right (word_of message h) then wrong_in image message hs else Some (wrong image h.name (word_of message h))
 
--- whether an image lacks a hash node that is compared by an algorithm at least as strong as the needed one
+-- whether an image has no hash node that is compared by an algorithm at least as strong as the
+-- needed one
 abbrev pub is_weak : Option Algo → NodeOf Spot → Bool
 is_weak None image = false
 is_weak (Some need) image = not (is_vouched need image)
 
--- what was found, or else that the image is weak
+-- a finding, or else that the image is weak
 abbrev pub or_weak : Option Told → Option Algo → NodeOf Spot → Option Told
 or_weak (Some told) need image = Some told
 or_weak None need image = if is_weak need image then Some (weak image.name) else None
 
--- what is found of an image with a payload, where so many bytes may still be read: that they are too few, or else a hash node
--- that is not right, or else that the image is weak
+-- the finding about an image with a payload, if `left` bytes may still be read: the payload is
+-- longer, or else a hash node is not right, or else the image is weak
 abbrev pub found_of : Option Algo → ℕ → NodeOf Spot → List ℕ → Option Told
 found_of need left image message =
     if nat_lt left (hashed image (Ok message)) then Some (overlapping image.name)
     else or_weak (wrong_in image.name message (hashes image)) need image
 
--- the same, or that the payload is refused
+-- the same, or the fault of the payload
 abbrev pub image_told : Option Algo → ℕ → NodeOf Spot → Result (List ℕ) FitFault → Result (Option Told) Fault
 image_told need left image (Ok message) = Ok (found_of need left image message)
 image_told need left image (Err fault) = Err (of.Fit fault)
 
--- what is told of an image, or of the others where nothing is
+-- the finding about an image, or else that about the others
 abbrev pub or_later : Result (Option Told) Fault → Result (Option Told) Fault → Result (Option Told) Fault
 or_later (Ok None) later = later
 or_later (Ok (Some told)) later = Ok (Some told)
 or_later (Err fault) later = Err fault
 
--- The first that is found of images, or the first fault. What is read of one payload is not left for the next ones.
+-- The first finding about images, or the first fault. The bytes read of a payload reduce what is
+-- left for the next ones.
 unfoldable pub first_told : Option Algo → List ℕ → ℕ → List (NodeOf Spot) → Result (Option Told) Fault
 first_told need file left [] = Ok None
 first_told need file left (image ∷ more) =
     or_later (image_told need left image (payload file image)) (first_told need file (left - hashed image (payload file image)) more)
 
--- how many hash nodes images have
+-- how many hash nodes these images have
 abbrev pub hash_count : List (NodeOf Spot) → ℕ
 hash_count found = sum_by (λ image. length (hashes image)) found
 
--- the name of the first image that has no hash node
+-- the name of the first image without a hash node
 abbrev pub name_or : List ℕ → List (NodeOf Spot) → Option (List ℕ) → Option (List ℕ)
 name_or name [] later = Some name
 name_or name (h ∷ hs) later = later
@@ -102,12 +106,12 @@ unfoldable pub unhashed_in : List (NodeOf Spot) → Option (List ℕ)
 unhashed_in [] = None
 unhashed_in (image ∷ more) = name_or image.name (hashes image) (unhashed_in more)
 
--- the same where no strength is needed; where one is, such an image is weak
+-- the same if no strength is needed; otherwise such an image is weak
 abbrev pub unhashed_of : Option Algo → List (NodeOf Spot) → Option (List ℕ)
 unhashed_of None found = unhashed_in found
 unhashed_of (Some need) found = None
 
--- what is found of images whose hash nodes are all right
+-- the finding about images whose hash nodes are all right
 abbrev pub right_or : Option (List ℕ) → List (NodeOf Spot) → Told
 right_or (Some name) found = unhashed name
 right_or None found = right (length found) (hash_count found)
@@ -115,24 +119,24 @@ right_or None found = right (length found) (hash_count found)
 abbrev pub all_right : Option Algo → List (NodeOf Spot) → Told
 all_right need found = right_or (unhashed_of need found) found
 
--- what was found first, or else that all are right
+-- the first finding, or else that all are right
 abbrev pub or_right : Option Algo → List (NodeOf Spot) → Option Told → Told
 or_right need found (Some told) = told
 or_right need found None = all_right need found
 
--- what is found of images, of whose payloads as many bytes may be read as the file has
+-- the finding about images; of their payloads as many bytes may be read as the file has
 abbrev pub images_told : Option Algo → List ℕ → List (NodeOf Spot) → Result Told Fault
 images_told need file found = do
   first ← first_told need file (length file) found
   Ok (or_right need found first)
 
--- where a strength is needed, there has to be an image
+-- a needed strength requires an image
 abbrev pub some_told : Option Algo → List ℕ → List (NodeOf Spot) → Result Told Fault
 some_told None file found = images_told None file found
 some_told (Some need) file [] = Ok no_image
 some_told (Some need) file (image ∷ more) = images_told (Some need) file (image ∷ more)
 
--- what is found of a file, or its first fault
+-- the finding about a file, or its first fault
 abbrev pub check_of : Option Algo → List ℕ → Result Told Fault
 check_of need file = do
   found ← images_of file

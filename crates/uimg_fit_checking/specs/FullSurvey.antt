@@ -1,4 +1,5 @@
--- What a FIT image says of itself, and the names of all properties of its configurations (Devicetree Specification, section 5.4).
+-- The facts of a FIT image, and the names of all properties of its configurations (Devicetree
+-- Specification, section 5.4).
 use Rattle.std.specs.Prelude.{◌≡◌, ◌≤◌, ◌+◌, ◌*◌, ℕ, List, [], length, map, Option, Some, None, Result, Ok, Err, Vec, true}
 use Rattle.std.specs.List.{All, sum_by}
 use Rattle.uimg_base.specs.declared.spans.Span.{Span}
@@ -17,16 +18,16 @@ use Rattle.uimg_fit_checking.specs.declared.surveying.facts.FullSurvey.{FullSurv
 use Rattle.uimg_fit_checking.specs.declared.surveying.facts.Survey.{Survey}
 use Rattle.uimg_fit_checking.specs.declared.surveying.fault.SurveyFault.{SurveyFault}
 
--- the names of a node's properties, in their order, and where their values stand
+-- the names of a node's properties, in their order, and the spans of their values
 abbrev pub properties_said : NodeOf Spot → List (NamedOf Span)
 properties_said node = map (with_value value_span) node.own
 
--- the same of each child of the node `configurations`, if there is one
+-- the same for each child of the node `configurations`, if there is one
 abbrev pub properties_in : Option (NodeOf Spot) → List (List (NamedOf Span))
 properties_in (Some node) = map properties_said (listed node.below)
 properties_in None = []
 
--- the same of a file's tree; one that has none has no configurations
+-- the same for a file's tree; a file without a tree has no configurations
 abbrev pub properties_read : Result (NodesOf Spot) Fault → List (List (NamedOf Span))
 properties_read (Ok t) = properties_in (configurations t)
 properties_read (Err fault) = []
@@ -34,47 +35,49 @@ properties_read (Err fault) = []
 abbrev pub properties_of : List ℕ → List (List (NamedOf Span))
 properties_of file = properties_read (tree_of file)
 
--- what places say in a file
+-- the names and spans of properties in a file
 abbrev pub read_properties : {Z : Type 0} → List ℕ → Vec PropertyPlace Z → List (NamedOf Span)
 read_properties file places = map (read_place file) places.items
 
--- the most bytes that are asked for to tell the properties of a node, of a blob with so many words FDT_NOP: its header and a
--- word, a head and at most 256 bytes of a name for each, and the words of FDT_NOP
+-- the most bytes requested to list the properties of a node, in a blob with `nops` FDT_NOP tokens:
+-- its header and a word, a head and at most 256 bytes of a name for each property, and the FDT_NOP
+-- tokens
 abbrev pub list_cost : ℕ → List (NamedOf Span) → ℕ
 list_cost nops said = 44 + 268 * length said + 4 * nops
 
--- the same of all configurations of a file
+-- the same for all configurations of a file
 abbrev pub properties_cost : List ℕ → ℕ
 properties_cost file = sum_by (list_cost (nops_met file)) (properties_of file)
 
--- Names and values end within so many bytes, and no name has more than 255.
+-- Names and values end within `size` bytes, and no name has more than 255.
 abbrev pub PlacesInside : {Z : Type 0} → ℕ → Vec PropertyPlace Z → Type 0
 PlacesInside size places = All (EndsBy size) places.items
 
--- Each value of a survey ends in the blob, and this in the file, and so do the properties' names and values.
+-- The survey's values and the properties' names and values end within the blob, and the blob within
+-- the file.
 pub record FullInside (size : ℕ) (full : FullSurvey) : Type 0 where
   pub survey : SurveyInside size full.survey
   pub properties : All (PlacesInside full.survey.totalsize) full.properties.items
 
--- the survey of an answer
+-- the survey of a result
 abbrev pub survey_in : Result FullSurvey SurveyFault → Result Survey SurveyFault
 survey_in (Ok full) = Ok full.survey
 survey_in (Err fault) = Err fault
 
--- An answer reads as such, unless a read failed or memory was refused.
+-- The result has these facts, unless a read failed or memory was refused.
 abbrev pub ReadsAs : {X Y : Type 0} → (X → Y) → Y → Result X SurveyFault → Type 0
 ReadsAs read said (Ok x) = read x ≡ said
 ReadsAs read said (Err fault) = is_own fault ≡ true
 
--- The same, and at most so many bytes more were asked for.
+-- The same, and at most `cost` bytes more were requested.
 pub record Tells {X Y : Type 0} (read : X → Y) (said : Y) (cost : ℕ) (result : Result X SurveyFault) (old new : Device) : Type 0 where
   pub told : ReadsAs read said result
   pub asked : new.asked ≤ old.asked + cost
 
--- what is told of the properties of one node ..
+-- what a result says of the properties of one node
 abbrev pub TellsProperties : {Z : Type 0} → Device → Device → NodeOf Spot → Result (Vec PropertyPlace Z) SurveyFault → Type 0
 TellsProperties d e node result = Tells (read_properties d.bytes) (properties_said node) (list_cost (nops_met d.bytes) (properties_said node)) result d e
 
--- .. and of each of some lists of properties
+-- the same for several lists of properties
 abbrev pub TellsLists : {Z W : Type 0} → Device → Device → List (List (NamedOf Span)) → Result (Vec (Vec PropertyPlace Z) W) SurveyFault → Type 0
 TellsLists d e said result = Tells (λ lists. map (read_properties d.bytes) lists.items) said (sum_by (list_cost (nops_met d.bytes)) said) result d e

@@ -1,4 +1,4 @@
--- The payload of an image by its name.
+-- The payload of an image, found by name.
 use Rattle.std.specs.Prelude.{◌≡◌, ℕ, List, [], ◌∷◌, Option, Some, None, Result, Ok, Err, if◌then◌else◌}
 use Rattle.std.specs.List.{slice_get}
 use Rattle.std.specs.Str.{bytes_eq}
@@ -25,7 +25,7 @@ payload_named file name = do
   found ← images_of file
   of_images (payload_of file (named name found))
 
--- the name of an image, if there is one
+-- the name of an image, or `NoSuchImage`
 abbrev pub name_of : Option (NodeOf Spot) → Result (List ℕ) FitFault
 name_of (Some image) = Ok image.name
 name_of None = Err NoSuchImage
@@ -36,7 +36,7 @@ name_at file position = do
   found ← images_of file
   of_images (name_of (slice_get found position))
 
--- The first image of a name has a number.
+-- The first image of a name has this number.
 pub record HasNamed (t : Siblings) (name : List ℕ) (number : ℕ) : Type 0 where
   pub found : List (NodeOf Spot)
   pub image : NodeOf Spot
@@ -44,13 +44,13 @@ pub record HasNamed (t : Siblings) (name : List ℕ) (number : ℕ) : Type 0 whe
   pub has : named name found ≡ Some image
   pub node : IsNode t in_images number image
 
--- The tree has images, and none of a name.
+-- The tree has images, but none of this name.
 pub record LacksNamed (t : Siblings) (name : List ℕ) : Type 0 where
   pub found : List (NodeOf Spot)
   pub is : images (spots t) ≡ Some found
   pub lacks : named name found ≡ None
 
--- what is said of the first image of a name
+-- what a result says of the first image of a name
 abbrev pub TellsNamed : Siblings → List ℕ → Result ℕ FitFault → Type 0
 TellsNamed t name (Ok number) = HasNamed t name number
 TellsNamed t name (Err NoImages) = images (spots t) ≡ None

@@ -1,5 +1,6 @@
--- What a FIT image says of itself, without its payloads: the values of the properties that have a meaning (Flattened Image
--- Tree format, "Root node", "'/images' node", "Hash nodes", "'/configurations' node").
+-- The facts of a FIT image, without its payloads: the values of the properties with a meaning
+-- (Flattened Image Tree format, "Root node", "'/images' node", "Hash nodes", "'/configurations'
+-- node").
 use Rattle.std.specs.Prelude.{◌≡◌, ℕ, List, [], map, codes, Option, Some, None, Result, Ok, IfOk, Vec}
 use Rattle.uimg_texts.specs.Numbers.{be32}
 use Rattle.uimg_texts.specs.Slices.{slice}
@@ -16,13 +17,13 @@ use Rattle.uimg_fit_checking.specs.declared.surveying.facts.ImageFacts.{ImageFac
 use Rattle.uimg_fit_checking.specs.declared.surveying.facts.ConfigurationFacts.{ConfigurationFacts}
 use Rattle.uimg_fit_checking.specs.declared.surveying.facts.Survey.{Survey}
 
--- What a hash node says: its name, and its values.
+-- The facts of a hash node: its name and its values.
 pub record HashSaid : Type 0 where
   pub name : List ℕ
   pub algo : Option (List ℕ)
   pub value : Option (List ℕ)
 
--- What an image says.
+-- The facts of an image.
 pub record ImageSaid : Type 0 where
   pub name : List ℕ
   pub description : Option (List ℕ)
@@ -35,7 +36,7 @@ pub record ImageSaid : Type 0 where
   pub payload : PayloadSaid
   pub hashes : List HashSaid
 
--- What a configuration says, and the names of the nodes below it.
+-- The facts of a configuration, and the names of its child nodes.
 pub record ConfigurationSaid : Type 0 where
   pub name : List ℕ
   pub description : Option (List ℕ)
@@ -50,7 +51,7 @@ pub record ConfigurationSaid : Type 0 where
   pub script : Option (List ℕ)
   pub nodes : List (List ℕ)
 
--- What a FIT image says.
+-- The facts of a FIT image.
 pub record Said : Type 0 where
   pub totalsize : ℕ
   pub description : Option (List ℕ)
@@ -59,7 +60,7 @@ pub record Said : Type 0 where
   pub preferred : Option (List ℕ)
   pub configurations : List ConfigurationSaid
 
--- of a hash node
+-- the facts of a hash node
 abbrev pub hash_said : NodeOf Spot → HashSaid
 hash_said hash = record {
   name = hash.name;
@@ -67,7 +68,7 @@ hash_said hash = record {
   value = bytes_of hash.own (codes "value");
 }
 
--- of an image
+-- the facts of an image
 abbrev pub image_said : NodeOf Spot → ImageSaid
 image_said image = record {
   name = image.name;
@@ -85,7 +86,7 @@ image_said image = record {
 abbrev pub node_name : NodeOf Spot → List ℕ
 node_name node = node.name
 
--- of a configuration
+-- the facts of a configuration
 abbrev pub configuration_said : NodeOf Spot → ConfigurationSaid
 configuration_said configuration = record {
   name = configuration.name;
@@ -102,7 +103,7 @@ configuration_said configuration = record {
   nodes = map node_name (listed configuration.below);
 }
 
--- of the node `configurations`, if there is one
+-- the facts of the node `configurations`, if there is one
 abbrev pub preferred_in : Option (NodeOf Spot) → Option (List ℕ)
 preferred_in (Some node) = bytes_of node.own (codes "default")
 preferred_in None = None
@@ -111,7 +112,7 @@ abbrev pub configurations_in : Option (NodeOf Spot) → List ConfigurationSaid
 configurations_in (Some node) = map configuration_said (listed node.below)
 configurations_in None = []
 
--- of a file whose tree has these images
+-- the facts of a file whose tree has these images
 abbrev pub said_of : List ℕ → NodesOf Spot → List (NodeOf Spot) → Said
 said_of file t found = record {
   totalsize = be32 file 4;
@@ -122,14 +123,14 @@ said_of file t found = record {
   configurations = configurations_in (configurations t);
 }
 
--- what a file says, or its first fault
+-- the facts of a file, or its first fault
 abbrev pub survey_of : List ℕ → Result Said Fault
 survey_of file = do
   t ← tree_of file
   found ← listed_or (images t)
   Ok (said_of file t found)
 
--- What stands in a file where facts tell.
+-- The facts in a file at the spans of a survey.
 abbrev pub read_name : List ℕ → Span → List ℕ
 read_name file name = slice file name.place name.length
 
@@ -180,6 +181,6 @@ read_survey file survey = record {
   configurations = map (read_configuration file) survey.configurations.items;
 }
 
--- All that an answer has, read in a file, is what nodes say.
+-- The facts of a result, read in a file, are those of these nodes.
 abbrev pub Say : {X Y Z E : Type 0} → (List ℕ → X → Y) → (NodeOf Spot → Y) → Result (Vec X Z) E → List ℕ → List (NodeOf Spot) → Type 0
 Say read said result file found = IfOk result (λ facts. map (read file) facts.items ≡ map said found)

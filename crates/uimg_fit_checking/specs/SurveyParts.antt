@@ -1,4 +1,4 @@
--- What is said of a survey beside what it tells.
+-- What holds of a survey, besides its facts: where its spans end.
 use Rattle.std.specs.Prelude.{◌≡◌, ◌≤◌, ◌+◌, ℕ, ⊤, List, IfOk, IfSome, IfErr, Option, Result, Ok, Err, Bool, true, false, Vec}
 use Rattle.std.specs.List.{All}
 use Rattle.uimg_base.specs.Device.{Device}
@@ -17,7 +17,7 @@ use Rattle.uimg_fit_checking.specs.Survey.{read_survey, survey_of}
 use Rattle.uimg_blob.specs.Faults.{refuses_memory}
 use Rattle.uimg_fit_base.specs.declared.fault.Fault.TheVariants as of
 
--- A name that ends there.
+-- A name ends within `size` bytes.
 abbrev pub NameInside : ℕ → Span → Type 0
 NameInside size name = name.place + name.length ≤ size
 
@@ -52,7 +52,7 @@ pub record ConfigurationInside (size : ℕ) (facts : ConfigurationFacts) : Type 
   pub script : Ends size facts.script
   pub nodes : All (NameInside size) facts.nodes.items
 
--- Each value ends in the blob, and this in the file.
+-- Each value ends within the blob, and the blob within the file.
 pub record SurveyInside (size : ℕ) (facts : Survey) : Type 0 where
   pub blob : facts.totalsize ≤ size
   pub description : Ends facts.totalsize facts.description
@@ -61,22 +61,23 @@ pub record SurveyInside (size : ℕ) (facts : Survey) : Type 0 where
   pub preferred : Ends facts.totalsize facts.preferred
   pub configurations : All (ConfigurationInside facts.totalsize) facts.configurations.items
 
--- the answer is that a read failed
+-- the result is a failed read
 abbrev pub is_unread : {X : Type 0} → Result X SurveyFault → Bool
 is_unread (Err (Stopped of.Read)) = true
 is_unread _ = false
 
--- the answer is that memory for the table of nodes was refused
+-- the result is that memory for the table of nodes was refused
 abbrev pub lacks_room : {X : Type 0} → Result X SurveyFault → Bool
 lacks_room (Err (Stopped (of.Blob fault at))) = refuses_memory fault
 lacks_room _ = false
 
--- the answer is that the source changed
+-- the result is that the source changed
 abbrev pub is_changed : {X : Type 0} → Result X SurveyFault → Bool
 is_changed (Err Changed) = true
 is_changed _ = false
 
--- An answer is what the file says, or its first fault, unless a read failed or memory was refused.
+-- The result is the facts of the file, or its first fault, unless a read failed or memory was
+-- refused.
 abbrev pub Surveys : List ℕ → Result Survey SurveyFault → Type 0
 Surveys file (Ok survey) = survey_of file ≡ Ok (read_survey file survey)
 Surveys file (Err (Stopped (of.Blob fault at))) = refuses_memory fault ≡ false → survey_of file ≡ Err (of.Blob fault at)
@@ -86,7 +87,7 @@ Surveys file (Err (Stopped of.Put)) = ⊥
 Surveys file (Err OutOfMemory) = ⊤
 Surveys file (Err Changed) = ⊥
 
--- a fault of the reading itself: a read failed, or memory was refused
+-- the fault is a failed read or refused memory, not one of the image
 abbrev pub is_own : SurveyFault → Bool
 is_own (Stopped of.Read) = true
 is_own OutOfMemory = true
@@ -95,11 +96,12 @@ is_own _ = false
 abbrev pub IsOwn : {X : Type 0} → Result X SurveyFault → Type 0
 IsOwn result = IfErr result (λ fault. is_own fault ≡ true)
 
--- All that an answer has end within so many bytes.
+-- All facts of a result end within `size` bytes.
 abbrev pub AllInside : {X Z E : Type 0} → (ℕ → X → Type 0) → Result (Vec X Z) E → ℕ → Type 0
 AllInside Inside result size = IfOk result (λ found. All (Inside size) found.items)
 
--- Source and room are as they were, and a failure was counted exactly where one is answered; memory for the table of nodes is not refused.
+-- Source and room are unchanged, and a failure was counted exactly if it is returned; memory for
+-- the table of nodes is not refused.
 pub record LeavesSurveyBetween {X : Type 0} (result : Result X SurveyFault) (d e : Device) (old new : Held) : Type 0 where
   pub uses : Uses (is_unread result) d e
   pub room : new ≡ old

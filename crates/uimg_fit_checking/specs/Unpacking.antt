@@ -1,4 +1,4 @@
--- What becomes of the payloads of a FIT image that are taken out of it.
+-- What becomes of the unpacked payloads of a FIT image.
 use Rattle.std.specs.Prelude.{◌≡◌, ⊤, ℕ, ◌+◌, ◌-◌, List, [], ◌∷◌, ◌++◌, length, take, nat_lt, Bool, true, false, if◌then◌else◌, Option, Some, None, Result, Ok, Err, IfSome}
 use Rattle.std.specs.List.{list_all}
 use Rattle.std.specs.Option.{option_map}
@@ -32,12 +32,12 @@ use Rattle.uimg_fit_reading.specs.Plans.{with_all}
 abbrev pub bytes_of : NodeName → List ℕ
 bytes_of name = take name.length name.bytes
 
--- What becomes of the payload of an image of a name: it is kept, with what vouches for it, or refused.
+-- What becomes of the payload of an image: it is kept, with what vouches for it, or refused.
 pub data Take : Type 0 where
   kept : List ℕ → List ℕ → Option Vouched → Take
   refused : List ℕ → Told → Take
 
--- why an image of a name is refused
+-- why an image is refused, with its name
 abbrev pub told_of : List ℕ → Refusal → Told
 told_of name (Wrong hash word) = wrong name (bytes_of hash) word
 told_of name Weak = weak name
@@ -47,7 +47,7 @@ abbrev pub AddsIf : {E : Type 0} → Result ⊤ E → List Take → List Take �
 AddsIf (Ok done) old new one = new ≡ old ++ one ∷ []
 AddsIf (Err fault) old new one = new ≡ old
 
--- What is said to vouch for some bytes is their digest.
+-- The digest that vouches for some bytes is theirs.
 abbrev pub IsVouched : List ℕ → Option Vouched → Type 0
 IsVouched bytes vouched = IfSome vouched (λ v. v.digest ≡ (padded_digest (digest_by v.algo bytes)).0)
 
@@ -61,46 +61,46 @@ strongest set =
 abbrev pub vouched_by : AlgoSet → List ℕ → Option Vouched
 vouched_by set bytes = option_map (λ algo. record { algo = algo; digest = (padded_digest (digest_by algo bytes)).0 }) (strongest set)
 
--- what becomes of a payload of which nothing is told, or something
+-- a payload is kept if there is no finding, else refused
 abbrev pub take_by : NodeOf Spot → List ℕ → Option Told → Take
 take_by image message None = kept image.name message (vouched_by (with_all no_algos (hashes image)) message)
 take_by image message (Some told) = refused image.name told
 
--- A payload is kept where each hash node of its image is right and none is lacking that is needed.
+-- A payload is kept if each hash node of its image is right and its image is not weak.
 abbrev pub take_of : Option Algo → NodeOf Spot → List ℕ → Take
 take_of need image message = take_by image message (or_weak (wrong_in image.name message (hashes image)) need image)
 
--- whether an image of a name is asked for, where all are or those of one name
+-- whether an image is requested: all are, or those of one name
 abbrev pub is_asked : Option (List ℕ) → List ℕ → Bool
 is_asked None name = true
 is_asked (Some asked) name = bytes_eq asked name
 
--- the bytes of a payload, none where it is refused: then nothing is taken of the file
+-- the bytes of a payload, none if it is refused: then nothing of the file is taken
 abbrev pub bytes_or_none : Result (List ℕ) FitFault → List ℕ
 bytes_or_none (Ok message) = message
 bytes_or_none (Err fault) = []
 
--- what becomes of the payloads of images that are asked for
+-- what becomes of the payloads of the requested images
 unfoldable pub takes : Option Algo → Option (List ℕ) → List ℕ → List (NodeOf Spot) → List Take
 takes need only file [] = []
 takes need only file (image ∷ more) =
     if is_asked only image.name then take_of need image (bytes_or_none (payload file image)) ∷ takes need only file more
     else takes need only file more
 
--- an image of a name with a payload, where so many bytes may be read, and then the others
+-- whether a payload fits the bytes that may still be read, and then the other ones
 abbrev pub fits_before : List ℕ → ℕ → Result (List ℕ) FitFault → (ℕ → Result (Option (List ℕ)) FitFault) → Result (Option (List ℕ)) FitFault
 fits_before name left (Ok message) later = if nat_lt left (length message) then Ok (Some name) else later (left - length message)
 fits_before name left (Err fault) later = Err fault
 
--- The name of the first image that is asked for with which their payloads have more bytes together than may be read, if there
--- is one, unless a payload before it is refused.
+-- The name of the first requested image with which the payloads exceed the bytes that may be read,
+-- if there is one, or the fault of a payload before it.
 unfoldable pub overlapping : Option (List ℕ) → List ℕ → ℕ → List (NodeOf Spot) → Result (Option (List ℕ)) FitFault
 overlapping only file left [] = Ok None
 overlapping only file left (image ∷ more) =
     if is_asked only image.name then fits_before image.name left (payload file image) (λ rest. overlapping only file rest more)
     else overlapping only file left more
 
--- What is told of a file that is unpacked: that payloads overlap, or what becomes of each.
+-- The outcome of unpacking a file: payloads overlap, or what becomes of each.
 pub data Outcome : Type 0 where
   overlaps : List ℕ → Outcome
   taken : List Take → Outcome
@@ -113,11 +113,11 @@ abbrev pub told_or_fault : Result (Option (List ℕ)) FitFault → List Take →
 told_or_fault (Ok found) ts = Ok (outcome found ts)
 told_or_fault (Err fault) ts = Err (of.Fit fault)
 
--- the same of its images, where as many bytes may be read as the file has
+-- the same for its images; as many bytes may be read as the file has
 abbrev pub images_unpacked : Option Algo → Option (List ℕ) → List ℕ → List (NodeOf Spot) → Result Outcome Fault
 images_unpacked need only file found = told_or_fault (overlapping only file (length file) found) (takes need only file found)
 
--- what is told of a file, or its first fault
+-- the outcome for a file, or its first fault
 abbrev pub unpack_of : Option Algo → Option (List ℕ) → List ℕ → Result Outcome Fault
 unpack_of need only file = do
   found ← images_of file
@@ -128,18 +128,19 @@ abbrev pub is_kept : Take → Bool
 is_kept (kept name bytes vouched) = true
 is_kept (refused name told) = false
 
--- Some of these were given, the first ones.
+-- The first of these were given.
 pub record GivenFirst (old new ts : List Take) : Type 0 where
   pub count : ℕ
   pub given : new ≡ old ++ take count ts
 
--- What was given where a device failed: the first of what is told, and nothing where a file is refused.
+-- What was given before a device failed: the first of the outcome, and nothing if the file is
+-- refused.
 abbrev pub StopsIn : Result Outcome Fault → List Take → List Take → Type 0
 StopsIn (Ok (taken ts)) old new = GivenFirst old new ts
 StopsIn (Ok (overlaps name)) old new = new ≡ old
 StopsIn (Err fault) old new = new ≡ old
 
--- What an answer tells of a file, with what was given before and after. A refusal comes before anything is given.
+-- What a result says of a file and of what was given. A refusal comes before anything is given.
 abbrev pub Unpacks : Result Unpacked Fault → Result Outcome Fault → List Take → List Take → Type 0
 Unpacks (Ok (Taken all)) (Ok (taken ts)) old new = (new ≡ old ++ ts) × (all ≡ list_all is_kept ts)
 Unpacks (Ok (Overlapping name)) (Ok (overlaps its)) old new = (bytes_of name ≡ its) × (new ≡ old)
@@ -149,6 +150,6 @@ Unpacks (Err (of.Fit fault)) told old new = (told ≡ Err (of.Fit fault)) × (ne
 Unpacks (Err of.Read) told old new = StopsIn told old new
 Unpacks (Err of.Put) told old new = StopsIn told old new
 
--- the most that is asked for: the payloads that are taken have no more bytes together than the file
+-- the most bytes requested: all taken payloads have at most the file's length together
 abbrev pub unpack_work : List ℕ → ℕ
 unpack_work file = own_meta file + length file

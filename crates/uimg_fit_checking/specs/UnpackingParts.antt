@@ -1,4 +1,4 @@
--- Taking the payloads of a FIT image out of it, one after the other.
+-- Unpacking the payloads of a FIT image, one after the other.
 use Rattle.std.specs.Prelude.{◌≡◌, ⊤, ℕ, ◌+◌, ◌<◌, ◌≤◌, ◌*◌, List, [], ◌∷◌, ◌++◌, length, Bool, true, false, Option, None, Result, Ok, Err, IfOk}
 use Rattle.std.specs.List.{list_all}
 use Rattle.std.specs.Option.{option_map}
@@ -23,7 +23,8 @@ use Rattle.uimg_fit_checking.specs.declared.unpacking.claims.Claim.TheVariants.{
 use Rattle.uimg_fit_checking.specs.Checks.{wrong_in, or_weak}
 use Rattle.uimg_fit_checking.specs.Unpacking.{Take, GivenFirst, overlapping, is_asked, is_kept, told_of, bytes_of}
 
--- Why a payload is refused was found, if it is; at most 351 bytes were asked for about each hash node.
+-- The refusal of a payload was found, if there is one; at most 351 bytes were requested for each
+-- hash node.
 pub record FindsRefusalBetween (need : Option Algo) (image : NodeOf Spot) (message : List ℕ) (asked new : ℕ) (result : Result (Option Refusal) SourceFault) : Type 0 where
   pub told : IfOk result (λ found. option_map (told_of image.name) found ≡ or_weak (wrong_in image.name message (hashes image)) need image)
   pub paid : new ≤ asked + 351 * length (hashes image)
@@ -31,7 +32,7 @@ pub record FindsRefusalBetween (need : Option Algo) (image : NodeOf Spot) (messa
 abbrev pub FindsRefusal : {S : Type 0} → Option Algo → NodeOf Spot → List ℕ → Result (Option Refusal) SourceFault → (S → Device) → Lent S → Type 0
 FindsRefusal need image message result device source = FindsRefusalBetween need image message (device source.entry.now).asked (device source.exit.now).asked result
 
--- Source and room are as they were; neither memory nor a making is the fault.
+-- Source and room are unchanged; the fault is neither refused memory nor one of building.
 pub record LeavesImageBetween {X : Type 0} (result : Result X Fault) (d e : Device) (old new : Held) : Type 0 where
   pub uses : Uses (is_read result) d e
   pub room : new ≡ old
@@ -42,7 +43,7 @@ abbrev pub LeavesImage : {S X : Type 0} → Result X Fault → (S → Device) �
 LeavesImage result device source room =
     LeavesImageBetween result (device source.entry.now) (device source.exit.now) room.entry.now room.exit.now
 
--- The same, and no failed write is the fault.
+-- The same, and the fault is not a failed write.
 pub record ReadsOrRefusesBetween {X : Type 0} (result : Result X Fault) (d e : Device) (old new : Held) : Type 0 where
   pub uses : Uses (is_read result) d e
   pub room : new ≡ old
@@ -54,7 +55,7 @@ abbrev pub ReadsOrRefuses : {S X : Type 0} → Result X Fault → (S → Device)
 ReadsOrRefuses result device source room =
     ReadsOrRefusesBetween result (device source.entry.now) (device source.exit.now) room.entry.now room.exit.now
 
--- What a claim tells of an image with a payload, where so many bytes may be read.
+-- What a claim says of an image's payload, if `left` bytes may be read.
 abbrev pub ClaimsTo : List ℕ → ℕ → Result Claim Fault → Result (List ℕ) FitFault → Type 0
 ClaimsTo name left (Ok (Fits rest)) (Ok message) = rest + length message ≡ left
 ClaimsTo name left (Ok (Overlaps its)) (Ok message) = (left < length message) × (bytes_of its ≡ name)
@@ -63,12 +64,12 @@ ClaimsTo name left (Err (of.Fit fault)) payload = payload ≡ Err fault
 ClaimsTo name left (Err (of.Blob fault at)) payload = ⊥
 ClaimsTo name left (Err fault) payload = ⊤
 
--- The same, of an image that may not be asked for.
+-- The same for an image that may not be requested.
 abbrev pub ClaimsIf : Bool → List ℕ → ℕ → Result Claim Fault → Result (List ℕ) FitFault → Type 0
 ClaimsIf true name left result payload = ClaimsTo name left result payload
 ClaimsIf false name left result payload = IfOk result (λ claim. claim ≡ Fits left) × (is_refused result ≡ false)
 
--- An image was claimed; its name and its place took at most 267 bytes.
+-- An image was claimed; its name and the span of its payload took at most 267 bytes.
 pub record ClaimsImageBetween (file : List ℕ) (only : Option (List ℕ)) (left : ℕ) (image : NodeOf Spot) (asked new : ℕ) (result : Result Claim Fault) : Type 0 where
   pub told : ClaimsIf (is_asked only image.name) image.name left result (payload file image)
   pub paid : new ≤ asked + 267
@@ -76,7 +77,7 @@ pub record ClaimsImageBetween (file : List ℕ) (only : Option (List ℕ)) (left
 abbrev pub ClaimsImage : {S : Type 0} → Option (List ℕ) → ℕ → NodeOf Spot → Result Claim Fault → (S → Device) → Lent S → Type 0
 ClaimsImage only left image result device source = ClaimsImageBetween (device source.entry.now).bytes only left image (device source.entry.now).asked (device source.exit.now).asked result
 
--- what a claim of all tells, by what their definition has
+-- what claiming all images returns, by the definition
 abbrev pub ClaimsAll : Result (Option (List ℕ)) FitFault → Result (Option NodeName) Fault → Type 0
 ClaimsAll told (Ok found) = told ≡ Ok (option_map bytes_of found)
 ClaimsAll told (Err (of.Fit fault)) = told ≡ Err fault
@@ -91,11 +92,11 @@ pub record ClaimsImagesBetween (file : List ℕ) (only : Option (List ℕ)) (fou
 abbrev pub ClaimsImages : {S : Type 0} → Option (List ℕ) → List (NodeOf Spot) → Result (Option NodeName) Fault → (S → Device) → Lent S → Type 0
 ClaimsImages only found result device source = ClaimsImagesBetween (device source.entry.now).bytes only found (device source.entry.now).asked (device source.exit.now).asked result
 
--- what an image is allowed beside its payload, once its name and its place were asked for before
+-- the most bytes requested for an image besides its payload, its name and its span
 abbrev pub take_allowance : NodeOf Spot → ℕ
 take_allowance image = 493 + allowance image.below
 
--- What an answer tells of an image that was taken, or passed over where it is not asked for.
+-- What a result says of an image that was taken, or passed over if it is not requested.
 abbrev pub TakesTo : Bool → Take → Result Bool Fault → Result (List ℕ) FitFault → List Take → List Take → Type 0
 TakesTo true one (Ok all) payload old new = (new ≡ old ++ one ∷ []) × (all ≡ is_kept one)
 TakesTo false one (Ok all) payload old new = (new ≡ old) × (all ≡ true)
@@ -105,17 +106,17 @@ TakesTo asked one (Err (of.Blob fault at)) payload old new = ⊥
 TakesTo asked one (Err of.Read) payload old new = new ≡ old
 TakesTo asked one (Err of.Put) payload old new = new ≡ old
 
--- how many bytes of a payload are read, if its image is asked for
+-- how many bytes of a payload are read: none if its image is not requested
 abbrev pub size_if : Bool → Result (List ℕ) FitFault → ℕ
 size_if true (Ok message) = length message
 size_if true (Err fault) = 0
 size_if false payload = 0
 
--- What is promised of images that are taken where their payloads have no more bytes together than the file.
+-- A fact about images whose payloads have at most the file's length together.
 abbrev pub Fitting : Option (List ℕ) → List ℕ → List (NodeOf Spot) → Type 0 → Type 0
 Fitting only file found P = overlapping only file (length file) found ≡ Ok None → P
 
--- Images were taken, or some of them where a device failed; no fault is found any more where they fit.
+-- Images were taken, or some of them if a device failed; no other fault is returned.
 abbrev pub TakesAll : List Take → Result Bool Fault → List Take → List Take → Type 0
 TakesAll ts (Ok all) old new = (new ≡ old ++ ts) × (all ≡ list_all is_kept ts)
 TakesAll ts (Err (of.Fit fault)) old new = ⊥

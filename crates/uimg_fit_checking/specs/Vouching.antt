@@ -12,7 +12,7 @@ use Rattle.uimg_fit_base.specs.AlgoSets.{has, no_algos}
 use Rattle.uimg_fit_base.specs.Files.{images_of}
 use Rattle.uimg_fit_reading.specs.Plans.{with_all}
 
--- the algorithms that are at least as strong as one
+-- the algorithms that are at least as strong as this one
 abbrev pub from : Algo → List Algo
 from Crc32 = Crc32 ∷ Md5 ∷ Sha1 ∷ Sha256 ∷ Sha384 ∷ Sha512 ∷ []
 from Md5 = Md5 ∷ Sha1 ∷ Sha256 ∷ Sha384 ∷ Sha512 ∷ []
@@ -25,7 +25,8 @@ from Sha512 = Sha512 ∷ []
 abbrev pub has_from : AlgoSet → Algo → Bool
 has_from set need = list_any (has set) (from need)
 
--- A hash node of an image is compared with its payload by an algorithm that is at least so strong.
+-- An image has a hash node that is compared with its payload by an algorithm at least as strong as
+-- the needed one.
 abbrev pub is_vouched : Algo → NodeOf Spot → Bool
 is_vouched need image = has_from (with_all no_algos (hashes image)) need
 
@@ -34,7 +35,7 @@ abbrev pub are_vouched : Algo → List (NodeOf Spot) → Bool
 are_vouched need [] = false
 are_vouched need (image ∷ more) = list_all (is_vouched need) (image ∷ more)
 
--- the same of the images of a file, or its first fault
+-- the same for the images of a file, or its first fault
 abbrev pub vouched_in : Algo → List ℕ → Result Bool Fault
 vouched_in need file = do
   found ← images_of file

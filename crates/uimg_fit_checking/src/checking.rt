@@ -1,4 +1,4 @@
-//! What is found of a FIT image by a check of the hashes of its images.
+//! Checks the hashes of a FIT image's images.
 
 ghost use Rattle.std.specs.Prelude.{length, IfOk};
 ghost use Rattle.uimg_fit_base.specs.Faults.{Gives};
@@ -18,18 +18,18 @@ use uimg_fit_base::{Fault, Verdict};
 use uimg_fit_reading::images::first_image;
 use uimg_fit_reading::read_tree;
 
-/// What is found of a FIT image whose blob and payload places are in order. An image and a hash node
-/// are told by where their names stand.
+/// The finding about a FIT image whose blob and payloads are in order. Images and hash nodes are
+/// given by the spans of their names.
 #[derive(Clone, Copy, Debug, PartialEq, Eq)]
 pub enum Finding {
     /// Each image has a hash node, and each hash node is right.
     Right {
-        /// How many images there are.
+        /// The number of images.
         images: usize,
-        /// How many hash nodes they have together.
+        /// The number of their hash nodes.
         hashes: usize,
     },
-    /// Each hash node is right, and this is the first image that has none. It comes only where no
+    /// Each hash node is right, and this is the first image without one. Returned only if no
     /// strength is needed.
     Unhashed(Span),
     /// A hash node is not right.
@@ -38,29 +38,29 @@ pub enum Finding {
         image: Span,
         /// The hash node, the first of the image that is not right.
         hash: Span,
-        /// What a report says of it.
+        /// The word that a report prints for it.
         word: Verdict,
     },
-    /// The image has no hash node that is compared with its payload by an algorithm at least as strong
-    /// as the needed one.
+    /// No hash node of the image is compared with its payload by an algorithm at least as strong as
+    /// the needed one.
     Weak(Span),
-    /// With this image, the payloads that are compared have more bytes together than the file, so that
-    /// some of them overlap.
+    /// With this image, the compared payloads have more bytes together than the file, so some of
+    /// them overlap.
     Overlapping(Span),
-    /// There is no image, and a strength is needed.
+    /// There is no image, but a strength is needed.
     NoImage,
 }
 
-/// Compares the hash nodes of a FIT image's images with their payloads, up to the first finding. The
-/// images come in their order: of each, `Overlapping` is found before its payload is read, then `Wrong`,
-/// then `Weak`. `Right` or `Unhashed` is what is left. A needed strength is an algorithm, and the order is
-/// CRC-32, MD5, SHA-1, SHA-256, SHA-384, SHA-512.
+/// Compares the hash nodes of a FIT image's images with their payloads, and returns the first
+/// finding. Images are checked in their order, each for `Overlapping` before its payload is read,
+/// then for `Wrong`, then for `Weak`. If nothing is found, returns `Right` or `Unhashed`. `need` is
+/// the needed strength, in the order CRC-32, MD5, SHA-1, SHA-256, SHA-384, SHA-512.
 ///
-/// Refusals are those of the blob, then `NoImages`, and `NoData` and `DataOutside` of an image before
-/// anything else is found of it. `OutOfMemory` comes exactly where the room refused to grow. A payload is
-/// asked for at most once, and not at all where no hash node of its image is compared, and all payloads
-/// that are asked for have no more bytes together than the file. A name that is returned ends inside the
-/// source, whatever that answers.
+/// Returns the faults of the blob, then `NoImages`, then `NoData` and `DataOutside` of an image
+/// before any finding about it; `OutOfMemory` exactly if the room refused to grow. Each payload is
+/// requested at most once, and not at all if no hash node of its image is compared; all requested
+/// payloads have at most the file's length together. The span of a name ends inside the source,
+/// whatever that returns.
 pub fn check<S: Source, A: Allocator>(
     need: Option<Algo>,
     source: &mut S,

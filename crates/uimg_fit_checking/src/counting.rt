@@ -1,4 +1,4 @@
-//! How many images there are, in memory.
+//! Counts the images of a FIT image in memory.
 
 ghost use Rattle.std.specs.Prelude.{◌≡◌, ◌<◌, length};
 ghost use Rattle.uimg_blob.specs.Roles.{in_images};
@@ -16,7 +16,7 @@ use uimg_fit_reading::images::first_image;
 use uimg_fit_reading::nodes::next_of;
 use uimg_fit_reading::read_tree;
 
-// How many images there are from one on.
+// Counts the images from one on.
 pub(crate) fn count_from<A: Allocator>(blob: &Blob, room: &Room<A>, first: Option<usize>) -> usize
     requires { IsEntryOrNone blob.now room.now first }
     ensures { InTreeFrom blob.now room.now in_images first (λ found. result ≡ length found) }
@@ -34,7 +34,7 @@ pub(crate) fn count_from<A: Allocator>(blob: &Blob, room: &Room<A>, first: Optio
     count
 }
 
-// How many images a source has.
+// Counts the images of a source.
 fn count_in<S: Source, A: Allocator>(source: &mut S, room: &mut Room<A>) -> Result<usize, Fault>
     ensures reads { ReadsAny result S.device source room }
     ensures told { IfHonest S.device source (λ file. Gives (λ count. count) result (count_of file)) }
@@ -44,10 +44,10 @@ fn count_in<S: Source, A: Allocator>(source: &mut S, room: &mut Room<A>) -> Resu
     Ok(count_from(&blob, room, first))
 }
 
-/// How many images a FIT image has, in memory.
+/// Counts the images of a FIT image in memory.
 ///
-/// Refusals are those of the blob, then `NoImages`. `OutOfMemory` comes exactly where the room refused
-/// to grow, and `Read` never.
+/// Returns the faults of the blob, then `NoImages`; `OutOfMemory` exactly if the room refused to
+/// grow, and never `Read`.
 pub fn count_images<A: Allocator>(file: &[u8], room: &mut Room<A>) -> Result<usize, Fault>
     ensures memory { ReadsInMemory file.now result room }
     ensures told { Gives (λ count. count) result (count_of file.now) }

@@ -1,4 +1,4 @@
-//! FIT images are checked, surveyed and unpacked.
+//! Checks, surveys and unpacks FIT images.
 #![tactic(auto)]
 
 mod checking;

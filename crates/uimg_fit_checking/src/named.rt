@@ -22,7 +22,7 @@ use uimg_fit_reading::images::{first_image, image_at};
 use uimg_fit_reading::nodes::{name_of, next_of};
 use uimg_fit_reading::{payload_place, read_tree};
 
-// The bytes of a file at a span.
+// Returns the bytes of a file at a span.
 #[tactic(auto, unfolding(uimg_texts::specs::Slices::slice))]
 fn bytes_at(file: &[u8], span: Span) -> &[u8]
     requires { span.place + span.length ≤ length file.now }
@@ -33,7 +33,7 @@ fn bytes_at(file: &[u8], span: Span) -> &[u8]
     &file[start..end]
 }
 
-// Whether the image of a number has a name.
+// Returns whether the image of a number has this name.
 fn is_named<A: Allocator>(
     file: &[u8],
     blob: &Blob,
@@ -50,7 +50,7 @@ fn is_named<A: Allocator>(
     name == its_name
 }
 
-// The number of the first image of a name.
+// Returns the number of the first image of a name.
 fn image_named<A: Allocator>(
     file: &[u8],
     blob: &Blob,
@@ -73,7 +73,7 @@ fn image_named<A: Allocator>(
     Err(FitFault::NoSuchImage)
 }
 
-// The place of the payload of the first image of a name, in a source with the bytes of a file.
+// Finds the payload of the first image of a name, in a source with the bytes of a file.
 fn locate_in<S: Source, A: Allocator>(
     name: &[u8],
     file: &[u8],
@@ -91,11 +91,11 @@ fn locate_in<S: Source, A: Allocator>(
     payload_place(source, &blob, room, image)
 }
 
-/// Where the payload of the first image of a name stands in the bytes of a FIT image, inside which it
-/// ends.
+/// Finds the payload of the first image of a name in the bytes of a FIT image, and returns its
+/// span, which ends inside them.
 ///
-/// Refusals are those of the blob, then `NoImages`, `NoSuchImage`, and `NoData` and `DataOutside` of that
-/// image, in this order. `OutOfMemory` comes exactly where the room refused to grow, and `Read` never.
+/// Returns the faults of the blob, then `NoImages`, `NoSuchImage`, `NoData` and `DataOutside` of
+/// that image, in this order; `OutOfMemory` exactly if the room refused to grow, and never `Read`.
 pub fn locate_named<A: Allocator>(
     name: &[u8],
     file: &[u8],
@@ -109,7 +109,7 @@ pub fn locate_named<A: Allocator>(
     locate_in(name, file, &mut source, room)
 }
 
-// The place of the name of the image at a position.
+// Finds the name of the image at a position.
 fn name_in<S: Source, A: Allocator>(
     position: u32,
     source: &mut S,
@@ -125,11 +125,11 @@ fn name_in<S: Source, A: Allocator>(
     Ok(name_of(&blob, room, image))
 }
 
-/// Where the name of the image at a position, counted from 0, stands in the bytes of a FIT image, inside
-/// which it ends.
+/// Finds the name of the image at a position, counted from 0, in the bytes of a FIT image, and
+/// returns its span, which ends inside them.
 ///
-/// Refusals are those of the blob, then `NoImages` and `NoSuchImage`. `OutOfMemory` comes exactly where
-/// the room refused to grow, and `Read` never.
+/// Returns the faults of the blob, then `NoImages` and `NoSuchImage`; `OutOfMemory` exactly if the
+/// room refused to grow, and never `Read`.
 pub fn locate_name<A: Allocator>(
     position: u32,
     file: &[u8],

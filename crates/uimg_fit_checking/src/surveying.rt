@@ -1,4 +1,4 @@
-//! What a FIT image says of itself is gathered, without its payloads.
+//! Surveys a FIT image: collects where its facts are, without its payloads.
 
 ghost use Rattle.std.specs.Prelude.{◌≡◌, ◌+◌, ◌<◌, ℕ, List, length, false, IsTrue, IfOk};
 ghost use Rattle.uimg_blob.specs.Counts.{index_cost};
@@ -35,7 +35,7 @@ use uimg_fit_reading::nodes::{child_of, configurations_of, root_value, value_of}
 use uimg_fit_reading::read_tree;
 pub use values::read_bytes;
 
-// The default and what the configurations say, if there are any.
+// Collects `default` and the facts of the configurations, if there are any.
 fn configurations<A: Allocator>(
     alloc: Global,
     blob: &Blob,
@@ -56,7 +56,7 @@ fn configurations<A: Allocator>(
     Ok((preferred, all))
 }
 
-// What an image with these images says.
+// Collects the facts of a FIT image with these images.
 fn gather<A: Allocator>(
     alloc: Global,
     blob: &Blob,
@@ -82,14 +82,15 @@ fn gather<A: Allocator>(
     })
 }
 
-/// What a FIT image says of itself: of its root, its images with their hash nodes, and its
-/// configurations with the names of the nodes below them, all but the payloads. Each value is told as
-/// the place where it stands, which ends in the blob, and the blob in the source, whatever that
-/// answers. No value is read: an honest source is asked for no more than for an index.
+/// Collects the facts of a FIT image: of its root, its images with their hash nodes, and its
+/// configurations with the names of their child nodes, without the payloads. Each fact is the span
+/// of a value, which ends inside the blob, and the blob inside the source, whatever that returns.
+/// Reads no value: of an honest source no more is requested than to index it.
 ///
-/// Refusals are those of the blob, then `NoImages`. The room holds the nodes meanwhile, and refuses memory
-/// as it does for a listing; `OutOfMemory` comes where memory for what is gathered was refused, some 300
-/// bytes for an image or a configuration, 80 for a hash node and 16 for a node below a configuration.
+/// Returns the faults of the blob, then `NoImages`. The room holds the nodes meanwhile, and refuses
+/// memory as for a listing. Returns `OutOfMemory` if memory for the facts was refused: some 300
+/// bytes for an image or a configuration, 80 for a hash node and 16 for a child node of a
+/// configuration.
 pub fn survey<S: Source, A: Allocator>(
     alloc: Global,
     source: &mut S,
@@ -106,16 +107,16 @@ pub fn survey<S: Source, A: Allocator>(
     Ok(gather(alloc, &blob, room, first)?)
 }
 
-/// What `survey` tells, and for each configuration, in the same order, where its properties stand, in their
-/// order, those of no known key too.
+/// Does the same as `survey`, and also lists the properties of each configuration, in their order,
+/// with or without a known key.
 ///
-/// The properties are read from the structure block again, behind what `survey` asks for: an honest source
-/// is asked for at most 44 bytes for each configuration, 268 for each of its properties and 4 for each NOP
-/// of the blob. No value is read.
+/// Reads the properties from the structure block again, after what `survey` requests: of an honest
+/// source at most 44 bytes for each configuration, 268 for each of its properties and 4 for each
+/// NOP of the blob. Reads no value.
 ///
-/// Refusals are those of `survey`. `Stopped` with `Read` comes exactly where a read failed, `OutOfMemory`
-/// also where memory for the places was refused, 32 bytes for each property, and `Changed` only where the
-/// source has not the blob that was indexed.
+/// Returns the faults of `survey`; `Stopped` with `Read` exactly if a read failed, `OutOfMemory`
+/// also if memory for the properties was refused, 32 bytes for each, and `Changed` only if the blob
+/// is not the one that was indexed.
 pub fn survey_with_properties<S: Source, A: Allocator>(
     alloc: Global,
     source: &mut S,

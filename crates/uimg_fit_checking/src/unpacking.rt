@@ -1,4 +1,5 @@
-//! The payloads of a FIT image are taken out of it, each vouched for by its hash nodes while it is written.
+//! Unpacks the payloads of a FIT image; each is summed while it is written, and kept if its hash
+//! nodes are right.
 
 ghost use Rattle.std.specs.Prelude.{IsTrue};
 ghost use Rattle.std.specs.Option.{option_map};
@@ -25,31 +26,31 @@ use uimg_fit_base::Fault;
 use uimg_fit_reading::images::first_image;
 use uimg_fit_reading::read_tree;
 
-/// What became of a FIT image that was unpacked.
+/// The result of unpacking a FIT image.
 #[derive(Clone, Copy, Debug)]
 pub enum Unpacked {
-    /// Each payload that was asked for was given. It tells whether all are kept.
+    /// Each requested payload was given. True if all are kept.
     Taken(bool),
-    /// With the payload of the image of this name they have more bytes together than the file, so that
-    /// some of them overlap. Nothing was given.
+    /// With the payload of the image of this name, the requested ones have more bytes together than
+    /// the file, so some of them overlap. Nothing was given.
     Overlapping(NodeName),
 }
 
-/// Takes the payloads of a FIT image out of it, in their order: those of all images, or of the images of
-/// one name.
+/// Unpacks the payloads of a FIT image in their order: those of all images, or of the images of one
+/// name.
 ///
-/// Each payload is written to a shelf of the taker's while it is summed, by the algorithms of its
-/// image's hash nodes. It is kept if each hash node is right, and where an algorithm is needed one of
-/// them is compared by it or a stronger one, in the order CRC-32, MD5, SHA-1, SHA-256, SHA-384,
-/// SHA-512; else it is refused, and the next one follows. So what an honest taker keeps has the digest
-/// that is told of it, whatever the source answers when it is read twice; each byte of a payload is
-/// asked for once. Over an honest source beside metadata no more is asked for than the file has bytes,
-/// and an honest taker is given just what the definition says becomes of each payload.
+/// Each payload is written to a shelf of the taker while it is summed, by the algorithms of its
+/// image's hash nodes. It is kept if each hash node is right and, if a strength is needed, one of
+/// them is compared by that algorithm or a stronger one, in the order CRC-32, MD5, SHA-1, SHA-256,
+/// SHA-384, SHA-512. Otherwise it is refused, and the next one follows. Each byte of a payload is
+/// requested once. So what an honest taker keeps has the digest that is given with it, even if the
+/// source changes between reads. Over an honest source at most the file's length is requested
+/// beside metadata, and an honest taker is given exactly what the definition says of each payload.
 ///
-/// Refusals are those of the blob, then `NoImages`, and `NoData` and `DataOutside` of the images in their
-/// order, all before anything is given; where payloads overlap, nothing is given either. `OutOfMemory`
-/// comes exactly where the room refused to grow, `Read` exactly where a read failed, and `Put` where the
-/// taker or a shelf of its did; what was given before stays given.
+/// Returns the faults of the blob, then `NoImages`, then `NoData` and `DataOutside` of the images
+/// in their order, all before anything is given; nothing is given either if payloads overlap.
+/// Returns `OutOfMemory` exactly if the room refused to grow, `Read` exactly if a read failed, and
+/// `Put` if the taker or one of its shelves failed. What was given before a fault stays given.
 pub fn unpack<S: Source, A: Allocator, T: Taker>(
     only: Option<NodeName>,
     need: Option<Algo>,

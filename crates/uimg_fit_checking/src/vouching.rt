@@ -1,4 +1,4 @@
-//! Whether hash nodes of a certain strength stand for each image.
+//! Whether each image has a hash node of a needed strength.
 ghost use Rattle.std.specs.Prelude.{◌≡◌, IfOk, is_err, not, false, IsTrue, Some};
 ghost use Rattle.std.specs.List.{list_all};
 ghost use Rattle.std.specs.Option.{option_map_or};
@@ -17,7 +17,7 @@ use uimg_fit_reading::images::first_image;
 use uimg_fit_reading::nodes::{first_hash, next_of};
 use uimg_fit_reading::{compared_algos, read_tree};
 
-// Whether a set has an algorithm that is at least as strong as one.
+// Returns whether a set has an algorithm at least as strong as the needed one.
 fn has_from(set: AlgoSet, need: Algo) -> bool
     ensures { result ≡ has_from set need }
 {
@@ -35,7 +35,7 @@ fn has_from(set: AlgoSet, need: Algo) -> bool
     }
 }
 
-// Whether no algorithm of a set is at least as strong as the needed one.
+// Returns whether a needed strength is lacking: no algorithm of a set is at least as strong.
 pub(crate) fn lacks(set: AlgoSet, need: Option<Algo>) -> bool
     ensures { result ≡ option_map_or (λ algo. not (has_from set algo)) need false }
 {
@@ -45,7 +45,8 @@ pub(crate) fn lacks(set: AlgoSet, need: Option<Algo>) -> bool
     }
 }
 
-// Whether each image from one on has a hash node that is compared by an algorithm so strong.
+// Returns whether each image from one on has a hash node that is compared by an algorithm at least
+// as strong as the needed one.
 fn all_vouched<S: Source, A: Allocator>(
     source: &mut S,
     blob: &Blob,
@@ -69,7 +70,7 @@ fn all_vouched<S: Source, A: Allocator>(
     Ok(true)
 }
 
-// The same of the images of a source, of which there has to be one.
+// Returns the same for the images of a source, and false if there is none.
 fn vouched_in<S: Source, A: Allocator>(
     need: Algo,
     source: &mut S,
@@ -87,12 +88,12 @@ fn vouched_in<S: Source, A: Allocator>(
     Ok(all_vouched(source, &blob, room, first, need)?)
 }
 
-/// Whether a FIT image has images, each with a hash node that is compared with its payload by an
-/// algorithm that is at least as strong as one, in the order CRC-32, MD5, SHA-1, SHA-256, SHA-384,
-/// SHA-512. Nothing is compared here: that the hash nodes are right is what `verify` says.
+/// Returns whether a FIT image has images, each with a hash node that is compared with its payload
+/// by an algorithm at least as strong as `need`, in the order CRC-32, MD5, SHA-1, SHA-256, SHA-384,
+/// SHA-512. Compares nothing: `verify` says whether the hash nodes are right.
 ///
-/// Refusals are those of the blob, then `NoImages`. `OutOfMemory` comes exactly where the room refused
-/// to grow, and `Read` never.
+/// Returns the faults of the blob, then `NoImages`; `OutOfMemory` exactly if the room refused to
+/// grow, and never `Read`.
 pub fn is_vouched<A: Allocator>(need: Algo, file: &[u8], room: &mut Room<A>) -> Result<bool, Fault>
     ensures memory { ReadsInMemory file.now result room }
     ensures told { Gives (λ all. all) result (vouched_in need file.now) }

@@ -18,14 +18,14 @@ use uimg_fit_reading::nodes::{name_of, next_hash};
 /// A hash node that is not right.
 #[derive(Clone, Copy, Debug, PartialEq, Eq)]
 pub(crate) struct WrongHash {
-    // Where its name stands.
+    // The span of its name.
     pub(crate) hash: Span,
-    // What a report says of it.
+    // The word that a report prints for it.
     pub(crate) word: Verdict,
 }
 
 impl WrongHash {
-    // What is found of an image, whose name stands at a span, with such a hash node.
+    // Returns the finding about an image with such a hash node; `image` is the span of its name.
     pub(crate) fn finding(self, image: Span) -> Finding
         ensures { result ≡ Finding.Wrong image self.hash self.word }
     {
@@ -37,7 +37,7 @@ impl WrongHash {
     }
 }
 
-// The first hash node from one on that is not right, by the digests of their payload.
+// Returns the first hash node from one on that is not right, by the digests of their payload.
 pub(crate) fn first_wrong<S: Source, A: Allocator>(
     source: &mut S,
     blob: &Blob,

@@ -1,4 +1,4 @@
--- What is left of the metadata for the names and texts of nodes, once their blob is indexed.
+-- The most bytes requested for the names and texts of nodes, once their blob is indexed.
 use Rattle.std.specs.Prelude.{ℕ, ◌+◌, ◌*◌, List, length, if◌then◌else◌}
 use Rattle.std.specs.List.{sum_by}
 use Rattle.uimg_blob.specs.Keys.{is_text}
@@ -6,11 +6,11 @@ use Rattle.uimg_blob.specs.Plain.{NamedOf, NodesOf, no_node, a_node}
 use Rattle.uimg_blob.specs.LookUps.{NodeOf}
 use Rattle.uimg_blob.specs.Spots.{Spot}
 
--- the bytes of a value that is a text
+-- the length of a value that is a text, else 0
 abbrev pub text_size : NamedOf Spot → ℕ
 text_size p = if is_text p.name then length p.value.bytes else 0
 
--- the bytes of all texts of a node
+-- the length of all texts of a node
 abbrev pub text_sizes : List (NamedOf Spot) → ℕ
 text_sizes own = sum_by text_size own
 
@@ -19,6 +19,6 @@ unfoldable pub allowance : NodesOf Spot → ℕ
 allowance no_node = 0
 allowance (a_node name own below after) = 760 + 4 * text_sizes own + allowance below + allowance after
 
--- the same of one node and those below it
+-- the same for one node and those below it
 abbrev pub node_allowance : NodeOf Spot → ℕ
 node_allowance n = 760 + 4 * text_sizes n.own + allowance n.below

@@ -1,4 +1,4 @@
--- Reporting on the hash nodes of an image: the digests that they are compared with, and then their lines.
+-- Reports on the hash nodes of an image: the digests that they are compared with, then their lines.
 use Rattle.std.specs.Prelude.{◌≡◌, ◌≤◌, ◌+◌, ◌*◌, ℕ, List, ◌++◌, length, codes, if◌then◌else◌, Bool, Result, IfOk, is_err}
 use Rattle.std.specs.List.{AllByRecursion, flat_map, sum_by}
 use Rattle.std.specs.Option.{option_map_or}
@@ -20,19 +20,20 @@ use Rattle.uimg_fit_base.specs.Report.{algo_of, word_text, word_of, hash_line, a
 use Rattle.uimg_fit_reading.specs.Values.{in_span}
 use Rattle.uimg_fit_reading.specs.Plans.{IsCovered, are_compared, with_all, plan_of, algo_length}
 
--- the most bytes that are asked for to write the line of a hash node of an image whose name has n bytes
+-- the most bytes requested to write the line of a hash node of an image whose name has n bytes
 abbrev pub line_cost : ℕ → NodeOf Spot → ℕ
 line_cost n hash = n + 351 + algo_length hash
 
--- the same with the 32 that its algorithm may be told by before the payload is read
+-- the same, and 32 to find its algorithm before the payload is read
 abbrev pub hash_cost : ℕ → NodeOf Spot → ℕ
 hash_cost n hash = n + 383 + algo_length hash
 
--- The algorithm of each hash node that is compared is in a set.
+-- The algorithm of each compared hash node is in a set.
 abbrev pub AllCovered : AlgoSet → List (NodeOf Spot) → Type 0
 AllCovered set hs = AllByRecursion (λ h. IsCovered set (plan_of h)) hs
 
--- The algorithms that hash nodes are compared by were found; at most 32 bytes were asked for about each node.
+-- The algorithms of the compared hash nodes were found; at most 32 bytes were requested for each
+-- node.
 pub record FindsAlgosBetween (hs : List (NodeOf Spot)) (asked new : ℕ) (result : Result AlgoSet SourceFault) : Type 0 where
   pub algos : IfOk result (λ set. set ≡ with_all no_algos hs)
   pub paid : new ≤ asked + 32 * length hs
@@ -40,7 +41,8 @@ pub record FindsAlgosBetween (hs : List (NodeOf Spot)) (asked new : ℕ) (result
 abbrev pub FindsAlgos : {S : Type 0} → List (NodeOf Spot) → Result AlgoSet SourceFault → (S → Device) → Lent S → Type 0
 FindsAlgos hs result device source = FindsAlgosBetween hs (device source.entry.now).asked (device source.exit.now).asked result
 
--- The digests of a payload by these algorithms were found. It was asked for at most once, and not at all where none is compared.
+-- The digests of a payload by these algorithms were found. The payload was requested at most once,
+-- and not at all if no hash node is compared.
 pub record FindsDigestsBetween (message : List ℕ) (size : ℕ) (hs : List (NodeOf Spot)) (asked new : ℕ) (result : Result Digests SourceFault) : Type 0 where
   pub digests : IfOk result (λ found. AreDigests found message)
   pub covered : IfOk result (λ found. AllCovered (set_of found) hs)
@@ -55,7 +57,7 @@ abbrev pub line_of : List ℕ → Verdict → NodeOf Spot → List ℕ
 line_of name word hash =
     line (name ++ codes " " ++ hash.name ++ codes " " ++ option_map_or (λ n. n) (algo_of hash) (codes "-") ++ codes " " ++ word_text word)
 
--- The line of a hash node was written, and its word is told.
+-- The line of a hash node was written; the result is its word.
 pub record PutsHashBetween (name message : List ℕ) (n : ℕ) (hash : NodeOf Spot) (asked new : ℕ) (result : Result Verdict MoveFault) (old now : Sink) : Type 0 where
   pub word : IfOk result (λ word. word ≡ word_of message hash)
   pub written : Written (is_err result) old now (hash_line name message hash)
@@ -65,7 +67,7 @@ abbrev pub PutsHash : {S : Type 0} → Span → List ℕ → NodeOf Spot → Res
 PutsHash image message hash result device source out =
     PutsHashBetween (in_span (device source.entry.now).bytes image) message image.length hash (device source.entry.now).asked (device source.exit.now).asked result out.entry.now out.exit.now
 
--- The lines of hash nodes were written, and whether all are right is told.
+-- The lines of hash nodes were written; the result is whether all are right.
 pub record PutsHashesBetween (name message : List ℕ) (n : ℕ) (hs : List (NodeOf Spot)) (asked new : ℕ) (result : Result Bool MoveFault) (old now : Sink) : Type 0 where
   pub right : IfOk result (λ right. right ≡ are_right message hs)
   pub written : Written (is_err result) old now (flat_map (hash_line name message) hs)
@@ -75,7 +77,7 @@ abbrev pub PutsHashes : {S : Type 0} → Span → List ℕ → List (NodeOf Spot
 PutsHashes image message hs result device source out =
     PutsHashesBetween (in_span (device source.entry.now).bytes image) message image.length hs (device source.entry.now).asked (device source.exit.now).asked result out.entry.now out.exit.now
 
--- All hash nodes were reported on, unless a device failed.
+-- All hash nodes were reported on, after at most one pass over the payload.
 pub record ReportsHashesBetween (name message : List ℕ) (size n : ℕ) (hs : List (NodeOf Spot)) (asked new : ℕ) (result : Result Bool MoveFault) (old now : Sink) : Type 0 where
   pub right : IfOk result (λ right. right ≡ are_right message hs)
   pub written : Written (is_err result) old now (flat_map (hash_line name message) hs)

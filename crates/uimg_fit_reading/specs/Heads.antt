@@ -1,4 +1,4 @@
--- The lines of a listing that name no image and no configuration.
+-- The head lines of a listing, and the line of the default configuration.
 use Rattle.std.specs.Prelude.{ℕ, List, [], ◌++◌, Option, codes}
 use Rattle.std.specs.Option.{option_map_or}
 use Rattle.uimg_base.specs.Outcome.{line}
@@ -6,7 +6,7 @@ use Rattle.uimg_texts.specs.Nul.{text}
 use Rattle.uimg_texts.specs.Times.{time_text}
 use Rattle.uimg_base.specs.declared.spans.Span.{Span}
 
--- how many bytes stand at a span, if there is one
+-- the length of a span, or 0 if it is missing
 abbrev pub span_size : Option Span → ℕ
 span_size value = option_map_or (λ s. s.length) value 0
 

@@ -1,4 +1,4 @@
--- Reporting on images, one after the other.
+-- Reports on images, one after the other.
 use Rattle.std.specs.Prelude.{◌≡◌, ◌≤◌, ◌+◌, ℕ, List, if◌then◌else◌, Bool, true, false, Result, Ok, Err, IfOk, is_err}
 use Rattle.std.specs.List.{sum_by}
 use Rattle.uimg_base.specs.Device.{Device}
@@ -26,7 +26,8 @@ abbrev pub status_of : Bool → Status
 status_of true = Done
 status_of false = NotRight
 
--- what is said of an image whose payload is known; its place took at most 12 bytes
+-- an image whose payload was found was reported on; 12 bytes of its allowance are left for finding
+-- the payload
 pub record ReportsFoundBetween (image : NodeOf Spot) (message : List ℕ) (size asked new : ℕ) (result : Result Bool MoveFault) (old now : Sink) : Type 0 where
   pub right : IfOk result (λ right. right ≡ are_right message (hashes image))
   pub written : Written (is_err result) old now (hash_lines image.name message (hashes image))
@@ -36,7 +37,7 @@ abbrev pub ReportsFound : {S : Type 0} → NodeOf Spot → Span → Result Bool 
 ReportsFound found payload result device source out =
     ReportsFoundBetween found (in_span (device source.entry.now).bytes payload) payload.length (device source.entry.now).asked (device source.exit.now).asked result out.entry.now out.exit.now
 
--- the most bytes that are asked for about an image
+-- the most bytes requested for an image
 abbrev pub image_work : List ℕ → NodeOf Spot → ℕ
 image_work file image = hashed image (payload file image) + node_allowance image
 
@@ -48,7 +49,7 @@ pub record ImageDone (file : List ℕ) (image : NodeOf Spot) (asked new : ℕ) (
   pub written : AppendsAll old now (hash_lines image.name message (hashes image))
   pub paid : new ≤ asked + image_work file image
 
--- The report ends at an image, whatever comes after it.
+-- The report ends at an image, whatever would come after it.
 pub record ImageCut (file : List ℕ) (image : NodeOf Spot) (asked new : ℕ) (fault : Fault) (old now : Sink) : Type 0 where
   pub told : (rest : Outcome Fault) → Tells (end_of (Err fault)) (report_step image (payload file image) rest) old now
   pub paid : new ≤ asked + image_work file image

@@ -16,7 +16,7 @@ use Rattle.uimg_fit_base.specs.Places.{place}
 use Rattle.uimg_fit_reading.specs.Heads.{description_line, created_line, default_line}
 use Rattle.uimg_fit_reading.specs.Rows.{image_rows, hash_rows, configuration_rows, rows_lines, no_facts, title}
 
--- the root's time, if it has one
+-- the root's timestamp, if it has one
 abbrev pub time_of : List (NamedOf Spot) → Option ℕ
 time_of root = cell root (codes "timestamp")
 
@@ -45,7 +45,7 @@ abbrev pub configuration_lines : ℕ → NodeOf Spot → List ℕ
 configuration_lines i configuration =
     title (codes " Configuration ") i configuration.name ++ rows_lines no_facts configuration.own configuration_rows
 
--- the lines of nodes that are numbered from i on
+-- the lines of nodes, numbered from i on
 unfoldable pub numbered : (ℕ → NodeOf Spot → List ℕ) → ℕ → List (NodeOf Spot) → List ℕ
 numbered lines i [] = []
 numbered lines i (n ∷ ns) = lines i n ++ numbered lines (suc i) ns
@@ -55,12 +55,12 @@ abbrev pub configurations_lines : Option (NodeOf Spot) → List ℕ
 configurations_lines None = []
 configurations_lines (Some c) = default_line (bytes_of c.own (codes "default")) ++ numbered configuration_lines 0 (listed c.below)
 
--- what stands after the head lines: images and configurations, or the refusal where there are no images
+-- the text after the head lines: images and configurations, or a refusal without a node `images`
 abbrev pub lists : Naming → List ℕ → NodesOf Spot → Option (List (NodeOf Spot)) → Outcome Fault
 lists naming file t (Some found) =
     told (numbered (image_lines naming file (time_of (root_own t))) 0 found ++ configurations_lines (configurations t)) done
 lists naming file t None = told [] (refused (Fit NoImages))
 
--- the listing of a file by a set of names; one whose blob is faulty has no line
+-- the listing of a file, with the names of a set; a faulty blob has no line
 abbrev pub list_of : Naming → List ℕ → Outcome Fault
 list_of naming file = unless_refused (tree_of file) (λ t. after (head_lines (root_own t)) (lists naming file t (images t)))

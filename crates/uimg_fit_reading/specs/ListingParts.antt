@@ -1,4 +1,4 @@
--- What is asked for after the head lines of a listing.
+-- The lines after the head lines of a listing, and the most bytes requested for them.
 use Rattle.std.specs.Prelude.{ℕ, ◌+◌, ◌≤◌, List, Option, Some, None}
 use Rattle.std.specs.List.{sum_by}
 use Rattle.uimg_base.specs.Device.{Device}
@@ -10,17 +10,17 @@ use Rattle.uimg_blob.specs.Spots.{Spot}
 use Rattle.uimg_fit_base.specs.declared.fault.Fault.{Fault}
 use Rattle.uimg_fit_reading.specs.Allowances.{node_allowance}
 
--- what the configurations are allowed
+-- the most bytes requested for the configurations
 abbrev pub configurations_allowance : Option (NodeOf Spot) → ℕ
 configurations_allowance None = 0
 configurations_allowance (Some c) = node_allowance c
 
--- what images and configurations are allowed
+-- the most bytes requested for images and configurations
 abbrev pub body_allowance : NodesOf Spot → Option (List (NodeOf Spot)) → ℕ
 body_allowance t None = 0
 body_allowance t (Some found) = sum_by node_allowance found + configurations_allowance (configurations t)
 
--- At most so many bytes more were asked for, and an outcome was told.
+-- At most `most` bytes more were requested, and an outcome was written.
 pub record TellsWithin (e : Option (End Fault)) (most : ℕ) (d f : Device) (s t : Sink) (o : Outcome Fault) : Type 0 where
   pub asked : f.asked ≤ d.asked + most
   pub told : Tells e o s t

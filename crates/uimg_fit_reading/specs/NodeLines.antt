@@ -1,4 +1,4 @@
--- The lines of a node of a listing, by what it is.
+-- The lines of a listed node, by its kind.
 use Rattle.std.specs.Prelude.{ℕ, List}
 use Rattle.uimg_blob.specs.Roles.{Level, in_images, in_configurations}
 use Rattle.uimg_blob.specs.LookUps.{NodeOf}
@@ -7,7 +7,7 @@ use Rattle.uimg_fit_reading.specs.declared.listing.listed_nodes.Kind.{Kind}
 use Rattle.uimg_fit_reading.specs.declared.listing.listed_nodes.Kind.TheVariants.{Image, Configuration}
 use Rattle.uimg_fit_reading.specs.Listing.{image_lines, configuration_lines}
 
--- where nodes of a kind stand
+-- the level of the nodes of a kind
 abbrev pub level_of : Kind → Level
 level_of (Image naming time) = in_images
 level_of Configuration = in_configurations

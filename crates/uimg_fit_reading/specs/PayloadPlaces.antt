@@ -1,4 +1,4 @@
--- Where the payload of an image stands, by the four values that tell it.
+-- Where the payload of an image is, by the four properties that say it.
 use Rattle.std.specs.Prelude.{◌≡◌, ◌≤◌, ◌<◌, ◌+◌, ◌^◌, ℕ, List, codes, false, Option, Result, IfOk, IfSome, IfErr}
 use Rattle.std.specs.Option.{option_map, option_and_then}
 use Rattle.uimg_texts.specs.Numbers.{up4}
@@ -12,7 +12,7 @@ use Rattle.uimg_fit_base.specs.Files.{bytes_of, bytes_in, number}
 use Rattle.uimg_fit_base.specs.Places.{external, embedded, or_else}
 use Rattle.uimg_fit_reading.specs.declared.places.PayloadFacts.{PayloadFacts}
 
--- What an image says of the place of its payload. Of the value `data` it is where this stands.
+-- What an image says about where its payload is. Of the value `data` only the span counts.
 pub record PayloadSaid : Type 0 where
   pub embedded : Option Span
   pub size : Option (List ℕ)
@@ -27,7 +27,7 @@ payload_said image = record {
   position = bytes_of image.own (codes "data-position");
 }
 
--- what stands in a file where facts tell
+-- the values in a file at given spans
 abbrev pub read_payload : List ℕ → PayloadFacts → PayloadSaid
 read_payload file facts = record {
   embedded = facts.embedded;
@@ -36,14 +36,14 @@ read_payload file facts = record {
   position = bytes_in file facts.position;
 }
 
--- Where the payload of an image stands, by what it says, in a blob of a total size: the place that it has by `place`.
+-- The span of a payload by what its image says, in a blob of this total size: the span by `place`.
 abbrev pub place_said : ℕ → PayloadSaid → Result Span FitFault
 place_said totalsize said =
     or_else (external 0 (option_and_then number said.position) (option_and_then number said.size))
     (external (up4 totalsize) (option_and_then number said.offset) (option_and_then number said.size))
     (embedded said.embedded)
 
--- A value that is there ends within so many bytes.
+-- A value, if it is present, ends within `size` bytes.
 abbrev pub Ends : ℕ → Option Span → Type 0
 Ends size value = IfSome value (λ s. s.place + s.length ≤ size)
 
@@ -53,7 +53,8 @@ pub record PayloadInside (file_size : ℕ) (facts : PayloadFacts) : Type 0 where
   pub offset : Ends file_size facts.offset
   pub position : Ends file_size facts.position
 
--- The place of a payload is made of numbers of 32 bits, or the fault that refuses it is not of a making.
+-- The offset of a payload is below 2^41 and its length below 2^32, or its fault is not one of
+-- building.
 pub record PlaceOrFault (found : Result Span FitFault) : Type 0 where
   pub small : IfOk found (λ p. (p.place < 2 ^ 41) × (p.length < 2 ^ 32))
   pub no_making : IfErr found (λ fault. of_making fault ≡ false)

@@ -1,4 +1,4 @@
--- What is to be done about a hash node, before any payload is read.
+-- The plan for a hash node, made before any payload is read.
 use Rattle.std.specs.Prelude.{◌≡◌, ⊤, ℕ, ◌+◌, ◌≤◌, List, [], ◌∷◌, ◌++◌, length, ◌==◌, Bool, true, false, if◌then◌else◌, Option, Some, None, IfSome, codes}
 use Rattle.std.specs.List.{list_any}
 use Rattle.std.specs.Option.{option_map, option_map_or}
@@ -34,12 +34,12 @@ abbrev pub plan_by_algo : Option Algo → Option Span → Plan
 plan_by_algo None value = Unsupported
 plan_by_algo (Some algo) value = plan_by_value algo value
 
--- what is to be done by the name of an algorithm and the place of a value, each of which may be missing
+-- the plan by an algorithm's name and a value's span, each of which may be missing
 abbrev pub plan_by_name : Option (List ℕ) → Option Span → Plan
 plan_by_name None value = Malformed
 plan_by_name (Some name) value = plan_by_algo (algo_named name) value
 
--- what is to be done about a hash node
+-- the plan for a hash node
 abbrev pub plan_of : NodeOf Spot → Plan
 plan_of hash = plan_by_name (algo_of hash) (option_map value_span (first hash.own (codes "value")))
 
@@ -49,30 +49,30 @@ compares Malformed = false
 compares Unsupported = false
 compares (Compared algo span) = true
 
--- whether the value of any of some hash nodes is compared
+-- whether the value of any of these hash nodes is compared
 abbrev pub are_compared : List (NodeOf Spot) → Bool
 are_compared hs = list_any (λ h. compares (plan_of h)) hs
 
--- The algorithm that a plan compares by, if it compares, is in a set.
+-- The algorithm of a plan that compares is in a set.
 abbrev pub IsCovered : AlgoSet → Plan → Type 0
 IsCovered set Malformed = ⊤
 IsCovered set Unsupported = ⊤
 IsCovered set (Compared algo span) = has set algo ≡ true
 
--- A word is that a value is right only where it is compared by an algorithm of a set.
+-- The word is `Right` only if the plan compares by an algorithm of the set.
 abbrev pub IsCompared : AlgoSet → Plan → Verdict → Type 0
 IsCompared set (Compared algo span) word.Right = has set algo ≡ true
 IsCompared set Malformed word.Right = ⊥
 IsCompared set Unsupported word.Right = ⊥
 IsCompared set plan _ = ⊤
 
--- a set with that algorithm
+-- a set with the algorithm of a plan
 abbrev pub with_plan : AlgoSet → Plan → AlgoSet
 with_plan set Malformed = set
 with_plan set Unsupported = set
 with_plan set (Compared algo span) = marked set algo
 
--- a set with the algorithms that hash nodes are compared by
+-- a set with the algorithms of the compared hash nodes
 unfoldable pub with_all : AlgoSet → List (NodeOf Spot) → AlgoSet
 with_all set [] = set
 with_all set (h ∷ hs) = with_all (with_plan set (plan_of h)) hs
@@ -81,17 +81,17 @@ with_all set (h ∷ hs) = with_all (with_plan set (plan_of h)) hs
 abbrev pub text_in : List ℕ → Option Span → Option (List ℕ)
 text_in file value = option_map text (bytes_in file value)
 
--- the text that is printed of an algorithm's name, `-` where it is missing
+-- the printed name of an algorithm, `-` if it is missing
 abbrev pub algo_text : List ℕ → Option Span → List ℕ
 algo_text file value = option_map_or (λ n. n) (text_in file value) (codes "-")
 
--- The names that a hash node's line is made of end in a file of so many bytes.
+-- The names in a hash node's line end within a file of this size.
 pub record LineInside (size : ℕ) (line : HashLine) : Type 0 where
   pub image : line.image.place + line.image.length ≤ size
   pub hash : line.hash.place + line.hash.length ≤ size
   pub algo : IfSome line.algo (λ s. s.place + s.length ≤ size)
 
--- the line of a hash node, by the places of its parts
+-- the line of a hash node, from the spans of its parts
 abbrev pub names_text : List ℕ → HashLine → List ℕ
 names_text file l = (slice file l.image.place l.image.length ++ codes " ") ++ (slice file l.hash.place l.hash.length ++ codes " ")
 
@@ -101,30 +101,30 @@ end_text file l = algo_text file l.algo ++ line (codes " " ++ word_text l.word)
 abbrev pub hash_text : List ℕ → HashLine → List ℕ
 hash_text file l = names_text file l ++ end_text file l
 
--- how many bytes stand at a span
+-- the length of a span, or 0 if it is missing
 abbrev pub span_length : Option Span → ℕ
 span_length None = 0
 span_length (Some span) = span.length
 
--- The value that is compared is the one that is there, and has the length of its algorithm's digests.
+-- A compared value is this one, and has the length of its algorithm's digests.
 abbrev pub IsOf : Option Span → Plan → Type 0
 IsOf value Malformed = ⊤
 IsOf value Unsupported = ⊤
 IsOf value (Compared algo span) = (value ≡ Some span) × (span.length ≡ digest_size algo)
 
--- The value that is compared ends in a file of so many bytes, and has the length of its algorithm's digests.
+-- A compared value ends within a file of this size, and has the length of its algorithm's digests.
 abbrev pub EndsIn : ℕ → Plan → Type 0
 EndsIn size Malformed = ⊤
 EndsIn size Unsupported = ⊤
 EndsIn size (Compared algo span) = (span.place + span.length ≤ size) × (span.length ≡ digest_size algo)
 
--- the word of a hash node, once its value is compared
+-- the word of a hash node, by its plan and its payload
 abbrev pub word_by : List ℕ → List ℕ → Plan → Verdict
 word_by file message Malformed = word.Malformed
 word_by file message Unsupported = word.Unsupported
 word_by file message (Compared algo span) =
     if bytes_eq (slice file span.place span.length) (digest_by algo message) then word.Right else word.Wrong
 
--- how many bytes the value of a hash node's algorithm has
+-- the length of a hash node's `algo`, or 0 if it is missing
 abbrev pub algo_length : NodeOf Spot → ℕ
 algo_length hash = option_map_or (λ v. length v) (bytes_of hash.own (codes "algo")) 0

@@ -1,4 +1,4 @@
--- What a call that reads and writes leaves of a source, a room and an output.
+-- What a call that reads and writes does to a source, a room and an output.
 use Rattle.std.specs.Prelude.{◌≡◌, ◌≤◌, ◌+◌, ℕ, List, false, Result, is_err, IfErr, IsTrue}
 use Rattle.uimg_base.specs.Device.{Device, RisesIf}
 use Rattle.uimg_base.specs.Held.{Held}
@@ -12,15 +12,15 @@ use Rattle.uimg_base.specs.declared.ranges.MoveFault.TheVariants.{Put}
 use Rattle.uimg_fit_base.specs.declared.fault.Fault.{Fault}
 use Rattle.uimg_fit_base.specs.Faults as fit
 
--- What is said of the bytes of a source that answers them.
+-- A fact about the bytes of a source, if it is honest.
 abbrev pub IfHonest : {S : Type 0} → (S → Device) → Lent S → (List ℕ → Type 0) → Type 0
 IfHonest device source P = IsTrue (device source.entry.now).honest → P (device source.entry.now).bytes
 
--- At most so many bytes more were asked for.
+-- At most `most` bytes more were requested.
 abbrev pub Pays : {S : Type 0} → ℕ → (S → Device) → Lent S → Type 0
 Pays most device source = (device source.exit.now).asked ≤ (device source.entry.now).asked + most
 
--- Source and room are as they were, and a failure was counted exactly where one is answered.
+-- Source and room are unchanged, and a failure was counted exactly if it is returned.
 pub record LeavesBetween {X : Type 0} (result : Result X MoveFault) (d e : Device) (old new : Held) (s t : Sink) : Type 0 where
   pub uses : Uses (is_read result) d e
   pub room : new ≡ old
@@ -30,7 +30,8 @@ abbrev pub Leaves : {S X : Type 0} → Result X MoveFault → (S → Device) →
 Leaves result device source room out = LeavesBetween result
     (device source.entry.now) (device source.exit.now) room.entry.now room.exit.now out.entry.now out.exit.now
 
--- The same of a call that may refuse the image. Neither want of memory nor a fault of a making is answered.
+-- The same for a call that may refuse the image. Neither refused memory nor a fault of building is
+-- returned.
 pub record RefusesBetween {X : Type 0} (result : Result X Fault) (d e : Device) (old new : Held) (s t : Sink) : Type 0 where
   pub uses : Uses (fit.is_read result) d e
   pub room : new ≡ old
@@ -42,31 +43,31 @@ abbrev pub LeavesOrRefuses : {S X : Type 0} → Result X Fault → (S → Device
 LeavesOrRefuses result device source room out = RefusesBetween result
     (device source.entry.now) (device source.exit.now) room.entry.now room.exit.now out.entry.now out.exit.now
 
--- Nothing but a failed read, or what is wrong with the image, is answered.
+-- Of faults, only a failed read and what is wrong with the image are returned.
 pub record OnlyReads {X : Type 0} (result : Result X Fault) : Type 0 where
   pub no_put : fit.is_put result ≡ false
   pub memory : fit.is_out_of_memory result ≡ false
   pub no_making : fit.is_of_making result ≡ false
 
--- A text was written, or a prefix of it where a write failed.
+-- A text was written, or a prefix of it if a write failed.
 pub record PutsOwn {X : Type 0} (result : Result X MoveFault) (s t : Sink) (text : List ℕ) : Type 0 where
   pub faults : RisesIf (is_put result) s.faults t.faults
   pub put : IfErr result (λ e. e ≡ Put)
   pub told : Written (is_err result) s t text
 
--- A text of a source that answers its bytes was written, or a prefix of it where the call failed; at most so many bytes more were
--- asked for, and a failure was counted exactly where one is answered.
+-- Over an honest source a text was written, or a prefix of it if the call failed. At most `most`
+-- bytes more were requested, and a failure was counted exactly if it is returned.
 pub record PutsFromBetween {X : Type 0} (most : ℕ) (result : Result X MoveFault) (d e : Device) (s t : Sink) (text : List ℕ) : Type 0 where
   pub uses : Asks most (is_read result) d e
   pub faults : RisesIf (is_put result) s.faults t.faults
   pub told : IsTrue d.honest → Written (is_err result) s t text
 
--- .. the text is that of the source's bytes
+-- the same for a text of the source's bytes
 abbrev pub PutsFrom : {S X : Type 0} → ℕ → Result X MoveFault → (S → Device) → Lent S → Lent Sink → (List ℕ → List ℕ) → Type 0
 PutsFrom most result device source out text = PutsFromBetween most result
     (device source.entry.now) (device source.exit.now) out.entry.now out.exit.now (text (device source.entry.now).bytes)
 
--- The same, and the room is as it was.
+-- The same, and the room is unchanged.
 pub record PutsBetween {X : Type 0} (most : ℕ) (result : Result X MoveFault) (d e : Device) (old new : Held) (s t : Sink) (text : List ℕ) : Type 0 where
   pub uses : Asks most (is_read result) d e
   pub room : new ≡ old

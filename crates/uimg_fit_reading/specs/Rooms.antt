@@ -1,4 +1,4 @@
--- What a command does to its source and to the memory of its room.
+-- What a command does to its source and to its room's memory.
 use Rattle.std.specs.Prelude.{◌≡◌, ◌≤◌, ◌+◌, ◌*◌, ℕ, List, length, max, Bool, false, Result, IsTrue}
 use Rattle.uimg_base.specs.Device.{Device, RisesIf}
 use Rattle.uimg_base.specs.Held.{Held, held_bytes}
@@ -12,8 +12,7 @@ use Rattle.uimg_blob.specs.Counts.{nodes_met}
 use Rattle.uimg_fit_base.specs.Faults.{is_read, is_put, is_out_of_memory, is_of_making, end_of}
 use Rattle.uimg_fit_base.specs.declared.fault.Fault.{Fault}
 
--- A refusal was counted exactly where memory was refused, and no more was taken than for the nodes that were met; of any
--- device no more than 16 bytes for each of its bytes.
+-- What a command does to its room's memory.
 pub record TakesNodes (device : Device) (no_memory : Bool) (old new : Held) : Type 0 where
   -- `OutOfMemory` of the blob is returned exactly if the refusals of the room rose
   pub refused : RisesIf no_memory old.refused new.refused
@@ -22,12 +21,12 @@ pub record TakesNodes (device : Device) (no_memory : Bool) (old new : Held) : Ty
   -- over any device
   pub most : new.peak ≤ max old.peak (8320 + 16 * length device.bytes)
 
--- The source is what it was, and of one that answers its bytes at most as many bytes more were asked for as this work of them.
+-- The source is unchanged, and of an honest one at most `work` of its bytes more were requested.
 abbrev pub UsesWithin : {S : Type 0} → (List ℕ → ℕ) → Bool → (S → Device) → Lent S → Type 0
 UsesWithin work failed device source = UsesAtMost (work (device source.entry.now).bytes) failed (device source.entry.now) (device source.exit.now)
 
--- The source is what it was, and of one that answers its bytes at most so many bytes more were asked for; memory was taken for the
--- image's nodes alone. Neither a failed write nor a fault of a making is answered.
+-- A call that only reads. Of an honest source it requests at most `most` bytes; it takes memory for
+-- the image's nodes alone.
 pub record InspectsBetween {X : Type 0} (most : ℕ) (result : Result X Fault) (d e : Device) (old new : Held) : Type 0 where
   -- the source is unchanged; `Read` is returned exactly if its failures rose
   pub uses : UsesAtMost most (is_read result) d e
@@ -37,12 +36,12 @@ pub record InspectsBetween {X : Type 0} (most : ℕ) (result : Result X Fault) (
   -- B10 and F5 to F10 are never returned, over any source
   pub no_making : is_of_making result ≡ false
 
--- .. as many as this work of the source's bytes
+-- the same with a measure of the source's bytes
 abbrev pub Inspects : {S X : Type 0} → (List ℕ → ℕ) → Result X Fault → (S → Device) → Lent S → Lent Held → Type 0
 Inspects work result device source room = InspectsBetween (work (device source.entry.now).bytes) result
     (device source.entry.now) (device source.exit.now) room.entry.now room.exit.now
 
--- The same, where nothing is said of how many bytes were asked for.
+-- The same without a bound on the requested bytes.
 pub record ReadsAnyBetween {X : Type 0} (result : Result X Fault) (d e : Device) (old new : Held) : Type 0 where
   pub uses : Uses (is_read result) d e
   pub room : TakesNodes d (is_out_of_memory result) old new
@@ -53,8 +52,8 @@ abbrev pub ReadsAny : {S X : Type 0} → Result X Fault → (S → Device) → L
 ReadsAny result device source room = ReadsAnyBetween result
     (device source.entry.now) (device source.exit.now) room.entry.now room.exit.now
 
--- The source is what it was, and of one that answers its bytes at most so many bytes more were asked for; memory was taken for the
--- image's nodes alone; a failed write was counted exactly where one is answered. No fault of a making is answered.
+-- A call that reads and writes. Of an honest source it requests at most `most` bytes; it takes
+-- memory for the image's nodes alone.
 pub record DeliversBetween {X : Type 0} (most : ℕ) (result : Result X Fault) (d e : Device) (old new : Held) (s t : Sink) : Type 0 where
   -- the source is unchanged; `Read` is returned exactly if its failures rose
   pub uses : UsesAtMost most (is_read result) d e
@@ -68,7 +67,7 @@ abbrev pub Delivers : {S X : Type 0} → (List ℕ → ℕ) → Result X Fault �
 Delivers work result device source room out = DeliversBetween (work (device source.entry.now).bytes) result
     (device source.entry.now) (device source.exit.now) room.entry.now room.exit.now out.entry.now out.exit.now
 
--- The same of a call that gives a taker what it read: nothing is said of failed writes.
+-- The same for a call that passes what it read to a taker; nothing is claimed of failed writes.
 pub record TakesOutBetween {X : Type 0} (most : ℕ) (result : Result X Fault) (d e : Device) (old new : Held) : Type 0 where
   -- the source is unchanged; `Read` is returned exactly if its failures rose
   pub uses : UsesAtMost most (is_read result) d e
@@ -80,19 +79,20 @@ abbrev pub TakesOut : {S X : Type 0} → (List ℕ → ℕ) → Result X Fault �
 TakesOut work result device source room = TakesOutBetween (work (device source.entry.now).bytes) result
     (device source.entry.now) (device source.exit.now) room.entry.now room.exit.now
 
--- Of a source that answers its bytes the outcome of these was told, to its end or as far as a failed call came.
+-- Over an honest source the outcome of its bytes was written, to its end or up to a failed call.
 abbrev pub TellsOf : {S : Type 0} → (List ℕ → Outcome Fault) → Result Status Fault → (S → Device) → Lent S → Lent Sink → Type 0
 TellsOf outcome result device source out = IsTrue (device source.entry.now).honest →
     Tells (end_of result) (outcome (device source.entry.now).bytes) out.entry.now out.exit.now
 
--- Of a source that answers its bytes so many were asked for, and beside them what was written of an outcome's text, and a window.
+-- Of an honest source at most `work` bytes, those written of an outcome's text and one window were
+-- requested.
 abbrev pub KeepsAhead : {S : Type 0} → (List ℕ → ℕ) → (List ℕ → Outcome Fault) → (S → Device) → Lent S → Lent Sink → Type 0
 KeepsAhead work outcome device source out = IsTrue (device source.entry.now).honest →
     ReadsAhead (work (device source.entry.now).bytes) (device source.entry.now) (device source.exit.now) out.entry.now out.exit.now
     (outcome (device source.entry.now).bytes).text
 
--- Of bytes in memory: no more memory was taken than for the nodes that were met, and a refusal was counted exactly where it was
--- refused. Neither a failed read, nor a failed write, nor a fault of a making is answered.
+-- A call over bytes in memory: no read or write fails, and it takes memory for the image's nodes
+-- alone.
 pub record InMemoryBetween {X : Type 0} (file : List ℕ) (result : Result X Fault) (old new : Held) : Type 0 where
   -- `OutOfMemory` of the blob is returned exactly if the refusals of the room rose
   pub refused : RisesIf (is_out_of_memory result) old.refused new.refused

@@ -22,7 +22,7 @@ use Rattle.uimg_fit_reading.specs.Shows.{shown, weight, time_line, size_line}
 abbrev pub label : List ℕ → List ℕ
 label text = take 16 (text ++ replicate 16 32)
 
--- which property of an image stands under which label, and how it is shown by a set of names
+-- the rows of an image: the label of each property, and how it is printed, with the names of a set
 abbrev pub image_rows : Naming → List Row
 image_rows naming =
     Property Description (label (codes "  Description:")) Text
@@ -36,11 +36,11 @@ image_rows naming =
     ∷ Property Entry (label (codes "  Entry Point:")) Address
     ∷ []
 
--- the same of a hash node
+-- the rows of a hash node
 abbrev pub hash_rows : List Row
 hash_rows = Property Algo (label (codes "  Hash algo:")) Text ∷ Property Value (label (codes "  Hash value:")) Hexadecimal ∷ []
 
--- the same of a configuration
+-- the rows of a configuration
 abbrev pub configuration_rows : List Row
 configuration_rows =
     Property Description (label (codes "  Description:")) Text
@@ -50,7 +50,7 @@ configuration_rows =
     ∷ Property Loadables (label (codes "  Loadables:")) AList
     ∷ []
 
--- the lines of a row, for a node of these properties
+-- the lines of a row, for a node with these properties
 abbrev pub row_lines : Facts → List (NamedOf Spot) → Row → List ℕ
 row_lines facts own (Property key label show) = shown show label (bytes_of own (name_of key))
 row_lines facts own (Time label) = time_line label facts.time
@@ -60,26 +60,26 @@ row_lines facts own (Size label) = size_line label facts.size
 unfoldable pub rows_lines : Facts → List (NamedOf Spot) → List Row → List ℕ
 rows_lines facts own rows = flat_map (row_lines facts own) rows
 
--- a node that shows nothing but its properties
+-- the facts of a node that shows only its properties
 abbrev pub no_facts : Facts
 no_facts = record { time = None; size = None }
 
--- ` <Kind> <i> (<name>)`, where what stands before the number is given
+-- ` <Kind> <i> (<name>)`; `before` is the text before the number
 abbrev pub title : List ℕ → ℕ → List ℕ → List ℕ
 title before i name = line (before ++ (decimal i ++ (codes " (" ++ (name ++ codes ")"))))
 
--- the most bytes of a row's value that are asked for
+-- the most bytes requested of a row's value
 abbrev pub row_cost : List (NamedOf Spot) → Row → ℕ
 row_cost own (Property key label show) = weight show (bytes_of own (name_of key))
 row_cost own (Time label) = 0
 row_cost own (Size label) = 0
 
--- whether the property of a row is kept of a node of a name at a level
+-- whether the index keeps a row's property, for a node of this name at a level
 abbrev pub keeps_row : Level → List ℕ → Row → Bool
 keeps_row level name (Property key label show) = keeps (role_at level name) key
 keeps_row level name (Time label) = true
 keeps_row level name (Size label) = true
 
--- how many bytes a value has, none where it is missing
+-- the length of a value, or 0 if it is missing
 abbrev pub size_of : List (NamedOf Spot) → List ℕ → ℕ
 size_of own key = option_map_or (λ v. length v) (bytes_of own key) 0

@@ -1,4 +1,4 @@
--- The lines of a property's value, where its label is padded already.
+-- The lines of a property's value, whose label is already padded.
 use Rattle.std.specs.Prelude.{ℕ, min, List, [], ◌∷◌, ◌++◌, length, replicate, codes, Option}
 use Rattle.std.specs.List.{flat_map}
 use Rattle.std.specs.Option.{option_map_or}
@@ -14,7 +14,7 @@ use Rattle.uimg_fit_reading.specs.declared.listing.shows.Show.{Show}
 use Rattle.uimg_fit_reading.specs.declared.listing.shows.Show.TheVariants as show
 use Rattle.uimg_fit_reading.specs.Values.{address_text, pieces}
 
--- what the code is called whose name is a value's text
+-- the printed name of the code that a value's text names
 abbrev pub name_in : Naming → Field → List ℕ → List ℕ
 name_in naming field value = name_text naming field (text value)
 
@@ -31,7 +31,7 @@ value_lines show.Address label value = line (label ++ address_text value)
 value_lines show.Hexadecimal label value = line (label ++ encode_lower value)
 value_lines show.List label value = lines_of label (pieces value)
 
--- the same of a value that may be missing, which then has no line
+-- the same for a value that may be missing, which then has no line
 abbrev pub shown : Show → List ℕ → Option (List ℕ) → List ℕ
 shown how label value = option_map_or (value_lines how label) value []
 
@@ -39,11 +39,11 @@ shown how label value = option_map_or (value_lines how label) value []
 abbrev pub time_line : List ℕ → Option ℕ → List ℕ
 time_line label time = option_map_or (λ t. line (label ++ time_text t)) time []
 
--- the line of a size, or that it is not known
+-- the line of a size, or that it is unavailable
 abbrev pub size_line : List ℕ → Option ℕ → List ℕ
 size_line label size = line (label ++ option_map_or size_text size (codes "unavailable"))
 
--- the most bytes of a value that are asked for
+-- the most bytes requested of a value
 abbrev pub value_cost : Show → ℕ → ℕ
 value_cost show.Text n = n
 value_cost (show.Name naming field) n = min 32 n
@@ -51,6 +51,6 @@ value_cost show.Address n = min 8 n
 value_cost show.Hexadecimal n = n
 value_cost show.List n = n
 
--- the same of a value that may be missing
+-- the same for a value that may be missing
 abbrev pub weight : Show → Option (List ℕ) → ℕ
 weight how value = option_map_or (λ v. value_cost how (length v)) value 0

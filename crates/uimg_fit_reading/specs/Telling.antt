@@ -1,4 +1,4 @@
--- What a call that lists nodes did: what it asked for, and what it wrote.
+-- What a call that lists nodes requests and writes.
 use Rattle.std.specs.Prelude.{ℕ, ◌+◌, ◌≤◌, List, Bool, Result, is_err}
 use Rattle.uimg_base.specs.Device.{Device}
 use Rattle.uimg_base.specs.Lent.{Lent}
@@ -6,7 +6,8 @@ use Rattle.uimg_base.specs.Sink.{Sink}
 use Rattle.uimg_base.specs.Writing.{Written}
 use Rattle.uimg_base.specs.declared.ranges.MoveFault.{MoveFault}
 
--- At most so many bytes more were asked for, and all of a text was written, or a prefix of it where the call failed.
+-- At most `most` bytes more were requested, and a text was written, or a prefix of it if the call
+-- failed.
 pub record ListsBetween (failed : Bool) (most : ℕ) (d e : Device) (s t : Sink) (text : List ℕ) : Type 0 where
   pub asked : e.asked ≤ d.asked + most
   pub written : Written failed s t text

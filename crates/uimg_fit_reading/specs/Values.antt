@@ -1,4 +1,4 @@
--- What the values of properties are printed as.
+-- How the values of properties are printed.
 use Rattle.std.specs.Prelude.{ℕ, zero, suc, min, ◌-◌, List, [], ◌∷◌, ◌++◌, length, drop, not, ◌==◌, if◌then◌else◌, codes}
 use Rattle.std.specs.List.{position_or_len}
 use Rattle.uimg_texts.specs.Slices.{slice}
@@ -9,7 +9,7 @@ use Rattle.hex.specs.Hex.{encode_lower}
 abbrev pub in_span : List ℕ → Span → List ℕ
 in_span file span = slice file span.place span.length
 
--- hexadecimal digits without the zeros before the last eight
+-- hexadecimal digits without leading zeros, but at least eight
 abbrev pub eight_or_more : List ℕ → List ℕ
 eight_or_more digits = drop (min (position_or_len (λ d. not (d == 48)) digits) (length digits - 8)) digits
 
@@ -20,7 +20,7 @@ address_text value =
     else if length value == 8 then codes "0x" ++ eight_or_more (encode_lower value)
     else codes "unavailable"
 
--- the pieces of a value that is cut after each NUL, without their NULs
+-- the texts of a value, each up to a NUL or the value's end
 abbrev pub onto : ℕ → List (List ℕ) → List (List ℕ)
 onto b [] = (b ∷ []) ∷ []
 onto b (piece ∷ pieces) = (b ∷ piece) ∷ pieces

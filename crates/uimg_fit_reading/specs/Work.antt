@@ -1,4 +1,4 @@
--- The most bytes that a command asks for.
+-- The most bytes that a command requests.
 use Rattle.std.specs.Prelude.{ℕ, ◌+◌, ◌*◌, List, length, if◌then◌else◌, Result, Ok, Err}
 use Rattle.std.specs.List.{sum_by, list_any}
 use Rattle.uimg_blob.specs.LookUps.{NodeOf, hashes}
@@ -11,30 +11,30 @@ use Rattle.uimg_fit_base.specs.Places.{payload}
 use Rattle.uimg_fit_base.specs.Report.{word_of, is_compared}
 use Rattle.uimg_fit_base.specs.Extraction.{extract_of}
 
--- the most bytes of a payload that are asked for: each once, however many hash nodes it has, and none where no value of theirs
--- is compared
+-- the most bytes requested of a payload: each once, however many hash nodes it has, and none if no
+-- hash node is compared
 abbrev pub hashed : NodeOf Spot → Result (List ℕ) FitFault → ℕ
 hashed image (Ok message) = if list_any (λ h. is_compared (word_of message h)) (hashes image) then length message else 0
 hashed image (Err fault) = 0
 
--- the same of all images of a file
+-- the same for all images of a file
 abbrev pub all_hashed : List ℕ → Result (List (NodeOf Spot)) Fault → ℕ
 all_hashed file (Ok found) = sum_by (λ image. hashed image (payload file image)) found
 all_hashed file (Err fault) = 0
 
--- the most that is asked for beside payloads: `meta` without the four bytes that tell the format of a file, which whoever
--- chooses this format may have asked for
+-- the most bytes requested beside payloads: `meta` without the four bytes that the caller may have
+-- read to choose the format
 abbrev pub own_meta : List ℕ → ℕ
 own_meta file = 60 + 1024 * (nodes_met file + properties_met file) + 4 * (texts_met file + nops_met file)
 
--- the most that a listing asks for
+-- the most bytes that a listing requests
 abbrev pub list_work : List ℕ → ℕ
 list_work file = own_meta file
 
--- the most that a report asks for: each payload at most once
+-- the most bytes that a report requests: each payload at most once
 abbrev pub verify_work : List ℕ → ℕ
 verify_work file = own_meta file + all_hashed file (images_of file)
 
--- the most that an extraction asks for: as a listing, and the payload that is written
+-- the most bytes that an extraction requests: those of a listing, and the payload that is written
 abbrev pub extract_work : List ℕ → ℕ → ℕ
 extract_work file position = own_meta file + length (extract_of file position).text

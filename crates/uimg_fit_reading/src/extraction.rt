@@ -1,4 +1,4 @@
-//! Extraction: the payload of one image is found, and written.
+//! Extraction: finds the payload of an image and writes it.
 
 ghost use Rattle.std.specs.Prelude.{◌≡◌, ◌+◌, ◌≤◌, length, IsTrue, IfOk};
 ghost use Rattle.uimg_fit_base.specs.Extraction.{payload_at, extract_of};
@@ -16,10 +16,10 @@ use std::io::Write;
 use uimg_base::{Out, Room, Source, Span, Status, copy_range};
 use uimg_fit_base::Fault;
 
-/// Where the payload of the image at a position stands, counted from 0: just the bytes that `extract`
-/// writes, none of which is read. That place ends inside the file, whatever the source answers.
-/// Refusals are those of `extract`, in their order, and `OutOfMemory` comes exactly where the room
-/// refused to grow. No more is requested than for a listing.
+/// Finds the payload that `extract` writes: that of the image at a position, counted from 0.
+/// Returns its span, which ends inside the file whatever the source returns, or a fault of
+/// `extract`, in the same order. Reads no byte of the payload, and requests no more than a listing.
+/// Returns `OutOfMemory` exactly if the room refused to grow.
 pub fn locate<S: Source, A: Allocator>(
     position: u32,
     source: &mut S,
@@ -37,11 +37,11 @@ pub fn locate<S: Source, A: Allocator>(
 
 /// Writes the payload of the image at a position, counted from 0.
 ///
-/// Refusals come before the first byte: those of the blob, then `NoImages`, `NoSuchImage`, and
-/// `NoData` and `DataOutside` of that image, in this order. `OutOfMemory` comes exactly where the
-/// room refused to grow. Over an honest source a prefix of the payload was written after `Read` or
-/// `Put`, and at every exit at most as many bytes were requested as for a listing, those that were
-/// written and 8192.
+/// Refusals come before the first byte, in this order: those of the blob, `NoImages`,
+/// `NoSuchImage`, then `NoData` and `DataOutside` of that image. Returns `OutOfMemory` exactly if
+/// the room refused to grow. Over an honest source a prefix of the payload was written after `Read`
+/// or `Put`, and at every exit at most as many bytes were requested as for a listing, those that
+/// were written and 8192.
 pub fn extract<S: Source, A: Allocator, W: Write>(
     position: u32,
     source: &mut S,

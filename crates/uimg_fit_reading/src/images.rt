@@ -11,7 +11,7 @@ use uimg_base::Room;
 use uimg_blob::Blob;
 use uimg_fit_base::FitFault;
 
-/// The number of the first image, if there is one. `NoImages` where there is no node `images`.
+/// Returns the number of the first image, if there is one, or `NoImages` without a node `images`.
 pub fn first_image<A: Allocator>(blob: &Blob, room: &Room<A>) -> Result<Option<usize>, FitFault>
     requires { Indexed blob.now room.now.entries }
     ensures within { IfOk result (λ first. IfSome first (λ i. i < length room.now.entries)) }
@@ -24,7 +24,8 @@ pub fn first_image<A: Allocator>(blob: &Blob, room: &Room<A>) -> Result<Option<u
     }
 }
 
-/// The number of the image at a position, counted from 0. `NoImages` comes as above, then `NoSuchImage`.
+/// Returns the number of the image at a position, counted from 0, or `NoImages` without a node
+/// `images`, `NoSuchImage` without an image at the position.
 pub fn image_at<A: Allocator>(blob: &Blob, room: &Room<A>, position: u32) -> Result<usize, FitFault>
     requires { Indexed blob.now room.now.entries }
     ensures within { IfOk result (λ i. i < length room.now.entries) }

@@ -1,6 +1,6 @@
-//! FIT images are read: listing, verification and extraction. What checks and surveys of them stand on is
-//! public too. A function that takes the number of a node has in its contract which node of the tree that
-//! is, and what the node's values are (`specs/Nodes.antt`).
+//! Reads FIT images: listing, verification and extraction. What checks and surveys of images need
+//! is public too. The contract of a function that takes the number of a node says which node of the
+//! tree that is, and what its values are (`specs/Nodes.antt`).
 #![tactic(auto)]
 
 mod extraction;

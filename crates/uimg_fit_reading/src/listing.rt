@@ -39,7 +39,7 @@ use uimg_blob::{Blob, Key};
 use uimg_fit_base::Fault;
 use uimg_names::Naming;
 
-// The lines of the configurations, if there are any.
+// Writes the lines of the configurations, if there are any.
 fn put_configurations<S: Source, A: Allocator, W: Write>(
     source: &mut S,
     blob: &Blob,
@@ -60,7 +60,7 @@ fn put_configurations<S: Source, A: Allocator, W: Write>(
     put_listed_nodes(source, blob, room, Kind::Configuration, first, out)
 }
 
-// The lines of the images from the first one on, and of the configurations.
+// Writes the lines of the images, from the first one on, and of the configurations.
 fn put_body<S: Source, A: Allocator, W: Write>(
     source: &mut S,
     blob: &Blob,
@@ -82,7 +82,7 @@ fn put_body<S: Source, A: Allocator, W: Write>(
     put_configurations(source, blob, room, out)
 }
 
-// What stands after the head lines, or the refusal where there are no images.
+// Writes the lines after the head lines, or returns `NoImages`.
 fn list_body<S: Source, A: Allocator, W: Write>(
     source: &mut S,
     blob: &Blob,

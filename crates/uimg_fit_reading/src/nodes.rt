@@ -1,4 +1,4 @@
-//! Names and values of an indexed blob's nodes, and its hash nodes.
+//! Names and values of the nodes of an indexed blob, and its hash nodes.
 ghost use Rattle.std.specs.Prelude.{◌≡◌, ℕ, ◌+◌, ◌<◌, ◌≤◌, List, [], ◌∷◌, length, Some, IfSome, IsTrue};
 ghost use Rattle.std.specs.Option.{option_map};
 ghost use Rattle.uimg_blob.specs.Grammar.{Siblings};
@@ -16,7 +16,7 @@ use std::alloc::Allocator;
 use uimg_base::{Room, Span};
 use uimg_blob::{Blob, Key};
 
-/// Where the name of a node stands.
+/// Returns the span of a node's name, at most 255 bytes.
 pub fn name_of<A: Allocator>(blob: &Blob, room: &Room<A>, node: usize) -> Span
     requires { node < length room.now.entries }
     ensures inside { InAnyFile blob.now room.now (λ size. result.place + result.length ≤ size) }
@@ -27,7 +27,7 @@ pub fn name_of<A: Allocator>(blob: &Blob, room: &Room<A>, node: usize) -> Span
     blob.name(room, node)
 }
 
-/// Where the value of a node's first property of a key stands.
+/// Returns the span of the value of a node's first property of a key, if it has one.
 pub fn value_of<A: Allocator>(blob: &Blob, room: &Room<A>, node: usize, key: Key) -> Option<Span>
     requires { node < length room.now.entries }
     ensures inside { InAnyFile blob.now room.now (λ size. Ends size result) }
@@ -41,7 +41,7 @@ pub fn value_of<A: Allocator>(blob: &Blob, room: &Room<A>, node: usize, key: Key
     blob.value(room, node, key)
 }
 
-/// Where the value of the root's first property of a key stands.
+/// Returns the span of the value of the root's first property of a key, if it has one.
 pub fn root_value<A: Allocator>(blob: &Blob, room: &Room<A>, key: Key) -> Option<Span>
     requires { IsTrue (keeps (role_at top []) key) }
     ensures inside { InAnyFile blob.now room.now (λ size. Ends size result) }
@@ -54,7 +54,7 @@ pub fn root_value<A: Allocator>(blob: &Blob, room: &Room<A>, key: Key) -> Option
     value_of(blob, room, 0, key)
 }
 
-/// The number of a node's first child, if it has one.
+/// Returns the number of a node's first child, if it has one.
 pub fn child_of<A: Allocator>(blob: &Blob, room: &Room<A>, node: usize) -> Option<usize>
     requires { node < length room.now.entries }
     ensures within { IfSome result (λ i. i < length room.now.entries) }
@@ -64,7 +64,7 @@ pub fn child_of<A: Allocator>(blob: &Blob, room: &Room<A>, node: usize) -> Optio
     blob.first_child(room, node)
 }
 
-/// The number of the node `configurations`, if there is one.
+/// Returns the number of the node `configurations`, if there is one.
 pub fn configurations_of<A: Allocator>(blob: &Blob, room: &Room<A>) -> Option<usize>
     requires { Indexed blob.now room.now.entries }
     ensures within { IfSome result (λ i. i < length room.now.entries) }
@@ -74,7 +74,7 @@ pub fn configurations_of<A: Allocator>(blob: &Blob, room: &Room<A>) -> Option<us
     blob.configurations()
 }
 
-/// The number of the node after one, if there is such.
+/// Returns the number of the next sibling of a node, if it has one.
 pub fn next_of<A: Allocator>(blob: &Blob, room: &Room<A>, node: usize) -> Option<usize>
     requires { IsEntry blob.now room.now node }
     ensures within { IfSome result (λ i. i < length room.now.entries) }
@@ -86,7 +86,7 @@ pub fn next_of<A: Allocator>(blob: &Blob, room: &Room<A>, node: usize) -> Option
     blob.next_sibling(room, node)
 }
 
-// The number of the first hash node from a child of an image on, if there is one.
+// Returns the number of the first hash node from a child of an image on, if there is one.
 fn hash_from<A: Allocator>(blob: &Blob, room: &Room<A>, first: Option<usize>) -> Option<usize>
     requires { IsEntryOrNone blob.now room.now first }
     ensures within { IfSome result (λ i. i < length room.now.entries) }
@@ -104,7 +104,7 @@ fn hash_from<A: Allocator>(blob: &Blob, room: &Room<A>, first: Option<usize>) ->
     None
 }
 
-/// The number of an image's first hash node, if it has one.
+/// Returns the number of an image's first hash node, if it has one.
 pub fn first_hash<A: Allocator>(blob: &Blob, room: &Room<A>, image: usize) -> Option<usize>
     requires { IsEntry blob.now room.now image }
     ensures within { IfSome result (λ i. i < length room.now.entries) }
@@ -114,7 +114,7 @@ pub fn first_hash<A: Allocator>(blob: &Blob, room: &Room<A>, image: usize) -> Op
     hash_from(blob, room, blob.first_child(room, image))
 }
 
-/// The number of the hash node after one, if there is such.
+/// Returns the number of the next hash node of the image, if there is one.
 pub fn next_hash<A: Allocator>(blob: &Blob, room: &Room<A>, hash: usize) -> Option<usize>
     requires { IsEntry blob.now room.now hash }
     ensures within { IfSome result (λ i. i < length room.now.entries) }

@@ -1,4 +1,4 @@
-//! Where the payload of an image stands.
+//! Where the payload of an image is.
 
 ghost use Rattle.std.specs.Prelude.{◌≡◌, false, ◌+◌, ◌<◌, ◌≤◌, ◌^◌, length, is_err, IfOk, IfSome, IsTrue, IfErr};
 ghost use Rattle.uimg_base.specs.Using.{Asks};
@@ -19,20 +19,20 @@ use uimg_base::{Room, Source, SourceFault, Span, number_at, up4};
 use uimg_blob::{Blob, Key};
 use uimg_fit_base::{Fault, FitFault};
 
-/// What an image says of the place of its payload.
+/// The properties of an image that say where its payload is.
 #[derive(Clone, Copy, Debug, PartialEq, Eq)]
 pub struct PayloadFacts {
     /// `data`: the payload itself.
     pub embedded: Option<Span>,
-    /// `data-size`: its length, a cell.
+    /// `data-size`: the length of the payload, a cell.
     pub size: Option<Span>,
-    /// `data-offset`: where it stands after the blob, a cell.
+    /// `data-offset`: its offset from the end of the blob, a cell.
     pub offset: Option<Span>,
-    /// `data-position`: where it stands in the file, a cell.
+    /// `data-position`: its offset in the file, a cell.
     pub position: Option<Span>,
 }
 
-/// What an image says of the place of its payload.
+/// Finds the properties of an image that say where its payload is.
 pub fn payload_facts<A: Allocator>(blob: &Blob, room: &Room<A>, image: usize) -> PayloadFacts
     requires { image < length room.now.entries }
     ensures inside { InAnyFile blob.now room.now (λ size. PayloadInside size result) }
@@ -47,7 +47,7 @@ pub fn payload_facts<A: Allocator>(blob: &Blob, room: &Room<A>, image: usize) ->
     }
 }
 
-// The number of a value that has four bytes.
+// Reads a value as a number, if it is present and has four bytes.
 pub(crate) fn cell<S: Source>(
     source: &mut S,
     value: Option<Span>,
@@ -68,7 +68,7 @@ pub(crate) fn cell<S: Source>(
     Ok(Some(number_at(&bytes, 0)))
 }
 
-// The place that the cells of an image and its value `data` tell.
+// Returns the span of a payload by the cells of its image and its value `data`, or `NoData`.
 pub(crate) fn decide(
     base: u64,
     size: Option<u32>,
@@ -98,13 +98,13 @@ pub(crate) fn decide(
     payload.ok_or(FitFault::NoData)
 }
 
-/// Where the payload of an image stands, by what it says, in a file whose blob has a total size: at its
-/// `data-position` from the file's start, else at its `data-offset` from the blob's end, rounded up to a
-/// multiple of 4, each with its `data-size`, else where its `data` stands. A cell that has not four bytes
+/// Finds the payload of an image in a file whose blob has this total size: at its `data-position`
+/// from the file's start, else at its `data-offset` from the blob's end, rounded up to a multiple
+/// of 4, each with its `data-size`, else at the span of its `data`. A cell without four bytes
 /// counts as missing.
 ///
-/// There may be no such place (`NoData`), and one that is returned may lie outside the file. At most 12
-/// bytes are requested.
+/// Returns `NoData` if nothing of this is present. The returned span may be outside the file.
+/// Requests at most 12 bytes.
 pub fn find_payload<S: Source>(
     source: &mut S,
     totalsize: u32,
@@ -129,7 +129,7 @@ pub fn find_payload<S: Source>(
     ))
 }
 
-// The place of an image's payload, or that it has none.
+// Finds the payload of an image, or that it has none.
 pub(crate) fn find_place<S: Source, A: Allocator>(
     source: &mut S,
     blob: &Blob,
@@ -148,8 +148,8 @@ pub(crate) fn find_place<S: Source, A: Allocator>(
     find_payload(source, blob.totalsize(), &facts)
 }
 
-/// The place of an image's payload that ends in the source. `NoData` where there is none, and `DataOutside`
-/// where it ends after the source.
+/// Finds the payload of an image. Returns `NoData` if it has none, `DataOutside` if it ends after
+/// the source.
 pub fn payload_place<S: Source, A: Allocator>(
     source: &mut S,
     blob: &Blob,

@@ -1,4 +1,4 @@
-//! Texts are written, and bytes read, with failures told as those of a copy.
+//! Writes texts and reads bytes; failures are returned as those of a copy.
 ghost use Rattle.std.specs.Prelude.{◌≡◌, ◌+◌, ◌≤◌, ◌++◌, length, is_err, IsTrue, OnOk, IfErr};
 ghost use Rattle.uimg_base.specs.Outcome.{line};
 ghost use Rattle.uimg_base.specs.declared.ranges.MoveFault.TheVariants.{Read};
@@ -49,7 +49,7 @@ pub(crate) fn put_line<W: Write>(
     }
 }
 
-// Reads the bytes at a place.
+// Reads the bytes at an offset.
 pub(crate) fn read<S: Source>(source: &mut S, at: u64, to: &mut [u8]) -> Result<(), MoveFault>
     requires { at + length to.old ≤ length (S.device source.old).bytes }
     ensures uses { Asks (length to.old) (is_err result) (S.device source.old) (S.device source.new) }

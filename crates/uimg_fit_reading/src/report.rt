@@ -1,4 +1,4 @@
-//! The report on the hashes of the images.
+//! The report on the hashes of images.
 
 ghost use Rattle.uimg_fit_base.specs.Report.{verify_of};
 ghost use Rattle.uimg_fit_reading.specs.Work.{verify_work};
@@ -21,16 +21,16 @@ use std::io::Write;
 use uimg_base::{Out, Room, Source, Status};
 use uimg_fit_base::Fault;
 
-/// Writes the report on the hashes of the images: for each hash node of each image a line
-/// `<image> <hash> <algo> <word>`, the word being `malformed`, `unsupported`, `ok` or `bad`, and
-/// `<image> - none unhashed` for an image that has none. The answer is `Done` where each line ends
-/// with `ok` or `unhashed`, else `NotRight`.
+/// Writes the report on the hashes of the images: for each hash node of each image a line `<image>
+/// <hash> <algo> <word>`, with one of the words `malformed`, `unsupported`, `ok` and `bad`, and
+/// `<image> - none unhashed` for an image without hash nodes. Returns `Done` if each line ends with
+/// `ok` or `unhashed`, else `NotRight`.
 ///
-/// The refusals of the blob and `NoImages` come without a line, `NoData` and `DataOutside` of an image
-/// before its lines. `OutOfMemory` comes exactly where the room refused to grow. A payload is asked for
-/// at most once, however many hash nodes it has, and not at all where none of them is compared. Over an
-/// honest source a prefix of the report was written after `Read` or `Put`, and beside these payloads no
-/// more was requested than for a listing.
+/// Faults of the blob and `NoImages` come without a line, `NoData` and `DataOutside` of an image
+/// before its lines. Returns `OutOfMemory` exactly if the room refused to grow. Each payload is
+/// requested at most once, however many hash nodes it has, and not at all if none of them is
+/// compared. Over an honest source a prefix of the report was written after `Read` or `Put`, and
+/// beside these payloads no more was requested than for a listing.
 pub fn verify<S: Source, A: Allocator, W: Write>(
     source: &mut S,
     room: &mut Room<A>,

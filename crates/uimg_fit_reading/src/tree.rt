@@ -1,4 +1,4 @@
-//! The blob that an image begins with, indexed.
+//! Indexes the blob of an image.
 
 ghost use Rattle.std.specs.Prelude.{length, IfOk};
 ghost use Rattle.uimg_blob.specs.Counts.{index_cost};
@@ -11,7 +11,7 @@ use uimg_base::{Room, Source};
 use uimg_blob::{Blob, index};
 use uimg_fit_base::Fault;
 
-/// Indexes the blob that a FIT image begins with. Refusals are those of the blob.
+/// Indexes the blob that a FIT image begins with. Returns the faults of the blob.
 pub fn read_tree<S: Source, A: Allocator>(source: &mut S, room: &mut Room<A>) -> Result<Blob, Fault>
     ensures inspects { Inspects index_cost result S.device source room }
     ensures inside { IfOk result (λ blob. InFile (length (S.device source.old).bytes) blob

@@ -1,4 +1,4 @@
--- The object of JSON that tells what a FIT image says.
+-- The JSON object of a FIT image's facts.
 use Rattle.std.specs.Prelude.{ℕ, ◌+◌, List, [], ◌∷◌, ◌++◌, map, codes, nat_lt, Bool, true, false, length, Option, Some, None, Result, Ok, Err}
 use Rattle.json.specs.Json.{Json}
 use Rattle.uimg_base.specs.declared.spans.Span.{Span}
@@ -15,7 +15,7 @@ use Rattle.uimg_printing.specs.Members.{Member, object_of, array_of, string_memb
 use Rattle.uimg_info.specs.Members.{Fact, facts_members}
 use Rattle.uimg_info.specs.declared.kinds.Kind.TheVariants.{Text, Texts, Digest, Cell, Address}
 
--- what a hash node says
+-- the facts of a hash node
 abbrev pub hash_facts : HashSaid → List Fact
 hash_facts hash =
     record { name = codes "name"; kind = Text; value = Some hash.name }
@@ -23,7 +23,7 @@ hash_facts hash =
     ∷ record { name = codes "value"; kind = Digest; value = hash.value }
     ∷ []
 
--- what an image says, but for its payload and its hash nodes
+-- the facts of an image, without its payload and its hash nodes
 abbrev pub image_facts : ImageSaid → List Fact
 image_facts image =
     record { name = codes "name"; kind = Text; value = Some image.name }
@@ -36,7 +36,7 @@ image_facts image =
     ∷ record { name = codes "entry"; kind = Address; value = image.entry }
     ∷ []
 
--- what a configuration says, but for the nodes below it
+-- the facts of a configuration, without its child nodes
 abbrev pub configuration_facts : ConfigurationSaid → List Fact
 configuration_facts configuration =
     record { name = codes "name"; kind = Text; value = Some configuration.name }
@@ -52,11 +52,11 @@ configuration_facts configuration =
     ∷ record { name = codes "script"; kind = Text; value = configuration.script }
     ∷ []
 
--- what is told of a node below a configuration, and of a property: its name
+-- the members of a child node of a configuration, and of a property: its name
 abbrev pub node_facts : List ℕ → List Fact
 node_facts name = record { name = codes "name"; kind = Text; value = Some name } ∷ []
 
--- what the root says, and which configuration is the default
+-- the facts of the root, and the default configuration
 abbrev pub root_facts : Said → List Fact
 root_facts said =
     record { name = codes "description"; kind = Text; value = said.description }
@@ -64,7 +64,7 @@ root_facts said =
     ∷ record { name = codes "default"; kind = Text; value = said.preferred }
     ∷ []
 
--- the same, and the memory that is reserved
+-- the same, and the reserved memory
 abbrev pub root_members : Option (List Reservation) → Said → List Member
 root_members reserved said = facts_members (root_facts said) ++ reservations_members reserved
 
@@ -72,7 +72,7 @@ root_members reserved said = facts_members (root_facts said) ++ reservations_mem
 abbrev pub fault_members : List ℕ → List ℕ → List Member
 fault_members code message = string_member (codes "fault") code ++ string_member (codes "message") message
 
--- where a payload stands, in a file of so many bytes; of one that ends after the file that too
+-- where a payload is, in a file of `size` bytes, and the fault if it ends after the file
 abbrev pub outside : Bool → List Member
 outside true = fault_members (codes "F3") (codes "F3 data outside")
 outside false = []
@@ -81,7 +81,7 @@ abbrev pub span_members : ℕ → Span → List Member
 span_members size place =
     number_member (codes "offset") place.place ++ (number_member (codes "data-size") place.length ++ outside (nat_lt size (place.place + place.length)))
 
--- the same of an image, or that it has no payload
+-- the same for an image, or that it has no payload
 abbrev pub place_members : ℕ → Result Span FitFault → List Member
 place_members size (Ok place) = span_members size place
 place_members size (Err fault) = fault_members (codes "F2") (codes "F2 no data")
@@ -92,14 +92,14 @@ hash_json hash = object_of (facts_members (hash_facts hash))
 abbrev pub node_json : List ℕ → Json
 node_json name = object_of (facts_members (node_facts name))
 
--- a property: its name, and how many bytes its value has
+-- a property: its name, and the length of its value
 abbrev pub property_members : NamedOf Span → List Member
 property_members property = facts_members (node_facts property.name) ++ number_member (codes "size") property.value.length
 
 abbrev pub property_json : NamedOf Span → Json
 property_json property = object_of (property_members property)
 
--- a configuration that has these properties
+-- a configuration with these properties
 abbrev pub configuration_members : ConfigurationSaid → List (NamedOf Span) → List Member
 configuration_members configuration properties =
     facts_members (configuration_facts configuration)
@@ -114,7 +114,7 @@ configurations_json [] lists = []
 configurations_json (configuration ∷ configurations) [] = []
 configurations_json (configuration ∷ configurations) (properties ∷ lists) = configuration_json configuration properties ∷ configurations_json configurations lists
 
--- an image in a file of so many bytes, whose blob has a total size
+-- an image in a file of `size` bytes, whose blob has this total size
 abbrev pub image_members : ℕ → ℕ → ImageSaid → List Member
 image_members size totalsize image =
     facts_members (image_facts image) ++ (place_members size (place_said totalsize image.payload)
@@ -123,13 +123,14 @@ image_members size totalsize image =
 abbrev pub image_json : ℕ → ℕ → ImageSaid → Json
 image_json size totalsize image = object_of (image_members size totalsize image)
 
--- what is told of each image that is read
+-- the first members of each image
 abbrev pub head_members : List ℕ → ℕ → ℕ → List Member
 head_members path size totalsize =
     string_member (codes "path") path ++ (number_member (codes "status") 0 ++ (string_member (codes "format") (codes "fit")
     ++ (number_member (codes "size") size ++ number_member (codes "totalsize") totalsize)))
 
--- the object of what a file of so many bytes says, that stands at a path, and whose configurations have these properties
+-- the object of a file of `size` bytes at a path, with these facts and the properties of its
+-- configurations
 abbrev pub fit_members : List ℕ → ℕ → Option (List Reservation) → Said → List (List (NamedOf Span)) → List Member
 fit_members path size reserved said properties =
     head_members path size said.totalsize ++ (root_members reserved said
@@ -139,7 +140,7 @@ fit_members path size reserved said properties =
 abbrev pub fit_json : List ℕ → ℕ → Option (List Reservation) → Said → List (List (NamedOf Span)) → Json
 fit_json path size reserved said properties = object_of (fit_members path size reserved said properties)
 
--- the object of a file at a path, or its first fault
+-- the object of a file at a path, or the file's first fault
 abbrev pub info_of : List ℕ → List ℕ → Result Json Fault
 info_of path file = do
   said ← survey_of file

@@ -1,4 +1,4 @@
--- The object of JSON that tells what the header of a legacy image says, and where its parts stand.
+-- The JSON object of a legacy image: the fields of its header, and where its parts are.
 use Rattle.std.specs.Prelude.{ℕ, List, [], ◌∷◌, ◌++◌, map, codes}
 use Rattle.json.specs.Json.{Json}
 use Rattle.uimg_texts.specs.Nul.{text}
@@ -12,7 +12,7 @@ use Rattle.uimg_legacy.specs.declared.header.Header.{Header}
 use Rattle.uimg_legacy.specs.Header.{spelled}
 use Rattle.uimg_printing.specs.Members.{Member, object_of, array_of, string_member, number_member, text_members}
 
--- what a code is called in a listing, and the code
+-- the name of a code in a listing, and the code
 abbrev pub code_members : Field → List ℕ → List ℕ → ℕ → List Member
 code_members field name of_code code = string_member name (code_text Profile field code) ++ number_member of_code code
 
@@ -28,19 +28,19 @@ codes_members h =
     ++ (code_members Kind (codes "type") (codes "type-code") h.kind
     ++ code_members Compression (codes "compression") (codes "compression-code") h.comp))
 
--- what is told of the header behind its name
+-- the members of the header after its name
 abbrev pub header_members : Header → List Member
 header_members h = numbers_members h ++ (codes_members h ++ number_member (codes "data-size") h.size)
 
 abbrev pub part_json : Span → Json
 part_json part = object_of (number_member (codes "offset") part.place ++ number_member (codes "size") part.length)
 
--- what is told of each image that is read
+-- the first members of each image
 abbrev pub legacy_head : List ℕ → ℕ → List Member
 legacy_head path size =
     string_member (codes "path") path ++ (number_member (codes "status") 0 ++ (string_member (codes "format") (codes "legacy") ++ number_member (codes "size") size))
 
--- the object of a file of so many bytes, that stands at a path and has this header and these parts
+-- the object of a file of `size` bytes at a path, with this header and these parts
 abbrev pub legacy_members : List ℕ → ℕ → Header → List Span → List Member
 legacy_members path size h parts =
     legacy_head path size ++ (text_members (codes "name") (text h.name) ++ (header_members h ++ (codes "parts", array_of (map part_json parts)) ∷ []))

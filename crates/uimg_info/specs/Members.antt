@@ -1,4 +1,4 @@
--- What the values of properties are as members of an object of JSON.
+-- The values of properties as members of a JSON object.
 use Rattle.std.specs.Prelude.{ℕ, List, [], ◌∷◌, ◌++◌, map, length, codes, true, false, nat_lt, ◌==◌, if◌then◌else◌, Option, Some, None}
 use Rattle.std.specs.Int.{from_be_bytes, w32, w64}
 use Rattle.std.specs.List.{flat_map, list_all}
@@ -19,14 +19,14 @@ texts_members name ts =
 unfoldable pub cell_number : List ℕ → Option ℕ
 cell_number value = if length value == 4 then Some (from_be_bytes w32 value) else None
 
--- the number of an address of one cell or of two
+-- the number of an address of one cell or two
 unfoldable pub address_number : List ℕ → Option ℕ
 address_number value =
     if length value == 4 then Some (from_be_bytes w32 value)
     else if length value == 8 then Some (from_be_bytes w64 value)
     else None
 
--- what a value is told as, by its kind
+-- the members of a value, by its kind
 abbrev pub told_as : Kind → List ℕ → List ℕ → List Member
 told_as Text name value = text_members name (text value)
 told_as Texts name value = texts_members name (pieces value)
@@ -34,11 +34,11 @@ told_as Digest name value = (name, string (encode_lower value)) ∷ []
 told_as Cell name value = number_if name (cell_number value)
 told_as Address name value = number_if name (address_number value)
 
--- the most bytes of a value that is told
+-- the most bytes of a value that is printed
 abbrev pub most : ℕ
 most = 65536
 
--- what is told of a value of more bytes: how many these are, where it would not be a number
+-- the member of a longer value: its length, unless it would be a number
 abbrev pub length_of : Kind → List ℕ → ℕ → List Member
 length_of Text name n = number_member (name ++ codes "_length") n
 length_of Texts name n = number_member (name ++ codes "_length") n
@@ -46,11 +46,11 @@ length_of Digest name n = number_member (name ++ codes "_length") n
 length_of Cell name n = []
 length_of Address name n = []
 
--- what is told of a value that is there
+-- the members of a value that is present
 unfoldable pub value_members : Kind → List ℕ → List ℕ → List Member
 value_members kind name value = if nat_lt most (length value) then length_of kind name (length value) else told_as kind name value
 
--- a fact: the name of its member, what its value is, and the value where it is there
+-- a fact: the name of its member, the kind of its value, and the value if it is present
 pub record Fact : Type 0 where
   pub name : List ℕ
   pub kind : Kind

@@ -8,19 +8,19 @@ use Rattle.uimg_texts.specs.Slices.{slice}
 use Rattle.uimg_info.specs.declared.reservations.Reservation.{Reservation}
 use Rattle.uimg_printing.specs.Members.{Member, object_of, array_of, number_member}
 
--- the entry that bytes begin with: an address and a size
+-- the entry at the beginning of bytes: an address and a size
 abbrev pub entry_of : List ℕ → Reservation
 entry_of bytes = record { address = from_be_bytes w64 (take 8 bytes); size = from_be_bytes w64 (take 8 (drop 8 bytes)) }
 
--- the entry that ends the list
+-- whether an entry ends the list
 abbrev pub is_end : Reservation → Bool
 is_end entry = entry.address == 0 && entry.size == 0
 
--- the items of what was gathered, if anything was
+-- the collected items, if there are any
 abbrev pub items_in : {X Z : Type 0} → Option (Vec X Z) → Option (List X)
 items_in gathered = option_map (λ entries. entries.items) gathered
 
--- the entries before the one that ends them, if there is one among the first so many
+-- the entries before the one that ends the list, if it is among the first n
 unfoldable pub entries_of : ℕ → List ℕ → Option (List Reservation)
 entries_of zero bytes = None
 entries_of (suc n) bytes = if is_end (entry_of bytes) then Some [] else option_map (λ es. entry_of bytes ∷ es) (entries_of n (drop 16 bytes))
@@ -28,8 +28,9 @@ entries_of (suc n) bytes = if is_end (entry_of bytes) then Some [] else option_m
 abbrev pub entries_in : List ℕ → Option (List Reservation)
 entries_in bytes = entries_of (length bytes / 16) bytes
 
--- The entries of the block of a file whose blob has a total size: from its place, which the header gives, up to the blob's end,
--- in 65,536 bytes at most. A blob that ends before this number has none.
+-- The entries of the block of a file whose blob has this total size: from the header's offset up to
+-- the blob's end, in at most 65,536 bytes. A blob that ends before that number of the header has
+-- none.
 unfoldable pub reservations_of : List ℕ → ℕ → Option (List Reservation)
 reservations_of file totalsize =
     if nat_lt totalsize 20 then None else entries_in (slice file (be32 file 16) (min 65536 (totalsize - be32 file 16)))
@@ -37,7 +38,7 @@ reservations_of file totalsize =
 abbrev pub reservation_json : Reservation → Json
 reservation_json entry = object_of (number_member (codes "address") entry.address ++ number_member (codes "size") entry.size)
 
--- the entries, unless the block has no end that is told
+-- the entries, unless the block has no end there
 abbrev pub reservations_members : Option (List Reservation) → List Member
 reservations_members None = []
 reservations_members (Some entries) = (codes "reservations", array_of (map reservation_json entries)) ∷ []

@@ -26,27 +26,27 @@ use Rattle.uimg_fit_checking.specs.declared.surveying.facts.FullSurvey.{FullSurv
 use Rattle.uimg_info.specs.Members.{Fact}
 use Rattle.uimg_info.specs.declared.kinds.Kind.{Kind}
 
--- Of a source that answers its bytes, what is answered is as a fact says of these.
+-- Over an honest source the result is as a fact says of its bytes.
 abbrev pub Says : {S X E : Type 0} → Result X E → (S → Device) → Lent S → (List ℕ → X → Type 0) → Type 0
 Says result device source Fact = IsTrue (device source.entry.now).honest → IfOk result (Fact (device source.entry.now).bytes)
 
--- A text is that of an object.
+-- The text is that of an object.
 abbrev pub Prints : {Z : Type 0} → Json → Vec ℕ Z → Type 0
 Prints j text = text.items ≡ print (json_tokens j)
 
--- It is read as JSON as an object.
+-- Read as JSON, the text is an object.
 abbrev pub ReadsAs : {Z : Type 0} → Json → Vec ℕ Z → Type 0
 ReadsAs j text = document text.items ≡ Some j
 
--- At most so many bytes were asked for, and a failure of the device was counted exactly where a read failed; of an honest one the
--- tokens were appended, unless the step failed.
+-- At most `most` bytes were requested, and a failure of the device was counted exactly if a read
+-- failed; over an honest device the tokens were appended, unless the step failed.
 pub record PutsBetween {X : Type 0} (most : ℕ) (result : Result X SurveyFault) (d e : Device) (old new : Written) (tokens : List Token) : Type 0 where
   pub uses : Asks most (is_unread result) d e
   pub own : IsOwn result
   pub before : OnOk result (new.before ≡ old.before)
   pub told : IsTrue d.honest → Appends result old new tokens
 
--- .. the tokens that are said of the bytes of the source
+-- the same for tokens that depend on the source's bytes
 abbrev pub Puts : {S X : Type 0} → ℕ → Result X SurveyFault → (S → Device) → Lent S → Lent Written → (List ℕ → List Token) → Type 0
 Puts most result device source writer tokens = PutsBetween most result
     (device source.entry.now) (device source.exit.now) writer.entry.now writer.exit.now (tokens (device source.entry.now).bytes)
@@ -55,19 +55,21 @@ Puts most result device source writer tokens = PutsBetween most result
 abbrev pub Adds : {X E : Type 0} → Result X E → Lent Written → List Token → Type 0
 Adds result writer tokens = Appends result writer.entry.now writer.exit.now tokens
 
--- a fact as a row of the program's: the name of its member, what its value is, and where the value stands
+-- a fact as a row of the program: the name of its member, the kind of its value, and the value's
+-- span
 abbrev pub Row : Type 0
 Row = Bor (List ℕ) × Kind × Option Span
 
--- Its value, if it is there, ends in a file of so many bytes.
+-- Its value, if it is present, ends within a file of this size.
 abbrev pub RowInside : ℕ → Row → Type 0
 RowInside size row = Ends size row.2
 
--- the fact that a row tells of a file
+-- the fact of a row, read in a file
 abbrev pub read_row : List ℕ → Row → Fact
 read_row file row = record { name = row.0.now; kind = row.1; value = bytes_in file row.2 }
 
--- An answer is the text of the object of a file at a path, or the file's first fault, unless a read failed or memory was refused.
+-- The result is the text of the object of a file at a path, or the file's first fault, unless a
+-- read failed or memory was refused.
 abbrev pub Informs : {X : Type 0} → (X → List ℕ) → List ℕ → List ℕ → Result X SurveyFault → Type 0
 Informs view path file (Ok text) = (j : Json) × (info_of path file ≡ Ok j) × (view text ≡ print (json_tokens j))
 Informs view path file (Err (Stopped (of.Blob fault at))) = refuses_memory fault ≡ false → info_of path file ≡ Err (of.Blob fault at)
@@ -77,7 +79,7 @@ Informs view path file (Err (Stopped of.Put)) = ⊥
 Informs view path file (Err OutOfMemory) = ⊤
 Informs view path file (Err Changed) = ⊥
 
--- the object that the places of a survey tell in a file of so many bytes, that stands at a path
+-- the object of a survey's facts, read in a file of `size` bytes at a path
 abbrev pub read_json : List ℕ → ℕ → List ℕ → FullSurvey → Json
 read_json path size file full =
     fit_json path size (reservations_of file full.survey.totalsize) (read_survey file full.survey) (map (read_properties file) full.properties.items)

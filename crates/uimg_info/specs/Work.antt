@@ -1,5 +1,5 @@
--- The most bytes that are asked for: each value once, twelve for the place of a payload, the memory reservation block, and the
--- properties of the configurations with their names.
+-- The most bytes requested: each value once, twelve for the place of a payload, the memory
+-- reservation block, and the properties of the configurations with their names.
 use Rattle.std.specs.Prelude.{ℕ, ◌+◌, List, [], ◌∷◌, Option, Some, length, Result, Ok, Err, Vec}
 use Rattle.std.specs.List.{sum_by}
 use Rattle.std.specs.Option.{option_map_or}
@@ -20,18 +20,18 @@ use Rattle.uimg_info.specs.Fit.{hash_facts, image_facts, configuration_facts, ro
 use Rattle.uimg_info.specs.Members.{Fact}
 use Rattle.uimg_info.specs.Steps.{Row}
 
--- how many bytes a value has, if there is one
+-- the length of a value, or 0
 abbrev pub value_size : Option (List ℕ) → ℕ
 value_size value = option_map_or (λ bytes. length bytes) value 0
 
 abbrev pub fact_size : Fact → ℕ
 fact_size fact = value_size fact.value
 
--- the same of the rows of a program
+-- the same for the rows of the program
 abbrev pub row_size : Row → ℕ
 row_size row = span_size row.2
 
--- what a file says of hash nodes, images and configurations, and of all
+-- the length of the facts of hash nodes, images and configurations, and of all
 abbrev pub hash_said_size : HashSaid → ℕ
 hash_said_size hash = sum_by fact_size (hash_facts hash)
 
@@ -47,11 +47,11 @@ said_size said =
     (sum_by fact_size (root_facts said) + 65540)
     + (sum_by image_said_size said.images + sum_by configuration_said_size said.configurations)
 
--- how many bytes the names of properties have
+-- the length of the names of properties
 abbrev pub names_size : List (NamedOf Span) → ℕ
 names_size properties = sum_by (λ property. length property.name) properties
 
--- the same by the places of the values
+-- the same by the spans of the values
 abbrev pub sizes : List (Option Span) → ℕ
 sizes spans = sum_by span_size spans
 
@@ -90,11 +90,12 @@ list_size places = sum_by property_size places.items
 abbrev pub full_size : FullSurvey → ℕ
 full_size full = survey_size full.survey + sum_by list_size full.properties.items
 
--- what is asked for behind the index, where a file is not refused
+-- the most bytes requested after the index, or 0 for a refused file
 abbrev pub size_if : Result Said Fault → ℕ
 size_if (Ok said) = said_size said
 size_if (Err fault) = 0
 
--- for the facts of a file: its index, the properties of its configurations and their names, and each value of what it says
+-- the most bytes requested: the index, the properties of the configurations and their names, and
+-- the value of each fact
 abbrev pub info_work : List ℕ → ℕ
 info_work file = index_cost file + properties_cost file + sum_by names_size (properties_of file) + size_if (survey_of file)

@@ -1,4 +1,4 @@
-//! What configurations say, as objects.
+//! The facts of configurations as objects.
 
 ghost use Rattle.std.specs.Prelude.{◌+◌, ◌<◌, length, map};
 ghost use Rattle.std.specs.List.{All, sum_by};
@@ -36,7 +36,7 @@ fn put_node<S: Source>(
     put_object(alloc, source, writer, &[("name", Text, Some(name))])
 }
 
-// Writes the array of the nodes below a configuration.
+// Writes the array of a configuration's child nodes.
 fn put_nodes<S: Source>(
     alloc: Global,
     source: &mut S,
@@ -55,7 +55,7 @@ fn put_nodes<S: Source>(
     Ok(())
 }
 
-// Writes a property: its name, and how many bytes its value has.
+// Writes a property: its name, and the length of its value.
 fn put_property<S: Source>(
     alloc: Global,
     source: &mut S,
@@ -93,7 +93,7 @@ fn put_properties<S: Source>(
     Ok(())
 }
 
-// Writes what a configuration says, but for the nodes below it and its properties.
+// Writes the facts of a configuration, without its child nodes and properties.
 fn put_configuration_rows<S: Source>(
     alloc: Global,
     source: &mut S,

@@ -1,4 +1,4 @@
-//! Facts of an image, read from its file and written as members.
+//! Reads facts of an image and writes them as members.
 
 ghost use Rattle.std.specs.Prelude.{◌+◌, ◌≤◌, length, map};
 ghost use Rattle.std.specs.List.{All, sum_by};
@@ -16,13 +16,13 @@ use std::alloc::Global;
 use uimg_base::{Source, Span};
 use uimg_fit_checking::{SurveyFault, read_bytes};
 
-// The most bytes of a value that is told.
+// The most bytes of a value that is printed.
 const MOST: u64 = 65536;
 
-/// A fact: the name of its member, what its value is, and where the value stands, if it is there.
+/// A fact: the name of its member, the kind of its value, and the value's span, if it is present.
 pub(crate) type Row<'a> = (&'a str, Kind, Option<Span>);
 
-// Writes a value that is there.
+// Writes a value that is present.
 #[tactic(auto, unfolding(crate::specs::Members::value_members))]
 fn put_span<S: Source>(
     alloc: Global,
@@ -64,7 +64,7 @@ fn put_row<S: Source>(
     }
 }
 
-/// Writes facts, each that is there as its members.
+/// Writes the members of facts, of each that is present.
 pub(crate) fn put_rows<S: Source>(
     alloc: Global,
     source: &mut S,
@@ -81,7 +81,7 @@ pub(crate) fn put_rows<S: Source>(
     Ok(())
 }
 
-/// Writes the object of some facts.
+/// Writes the object of these facts.
 pub(crate) fn put_object<S: Source>(
     alloc: Global,
     source: &mut S,

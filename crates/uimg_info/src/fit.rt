@@ -1,4 +1,4 @@
-//! The object that tells what a FIT image says.
+//! The object of a FIT image's facts.
 
 ghost use Rattle.std.specs.Prelude.{◌≡◌, ◌+◌, ◌^◌, ◌<◌, ◌≤◌, length, map, IfOk};
 ghost use Rattle.std.specs.List.{All, sum_by};
@@ -74,7 +74,7 @@ fn put_fault(writer: &mut Writer, code: &str, message: &str) -> Result<(), Alloc
     Ok(())
 }
 
-// Writes where a payload stands in a file of so many bytes.
+// Writes where a payload is, and `F3` if it ends after a file of `size` bytes.
 fn put_span(writer: &mut Writer, size: u64, place: Span) -> Result<(), AllocError>
     requires { place.place + place.length < 2 ^ 64 }
     ensures { Adds result writer (tokens_of (span_members size place)) }
@@ -88,7 +88,7 @@ fn put_span(writer: &mut Writer, size: u64, place: Span) -> Result<(), AllocErro
     Ok(())
 }
 
-// Writes where a payload stands in a file of so many bytes, or that there is none.
+// Writes where a payload is in a file of `size` bytes, or that it is missing.
 fn put_place(
     writer: &mut Writer,
     size: u64,
@@ -103,7 +103,7 @@ fn put_place(
     }
 }
 
-// Writes what an image says, but for its payload and its hash nodes.
+// Writes the facts of an image, without its payload and its hash nodes.
 fn put_image_rows<S: Source>(
     alloc: Global,
     source: &mut S,
@@ -127,7 +127,7 @@ fn put_image_rows<S: Source>(
     put_rows(alloc, source, writer, &rows)
 }
 
-// Where the payload of an image stands, or that it has none.
+// Finds the payload of an image, or that it has none.
 fn place_of<S: Source>(
     source: &mut S,
     totalsize: u32,
@@ -147,7 +147,7 @@ fn place_of<S: Source>(
     }
 }
 
-// Writes an image of a file of so many bytes, whose blob has a total size.
+// Writes an image of a file of `size` bytes, whose blob has this total size.
 #[tactic(auto, unfolding(crate::specs::Work::image_size))]
 fn put_image<S: Source>(
     alloc: Global,
@@ -195,7 +195,7 @@ fn put_images<S: Source>(
     Ok(())
 }
 
-// Writes what is told of each image.
+// Writes the first members of each image.
 fn put_head(writer: &mut Writer, path: &str, size: u64, totalsize: u32) -> Result<(), AllocError>
     ensures { Adds result writer (tokens_of (head_members path.now size totalsize)) }
 {
@@ -207,7 +207,7 @@ fn put_head(writer: &mut Writer, path: &str, size: u64, totalsize: u32) -> Resul
     Ok(())
 }
 
-// Writes what the root says, which configuration is the default, and the memory that is reserved.
+// Writes the facts of the root, the default configuration, and the reserved memory.
 fn put_root<S: Source>(
     alloc: Global,
     source: &mut S,
@@ -229,7 +229,7 @@ fn put_root<S: Source>(
     Ok(())
 }
 
-/// Writes the object of what a file of so many bytes says.
+/// Writes the object of a file of `size` bytes with these facts.
 pub(crate) fn put_fit<S: Source>(
     alloc: Global,
     source: &mut S,

@@ -1,16 +1,16 @@
-//! What the values of properties are.
+//! The kinds of properties' values.
 
-/// What the value of a property is, and so what its member is.
+/// The kind of a property's value, which determines its member.
 #[derive(Clone, Copy, Debug, PartialEq, Eq)]
 pub(crate) enum Kind {
     /// A text, up to its first NUL.
     Text,
-    /// Texts, each ended by a NUL.
+    /// Texts, each up to a NUL.
     Texts,
-    /// A digest, told in hexadecimal.
+    /// A digest, printed in hexadecimal.
     Digest,
     /// A number of four bytes.
     Cell,
-    /// An address of one cell or of two.
+    /// An address of one cell or two.
     Address,
 }

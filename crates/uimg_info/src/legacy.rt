@@ -1,4 +1,4 @@
-//! The object that tells what a legacy image says.
+//! The object of a legacy image's facts.
 
 ghost use Rattle.std.specs.Prelude.{◌≡◌, codes, map, true, IfOk};
 ghost use Rattle.std.specs.Str.{IsUtf8};
@@ -17,7 +17,7 @@ use uimg_legacy::{Header, header_bytes};
 use uimg_names::{Field, Naming};
 use uimg_printing::{put_number, put_string, put_text};
 
-// Writes what a code is called in a listing, and the code.
+// Writes the name of a code in a listing, and the code.
 fn put_code(
     writer: &mut Writer,
     field: Field,
@@ -76,7 +76,7 @@ fn put_codes(writer: &mut Writer, header: &Header) -> Result<(), AllocError>
     Ok(())
 }
 
-// Writes what is told of a header behind its name.
+// Writes the members of a header after its name.
 fn put_header(writer: &mut Writer, header: &Header) -> Result<(), AllocError>
     ensures { Adds result writer (tokens_of (header_members header.now)) }
 {
@@ -86,7 +86,7 @@ fn put_header(writer: &mut Writer, header: &Header) -> Result<(), AllocError>
     Ok(())
 }
 
-// Writes where a part stands.
+// Writes where a part is.
 fn put_part(writer: &mut Writer, part: Span) -> Result<(), AllocError>
     ensures { Adds result writer (json_tokens (part_json part)) }
 {
@@ -109,7 +109,7 @@ fn put_parts(writer: &mut Writer, parts: &[Span]) -> Result<(), AllocError>
     Ok(())
 }
 
-// Writes what is told of each image that is read.
+// Writes the first members of each image.
 fn put_head(writer: &mut Writer, path: &str, size: u64) -> Result<(), AllocError>
     ensures { Adds result writer (tokens_of (legacy_head path.now size)) }
 {
@@ -141,9 +141,9 @@ fn put_legacy(
     Ok(())
 }
 
-/// The text of the object that tells what the header of a legacy image says, of a file of so many bytes
-/// at a path, and where its parts stand. Read as JSON it is just this object; it is UTF-8 and one line,
-/// without its end. Memory for it may be refused.
+/// Returns the text of the object of a legacy image, of a file of `size` bytes at a path: the
+/// fields of its header, and where its parts are. The text is UTF-8 and one line, without its end,
+/// and reads as this object. Fails if memory for it is refused.
 pub fn legacy_text(
     alloc: Global,
     path: &str,

@@ -1,4 +1,4 @@
-//! What an image says of itself, as an object of JSON.
+//! The facts of an image, as a JSON object.
 #![tactic(auto)]
 
 mod configurations;

@@ -1,4 +1,4 @@
-//! Members of objects, by the kinds of values that properties have.
+//! Members of objects, by the kinds of properties' values.
 
 ghost use Rattle.std.specs.Prelude.{◌≡◌, ◌<◌, ◌++◌, [], ◌∷◌, length, map, Bool, true, false};
 ghost use Rattle.std.specs.List.{list_all};
@@ -18,7 +18,7 @@ use std::alloc::{AllocError, Global};
 use uimg_base::{before_nul, first_nul};
 use uimg_printing::{put_key, put_number, put_number_if, put_text};
 
-// The bytes before the first NUL, and those behind it.
+// Returns the bytes before the first NUL, and those after it.
 fn cut(bytes: &[u8]) -> (&[u8], &[u8])
     requires { 0 < length bytes.now }
     ensures pieces { pieces bytes.now ≡ result.0.now ∷ pieces result.1.now }
@@ -30,7 +30,7 @@ fn cut(bytes: &[u8]) -> (&[u8], &[u8])
     }
 }
 
-// Whether bytes are UTF-8.
+// Returns whether bytes are UTF-8.
 fn is_utf8(bytes: &[u8]) -> bool
     ensures { result ≡ is_utf8 bytes.now }
 {
@@ -40,7 +40,7 @@ fn is_utf8(bytes: &[u8]) -> bool
     }
 }
 
-// Whether each of some texts is UTF-8.
+// Returns whether each of several texts is UTF-8.
 fn are_utf8(bytes: &[u8]) -> bool
     ensures { result ≡ list_all is_utf8 (pieces bytes.now) }
 {
@@ -73,7 +73,7 @@ fn put_piece(
     Ok(())
 }
 
-// Writes the array of some texts, or of their bytes.
+// Writes the array of several texts, or of their bytes.
 fn put_pieces(
     alloc: Global,
     writer: &mut Writer,
@@ -94,7 +94,7 @@ fn put_pieces(
     Ok(())
 }
 
-// Writes texts, with their bytes beside them where one is not UTF-8.
+// Writes texts, and also their bytes if one is not UTF-8.
 fn put_texts(alloc: Global, writer: &mut Writer, name: &str, bytes: &[u8]) -> Result<(), AllocError>
     ensures { Adds result writer (tokens_of (texts_members name.now (pieces bytes.now))) }
 {
@@ -123,7 +123,7 @@ fn put_digest(
     Ok(())
 }
 
-// The number of a cell.
+// Returns the number of a cell.
 #[tactic(auto, unfolding(crate::specs::Members::cell_number))]
 fn cell_number(value: &[u8]) -> Option<u64>
     ensures { result ≡ cell_number value.now }
@@ -134,7 +134,7 @@ fn cell_number(value: &[u8]) -> Option<u64>
     None
 }
 
-// The number of an address of one cell or of two.
+// Returns the number of an address of one cell or two.
 #[tactic(auto, unfolding(crate::specs::Members::address_number))]
 fn address_number(value: &[u8]) -> Option<u64>
     ensures { result ≡ address_number value.now }
@@ -167,7 +167,7 @@ pub(crate) fn put_value(
     }
 }
 
-/// Writes how many bytes a value has that is too long to be told, unless it would be a number.
+/// Writes the length of a value that is too long to be printed, unless it would be a number.
 pub(crate) fn put_length(
     alloc: Global,
     writer: &mut Writer,

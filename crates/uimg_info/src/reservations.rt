@@ -18,20 +18,20 @@ use uimg_fit_base::Fault;
 use uimg_fit_checking::{SurveyFault, read_bytes};
 use uimg_printing::put_number;
 
-// How many bytes an entry has.
+// The length of an entry, in bytes.
 const ENTRY_LEN: usize = 16;
 
-// How many bytes are read of a block.
+// The most bytes of a block that are read.
 const MOST: u32 = 65536;
 
-/// Memory that is reserved.
+/// Reserved memory.
 #[derive(Clone, Copy, Debug, PartialEq, Eq)]
 pub(crate) struct Reservation {
     address: u64,
     size: u64,
 }
 
-// The entry that bytes begin with.
+// Reads the entry at the beginning of bytes.
 fn entry_of(bytes: &[u8]) -> Reservation
     requires { 16 ≤ length bytes.now }
     ensures { result ≡ entry_of bytes.now }
@@ -42,14 +42,14 @@ fn entry_of(bytes: &[u8]) -> Reservation
     }
 }
 
-// Whether an entry ends the list.
+// Returns whether an entry ends the list.
 fn is_end(entry: Reservation) -> bool
     ensures { result ≡ is_end entry }
 {
     entry.address == 0 && entry.size == 0
 }
 
-// The bytes behind the entry that bytes begin with.
+// Returns the bytes after the first entry.
 fn behind(bytes: &[u8]) -> &[u8]
     requires { 16 ≤ length bytes.now }
     ensures { result.now ≡ drop 16 bytes.now }
@@ -57,7 +57,7 @@ fn behind(bytes: &[u8]) -> &[u8]
     &bytes[ENTRY_LEN..]
 }
 
-// The entries before the one that ends them, if it is there.
+// Reads the entries before the one that ends the list. Returns none without such an end.
 fn entries_in(alloc: Global, bytes: &[u8]) -> Result<Option<Vec<Reservation>>, AllocError>
     ensures { IfOk result (λ found. items_in found ≡ entries_in bytes.now) }
 {
@@ -74,7 +74,7 @@ fn entries_in(alloc: Global, bytes: &[u8]) -> Result<Option<Vec<Reservation>>, A
     Ok(None)
 }
 
-// Where the block begins, by the header.
+// Reads where the block begins, from the header.
 #[tactic(auto, unfolding(uimg_texts::specs::Numbers::be32))]
 fn place_of<S: Source>(source: &mut S) -> Result<u32, SourceFault>
     requires { 20 ≤ length (S.device source.old).bytes }
@@ -86,7 +86,7 @@ fn place_of<S: Source>(source: &mut S) -> Result<u32, SourceFault>
     Ok(number_at(&word, 0))
 }
 
-// The entries of the block of a file whose blob has a total size.
+// Reads the entries of the block of a file whose blob has this total size.
 #[tactic(auto, unfolding(crate::specs::Reservations::reservations_of))]
 fn read_reservations<S: Source>(
     alloc: Global,
@@ -148,7 +148,7 @@ fn put_list(writer: &mut Writer, entries: &[Reservation]) -> Result<(), AllocErr
     Ok(())
 }
 
-// The same, if the block has an end that is told.
+// Does the same, if the block has an end.
 fn put_found(writer: &mut Writer, found: Option<Vec<Reservation>>) -> Result<(), AllocError>
     ensures { Adds result writer (tokens_of (reservations_members (items_in found))) }
 {
@@ -158,8 +158,8 @@ fn put_found(writer: &mut Writer, found: Option<Vec<Reservation>>) -> Result<(),
     }
 }
 
-/// Writes the entries of the memory reservation block of a file whose blob has a total size, if the block
-/// ends within the blob and has 4095 entries at most.
+/// Writes the entries of the memory reservation block of a file whose blob has this total size, if
+/// the block ends within the blob and has at most 4095 entries.
 pub(crate) fn put_reservations<S: Source>(
     alloc: Global,
     source: &mut S,

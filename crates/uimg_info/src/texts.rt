@@ -1,4 +1,4 @@
-//! The text of the object that tells what a FIT image says.
+//! The text of the object of a FIT image's facts.
 
 ghost use Rattle.std.specs.Prelude.{◌≡◌, length, true, IsTrue, IfOk};
 ghost use Rattle.std.specs.Str.{IsUtf8};
@@ -19,7 +19,7 @@ use uimg_base::{Room, Source};
 use uimg_fit_base::Fault;
 use uimg_fit_checking::{FullSurvey, SurveyFault, survey_with_properties};
 
-// The text of the object of what a file of so many bytes says.
+// Returns the text of the object of a file of `size` bytes with these facts.
 fn survey_text<S: Source>(
     alloc: Global,
     path: &str,
@@ -43,14 +43,15 @@ fn survey_text<S: Source>(
     Ok(writer.into_inner())
 }
 
-/// The text of the object that tells what a FIT image says, of a file at a path. Over an honest source it
-/// is, read as JSON, just this object, and one line, without its end; over any source it is UTF-8.
+/// Returns the text of the object of a FIT image's facts, of a file at a path. Over an honest
+/// source the text is one line, without its end, and reads as this object; over any source it is
+/// UTF-8.
 ///
-/// Refusals are those of `survey_with_properties`. The values are read one by one, each at most once and
-/// none of more than 65,536 bytes, and no payload is: so no more is asked for than that costs, the values
-/// and the names of the properties have, 12 bytes for each image, and 65,540 for the memory reservation
-/// block. The room holds the nodes while they are surveyed. `OutOfMemory` comes where memory was refused
-/// for what is gathered, for a value or for the text.
+/// Returns the faults of `survey_with_properties`. Reads each value at most once, no value of more
+/// than 65,536 bytes, and no payload. Requests no more than that call, the values, the names of the
+/// properties, 12 bytes for each image and 65,540 for the memory reservation block. The room holds
+/// the nodes meanwhile. Returns `OutOfMemory` if memory was refused for the facts, for a value or
+/// for the text.
 pub fn fit_text<S: Source, A: Allocator>(
     alloc: Global,
     path: &str,

@@ -1,4 +1,4 @@
--- What a legacy image is that is built from parts.
+-- Legacy images that are built from parts.
 use Rattle.std.specs.Prelude.{ℕ, ◌-◌, List, [], ◌∷◌, ◌++◌, length, replicate, nat_lt, ◌==◌, ◌&&◌, if◌then◌else◌, Result, Ok, Err, Bool, true, false}
 use Rattle.std.specs.Int.{to_be_bytes, w32}
 use Rattle.std.specs.List.{flat_map, list_any}
@@ -12,7 +12,7 @@ use Rattle.uimg_texts.specs.Numbers.{up4}
 use Rattle.uimg_legacy.specs.Header.{spelled}
 use Rattle.uimg_legacy.specs.Parts.{has_parts}
 
--- the zeros that bring so many bytes to a multiple of 4
+-- the zeros that pad n bytes to a multiple of 4
 abbrev pub padding : ℕ → List ℕ
 padding n = replicate (up4 n - n) 0
 
@@ -22,20 +22,20 @@ joined [] = []
 joined (last ∷ []) = last
 joined (part ∷ next ∷ more) = part ++ padding (length part) ++ joined (next ∷ more)
 
--- the size of each part as a word, and a zero word (mkimage(1), image type multi)
+-- the size of each part as a word, then a zero word (mkimage(1), image type multi)
 unfoldable pub size_table : List (List ℕ) → List ℕ
 size_table parts = flat_map (λ part. to_be_bytes w32 (length part)) parts ++ to_be_bytes w32 0
 
--- the data of a type that has parts: the table of sizes and the parts; of another: the one file
+-- the data: for a type with parts the table of sizes and the parts, for any other the one file
 abbrev pub data_of : Bool → List (List ℕ) → List ℕ
 data_of true parts = size_table parts ++ joined parts
 data_of false parts = joined parts
 
--- the data that are built for a type
+-- the data built for a type
 abbrev pub data_for : ℕ → List (List ℕ) → List ℕ
 data_for kind parts = data_of (has_parts kind) parts
 
--- the header of such data, with the fields that the options give
+-- the header of this data, with the fields of the options
 abbrev pub header_for : Options → List ℕ → Header
 header_for options payload = record {
   time = options.time;
@@ -50,25 +50,25 @@ header_for options payload = record {
   name = options.name;
 }
 
--- the header's 64 bytes, and the data
+-- the header's 64 bytes, then the data
 abbrev pub legacy_image : Options → List ℕ → List ℕ
 legacy_image options payload = spelled (header_for options payload) ++ payload
 
--- the image that is built from parts
+-- the image built from parts
 abbrev pub legacy_built : Options → List (List ℕ) → List ℕ
 legacy_built options parts = legacy_image options (data_of (has_parts options.kind) parts)
 
--- whether one of the parts is empty
+-- whether a part is empty
 unfoldable pub has_empty : List (List ℕ) → Bool
 has_empty parts = list_any (λ part. length part == 0) parts
 
--- The data, or the first of: a part is empty, the data have more than 4294967295 bytes.
+-- The data, or the first fault: a part is empty, or the data have more than 4294967295 bytes.
 unfoldable pub data_to_build : ℕ → List (List ℕ) → Result (List ℕ) LegacyFault
 data_to_build kind parts =
     if has_parts kind && has_empty parts then Err EmptyPart
     else if nat_lt 4294967295 (length (data_of (has_parts kind) parts)) then Err TooLarge
     else Ok (data_of (has_parts kind) parts)
 
--- building writes the image, or nothing where the parts are refused
+-- building writes the image, or nothing if the parts are refused
 abbrev pub build_of : Options → List (List ℕ) → Outcome LegacyFault
 build_of options parts = unless_refused (data_to_build options.kind parts) (λ payload. told (legacy_image options payload) done)

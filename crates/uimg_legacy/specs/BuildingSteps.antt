@@ -1,4 +1,4 @@
--- What the steps of building an image answer.
+-- What the steps of building an image return.
 use Rattle.std.specs.Prelude.{◌≡◌, ℕ, ⊤, List, length, Result, Ok, Err}
 use Rattle.uimg_legacy.specs.declared.header.Header.{Header}
 use Rattle.uimg_legacy.specs.declared.options.Options.{Options}
@@ -8,17 +8,17 @@ use Rattle.uimg_legacy.specs.Header.{header, spelled}
 use Rattle.uimg_legacy.specs.Parts.{has_parts}
 use Rattle.uimg_legacy.specs.Building.{data_of, data_for, data_to_build, header_for}
 
--- An answer is the size of the data, or the fault of parts that are refused, unless a device failed.
+-- The result is the size of the data, or the fault of refused parts, unless a device failed.
 abbrev pub Measures : ℕ → List (List ℕ) → Result ℕ Fault → Type 0
 Measures kind parts (Ok size) = (data_to_build kind parts ≡ Ok (data_of (has_parts kind) parts)) × (size ≡ length (data_of (has_parts kind) parts))
 Measures kind parts (Err (Legacy fault)) = data_to_build kind parts ≡ Err fault
 Measures kind parts (Err _) = ⊤
 
--- these are the bytes of a header, and they are read as that header
+-- the bytes spell this header, and read back as it
 pub record IsHead (bytes : List ℕ) (h : Header) : Type 0 where
   pub spelled : bytes ≡ spelled h
   pub read : header bytes ≡ Ok h
 
--- these are the bytes of the header of the data that are built from parts
+-- the bytes spell the header of the data built from parts
 abbrev pub IsHeadFor : Options → List (List ℕ) → List ℕ → Type 0
 IsHeadFor options parts bytes = IsHead bytes (header_for options (data_for options.kind parts))

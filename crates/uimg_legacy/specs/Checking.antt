@@ -10,12 +10,12 @@ use Rattle.uimg_legacy.specs.Header.{head, has_right_crc, fields}
 use Rattle.uimg_legacy.specs.Image.{has_right_data}
 use Rattle.uimg_legacy.specs.Report.{verify_of}
 
--- the data's checksum counts where the header's is right
+-- the result for the data, if the header's checksum is right
 abbrev pub right_behind : Bool → Result Bool LegacyFault → Result Bool LegacyFault
 right_behind true found = found
 right_behind false found = Ok false
 
--- whether both are right, or why the image is refused
+-- whether both are right, or the first fault
 abbrev pub checked : List ℕ → Result Bool LegacyFault
 checked image = do
   bytes ← head image
@@ -24,13 +24,13 @@ checked image = do
 abbrev pub Checks : List ℕ → Result Bool Fault → Type 0
 Checks image result = Gives (λ right. right) result (checked image)
 
--- how a report ends that tells the same
+-- the end of a report with this result
 abbrev pub end_of : Result Bool Fault → Option (End LegacyFault)
 end_of (Ok true) = Some done
 end_of (Ok false) = Some not_right
 end_of (Err (Legacy fault)) = Some (refused fault)
 end_of (Err _) = None
 
--- The answer is just how the report on the image ends, unless a device failed.
+-- The result is the end of the report, unless a device failed.
 abbrev pub ChecksAs : List ℕ → Result Bool Fault → Type 0
 ChecksAs image result = IfSome (end_of result) (λ end. (verify_of image).end ≡ end)

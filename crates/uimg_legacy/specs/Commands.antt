@@ -1,4 +1,4 @@
--- What a call did that reads an image, and what it tells of it.
+-- What a call that reads an image does, writes and returns.
 use Rattle.std.specs.Prelude.{◌≡◌, ℕ, List, [], Bool, false, Result, IsTrue}
 use Rattle.uimg_base.specs.Lent.{Lent}
 use Rattle.uimg_base.specs.Device.{Device, RisesIf}
@@ -12,71 +12,70 @@ use Rattle.uimg_legacy.specs.declared.fault.LegacyFault.{LegacyFault}
 use Rattle.uimg_legacy.specs.declared.fault.Fault.{Fault}
 use Rattle.uimg_legacy.specs.Faults.{is_read, is_put, is_of_making, end_of}
 
--- A fact of an answer and the bytes of the source, if that is honest.
+-- A fact about the result and the source's bytes, if the source is honest.
 abbrev pub OfHonest : {S X : Type 0} → (List ℕ → X → Type 0) → X → (S → Device) → Lent S → Type 0
 OfHonest fact result device source = IsTrue (device source.entry.now).honest → fact (device source.entry.now).bytes result
 
--- The source is what it was, and a failure was counted exactly where a read failed. Of an honest one at most as many bytes
--- were asked for as a measure of its bytes.
+-- The source is unchanged, and its failures rose exactly if a read failed. Of an honest source at
+-- most `work` of its bytes were requested.
 abbrev pub UsesWithin : {S : Type 0} → (List ℕ → ℕ) → Bool → (S → Device) → Lent S → Type 0
 UsesWithin work failed device source = UsesAtMost (work (device source.entry.now).bytes) failed (device source.entry.now) (device source.exit.now)
 
--- A call that only reads. Of an honest device at most so many bytes were asked for, the room has its entries dropped and is
--- otherwise as it was, no write failed, and no fault of making is answered.
+-- A call that only reads. Of an honest device it requests at most `most` bytes.
 pub record InspectsBetween {X : Type 0} (most : ℕ) (result : Result X Fault) (old new : Device) (before after : Held) : Type 0 where
   -- the source is unchanged; `Read` is returned exactly if its failures rose
   pub uses : UsesAtMost most (is_read result) old new
-  -- it took no memory, and refused none
+  -- its entries are dropped; it took no memory and refused none
   pub room : after ≡ record before { entries = [] }
   -- `Put` is never returned
   pub no_put : is_put result ≡ false
   -- L9 and L10 are never returned, over any source
   pub no_making : is_of_making result ≡ false
 
--- the same of a source and a room that were lent, by a measure of the source's bytes
+-- the same for a borrowed source and room, with a measure of the source's bytes
 abbrev pub Inspects : {S X : Type 0} → (List ℕ → ℕ) → Result X Fault → (S → Device) → Lent S → Lent Held → Type 0
 Inspects work result device source room = InspectsBetween (work (device source.entry.now).bytes) result
     (device source.entry.now) (device source.exit.now) room.entry.now room.exit.now
 
--- A call that reads and writes. Of an honest device at most so many bytes were asked for, the room has its entries dropped and
--- is otherwise as it was, a fault was counted exactly where a write failed, and no fault of making is answered.
+-- A call that reads and writes. Of an honest device it requests at most `most` bytes.
 pub record DeliversBetween {X : Type 0} (most : ℕ) (result : Result X Fault) (old new : Device) (before after : Held) (from to : Sink) : Type 0 where
   -- the source is unchanged; `Read` is returned exactly if its failures rose
   pub uses : UsesAtMost most (is_read result) old new
-  -- it took no memory, and refused none
+  -- its entries are dropped; it took no memory and refused none
   pub room : after ≡ record before { entries = [] }
   -- `Put` is returned exactly if the faults of the output rose
   pub faults : RisesIf (is_put result) from.faults to.faults
   -- L9 and L10 are never returned, over any source
   pub no_making : is_of_making result ≡ false
 
--- the same of a source, a room and an output that were lent
+-- the same for a borrowed source, room and output
 abbrev pub Delivers : {S X : Type 0} → (List ℕ → ℕ) → Result X Fault → (S → Device) → Lent S → Lent Held → Lent Sink → Type 0
 Delivers work result device source room out = DeliversBetween (work (device source.entry.now).bytes) result
     (device source.entry.now) (device source.exit.now) room.entry.now room.exit.now out.entry.now out.exit.now
 
--- A call that reads, and gives a taker what it read. Of an honest device at most so many bytes were asked for, the room has
--- its entries dropped and is otherwise as it was, and no fault of making is answered.
+-- A call that reads and passes what it read to a taker. Of an honest device it requests at most
+-- `most` bytes.
 pub record TakesOutBetween {X : Type 0} (most : ℕ) (result : Result X Fault) (old new : Device) (before after : Held) : Type 0 where
   -- the source is unchanged; `Read` is returned exactly if its failures rose
   pub uses : UsesAtMost most (is_read result) old new
-  -- it took no memory, and refused none
+  -- its entries are dropped; it took no memory and refused none
   pub room : after ≡ record before { entries = [] }
   -- L9 and L10 are never returned, over any source
   pub no_making : is_of_making result ≡ false
 
--- the same of a source and a room that were lent
+-- the same for a borrowed source and room
 abbrev pub TakesOut : {S X : Type 0} → (List ℕ → ℕ) → Result X Fault → (S → Device) → Lent S → Lent Held → Type 0
 TakesOut work result device source room = TakesOutBetween (work (device source.entry.now).bytes) result
     (device source.entry.now) (device source.exit.now) room.entry.now room.exit.now
 
--- The answer tells an outcome of the bytes of an honest source: its end, after all its text, or a prefix of the text where a
--- device failed.
+-- Over an honest source the end and the text are those of an outcome of its bytes; if a device
+-- failed, a prefix of the text was written.
 abbrev pub TellsOf : {S : Type 0} → (List ℕ → Outcome LegacyFault) → Result Status Fault → (S → Device) → Lent S → Lent Sink → Type 0
 TellsOf outcome result device source out = IsTrue (device source.entry.now).honest
     → Tells (end_of result) (outcome (device source.entry.now).bytes) out.entry.now out.exit.now
 
--- Of an honest source so many bytes were asked for, and beside them what was written of an outcome's text, and a window.
+-- Of an honest source at most `work` bytes, those written of an outcome's text and one window were
+-- requested.
 abbrev pub KeepsAhead : {S : Type 0} → (List ℕ → ℕ) → (List ℕ → Outcome LegacyFault) → (S → Device) → Lent S → Lent Sink → Type 0
 KeepsAhead work outcome device source out = IsTrue (device source.entry.now).honest
     → ReadsAhead (work (device source.entry.now).bytes) (device source.entry.now) (device source.exit.now) out.entry.now out.exit.now

@@ -10,39 +10,39 @@ bytes_of devices = map (λ d. d.bytes) devices
 abbrev pub AreHonest : List Device → Type 0
 AreHonest devices = All (λ d. IsTrue d.honest) devices
 
--- No call changes what the devices are.
+-- The bytes and the honesty of the devices are unchanged.
 pub record SameDevices (old new : List Device) : Type 0 where
   pub bytes : map (λ d. d.bytes) new ≡ map (λ d. d.bytes) old
   pub honest : map (λ d. d.honest) new ≡ map (λ d. d.honest) old
 
--- how often the device of a number failed
+-- how often device i failed
 abbrev pub failures_of : List Device → ℕ → ℕ
 failures_of devices i = slice_index_or (map (λ d. d.failures) devices) i 0
 
--- The failures of one of the devices rose, or stood at their greatest value. Those of the others are as before.
+-- The failures of one device rose; those of the others are unchanged.
 pub record OneRose (old new : List Device) : Type 0 where
   pub number : ℕ
   pub within : number < length old
   pub rose : Rose (failures_of old number) (failures_of new number)
   pub others : (i : ℕ) → i ≢ number → failures_of new i ≡ failures_of old i
 
--- The failures of one of the devices rose where a test holds, and else none changed.
+-- The failures of one device rose if a test holds; otherwise none changed.
 abbrev pub OneRisesIf : Bool → List Device → List Device → Type 0
 OneRisesIf true old new = OneRose old new
 OneRisesIf false old new = map (λ d. d.failures) new ≡ map (λ d. d.failures) old
 
--- how many bytes were asked of each device
+-- how many bytes were requested of each device
 abbrev pub asked_of : List Device → List ℕ
 asked_of devices = map (λ d. d.asked) devices
 
--- The devices are what they were, and a failure of one was counted exactly where a read failed.
+-- What reading several devices does.
 pub record UsesAll (failed : Bool) (old new : List Device) : Type 0 where
   -- neither the bytes nor the honesty of any of them changed
   pub same : SameDevices old new
   -- those of one device rose if a read failed; all others are unchanged
   pub failures : OneRisesIf failed old new
 
--- The same, and none was asked for a byte.
+-- The same, and no byte was requested.
 pub record AsksNone (failed : Bool) (old new : List Device) : Type 0 where
   pub same : SameDevices old new
   pub failures : OneRisesIf failed old new

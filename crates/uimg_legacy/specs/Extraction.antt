@@ -8,18 +8,18 @@ use Rattle.uimg_legacy.specs.declared.fault.LegacyFault.TheVariants.{PartOutside
 use Rattle.uimg_legacy.specs.Image.{legacy}
 use Rattle.uimg_legacy.specs.Parts.{has_parts, part_sizes, start, is_outside}
 
--- a part by its position, if there is one and it ends inside the data
+-- the part at a position, if the table has one and it ends inside the data
 unfoldable pub listed_part : List ℕ → List ℕ → ℕ → Result (List ℕ) LegacyFault
 listed_part payload table position =
     if nat_le (length table) position then Err NoSuchPart
     else if is_outside payload table position then Err PartOutside
     else Ok (slice payload (start table position) (slice_index table position))
 
--- the data of a single file, whose position is 0
+-- the data of a single file, at position 0
 unfoldable pub single : List ℕ → ℕ → Result (List ℕ) LegacyFault
 single payload position = if position == 0 then Ok payload else Err NoSuchPart
 
--- a part of a type that has them, or the data of another
+-- for a type with parts the part at a position, for any other the data
 abbrev pub part_of_data : Bool → List ℕ → ℕ → Result (List ℕ) LegacyFault
 part_of_data true payload position = do
   table ← part_sizes payload
@@ -32,6 +32,6 @@ part_at image position = do
   it ← legacy image
   part_of_data (has_parts it.header.kind) it.payload position
 
--- an extraction writes that part and nothing else, or nothing
+-- an extraction writes exactly that part, or nothing
 abbrev pub extract_of : List ℕ → ℕ → Outcome LegacyFault
 extract_of image position = unless_refused (part_at image position) (λ bytes. told bytes done)

@@ -1,4 +1,4 @@
--- What the answers of this crate say.
+-- What the results of this crate mean.
 use Rattle.std.specs.Prelude.{◌≡◌, ℕ, List, Result, Ok, Err, Option, Some, None, ⊤, Bool, true, false}
 use Rattle.uimg_base.specs.Outcome.{End, done, not_right, refused}
 use Rattle.uimg_base.specs.declared.status.Status.{Status}
@@ -10,52 +10,52 @@ use Rattle.uimg_legacy.specs.declared.fault.LegacyFault.TheVariants.{EmptyPart, 
 use Rattle.uimg_legacy.specs.declared.fault.Fault.{Fault}
 use Rattle.uimg_legacy.specs.declared.fault.Fault.TheVariants.{Legacy, Read, Put}
 
--- the answer is that a read failed
+-- the result is a failed read
 abbrev pub is_read : {X : Type 0} → Result X Fault → Bool
 is_read (Err Read) = true
 is_read _ = false
 
--- the answer is that a write failed
+-- the result is a failed write
 abbrev pub is_put : {X : Type 0} → Result X Fault → Bool
 is_put (Err Put) = true
 is_put _ = false
 
--- the answer is that the image is refused
+-- the result is a refusal of the image
 abbrev pub is_refused : {X : Type 0} → Result X Fault → Bool
 is_refused (Err (Legacy fault)) = true
 is_refused _ = false
 
--- the fault is of parts that an image is to be built from
+-- the fault is one of the parts that an image is built from
 abbrev pub of_making : LegacyFault → Bool
 of_making EmptyPart = true
 of_making TooLarge = true
 of_making _ = false
 
--- the answer is such a fault
+-- the result is such a fault
 abbrev pub is_of_making : {X : Type 0} → Result X Fault → Bool
 is_of_making (Err (Legacy fault)) = of_making fault
 is_of_making _ = false
 
--- the end that an answer tells, where no device failed
+-- the end that a result means, unless a device failed
 abbrev pub end_of : Result Status Fault → Option (End LegacyFault)
 end_of (Ok Done) = Some done
 end_of (Ok NotRight) = Some not_right
 end_of (Err (Legacy fault)) = Some (refused fault)
 end_of (Err _) = None
 
--- the end that the answer of a building tells, where no device failed
+-- the same for the result of building
 abbrev pub built_end : {X : Type 0} → Result X Fault → Option (End LegacyFault)
 built_end (Ok x) = Some done
 built_end (Err (Legacy fault)) = Some (refused fault)
 built_end (Err _) = None
 
--- An answer is the value or the fault of a definition, unless a device failed.
+-- The result is the value or the fault of a definition, unless a device failed.
 abbrev pub Gives : {X Y : Type 0} → (X → Y) → Result X Fault → Result Y LegacyFault → Type 0
 Gives view (Ok x) r = r ≡ Ok (view x)
 Gives view (Err (Legacy fault)) r = r ≡ Err fault
 Gives view (Err _) r = ⊤
 
--- the same of what a definition finds in the bytes of an image
+-- the same for a definition over the bytes of an image
 abbrev pub GivesBy : {X : Type 0} → (List ℕ → Result X LegacyFault) → List ℕ → Result X Fault → Type 0
 GivesBy definition image result = Gives (λ x. x) result (definition image)
 

@@ -8,12 +8,12 @@ use Rattle.uimg_legacy.specs.declared.fault.LegacyFault.{LegacyFault}
 use Rattle.uimg_legacy.specs.declared.fault.LegacyFault.TheVariants.{Truncated, BadDataCrc}
 use Rattle.uimg_legacy.specs.Header.{header}
 
--- a header, and the bytes that it is the header of
+-- a header and its data
 pub record Image : Type 0 where
   pub header : Header
   pub payload : List ℕ
 
--- the bytes after the header, as many as it says, whether the image has them or not
+-- the data: the `size` bytes after the header, or as many as the image has
 abbrev pub payload : List ℕ → Header → List ℕ
 payload image h = slice image 64 h.size
 
@@ -23,13 +23,13 @@ has_right_data image h =
     if nat_lt (length image) (64 + h.size) then Err Truncated
     else Ok (crc (payload image h) == h.dcrc)
 
--- the header and the data, where their CRC is right
+-- the header and the data, if their CRC is right
 abbrev pub with_data : List ℕ → Header → Bool → Result Image LegacyFault
 with_data image h true = Ok (record { header = h; payload = payload image h })
 with_data image h false = Err BadDataCrc
 
--- The header and the data of an image, or the first of: too short, bad magic, bad header CRC, truncated, bad
--- data CRC. Bytes after the data are accepted.
+-- The header and the data of an image, or the first fault: too short, bad magic, bad header CRC,
+-- truncated, bad data CRC. Bytes after the data are accepted.
 abbrev pub legacy : List ℕ → Result Image LegacyFault
 legacy image = do
   h ← header image

@@ -15,7 +15,7 @@ use Rattle.uimg_legacy.specs.declared.fault.LegacyFault.TheVariants.{PartOutside
 use Rattle.uimg_legacy.specs.Image.{legacy}
 use Rattle.uimg_legacy.specs.Parts.{has_parts, sizes, part_sizes, is_outside}
 
--- a value behind its label, which is padded with blanks to 14 bytes
+-- a label, padded with blanks to 14 bytes, then a value
 abbrev pub labelled : List ℕ → List ℕ → List ℕ
 labelled label value = line (take 14 (label ++ replicate 14 32) ++ value)
 
@@ -50,38 +50,38 @@ load_line h = labelled (codes "Load Address:") (address_text h.load)
 unfoldable pub entry_line : Header → List ℕ
 entry_line h = labelled (codes "Entry Point:") (address_text h.ep)
 
--- the six lines of each image
+-- the six lines that each image has
 abbrev pub head_text : Naming → Header → List ℕ
 head_text naming h = name_line h ++ time_line h ++ type_line naming h ++ size_line h ++ load_line h ++ entry_line h
 
--- the line of a part
+-- the line of part i
 unfoldable pub part_line : ℕ → ℕ → List ℕ
 part_line i size = line (codes "   Image " ++ decimal i ++ codes ": " ++ size_text size)
 
--- a part's line and the rest, or the refusal before that line
+-- a part's line and the rest, or the refusal instead of that line
 abbrev pub part_step : Bool → List ℕ → Outcome LegacyFault → Outcome LegacyFault
 part_step true text rest = told [] (refused PartOutside)
 part_step false text rest = after text rest
 
--- the lines of so many parts from the i-th on, up to one that ends after the data
+-- the lines of n parts from part i on, up to the first that ends after the data
 unfoldable pub part_lines : List ℕ → List ℕ → ℕ → ℕ → Outcome LegacyFault
 part_lines payload table zero i = told [] done
 part_lines payload table (suc n) i =
     part_step (is_outside payload table i) (part_line i (slice_index table i)) (part_lines payload table n (suc i))
 
--- the parts, unless their table has no end
+-- the line `Contents:` and the parts' lines, unless their table has no end
 abbrev pub contents : List ℕ → Outcome LegacyFault
 contents payload = unless_refused (part_sizes payload) (λ table. after (line (codes "Contents:")) (part_lines payload table (length table) 0))
 
--- the lines of so many parts of the data
+-- the lines of the first `count` parts of the data
 abbrev pub lines_of : List ℕ → ℕ → Outcome LegacyFault
 lines_of payload count = part_lines payload (sizes payload) count 0
 
--- what stands after the six lines
+-- the text after the six lines
 abbrev pub tail_with : Bool → List ℕ → Outcome LegacyFault
 tail_with true payload = contents payload
 tail_with false payload = told [] done
 
--- the six lines of an image and what stands after them; one that is refused has no line
+-- the six lines of an image and the text after them; a refused image has no line
 abbrev pub list_of : Naming → List ℕ → Outcome LegacyFault
 list_of naming image = unless_refused (legacy image) (λ it. after (head_text naming it.header) (tail_with (has_parts it.header.kind) it.payload))

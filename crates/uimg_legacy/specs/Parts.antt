@@ -1,4 +1,4 @@
--- The parts of the data of type multi and script: a table of sizes ended by a zero word, and the parts.
+-- The parts of types multi and script: a table of sizes that ends with a zero word, then the parts.
 use Rattle.std.specs.Prelude.{ℕ, ◌+◌, ◌*◌, List, length, take, slice_index, sum_by, nat_lt, ◌==◌, ◌||◌, if◌then◌else◌, Result, Ok, Err, Bool}
 use Rattle.std.specs.List.{before_first, list_any}
 use Rattle.uimg_legacy.specs.declared.fault.LegacyFault.{LegacyFault}
@@ -6,15 +6,15 @@ use Rattle.uimg_legacy.specs.declared.fault.LegacyFault.TheVariants.{NoTableEnd}
 use Rattle.uimg_texts.specs.Numbers.{up4}
 use Rattle.uimg_legacy.specs.Words.{words}
 
--- whether an image of this type has parts: multi is 4, script is 6
+-- whether an image of this type has parts: multi (4) and script (6) do
 unfoldable pub has_parts : ℕ → Bool
 has_parts kind = kind == 4 || kind == 6
 
--- the words of the data before the first zero word, or all where none is zero
+-- the words of the data before the first zero word, or all if none is zero
 unfoldable pub sizes : List ℕ → List ℕ
 sizes payload = before_first (λ w. w == 0) (words payload)
 
--- the sizes of the parts, if a zero word ends their table
+-- the sizes of the parts, if their table ends with a zero word
 unfoldable pub part_sizes : List ℕ → Result (List ℕ) LegacyFault
 part_sizes payload = if list_any (λ w. w == 0) (words payload) then Ok (sizes payload) else Err NoTableEnd
 

@@ -1,4 +1,4 @@
--- Where all parts of an image stand in its file.
+-- Where all parts of an image are in its file.
 use Rattle.std.specs.Prelude.{◌≡◌, ℕ, zero, suc, ◌+◌, ⊤, List, [], ◌∷◌, ◌++◌, length, slice_index, nat_lt, if◌then◌else◌, Result, Ok, Err, Bool, true, false, IsTrue}
 use Rattle.uimg_texts.specs.Slices.{slice}
 use Rattle.uimg_base.specs.Lent.{Lent}
@@ -14,42 +14,42 @@ use Rattle.uimg_legacy.specs.declared.placing.PartsFault.TheVariants.{Stopped, O
 use Rattle.uimg_legacy.specs.Image.{payload}
 use Rattle.uimg_legacy.specs.Parts.{has_parts, sizes, part_sizes, start, is_outside}
 
--- the place of the part of a number: its start, counted from the file's beginning
+-- the span of a part in the file
 abbrev pub place_of : List ℕ → ℕ → Span
 place_of table i = record { place = 64 + start table i; length = slice_index table i }
 
--- a place before those behind it
+-- spans before others, unless these are refused
 abbrev pub before : List Span → Result (List Span) LegacyFault → Result (List Span) LegacyFault
 before ps (Ok qs) = Ok (ps ++ qs)
 before ps (Err fault) = Err fault
 
--- a place, unless the part ends after the data
+-- a span, unless its part ends after the data
 abbrev pub place_step : Bool → Span → Result (List Span) LegacyFault → Result (List Span) LegacyFault
 place_step true p rest = Err PartOutside
 place_step false p rest = before (p ∷ []) rest
 
--- the places of so many parts from one on, unless one of them ends after the data
+-- the spans of n parts from part i on, unless one ends after the data
 unfoldable pub places : List ℕ → List ℕ → ℕ → ℕ → Result (List Span) LegacyFault
 places payload table zero i = Ok []
 places payload table (suc n) i = place_step (is_outside payload table i) (place_of table i) (places payload table n (i + 1))
 
--- of a type that has parts those of its table, of another its data
+-- for a type with parts the spans of its table, for any other that of the data
 abbrev pub places_in : Bool → List ℕ → ℕ → Result (List Span) LegacyFault
 places_in true payload size = do
   table ← part_sizes payload
   places payload table (length table) 0
 places_in false payload size = Ok (record { place = 64; length = size } ∷ [])
 
--- of an image with this header, if its data are there
+-- the spans for an image with this header, if it has all its data
 unfoldable pub places_of : List ℕ → Header → Result (List Span) LegacyFault
 places_of image h = if nat_lt (length image) (64 + h.size) then Err Truncated else places_in (has_parts h.kind) (payload image h) h.size
 
--- the answer is that a read failed
+-- the result is a failed read
 abbrev pub is_unread : {X : Type 0} → Result X PartsFault → Bool
 is_unread (Err (Stopped of.Read)) = true
 is_unread _ = false
 
--- An answer is the places or the fault of a definition, unless a read failed or memory was refused.
+-- The result is the spans or the fault of a definition, unless a read failed or memory was refused.
 abbrev pub GivesPlaces : {X : Type 0} → (X → List Span) → Result X PartsFault → Result (List Span) LegacyFault → Type 0
 GivesPlaces view (Ok x) r = r ≡ Ok (view x)
 GivesPlaces view (Err (Stopped (of.Legacy fault))) r = r ≡ Err fault
@@ -57,7 +57,8 @@ GivesPlaces view (Err (Stopped of.Read)) r = ⊤
 GivesPlaces view (Err (Stopped of.Put)) r = ⊥
 GivesPlaces view (Err OutOfMemory) r = ⊤
 
--- Of an honest source whose table has so many sizes, the answer is the places of its parts, or their fault.
+-- Over an honest source whose table has `count` sizes, the result is the spans of its parts, or
+-- their fault.
 abbrev pub TellsPlaces : {S X : Type 0} → (X → List Span) → ℕ → ℕ → Result X PartsFault → (S → Device) → Lent S → Type 0
 TellsPlaces view size count result device source = IsTrue (device source.entry.now).honest
     → count ≡ length (sizes (slice (device source.entry.now).bytes 64 size))

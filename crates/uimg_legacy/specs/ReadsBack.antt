@@ -1,4 +1,4 @@
--- What is read of an image that was built.
+-- What is read of a built image.
 use Rattle.std.specs.Prelude.{◌≡◌, ℕ, ◌<◌, List, ◌++◌, length, slice_index_or, codes, []}
 use Rattle.uimg_base.specs.Outcome.{Outcome, done, told, line}
 use Rattle.uimg_legacy.specs.declared.fault.LegacyFault.{LegacyFault}

@@ -1,20 +1,21 @@
--- What the reading of a table of sizes answers.
+-- What reading a table of sizes returns.
 use Rattle.std.specs.Prelude.{◌≡◌, ℕ, ◌+◌, ◌*◌, ⊤, List, length, Result, Ok, Err}
 use Rattle.uimg_texts.specs.Slices.{slice}
 use Rattle.uimg_legacy.specs.declared.fault.Fault.{Fault}
 use Rattle.uimg_legacy.specs.declared.fault.Fault.TheVariants.{Legacy}
 use Rattle.uimg_legacy.specs.Parts.{sizes, part_sizes}
 
--- An answer is how many sizes the data begin with, or the fault of a table without an end, unless a device failed.
+-- The result is the number of sizes, or the fault of a table without an end, unless a device
+-- failed.
 abbrev pub CountsSizes : List ℕ → Result ℕ Fault → Type 0
 CountsSizes payload (Ok n) = (part_sizes payload ≡ Ok (sizes payload)) × (n ≡ length (sizes payload))
 CountsSizes payload (Err (Legacy fault)) = part_sizes payload ≡ Err fault
 CountsSizes payload (Err _) = ⊤
 
--- the same of an image whose data have so many bytes
+-- the same for an image with `size` bytes of data
 abbrev pub Counts : ℕ → List ℕ → Result ℕ Fault → Type 0
 Counts size image result = CountsSizes (slice image 64 size) result
 
--- the most that is asked for of the table of such data
+-- the most bytes requested to count the sizes of such data
 abbrev pub sizes_work : ℕ → List ℕ → ℕ
 sizes_work size image = 8 * (length (sizes (slice image 64 size)) + 1)

@@ -1,4 +1,4 @@
--- The parts of a legacy image, all of them, as they are taken out of it.
+-- The parts of a legacy image, as they are unpacked.
 use Rattle.std.specs.Prelude.{◌≡◌, ⊤, ℕ, suc, ◌+◌, ◌*◌, List, [], ◌∷◌, ◌++◌, length, take, drop, nat_lt, ◌==◌, if◌then◌else◌, Option, Some, None, Result, Ok, Err, Bool, true, false, IsTrue}
 use Rattle.uimg_texts.specs.Numbers.{up4}
 use Rattle.uimg_base.specs.Lent.{Lent}
@@ -17,7 +17,7 @@ use Rattle.uimg_legacy.specs.Image.{payload}
 use Rattle.uimg_legacy.specs.Parts.{has_parts, part_sizes}
 use Rattle.uimg_legacy.specs.Extraction.{extract_of}
 
--- a part of an image: its number, and its bytes
+-- a part of an image: its number and its bytes
 pub record Part : Type 0 where
   pub number : ℕ
   pub bytes : List ℕ
@@ -27,14 +27,15 @@ abbrev pub before : List ℕ → Result (List (List ℕ)) LegacyFault → Result
 before part (Ok parts) = Ok (part ∷ parts)
 before part (Err fault) = Err fault
 
--- The parts of these sizes, one after another, each from a multiple of 4 on. None ends after the bytes.
+-- The parts of these sizes, one after another, each padded to a multiple of 4, unless one ends
+-- after the bytes.
 unfoldable pub parts_by : List ℕ → List ℕ → Result (List (List ℕ)) LegacyFault
 parts_by [] bytes = Ok []
 parts_by (size ∷ more) bytes =
     if nat_lt (length bytes) size then Err PartOutside
     else before (take size bytes) (parts_by more (drop (up4 size) bytes))
 
--- whether there is a part of the number that is asked for, if one is
+-- whether the requested part exists, if one is requested
 abbrev pub is_there : Option ℕ → ℕ → Bool
 is_there None count = true
 is_there (Some number) count = nat_lt number count
@@ -42,24 +43,24 @@ is_there (Some number) count = nat_lt number count
 abbrev pub if_there : {X : Type 0} → Option ℕ → ℕ → Result X LegacyFault → Result X LegacyFault
 if_there only count found = if is_there only count then found else Err NoSuchPart
 
--- The parts of the data of a type that has them, which stand behind the table and its zero word; of another type the data.
+-- for a type with parts those after the table and its zero word, for any other the data
 abbrev pub parts_in : Option ℕ → Bool → List ℕ → Result (List (List ℕ)) LegacyFault
 parts_in only true bytes = do
   table ← part_sizes bytes
   if_there only (length table) (parts_by table (drop (4 * (length table + 1)) bytes))
 parts_in only false bytes = if_there only 1 (Ok (bytes ∷ []))
 
--- whether a part is asked for, where all are or that of one number
+-- whether a part is requested: all are, or one by its number
 abbrev pub is_asked : Option ℕ → ℕ → Bool
 is_asked None number = true
 is_asked (Some asked) number = asked == number
 
--- a part that is asked for, or none
+-- a part if it is requested, else none
 abbrev pub part_if : Bool → ℕ → List ℕ → List Part
 part_if true number bytes = record { number = number; bytes = bytes } ∷ []
 part_if false number bytes = []
 
--- those that are asked for, numbered from a number on
+-- the requested parts, numbered from `number` on
 unfoldable pub chosen : Option ℕ → ℕ → List (List ℕ) → List Part
 chosen only number [] = []
 chosen only number (bytes ∷ more) = part_if (is_asked only number) number bytes ++ chosen only (suc number) more
@@ -68,32 +69,34 @@ chosen only number (bytes ∷ more) = part_if (is_asked only number) number byte
 unfoldable pub data_there : List ℕ → Header → Result (List ℕ) LegacyFault
 data_there image h = if nat_lt (length image) (64 + h.size) then Err Truncated else Ok (payload image h)
 
--- the parts that are asked for, where the data's CRC is that in the header
+-- the requested parts, if the data's CRC is that in the header
 abbrev pub kept_if : Bool → List Part → Option (List Part)
 kept_if true parts = Some parts
 kept_if false parts = None
 
--- the same of the data of an image with this header, or the first of: no table end, no such part, part outside
+-- the same for the data of an image with this header, or the first fault: no table end, no such
+-- part, part outside
 abbrev pub unpacked : Option ℕ → Header → List ℕ → Result (Option (List Part)) LegacyFault
 unpacked only h bytes = do
   parts ← parts_in only (has_parts h.kind) bytes
   Ok (kept_if (crc bytes == h.dcrc) (chosen only 0 parts))
 
--- What is taken out of an image, or the first of: too short, bad magic, bad header CRC, truncated, and those of its data.
+-- The unpacked parts of an image, or the first fault: too short, bad magic, bad header CRC,
+-- truncated, and those of its data.
 abbrev pub unpack_of : Option ℕ → List ℕ → Result (Option (List Part)) LegacyFault
 unpack_of only image = do
   h ← header_of image
   bytes ← data_there image h
   unpacked only h bytes
 
--- Parts of an image were kept behind others.
+-- Parts of an image were kept, after those before.
 pub record Keeps (told : Result (Option (List Part)) LegacyFault) (old new : List Part) : Type 0 where
   pub parts : List Part
   pub is : told ≡ Ok (Some parts)
   pub kept : new ≡ old ++ parts
 
--- What an answer tells of an image, with what was kept before and after. Where the image is refused, its data's CRC is not
--- right or a device failed, nothing is kept.
+-- What a result says of an image and of the kept parts. Nothing is kept if the image is refused,
+-- its data's CRC is wrong or a device failed.
 abbrev pub UnpacksBetween : Result Bool Fault → Result (Option (List Part)) LegacyFault → List Part → List Part → Type 0
 UnpacksBetween (Ok true) told old new = Keeps told old new
 UnpacksBetween (Ok false) told old new = (told ≡ Ok None) × (new ≡ old)
@@ -101,17 +104,17 @@ UnpacksBetween (Err (Legacy fault)) told old new = (told ≡ Err fault) × (new 
 UnpacksBetween (Err Read) told old new = new ≡ old
 UnpacksBetween (Err Put) told old new = new ≡ old
 
--- the same of an honest source and an honest taker
+-- the same for an honest source and an honest taker
 abbrev pub Unpacks : {S T : Type 0} → Option ℕ → Result Bool Fault → (S → Device) → Lent S → Bool → (T → List Part) → Lent T → Type 0
 Unpacks only result device source honest kept taker = IsTrue (device source.entry.now).honest → IsTrue honest
     → UnpacksBetween result (unpack_of only (device source.entry.now).bytes) (kept taker.entry.now) (kept taker.exit.now)
 
--- What is kept, whatever the source answered: the parts of some image, whose checksums are right.
+-- What is kept, whatever the source returned: the parts of some image with right checksums.
 pub record KeepsSome (only : Option ℕ) (old new : List Part) : Type 0 where
   pub image : List ℕ
   pub keeps : Keeps (unpack_of only image) old new
 
--- Parts that were held are those of some image, whose checksums are right: this is its data's.
+-- The held parts are those of some image with right checksums; `dcrc` is that of its data.
 pub record AreRight (dcrc : ℕ) (held : List Part) : Type 0 where
   -- all parts, or the one of this number
   pub only : Option ℕ
@@ -124,29 +127,29 @@ pub record AreRight (dcrc : ℕ) (held : List Part) : Type 0 where
   -- the checksum of its data is right, and these are its parts
   pub told : unpack_of only image ≡ Ok (Some held)
 
--- the same of an answer; but where all was right, nothing is kept
+-- the same of a result; nothing is kept unless all is right
 abbrev pub KeepsRightBetween : Option ℕ → Result Bool Fault → List Part → List Part → Type 0
 KeepsRightBetween only (Ok true) old new = KeepsSome only old new
 KeepsRightBetween only (Ok false) old new = new ≡ old
 KeepsRightBetween only (Err fault) old new = new ≡ old
 
--- the same of an honest taker
+-- the same for an honest taker
 abbrev pub KeepsRight : {T : Type 0} → Option ℕ → Result Bool Fault → Bool → (T → List Part) → Lent T → Type 0
 KeepsRight only result honest kept taker = IsTrue honest → KeepsRightBetween only result (kept taker.entry.now) (kept taker.exit.now)
 
--- Parts were kept behind others, and each is what an extraction from its position writes.
+-- Parts were kept, after those before, and each is what an extraction from its position writes.
 pub record KeepsExtracted (image : List ℕ) (old new : List Part) : Type 0 where
   pub parts : List Part
   pub kept : new ≡ old ++ parts
   pub each : AllByRecursion (λ part. extract_of image part.number ≡ told part.bytes done) parts
 
--- the same of an answer that parts are kept
+-- the same, if the result says that parts are kept
 abbrev pub ExtractsBetween : List ℕ → Result Bool Fault → List Part → List Part → Type 0
 ExtractsBetween image (Ok true) old new = KeepsExtracted image old new
 ExtractsBetween image (Ok false) old new = ⊤
 ExtractsBetween image (Err fault) old new = ⊤
 
--- the same of an honest source and an honest taker
+-- the same for an honest source and an honest taker
 abbrev pub Extracts : {S T : Type 0} → Result Bool Fault → (S → Device) → Lent S → Bool → (T → List Part) → Lent T → Type 0
 Extracts result device source honest kept taker = IsTrue (device source.entry.now).honest → IsTrue honest
     → ExtractsBetween (device source.entry.now).bytes result (kept taker.entry.now) (kept taker.exit.now)

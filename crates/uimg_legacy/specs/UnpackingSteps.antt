@@ -1,4 +1,4 @@
--- What the steps did that take the parts of an image out of it, over any device.
+-- What the steps of unpacking do, over any device.
 use Rattle.std.specs.Prelude.{◌≡◌, ◌≢◌, ⊤, ℕ, ◌+◌, ◌-◌, ◌*◌, ◌<◌, ◌≤◌, min, List, ◌++◌, length, take, sum_by, ◌==◌, Option, Bool, true, false, Result, Ok, Err, IsTrue, OnOk}
 use Rattle.std.specs.List.{AllByRecursion}
 use Rattle.uimg_texts.specs.Slices.{slice}
@@ -24,60 +24,60 @@ use Rattle.uimg_legacy.specs.Parts.{has_parts, sizes}
 use Rattle.uimg_legacy.specs.Work.{data_read, sizes_read_with}
 use Rattle.uimg_legacy.specs.Unpacking.{Part, part_if, is_asked, chosen, parts_by, parts_in}
 
--- A step that takes parts. The room stays as it was, no fault of making is answered, and an honest taker keeps what it kept.
+-- A step that takes parts. An honest taker keeps nothing new.
 pub record TakesBetween {X : Type 0} (used : Bool → Device → Device → Type 0) (result : Result X Fault) (old new : Device) (before after : Held) (honest : Bool) (from to : List Part) : Type 0 where
   pub uses : used (is_read result) old new
   pub room : after ≡ before
   pub no_making : is_of_making result ≡ false
   pub kept : IsTrue honest → to ≡ from
 
--- the same of a source, a room and a taker that were lent
+-- the same for a borrowed source, room and taker
 abbrev pub Takes : {S T X : Type 0} → (Bool → Device → Device → Type 0) → Result X Fault → (S → Device) → Lent S → Lent Held → Bool → (T → List Part) → Lent T → Type 0
 Takes used result device source room honest kept taker = TakesBetween used result
     (device source.entry.now) (device source.exit.now) room.entry.now room.exit.now honest (kept taker.entry.now) (kept taker.exit.now)
 
--- Some bytes were fed to a sum, those of a range of the device if it is honest.
+-- Some bytes were fed to a sum: those of a range of the device, if it is honest.
 pub record SumsPieceBetween (d : Device) (at len : ℕ) (old new : Crc) : Type 0 where
   pub piece : List ℕ
   pub size : length piece ≡ len
   pub summed : (fed : List ℕ) → Holds old fed → Holds new (fed ++ piece)
   pub right : IsTrue d.honest → piece ≡ slice d.bytes at len
 
--- the same of a source and a sum that were lent
+-- the same for a borrowed source and sum
 abbrev pub SumsPiece : {S : Type 0} → ℕ → ℕ → (S → Device) → Lent S → Lent Crc → Type 0
 SumsPiece at len device source sum = SumsPieceBetween (device source.entry.now) at len sum.entry.now sum.exit.now
 
--- The same, and they were appended to an output.
+-- The same, and the bytes were appended to an output.
 pub record TakesPieceBetween (d : Device) (at len : ℕ) (old new : Crc) (s t : Sink) : Type 0 where
   pub sums : SumsPieceBetween d at len old new
   pub wrote : AppendsAll s t sums.piece
 
--- the same of a source, a sum and an output that were lent
+-- the same for a borrowed source, sum and output
 abbrev pub TakesPiece : {S : Type 0} → ℕ → ℕ → (S → Device) → Lent S → Lent Crc → Lent Sink → Type 0
 TakesPiece at len device source sum out = TakesPieceBetween (device source.entry.now) at len
     sum.entry.now sum.exit.now out.entry.now out.exit.now
 
--- Some bytes were fed to a sum, and are held as a part if one asks for it.
+-- Some bytes were fed to a sum, and held as a part if that is requested.
 pub record TakesPartBetween (asked honest : Bool) (number : ℕ) (d : Device) (at len : ℕ) (old new : Crc) (from to : List Part) : Type 0 where
   pub sums : SumsPieceBetween d at len old new
   pub held : IsTrue honest → to ≡ from ++ part_if asked number sums.piece
 
--- the same where no device failed
+-- the same unless a device failed
 abbrev pub TakesPart : {X S T : Type 0} → Bool → ℕ → ℕ → ℕ → Result X Fault → (S → Device) → Lent S → Lent Crc → Bool → (T → List Part) → Lent T → Type 0
 TakesPart asked number at len result device source sum honest held taker = OnOk result (TakesPartBetween asked honest number
     (device source.entry.now) at len sum.entry.now sum.exit.now (held taker.entry.now) (held taker.exit.now))
 
--- Some bytes were fed to a sum, and the first of them are held as a part if one asks for it.
+-- Some bytes were fed to a sum, and the first `len` of them held as a part if that is requested.
 pub record TakesPaddedBetween (asked honest : Bool) (number : ℕ) (d : Device) (at len all : ℕ) (old new : Crc) (from to : List Part) : Type 0 where
   pub sums : SumsPieceBetween d at all old new
   pub held : IsTrue honest → to ≡ from ++ part_if asked number (take len sums.piece)
 
--- the same where no device failed
+-- the same unless a device failed
 abbrev pub TakesPadded : {X S T : Type 0} → Bool → ℕ → ℕ → ℕ → ℕ → Result X Fault → (S → Device) → Lent S → Lent Crc → Bool → (T → List Part) → Lent T → Type 0
 TakesPadded asked number at len all result device source sum honest held taker = OnOk result (TakesPaddedBetween asked honest number
     (device source.entry.now) at len all sum.entry.now sum.exit.now (held taker.entry.now) (held taker.exit.now))
 
--- The next size was read, and the part of that size taken, with the bytes up to the next multiple of 4.
+-- The next size was read, and its part taken with the bytes up to the next multiple of 4.
 pub record TakesNextBetween (only : Option ℕ) (honest : Bool) (number size : ℕ) (d : Device) (old new : Walk) (from to : List Part) : Type 0 where
   pub word : List ℕ
   pub long : length word ≡ 4
@@ -88,29 +88,29 @@ pub record TakesNextBetween (only : Option ℕ) (honest : Bool) (number size : �
   pub read : IsTrue d.honest → word ≡ slice d.bytes (64 + 4 * number) 4
   pub taken : TakesPaddedBetween (is_asked only number) honest number d (64 + old.at) (be32 word 0) (new.at - old.at) old.sum new.sum from to
 
--- the same where the part is taken
+-- the same at `Ok`
 abbrev pub TakesNext : {X S T : Type 0} → Option ℕ → ℕ → ℕ → Result X Fault → (S → Device) → Lent S → Lent Walk → Bool → (T → List Part) → Lent T → Type 0
 TakesNext only number size result device source walk honest held taker = OnOk result (TakesNextBetween only honest number size
     (device source.entry.now) walk.entry.now walk.exit.now (held taker.entry.now) (held taker.exit.now))
 
--- Where parts are taken, no more was asked for than the bytes that were come by, and so many more.
+-- At `Ok` at most the bytes that the walk passed, and `more`, were requested.
 abbrev pub Pays : {X S : Type 0} → ℕ → Result X Fault → (S → Device) → Lent S → Lent Walk → Type 0
 Pays more result device source walk = OnOk result
     ((device source.exit.now).asked + walk.entry.now.at ≤ (device source.entry.now).asked + (more + walk.exit.now.at))
 
--- Why the next part is refused, if it is: it ends after the data, or its size is another one than was read before.
+-- Why the next part is refused, if it is: it ends after the data, or its size, read again, is 0.
 abbrev pub RefusesNext : {X : Type 0} → ℕ → ℕ → ℕ → Result X Fault → Type 0
 RefusesNext at size word (Err (Legacy PartOutside)) = size < at + word
 RefusesNext at size word (Err (Legacy BadDataCrc)) = word ≡ 0
 RefusesNext at size word (Err (Legacy fault)) = ⊥
 RefusesNext at size word result = ⊤
 
--- the same of the size of a number in the table
+-- the same for the size of a number in the table
 abbrev pub RefusesNumber : {X : Type 0} → ℕ → ℕ → ℕ → List ℕ → Result X Fault → Type 0
 RefusesNumber number size at file result = RefusesNext at size (be32 file (64 + 4 * number)) result
 
--- The first parts were taken: `table` are the words of their sizes as they were read, and `bytes` those that the parts were
--- taken from.
+-- The first `count` parts were taken: `table` is the bytes of their sizes as read, and `bytes`
+-- those that the parts were cut from.
 pub record Walked (only : Option ℕ) (honest : Bool) (count size : ℕ) (d : Device) (old new : Walk) (from to : List Part) : Type 0 where
   pub table : List ℕ
   pub bytes : List ℕ
@@ -127,23 +127,25 @@ pub record Walked (only : Option ℕ) (honest : Bool) (count size : ℕ) (d : De
   pub right : IsTrue d.honest → bytes ≡ slice d.bytes (64 + old.at) (length bytes)
   pub held : IsTrue honest → to ≡ from ++ chosen only 0 parts
 
--- the same where the parts are taken
+-- the same at `Ok`
 abbrev pub Walks : {X S T : Type 0} → Option ℕ → ℕ → ℕ → Result X Fault → (S → Device) → Lent S → Lent Walk → Bool → (T → List Part) → Lent T → Type 0
 Walks only count size result device source walk honest held taker = OnOk result (Walked only honest count size
     (device source.entry.now) walk.entry.now walk.exit.now (held taker.entry.now) (held taker.exit.now))
 
--- Parts were refused as a definition tells, if they were.
+-- A refusal of parts is that of a definition.
 abbrev pub RefusesBy : {X Y : Type 0} → Result Y LegacyFault → Result X Fault → Type 0
 RefusesBy told (Err (Legacy fault)) = told ≡ Err fault
 RefusesBy told result = ⊤
 
--- The first fault of the parts that stand from a place of the data on, whose table has so many sizes.
+-- A refusal is the first fault of the parts from an offset of the data on, whose table has `count`
+-- sizes.
 abbrev pub RefusesFrom : {X : Type 0} → ℕ → ℕ → ℕ → List ℕ → Result X Fault → Type 0
 RefusesFrom count size at file result =
     count ≡ length (sizes (slice file 64 size))
     → RefusesBy (parts_by (sizes (slice file 64 size)) (slice file (64 + at) (size - at))) result
 
--- The parts of some data are held, of which this is the CRC: those of the device, if it is honest.
+-- The parts of some data with the header's CRC are held; the data are the device's, if it is
+-- honest.
 pub record HoldsParts (only : Option ℕ) (honest : Bool) (h : Header) (d : Device) (from to : List Part) : Type 0 where
   pub bytes : List ℕ
   pub parts : List (List ℕ)
@@ -159,7 +161,7 @@ pub record IsWrong (only : Option ℕ) (h : Header) (image : List ℕ) : Type 0 
   pub cut : parts_in only (has_parts h.kind) (payload image h) ≡ Ok parts
   pub wrong : (crc (payload image h) == h.dcrc) ≡ false
 
--- What an answer says of the data that were taken: whether their CRC is right, or why they are refused.
+-- What a result says of the taken data: whether their CRC is right, or why they are refused.
 abbrev pub TakesDataBetween : Option ℕ → Bool → Header → Device → Result Bool Fault → List Part → List Part → Type 0
 TakesDataBetween only honest h d (Ok true) from to = HoldsParts only honest h d from to
 TakesDataBetween only honest h d (Ok false) from to = IsTrue d.honest → IsWrong only h d.bytes
@@ -167,32 +169,33 @@ TakesDataBetween only honest h d (Err (Legacy fault)) from to = IsTrue d.honest 
 TakesDataBetween only honest h d (Err Read) from to = ⊤
 TakesDataBetween only honest h d (Err Put) from to = ⊤
 
--- the same of a source and a taker that were lent
+-- the same for a borrowed source and taker
 abbrev pub TakesData : {S T : Type 0} → Option ℕ → Header → Result Bool Fault → (S → Device) → Lent S → Bool → (T → List Part) → Lent T → Type 0
 TakesData only h result device source honest held taker = TakesDataBetween only honest h (device source.entry.now) result
     (held taker.entry.now) (held taker.exit.now)
 
--- What is held was kept, if the data's CRC is right, and else nothing, or nothing where that failed.
+-- The held parts were kept if the data's CRC is right; else nothing was kept, nor if keeping
+-- failed.
 abbrev pub SettlesBetween : {E : Type 0} → Bool → Result Bool E → List Part → List Part → List Part → Type 0
 SettlesBetween true (Ok kept) held old new = (kept ≡ true) × (new ≡ old ++ held)
 SettlesBetween false (Ok kept) held old new = (kept ≡ false) × (new ≡ old)
 SettlesBetween right (Err fault) held old new = new ≡ old
 
--- the same of an honest taker
+-- the same for an honest taker
 abbrev pub Settles : {E T : Type 0} → Bool → Result Bool E → Bool → (T → List Part) → (T → List Part) → Lent T → Type 0
 Settles right result honest held kept taker = IsTrue honest
     → SettlesBetween right result (held taker.entry.now) (kept taker.entry.now) (kept taker.exit.now)
 
--- the most that is asked for: the header, the data, and of a table of sizes twice as many bytes as it has
+-- the most bytes requested after the header: the data, and the table of sizes twice
 abbrev pub unpack_reads : List ℕ → Result Header LegacyFault → ℕ
 unpack_reads image (Ok h) = data_read image h + 8 * (sizes_read_with (has_parts h.kind) (payload image h) + 1)
 unpack_reads image (Err fault) = 0
 
--- the most that is asked for of the data of a type that has parts
+-- the most bytes requested of the data of a type with parts
 abbrev pub listed_work : Header → List ℕ → ℕ
 listed_work h image = h.size + 8 * (length (sizes (payload image h)) + 1)
 
--- the same of any type
+-- the same for any type
 abbrev pub data_work : Header → List ℕ → ℕ
 data_work h image = h.size + 8 * (sizes_read_with (has_parts h.kind) (payload image h) + 1)
 

@@ -1,4 +1,4 @@
-//! Building: the image of its parts is written.
+//! Building an image from its parts.
 
 ghost use Rattle.std.specs.Prelude.{◌≡◌, ◌≢◌, ℕ, List, ◌++◌, length, map, false};
 ghost use Rattle.uimg_sums.specs.Crc.{crc};
@@ -18,7 +18,7 @@ use crate::parts::has_parts;
 use std::io::Write;
 use uimg_base::{Out, Source, SourceFault, WINDOW};
 
-// The header of data of this size and CRC.
+// Returns the header for data of this size and CRC.
 fn header_for(options: &Options, size: u32, dcrc: u32) -> Header
     ensures { (payload : List ℕ) → size ≡ length payload → dcrc ≡ crc payload →
         result ≡ header_for options.now payload }
@@ -37,7 +37,7 @@ fn header_for(options: &Options, size: u32, dcrc: u32) -> Header
     }
 }
 
-// The header's bytes for the data that are built from the parts.
+// Returns the header's bytes for the data built from the parts.
 fn head_of<S: Source>(
     parts: &mut [S],
     window: &mut [u8; WINDOW],
@@ -71,16 +71,16 @@ fn put_image<S: Source, W: Write>(
 /// the data. For the types multi and script the data are the table of sizes and the parts, each but
 /// the last padded with zeros to a multiple of 4; for any other type they are the one part.
 ///
-/// The caller gives at least one part, and exactly one where the type is neither multi nor script.
-/// Refusals come before the first byte, by the lengths of the parts alone, of which no byte is
-/// requested then: `EmptyPart` where a part of multi or script is empty, then `TooLarge` where the data
-/// have more than 4294967295 bytes. `Read` comes exactly where a part failed, `Put` exactly where a
-/// write did; over honest parts a prefix of the image was written then. Over honest parts, at `Ok`, the
-/// report on the image is its two `ok` lines, its listing is not refused, and the extraction at each
-/// position is the part of that number.
+/// There has to be at least one part, and exactly one unless the type is multi or script. Refusals
+/// depend on the lengths of the parts alone, and come before a byte is written or a byte of a part
+/// requested: `EmptyPart` if a part of multi or script is empty, then `TooLarge` if the data have
+/// more than 4294967295 bytes. Returns `Read` exactly if a part failed, `Put` exactly if a write
+/// did; over honest parts a prefix of the image was written then. Over honest parts, at `Ok`, the
+/// report on the image is its two `ok` lines, its listing is not refused, and the extraction at
+/// each position is the part of that number.
 ///
-/// No part is held in memory: each goes through a window of 8192 bytes. Tests show that it is read twice,
-/// for the checksum and to be written.
+/// Parts are read through a window of 8192 bytes. Tests show that each is read twice, for the
+/// checksum and to be written.
 pub fn build<S: Source, W: Write>(
     options: &Options,
     parts: &mut [S],

@@ -1,4 +1,4 @@
-//! The data of an image that is built: summed, and written.
+//! The data of a built image: their checksum, and writing them.
 
 ghost use Rattle.std.specs.Prelude.{◌≡◌, map};
 ghost use Rattle.uimg_sums.specs.Crc.{crc};
@@ -39,7 +39,7 @@ fn feed_joined<M: Summer, S: Source>(
     Ok(())
 }
 
-// Feeds the data that are built from the parts to a sum.
+// Feeds the data built from the parts to a sum.
 fn feed_data<M: Summer, S: Source>(
     parts: &mut [S],
     window: &mut [u8; WINDOW],
@@ -56,7 +56,7 @@ fn feed_data<M: Summer, S: Source>(
     feed_joined(parts, window, sum)
 }
 
-// The CRC of the data that are built from the parts.
+// Returns the CRC of the data built from the parts.
 pub(crate) fn data_crc<S: Source>(
     parts: &mut [S],
     window: &mut [u8; WINDOW],
@@ -98,7 +98,7 @@ fn put_joined<S: Source, W: Write>(
     Ok(())
 }
 
-// Writes the data that are built from the parts.
+// Writes the data built from the parts.
 pub(crate) fn put_data<S: Source, W: Write>(
     parts: &mut [S],
     window: &mut [u8; WINDOW],

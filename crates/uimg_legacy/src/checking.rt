@@ -12,7 +12,7 @@ use crate::image::has_right_data;
 use std::alloc::Allocator;
 use uimg_base::{Room, Source};
 
-// Whether both checksums are right.
+// Returns whether both checksums are right.
 fn are_right<S: Source, A: Allocator>(source: &mut S, room: &mut Room<A>) -> Result<bool, Fault>
     ensures { Reads UsesAtMost verify_work Checks result S.device source room }
 {
@@ -23,9 +23,9 @@ fn are_right<S: Source, A: Allocator>(source: &mut S, room: &mut Room<A>) -> Res
     has_right_data(source, room, &fields(&bytes))
 }
 
-/// Whether the image's checksums are right, that of the header and that of the data: what a report ends
-/// with, without its lines. Refusals are `TooShort` and `BadMagic`, and, where the header's checksum is
-/// right, `Truncated`. No more is requested than for a report, and the room is only cleared.
+/// Returns whether both checksums of the image are right, as a report would, but without its lines.
+/// Returns `TooShort`, `BadMagic` or, if the header's checksum is right, `Truncated`. Requests no
+/// more than a report; the room is only cleared.
 pub fn check<S: Source, A: Allocator>(source: &mut S, room: &mut Room<A>) -> Result<bool, Fault>
     ensures inspects { Inspects verify_work result S.device source room }
     ensures told { OfHonest ChecksAs result S.device source }

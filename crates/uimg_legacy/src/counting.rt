@@ -14,7 +14,7 @@ use crate::parts::{count_sizes, has_parts};
 use std::alloc::Allocator;
 use uimg_base::{Room, Source};
 
-// How many parts an image has whose header and data are there.
+// Counts the parts of an image that has this header and all its data.
 fn count_in_data<S: Source, A: Allocator>(
     source: &mut S,
     room: &mut Room<A>,
@@ -31,7 +31,7 @@ fn count_in_data<S: Source, A: Allocator>(
     Ok(count)
 }
 
-// How many parts an image has whose checksums are right.
+// Counts the parts of an image whose checksums are right.
 fn count_in_image<S: Source, A: Allocator>(source: &mut S, room: &mut Room<A>) -> Result<u32, Fault>
     ensures { Reads UsesAtMost list_work CountsOf result S.device source room }
 {
@@ -39,10 +39,10 @@ fn count_in_image<S: Source, A: Allocator>(source: &mut S, room: &mut Room<A>) -
     count_in_data(source, room, &header)
 }
 
-/// How many parts an image has: those that its table has sizes of, for the types multi and script, and
-/// else one. Refusals are `TooShort`, `BadMagic`, `BadHeaderCrc`, `Truncated`, `BadDataCrc` and
-/// `NoTableEnd`, in this order; that a part ends outside the data is no concern of a count. No more is
-/// requested than for a listing, and the room is only cleared.
+/// Counts the parts of an image: the sizes in its table for the types multi and script, else one.
+/// Returns the first fault of `TooShort`, `BadMagic`, `BadHeaderCrc`, `Truncated`, `BadDataCrc` and
+/// `NoTableEnd`; a part that ends after the data is counted too. Requests no more than a listing;
+/// the room is only cleared.
 pub fn count_parts<S: Source, A: Allocator>(
     source: &mut S,
     room: &mut Room<A>,

@@ -1,4 +1,4 @@
-//! Extraction: one part is found, and written.
+//! Extraction: finds a part and writes it.
 
 ghost use Rattle.std.specs.Prelude.{◌≡◌, IsTrue};
 ghost use Rattle.uimg_base.specs.Using.{UsesAtMost};
@@ -15,7 +15,7 @@ use std::alloc::Allocator;
 use std::io::Write;
 use uimg_base::{Out, Room, Source, Span, Status, copy_range};
 
-// Where the part at a position stands, of an image whose checksums are right.
+// Finds the part at a position of an image.
 fn locate_part<S: Source, A: Allocator>(
     source: &mut S,
     room: &mut Room<A>,
@@ -28,10 +28,10 @@ fn locate_part<S: Source, A: Allocator>(
     find_part(source, room, &header, position)
 }
 
-/// Where the part of the image at a position stands, counted from 0: a part of type multi or script, or
-/// the data of any other type at position 0; just the bytes that `extract` writes. That place ends inside
-/// the file, whatever the source answers. Refusals are those of `extract`, in their order. No more is
-/// requested than for a listing, and the room is only cleared.
+/// Finds the bytes that `extract` writes: the part of type multi or script at a position, counted
+/// from 0, or the data of any other type at position 0. Returns their span, which ends inside the
+/// file whatever the source returns, or a fault of `extract`, in the same order. Requests no more
+/// than a listing; the room is only cleared.
 pub fn locate<S: Source, A: Allocator>(
     position: u32,
     source: &mut S,
@@ -45,12 +45,12 @@ pub fn locate<S: Source, A: Allocator>(
     locate_part(source, room, position)
 }
 
-/// Writes the part of the image at a position, counted from 0: a part of type multi or
-/// script, or the data of any other type at position 0. Refusals come before the first byte:
-/// `TooShort`, `BadMagic`, `BadHeaderCrc`, `Truncated`, `BadDataCrc`, `NoTableEnd`, `NoSuchPart`
-/// and `PartOutside` of the part at that position, in this order. Over an honest source a prefix of
-/// the part was written after `Read` or `Put`, and at every exit at most as many bytes were requested as
-/// for a listing, those that were written and 8192. The room is only cleared.
+/// Writes the part of the image at a position, counted from 0: a part of type multi or script, or
+/// the data of any other type at position 0. Refusals come before the first byte, in this order:
+/// `TooShort`, `BadMagic`, `BadHeaderCrc`, `Truncated`, `BadDataCrc`, `NoTableEnd`, `NoSuchPart`,
+/// and `PartOutside` of the part at that position. Over an honest source a prefix of the part was
+/// written after `Read` or `Put`, and at every exit at most as many bytes were requested as for a
+/// listing, those that were written and 8192. The room is only cleared.
 pub fn extract<S: Source, A: Allocator, W: Write>(
     position: u32,
     source: &mut S,

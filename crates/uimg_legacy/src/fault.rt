@@ -1,11 +1,11 @@
-//! What is wrong with an image, and why a command on one stopped.
+//! What is wrong with an image, and why a command stopped.
 
 use std::fmt;
 use thiserror::Error;
 use uimg_base::{MoveFault, PutFault, SourceFault};
 
-/// What is wrong with a legacy image, or with the parts that one is to be built from. Its text is
-/// the line that the program prints.
+/// What is wrong with a legacy image, or with the parts to build one from. Its text is the line
+/// that the program prints.
 #[derive(Clone, Copy, Debug, PartialEq, Eq, Error)]
 pub enum LegacyFault {
     /// The file has fewer than 64 bytes.
@@ -23,13 +23,13 @@ pub enum LegacyFault {
     /// The data's CRC is not that in the header.
     #[error("L5 bad data CRC")]
     BadDataCrc,
-    /// The data end before the zero word that ends the table of sizes.
+    /// The data end before the zero word at the end of the table of sizes.
     #[error("L6 no table end")]
     NoTableEnd,
     /// A part ends after the data.
     #[error("L7 part outside")]
     PartOutside,
-    /// There is no part at the position.
+    /// The image has no part at the position.
     #[error("L8 no such part")]
     NoSuchPart,
     /// A part is empty.

@@ -1,4 +1,4 @@
-//! The 64 bytes of a header, read and written.
+//! Reading and writing the 64 bytes of a header.
 
 ghost use Rattle.std.specs.Prelude.{◌≡◌, true, Ok};
 ghost use Rattle.uimg_texts.specs.Numbers.{be32};
@@ -11,21 +11,21 @@ use crate::fault::{Fault, LegacyFault};
 use byteorder::{BigEndian, ByteOrder};
 use uimg_base::{Source, crc_of, number_at};
 
-// The number that each legacy image begins with.
+// The magic number of legacy images.
 const MAGIC: u32 = 0x2705_1956;
 
-/// How many bytes the header of a legacy image has.
+/// The length of the header of a legacy image, in bytes.
 pub const HEADER_LEN: usize = 64;
 
-/// The fields of a legacy image's header (U-Boot's image.h), but for the magic number and the
+/// The fields of a legacy image's header (U-Boot's image.h), without the magic number and the
 /// header's own CRC.
 #[derive(Clone, Copy, Debug, PartialEq, Eq)]
 pub struct Header {
     /// Seconds since 1970.
     pub time: u32,
-    /// How many bytes the data after the header have.
+    /// The length of the data after the header, in bytes.
     pub size: u32,
-    /// Where the data are loaded to.
+    /// The load address.
     pub load: u32,
     /// The entry point.
     pub ep: u32,
@@ -39,11 +39,12 @@ pub struct Header {
     pub kind: u8,
     /// The compression's code.
     pub comp: u8,
-    /// The image's name, ended by its first NUL or by the field's end.
+    /// The image's name, up to its first NUL or the field's end.
     pub name: [u8; 32],
 }
 
-// The 64 bytes of the header, if the file has them and they begin with the magic number.
+// Reads the 64 bytes of the header. Returns `TooShort` if the file is shorter, `BadMagic` if they
+// do not begin with the magic number.
 #[tactic(auto, unfolding(crate::specs::Header::head))]
 pub(crate) fn read_head<S: Source>(source: &mut S) -> Result<[u8; HEADER_LEN], Fault>
     ensures reads { ReadsHead result S.device source }
@@ -60,7 +61,7 @@ pub(crate) fn read_head<S: Source>(source: &mut S) -> Result<[u8; HEADER_LEN], F
     Ok(bytes)
 }
 
-// Whether the header's CRC is that of its bytes with zeros in its place.
+// Returns whether the header's CRC is that of its bytes with the CRC field zeroed.
 #[tactic(auto, unfolding(crate::specs::Header::has_right_crc))]
 pub(crate) fn has_right_crc(bytes: &[u8; HEADER_LEN]) -> bool
     ensures { result ≡ has_right_crc bytes.now }
@@ -70,7 +71,7 @@ pub(crate) fn has_right_crc(bytes: &[u8; HEADER_LEN]) -> bool
     number_at(bytes, 4) == crc_of(&cleared)
 }
 
-// The fields at their places.
+// Reads the fields at their offsets.
 pub(crate) fn fields(bytes: &[u8; HEADER_LEN]) -> Header
     ensures fields { result ≡ fields bytes.now }
     ensures spelled { be32 bytes.now 0 ≡ magic → has_right_crc bytes.now ≡ true →
@@ -92,11 +93,11 @@ pub(crate) fn fields(bytes: &[u8; HEADER_LEN]) -> Header
     }
 }
 
-/// The header of the image: `TooShort` for a source of fewer than 64 bytes, `BadMagic` where they do
-/// not begin with `0x27051956`, `BadHeaderCrc` where the header's CRC is not that of its bytes with
-/// zeros in its place; the first of these that holds. `Read` comes exactly where a read failed. At most
-/// 64 bytes are requested. Over an honest source a header that is returned spells just the first 64
-/// bytes.
+/// Reads the header of the image. Returns `TooShort` for a source of fewer than 64 bytes,
+/// `BadMagic` if they do not begin with `0x27051956`, or `BadHeaderCrc` if the header's CRC is not
+/// that of its bytes with the CRC field zeroed; the first of these that holds. Returns `Read`
+/// exactly if a read failed. Requests at most 64 bytes. Over an honest source the returned header
+/// spells the first 64 bytes.
 pub fn read_header<S: Source>(source: &mut S) -> Result<Header, Fault>
     ensures reads { ReadsHead result S.device source }
     ensures gives { OfHonest (GivesBy header_of) result S.device source }
@@ -109,7 +110,7 @@ pub fn read_header<S: Source>(source: &mut S) -> Result<Header, Fault>
     Ok(fields(&bytes))
 }
 
-// The bytes of a header whose CRC field holds a number.
+// Returns the bytes of a header with this CRC field.
 #[tactic(auto, unfolding(crate::specs::Header::spelled_with))]
 fn spelled_with(sum: u32, header: &Header) -> [u8; HEADER_LEN]
     ensures bytes { result ≡ spelled_with sum header.now }
@@ -140,8 +141,8 @@ fn spelled_with(sum: u32, header: &Header) -> [u8; HEADER_LEN]
     bytes
 }
 
-/// The 64 bytes of a header, with the magic number and the header's CRC. `read_header` of them
-/// gives the header back.
+/// Returns the 64 bytes of a header, with the magic number and the header's CRC. `read_header`
+/// reads them back as the same header.
 pub fn header_bytes(header: &Header) -> [u8; HEADER_LEN]
     ensures bytes { result ≡ spelled header.now }
     ensures reads_back { header_of result ≡ Ok header.now }
@@ -150,7 +151,7 @@ pub fn header_bytes(header: &Header) -> [u8; HEADER_LEN]
     spelled_with(sum, header)
 }
 
-/// The field of a name: the name cut or padded with zeros to 32 bytes.
+/// Returns the field of a name: the name cut or padded with zeros to 32 bytes.
 pub fn name_field(name: &[u8]) -> [u8; 32]
     ensures { result ≡ name_of name.now }
 {

@@ -10,7 +10,8 @@ use crate::header::{Header, read_header};
 use std::alloc::Allocator;
 use uimg_base::{Room, Source, crc_range};
 
-// Whether the data's CRC is that in the header.
+// Returns whether the data's CRC is that in the header, or `Truncated` if the file has not all the
+// data.
 #[tactic(auto, unfolding(crate::specs::Image::has_right_data, crate::specs::Work::data_read))]
 pub(crate) fn has_right_data<S: Source, A: Allocator>(
     source: &mut S,
@@ -28,7 +29,7 @@ pub(crate) fn has_right_data<S: Source, A: Allocator>(
     Ok(crc_range(source, room, 64, size)? == header.dcrc)
 }
 
-// The header of an image whose checksums are right and whose data are there.
+// Reads the header of an image and checks both checksums and that the image has all its data.
 pub(crate) fn read_image<S: Source, A: Allocator>(
     source: &mut S,
     room: &mut Room<A>,

@@ -1,4 +1,4 @@
-//! Reads and builds legacy images: their header, their listing, a report on their checksums, their data.
+//! Reads, checks, lists, unpacks and builds legacy images.
 #![tactic(auto)]
 
 mod building;

@@ -12,7 +12,7 @@ use std::io::Write;
 use uimg_base::{Out, PutFault, before_nul, size_text, time_text};
 use uimg_names::{Field, Naming};
 
-// Eight lower-case hexadecimal digits.
+// Formats an address as eight lower-case hexadecimal digits.
 fn address_text(address: u32) -> [u8; 8]
     ensures { result ≡ address_text address }
 {
@@ -23,7 +23,7 @@ fn address_text(address: u32) -> [u8; 8]
     text
 }
 
-// A line that ends with a size.
+// Writes a line that ends with a size.
 #[tactic(auto, using(uimg_base::proofs::WritingLaws::writing))]
 fn put_size<W: Write>(before: &[u8], size: u32, out: &mut Out<W>) -> Result<(), PutFault>
     ensures { Writes (is_err result) out.old out.new (line (before.now ++ size_text size)) }
@@ -33,14 +33,14 @@ fn put_size<W: Write>(before: &[u8], size: u32, out: &mut Out<W>) -> Result<(), 
     out.put_all(b"\n")
 }
 
-// A line of a label, padded with blanks, and a value.
+// Writes a line of a label, which is padded with blanks, and a value.
 fn put_line<W: Write>(label: &[u8], value: &[u8], out: &mut Out<W>) -> Result<(), PutFault>
     ensures { Writes (is_err result) out.old out.new (line (label.now ++ value.now)) }
 {
     out.put_pieces(&[label, value, b"\n"])
 }
 
-// The line of the type, by the names of its codes.
+// Writes the line of the type, from the names of its codes.
 fn put_type_names<W: Write>(
     arch: &str,
     os: &str,
@@ -64,7 +64,7 @@ fn put_type_names<W: Write>(
     ])
 }
 
-// The line of the type, by the header's codes.
+// Writes the line of the type, from the header's codes.
 #[tactic(auto, unfolding(crate::specs::Listing::type_line))]
 fn put_type<W: Write>(header: &Header, naming: Naming, out: &mut Out<W>) -> Result<(), PutFault>
     ensures { Writes (is_err result) out.old out.new (type_line naming header.now) }
@@ -76,7 +76,7 @@ fn put_type<W: Write>(header: &Header, naming: Naming, out: &mut Out<W>) -> Resu
     put_type_names(arch, os, kind, comp, out)
 }
 
-// The line of the name.
+// Writes the line of the name.
 #[tactic(auto, unfolding(crate::specs::Listing::name_line))]
 fn put_name<W: Write>(header: &Header, out: &mut Out<W>) -> Result<(), PutFault>
     ensures { Writes (is_err result) out.old out.new (name_line header.now) }
@@ -84,7 +84,7 @@ fn put_name<W: Write>(header: &Header, out: &mut Out<W>) -> Result<(), PutFault>
     put_line(b"Image Name:   ", before_nul(&header.name), out)
 }
 
-// The line of the time.
+// Writes the line of the time.
 #[tactic(auto, unfolding(crate::specs::Listing::time_line))]
 fn put_time<W: Write>(header: &Header, out: &mut Out<W>) -> Result<(), PutFault>
     ensures { Writes (is_err result) out.old out.new (time_line header.now) }
@@ -92,7 +92,7 @@ fn put_time<W: Write>(header: &Header, out: &mut Out<W>) -> Result<(), PutFault>
     put_line(b"Created:      ", &time_text(header.time), out)
 }
 
-// The line of the data's size.
+// Writes the line of the data's size.
 #[tactic(auto, unfolding(crate::specs::Listing::size_line))]
 fn put_data_size<W: Write>(header: &Header, out: &mut Out<W>) -> Result<(), PutFault>
     ensures { Writes (is_err result) out.old out.new (size_line header.now) }
@@ -100,7 +100,7 @@ fn put_data_size<W: Write>(header: &Header, out: &mut Out<W>) -> Result<(), PutF
     put_size(b"Data Size:    ", header.size, out)
 }
 
-// The line of the load address.
+// Writes the line of the load address.
 #[tactic(auto, unfolding(crate::specs::Listing::load_line))]
 fn put_load<W: Write>(header: &Header, out: &mut Out<W>) -> Result<(), PutFault>
     ensures { Writes (is_err result) out.old out.new (load_line header.now) }
@@ -108,7 +108,7 @@ fn put_load<W: Write>(header: &Header, out: &mut Out<W>) -> Result<(), PutFault>
     put_line(b"Load Address: ", &address_text(header.load), out)
 }
 
-// The line of the entry point.
+// Writes the line of the entry point.
 #[tactic(auto, unfolding(crate::specs::Listing::entry_line))]
 fn put_entry<W: Write>(header: &Header, out: &mut Out<W>) -> Result<(), PutFault>
     ensures { Writes (is_err result) out.old out.new (entry_line header.now) }
@@ -116,7 +116,7 @@ fn put_entry<W: Write>(header: &Header, out: &mut Out<W>) -> Result<(), PutFault
     put_line(b"Entry Point:  ", &address_text(header.ep), out)
 }
 
-// The line of a part.
+// Writes the line of a part.
 #[tactic(auto, unfolding(crate::specs::Listing::part_line))]
 pub(crate) fn put_part_line<W: Write>(i: u32, size: u32, out: &mut Out<W>) -> Result<(), PutFault>
     ensures { Writes (is_err result) out.old out.new (part_line i size) }
@@ -125,7 +125,7 @@ pub(crate) fn put_part_line<W: Write>(i: u32, size: u32, out: &mut Out<W>) -> Re
     put_size(b"", size, out)
 }
 
-// The six lines of each image.
+// Writes the six lines that each image has.
 #[tactic(auto, using(uimg_base::proofs::WritingLaws::writing))]
 pub(crate) fn put_head<W: Write>(
     header: &Header,

@@ -19,7 +19,7 @@ use std::io::Write;
 use uimg_base::{Out, Room, Source, Status, up4};
 use uimg_names::Naming;
 
-// The lines of the parts, up to the first that ends after the data.
+// Writes the lines of the parts, up to the first that ends after the data.
 fn list_parts<S: Source, W: Write>(
     source: &mut S,
     size: u32,
@@ -46,8 +46,7 @@ fn list_parts<S: Source, W: Write>(
     Ok(Status::Done)
 }
 
-// What stands after the six lines: of a type that has parts their lines, unless their table has no
-// end.
+// Writes what follows the six lines: `Contents:` and the parts' lines, for a type with parts.
 fn list_tail<S: Source, A: Allocator, W: Write>(
     source: &mut S,
     room: &mut Room<A>,

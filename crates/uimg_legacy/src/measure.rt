@@ -1,4 +1,4 @@
-//! How many bytes the parts come to, or why they are refused.
+//! The size of the data built from parts, or why the parts are refused.
 
 ghost use Rattle.std.specs.Prelude.{◌≡◌, ◌+◌, ◌%◌, ◌&&◌, length, map, false};
 ghost use Rattle.uimg_legacy.specs.Parts.{has_parts};
@@ -13,7 +13,7 @@ use crate::one_part::part_size;
 use crate::parts::has_parts;
 use uimg_base::{Source, SourceFault};
 
-// Whether one of the parts is empty.
+// Returns whether a part is empty.
 fn has_empty<S: Source>(parts: &mut [S]) -> Result<bool, SourceFault>
     ensures { Learns (λ ps b. b ≡ has_empty ps) result S.device parts }
 {
@@ -25,8 +25,8 @@ fn has_empty<S: Source>(parts: &mut [S]) -> Result<bool, SourceFault>
     Ok(false)
 }
 
-// Where the parts end that begin at a multiple of 4, each but the last rounded up to one. An end of
-// 2^32 or more may be too small.
+// Returns where the parts end that begin at a multiple of 4, each but the last rounded up to one.
+// An end of 2^32 or more may be too small.
 fn end_of_parts<S: Source>(parts: &mut [S], start: u128) -> Result<u128, SourceFault>
     requires { start % 4 ≡ 0 }
     ensures { Learns (λ ps. SumsTo (start + length (joined ps))) result S.device parts }
@@ -39,7 +39,7 @@ fn end_of_parts<S: Source>(parts: &mut [S], start: u128) -> Result<u128, SourceF
     Ok(end)
 }
 
-// Whether a part is empty.
+// Returns whether a part is empty, for a type with parts.
 fn has_empty_part<S: Source>(parts: &mut [S], kind: u8) -> Result<bool, SourceFault>
     ensures { Learns (λ ps b. b ≡ (has_parts kind && has_empty ps)) result S.device parts }
 {
@@ -50,8 +50,8 @@ fn has_empty_part<S: Source>(parts: &mut [S], kind: u8) -> Result<bool, SourceFa
     }
 }
 
-// How many bytes the data have, with the table of sizes where there is one. A size of 2^32 or more
-// may be too small.
+// Returns the length of the data, including the table of sizes for a type with parts. A length of
+// 2^32 or more may be too small.
 fn data_size<S: Source>(parts: &mut [S], kind: u8) -> Result<u128, SourceFault>
     ensures { Learns (λ ps. SumsTo (length (data_of (has_parts kind) ps))) result S.device parts }
 {
@@ -63,7 +63,7 @@ fn data_size<S: Source>(parts: &mut [S], kind: u8) -> Result<u128, SourceFault>
     }
 }
 
-// How many bytes the data have that are built from the parts, or why the parts are refused.
+// Returns the length of the data built from the parts, or why the parts are refused.
 #[tactic(auto, unfolding(crate::specs::Building::data_to_build))]
 pub(crate) fn measure<S: Source>(parts: &mut [S], kind: u8) -> Result<u32, Fault>
     ensures uses { AsksNone (is_read result) (map S.device parts.old) (map S.device parts.new) }

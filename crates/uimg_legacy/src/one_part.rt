@@ -1,4 +1,4 @@
-//! One part of an image that is built: summed, and written.
+//! One part of a built image: its size, its checksum, and writing it.
 
 ghost use Rattle.std.specs.Prelude.{◌≡◌, ℕ, ◌%◌, ◌^◌, ◌<◌, length, map, IfOk};
 ghost use Rattle.std.specs.Int.{to_be_bytes, w32};
@@ -10,7 +10,7 @@ use crate::fault::Fault;
 use std::io::Write;
 use uimg_base::{Out, Source, SourceFault, Summer, WINDOW, copy_through, feed_through};
 
-// The zeros behind bytes whose number has this remainder by 4.
+// Returns the zeros that pad a length with this remainder modulo 4.
 pub(crate) fn zeros_after(remainder: u64) -> &'static [u8]
     requires { remainder < 4 }
     ensures { (n : ℕ) → n % 4 ≡ remainder → result.now ≡ padding n }
@@ -23,7 +23,7 @@ pub(crate) fn zeros_after(remainder: u64) -> &'static [u8]
     }
 }
 
-// How many bytes a part has.
+// Returns the length of a part in bytes.
 pub(crate) fn part_size<S: Source>(parts: &mut [S], i: usize) -> Result<u64, SourceFault>
     requires { i < length parts.old }
     ensures { Learns (λ ps n. n ≡ length (numbered i ps)) result S.device parts }
@@ -31,7 +31,7 @@ pub(crate) fn part_size<S: Source>(parts: &mut [S], i: usize) -> Result<u64, Sou
     parts[i].size()
 }
 
-// The size of a part as a word of the table.
+// Returns the size of a part as a word of the table.
 pub(crate) fn size_word<S: Source>(parts: &mut [S], i: usize) -> Result<[u8; 4], SourceFault>
     requires within { i < length parts.old }
     requires small { length (numbered i (bytes_of (map S.device parts.old))) < 2 ^ 32 }
@@ -41,7 +41,7 @@ pub(crate) fn size_word<S: Source>(parts: &mut [S], i: usize) -> Result<[u8; 4],
     Ok((size as u32).to_be_bytes())
 }
 
-// Feeds a part to a sum, and gives its size.
+// Feeds a part to a sum, and returns its size.
 pub(crate) fn feed_part<M: Summer, S: Source>(
     parts: &mut [S],
     window: &mut [u8; WINDOW],
@@ -58,7 +58,7 @@ pub(crate) fn feed_part<M: Summer, S: Source>(
     Ok(size)
 }
 
-// Writes a part, and gives its size.
+// Writes a part, and returns its size.
 pub(crate) fn put_part<S: Source, W: Write>(
     parts: &mut [S],
     window: &mut [u8; WINDOW],

@@ -1,11 +1,11 @@
 //! What an image is built with, besides its parts.
 
-/// What a legacy image is built with besides its parts: fields of its header (U-Boot's image.h).
+/// What a legacy image is built with, besides its parts: fields of its header (U-Boot's image.h).
 #[derive(Clone, Copy, Debug, PartialEq, Eq)]
 pub struct Options {
     /// Seconds since 1970.
     pub time: u32,
-    /// Where the data are loaded to.
+    /// The load address.
     pub load: u32,
     /// The entry point.
     pub ep: u32,
@@ -17,6 +17,6 @@ pub struct Options {
     pub kind: u8,
     /// The compression's code.
     pub comp: u8,
-    /// The image's name, cut or padded with zeros to 32 bytes, as `name_field` gives it.
+    /// The image's name, cut or padded with zeros to 32 bytes, as `name_field` returns it.
     pub name: [u8; 32],
 }

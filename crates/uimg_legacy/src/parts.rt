@@ -1,4 +1,4 @@
-//! The parts of the types multi and script, and their places.
+//! The parts of the types multi and script: how many, and where each is.
 
 ghost use Rattle.std.specs.Prelude.{◌≡◌, ◌+◌, ◌*◌, ◌≤◌, length, IfOk, is_err};
 ghost use Rattle.uimg_base.specs.Using.{Asks, UsesAtMost};
@@ -14,7 +14,7 @@ use crate::table::{count_window, sum_first};
 use std::alloc::Allocator;
 use uimg_base::{MULTI, Room, SCRIPT, Source, SourceFault, Span, number_at};
 
-/// Whether an image of the type of this code has parts: multi (4) and script (6) do.
+/// Returns whether an image of this type has parts: multi (4) and script (6) do.
 #[tactic(auto, unfolding(crate::specs::Parts::has_parts))]
 pub fn has_parts(kind: u8) -> bool
     ensures { result ≡ has_parts kind }
@@ -22,7 +22,7 @@ pub fn has_parts(kind: u8) -> bool
     kind == MULTI || kind == SCRIPT
 }
 
-// The size of a number in the table, counted from 0.
+// Reads size `i` of the table, counted from 0.
 #[tactic(auto, unfolding(uimg_texts::specs::Numbers::be32))]
 pub(crate) fn size_at<S: Source>(source: &mut S, i: u32) -> Result<u32, SourceFault>
     requires { 64 + 4 * (i + 1) ≤ length (S.device source.old).bytes }
@@ -34,8 +34,8 @@ pub(crate) fn size_at<S: Source>(source: &mut S, i: u32) -> Result<u32, SourceFa
     Ok(number_at(&word, 0))
 }
 
-// How many sizes stand before the zero word that ends the table. A window has at most one word more
-// than were read before it, so that not far past the zero word is read.
+// Counts the sizes before the zero word that ends the table. A window has at most one word more
+// than were read before it, so little after the zero word is read.
 pub(crate) fn count_sizes<S: Source, A: Allocator>(
     source: &mut S,
     room: &mut Room<A>,
@@ -58,7 +58,7 @@ pub(crate) fn count_sizes<S: Source, A: Allocator>(
     Err(Fault::Legacy(LegacyFault::NoTableEnd))
 }
 
-// Where the part at a position stands: one that the table has, or the data of a single file.
+// Finds the part at a position: one of the table, or the data of a single file.
 #[tactic(auto, unfolding(crate::specs::Extraction::single))]
 pub(crate) fn find_part<S: Source, A: Allocator>(
     source: &mut S,

@@ -1,4 +1,4 @@
-//! Where all parts of an image stand.
+//! Where all parts of an image are.
 
 ghost use Rattle.std.specs.Prelude.{◌≡◌, ◌+◌, ◌*◌, ◌≤◌, [], ◌∷◌, ◌++◌, length, IsTrue, IfOk, OnOk};
 ghost use Rattle.uimg_base.specs.Using.{Asks};
@@ -13,13 +13,13 @@ use std::alloc::{AllocError, Allocator, Global};
 use thiserror::Error;
 use uimg_base::{Room, Source, SourceFault, Span, up4};
 
-/// Why the parts of an image are not told. Its text is the line that the program prints.
+/// Why the parts of an image are not returned. Its text is the line that the program prints.
 #[derive(Clone, Copy, Debug, PartialEq, Eq, Error)]
 pub enum PartsFault {
     /// The image is refused, or a read failed.
     #[error("{0}")]
     Stopped(Fault),
-    /// Memory for the places was refused.
+    /// Memory for the spans was refused.
     #[error("out of memory")]
     OutOfMemory,
 }
@@ -58,7 +58,7 @@ impl From<AllocError> for PartsFault {
     }
 }
 
-// Appends where a part stands.
+// Appends a part's span.
 fn push_part(parts: &mut Vec<Span>, part: Span) -> Result<(), AllocError>
     ensures { OnOk result (parts.new.items ≡ parts.old.items ++ part ∷ []) }
 {
@@ -66,7 +66,7 @@ fn push_part(parts: &mut Vec<Span>, part: Span) -> Result<(), AllocError>
     Ok(())
 }
 
-// Where the parts of a table of so many sizes stand, up to the first that ends after the data.
+// Finds the `count` parts of a table, up to the first that ends after the data.
 fn place_parts<S: Source>(
     alloc: Global,
     source: &mut S,
@@ -96,7 +96,7 @@ fn place_parts<S: Source>(
     Ok(parts)
 }
 
-// Where the only part of an image stands that has no table.
+// Returns the span of the only part of an image without a table.
 fn only_part(alloc: Global, size: u32) -> Result<Vec<Span>, AllocError>
     ensures { IfOk result (λ parts. parts.items ≡ record { place = 64; length = size } ∷ []) }
 {
@@ -108,12 +108,11 @@ fn only_part(alloc: Global, size: u32) -> Result<Vec<Span>, AllocError>
     Ok(parts)
 }
 
-/// Where the parts of an image with this header stand: those that its table has sizes of, for the types
-/// multi and script, and else the data. The checksum of the data is not looked at. Refusals are
-/// `Truncated`, `NoTableEnd` and `PartOutside`, in this order; `Read` exactly where a read failed,
-/// `OutOfMemory` where memory for the places was refused, 16 bytes for each. An honest source is asked
-/// for at most 12 bytes for each size in the table and 12 more. Nothing of the room changes but its
-/// window.
+/// Finds the parts of an image with this header: those of its table for the types multi and script,
+/// else the data. The checksum of the data is not checked. Returns their spans, or the first fault
+/// of `Truncated`, `NoTableEnd` and `PartOutside`; `Read` exactly if a read failed, `OutOfMemory`
+/// if memory for the spans was refused, 16 bytes for each. Of an honest source at most 12 bytes for
+/// each size in the table and 12 more are requested. Of the room only the window changes.
 #[tactic(auto, unfolding(crate::specs::Placing::places_of))]
 pub fn locate_parts<S: Source, A: Allocator>(
     alloc: Global,

@@ -1,4 +1,4 @@
-//! The table of the parts' sizes, read a window at a time.
+//! The table of the parts' sizes, read one window at a time.
 
 ghost use Rattle.std.specs.Prelude.{◌≡◌, ◌+◌, ◌*◌, ◌/◌, ◌^◌, ◌≤◌, length, sum_by};
 ghost use Rattle.uimg_texts.specs.Numbers.{up4};
@@ -9,7 +9,7 @@ ghost use Rattle.uimg_legacy.specs.Reading.{ReadsWords, sizes_from, rounded_from
 use std::alloc::Allocator;
 use uimg_base::{Room, Source, SourceFault, number_at, up4};
 
-// How many words of the bytes stand before the first zero word.
+// Counts the words of the bytes before the first zero word.
 pub(crate) fn leading_sizes(bytes: &[u8]) -> usize
     ensures bound { 4 * result ≤ length bytes.now }
     ensures count { result ≡ length (sizes bytes.now) }
@@ -23,7 +23,7 @@ pub(crate) fn leading_sizes(bytes: &[u8]) -> usize
     count
 }
 
-// How many words of a window of the data stand before its first zero word.
+// Counts the words of a window of the data before its first zero word.
 pub(crate) fn count_window<S: Source, A: Allocator>(
     source: &mut S,
     room: &mut Room<A>,
@@ -39,7 +39,7 @@ pub(crate) fn count_window<S: Source, A: Allocator>(
     Ok(leading_sizes(window) as u32)
 }
 
-// The sum of the words of the bytes, each rounded up to a multiple of 4.
+// Sums the words of the bytes, each rounded up to a multiple of 4.
 fn rounded_sum(bytes: &[u8]) -> u64
     requires { length bytes.now ≤ 8192 }
     ensures bound { result ≤ 2 ^ 32 * (length bytes.now / 4) }
@@ -54,7 +54,7 @@ fn rounded_sum(bytes: &[u8]) -> u64
     sum
 }
 
-// The sum of the words of a window of the data, each rounded up to a multiple of 4.
+// Sums the words of a window of the data, each rounded up to a multiple of 4.
 fn sum_window<S: Source, A: Allocator>(
     source: &mut S,
     room: &mut Room<A>,
@@ -71,7 +71,7 @@ fn sum_window<S: Source, A: Allocator>(
     Ok(rounded_sum(window))
 }
 
-// The sum of the first words of the data, each rounded up to a multiple of 4.
+// Sums the first `count` words of the data, each rounded up to a multiple of 4.
 pub(crate) fn sum_first<S: Source, A: Allocator>(
     source: &mut S,
     room: &mut Room<A>,

@@ -1,4 +1,4 @@
-//! The parts of an image are taken out of it, written while its data are summed.
+//! Unpacking: parts are written while the image's data are summed.
 
 ghost use Rattle.std.specs.Prelude.{◌≡◌, [], IsTrue};
 ghost use Rattle.uimg_legacy.specs.Commands.{TakesOut};
@@ -20,7 +20,8 @@ pub use part_taker::PartTaker;
 use std::alloc::Allocator;
 use uimg_base::{PutFault, Room, Source};
 
-// The parts that are held are kept, if the data's CRC is right, or thrown away.
+// Keeps the held parts if the data's CRC is right, else discards them. Returns whether they are
+// kept.
 fn settle<T: PartTaker>(right: bool, dcrc: u32, taker: &mut T) -> Result<bool, PutFault>
     requires { IsTrue right → IsTrue T.honest → AreRight dcrc (T.held taker.old) }
     ensures { Settles right result T.honest T.held T.kept taker }
@@ -33,24 +34,24 @@ fn settle<T: PartTaker>(right: bool, dcrc: u32, taker: &mut T) -> Result<bool, P
     Ok(right)
 }
 
-/// Takes the parts of an image out of it, in their order: all, or the one of a number. They are the parts
-/// of the types multi and script, or of another type its data as part 0.
+/// Unpacks the parts of an image in their order: all, or the one of a number. For the types multi
+/// and script they are its parts, for another type its data as part 0.
 ///
-/// Each part is written to a shelf of the taker's while the data are summed, from the table of sizes to
-/// the last byte; when their checksum is that in the header, which was right before, the taker is told
-/// to keep the parts, and else to refuse them. The answer tells whether they are kept. The sizes are
-/// read twice, once for the sum and once to be cut by, and where both readings have not the same sum
-/// nothing is kept. So what an honest taker keeps are the parts of some image with right checksums,
-/// whatever the source answers, or nothing. Over an honest source that image is the source's, and each
-/// part is just what an extraction from its position writes. Such a source is asked for at most its
-/// header, as many bytes as the data have, 8 for each size in the table and 8 more. The room is only
-/// cleared.
+/// Checks the header, whose checksum has to be right. Each part is written to a shelf of the taker
+/// while the data are summed, from the table of sizes to the last byte. If their checksum is that
+/// in the header, the taker keeps the parts; otherwise it refuses them. Returns whether they are
+/// kept. The sizes are read twice, to be summed and to cut the parts; unless both readings have the
+/// same sum, nothing is kept. So an honest taker keeps the parts of some image with right
+/// checksums, whatever the source returns, or nothing. Over an honest source that image is the
+/// source's, and each part is what an extraction from its position writes. Such a source is read
+/// for at most its header, the length of the data, 8 bytes for each size in the table and 8 more.
+/// The room is only cleared.
 ///
-/// Refusals are `TooShort`, `BadMagic`, `BadHeaderCrc`, `Truncated`, `NoTableEnd` and `NoSuchPart`, in
-/// this order and all before the taker is told of anything, and then `PartOutside`, when the part is come
-/// to. That the data's checksum is wrong is found last, as they are summed while they are written; it is
-/// no refusal but the answer `false`. `BadDataCrc` comes where a size of the table is 0 when it is read
-/// again. `Read` comes exactly where a read failed, and `Put` where the taker or a shelf of its did.
+/// Returns the first of `TooShort`, `BadMagic`, `BadHeaderCrc`, `Truncated`, `NoTableEnd` and
+/// `NoSuchPart`, all before the taker is called, or `PartOutside` when that part is reached. A
+/// wrong checksum of the data is found last, as they are summed while they are written; it is the
+/// result `false`, no fault. Returns `BadDataCrc` if a size of the table is 0 when it is read
+/// again, `Read` exactly if a read failed, and `Put` if the taker or one of its shelves failed.
 pub fn unpack<S: Source, A: Allocator, T: PartTaker>(
     only: Option<u32>,
     source: &mut S,

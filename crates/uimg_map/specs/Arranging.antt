@@ -1,4 +1,4 @@
--- What the rows of a map are for the things that they are made of.
+-- How the rows of a map follow from the things in a file.
 use Rattle.std.specs.Prelude.{◌≡◌, ◌≤◌, ◌<◌, ℕ, ◌+◌, ◌*◌, List, length, true, false, None}
 use Rattle.std.specs.List.{list_any}
 use Rattle.std.specs.List.Sorted.{IsPermutation}
@@ -8,16 +8,17 @@ use Rattle.uimg_map.specs.Rows.{rows_from, things_in}
 use Rattle.uimg_map.specs.Order.{InOrder}
 use Rattle.uimg_map.specs.Cover.{has, has_free, contains}
 
--- the rows of these things in a file of so many bytes
+-- these are the rows of these things in a file of `size` bytes
 pub record Arranges (size : ℕ) (things : List Thing) (rows : List Row) : Type 0 where
-  -- each thing has its row, and there is no other thing
+  -- each thing has its row, and each row with a thing has one of these
   pub same : IsPermutation things (things_in rows)
-  -- by place, end and number
+  -- by offset, end and number
   pub sorted : InOrder (things_in rows)
-  -- what they say is what is said of sorted things
+  -- the rows follow from the sorted things
   pub told : rows ≡ rows_from size None (things_in rows)
-  -- at most twice as many as things, and one
+  -- at most two rows a thing, and one more
   pub count : length rows ≤ 2 * length things + 1
-  -- each byte of the file is of a row, and what a row says to be of no thing is in the file and of no thing
+  -- each byte of the file is in a row; a row without a thing has bytes inside the file that are in
+  -- no thing
   pub covered : (i : ℕ) → i < size → list_any (has i) rows ≡ true
   pub free : (i : ℕ) → list_any (has_free i) rows ≡ true → (i < size) × (list_any (contains i) things ≡ false)

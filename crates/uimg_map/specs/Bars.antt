@@ -1,9 +1,9 @@
 -- The bar of a row.
 use Rattle.std.specs.Prelude.{ℕ, ◌+◌, ◌*◌, min, nat_lt, ◌&&◌, Bool}
 
--- Whether a cell of a bar is filled, for what stands from a place up to an end: there are bytes of it in the file, and the cell's
--- part of the file, which begins at size * j / cells and ends at size * (j + 1) / cells, begins before they end, and ends behind
--- their beginning.
+-- Whether cell j of a bar is filled, for a range from an offset up to an end: the range has bytes
+-- inside the file, and some of them are in the cell's part of the file, from size * j / cells up to
+-- size * (j + 1) / cells.
 unfoldable pub is_filled : ℕ → ℕ → ℕ → ℕ → ℕ → Bool
 is_filled cells size place end j =
     nat_lt place (min end size)

@@ -4,9 +4,9 @@ use Rattle.std.specs.Option.{unwrap_or}
 use Rattle.uimg_map.specs.declared.numbers.BlobNumbers.{BlobNumbers}
 use Rattle.uimg_map.specs.declared.thing.Thing.{Thing}
 
--- The header and the three blocks by its numbers, in a file of so many bytes, with the end of the reservation block, where it
--- has one in the file. Where it has none it ends 16 bytes behind the later of its start and the
--- file's end, so behind the file.
+-- The header and the three blocks by its numbers, in a file of `size` bytes; `end` is the end of
+-- the reservation block inside the file. Without one the block ends 16 bytes after its start or
+-- after the file's end, whichever is later, so outside the file.
 abbrev pub blocks_of : BlobNumbers → Option ℕ → ℕ → List Thing
 blocks_of n end size =
     record { place = 0; end = 40; number = 0 }

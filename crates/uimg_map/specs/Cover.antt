@@ -1,18 +1,18 @@
--- Which bytes a thing has, and which a row.
+-- Which bytes are in a thing, and which in a row.
 use Rattle.std.specs.Prelude.{ℕ, nat_le, nat_lt, ◌&&◌, Bool, false}
 use Rattle.uimg_map.specs.declared.thing.Thing.{Thing}
 use Rattle.uimg_map.specs.declared.row.Row.{Row}
 use Rattle.uimg_map.specs.declared.row.Row.TheVariants.{Taken, Gap, Rest}
 
--- whether a byte stands from a place up to an end
+-- whether a byte is in the range from an offset up to an end
 abbrev pub within : ℕ → ℕ → ℕ → Bool
 within i place end = nat_le place i && nat_lt i end
 
--- whether a thing has the byte at an offset
+-- whether the byte at an offset is in a thing
 abbrev pub contains : ℕ → Thing → Bool
 contains i t = within i t.place t.end
 
--- where a row begins and where it ends
+-- where a row begins and ends
 abbrev pub place_of : Row → ℕ
 place_of (Taken t over) = t.place
 place_of (Gap place end) = place
@@ -23,13 +23,13 @@ end_of (Taken t over) = t.end
 end_of (Gap place end) = end
 end_of (Rest place end) = end
 
--- whether a row has it
+-- whether it is in a row
 abbrev pub has : ℕ → Row → Bool
 has i (Taken t over) = contains i t
 has i (Gap place end) = within i place end
 has i (Rest place end) = within i place end
 
--- whether a row has it that is of no thing
+-- whether it is in a row without a thing
 abbrev pub has_free : ℕ → Row → Bool
 has_free i (Taken t over) = false
 has_free i (Gap place end) = within i place end

@@ -1,16 +1,16 @@
--- Why there is no map.
+-- Why an image has no map.
 use Rattle.std.specs.Prelude.{Result, Err, Bool, true, false}
 use Rattle.uimg_blob.specs.Faults.{refuses_memory}
 use Rattle.uimg_fit_base.specs.declared.fault.Fault.TheVariants as fit
 use Rattle.uimg_map.specs.declared.fault.MapFault.{MapFault}
 use Rattle.uimg_map.specs.declared.fault.MapFault.TheVariants.{Fit, Read, OutOfMemory}
 
--- the answer is that a read failed
+-- the result is a failed read
 abbrev pub is_read : {X : Type 0} → Result X MapFault → Bool
 is_read (Err Read) = true
 is_read _ = false
 
--- the fault is a failed read or that memory was refused, and none of an image
+-- the fault is a failed read or refused memory, not one of the image
 abbrev pub stops : MapFault → Bool
 stops Read = true
 stops OutOfMemory = true

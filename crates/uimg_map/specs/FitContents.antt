@@ -15,29 +15,29 @@ use Rattle.uimg_map.specs.Found.{What, the_header, the_reservations, the_structu
 use Rattle.uimg_map.specs.Numbers.{numbers_in}
 use Rattle.uimg_map.specs.Reservations.{block_end}
 
--- things, by what they are
+-- things with what they are
 abbrev pub named : List What → List Thing → List Found
 named (w ∷ ws) (t ∷ ts) = record { what = w; place = t.place; end = t.end } ∷ named ws ts
 named _ _ = []
 
--- the header of a blob, and the three blocks that its numbers tell
+-- the header of a blob, and the three blocks by its numbers
 abbrev pub blocks_named : BlobNumbers → Option ℕ → ℕ → Told
 blocks_named n end size = record {
   found = named (the_header ∷ the_reservations ∷ the_structure ∷ the_strings ∷ []) (blocks_of n end size);
   fault = None;
 }
 
--- the same of a file, if it has a header
+-- the same for a file, if it has a header
 abbrev pub blocks_told : List ℕ → Option BlobNumbers → Told
 blocks_told file None = nothing
 blocks_told file (Some n) = blocks_named n (block_end file n.reservations) (length file)
 
--- whether a payload that stands there is the value of `data`
+-- whether a payload at this span is the value of `data`
 unfoldable pub is_value : Option Span → Span → Bool
 is_value (Some value) span = value.place == span.place && value.length == span.length
 is_value None span = false
 
--- the payload of an image, by the place that it has: one that ends behind the file is a fault too
+-- the payload of an image, from its span; a payload that ends after the file is a fault too
 abbrev pub what_payload : ImageSaid → Span → What
 what_payload image span = if is_value image.payload.embedded span then embedded_of image.name else payload_of image.name
 
@@ -47,7 +47,7 @@ payload_told size image (Ok span) = joined
     (refused_behind size (span.place + span.length) (Fit (of.Fit DataOutside)))
 payload_told size image (Err fault) = refused (Fit (of.Fit fault))
 
--- the payloads of images, in a file of so many bytes whose blob has a total size
+-- the payloads of images, in a file of `size` bytes whose blob has this total size
 abbrev pub image_told : ℕ → ℕ → ImageSaid → Told
 image_told size totalsize image = payload_told size image (place_said totalsize image.payload)
 
@@ -55,12 +55,12 @@ abbrev pub images_told : ℕ → ℕ → List ImageSaid → Told
 images_told size totalsize [] = nothing
 images_told size totalsize (image ∷ images) = joined (image_told size totalsize image) (images_told size totalsize images)
 
--- the payloads of a file that says this, or why it is refused: a fault of the blob has a place
+-- the payloads of a file with these facts, or its fault: a fault of the blob has an offset
 abbrev pub survey_told : ℕ → Result Said Fault → Told
 survey_told size (Ok said) = images_told size said.totalsize said.images
 survey_told size (Err (of.Blob fault at)) = refused_at at (Fit (of.Blob fault at))
 survey_told size (Err fault) = refused (Fit fault)
 
--- the header and the blocks, and then the payloads
+-- the header and the blocks, then the payloads
 unfoldable pub fit_contents : List ℕ → Told
 fit_contents file = joined (blocks_told file (numbers_in file)) (survey_told (length file) (survey_of file))

@@ -5,7 +5,7 @@ use Rattle.uimg_map.specs.declared.fault.MapFault.{MapFault}
 use Rattle.uimg_map.specs.declared.contents.Label.{Label}
 use Rattle.uimg_map.specs.declared.contents.Label.TheVariants as of
 
--- What a thing is. A payload is known by the name of its image, a part by its position.
+-- What a thing is. A payload has the name of its image, a part its position.
 pub data What : Type 0 where
   the_header : What
   the_reservations : What
@@ -19,7 +19,7 @@ pub data What : Type 0 where
   the_padding : What
   fault_of : MapFault → What
 
--- what a label says, whose names stand in a file
+-- what a label means; its names are read in a file
 abbrev pub read_label : List ℕ → Label → What
 read_label file of.Header = the_header
 read_label file of.Reservations = the_reservations
@@ -33,13 +33,13 @@ read_label file (of.Part number) = part_at number
 read_label file of.Padding = the_padding
 read_label file (of.Fault fault) = fault_of fault
 
--- A thing that stands from a place up to an end.
+-- A thing from an offset up to an end.
 pub record Found : Type 0 where
   pub what : What
   pub place : ℕ
   pub end : ℕ
 
--- What is found, in order, and why the image is refused, if it is.
+-- What is found, in order, and the fault of the image, if it has one.
 pub record Told : Type 0 where
   pub found : List Found
   pub fault : Option MapFault
@@ -49,7 +49,7 @@ abbrev pub first_of : Option MapFault → Option MapFault → Option MapFault
 first_of (Some fault) later = Some fault
 first_of None later = later
 
--- what is found first, and what is found next
+-- what is found first, then what is found next
 abbrev pub joined : Told → Told → Told
 joined a b = record { found = a.found ++ b.found; fault = first_of a.fault b.fault }
 
@@ -57,18 +57,18 @@ joined a b = record { found = a.found ++ b.found; fault = first_of a.fault b.fau
 abbrev pub nothing : Told
 nothing = record { found = []; fault = None }
 
--- a thing
+-- one thing
 abbrev pub thing : What → ℕ → ℕ → Told
 thing what place end = record { found = record { what = what; place = place; end = end } ∷ []; fault = None }
 
--- a fault without a place
+-- a fault without an offset
 abbrev pub refused : MapFault → Told
 refused fault = record { found = []; fault = Some fault }
 
--- a fault that has a place
+-- a fault with an offset
 abbrev pub refused_at : ℕ → MapFault → Told
 refused_at at fault = joined (thing (fault_of fault) at at) (refused fault)
 
--- a fault where something ends behind a file of so many bytes
+-- a fault if something ends after a file of `size` bytes
 unfoldable pub refused_behind : ℕ → ℕ → MapFault → Told
 refused_behind size end fault = if nat_lt size end then refused fault else nothing

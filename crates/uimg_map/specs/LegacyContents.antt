@@ -12,7 +12,7 @@ use Rattle.uimg_map.specs.declared.fault.MapFault.{MapFault}
 use Rattle.uimg_map.specs.declared.fault.MapFault.TheVariants.{Legacy}
 use Rattle.uimg_map.specs.Found.{the_header, the_table, the_data, part_at, the_padding, Told, joined, nothing, thing, refused_at, refused_behind}
 
--- why a legacy image is refused
+-- the fault of a legacy image
 abbrev pub legacy_fault : LegacyFault → MapFault
 legacy_fault fault = Legacy (of.Legacy fault)
 
@@ -21,7 +21,8 @@ abbrev pub is_bad_crc : LegacyFault → Bool
 is_bad_crc BadHeaderCrc = true
 is_bad_crc _ = false
 
--- a header that is refused: it is there where its CRC is wrong, and the fault is at the CRC's place, else at the file's start
+-- A refused header. If its CRC is wrong there is a header, and the fault is at the CRC's offset;
+-- otherwise it is at the file's start.
 abbrev pub refused_with : Bool → LegacyFault → Told
 refused_with true fault = joined (thing the_header 0 64) (refused_at 4 (legacy_fault fault))
 refused_with false fault = refused_at 0 (legacy_fault fault)
@@ -29,35 +30,38 @@ refused_with false fault = refused_at 0 (legacy_fault fault)
 abbrev pub refused_header : LegacyFault → Told
 refused_header fault = refused_with (is_bad_crc fault) fault
 
--- the header of data of so many bytes, in a file of a size: data that end behind it are a fault
+-- the header of `count` bytes of data, in a file of `size` bytes; data that end after it are a
+-- fault
 abbrev pub header_told : ℕ → ℕ → Told
 header_told size count = joined (thing the_header 0 64) (refused_behind size (64 + count) (legacy_fault Truncated))
 
--- the bytes from the end of a part up to the next part, where there are some and it is not the last
+-- the bytes from the end of a part up to the next part, if there are any and the part is not the
+-- last
 abbrev pub padding_told : ℕ → Bool → Told
 padding_told stop true = nothing
 padding_told stop false = if nat_lt stop (up4 stop) then thing the_padding stop (up4 stop) else nothing
 
--- a part at a place, and the bytes behind it; one that ends behind the data is a fault
+-- a part and the padding after it; a part that ends after the data is a fault
 abbrev pub part_told : Bool → ℕ → ℕ → ℕ → Bool → Told
 part_told true at number size last = joined (thing (part_at number) at (at + size)) (refused_at at (legacy_fault PartOutside))
 part_told false at number size last = joined (thing (part_at number) at (at + size)) (padding_told (at + size) last)
 
--- no more sizes follow
+-- whether no more sizes follow
 abbrev pub is_end : List ℕ → Bool
 is_end [] = true
 is_end (size ∷ sizes) = false
 
--- Parts of these sizes, the first of a number and at a place, in data that end at a place: each begins behind the one before it,
--- rounded up to a multiple of 4. A part that ends behind the data is the last.
+-- The parts of these sizes, the first at an offset and with a number, in data that end at `end`:
+-- each begins after the one before it, rounded up to a multiple of 4. A part that ends after the
+-- data is the last.
 unfoldable pub parts_told : ℕ → ℕ → ℕ → List ℕ → Told
 parts_told end at number [] = nothing
 parts_told end at number (size ∷ sizes) = joined
     (part_told (nat_lt end (at + size)) at number size (is_end sizes))
     (if nat_lt end (at + size) then nothing else parts_told end (up4 (at + size)) (number + 1) sizes)
 
--- the table of sizes with the zero word that ends it, and the parts; a table without an end takes all the data, and is a fault
--- where these are not cut
+-- The table of sizes with its zero word, and the parts. A table without an end takes all the data,
+-- and is a fault unless the data are truncated.
 abbrev pub endless_told : ℕ → ℕ → LegacyFault → Told
 endless_told size count fault = joined
     (thing the_table 64 (64 + count))
@@ -69,7 +73,7 @@ table_told size count (Ok sizes) = joined
     (parts_told (64 + count) (64 + 4 * (length sizes + 1)) 0 sizes)
 table_told size count (Err fault) = endless_told size count fault
 
--- the data of a header: parts, if it is of a type that has them
+-- the data of a header: parts, for a type with parts
 abbrev pub data_told : List ℕ → Header → Bool → Told
 data_told file h true = table_told (length file) h.size (part_sizes (payload file h))
 data_told file h false = thing the_data 64 (64 + h.size)
@@ -78,6 +82,6 @@ abbrev pub legacy_told : List ℕ → Result Header LegacyFault → Told
 legacy_told file (Ok h) = joined (header_told (length file) h.size) (data_told file h (has_parts h.kind))
 legacy_told file (Err fault) = refused_header fault
 
--- the header, and then the data
+-- the header, then the data
 unfoldable pub legacy_contents : List ℕ → Told
 legacy_contents file = legacy_told file (header file)

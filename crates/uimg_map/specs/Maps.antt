@@ -9,23 +9,23 @@ use Rattle.uimg_map.specs.FitContents.{fit_contents}
 use Rattle.uimg_map.specs.Found.{Told, read_label}
 use Rattle.uimg_map.specs.LegacyContents.{legacy_contents}
 
--- its rows are those of some things in a file of its size
+-- the rows are those of some things in a file of this size
 pub record IsMap (map : Map) : Type 0 where
   pub things : List Thing
   pub rows : Arranges map.size things map.rows.items
 
--- a file begins as a devicetree blob does
+-- a file begins as a devicetree blob does: with the magic number
 unfoldable pub begins_as_blob : List ℕ → Bool
 begins_as_blob file = if nat_lt (length file) 4 then false else be32 file 0 == 0xd00dfeed
 
--- what is found in a file: of a FIT image where it begins as a blob, and else of a legacy image
+-- what is found in a file: in a FIT image if it begins as a blob, else in a legacy image
 abbrev pub contents_of : List ℕ → Told
 contents_of file = if begins_as_blob file then fit_contents file else legacy_contents file
 
--- A map is that of a file: its rows are those of what is found in the file, whose i-th thing has the number i; the i-th label,
--- read in the file, says what this is; and the fault is the first that is found.
+-- The map is that of a file: its rows are those of the things found in it, thing i with number i;
+-- label i says what that is; and the fault is the first one found.
 pub record IsMapOf (file : List ℕ) (found : Map) : Type 0 where
-  -- just the things that the definition finds, the i-th with the number i
+  -- exactly the things that the definition finds, thing i with number i
   pub rows : Arranges (length file) (numbered 0 (contents_of file).found) found.rows.items
   -- each label, read in the file, names its thing
   pub labels : map (read_label file) found.labels.items ≡ map (λ f. f.what) (contents_of file).found

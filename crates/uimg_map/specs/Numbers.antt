@@ -3,8 +3,8 @@ use Rattle.std.specs.Prelude.{ℕ, List, length, take, nat_lt, ◌==◌, if◌th
 use Rattle.uimg_texts.specs.Numbers.{be32}
 use Rattle.uimg_map.specs.declared.numbers.BlobNumbers.{BlobNumbers}
 
--- the numbers at their places: magic, totalsize, off_dt_struct, off_dt_strings, off_mem_rsvmap, version, last_comp_version,
--- boot_cpuid_phys, size_dt_strings, size_dt_struct
+-- the numbers at their offsets: magic, totalsize, off_dt_struct, off_dt_strings, off_mem_rsvmap,
+-- version, last_comp_version, boot_cpuid_phys, size_dt_strings, size_dt_struct
 abbrev pub numbers_of : List ℕ → BlobNumbers
 numbers_of bytes = record {
   magic = be32 bytes 0;
@@ -19,7 +19,7 @@ numbers_of bytes = record {
   structure_size = be32 bytes 36;
 }
 
--- those of a file, if it has them and begins with the magic number
+-- the numbers of a file, if it has 40 bytes and begins with the magic number
 unfoldable pub numbers_in : List ℕ → Option BlobNumbers
 numbers_in file =
     if nat_lt (length file) 40 then None

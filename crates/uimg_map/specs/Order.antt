@@ -1,9 +1,10 @@
--- Things in the order of their places.
+-- Things in the order of their offsets.
 use Rattle.std.specs.Prelude.{◌≡◌, ◌≤◌, ⊤, List, [], ◌∷◌}
 use Rattle.std.specs.List.{AllByRecursion}
 use Rattle.uimg_map.specs.declared.thing.Thing.{Thing}
 
--- a thing begins before another; where both begin alike it ends no later, and where they end alike its number is no greater
+-- a thing begins before another; with the same beginning it ends no later, and with the same end
+-- its number is no greater
 pub record IsBefore (s t : Thing) : Type 0 where
   pub place : s.place ≤ t.place
   pub end : s.place ≡ t.place → s.end ≤ t.end

@@ -3,15 +3,15 @@ use Rattle.std.specs.Prelude.{◌≡◌, ◌≤◌, ◌<◌, ℕ, zero, suc, ◌
 use Rattle.std.specs.Str.{bytes_eq}
 use Rattle.uimg_texts.specs.Slices.{slice}
 
--- whether an entry is the one that ends the list
+-- whether an entry ends the list
 abbrev pub zeros : List ℕ → Bool
 zeros entry = bytes_eq entry (replicate 16 0)
 
--- the first so many entries of a block at a place do not end it
+-- the first `count` entries of a block do not end it
 abbrev pub GoesOn : List ℕ → ℕ → ℕ → Type 0
 GoesOn file place count = (j : ℕ) → j < count → zeros (slice file (place + 16 * j) 16) ≡ false
 
--- a block ends behind its first entry of zeros, this one after so many others
+-- a block ends after its first entry of zeros, which comes after `count` others
 pub record EndsBehind (file : List ℕ) (place end : ℕ) : Type 0 where
   pub count : ℕ
   pub goes_on : GoesOn file place count
@@ -19,16 +19,17 @@ pub record EndsBehind (file : List ℕ) (place end : ℕ) : Type 0 where
   pub end_is : end ≡ place + 16 * count + 16
   pub inside : end ≤ length file
 
--- a block ends there, or none of its entries in the file ends it
+-- a block ends here, or none of its entries in the file ends it
 abbrev pub EndsBlock : List ℕ → ℕ → Option ℕ → Type 0
 EndsBlock file place (Some end) = EndsBehind file place end
 EndsBlock file place None = (count : ℕ) → place + 16 * count ≤ length file → GoesOn file place count
 
--- Where it ends, if it does: behind the first entry of zeros among so many entries from a place on ..
+-- Where a block ends, if it does: after the first entry of zeros among `count` entries from an
+-- offset on.
 unfoldable pub end_among : ℕ → List ℕ → ℕ → Option ℕ
 end_among zero file at = None
 end_among (suc count) file at = if zeros (slice file at 16) then Some (at + 16) else end_among count file (at + 16)
 
--- .. and among all that a file has from a place on.
+-- The same among all entries that the file has from an offset on.
 unfoldable pub block_end : List ℕ → ℕ → Option ℕ
 block_end file place = end_among ((length file - place) / 16) file place

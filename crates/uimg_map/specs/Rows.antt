@@ -1,36 +1,37 @@
--- The rows of the map of a file: its things, and the bytes that no thing has.
+-- The rows of the map of a file: its things, and the bytes in no thing.
 use Rattle.std.specs.Prelude.{ℕ, List, [], ◌∷◌, ◌++◌, min, nat_lt, if◌then◌else◌, Option, Some, None}
 use Rattle.uimg_map.specs.declared.thing.Thing.{Thing}
 use Rattle.uimg_map.specs.declared.row.Row.{Row}
 use Rattle.uimg_map.specs.declared.row.Row.TheVariants.{Taken, Gap, Rest}
 
--- where a thing ends; before all things it is the file's start
+-- where a thing ends; without one, the file's start
 abbrev pub end_of : Option Thing → ℕ
 end_of None = 0
 end_of (Some t) = t.end
 
--- the one that ends later, the earlier one where they end alike
+-- the one that ends later; the earlier one if both end at the same offset
 abbrev pub further : Option Thing → Thing → Option Thing
 further last t = if nat_lt (end_of last) t.end then Some t else last
 
--- the thing that ends last, where another, which begins no earlier, has bytes of it;
--- a thing without bytes overlaps nothing
+-- The thing that ends last, if another one, which begins no earlier, shares bytes with it; a thing
+-- without bytes overlaps nothing.
 unfoldable pub overlapped : Option Thing → Thing → Option Thing
 overlapped last t = if nat_lt t.place (min (end_of last) t.end) then last else None
 
--- the bytes from an end up to a place, if there are any, with a thing behind them
+-- the bytes from an end up to an offset, if there are any, before a thing
 unfoldable pub gap : ℕ → ℕ → List Row
 gap end place = if nat_lt end place then Gap end place ∷ [] else []
 
--- the bytes from an end up to the file's, if there are any
+-- the bytes from an end up to the file's end, if there are any
 unfoldable pub rest : ℕ → ℕ → List Row
 rest size end = if nat_lt end size then Rest end size ∷ [] else []
 
--- the rows of a thing behind others: the bytes before it, as far as the file has them, and its own
+-- the rows of a thing after others: the bytes before it, as far as the file has them, and its own
 abbrev pub step : ℕ → Option Thing → Thing → List Row
 step size last t = gap (end_of last) (min t.place size) ++ Taken t (overlapped last t) ∷ []
 
--- The rows of things in their order, in a file of so many bytes, behind others of which this one ends last.
+-- The rows of things in their order, in a file of `size` bytes, after others of which `last` ends
+-- last.
 abbrev pub rows_from : ℕ → Option Thing → List Thing → List Row
 rows_from size last [] = rest size (end_of last)
 rows_from size last (t ∷ ts) = step size last t ++ rows_from size (further last t) ts

@@ -1,4 +1,4 @@
--- The most bytes that a map asks for.
+-- The most bytes that a map requests.
 use Rattle.std.specs.Prelude.{ℕ, ◌+◌, ◌*◌, List, length, if◌then◌else◌, Bool, true, false, Result, Ok, Err}
 use Rattle.uimg_blob.specs.Counts.{index_cost}
 use Rattle.uimg_fit_base.specs.declared.fault.Fault.{Fault}
@@ -10,16 +10,17 @@ use Rattle.uimg_legacy.specs.Image.{payload}
 use Rattle.uimg_legacy.specs.Parts.{has_parts, sizes}
 use Rattle.uimg_map.specs.Maps.{begins_as_blob}
 
--- how many images a file says
+-- the number of images of a file
 abbrev pub images_in : Result Said Fault → ℕ
 images_in (Ok said) = length said.images
 images_in (Err fault) = 0
 
--- of a FIT image: the header's numbers, the reservation block, which ends in the file, the index, and three cells for an image
+-- of a FIT image: the header's numbers, the reservation block, which ends in the file, the index,
+-- and three cells of each image
 abbrev pub fit_work : List ℕ → ℕ
 fit_work file = 40 + length file + (index_cost file + 12 * images_in (survey_of file))
 
--- of the data of a legacy image: each size is read twice, and the word behind them once
+-- of the data of a legacy image: each size twice, and the word after them once
 abbrev pub table_work : Bool → List ℕ → ℕ
 table_work true data_bytes = 8 * length (sizes data_bytes) + 4
 table_work false data_bytes = 0
@@ -28,10 +29,10 @@ abbrev pub data_work : List ℕ → Result Header LegacyFault → ℕ
 data_work file (Ok h) = table_work (has_parts h.kind) (payload file h)
 data_work file (Err fault) = 0
 
--- of a legacy image: the header, and those
+-- of a legacy image: the header, and the data
 abbrev pub legacy_work : List ℕ → ℕ
 legacy_work file = 64 + data_work file (header file)
 
--- of any file: the four bytes that tell the format, and those of the format
+-- of any file: the four bytes of the format, then those of the format
 abbrev pub map_work : List ℕ → ℕ
 map_work file = 4 + (if begins_as_blob file then fit_work file else legacy_work file)

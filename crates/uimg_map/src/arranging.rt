@@ -1,4 +1,4 @@
-//! The rows of a map are made of the things that stand in a file.
+//! Makes the rows of a map from the things in a file.
 
 ghost use Rattle.std.specs.Prelude.{◌≡◌, ◌++◌, None, IfOk, OnOk};
 ghost use Rattle.uimg_map.specs.Arranging.{Arranges};
@@ -8,7 +8,7 @@ use crate::row::Row;
 use crate::thing::Thing;
 use std::alloc::{AllocError, Global};
 
-// Where the thing that ends last has its end, before all things the file's start.
+// Returns where a thing ends; without one, the file's start.
 fn end_of(last: Option<Thing>) -> u64
     ensures { result ≡ end_of last }
 {
@@ -18,7 +18,7 @@ fn end_of(last: Option<Thing>) -> u64
     }
 }
 
-// The one that ends later, the earlier one where they end alike.
+// Returns the one that ends later; the earlier one if both end at the same offset.
 fn further(last: Option<Thing>, thing: Thing) -> Option<Thing>
     ensures { result ≡ further last thing }
 {
@@ -29,7 +29,7 @@ fn further(last: Option<Thing>, thing: Thing) -> Option<Thing>
     }
 }
 
-// The thing that ends last, where another has bytes of it.
+// Returns the thing that ends last, if another one shares bytes with it.
 #[tactic(auto, unfolding(crate::specs::Rows::overlapped))]
 fn overlapped(last: Option<Thing>, thing: Thing) -> Option<Thing>
     ensures { result ≡ overlapped last thing }
@@ -54,7 +54,7 @@ fn add(rows: &mut Vec<Row>, size: u64, last: Option<Thing>, thing: Thing) -> Res
     Ok(())
 }
 
-// Adds the row of the bytes behind all things, if there are any.
+// Adds the row of the bytes after all things, if there are any.
 #[tactic(auto, unfolding(crate::specs::Rows::rest))]
 fn add_rest(rows: &mut Vec<Row>, size: u64, last: Option<Thing>) -> Result<(), AllocError>
     ensures { OnOk result (rows.new.items ≡ rows.old.items ++ rest size (end_of last)) }
@@ -65,7 +65,7 @@ fn add_rest(rows: &mut Vec<Row>, size: u64, last: Option<Thing>) -> Result<(), A
     Ok(())
 }
 
-// The rows of things that are in order.
+// Returns the rows of sorted things.
 fn rows_of(alloc: Global, size: u64, things: &[Thing]) -> Result<Vec<Row>, AllocError>
     ensures { IfOk result (λ rows. rows.items ≡ rows_from size None things.now) }
 {
@@ -79,12 +79,12 @@ fn rows_of(alloc: Global, size: u64, things: &[Thing]) -> Result<Vec<Row>, Alloc
     Ok(rows)
 }
 
-/// The rows of the map of a file of so many bytes: one for each thing, in their order, one for the bytes
-/// before a thing that no earlier one has, and one for those behind all. Things may lie behind the file's
-/// end, and may share bytes.
+/// Returns the rows of the map of a file of `size` bytes: one for each thing, in their order, one
+/// for the bytes before a thing that are in no earlier one, and one for those after all. Things may
+/// be after the file's end, and may share bytes.
 ///
-/// Memory for the rows may be refused: 64 bytes a row or so, and at most twice as many rows as things,
-/// and one.
+/// Fails if memory for the rows is refused, some 64 bytes a row; there are at most two rows a
+/// thing, and one more.
 pub fn arrange(alloc: Global, size: u64, mut things: Vec<Thing>) -> Result<Vec<Row>, AllocError>
     ensures { IfOk result (λ rows. Arranges size things.items rows.items) }
 {

@@ -3,19 +3,19 @@
 ghost use Rattle.std.specs.Prelude.{◌≡◌, ◌<◌, ◌≤◌, ℕ, nat_le, nat_lt, ◌&&◌};
 ghost use Rattle.uimg_map.specs.Bars.{is_filled};
 
-/// The cells of a bar that are filled: those from one up to another.
+/// The filled cells of a bar, a range.
 #[derive(Clone, Copy, Debug, PartialEq, Eq)]
 pub struct Bar {
     /// The first.
     pub from: u32,
 
-    /// The one behind the last.
+    /// The one after the last.
     pub to: u32,
 }
 
-/// The bar of so many cells for what stands from a place up to an end in a file of so many bytes. Each
-/// cell stands for an equal part of the file, and is filled where bytes of the file that are of it lie in
-/// that part: a few bytes fill a cell, and none fill none. The filled cells are one range.
+/// Returns the bar, of `cells` cells, for the range from an offset up to an end in a file of `size`
+/// bytes. Each cell is an equal part of the file, and is filled if bytes of the range are in the
+/// file and in that part: a few bytes fill a cell, and none fill none.
 #[tactic(auto, unfolding(crate::specs::Bars::is_filled))]
 pub fn bar_of(cells: u32, size: u64, place: u64, end: u64) -> Bar
     ensures inside { (result.from ≤ result.to) × (result.to ≤ cells) }

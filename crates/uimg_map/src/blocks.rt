@@ -1,4 +1,4 @@
-//! The header of a devicetree blob and the blocks that it names.
+//! The header of a devicetree blob and the blocks by its numbers.
 
 ghost use Rattle.std.specs.Prelude.{◌≡◌, ◌+◌};
 ghost use Rattle.uimg_map.specs.Blocks.{blocks_of};
@@ -6,10 +6,10 @@ ghost use Rattle.uimg_map.specs.Blocks.{blocks_of};
 use crate::numbers::{BLOB_HEADER_LEN, BlobNumbers};
 use crate::thing::Thing;
 
-/// How many bytes an entry of a memory reservation block has.
+/// The length of an entry of a memory reservation block.
 const ENTRY_LEN: u64 = 16;
 
-// What stands at an offset and has so many bytes.
+// Returns a thing of `size` bytes at an offset.
 fn block(place: u32, size: u32, number: usize) -> Thing
     ensures { result ≡ record { place = place; end = place + size; number = number } }
 {
@@ -20,9 +20,9 @@ fn block(place: u32, size: u32, number: usize) -> Thing
     }
 }
 
-/// The header of a blob, its memory reservation block, its structure block and its strings block, with
-/// the numbers 0 to 3, by the numbers of the header, in a file of so many bytes. A reservation block that
-/// has no end in the file is taken to end with an entry behind the file's end.
+/// Returns the header of a blob, its memory reservation block, its structure block and its strings
+/// block, numbered from 0 to 3, by the numbers of the header, in a file of `size` bytes. A
+/// reservation block without an end in the file is taken to end with an entry after the file's end.
 pub fn blocks_of(numbers: &BlobNumbers, reservations_end: Option<u64>, size: u64) -> [Thing; 4]
     ensures { result ≡ blocks_of numbers.now reservations_end size }
 {

@@ -1,4 +1,4 @@
-//! What stands in the file of an image, as it is gathered.
+//! Collects what is in the file of an image.
 
 ghost use Rattle.std.specs.Prelude.{◌≡◌, [], None, List, ℕ};
 ghost use Rattle.uimg_map.specs.Contents.{Grows, Adds};
@@ -24,16 +24,16 @@ pub enum Label {
     /// Its strings block, which has the names of properties.
     Strings,
 
-    /// The payload of the image whose name stands there.
+    /// The payload of the image whose name is at this span.
     Payload(Span),
 
-    /// The same, where it is the value of a property.
+    /// The same, as the value of a property.
     Embedded(Span),
 
     /// The table of the sizes of a legacy image's parts.
     Table,
 
-    /// The data of a legacy image that has no parts.
+    /// The data of a legacy image without parts.
     Data,
 
     /// The part of this position.
@@ -42,28 +42,28 @@ pub enum Label {
     /// The bytes up to the next part.
     Padding,
 
-    /// The place of a fault.
+    /// The offset of a fault.
     Fault(MapFault),
 }
 
-/// What was found in the file of an image.
+/// What is found in the file of an image.
 #[derive(Drop)]
 pub(crate) struct Contents {
-    /// How many bytes the file has.
+    /// The length of the file in bytes.
     pub(crate) size: u64,
 
-    /// What stands in it. The number of a thing is that of its label.
+    /// The things in it. The number of a thing is that of its label.
     pub(crate) things: Vec<Thing>,
 
-    /// What each of them is.
+    /// What each thing is.
     pub(crate) labels: Vec<Label>,
 
-    /// Why the image is refused, if it is.
+    /// The first fault of the image, if it has one.
     pub(crate) fault: Option<MapFault>,
 }
 
 impl Contents {
-    /// Nothing yet, of a file of so many bytes.
+    /// Returns no contents, of a file of `size` bytes.
     pub(crate) fn new(alloc: Global, size: u64) -> Contents
         ensures size { result.size ≡ size }
         ensures things { result.things.items ≡ [] }
@@ -78,7 +78,7 @@ impl Contents {
         }
     }
 
-    /// Adds what stands from a place up to an end.
+    /// Adds a thing from an offset up to an end.
     pub(crate) fn add(&mut self, place: u64, end: u64, label: Label) -> Result<(), MapFault>
         ensures { Adds (λ file. thing (read_label file label) place end) result self.old self.new }
     {
@@ -88,7 +88,7 @@ impl Contents {
         Ok(())
     }
 
-    /// Adds a fault that has a place, which is why the image is refused.
+    /// Adds a fault with an offset.
     pub(crate) fn refuse_at(&mut self, place: u64, fault: MapFault) -> Result<(), MapFault>
         ensures { Adds (λ _. refused_at place fault) result self.old self.new }
     {
@@ -97,7 +97,7 @@ impl Contents {
         Ok(())
     }
 
-    /// Tells why the image is refused, where that was not told before.
+    /// Sets the fault of the image, if it has none yet.
     pub(crate) fn refuse(&mut self, fault: MapFault)
         ensures { (file : List ℕ) → Grows file (refused fault) self.old self.new }
     {
@@ -106,7 +106,7 @@ impl Contents {
         }
     }
 
-    /// Tells why the image is refused where something ends behind the file.
+    /// Sets the fault of the image, if something ends after the file.
     #[tactic(auto, unfolding(crate::specs::Found::refused_behind))]
     pub(crate) fn refuse_behind(&mut self, end: u64, fault: MapFault)
         ensures { (file : List ℕ) → Grows file (refused_behind self.old.size end fault) self.old self.new }

@@ -1,18 +1,18 @@
-//! Why there is no map, or what is wrong with an image of which there is one.
+//! Why an image has no map, or what is wrong with an image that has one.
 
 use std::alloc::{AllocError, AllocFailed};
 use thiserror::Error;
 use uimg_base::SourceFault;
 
-/// Why there is no map, or why the image that it is of is refused. Its text is the line that the program
-/// prints.
+/// Why an image has no map, or what is wrong with an image that has one. Its text is the line that
+/// the program prints.
 #[derive(Clone, Copy, Debug, PartialEq, Eq, Error)]
 pub enum MapFault {
     /// The legacy image is refused.
     #[error("{0}")]
     Legacy(uimg_legacy::Fault),
 
-    /// The FIT image is refused, or memory for the table of its nodes was.
+    /// The FIT image is refused, or memory for the table of its nodes was refused.
     #[error("{0}")]
     Fit(uimg_fit_base::Fault),
 
@@ -20,7 +20,7 @@ pub enum MapFault {
     #[error("read failed")]
     Read,
 
-    /// Memory for what stands in the file was refused.
+    /// Memory for the map was refused.
     #[error("out of memory")]
     OutOfMemory,
 }

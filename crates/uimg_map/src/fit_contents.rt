@@ -1,4 +1,4 @@
-//! What stands in the file of a FIT image.
+//! What is in the file of a FIT image.
 
 ghost use Rattle.std.specs.Prelude.{◌≡◌, ◌≤◌, ◌<◌, ◌+◌, ◌*◌, ◌^◌, length, map, ℕ, List, Ok, Err, IfErr, IsTrue, OnOk};
 ghost use Rattle.uimg_blob.specs.Counts.{index_cost};
@@ -25,8 +25,8 @@ use uimg_fit_base::{Fault, FitFault};
 use uimg_fit_checking::{ImageFacts, Survey, SurveyFault, survey};
 use uimg_fit_reading::{PayloadFacts, find_payload};
 
-/// Adds what stands in the file of a FIT image: the header and the blocks that it names, where the file
-/// begins as a blob and has a header, and the payloads, or else the place of the blob's fault.
+/// Adds what is in the file of a FIT image: the header and its blocks, if the file has the header
+/// of a blob, then the payloads or the fault of the blob.
 pub(crate) fn add_fit<S: Source>(
     alloc: Global,
     source: &mut S,
@@ -59,7 +59,7 @@ fn add_blocks<S: Source>(source: &mut S, contents: &mut Contents) -> Result<(), 
     Ok(())
 }
 
-// Adds the payloads, or why the image is refused.
+// Adds the payloads, or the fault of the image.
 fn add_surveyed<S: Source>(
     alloc: Global,
     source: &mut S,
@@ -85,7 +85,7 @@ fn add_surveyed<S: Source>(
     }
 }
 
-// Adds why a FIT image is refused, or gives up where that is not for the image.
+// Adds the fault of a FIT image, or returns a fault that is not one of the image.
 fn add_refused(fault: Fault, contents: &mut Contents) -> Result<(), MapFault>
     ensures size { contents.new.size ≡ contents.old.size }
     ensures read { is_read result ≡ is_unread {X = Survey} (Err (SurveyFault.Stopped fault)) }
@@ -111,7 +111,7 @@ fn add_refused(fault: Fault, contents: &mut Contents) -> Result<(), MapFault>
     }
 }
 
-// Whether a fault of a blob is that memory was refused.
+// Returns whether a fault of a blob is refused memory.
 fn refuses_memory(fault: BlobFault) -> bool
     ensures { result ≡ refuses_memory fault }
 {
@@ -139,7 +139,7 @@ fn add_payloads<S: Source>(
     Ok(())
 }
 
-// Adds the payload of an image, or that it has none.
+// Adds the payload of an image, or its fault.
 fn add_image<S: Source>(
     source: &mut S,
     totalsize: u32,
@@ -164,7 +164,7 @@ fn add_image<S: Source>(
     }
 }
 
-// Adds the payload of an image that has this place.
+// Adds the payload of an image at this span.
 fn add_payload(image: &ImageFacts, span: Span, contents: &mut Contents) -> Result<(), MapFault>
     requires { (span.place < 2 ^ 41) × (span.length < 2 ^ 32) }
     ensures { Adds (λ file. payload_told contents.old.size (read_image file image.now) (Ok span)) result
@@ -176,7 +176,7 @@ fn add_payload(image: &ImageFacts, span: Span, contents: &mut Contents) -> Resul
     Ok(())
 }
 
-// What the payload of an image is that has this place.
+// Returns the label of an image's payload at this span.
 fn payload_label(image: &ImageFacts, span: Span) -> Label
     ensures { (file : List ℕ) → read_label file result ≡ what_payload (read_image file image.now) span }
 {
@@ -187,7 +187,7 @@ fn payload_label(image: &ImageFacts, span: Span) -> Label
     }
 }
 
-// Whether what stands there is the value of `data`.
+// Returns whether this span is the value of `data`.
 #[tactic(auto, unfolding(crate::specs::FitContents::is_value))]
 fn is_value(payload: &PayloadFacts, span: Span) -> bool
     ensures { result ≡ is_value payload.now.embedded span }

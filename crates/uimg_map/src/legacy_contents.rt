@@ -1,4 +1,4 @@
-//! What stands in the file of a legacy image.
+//! What is in the file of a legacy image.
 
 ghost use Rattle.std.specs.Prelude.{◌≡◌, ◌≤◌, ◌<◌, ◌+◌, ◌*◌, ◌^◌, length, ℕ, List, nat_lt, true, Some, IfOk, IsTrue, is_err};
 ghost use Rattle.uimg_base.specs.Using.{Asks, UsesAtMost};
@@ -15,8 +15,9 @@ use crate::fault::MapFault;
 use uimg_base::{Source, SourceFault, number_at, up4};
 use uimg_legacy::{Fault, HEADER_LEN, Header, LegacyFault, has_parts, read_header};
 
-/// Adds what stands in the file of a legacy image: the header and the data, of the types multi and script
-/// the table of sizes and the parts, or else the place of the header's fault. The data are not read.
+/// Adds what is in the file of a legacy image: the header and the data, or for the types multi and
+/// script the table of sizes and the parts; or else the fault of the header. Reads no data but the
+/// table.
 pub(crate) fn add_legacy<S: Source>(source: &mut S, contents: &mut Contents) -> Result<(), MapFault>
     requires { contents.old.size ≡ length (S.device source.old).bytes }
     ensures { Gathers legacy_work legacy_contents result (S.device source.old) (S.device source.new)
@@ -37,14 +38,14 @@ pub(crate) fn add_legacy<S: Source>(source: &mut S, contents: &mut Contents) -> 
     }
 }
 
-// Why a legacy image is refused.
+// Returns a fault of a legacy image as one of a map.
 fn legacy_fault(fault: LegacyFault) -> MapFault
     ensures { result ≡ legacy_fault fault }
 {
     MapFault::Legacy(Fault::Legacy(fault))
 }
 
-// Adds the header of an image, where there is one, and its fault.
+// Adds a refused header, if there is one, and its fault.
 fn add_refused(fault: LegacyFault, contents: &mut Contents) -> Result<(), MapFault>
     ensures { Adds (λ _. refused_header fault) result contents.old contents.new }
 {
@@ -57,7 +58,7 @@ fn add_refused(fault: LegacyFault, contents: &mut Contents) -> Result<(), MapFau
     Ok(())
 }
 
-// Whether a fault of a header is that its CRC is wrong.
+// Returns whether a fault of a header is its CRC.
 fn is_bad_crc(fault: LegacyFault) -> bool
     ensures { result ≡ is_bad_crc fault }
 {
@@ -67,7 +68,7 @@ fn is_bad_crc(fault: LegacyFault) -> bool
     }
 }
 
-// Adds the header of data of so many bytes.
+// Adds the header of `size` bytes of data.
 fn add_header(size: u32, contents: &mut Contents) -> Result<(), MapFault>
     ensures { Adds (λ _. header_told contents.old.size size) result contents.old contents.new }
 {
@@ -76,7 +77,7 @@ fn add_header(size: u32, contents: &mut Contents) -> Result<(), MapFault>
     Ok(())
 }
 
-// Where data of so many bytes end.
+// Returns where `size` bytes of data end.
 fn end_of(size: u32) -> u64
     ensures { result ≡ 64 + size }
 {
@@ -102,7 +103,7 @@ fn add_data<S: Source>(
     Ok(())
 }
 
-// Adds the table of sizes of data of so many bytes, and the parts.
+// Adds the table of sizes of `size` bytes of data, and the parts.
 fn add_table<S: Source>(source: &mut S, size: u32, contents: &mut Contents) -> Result<(), MapFault>
     requires { contents.old.size ≡ length (S.device source.old).bytes }
     ensures { Gathers (λ file. table_work true (slice file 64 size))
@@ -122,14 +123,14 @@ fn add_table<S: Source>(source: &mut S, size: u32, contents: &mut Contents) -> R
     }
 }
 
-// Where the first part begins, behind so many sizes and the zero word.
+// Returns where the first part begins, after `count` sizes and the zero word.
 fn first_part(count: u32) -> u64
     ensures { result ≡ 64 + 4 * (count + 1) }
 {
     HEADER_LEN as u64 + 4 * (count as u64 + 1)
 }
 
-// Adds the table of data of so many bytes that has no end.
+// Adds a table without an end, of `size` bytes of data.
 fn add_endless(size: u32, contents: &mut Contents) -> Result<(), MapFault>
     ensures { Adds (λ _. endless_told contents.old.size size LegacyFault.NoTableEnd) result
         contents.old contents.new }
@@ -143,7 +144,7 @@ fn add_endless(size: u32, contents: &mut Contents) -> Result<(), MapFault>
     Ok(())
 }
 
-// How many words of data of so many bytes stand before the first zero word, if the file has one among them.
+// Counts the words of `size` bytes of data before the first zero word, if the file has one there.
 fn count_sizes<S: Source>(source: &mut S, size: u32) -> Result<Option<u32>, SourceFault>
     ensures uses { UsesAtMost (4 * length (sizes (slice (S.device source.old).bytes 64 size)) + 4) (is_err result)
         (S.device source.old) (S.device source.new) }
@@ -160,7 +161,7 @@ fn count_sizes<S: Source>(source: &mut S, size: u32) -> Result<Option<u32>, Sour
     Ok(None)
 }
 
-// The word of a number behind the header, if the file has it.
+// Reads a word after the header, by its number, if the file has it.
 #[tactic(auto, unfolding(crate::specs::Tables::word_at, uimg_texts::specs::Numbers::be32))]
 fn size_at<S: Source>(source: &mut S, number: u32) -> Result<Option<u32>, SourceFault>
     ensures uses { Asks 4 (is_err result) (S.device source.old) (S.device source.new) }
@@ -177,8 +178,8 @@ fn size_at<S: Source>(source: &mut S, number: u32) -> Result<Option<u32>, Source
     Ok(Some(number_at(&word, 0)))
 }
 
-// Adds the parts of a table of so many sizes, up to the first that ends behind the data, which have so
-// many bytes.
+// Adds the `count` parts of a table of `size` bytes of data, up to the first that ends after the
+// data.
 fn add_parts<S: Source>(
     source: &mut S,
     count: u32,
@@ -206,8 +207,8 @@ fn add_parts<S: Source>(
     Ok(())
 }
 
-// Adds a part of data that end at a place, and the bytes up to the next part, if it is not the last. Tells
-// whether it ends behind the data, which is a fault.
+// Adds a part of data that end at `end`, and the padding after it, unless it is the last. Returns
+// whether it ends after the data, which is a fault.
 fn add_part(
     number: u32,
     at: u64,
@@ -231,7 +232,7 @@ fn add_part(
     Ok(false)
 }
 
-// Adds the bytes from the end of a part up to the next part, if it is not the last.
+// Adds the bytes from the end of a part up to the next part, unless it is the last.
 fn add_padding(stop: u64, is_last: bool, contents: &mut Contents) -> Result<(), MapFault>
     requires { stop < 2 ^ 37 }
     ensures { Adds (λ _. padding_told stop is_last) result contents.old contents.new }

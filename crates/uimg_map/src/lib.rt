@@ -1,5 +1,5 @@
-//! The map of an image's file: what stands where in it, and which bytes are of nothing. `map_of` gives it,
-//! `put_lines` and `put_picture` write it.
+//! The map of an image's file: what is where in it, and which bytes are in nothing. `map_of`
+//! returns it, `put_lines` and `put_picture` write it.
 #![tactic(auto)]
 
 mod arranging;

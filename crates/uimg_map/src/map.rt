@@ -21,26 +21,26 @@ use uimg_blob::BLOB_MAGIC;
 /// The map of an image's file.
 #[derive(Drop)]
 pub struct Map {
-    /// How many bytes the file has.
+    /// The length of the file in bytes.
     pub size: u64,
 
     /// Its rows. The number of a thing is that of its label.
     pub rows: Vec<Row>,
 
-    /// What the things are.
+    /// What each thing is.
     pub labels: Vec<Label>,
 
-    /// Why the image is refused, if it is: the first of its faults.
+    /// The first fault of the image, if it has one.
     pub fault: Option<MapFault>,
 }
 
-/// How a thing stands to the earlier ones.
+/// Whether a thing shares bytes with earlier ones.
 #[derive(Clone, Copy, Debug, PartialEq, Eq)]
 pub(crate) enum Standing {
     /// It shares no bytes with them.
     Alone,
 
-    /// It is the value of a property, in the structure block, as it should.
+    /// It is the value of a property in the structure block, as it should be.
     Nested,
 
     /// It shares bytes with this one.
@@ -48,12 +48,12 @@ pub(crate) enum Standing {
 }
 
 impl Map {
-    /// What a thing is, if it is of this map.
+    /// Returns what a thing is, if it is one of this map.
     pub(crate) fn label_of(&self, thing: Thing) -> Option<Label> {
         self.labels.get(thing.number).copied()
     }
 
-    /// How a thing stands to the earlier ones, by the one that it shares bytes with, if there is one.
+    /// Returns whether a thing shares bytes with an earlier one, `over`.
     pub(crate) fn standing_of(&self, thing: Thing, over: Option<Thing>) -> Standing {
         match (
             self.label_of(thing),
@@ -66,15 +66,16 @@ impl Map {
     }
 }
 
-/// The map of an image's file: a FIT image where it begins as a devicetree blob, and else a legacy one.
-/// A refused image has one too, with what its header tells and the place of its fault, where that has one;
-/// that a payload or a part ends behind the file is a fault too. Neither payloads nor data are read.
+/// Returns the map of an image's file: of a FIT image if it begins as a devicetree blob, else of a
+/// legacy image. A refused image has a map too, with what its header says and the offset of its
+/// fault, if that has one; a payload or a part that ends after the file is a fault too. Reads
+/// neither payloads nor the data of parts.
 ///
-/// There is none where a read failed, or memory for the nodes of a FIT image, for what stands in the file
-/// or for the rows was refused: some 500 bytes for an image, 300 for a part. Of a FIT image the bytes that
-/// are asked for are at most those of the header's numbers and of the reservation block, which ends in the
-/// file, those of the index and 12 for an image; of a legacy one those of the header, 8 for each size in
-/// its table and 4 for the word behind them; of both the four that tell the format.
+/// Returns a fault only if a read failed, or memory was refused for the nodes of a FIT image or for
+/// the map: some 500 bytes for an image, 300 for a part. Of a FIT image at most the header's
+/// numbers, the reservation block, which ends in the file, the index and 12 bytes for each image
+/// are requested; of a legacy image the header, 8 bytes for each size in its table and 4 for the
+/// word after them; of both the four bytes that show the format.
 pub fn map_of<S: Source>(alloc: Global, source: &mut S) -> Result<Map, MapFault>
     ensures uses { UsesAtMost (map_work (S.device source.old).bytes) (is_read result)
         (S.device source.old) (S.device source.new) }
@@ -102,7 +103,7 @@ pub fn map_of<S: Source>(alloc: Global, source: &mut S) -> Result<Map, MapFault>
     })
 }
 
-// Adds what stands in the file of an image.
+// Adds what is in the file of an image.
 fn add_contents<S: Source>(
     alloc: Global,
     source: &mut S,
@@ -120,7 +121,7 @@ fn add_contents<S: Source>(
     Ok(())
 }
 
-// Whether a file begins as a blob does.
+// Returns whether a file begins with the magic number of a blob.
 #[tactic(auto, unfolding(crate::specs::Maps::begins_as_blob, uimg_texts::specs::Numbers::be32))]
 fn begins_as_blob<S: Source>(source: &mut S) -> Result<bool, SourceFault>
     ensures uses { Asks 4 (is_err result) (S.device source.old) (S.device source.new) }

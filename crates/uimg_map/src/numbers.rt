@@ -1,4 +1,4 @@
-//! The ten numbers that a devicetree blob begins with.
+//! The ten numbers at the beginning of a devicetree blob.
 
 ghost use Rattle.std.specs.Prelude.{◌≡◌, is_err, IfOk, IsTrue};
 ghost use Rattle.uimg_base.specs.Using.{Asks};
@@ -6,47 +6,47 @@ ghost use Rattle.uimg_map.specs.Numbers.{numbers_of, numbers_in};
 
 use uimg_base::{Source, SourceFault, number_at};
 
-// The number that each blob begins with.
+// The magic number of a blob.
 const MAGIC: u32 = 0xd00d_feed;
 
-/// How many bytes the header of a blob has.
+/// The length of a blob's header, in bytes.
 pub const BLOB_HEADER_LEN: usize = 40;
 
 /// The numbers of a blob's header (Devicetree Specification, section 5.2).
 #[derive(Clone, Copy, Debug, PartialEq, Eq)]
 pub struct BlobNumbers {
-    /// The number that each blob begins with.
+    /// The magic number.
     pub magic: u32,
 
-    /// How many bytes the blob has.
+    /// The length of the blob, in bytes.
     pub totalsize: u32,
 
-    /// Where the structure block begins.
+    /// The offset of the structure block.
     pub structure: u32,
 
-    /// Where the strings block begins.
+    /// The offset of the strings block.
     pub strings: u32,
 
-    /// Where the memory reservation block begins.
+    /// The offset of the memory reservation block.
     pub reservations: u32,
 
     /// The version of the format.
     pub version: u32,
 
-    /// The lowest version that readers have to know.
+    /// The lowest version that it is compatible with.
     pub compatible: u32,
 
     /// The processor that boots.
     pub processor: u32,
 
-    /// How many bytes the strings block has.
+    /// The length of the strings block, in bytes.
     pub strings_size: u32,
 
-    /// How many bytes the structure block has.
+    /// The length of the structure block, in bytes.
     pub structure_size: u32,
 }
 
-// The numbers at their places.
+// Reads the numbers at their offsets.
 fn numbers_of(bytes: &[u8; BLOB_HEADER_LEN]) -> BlobNumbers
     ensures { result ≡ numbers_of bytes.now }
 {
@@ -64,9 +64,8 @@ fn numbers_of(bytes: &[u8; BLOB_HEADER_LEN]) -> BlobNumbers
     }
 }
 
-/// The numbers of the header that a source begins with. There are none where it has fewer than 40 bytes
-/// or does not begin with `0xd00dfeed`; nothing else of them is looked at. At most 40 bytes are
-/// requested.
+/// Reads the numbers of a blob's header. Returns none if the source has fewer than 40 bytes or does
+/// not begin with `0xd00dfeed`; nothing else is checked. Requests at most 40 bytes.
 #[tactic(auto, unfolding(crate::specs::Numbers::numbers_in))]
 pub fn read_numbers<S: Source>(source: &mut S) -> Result<Option<BlobNumbers>, SourceFault>
     ensures uses { Asks 40 (is_err result) (S.device source.old) (S.device source.new) }

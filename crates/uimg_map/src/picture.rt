@@ -10,15 +10,15 @@ use std::io;
 use std::io::Write;
 use uimg_base::Source;
 
-// How wide a bar is that fills all, how much room there is around it, and how high a row is.
+// The width of a full bar, the margin around all, and the height of a row.
 const WIDTH: u32 = 1000;
 
 const MARGIN: u64 = 10;
 
 const ROW: u64 = 40;
 
-/// Writes the rows of a map as a picture (SVG 1.1), a text and a bar below it for each. What was written
-/// before a failure stays.
+/// Writes the rows of a map as a picture (SVG 1.1): for each a text, and a bar below it. What was
+/// written before a failure stays.
 pub fn put_picture<S: Source, W: Write>(
     alloc: Global,
     source: &mut S,
@@ -47,7 +47,7 @@ fn put_head<W: Write>(rows: u64, out: &mut W) -> io::Result<()> {
     writeln!(out, "font-family=\"monospace\" font-size=\"14\">")
 }
 
-// Writes what a row is, and where it stands.
+// Writes where a row is, and what it is.
 fn put_text<W: Write>(top: u64, row: &Row, text: &str, out: &mut W) -> io::Result<()> {
     let (place, end) = (row.place(), row.end());
     let size = end.saturating_sub(place);
@@ -75,7 +75,8 @@ fn put_rectangle<W: Write>(top: u64, map: &Map, row: &Row, out: &mut W) -> io::R
     writeln!(out, "fill=\"{colour}\"/>")
 }
 
-// The colour of a row: of a thing, of one that shares bytes with another, and of bytes of no thing.
+// Returns the colour of a row: of a thing, of a thing that shares bytes with another, or of bytes
+// in no thing.
 fn colour_of(map: &Map, row: &Row) -> &'static str {
     match *row {
         Row::Taken(thing, over) => match map.standing_of(thing, over) {
@@ -86,7 +87,7 @@ fn colour_of(map: &Map, row: &Row) -> &'static str {
     }
 }
 
-// Writes a text as XML has it (Extensible Markup Language 1.0, sections 2.2 and 2.4).
+// Writes a text, escaped for XML (Extensible Markup Language 1.0, sections 2.2 and 2.4).
 fn put_escaped<W: Write>(text: &str, out: &mut W) -> io::Result<()> {
     for letter in text.chars() {
         match letter {

@@ -1,4 +1,4 @@
-//! Where the memory reservation block of a devicetree blob ends.
+//! Finds the end of the memory reservation block of a devicetree blob.
 
 ghost use Rattle.std.specs.Prelude.{◌≡◌, ◌+◌, ◌≤◌, length, is_err, IfOk, IfSome, IsTrue};
 ghost use Rattle.uimg_base.specs.Using.{Asks};
@@ -7,10 +7,10 @@ ghost use Rattle.uimg_texts.specs.Slices.{slice};
 
 use uimg_base::{Source, SourceFault};
 
-// How many bytes an entry has: the place of the memory that is reserved, and its size.
+// The length of an entry: the address of reserved memory, and its size.
 const ENTRY_LEN: usize = 16;
 
-// Whether the entry at a place is the last, of zeros only.
+// Returns whether the entry at an offset is the last, of zeros only.
 fn is_last<S: Source>(source: &mut S, at: u64) -> Result<bool, SourceFault>
     requires { at + 16 ≤ length (S.device source.old).bytes }
     ensures uses { Asks 16 (is_err result) (S.device source.old) (S.device source.new) }
@@ -22,9 +22,10 @@ fn is_last<S: Source>(source: &mut S, at: u64) -> Result<bool, SourceFault>
     Ok(entry == [0; ENTRY_LEN])
 }
 
-/// Where the memory reservation block of a blob ends that begins at a place (Devicetree Specification,
-/// section 5.3): behind the first entry of zeros only. There is no end where the source ends before such
-/// an entry does. An entry is read at a time, and no more is asked for than the source has.
+/// Returns where the memory reservation block of a blob ends that begins at an offset (Devicetree
+/// Specification, section 5.3): after the first entry of zeros only. Returns none if the source
+/// ends before such an entry does. Reads one entry at a time, and requests no more bytes than the
+/// source has.
 pub fn end_of_reservations<S: Source>(
     source: &mut S,
     place: u32,

@@ -8,19 +8,19 @@ use crate::thing::Thing;
 /// A row of the map of a file.
 #[derive(Clone, Copy, Debug, PartialEq, Eq)]
 pub enum Row {
-    /// A thing. Where it has bytes that a thing of an earlier row has too, that thing: of those of the
-    /// earlier rows the one that ends last.
+    /// A thing. If an earlier thing shares bytes with it, that thing, the one that ends last of all
+    /// earlier ones.
     Taken(Thing, Option<Thing>),
 
-    /// Bytes of the file that no thing has, from a place up to an end, with a thing behind them.
+    /// Bytes of the file in no thing, from an offset up to an end, before a thing.
     Gap(u64, u64),
 
-    /// Bytes of the file that no thing has, from a place up to the file's end, behind all things.
+    /// Bytes of the file in no thing, from an offset up to the file's end, after all things.
     Rest(u64, u64),
 }
 
 impl Row {
-    /// The offset of its first byte from the file's start.
+    /// Returns the offset of its first byte.
     pub fn place(&self) -> u64
         ensures { result ≡ place_of self.now }
     {
@@ -30,7 +30,7 @@ impl Row {
         }
     }
 
-    /// The offset behind its last byte.
+    /// Returns the offset after its last byte.
     pub fn end(&self) -> u64
         ensures { result ≡ end_of self.now }
     {

@@ -11,7 +11,7 @@ pub enum MapStop {
     /// A name could not be read, or memory for a row's text was refused.
     Stopped(MapFault),
 
-    /// Nobody reads it any more.
+    /// The reader has closed the output.
     Closed,
 
     /// A write failed.

@@ -1,4 +1,4 @@
-//! What the rows of a map are, in words.
+//! The texts of rows.
 
 use crate::contents::Label;
 use crate::fault::MapFault;
@@ -9,12 +9,13 @@ use std::alloc::Global;
 use uimg_base::{Source, Span};
 use uimg_printing::PrintedWord;
 
-// The most bytes that a name of a node has.
+// The longest name of a node, in bytes.
 const NAME_LEN: usize = 255;
 
-/// What a row is. A thing has its name, which is read from the source, and what is odd of its place: the
-/// earlier thing that it overlaps, and that it ends behind the file. The payload of an image that is the
-/// value of a property stands in the structure block, as it should, and two spaces before it say so.
+/// Returns the text of a row. For a thing that is its name, which is read from the source, then the
+/// earlier thing that it overlaps, if any, and whether it ends after the file. The payload of an
+/// image that is the value of a property is in the structure block, as it should be; two spaces
+/// before it show that.
 pub(crate) fn text_of<S: Source>(
     alloc: Global,
     source: &mut S,
@@ -28,7 +29,7 @@ pub(crate) fn text_of<S: Source>(
     }
 }
 
-// What a thing is that shares bytes with an earlier one, if it does.
+// Returns the text of a thing, which may share bytes with an earlier one.
 fn thing_text<S: Source>(
     alloc: Global,
     source: &mut S,
@@ -53,7 +54,7 @@ fn thing_text<S: Source>(
     Ok(text)
 }
 
-// The name of what has a label.
+// Returns the name of a thing by its label.
 fn label_text<S: Source>(
     alloc: Global,
     source: &mut S,
@@ -69,7 +70,7 @@ fn label_text<S: Source>(
     Ok(text)
 }
 
-// The name of a payload, by the place of its image's name.
+// Returns the name of a payload by the span of its image's name.
 fn payload_text<S: Source>(alloc: Global, source: &mut S, name: Span) -> Result<String, MapFault> {
     let mut bytes = [0; NAME_LEN];
     let length = u64::min(name.length, NAME_LEN as u64) as usize;
@@ -81,7 +82,7 @@ fn payload_text<S: Source>(alloc: Global, source: &mut S, name: Span) -> Result<
     Ok(format!(in alloc; "payload of {}", PrintedWord(&bytes[..length]))?)
 }
 
-// The word for what has no name of its own.
+// Returns the word for a thing without a name of its own.
 fn word_of(label: Label) -> &'static str {
     match label {
         Label::Header => "header",

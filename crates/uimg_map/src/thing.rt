@@ -1,15 +1,15 @@
-//! Things that stand in a file.
+//! Things in a file.
 
-/// Something that stands in a file, or behind its end. Things come in the order of their places, then
-/// of their ends, then of their numbers.
+/// Something in a file, or after its end. Things are ordered by their offsets, then by their ends,
+/// then by their numbers.
 #[derive(Clone, Copy, Debug, PartialEq, Eq, PartialOrd, Ord)]
 pub struct Thing {
-    /// The offset of its first byte from the file's start.
+    /// The offset of its first byte.
     pub place: u64,
 
-    /// The offset behind its last byte.
+    /// The offset after its last byte.
     pub end: u64,
 
-    /// What it is known by.
+    /// Its number, for whoever looks it up.
     pub number: usize,
 }

@@ -1,4 +1,4 @@
-//! A blob's index as lines, for the comparison with other tools.
+//! The blob of a source, and the number of a blob's nodes, for the comparison with other tools.
 
 use std::io::ErrorKind;
 use std::rt::Files;
@@ -25,7 +25,7 @@ pub(crate) fn compile_source<R: Files + Print + AllocGlobal>(rt: &R, path: &str)
     }
 }
 
-// The folder of a path, up to its last slash.
+// Returns the folder of a path, up to its last slash.
 fn folder_of(path: &str) -> &str {
     match path.rfind('/') {
         Some(0) => "/",
@@ -34,7 +34,7 @@ fn folder_of(path: &str) -> &str {
     }
 }
 
-// Prints how many nodes a blob has.
+// Prints the number of a blob's nodes.
 pub(crate) fn count_nodes<R: Print + Alloc, S: Source>(rt: &R, source: &mut S) -> io::Result<()> {
     let mut room = Room::new(rt.alloc());
     match index(source, &mut room) {

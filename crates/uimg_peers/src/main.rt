@@ -1,8 +1,8 @@
-//! Two commands that only the comparison with other tools calls.
+//! Two commands for the comparison with other tools.
 
-// What the comparison with other tools calls of the libraries, each as a command: `uimg_peers compile
-// SOURCE` writes the blob of an image-tree source, and `uimg_peers index BLOB` prints how many nodes a
-// blob has.
+// Calls of the libraries for the comparison with other tools, each as a command: `uimg_peers
+// compile SOURCE` writes the blob of an image-tree source, and `uimg_peers index BLOB` prints the
+// number of a blob's nodes.
 #![tactic(auto)]
 
 mod blobs;

@@ -1,5 +1,5 @@
-//! What no command line shows of the program: devices and memory that fail, counts of bytes asked for
-//! and held, clocks, and calls of the library. The command lines are in `cases/`.
+//! Tests of what no command line shows: devices and memory that fail, counts of requested and held
+//! bytes, clocks, and calls of the library. The command lines are in `cases/`.
 #![tactic(auto)]
 
 #[cfg(test)]

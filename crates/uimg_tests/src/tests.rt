@@ -1,4 +1,4 @@
-//! The tables of cases, by what they are about.
+//! The tables of cases, by subject.
 
 mod folders;
 mod growths;

@@ -1,4 +1,4 @@
-//! The making of a FIT image of the source that mkimage makes itself.
+//! Makes a FIT image from the source that mkimage makes itself.
 
 use crate::main_program::{FAILED, RequestFault};
 use crate::old_program::{make_image, tell, tell_unread};
@@ -12,7 +12,8 @@ use uimg_compat::{AutoRequest, AutoSource, OldFault};
 use uimg_names::Naming;
 use uimg_requests::MakeRequest;
 
-/// Makes the image of a request. The text of its source stands beside the image while that is made.
+/// Makes the requested image. The text of its source is written beside the image, and removed at
+/// the end.
 pub(crate) fn make_auto<R: Files + AllocGlobal, W: Write, V: Write>(
     rt: &R,
     tool: Tool,
@@ -34,7 +35,7 @@ pub(crate) fn make_auto<R: Files + AllocGlobal, W: Write, V: Write>(
     }
 }
 
-// Makes the image of a source whose text is written at a path.
+// Makes the image of a source whose text is written to a path.
 fn make_of_text<R: Files + AllocGlobal, W: Write, V: Write>(
     rt: &R,
     tool: Tool,
@@ -67,8 +68,8 @@ fn make_of_text<R: Files + AllocGlobal, W: Write, V: Write>(
     }
 }
 
-// The first path that a source names whose file cannot be opened: the data, a device tree or the RAM
-// disk.
+// Returns the first path of a source whose file cannot be opened: the data, a device tree or the
+// RAM disk.
 fn unread_file<'a, R: Files + AllocGlobal>(rt: &R, source: &AutoSource<'a>) -> Option<&'a str> {
     if FileSource::open(rt, source.data).is_err() {
         return Some(source.data);
@@ -85,7 +86,7 @@ fn unread_file<'a, R: Files + AllocGlobal>(rt: &R, source: &AutoSource<'a>) -> O
     }
 }
 
-// Writes the text of a source as the file at a path. Whether it is whole.
+// Writes the text of a source to a new file at a path. Returns whether it is complete.
 fn has_written<R: Files + AllocGlobal>(rt: &R, path: &str, source: &AutoSource<'_>) -> bool {
     let Ok(mut file) = fs::File::create_new(rt, path) else {
         return false;
@@ -94,7 +95,7 @@ fn has_written<R: Files + AllocGlobal>(rt: &R, path: &str, source: &AutoSource<'
         return false;
     };
     let is_whole = write!(gathered, "{source}").is_ok() && gathered.flush().is_ok();
-    // A failed write leaves text in it, and its drop would try once more to write that.
+    // A failed write leaves text in the buffer, which its drop would try to write again.
     let (_, _) = gathered.into_parts();
     is_whole
 }

@@ -1,4 +1,4 @@
-//! A source behind the room for a header.
+//! A source after the room for a header.
 
 ghost use Rattle.std.specs.Prelude.{◌+◌, ◌^◌, ◌<◌, ◌≤◌, false, length, IfOk, IfSome};
 ghost use Rattle.std.proofs.Common.{rules};
@@ -7,13 +7,13 @@ ghost use Rattle.uimg_base.specs.Zeros.{zeros, zeros_short};
 
 use uimg_base::{Source, SourceFault};
 
-/// How many bytes a header has.
+/// The length of a header, in bytes.
 const HEADER_BYTES: usize = 64;
 
 /// A source without its first 64 bytes.
 ///
-/// It keeps the length that was found when it was made, and is not claimed to be honest: contracts see
-/// zeros in place of its bytes.
+/// Its length is that found when it was created. It is not claimed to be honest: contracts see
+/// zeros instead of its bytes.
 #[derive(Drop)]
 pub(crate) struct BodySource<S: Source> {
     source: S,
@@ -25,10 +25,8 @@ pub(crate) struct BodySource<S: Source> {
 }
 
 impl<S: Source> BodySource<S> {
-    /// A source without its first 64 bytes, of which nothing was asked yet; `None` where these are not
-    /// there, or not all 0xff.
-    ///
-    /// `SourceFault` comes where a read failed.
+    /// Returns a source without its first 64 bytes, or `None` if it is shorter or they are not all
+    /// 0xff. Returns `SourceFault` if a read failed.
     pub(crate) fn of(mut source: S) -> Result<Option<BodySource<S>>, SourceFault>
         ensures { IfOk result (λ found. IfSome found (λ body.
             IsFresh (⟦<BodySource<S> as Source>⟧.device body))) }

@@ -1,4 +1,4 @@
-//! What is told of an image, by the end of its check.
+//! Turns the end of a check into its result.
 
 ghost use Rattle.std.specs.Prelude.{◌≤◌, IfSome};
 
@@ -10,10 +10,10 @@ use uimg_engine::Fault;
 use uimg_fit_base::Verdict;
 use uimg_fit_checking::Finding;
 
-/// The most bytes that a name of a node has.
+/// The longest name of a node, in bytes.
 const NAME_LEN: usize = 255;
 
-/// The file cannot be opened.
+/// The file could not be opened.
 pub(crate) const UNREAD: Answer<'static> = Answer::Failed(Stop {
     message: "cannot read",
     code: None,
@@ -29,7 +29,7 @@ pub(crate) const CHANGED: Answer<'static> = Answer::Failed(Stop {
     offset: None,
 });
 
-/// Memory for what is told was refused.
+/// Memory for the result was refused.
 const NO_MEMORY: Answer<'static> = Answer::Failed(Stop {
     message: "out of memory",
     code: None,
@@ -37,7 +37,7 @@ const NO_MEMORY: Answer<'static> = Answer::Failed(Stop {
     offset: None,
 });
 
-/// The bytes of the names that an answer has, and the line of a fault.
+/// The names in a result, and the line of a fault.
 #[derive(Drop)]
 pub(crate) struct Names {
     alloc: Global,
@@ -48,7 +48,7 @@ pub(crate) struct Names {
 }
 
 impl Names {
-    /// Room for the names of an answer.
+    /// Returns room for the names of a result.
     pub(crate) fn new(alloc: Global) -> Names {
         Names {
             alloc,
@@ -60,8 +60,8 @@ impl Names {
     }
 }
 
-/// What is told by the end of a check, and by how many nodes of configurations were counted. The names are
-/// read from the source, and a failed read is told in their place.
+/// Returns the result of a check, with the number of nodes of configurations, if they were counted.
+/// The names are read from the source; if a read fails, that is the result.
 pub(crate) fn answer_of<'a, S: Source>(
     end: Result<Checked, Fault>,
     unchecked: Option<u64>,
@@ -77,7 +77,7 @@ pub(crate) fn answer_of<'a, S: Source>(
     }
 }
 
-/// What is told of a name that is not there.
+/// Returns the result for a missing name.
 pub(crate) fn answer_of_missing<'a, S: Source>(
     missing: Missing,
     source: &mut S,
@@ -106,7 +106,7 @@ pub(crate) fn answer_of_missing<'a, S: Source>(
     }
 }
 
-/// What is told of a fault.
+/// Returns the result for a fault.
 pub(crate) fn answer_of_fault<'a>(fault: Fault, names: &'a mut Names) -> Answer<'a> {
     let Ok(message) = format!(in names.alloc; "{fault}") else {
         return NO_MEMORY;
@@ -126,7 +126,7 @@ pub(crate) fn answer_of_fault<'a>(fault: Fault, names: &'a mut Names) -> Answer<
     }
 }
 
-// The letter and number that the line of a fault begins with, if it does.
+// Returns the letter and number at the beginning of a fault's line, if it has them.
 fn code_of(fault: Fault, message: &str) -> Option<&str> {
     match fault {
         Fault::Legacy(_) | Fault::Blob(_, _) | Fault::Fit(_) | Fault::Its(_) => {
@@ -136,7 +136,7 @@ fn code_of(fault: Fault, message: &str) -> Option<&str> {
     }
 }
 
-// The format of the image, where a fault tells it.
+// Returns the format of the image, if the fault shows it.
 fn format_of(fault: Fault) -> Option<Format> {
     match fault {
         Fault::Blob(_, _) | Fault::Fit(_) => Some(Format::Fit),
@@ -145,7 +145,7 @@ fn format_of(fault: Fault) -> Option<Format> {
     }
 }
 
-// The place of a fault, where it has one.
+// Returns the offset of a fault, if it has one.
 fn offset_of(fault: Fault) -> Option<u64> {
     match fault {
         Fault::Blob(_, offset) => Some(offset),
@@ -173,7 +173,7 @@ fn answer_of_fit<'a, S: Source>(
     }
 }
 
-// What is told of an image.
+// Returns the result for an image.
 fn about_image<'a, S: Source>(
     finding: Finding,
     source: &mut S,
@@ -191,7 +191,7 @@ fn about_image<'a, S: Source>(
     }
 }
 
-// What is told of a hash node that is not right.
+// Returns the result for a hash node that is not right.
 fn about_hash<'a, S: Source>(
     word: Verdict,
     source: &mut S,
@@ -212,7 +212,7 @@ fn about_hash<'a, S: Source>(
     }
 }
 
-// How many bytes of a name were read, if it could be.
+// Reads a name into `bytes`, and returns its length, or none if it cannot be read.
 fn read_name<S: Source>(source: &mut S, name: Span, bytes: &mut [u8; NAME_LEN]) -> Option<usize>
     ensures { IfSome result (λ length. length ≤ 255) }
 {

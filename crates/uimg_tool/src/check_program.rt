@@ -1,4 +1,4 @@
-//! The check of many images, with a line for each.
+//! Checks many images, with a line for each.
 
 use crate::check_answers::{CHANGED, Names, UNREAD, answer_of, answer_of_fault, answer_of_missing};
 use crate::main_program::{DONE, FAILED, RequestFault, tell};
@@ -13,13 +13,14 @@ use uimg_engine::Fault;
 use uimg_fit_checking::{ConfigurationFacts, Finding, SurveyFault, survey};
 use uimg_words::CheckRequest;
 
-/// Where standard input is read as a file.
+/// The path of standard input as a file.
 const STANDARD_INPUT: &str = "/dev/stdin";
 
-/// Checks the images of a request, those of the command line first, with a line for each on `out`, and
-/// goes on after one that is not right. It answers the greatest status of all. A file of names that
-/// cannot be read, a line that cannot be written and want of memory end it, with a line on `err`; where
-/// nobody reads the lines any more it ends without one, and as failed, since not all was checked.
+/// Checks the requested images, those of the command line first, with a line for each on `out`, and
+/// continues after one that is not right. Returns the greatest status of all. A file of names that
+/// cannot be read, a line that cannot be written, and refused memory end it, with a line on `err`.
+/// If the reader closes the output, it ends without a line, as failed, because not all images were
+/// checked.
 pub(crate) fn check_images<R: Files + AllocGlobal, W: Write, V: Write>(
     rt: &R,
     request: &CheckRequest<'_>,
@@ -40,7 +41,7 @@ pub(crate) fn check_images<R: Files + AllocGlobal, W: Write, V: Write>(
         out,
         greatest,
     } = checks;
-    // A failed write leaves text in it, and its drop would try once more to write that.
+    // A failed write leaves text in the buffer, which its drop would try to write again.
     let (_, _) = out.into_parts();
     match ended {
         Ok(()) => greatest,
@@ -51,7 +52,7 @@ pub(crate) fn check_images<R: Files + AllocGlobal, W: Write, V: Write>(
     }
 }
 
-// Why no more images are checked.
+// Why checking stopped.
 #[derive(Drop)]
 enum Stop<'a> {
     // The file of names cannot be read.
@@ -60,7 +61,7 @@ enum Stop<'a> {
     // Memory ran out.
     NoMemory,
 
-    // Nobody reads the lines any more.
+    // The reader has closed the output.
     Closed,
 
     // A line could not be written.
@@ -82,7 +83,7 @@ impl<'a> From<AllocError> for Stop<'a> {
     }
 }
 
-// The checks so far: the room that they share, their lines, and the greatest status.
+// The checks so far: their shared room, their lines, and the greatest status.
 struct Checks<'a, W: Write> {
     room: Room<Global>,
     out: BufWriter<&'a mut W>,
@@ -90,7 +91,7 @@ struct Checks<'a, W: Write> {
 }
 
 impl<'a, W: Write> Checks<'a, W> {
-    // Checks all images of a request.
+    // Checks all requested images.
     fn check_all<'b, R: Files + AllocGlobal>(
         &mut self,
         rt: &R,
@@ -105,7 +106,7 @@ impl<'a, W: Write> Checks<'a, W> {
         }
     }
 
-    // Checks the images whose paths a file has.
+    // Checks the images whose paths are in a file.
     fn check_named<'b, R: Files + AllocGlobal>(
         &mut self,
         rt: &R,
@@ -158,7 +159,7 @@ impl<'a, W: Write> Checks<'a, W> {
         self.put_answer(rt.alloc(), request.as_json, path, &answer)
     }
 
-    // Writes the line of an answer.
+    // Writes the line of a result.
     fn put_answer<'b>(
         &mut self,
         alloc: Global,
@@ -176,7 +177,7 @@ impl<'a, W: Write> Checks<'a, W> {
         Ok(())
     }
 
-    // Writes a line, which is read at once.
+    // Writes a line, and flushes it.
     fn put_line(&mut self, text: &[u8]) -> io::Result<()> {
         self.out.write_all(text)?;
         self.out.write_all(b"\n")?;
@@ -214,7 +215,7 @@ impl<'a, W: Write> Checks<'a, W> {
     }
 }
 
-// Why the reading of the paths stopped.
+// Returns why reading the paths stopped.
 fn stop_of_names<'b>(error: &io::Error, path: &'b str) -> Stop<'b> {
     match error.kind() {
         ErrorKind::OutOfMemory => Stop::NoMemory,
@@ -222,7 +223,7 @@ fn stop_of_names<'b>(error: &io::Error, path: &'b str) -> Stop<'b> {
     }
 }
 
-// The first name that a FIT image gives and does not have, and how many nodes its configurations have.
+// Returns the first missing name in a FIT image, and the number of nodes of its configurations.
 fn look_further<S: Source>(
     alloc: Global,
     source: &mut S,
@@ -233,7 +234,7 @@ fn look_further<S: Source>(
     Ok((missing, count_nodes(facts.configurations.as_slice())))
 }
 
-// How many nodes there are below some configurations.
+// Counts the child nodes of configurations.
 fn count_nodes(configurations: &[ConfigurationFacts]) -> usize {
     let mut count: usize = 0;
     for configuration in configurations {
@@ -242,7 +243,7 @@ fn count_nodes(configurations: &[ConfigurationFacts]) -> usize {
     count
 }
 
-/// Whether a path leads to a pipe, whose open would wait for somebody who writes to it.
+/// Returns whether a path leads to a pipe; to open one would wait for a writer.
 pub(crate) fn is_pipe<R: Files>(rt: &R, path: &str) -> bool {
     fs::metadata(rt, path).is_ok_and(|found| found.file_type().is_fifo())
 }

@@ -1,4 +1,4 @@
-//! The facts of an image, as a line of JSON.
+//! Prints the facts of an image, as a line of JSON.
 
 use crate::check_answers::{CHANGED, Names, UNREAD, answer_of_fault};
 use crate::check_program::is_pipe;
@@ -14,8 +14,8 @@ use uimg_info::{fit_text, legacy_text};
 use uimg_legacy::{PartsFault, locate_parts, read_header};
 use uimg_words::InfoRequest;
 
-/// Writes the facts of the image of a request as a line on `out`, or why there are none. It answers the
-/// status; want of memory and a line that cannot be written are told by a line on `err`.
+/// Writes the facts of the requested image as a line on `out`, or why there are none. Returns the
+/// status. Refused memory and a line that cannot be written are reported by a line on `err`.
 pub(crate) fn tell_facts<R: Files + AllocGlobal, W: Write, V: Write>(
     rt: &R,
     request: &InfoRequest<'_>,
@@ -28,7 +28,7 @@ pub(crate) fn tell_facts<R: Files + AllocGlobal, W: Write, V: Write>(
     }
 }
 
-// Writes a line. It answers the status, or that of a failure.
+// Writes a line. Returns the status, or that of a failure.
 fn put_line<W: Write, V: Write>(line: &[u8], status: u8, out: &mut W, err: &mut V) -> u8 {
     match out.write_all(line) {
         Ok(()) => status,
@@ -37,9 +37,9 @@ fn put_line<W: Write, V: Write>(line: &[u8], status: u8, out: &mut W, err: &mut 
     }
 }
 
-// Why there are no facts of an image.
+// Why an image has no facts.
 enum Stop {
-    // The file cannot be opened.
+    // The file could not be opened.
     Unread,
 
     // The image is refused, or a read failed.
@@ -83,7 +83,7 @@ impl From<PartsFault> for Stop {
     }
 }
 
-// The line of an image and its status.
+// Returns the line of an image, and its status.
 fn line_of<R: Files + AllocGlobal>(rt: &R, path: &str) -> Result<(Vec<u8>, u8), AllocError> {
     let mut names = Names::new(rt.alloc());
     let answer = match facts_of(rt, path) {
@@ -101,7 +101,7 @@ fn line_of<R: Files + AllocGlobal>(rt: &R, path: &str) -> Result<(Vec<u8>, u8), 
     Ok((text, answer.status()))
 }
 
-// The object of the facts of the image at a path.
+// Returns the object of the facts of the image at a path.
 fn facts_of<R: Files + AllocGlobal>(rt: &R, path: &str) -> Result<Vec<u8>, Stop> {
     if is_pipe(rt, path) {
         return Err(Stop::Unread);
@@ -117,7 +117,7 @@ fn facts_of<R: Files + AllocGlobal>(rt: &R, path: &str) -> Result<Vec<u8>, Stop>
     }
 }
 
-// The object of the facts of a legacy image.
+// Returns the object of the facts of a legacy image.
 fn legacy_facts<S: Source>(
     alloc: Global,
     path: &str,

@@ -1,5 +1,5 @@
-//! The function `program`, the whole program: it opens the files that a command line names, has its
-//! request carried out, and turns the end into a line and an exit status.
+//! The function `program`, the whole program: opens the files that a command line names, carries
+//! out its request, and turns the end into a line and an exit status.
 use crate::check_program::check_images;
 use crate::info_program::tell_facts;
 use crate::making::make_image;
@@ -60,14 +60,14 @@ impl<'a> From<Fault> for RequestFault<'a> {
     }
 }
 
-/// The program: it carries out the words of a command line, the program's name first, and answers
-/// the exit status. A program whose name, behind its last slash, is `mkimage`, `dumpimage`,
-/// `uimg-mkimage` or `uimg-dumpimage` takes the words of U-Boot 2023.01's tool of that name.
+/// Carries out the words of a command line, the program's name first, and returns the exit status.
+/// A program whose name, after its last slash, is `mkimage`, `dumpimage`, `uimg-mkimage` or
+/// `uimg-dumpimage` takes the words of U-Boot 2023.01's tool of that name.
 ///
-/// `epoch` is the text of SOURCE_DATE_EPOCH where it is set, and `now` the clock's moment in seconds
-/// since 1970: the time of an image that is made. Listings, reports and help go to `out`. They are
-/// gathered and written in large pieces, and all is written before a fault is told. A fault is one
-/// line on `err`, and a failed write to `err` changes nothing.
+/// `epoch` is the text of SOURCE_DATE_EPOCH if it is set, and `now` the current time in seconds
+/// since 1970; they give the time of a new image. Listings, reports and help go to `out`, buffered,
+/// and are written before a fault is reported. A fault is one line on `err`; failed writes to `err`
+/// are ignored.
 pub fn program<R: Files + AllocGlobal, W: Write, V: Write>(
     rt: &R,
     words: &[&str],
@@ -85,7 +85,7 @@ pub fn program<R: Files + AllocGlobal, W: Write, V: Write>(
     }
 }
 
-// Carries out what the words of a command line ask for.
+// Carries out a request.
 fn carry_out_asked<R: Files + AllocGlobal, W: Write, V: Write>(
     rt: &R,
     asked: &Asked<'_>,
@@ -120,13 +120,13 @@ fn tell_end<V: Write>(end: &Result<Status, RequestFault<'_>>, err: &mut V) -> u8
     }
 }
 
-/// The line of a fault. It answers the status; a failed write changes nothing.
+/// Writes the line of a fault, and returns the status. Failed writes are ignored.
 pub(crate) fn tell<V: Write, D: Display>(err: &mut V, fault: &D, status: u8) -> u8 {
     let _ = writeln!(err, "uimg: {fault}");
     status
 }
 
-/// The exit status of a request that was not carried out.
+/// Returns the exit status of a request that was not carried out.
 pub(crate) fn status_of(fault: &RequestFault<'_>) -> u8 {
     match fault {
         RequestFault::WritesWhatIsRead(_) => WRONG_LINE,
@@ -153,8 +153,9 @@ fn status_of_source(kind: Kind) -> u8 {
     }
 }
 
-/// Carries out a request. What it prints is gathered, and the rest of it written at the end. A failure
-/// there comes before any other end, since the text stands before what ended the request.
+/// Carries out a request, and writes what it prints through a buffer, which is flushed at the end.
+/// If the flush fails, `Put` is returned instead of the end, because the text comes before what
+/// ended the request.
 pub(crate) fn carry_out<'a, R: Files + AllocGlobal, W: Write>(
     rt: &'a R,
     request: &'a Request<'a>,
@@ -166,8 +167,8 @@ pub(crate) fn carry_out<'a, R: Files + AllocGlobal, W: Write>(
     }
 }
 
-/// Carries out a request, and tells apart how it ended and whether the rest of what it printed was
-/// written.
+/// Carries out a request. Returns how it ended, and whether the buffer with what it printed was
+/// flushed.
 pub(crate) fn carry_out_apart<'a, R: Files + AllocGlobal, W: Write>(
     rt: &'a R,
     request: &'a Request<'a>,
@@ -182,7 +183,7 @@ pub(crate) fn carry_out_apart<'a, R: Files + AllocGlobal, W: Write>(
         Request::Show(text) => show(text, &mut gathered),
     };
     let written = gathered.flush();
-    // A failed write leaves text in it, and its drop would try once more to write that.
+    // A failed write leaves text in the buffer, which its drop would try to write again.
     let (_, _) = gathered.into_parts();
     (end, written.is_ok())
 }
@@ -195,7 +196,7 @@ fn show<'a, W: Write, D: Display>(text: &D, out: &mut W) -> Result<Status, Reque
     }
 }
 
-// Runs a command on the image of a request.
+// Runs the requested command on its image.
 fn run_command<'a, R: Files + AllocGlobal, W: Write>(
     rt: &R,
     request: &RunRequest<'a>,

@@ -1,4 +1,4 @@
-//! The making of an image on a disk.
+//! Makes an image on a disk.
 
 use crate::main_program::RequestFault;
 use crate::xip_files::XipFiles;
@@ -8,7 +8,7 @@ use uimg_base::{FileShelf, Files, Out, Room, Status};
 use uimg_engine::{DiskFiles, Fault, make};
 use uimg_requests::{MakeCommand, MakeRequest};
 
-/// Makes the image of a request.
+/// Makes the requested image.
 pub(crate) fn make_image<'a, R: rt::Files + AllocGlobal, W: Write>(
     rt: &'a R,
     request: &'a MakeRequest<'a>,
@@ -22,7 +22,7 @@ pub(crate) fn make_image<'a, R: rt::Files + AllocGlobal, W: Write>(
     end_of(request, made, files.has_met_left_out())
 }
 
-// Makes an image whose header stands in place of what its file begins with.
+// Makes an image whose header replaces the beginning of its file.
 fn make_xip<'a, R: rt::Files + AllocGlobal, W: Write>(
     rt: &'a R,
     request: &'a MakeRequest<'a>,
@@ -61,7 +61,7 @@ fn make_over<R: rt::Files + AllocGlobal, F: Files, W: Write>(
     }
 }
 
-// How a making ended, with the path that the command line gave.
+// Returns how making an image ended, with the path from the command line.
 fn end_of<'a>(
     request: &'a MakeRequest<'a>,
     made: Result<(), Fault>,
@@ -74,7 +74,7 @@ fn end_of<'a>(
     }
 }
 
-// Why a making stopped, with the path that the command line gave.
+// Returns why making an image stopped, with the path from the command line.
 fn stopped_making<'a>(request: &'a MakeRequest<'_>, fault: Fault) -> RequestFault<'a> {
     match fault {
         Fault::NoFile(number) => RequestFault::CannotRead(file_path(request, number)),
@@ -83,7 +83,7 @@ fn stopped_making<'a>(request: &'a MakeRequest<'_>, fault: Fault) -> RequestFaul
     }
 }
 
-// The path of a file of a command line, as the line gave it.
+// Returns the path of a file as the command line has it.
 fn file_path<'a>(request: &'a MakeRequest<'_>, number: u64) -> &'a str {
     match &request.command {
         MakeCommand::Parts { options: _, files } => match files.get(number as usize) {

@@ -1,4 +1,4 @@
-//! The map of an image's file, as lines or as a picture.
+//! Prints the map of an image's file, as lines or as a picture.
 
 use crate::check_program::is_pipe;
 use crate::main_program::{DONE, FAILED, REFUSED, RequestFault, WRONG_LINE, tell};
@@ -11,9 +11,9 @@ use uimg_engine::{Fault, is_same_file};
 use uimg_map::{Map, MapFault, MapStop, map_of, put_lines, put_picture};
 use uimg_words::MapRequest;
 
-/// Writes the map of the image of a request: lines on `out`, or a picture as a file that gets its name
-/// when it is whole. It answers the status; a fault is told by a line on `err`, where the image is
-/// refused when its map is written.
+/// Writes the map of the requested image: lines on `out`, or a picture as a file that gets its name
+/// when it is complete. Returns the status. A fault is reported by a line on `err`; a refused image
+/// has a map too.
 pub(crate) fn map_image<R: Files + AllocGlobal, W: Write, V: Write>(
     rt: &R,
     request: &MapRequest<'_>,
@@ -46,7 +46,7 @@ enum Stop<'a> {
     // The picture cannot be written at this path.
     CannotWrite(&'a str),
 
-    // A read, a write or memory failed, or nobody reads the lines any more.
+    // A read, a write or memory failed, or the reader has closed the output.
     Stopped(MapStop),
 }
 
@@ -75,7 +75,7 @@ fn print<'a, R: Files + AllocGlobal, S: Source, W: Write>(
         Ok(()) => gathered.flush().map_err(MapStop::from),
         Err(stop) => Err(stop),
     };
-    // A failed write leaves text in it, and its drop would try once more to write that.
+    // A failed write leaves text in the buffer, which its drop would try to write again.
     let (_, _) = gathered.into_parts();
     match put {
         Ok(()) => Ok(()),
@@ -83,7 +83,7 @@ fn print<'a, R: Files + AllocGlobal, S: Source, W: Write>(
     }
 }
 
-// Writes a map as the picture at a path: beside it first, if a file can be there.
+// Writes a map as the picture at a path, first to a new file beside it, if that is possible.
 fn draw<'a, R: Files + AllocGlobal, S: Source>(
     rt: &R,
     path: &'a str,
@@ -101,8 +101,7 @@ fn draw<'a, R: Files + AllocGlobal, S: Source>(
     }
 }
 
-// Writes a picture at a new path, and gives it the path that it is to have. One that is not whole is
-// removed.
+// Writes a picture to a new file, and moves it to its path. Removes an incomplete picture.
 fn draw_beside<'a, R: Files + AllocGlobal, S: Source>(
     rt: &R,
     path: &'a str,

@@ -1,12 +1,12 @@
-//! The moment of an image: SOURCE_DATE_EPOCH, or else the clock.
+//! The time of an image: SOURCE_DATE_EPOCH, or else the clock.
 
 use std::alloc::Alloc;
 use std::env::{Env, VarError};
 use std::time::{Clock, SystemTime};
 use std::{env, io};
 
-/// The text of SOURCE_DATE_EPOCH, or `None` where it is not set. One that is not UTF-8 is a wrong one, as
-/// the empty text is, which is given in its place. The error is that memory was refused.
+/// Returns the text of SOURCE_DATE_EPOCH, or `None` if it is not set. Returns the empty text, which
+/// is a wrong one, if it is not UTF-8. Fails if memory was refused.
 pub fn epoch<R: Env + Alloc>(rt: &R) -> io::Result<Option<String<R::A>>> {
     match env::var(rt, "SOURCE_DATE_EPOCH") {
         Ok(text) => Ok(Some(text)),
@@ -16,8 +16,8 @@ pub fn epoch<R: Env + Alloc>(rt: &R) -> io::Result<Option<String<R::A>>> {
     }
 }
 
-/// The clock's moment in whole seconds since 1970, at most 4294967295, or `None` where the clock cannot be
-/// read or stands before 1970.
+/// Returns the clock's time in whole seconds since 1970, at most 4294967295, or `None` if the clock
+/// cannot be read or is before 1970.
 pub fn now<C: Clock>(clock: &C) -> Option<u32> {
     let moment = SystemTime::now(clock).ok()?;
     let since_1970 = moment.duration_since(SystemTime::UNIX_EPOCH).ok()?;

@@ -1,4 +1,4 @@
-//! The program by the names of mkimage and dumpimage.
+//! The program with the names of mkimage and dumpimage.
 
 use crate::auto_program::make_auto;
 use crate::main_program::{
@@ -18,10 +18,9 @@ use uimg_names::Field;
 use uimg_requests::{MakeRequest, RunRequest, VERSION};
 use uimg_words::Request;
 
-/// The program by the name of a tool: it carries out the words of a command line, the program's name
-/// first, as that tool of U-Boot 2023.01 takes them, and answers the exit status. An image is made
-/// under a name of its own and gets its name when it is whole, unless that is there and is no regular
-/// file.
+/// Carries out the words of a command line, the program's name first, as this tool of U-Boot
+/// 2023.01 takes them, and returns the exit status. An image is written to a new file and gets its
+/// name when it is complete, unless something exists there that is not a regular file.
 pub(crate) fn program_by_old_name<R: Files + AllocGlobal, W: Write, V: Write>(
     rt: &R,
     tool: Tool,
@@ -51,8 +50,8 @@ pub(crate) fn program_by_old_name<R: Files + AllocGlobal, W: Write, V: Write>(
     }
 }
 
-// Runs a command on an image. What is extracted is written beside its name, which it gets when it is
-// whole.
+// Runs a command on an image. An extracted part is written beside its name, which it gets when it
+// is complete.
 fn run_command<R: Files + AllocGlobal, W: Write, V: Write>(
     rt: &R,
     tool: Tool,
@@ -103,7 +102,7 @@ fn run_beside<'a, R: Files + AllocGlobal, W: Write, V: Write>(
     tell_written(rt, tool, path, &end, image, err)
 }
 
-/// Makes an image beside its name, which it gets when it is whole.
+/// Makes an image beside its name, which it gets when it is complete.
 pub(crate) fn make_image<R: Files + AllocGlobal, W: Write, V: Write>(
     rt: &R,
     tool: Tool,
@@ -126,7 +125,8 @@ pub(crate) fn make_image<R: Files + AllocGlobal, W: Write, V: Write>(
     }
 }
 
-// Makes an image at one path that gets another. It is kept where its listing could not be printed.
+// Makes an image at one path, and moves it to another. Keeps it even if its listing could not be
+// printed.
 fn make_beside<'a, R: Files + AllocGlobal, W: Write, V: Write>(
     rt: &'a R,
     tool: Tool,
@@ -154,7 +154,8 @@ fn make_beside<'a, R: Files + AllocGlobal, W: Write, V: Write>(
     }
 }
 
-// Gives what was written its name, or removes it, and tells the end, with the path that it is about.
+// Gives the written file its name, or removes it, and reports the end, with the path that it is
+// about.
 fn tell_written<R: Files, V: Write>(
     rt: &R,
     tool: Tool,
@@ -175,7 +176,7 @@ fn tell_written<R: Files, V: Write>(
     tell_end(rt, tool, end, about, err)
 }
 
-// Carries out a request, of which a quiet one prints nothing.
+// Carries out a request; a quiet one prints nothing.
 fn carry_out_by<'a, R: Files + AllocGlobal, W: Write>(
     rt: &'a R,
     request: &'a Request<'a>,
@@ -189,7 +190,7 @@ fn carry_out_by<'a, R: Files + AllocGlobal, W: Write>(
     }
 }
 
-// The status of an end, whose fault is told with the path that it is about.
+// Returns the status of an end, and reports its fault with the path that it is about.
 fn tell_end<R: Files, V: Write>(
     rt: &R,
     tool: Tool,
@@ -209,8 +210,9 @@ fn tell_end<R: Files, V: Write>(
     }
 }
 
-/// The line of a file that could not be opened to be read, with the reason that the operating system
-/// gives when it is looked at once more. Only a regular file is opened, since a pipe would wait.
+/// Reports a file that could not be opened for reading, with the operating system's reason, which
+/// is found by another look at the file. Only a regular file is opened for that, since a pipe would
+/// wait.
 pub(crate) fn tell_unread<R: Files, V: Write>(rt: &R, tool: Tool, path: &str, err: &mut V) -> u8 {
     let reason = match fs::metadata(rt, path) {
         Ok(found) if found.is_file() => fs::open(rt, path).err(),
@@ -226,13 +228,13 @@ pub(crate) fn tell_unread<R: Files, V: Write>(rt: &R, tool: Tool, path: &str, er
     }
 }
 
-/// The line of a fault. It answers the status; a failed write changes nothing.
+/// Writes the line of a fault, and returns the status. Failed writes are ignored.
 pub(crate) fn tell<V: Write, D: Display>(tool: Tool, err: &mut V, fault: &D, status: u8) -> u8 {
     let _ = writeln!(err, "{}: {fault}", tool.name());
     status
 }
 
-// Prints a text. The names of a field go to standard error, where the originals print them.
+// Prints a text. The names of a field go to standard error, as with the originals.
 fn show_text<W: Write, V: Write>(tool: Tool, show: Show, out: &mut W, err: &mut V) -> u8 {
     let written = match show {
         Show::Help(text) => write!(out, "{text}"),
@@ -246,8 +248,8 @@ fn show_text<W: Write, V: Write>(tool: Tool, show: Show, out: &mut W, err: &mut 
     }
 }
 
-// The names of a field's codes, a line each. The originals leave out `ppc`, which is another name of
-// `powerpc`.
+// Prints the names of a field's codes, a line each. The originals leave out `ppc`, which is another
+// name of `powerpc`.
 fn put_names<V: Write>(field: Field, err: &mut V) -> io::Result<()> {
     writeln!(err, "\nInvalid {}, supported are:", title_of(field))?;
     for (name, _, long) in field.rows() {

@@ -1,6 +1,6 @@
 //! The tools whose names the program may have.
 
-/// A tool of U-Boot whose command line the program takes where it has the tool's name.
+/// A tool of U-Boot, whose command line the program takes if it has the tool's name.
 #[derive(Clone, Copy, Debug, PartialEq, Eq)]
 pub(crate) enum Tool {
     Mkimage,
@@ -8,7 +8,7 @@ pub(crate) enum Tool {
 }
 
 impl Tool {
-    /// The tool that a program's path names behind its last slash.
+    /// Returns the tool whose name comes after the last slash of a program's path.
     pub(crate) fn of_path(path: &str) -> Option<Tool> {
         let name = match path.rsplit_once('/') {
             Some((_, name)) => name,
@@ -21,7 +21,7 @@ impl Tool {
         }
     }
 
-    /// The tool's own name, which begins each line of a fault.
+    /// Returns the tool's own name, which begins each line of a fault.
     pub(crate) fn name(self) -> &'static str {
         match self {
             Tool::Mkimage => "mkimage",

@@ -8,34 +8,34 @@ use std::rt::Files;
 /// How many names are tried beside a path.
 const TRIED: u32 = 100;
 
-/// Where what is to stand at a path is written.
+/// Where the file for a path is written.
 #[derive(Drop)]
 pub(crate) enum Writing {
-    /// At the path, where something is that is no regular file, as a device, or a link that leads to
-    /// nothing yet.
+    /// At the path, where something exists that is not a regular file, as a device, or a symbolic
+    /// link without a target.
     InPlace,
 
     /// At the path, where a pipe is.
     Pipe,
 
-    /// Beside the file that the path leads to, by links too.
+    /// Beside the file that the path leads to, through symbolic links too.
     Beside(SafePath),
 
-    /// Nowhere: all the names beside it are taken.
+    /// Nowhere: all names beside it exist.
     Nowhere,
 }
 
 /// The paths of a file that is written beside its name.
 #[derive(Drop)]
 pub(crate) struct SafePath {
-    /// What is written. Nothing was there when it was chosen.
+    /// The path that is written. Nothing existed there when it was chosen.
     pub(crate) new: String,
 
-    /// The name that it gets when it is whole.
+    /// The path that it gets when it is complete.
     pub(crate) whole: String,
 }
 
-/// Where what is to stand at a path is written. Memory for the paths may be refused.
+/// Returns where the file for a path is written. Fails if memory for the paths is refused.
 pub(crate) fn writing_of<R: Files + AllocGlobal>(
     rt: &R,
     path: &str,
@@ -56,7 +56,7 @@ pub(crate) fn writing_of<R: Files + AllocGlobal>(
     }
 }
 
-/// A path beside another at which nothing is. Memory for it may be refused.
+/// Returns a free path beside another. Fails if memory for it is refused.
 pub(crate) fn unused_beside<R: Files + AllocGlobal>(
     rt: &R,
     path: &str,

@@ -1,4 +1,4 @@
-//! What is warned of before an image is made of a source.
+//! Warns about a source before its image is made.
 
 use std::alloc::Global;
 use std::io::Write;
@@ -10,8 +10,8 @@ use uimg_its::compile;
 use uimg_requests::{MakeCommand, MakeRequest};
 use uimg_tree::Tree;
 
-/// Tells what is wrong with the source of a making. Of one that cannot be read or compiled the making
-/// tells the fault, and of an image of parts there is nothing to tell.
+/// Warns about the source of a request. A source that cannot be read or compiled has no warnings,
+/// as making the image reports its fault; nor has an image of parts.
 pub(crate) fn warn_of_source<R: Files + AllocGlobal, V: Write>(
     rt: &R,
     request: &MakeRequest<'_>,
@@ -24,7 +24,7 @@ pub(crate) fn warn_of_source<R: Files + AllocGlobal, V: Write>(
     }
 }
 
-// The tree of the source of a name. It is compiled over the files that the making opens.
+// Returns the tree of the source of this name, compiled with the files that making the image opens.
 fn tree_of<R: Files + AllocGlobal>(
     rt: &R,
     request: &MakeRequest<'_>,
@@ -36,7 +36,7 @@ fn tree_of<R: Files + AllocGlobal>(
     compile(rt.alloc(), &text, &mut files).ok()
 }
 
-// All the bytes of a source. Its window is in no frame below which the source is compiled.
+// Reads all bytes of a source. Its window is in no stack frame below which the source is compiled.
 #[inline(never)]
 fn text_of<S: Source>(alloc: Global, source: &mut S) -> Option<Vec<u8>> {
     let size = source.size().ok()?;

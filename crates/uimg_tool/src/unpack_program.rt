@@ -1,4 +1,4 @@
-//! The unpacking of an image.
+//! Unpacks an image.
 
 use crate::check_program::is_pipe;
 use crate::main_program::{DONE, FAILED, REFUSED, RequestFault, WRONG_LINE, status_of, tell};
@@ -10,8 +10,8 @@ use uimg_printing::Printed;
 use uimg_unpacking::{Ended, FileId, Folder, PartsEnded, Trouble, Unpacking, unpack, unpack_parts};
 use uimg_words::UnpackRequest;
 
-/// Unpacks the image of a request, with a line for each payload or part on `out`. The first four bytes
-/// tell its format. It answers the status; a fault is told by a line on `err`.
+/// Unpacks the requested image, with a line for each payload or part on `out`. The first four bytes
+/// decide its format. Returns the status. A fault is reported by a line on `err`.
 pub(crate) fn unpack_image<R: Files + AllocGlobal, W: Write, V: Write>(
     rt: &R,
     request: &UnpackRequest<'_>,
@@ -41,7 +41,7 @@ pub(crate) fn unpack_image<R: Files + AllocGlobal, W: Write, V: Write>(
         Ok(false) => unpack_legacy(rt, request.image, &asked, &mut source, &mut gathered, err),
         Err(fault) => tell(err, &RequestFault::Stopped(Fault::from(fault)), FAILED),
     };
-    // A failed write leaves text in it, and its drop would try once more to write that.
+    // A failed write leaves text in the buffer, which its drop would try to write again.
     let (_, _) = gathered.into_parts();
     status
 }
@@ -63,7 +63,7 @@ fn unpack_legacy<R: Files + AllocGlobal, S: Source, W: Write + Drop, V: Write>(
     }
 }
 
-// Tells that a legacy image has CRC-32 alone.
+// Reports that a legacy image has CRC-32 alone.
 fn tell_weak<W: Write, V: Write>(path: &str, out: &mut W, err: &mut V) -> u8 {
     let told = writeln!(out, "{}: weak crc32", Printed(path.as_bytes()));
     match told.and_then(|()| out.flush()) {

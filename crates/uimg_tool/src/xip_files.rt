@@ -1,4 +1,4 @@
-//! The files of images that are run in their place.
+//! The files of images that run in place.
 
 ghost use Rattle.std.specs.Prelude.{None, false, IfOk};
 ghost use Rattle.uimg_base.specs.Device.{IsFresh};
@@ -8,7 +8,7 @@ use std::rt;
 use uimg_base::{FileSource, Files, Source, SourceFault};
 use uimg_engine::DiskFiles;
 
-/// The files of a folder, each without the room for a header that it begins with.
+/// The files of a folder, each without the room for a header at its beginning.
 ///
 /// No contract says what a file has, so the files are not claimed to be honest.
 #[derive(Drop)]
@@ -19,7 +19,7 @@ pub(crate) struct XipFiles<'a, R: rt::Files + AllocGlobal> {
 }
 
 impl<'a, R: rt::Files + AllocGlobal> XipFiles<'a, R> {
-    /// These files, of which none was opened yet.
+    /// Returns these files, none of them opened.
     pub(crate) fn new(files: DiskFiles<'a, R>) -> XipFiles<'a, R> {
         XipFiles {
             files,
@@ -28,12 +28,12 @@ impl<'a, R: rt::Files + AllocGlobal> XipFiles<'a, R> {
         }
     }
 
-    /// Whether the open of a file was refused that has no room for a header.
+    /// Returns whether a file was refused because it has no room for a header.
     pub(crate) fn has_met_no_room(&self) -> bool {
         self.has_met_no_room
     }
 
-    /// Whether the open of the file that is left out was asked for, and refused.
+    /// Returns whether the file that is left out was requested, and refused.
     pub(crate) fn has_met_left_out(&self) -> bool {
         self.files.has_met_left_out()
     }
@@ -49,10 +49,8 @@ impl<'a, R: rt::Files + AllocGlobal> Files for XipFiles<'a, R> {
       refusals = s.refusals;
     } };
 
-    /// Opens the file of this name, behind the room that it begins with.
-    ///
-    /// `SourceFault` comes where there is no such room, where it cannot be read, and as from
-    /// `DiskFiles::open`.
+    /// Opens the file of this name, without the room at its beginning. Returns `SourceFault` if it
+    /// has no such room, if that cannot be read, or as `DiskFiles::open` does.
     fn open(&mut self, name: &[u8]) -> Result<BodySource<FileSource<R::File>>, SourceFault> {
         let opened = open_body(&mut self.files, name, &mut self.has_met_no_room);
         if opened.is_err() {
@@ -62,7 +60,7 @@ impl<'a, R: rt::Files + AllocGlobal> Files for XipFiles<'a, R> {
     }
 }
 
-// Opens a file behind the room that it begins with.
+// Opens a file without the room at its beginning.
 fn open_body<F: Files>(
     files: &mut F,
     name: &[u8],

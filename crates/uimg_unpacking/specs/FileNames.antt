@@ -1,4 +1,4 @@
--- Which names of images their files get.
+-- Which names of images are used as file names.
 use Rattle.std.specs.Prelude.{ℕ, List, ◌++◌, ◌==◌, codes, Bool, false, ◌&&◌, not}
 use Rattle.std.specs.List.{list_all, list_any, slice_get}
 use Rattle.std.specs.Option.{option_map_or}
@@ -10,10 +10,11 @@ allowed = codes "ABCDEFGHIJKLMNOPQRSTUVWXYZabcdefghijklmnopqrstuvwxyz0123456789.
 abbrev pub is_allowed : ℕ → Bool
 is_allowed byte = list_any (λ known. known == byte) allowed
 
--- the signs that a name does not begin with
+-- whether a name may begin with a byte: not with these signs
 abbrev pub begins : ℕ → Bool
 begins byte = not (list_any (λ known. known == byte) (codes ".-"))
 
--- Such a name is a name in a folder, and no path and no option. It is not `.` or `..`, is not hidden, and has no slash.
+-- Such a name is one in a folder, no path and no option. It is not `.` or `..`, is not hidden, and
+-- has no slash.
 abbrev pub is_file_name : List ℕ → Bool
 is_file_name name = option_map_or begins (slice_get name 0) false && list_all is_allowed name

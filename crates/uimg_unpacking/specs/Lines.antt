@@ -1,4 +1,4 @@
--- The lines of payloads and parts that are unpacked.
+-- The lines of unpacked payloads and parts.
 use Rattle.std.specs.Prelude.{ℕ, List, [], ◌++◌, take, codes, decimal, true, if◌then◌else◌, Option, Some, None}
 use Rattle.std.specs.Int.{to_be_bytes, w32}
 use Rattle.std.specs.List.{flat_map}
@@ -29,7 +29,7 @@ algo_name Sha512 = codes "sha512"
 abbrev pub bytes_text : ℕ → List ℕ
 bytes_text n = counted n (codes "byte") (codes "bytes")
 
--- the name of a file, where it is another than that of the image
+-- the name of a file, if it differs from that of the image
 unfoldable pub as_text : List ℕ → List ℕ → List ℕ
 as_text name file = if bytes_eq name file then [] else codes " as " ++ file
 
@@ -38,11 +38,11 @@ abbrev pub vouched_text : Option Vouched → List ℕ
 vouched_text None = codes ", unhashed"
 vouched_text (Some v) = codes ", " ++ algo_name v.algo ++ codes " " ++ flat_map digits_of (take (digest_size v.algo) v.digest)
 
--- the bytes of a checksum, the highest first
+-- the bytes of a checksum, big-endian
 unfoldable pub crc_bytes : ℕ → List ℕ
 crc_bytes dcrc = to_be_bytes w32 dcrc
 
--- the line of a payload that is kept, of one that is refused, and of a part
+-- the lines of a kept payload, of a refused one, and of a part
 abbrev pub kept_line : List ℕ → List ℕ → ℕ → Option Vouched → List ℕ
 kept_line name file size vouched = printed true name ++ codes ": " ++ bytes_text size ++ as_text name file ++ vouched_text vouched
 

@@ -1,4 +1,4 @@
-//! The folder that payloads and parts are put in, and the paths of their files.
+//! The folder for payloads and parts, and the paths of their files.
 
 use crate::trouble::Trouble;
 use std::alloc::AllocError;
@@ -6,10 +6,10 @@ use std::fs;
 use std::os::unix::fs::MetadataExt;
 use std::rt::Files;
 
-/// How many names are tried for a file that has no name yet.
+/// How many names are tried for a new file.
 const TRIED: u32 = 100;
 
-/// Which file a path leads to, whatever its paths are.
+/// The file at a path; different paths may lead to the same file.
 #[derive(Clone, Copy, Debug, PartialEq, Eq)]
 pub struct FileId {
     device: u64,
@@ -17,7 +17,7 @@ pub struct FileId {
 }
 
 impl FileId {
-    /// The file that a path leads to, if there is one.
+    /// Returns the file at a path, if there is one.
     pub fn of<R: Files>(rt: &R, path: &str) -> Option<FileId> {
         let found = fs::metadata(rt, path).ok()?;
         Some(FileId {
@@ -27,21 +27,21 @@ impl FileId {
     }
 }
 
-/// A folder that the payloads of an image are put in.
+/// A folder for the payloads of an image.
 #[derive(Clone, Copy, Debug)]
 pub struct Folder<'a> {
     /// Its path.
     pub path: &'a str,
 
-    /// The file of the image, which is not written while it is read.
+    /// The file of the image, which must not be written while it is read.
     pub image: Option<FileId>,
 
-    /// Whether files that are there are replaced.
+    /// Whether existing files are replaced.
     pub is_forced: bool,
 }
 
 impl<'a> Folder<'a> {
-    /// The path of a file of it. Memory for it may be refused.
+    /// Returns the path of a file in it. Fails if memory for it is refused.
     pub(crate) fn path_of<R: Files + AllocGlobal>(
         &self,
         rt: &R,
@@ -50,7 +50,8 @@ impl<'a> Folder<'a> {
         format!(in rt.alloc(); "{}/{name}", self.path)
     }
 
-    /// A path, if a file may get it: nothing is there, or a file that is replaced, which is not the image.
+    /// Returns a path, if a file may be written there: nothing exists there, or a file that is
+    /// replaced and is not the image.
     pub(crate) fn allows<R: Files>(&self, rt: &R, path: String) -> Result<String, Trouble> {
         let found = FileId::of(rt, path.as_str());
         if found.is_some() & (found == self.image) {
@@ -62,8 +63,9 @@ impl<'a> Folder<'a> {
         }
     }
 
-    /// A file of it that is made, with its path: at the first of `.uimg-new1` to `.uimg-new100` where
-    /// nothing is. There is none where no file can be made. Memory for its path may be refused.
+    /// Creates a file in it, and returns it with its path: the first of `.uimg-new1` to
+    /// `.uimg-new100` that is free. Returns none if no file can be created. Fails if memory for the
+    /// path is refused.
     pub(crate) fn new_file<R: Files + AllocGlobal>(
         &self,
         rt: &R,
@@ -77,8 +79,8 @@ impl<'a> Folder<'a> {
         Ok(None)
     }
 
-    /// The path of a folder of it that is made, at the first of the same paths where nothing is. There is
-    /// none where no folder can be made. Memory for the path may be refused.
+    /// Creates a folder in it, and returns its path: the first of the same names that is free.
+    /// Returns none if no folder can be created. Fails if memory for the path is refused.
     pub(crate) fn new_folder<R: Files + AllocGlobal>(
         &self,
         rt: &R,
@@ -93,7 +95,7 @@ impl<'a> Folder<'a> {
     }
 }
 
-/// Whether anything is at a path, a link that leads to nothing too.
+/// Returns whether anything exists at a path, even a symbolic link without a target.
 pub(crate) fn is_there<R: Files>(rt: &R, path: &str) -> bool {
     fs::symlink_metadata(rt, path).is_ok()
 }

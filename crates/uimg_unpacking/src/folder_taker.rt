@@ -1,4 +1,4 @@
-//! Payloads are put in a folder, with a line for each.
+//! Writes payloads to a folder, with a line for each.
 
 ghost use Rattle.std.specs.Prelude.{[]};
 
@@ -19,28 +19,29 @@ struct Begun {
     // Its name in the folder.
     name: String,
 
-    // Where it is written.
+    // Its path while it is written.
     path: String,
 
-    // The path that it is to get.
+    // Its path when it is complete.
     whole: String,
 }
 
-/// A taker that puts payloads in a folder.
+/// A taker that writes payloads to a folder.
 #[derive(Drop)]
 pub(crate) struct FolderTaker<'a, R: Files + AllocGlobal, W: Write + Drop> {
     rt: &'a R,
     folder: Folder<'a>,
     out: W,
     begun: Option<Begun>,
-    // The names of files that were looked at, and of those that were begun: the same in turn.
+    // The names of the files that were checked, and of those that were begun: the same ones, in the
+    // same order.
     looked: Names,
     taken: Names,
     trouble: Option<Trouble>,
 }
 
 impl<'a, R: Files + AllocGlobal, W: Write + Drop> FolderTaker<'a, R, W> {
-    /// A taker for a folder, which writes its lines to `out`.
+    /// Returns a taker for a folder, which writes its lines to `out`.
     pub(crate) fn new(rt: &'a R, folder: Folder<'a>, out: W) -> FolderTaker<'a, R, W> {
         FolderTaker {
             rt,
@@ -53,8 +54,8 @@ impl<'a, R: Files + AllocGlobal, W: Write + Drop> FolderTaker<'a, R, W> {
         }
     }
 
-    /// Removes a file that did not get its name. It gives the lines' writer, how many payloads were
-    /// begun, and what went wrong, where this is known.
+    /// Removes a file that did not get its name. Returns the lines' writer, the number of payloads
+    /// that were begun, and the trouble, if it is known.
     pub(crate) fn end(self) -> (W, usize, Option<Trouble>) {
         let FolderTaker {
             rt,
@@ -75,7 +76,7 @@ impl<'a, R: Files + AllocGlobal, W: Write + Drop> FolderTaker<'a, R, W> {
         }
     }
 
-    // Looks whether the file of a payload may be written, before any is.
+    // Checks, before any payload is written, whether the file of this one may be.
     fn look(&mut self, name: &NodeName) -> Result<(), Trouble> {
         match self.looked.next(name)? {
             Some(name) => {
@@ -87,7 +88,7 @@ impl<'a, R: Files + AllocGlobal, W: Write + Drop> FolderTaker<'a, R, W> {
         }
     }
 
-    // Makes the file of a payload, which gets its name later.
+    // Creates the file of a payload, which gets its name later.
     fn begin(&mut self, name: &NodeName) -> Result<NewFile<R>, Trouble> {
         let Some(name) = self.taken.next(name)? else {
             return Err(Trouble::NoName);
@@ -101,7 +102,7 @@ impl<'a, R: Files + AllocGlobal, W: Write + Drop> FolderTaker<'a, R, W> {
         Ok(NewFile::new(BufWriter::new(self.rt.alloc(), file)?))
     }
 
-    // Gives the file that was begun its name, and tells of it.
+    // Gives the begun file its name, and prints its line.
     fn finish(
         &mut self,
         name: &NodeName,
@@ -130,7 +131,8 @@ impl<'a, R: Files + AllocGlobal, W: Write + Drop> FolderTaker<'a, R, W> {
         Ok(())
     }
 
-    // Removes what was written of a payload that is refused, and what it was to replace, and tells of it.
+    // Removes what was written of a refused payload and the file that it was to replace, and prints
+    // its line.
     fn throw_away(&mut self, name: &NodeName, refusal: Refusal) -> Result<(), Trouble> {
         if let Some(begun) = &self.begun {
             let (path, whole) = (begun.path.as_str(), begun.whole.as_str());
@@ -147,7 +149,7 @@ impl<'a, R: Files + AllocGlobal, W: Write + Drop> FolderTaker<'a, R, W> {
         Ok(())
     }
 
-    // That the file that was begun cannot be written, or removed.
+    // Returns that the begun file cannot be written or removed.
     fn cannot_write(&self) -> Result<(), Trouble> {
         match &self.begun {
             Some(begun) => {
@@ -158,7 +160,7 @@ impl<'a, R: Files + AllocGlobal, W: Write + Drop> FolderTaker<'a, R, W> {
         }
     }
 
-    // A fault for what went wrong, which is kept.
+    // Keeps a trouble, and returns it as a fault.
     fn kept<X>(&mut self, done: Result<X, Trouble>) -> Result<X, PutFault> {
         match done {
             Ok(done) => Ok(done),

@@ -1,5 +1,5 @@
-//! The payloads of a FIT image and the parts of a legacy one, put in a folder as files. `unpack` and
-//! `unpack_parts` are the two calls.
+//! Writes the payloads of a FIT image and the parts of a legacy image to a folder as files:
+//! `unpack` and `unpack_parts`.
 #![tactic(auto)]
 
 mod file_names;

@@ -1,4 +1,4 @@
-//! The lines that tell what became of payloads and parts.
+//! The lines about payloads and parts.
 
 ghost use Rattle.std.specs.Prelude.{◌≡◌, Some};
 ghost use Rattle.std.specs.Fmt.{WritesOnOk};
@@ -13,7 +13,7 @@ use uimg_fit_base::word_text;
 use uimg_fit_checking::{NodeName, Refusal, Vouched};
 use uimg_printing::{Counted, Hexadecimal, PrintedWord};
 
-/// The line of a payload or of a part, without its end. Names stand in it as `PrintedWord` has them.
+/// The line of a payload or of a part, without its end. Names are printed as by `PrintedWord`.
 #[derive(Clone, Copy, Debug)]
 pub(crate) enum Line<'a> {
     /// A payload is kept.
@@ -22,7 +22,7 @@ pub(crate) enum Line<'a> {
         name: &'a NodeName,
         /// The name of its file.
         file: &'a str,
-        /// How many bytes it has.
+        /// Its length in bytes.
         size: u64,
         /// What vouches for it.
         vouched: Option<Vouched>,
@@ -31,14 +31,15 @@ pub(crate) enum Line<'a> {
     /// The payload of the image of this name is refused.
     Refused(&'a NodeName, Refusal),
 
-    /// With the payload of the image of this name they have more bytes than the file.
+    /// With the payload of the image of this name, the requested ones have more bytes than the
+    /// file.
     Overlapping(&'a NodeName),
 
-    /// A part is kept, of data of this checksum.
+    /// A part is kept; the checksum is that of the data.
     Part {
         /// Its position.
         number: u32,
-        /// How many bytes it has.
+        /// Its length in bytes.
         size: u64,
         /// The checksum of the data.
         dcrc: u32,
@@ -63,7 +64,7 @@ impl<'a> Display for Line<'a> {
     }
 }
 
-// The name of an algorithm.
+// Returns the name of an algorithm.
 fn algo_name(algo: Algo) -> &'static str
     ensures { result.now ≡ algo_name algo }
 {
@@ -77,7 +78,7 @@ fn algo_name(algo: Algo) -> &'static str
     }
 }
 
-// A number of bytes.
+// Returns a number of bytes, to print.
 fn bytes(count: u64) -> Counted
     ensures { counted result.count result.one.now result.many.now ≡ bytes_text count }
 {
@@ -88,8 +89,8 @@ fn bytes(count: u64) -> Counted
     }
 }
 
-// Writes the line of a payload that is kept: the name of its image, its size, its file where that has
-// another name, and what vouches for it.
+// Writes the line of a kept payload: the name of its image, its size, the name of its file if that
+// differs, and what vouches for it.
 fn put_kept<W: Write>(
     name: &NodeName,
     file: &str,
@@ -105,7 +106,7 @@ fn put_kept<W: Write>(
     put_vouched(vouched, f)
 }
 
-// Writes the name of a file, where it is another than that of the image.
+// Writes the name of a file, if it differs from that of the image.
 #[tactic(auto, unfolding(crate::specs::Lines::as_text))]
 fn put_file<W: Write>(name: &[u8], file: &str, f: &mut Formatter<W>) -> fmt::Result
     ensures { WritesOnOk W.Write.write_str_gives f.old result (as_text name.now file.now) f.new }
@@ -129,7 +130,7 @@ fn put_vouched<W: Write>(vouched: Option<Vouched>, f: &mut Formatter<W>) -> fmt:
     }
 }
 
-// Writes the line of a payload that is refused.
+// Writes the line of a refused payload.
 fn put_refused<W: Write>(name: &NodeName, refusal: Refusal, f: &mut Formatter<W>) -> fmt::Result
     ensures { WritesOnOk W.Write.write_str_gives f.old result
         (refusal_text (bytes_of name.now) refusal) f.new }
@@ -148,7 +149,7 @@ fn put_refused<W: Write>(name: &NodeName, refusal: Refusal, f: &mut Formatter<W>
     }
 }
 
-// The bytes of a checksum.
+// Returns the bytes of a checksum.
 #[tactic(auto, unfolding(crate::specs::Lines::crc_bytes))]
 fn crc_bytes(dcrc: u32) -> [u8; 4]
     ensures { result ≡ crc_bytes dcrc }
@@ -156,7 +157,7 @@ fn crc_bytes(dcrc: u32) -> [u8; 4]
     dcrc.to_be_bytes()
 }
 
-// Writes the checksum of the data that a part is of.
+// Writes the checksum of a part's data.
 fn put_crc<W: Write>(dcrc: u32, f: &mut Formatter<W>) -> fmt::Result
     ensures { WritesOnOk W.Write.write_str_gives f.old result (crc_text dcrc) f.new }
 {
@@ -164,7 +165,7 @@ fn put_crc<W: Write>(dcrc: u32, f: &mut Formatter<W>) -> fmt::Result
     write!(f, ", data crc32 {}", Hexadecimal(crc.as_slice()))
 }
 
-// Writes the line of a part that is kept: its file, its size, and the checksum of the data that it is of.
+// Writes the line of a kept part: its file, its size, and the checksum of its data.
 fn put_part<W: Write>(number: u32, size: u64, dcrc: u32, f: &mut Formatter<W>) -> fmt::Result
     ensures { WritesOnOk W.Write.write_str_gives f.old result (part_line number size dcrc) f.new }
 {

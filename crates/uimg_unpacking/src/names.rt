@@ -1,4 +1,4 @@
-//! The names that files get, each once.
+//! The names of files, each used once.
 
 use crate::file_names::is_file_name;
 use std::alloc::{AllocError, Global};
@@ -8,7 +8,7 @@ use uimg_fit_checking::NodeName;
 /// How many numbers are tried for a file.
 const TRIED: usize = 100;
 
-/// The names that files got so far, in small letters, since there are disks that take these for the same.
+/// The names that were used, in lower case, since some file systems ignore the case of letters.
 #[derive(Drop)]
 pub(crate) struct Names {
     alloc: Global,
@@ -17,7 +17,7 @@ pub(crate) struct Names {
 }
 
 impl Names {
-    /// No names yet.
+    /// Returns an empty set of names.
     pub(crate) fn new(alloc: Global) -> Names {
         Names {
             alloc,
@@ -26,9 +26,9 @@ impl Names {
         }
     }
 
-    /// The name of the next file: that of the image where it can be a file's and was not given before, or
-    /// else `image-` and the number of the file, or the first after it that was not given. There is none
-    /// where many of these were given. Memory for it may be refused.
+    /// Returns the name of the next file: that of the image if it is a file name and was not used,
+    /// else `image-` with the number of the file or with the first following number that was not
+    /// used. Returns none if a hundred of these were used. Fails if memory is refused.
     pub(crate) fn next(&mut self, name: &NodeName) -> Result<Option<String>, AllocError> {
         let number = self.count;
         self.count = self.count.saturating_add(1);
@@ -47,12 +47,12 @@ impl Names {
         Ok(None)
     }
 
-    /// How many files there are.
+    /// Returns the number of files.
     pub(crate) fn count(&self) -> usize {
         self.count
     }
 
-    // Gives a name, unless it was given.
+    // Uses a name, and returns whether it was not used before.
     fn give(&mut self, name: &str) -> Result<bool, AllocError> {
         let mut small = Vec::from_slice(self.alloc, name.as_bytes())?;
         small.make_ascii_lowercase();

@@ -1,4 +1,4 @@
-//! A file that gets its name when it is whole.
+//! A file that gets its name when it is complete.
 
 ghost use Rattle.std.specs.Prelude.{◌≡◌, [], OnOk};
 ghost use Rattle.std.specs.Io.{WritesAtMost};
@@ -10,7 +10,7 @@ use std::io::{BufWriter, ErrorKind, Write};
 use std::rt::Files;
 use std::{fs, io};
 
-/// A file without its name, and how many bytes it has. Small writes are gathered.
+/// A file without its name, and its length in bytes. Writes are buffered.
 #[derive(Drop)]
 pub struct NewFile<R: Files + AllocGlobal> {
     file: BufWriter<R::File, Global>,
@@ -18,12 +18,12 @@ pub struct NewFile<R: Files + AllocGlobal> {
 }
 
 impl<R: Files + AllocGlobal> NewFile<R> {
-    /// A file to which nothing was written yet.
+    /// Returns a file to which nothing was written.
     pub(crate) fn new(file: BufWriter<R::File, Global>) -> NewFile<R> {
         NewFile { file, size: 0 }
     }
 
-    /// Writes what was gathered, and closes the file. It gives how many bytes it has.
+    /// Writes what is buffered, and closes the file. Returns its length in bytes.
     pub(crate) fn close(self) -> io::Result<u64> {
         let NewFile { mut file, size } = self;
         file.flush()?;
@@ -54,8 +54,8 @@ impl<R: Files + AllocGlobal> Write for NewFile<R> {
     }
 }
 
-/// Gives the file at a path another path. Where it does not replace what is there, a link is made first,
-/// which is refused there; a file system without links is asked whether something is there.
+/// Moves a file to another path. Unless it replaces an existing file, it makes a hard link first,
+/// which fails if something exists there; on a file system without links it checks that itself.
 pub(crate) fn give_name<R: Files>(
     rt: &R,
     path: &str,

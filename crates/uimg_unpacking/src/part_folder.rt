@@ -1,4 +1,4 @@
-//! The parts of a legacy image are put in a folder, with a line for each.
+//! Writes the parts of a legacy image to a folder, with a line for each.
 
 ghost use Rattle.std.specs.Prelude.{[]};
 
@@ -12,25 +12,25 @@ use std::rt::Files;
 use uimg_base::PutFault;
 use uimg_legacy::PartTaker;
 
-/// A taker that puts parts in a folder. Until they are kept, their files stand in a folder of it.
+/// A taker that writes parts to a folder. Until they are kept, their files are in a folder of it.
 #[derive(Drop)]
 pub(crate) struct PartFolder<'a, R: Files + AllocGlobal, W: Write + Drop> {
     rt: &'a R,
     folder: Folder<'a>,
     out: W,
-    // The path of the folder of files without their names, once it is made.
+    // The path of that folder, once it is created.
     begun: Option<String>,
-    // The numbers of the parts that were begun and have no name yet: from the first to that before the
-    // second.
+    // The numbers of the parts without a name yet: from `first` up to `behind`, which is not
+    // included.
     first: u32,
     behind: u32,
-    // The number of the part that is being written.
+    // The number of the part that is written.
     writing: Option<u32>,
     trouble: Option<Trouble>,
 }
 
 impl<'a, R: Files + AllocGlobal, W: Write + Drop> PartFolder<'a, R, W> {
-    /// A taker for a folder, which writes its lines to `out`.
+    /// Returns a taker for a folder, which writes its lines to `out`.
     pub(crate) fn new(rt: &'a R, folder: Folder<'a>, out: W) -> PartFolder<'a, R, W> {
         PartFolder {
             rt,
@@ -44,8 +44,8 @@ impl<'a, R: Files + AllocGlobal, W: Write + Drop> PartFolder<'a, R, W> {
         }
     }
 
-    /// Removes the files that did not get their names, and the folder that they stand in. It gives what
-    /// went wrong, where this is known.
+    /// Removes the files that did not get their names, and their folder. Returns the trouble, if it
+    /// is known.
     pub(crate) fn end(self) -> Option<Trouble> {
         let unwritten = self.unwritten();
         if let Some(begun) = &self.begun {
@@ -64,7 +64,7 @@ impl<'a, R: Files + AllocGlobal, W: Write + Drop> PartFolder<'a, R, W> {
         trouble.or(unwritten)
     }
 
-    // That the file of the part that is being written cannot be.
+    // Returns that the file of the part that is written cannot be.
     fn unwritten(&self) -> Option<Trouble> {
         let number = self.writing?;
         match self.whole(number) {
@@ -73,20 +73,20 @@ impl<'a, R: Files + AllocGlobal, W: Write + Drop> PartFolder<'a, R, W> {
         }
     }
 
-    // The path of the file of a part.
+    // Returns the path of a part's file.
     fn whole(&self, number: u32) -> Result<String, Trouble> {
         let name = format!(in self.rt.alloc(); "image-{number}")?;
         Ok(self.folder.path_of(self.rt, name.as_str())?)
     }
 
-    // Looks whether the file of a part may be written, before any is.
+    // Checks, before any part is written, whether the file of this one may be.
     fn look(&self, number: u32) -> Result<(), Trouble> {
         let whole = self.whole(number)?;
         self.folder.allows(self.rt, whole)?;
         Ok(())
     }
 
-    // Makes the file of a part, which gets its name later.
+    // Creates the file of a part, which gets its name later.
     fn begin(&mut self, number: u32) -> Result<NewFile<R>, Trouble> {
         if self.begun.is_none() {
             let Some(made) = self.folder.new_folder(self.rt)? else {
@@ -104,7 +104,7 @@ impl<'a, R: Files + AllocGlobal, W: Write + Drop> PartFolder<'a, R, W> {
         Ok(NewFile::new(BufWriter::new(self.rt.alloc(), file)?))
     }
 
-    // The path of the file of a part that has no name yet.
+    // Returns the path of a part's file that has no name yet.
     fn path(&self, number: u32) -> Result<String, Trouble> {
         match &self.begun {
             Some(begun) => Ok(format!(in self.rt.alloc(); "{begun}/{number}")?),
@@ -121,7 +121,7 @@ impl<'a, R: Files + AllocGlobal, W: Write + Drop> PartFolder<'a, R, W> {
         Ok(())
     }
 
-    // Gives the file of a part its name, and tells of it.
+    // Gives the file of a part its name, and prints its line.
     fn name(&mut self, number: u32, dcrc: u32) -> Result<(), Trouble> {
         let (path, whole) = (self.path(number)?, self.whole(number)?);
         let Ok(found) = fs::metadata(self.rt, path.as_str()) else {
@@ -141,7 +141,7 @@ impl<'a, R: Files + AllocGlobal, W: Write + Drop> PartFolder<'a, R, W> {
         Ok(())
     }
 
-    // Gives the files their names, and tells of each.
+    // Gives the files their names, and prints the line of each.
     fn finish(&mut self, dcrc: u32) -> Result<(), Trouble> {
         for number in self.first..self.behind {
             self.name(number, dcrc)?;
@@ -150,7 +150,7 @@ impl<'a, R: Files + AllocGlobal, W: Write + Drop> PartFolder<'a, R, W> {
         Ok(())
     }
 
-    // Removes what the files of parts that are refused were to replace.
+    // Removes the files that refused parts were to replace.
     fn throw_away(&self) -> Result<(), Trouble> {
         if !self.folder.is_forced {
             return Ok(());
@@ -166,7 +166,7 @@ impl<'a, R: Files + AllocGlobal, W: Write + Drop> PartFolder<'a, R, W> {
         Ok(())
     }
 
-    // A fault for what went wrong, which is kept.
+    // Keeps a trouble, and returns it as a fault.
     fn kept<X>(&mut self, done: Result<X, Trouble>) -> Result<X, PutFault> {
         match done {
             Ok(done) => Ok(done),
@@ -178,8 +178,8 @@ impl<'a, R: Files + AllocGlobal, W: Write + Drop> PartFolder<'a, R, W> {
     }
 }
 
-// Removes the files of these numbers in a folder, and the folder. Those that cannot be removed, or whose
-// paths find no memory, are left.
+// Removes the files of these numbers in a folder, and the folder. Leaves those that cannot be
+// removed, or for whose paths memory is refused.
 fn remove_files<R: Files + AllocGlobal>(rt: &R, begun: &str, first: u32, behind: u32) {
     for number in first..behind {
         if let Ok(path) = format!(in rt.alloc(); "{begun}/{number}") {

@@ -1,4 +1,4 @@
-//! A legacy image is unpacked into a folder.
+//! Unpacks a legacy image into a folder.
 
 use crate::part_folder::PartFolder;
 use crate::trouble::Trouble;
@@ -11,10 +11,10 @@ use uimg_legacy::{Fault, LegacyFault, read_header};
 /// How the unpacking of a legacy image ended.
 #[derive(Debug, Drop)]
 pub enum PartsEnded {
-    /// All parts are kept that were asked for.
+    /// All requested parts are kept.
     Kept,
 
-    /// A stronger checksum than CRC-32 is needed, which a legacy image has not.
+    /// A stronger checksum than CRC-32 is needed, which a legacy image does not have.
     Weak,
 
     /// The image is refused, or a read of it failed.
@@ -24,14 +24,14 @@ pub enum PartsEnded {
     Troubled(Trouble),
 }
 
-/// Puts the parts of a legacy image in a folder, as files that get their names when the checksum of the
-/// data is right, with a line for each on `out`. They are the parts of the types multi and script, and of
-/// another type its data as one part.
+/// Writes the parts of a legacy image to a folder, as files that get their names if the checksum of
+/// the data is right, with a line for each on `out`. For the types multi and script these are its
+/// parts, for another type its data as one part.
 ///
-/// The files have the names `image-0`, `image-1` and so on, by the parts' numbers, and one of them can be
-/// asked for alone. Nothing is written where something is at one of these paths, unless files are
-/// replaced, or where one leads to the image. Files that did not get their names are removed; where the
-/// checksum is not right, files that they were to replace are too.
+/// The files are `image-0`, `image-1` and so on, by the parts' numbers; one of them can be
+/// requested alone. Nothing is written if something exists at one of these paths, unless files are
+/// replaced, or if one leads to the image. Files that did not get their names are removed; if the
+/// checksum is wrong, so are the files that they were to replace.
 pub fn unpack_parts<R: Files + AllocGlobal, S: Source, W: Write + Drop>(
     rt: &R,
     asked: &Unpacking<'_>,
@@ -57,7 +57,7 @@ pub fn unpack_parts<R: Files + AllocGlobal, S: Source, W: Write + Drop>(
     }
 }
 
-// Whether an image that has CRC-32 alone is strong enough.
+// Returns whether CRC-32 is strong enough.
 fn stands_by_crc32(need: Option<Algo>) -> bool {
     match need {
         None | Some(Algo::Crc32) => true,
@@ -65,7 +65,8 @@ fn stands_by_crc32(need: Option<Algo>) -> bool {
     }
 }
 
-// The number of the part whose file has a name. Where there is none it is one that no image has a part of.
+// Returns the number of the part whose file has this name, or else a number that no image has a
+// part of.
 fn number_of(name: &str) -> u32 {
     match name.strip_prefix("image-") {
         Some(digits) if is_number(digits) => digits.parse().unwrap_or(u32::MAX),
@@ -73,7 +74,7 @@ fn number_of(name: &str) -> u32 {
     }
 }
 
-// Whether a word is a number as it is written in the name of a file.
+// Returns whether a word is a number as in a file name.
 fn is_number(digits: &str) -> bool {
     let has_zeros = digits.len() > 1 && digits.starts_with('0');
     !has_zeros && digits.bytes().all(|digit| digit.is_ascii_digit())

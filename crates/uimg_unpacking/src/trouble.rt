@@ -1,22 +1,22 @@
-//! Why payloads are not put in a folder.
+//! Why payloads are not written to a folder.
 
 use std::alloc::{AllocError, AllocFailed};
 use std::io;
 use std::io::ErrorKind;
 use thiserror::Error;
 
-/// Why a payload was not put in a folder. Its text is a line, but where nobody reads the lines any more.
+/// Why a payload was not written to a folder. Its text is the line to print; `Closed` needs none.
 #[derive(Debug, Drop, Error)]
 pub enum Trouble {
-    /// Something is at the path of a file that is to be written. A folder is never replaced.
+    /// Something exists at the path of a file to write. A folder is never replaced.
     #[error("{0} is there already, and only a file is replaced, by --force")]
     IsThere(String),
 
-    /// A file that is to be written is the image.
+    /// A file to write is the image.
     #[error("{0} would be written while it is read")]
     IsImage(String),
 
-    /// A file cannot be made, written or given its name.
+    /// A file cannot be created, written or given its name.
     #[error("cannot write {0}")]
     CannotWrite(String),
 
@@ -32,7 +32,7 @@ pub enum Trouble {
     #[error("write failed")]
     Put,
 
-    /// Nobody reads the lines any more.
+    /// The reader has closed the output.
     #[error("closed")]
     Closed,
 }

@@ -1,4 +1,4 @@
-//! A FIT image is unpacked into a folder.
+//! Unpacks a FIT image into a folder.
 
 use crate::folder::Folder;
 use crate::folder_taker::FolderTaker;
@@ -10,29 +10,29 @@ use uimg_base::{Algo, Room, Source};
 use uimg_fit_base::{Fault, FitFault};
 use uimg_fit_checking::{NodeName, Unpacked};
 
-/// What is asked for of an image.
+/// What to unpack from an image.
 #[derive(Clone, Copy, Debug)]
 pub struct Unpacking<'a> {
-    /// Where its payloads are put.
+    /// The folder for its payloads.
     pub folder: Folder<'a>,
 
-    /// The name of the image whose payload is asked for alone, if not all are.
+    /// The name of the image whose payload is requested alone, unless all are.
     pub only: Option<&'a str>,
 
-    /// The algorithm that is needed at least, if there is one.
+    /// The weakest algorithm that is enough, if one is needed.
     pub need: Option<Algo>,
 }
 
-/// How it ended.
+/// How the unpacking of a FIT image ended.
 #[derive(Debug, Drop)]
 pub enum Ended {
-    /// All payloads are kept that were asked for.
+    /// All requested payloads are kept.
     Kept,
 
-    /// A payload is refused, or payloads overlap. A line tells of it.
+    /// A payload is refused, or payloads overlap. A line says so.
     Refused,
 
-    /// There is no image, and a strength is needed.
+    /// There is no image, but a strength is needed.
     NoImage,
 
     /// The image is refused, or a read of it failed.
@@ -42,14 +42,14 @@ pub enum Ended {
     Troubled(Trouble),
 }
 
-/// Puts the payloads of a FIT image in a folder, as files that get their names when each hash node of
-/// their images is right, with a line for each on `out`.
+/// Writes the payloads of a FIT image to a folder, as files that get their names if each hash node
+/// of their images is right, with a line for each on `out`.
 ///
-/// A file has the name of its image where that can be a file's (`is_file_name`) and that of no payload
-/// before it is the same in small letters, or else `image-` and its number among those that are taken,
-/// counted from 0, or the first number after it that is free. Nothing is written where something is at
-/// one of these paths, unless files are replaced, or where one leads to the image. A file that did not
-/// get its name is removed.
+/// A file has the name of its image if that is a file name (`is_file_name`) and no earlier file has
+/// the same name in lower case. Otherwise it is `image-` with its number among the taken payloads,
+/// counted from 0, or with the first free number after it. Nothing is written if something exists
+/// at one of these paths, unless files are replaced, or if one leads to the image. A file that did
+/// not get its name is removed.
 pub fn unpack<R: Files + AllocGlobal, S: Source, W: Write + Drop>(
     rt: &R,
     asked: &Unpacking<'_>,
@@ -71,7 +71,8 @@ pub fn unpack<R: Files + AllocGlobal, S: Source, W: Write + Drop>(
     }
 }
 
-// The name that is asked for, if one is; there is none where it is too long for the name of an image.
+// Returns the requested name, if there is one; none at all if it is too long for the name of an
+// image.
 fn only_of(only: Option<&str>) -> Option<Option<NodeName>> {
     match only {
         Some(name) => match NodeName::of(name.as_bytes()) {
@@ -82,7 +83,7 @@ fn only_of(only: Option<&str>) -> Option<Option<NodeName>> {
     }
 }
 
-// How it ended where so many payloads were taken.
+// Returns how it ended after `count` payloads.
 fn taken(asked: &Unpacking<'_>, all: bool, count: usize) -> Ended {
     if count == 0 && asked.only.is_some() {
         return Ended::Stopped(Fault::Fit(FitFault::NoSuchImage));

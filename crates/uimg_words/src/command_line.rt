@@ -1,4 +1,4 @@
-//! What the words of a command line ask for.
+//! What the words of a command line request.
 
 mod check;
 mod complaints;
@@ -22,10 +22,10 @@ use thiserror::Error;
 use uimg_requests::{MakeRequest, RunRequest, VERSION};
 pub use unpack::UnpackRequest;
 
-/// What the words of a command line ask for.
+/// What the words of a command line request.
 #[derive(Drop)]
 pub enum Asked<'a> {
-    /// Something about one image, or a text.
+    /// A command on one image, the making of one, or a text.
     One(Request<'a>),
 
     /// A check of any number of images.
@@ -41,7 +41,7 @@ pub enum Asked<'a> {
     Info(InfoRequest<'a>),
 }
 
-/// What is asked for about an image, or a text.
+/// A command on an image, the making of one, or a text.
 #[derive(Drop)]
 pub enum Request<'a> {
     /// A command on an image.
@@ -50,30 +50,30 @@ pub enum Request<'a> {
     /// The making of an image.
     Make(MakeRequest<'a>),
 
-    /// Help or the version, which is this text.
+    /// This text: help or the version.
     Show(clap::Error),
 }
 
-/// Why the words of a command line ask for nothing.
+/// Why the words of a command line request nothing.
 #[derive(Debug, Drop, Error)]
 pub enum WordsFault {
-    /// The words are not those of a command, as this text says.
+    /// The words are not those of a command; this text says why.
     #[error("{0}")]
     NoCommand(String),
 
-    /// There is no subcommand. The library of command lines tells this itself.
+    /// There is no subcommand. The command line library reports this itself.
     #[error("no command")]
     NoSubcommand,
 
-    /// Neither a listing nor an extraction was asked of dumpimage.
+    /// dumpimage was given neither -l nor -o.
     #[error("no -l or -o")]
     NoListOrOutfile,
 
-    /// Neither a listing was asked of mkimage, nor are there data or a source.
+    /// mkimage was given none of -l, -d and -f.
     #[error("no -d or -f")]
     NoDataOrSource,
 
-    /// No image was named to check.
+    /// No image to check is named.
     #[error("no image")]
     NoImages,
 
@@ -81,23 +81,23 @@ pub enum WordsFault {
     #[error("no folder")]
     NoFolder,
 
-    /// There are both data and a source.
+    /// Both data and a source are named.
     #[error("-d with -f")]
     DataWithSource,
 
-    /// The word of -A, -O, -T, -C, --need or --need-hash is no known short name.
+    /// The word of -A, -O, -T, -C, --need or --need-hash is not a known short name.
     #[error("unknown name")]
     UnknownName,
 
-    /// A FIT was asked for by -d.
+    /// -d was given with the type of FIT images.
     #[error("flat_dt needs -f")]
     FlatDtNeedsSource,
 
-    /// A position is not a decimal number of 32 bits, or an address no hexadecimal one.
+    /// A position is not a decimal number of 32 bits, or an address not a hexadecimal one.
     #[error("bad number")]
     BadNumber,
 
-    /// SOURCE_DATE_EPOCH is set and is not a decimal number of 32 bits.
+    /// SOURCE_DATE_EPOCH is set, but not to a decimal number of 32 bits.
     #[error("bad SOURCE_DATE_EPOCH")]
     BadEpoch,
 
@@ -112,8 +112,8 @@ impl From<AllocError> for WordsFault {
     }
 }
 
-/// Reads the words of a command line, the program's name first. `epoch` is SOURCE_DATE_EPOCH where
-/// it is set, and `now` the clock's moment.
+/// Reads the words of a command line; the program's name is the first. `epoch` is SOURCE_DATE_EPOCH
+/// if it is set, and `now` the current time in seconds since 1970.
 pub fn read_words<'a>(
     alloc: Global,
     words: &'a [&'a str],
@@ -145,8 +145,8 @@ fn request_of<'a>(
     Ok(Asked::One(request))
 }
 
-// What the library of command lines answers where it finds no command: help and the version were
-// asked for, and all else is a fault.
+// Returns the request for help or for the version, or the fault, if the command line library finds
+// no command.
 fn without_matches<'a>(alloc: Global, error: clap::Error) -> Result<Asked<'a>, WordsFault> {
     match error.kind() {
         ErrorKind::DisplayHelp | ErrorKind::DisplayVersion => Ok(Asked::One(Request::Show(error))),
@@ -179,24 +179,25 @@ fn commands<'a>(alloc: Global) -> Result<clap::Command<'a>, AllocError> {
         .subcommand(map::command(alloc)?)
 }
 
-// An option. Each further step on an argument takes the prover four times as long, so two are in one function.
+// Returns an option. Each further step on an argument takes the prover four times as long, so one
+// function has two.
 fn option<'a>(alloc: Global, id: &'a str, short: char, help: &'a str) -> Arg<'a> {
     Arg::new(alloc, id).short(short).help(help)
 }
 
-// An option with a value.
+// Returns an option with a value.
 fn value<'a>(alloc: Global, id: &'a str, short: char, help: &'a str) -> Arg<'a> {
     option(alloc, id, short, help)
         .action(ArgAction::Set)
         .value_name(id)
 }
 
-// An option without a value.
+// Returns an option without a value.
 fn flag<'a>(alloc: Global, id: &'a str, short: char, help: &'a str) -> Arg<'a> {
     option(alloc, id, short, help).action(ArgAction::SetTrue)
 }
 
-// The image, which each command is about.
+// Returns the operand for the image.
 fn image<'a>(alloc: Global, help: &'a str) -> Arg<'a> {
     Arg::new(alloc, "image").required(true).help(help)
 }

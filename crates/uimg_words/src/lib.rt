@@ -1,4 +1,4 @@
-//! The words of a command line: what they ask for, or why they ask for nothing.
+//! What the words of a command line request, or why they request nothing.
 #![tactic(auto)]
 
 mod command_line;

@@ -1,4 +1,4 @@
-//! The first name that is given and not there.
+//! Finds the first missing name.
 
 ghost use Rattle.std.specs.Prelude.{◌≡◌, ◌+◌, ℕ, List, length, drop};
 ghost use Rattle.std.specs.List.{All, find, sum_by};
@@ -20,10 +20,10 @@ use std::collections::BTreeSet;
 use uimg_base::{Source, Span, before_nul};
 use uimg_fit_checking::{ConfigurationFacts, Survey, SurveyFault, read_bytes};
 
-/// A name that is given, and that no image, or no configuration, has.
+/// A name that no image, or no configuration, has.
 #[derive(Drop)]
 pub struct Missing {
-    /// Where the name of the configuration stands that gives it. There is none of the default, which the
+    /// The span of the name of the configuration that gives it; none for the default, which the
     /// node `configurations` gives.
     pub configuration: Option<Span>,
 
@@ -34,7 +34,7 @@ pub struct Missing {
     pub name: Vec<u8>,
 }
 
-// The bytes behind a text and the NUL that ends it.
+// Returns the bytes after a text and its NUL.
 fn behind(bytes: &[u8], text: usize) -> &[u8]
     ensures { result.now ≡ drop (text + 1) bytes.now }
 {
@@ -45,7 +45,7 @@ fn behind(bytes: &[u8], text: usize) -> &[u8]
     }
 }
 
-// The first text of a value that is none of some names.
+// Returns the first text of a value that is not among these names.
 fn lost_in<'a>(names: &BTreeSet<Vec<u8>>, value: &'a [u8]) -> Option<&'a [u8]>
     ensures { (list : List (List ℕ)) → HasNames names.now list →
         option_map (λ text. text.now) result ≡ find (is_lost list) (pieces value.now) }
@@ -61,7 +61,7 @@ fn lost_in<'a>(names: &BTreeSet<Vec<u8>>, value: &'a [u8]) -> Option<&'a [u8]>
     None
 }
 
-// The first text of a property's value that is none of some names, if there is one.
+// Returns the first text of a property's value that is not among these names, if there is one.
 fn missing_under<S: Source>(
     alloc: Global,
     source: &mut S,
@@ -88,7 +88,8 @@ fn missing_under<S: Source>(
     }
 }
 
-// The properties of a configuration whose values name images, in the order in which they are looked at.
+// Returns the properties of a configuration whose values name images, in the order in which they
+// are checked.
 fn given_by(configuration: &ConfigurationFacts) -> [(Reference, Option<Span>); 9]
     ensures { result ≡ given_facts configuration.now }
 {
@@ -105,7 +106,8 @@ fn given_by(configuration: &ConfigurationFacts) -> [(Reference, Option<Span>); 9
     ]
 }
 
-// The first text of the values of some properties that is none of some names, if there is one.
+// Returns the first text in the values of several properties that is not among these names, if
+// there is one.
 fn missing_among<S: Source>(
     alloc: Global,
     source: &mut S,
@@ -126,7 +128,7 @@ fn missing_among<S: Source>(
     Ok(None)
 }
 
-// The first name that a configuration gives and no image has.
+// Returns the first name in a configuration that no image has.
 fn missing_of<S: Source>(
     alloc: Global,
     source: &mut S,
@@ -141,7 +143,7 @@ fn missing_of<S: Source>(
     missing_among(alloc, source, images, Some(configuration.name), &given)
 }
 
-// The first name that some configurations give and no image has.
+// Returns the first name in several configurations that no image has.
 fn first_missing<S: Source>(
     alloc: Global,
     source: &mut S,
@@ -161,13 +163,14 @@ fn first_missing<S: Source>(
     Ok(None)
 }
 
-/// The first name that a FIT image gives and does not have: its default where no configuration has this
-/// name, or else a name under `kernel`, `ramdisk`, `fdt`, `loadables`, `firmware`, `fpga`, `setup`,
-/// `standalone` or `script` of a configuration, in this order, that no image has. The configurations come
-/// in their order, and of a value each of its texts is a name.
+/// Finds the first name in a FIT image without an image or a configuration: its default, if no
+/// configuration has this name, or else a name that no image has, under `kernel`, `ramdisk`, `fdt`,
+/// `loadables`, `firmware`, `fpga`, `setup`, `standalone` or `script` of a configuration, in this
+/// order. Configurations are checked in their order, and each text of a value is a name.
 ///
-/// Each name, and each value up to the one that is told, is read once. The names and one value at a time
-/// are held in memory, `OutOfMemory` where it was refused. `Stopped` has a failed read, and no other fault.
+/// Reads each name, and each value up to the one with the missing name, once. Holds the names and
+/// one value at a time in memory; returns `OutOfMemory` if that was refused, `Stopped` with `Read`
+/// if a read failed, and no other fault.
 pub fn find_missing<S: Source>(
     alloc: Global,
     source: &mut S,

@@ -1,4 +1,4 @@
-//! The names that a FIT image has, as a set.
+//! The names of images and configurations, as a set.
 
 ghost use Rattle.std.specs.Prelude.{◌+◌, ◌≤◌, length, map, IsTrue};
 ghost use Rattle.std.specs.Result.{OnOk};
@@ -12,7 +12,7 @@ use std::collections::BTreeSet;
 use uimg_base::{Source, Span};
 use uimg_fit_checking::{ConfigurationFacts, ImageFacts, SurveyFault, read_bytes};
 
-// Adds the name at a span to some.
+// Adds the name at a span to a set.
 fn add_name<S: Source>(
     alloc: Global,
     source: &mut S,
@@ -32,7 +32,7 @@ fn add_name<S: Source>(
     Ok(())
 }
 
-// The names of images.
+// Returns the names of images.
 pub(crate) fn image_names<S: Source>(
     alloc: Global,
     source: &mut S,
@@ -51,7 +51,7 @@ pub(crate) fn image_names<S: Source>(
     Ok(names)
 }
 
-// The names of configurations.
+// Returns the names of configurations.
 pub(crate) fn configuration_names<S: Source>(
     alloc: Global,
     source: &mut S,

@@ -29,7 +29,7 @@ pub enum Reference {
 }
 
 impl Reference {
-    /// The name of the property.
+    /// Returns the name of the property.
     pub fn name(self) -> &'static str
         ensures { result.now ≡ property_name self }
     {

@@ -14,8 +14,8 @@ use uimg_tree::Node;
 /// The properties of a configuration whose values are names of images.
 const REFERENCES: [&str; 6] = ["kernel", "ramdisk", "fdt", "loadables", "firmware", "fpga"];
 
-/// Tells what is wrong with the configurations, which are right below a node, over the node of the
-/// images. Memory may be refused.
+/// Warns about the configurations, the child nodes of a node; `images` is the node of the images.
+/// Fails if memory is refused.
 pub(crate) fn tell_of_configurations<W: Write>(
     alloc: Global,
     configurations: &Node<Global>,
@@ -36,7 +36,7 @@ pub(crate) fn tell_of_configurations<W: Write>(
     Ok(())
 }
 
-// The node that the configurations are below.
+// Warns about the node of the configurations.
 fn tell_of_node<W: Write>(
     alloc: Global,
     configurations: &Node<Global>,
@@ -48,7 +48,7 @@ fn tell_of_node<W: Write>(
     tell_default(alloc, path, configurations, teller)
 }
 
-// A default that no configuration has. What stands behind a NUL is not looked at.
+// Warns about a default without a configuration. What follows a NUL is ignored.
 fn tell_default<W: Write>(
     alloc: Global,
     path: NodePath<'_>,
@@ -69,7 +69,7 @@ fn tell_default<W: Write>(
     Ok(())
 }
 
-// The names of the nodes right below a node.
+// Returns the names of a node's child nodes.
 fn names_below(alloc: Global, node: &Node<Global>) -> Result<BTreeSet<&[u8]>, AllocError> {
     let mut names = BTreeSet::new(alloc);
     for child in node.children.items() {
@@ -96,7 +96,7 @@ fn tell_of_configuration<W: Write>(
     }
 }
 
-// Whether the value of a property of a configuration is names of images.
+// Returns whether a property of a configuration names images.
 fn is_reference(property: &[u8]) -> bool {
     for name in REFERENCES {
         if name.as_bytes() == property {
@@ -106,7 +106,7 @@ fn is_reference(property: &[u8]) -> bool {
     false
 }
 
-// The texts of a value that no image has as its name.
+// Warns about texts of a value that no image has as its name.
 fn tell_missing<W: Write>(
     path: NodePath<'_>,
     property: &[u8],

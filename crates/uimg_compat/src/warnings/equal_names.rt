@@ -1,4 +1,4 @@
-//! Names that stand twice in a node. dtc refuses them, and readers take one of the two.
+//! Names that occur twice in a node. dtc refuses them, and readers use one of the two.
 
 use crate::warnings::node_paths::NodePath;
 use crate::warnings::teller::Teller;
@@ -8,8 +8,8 @@ use std::collections::BTreeSet;
 use std::io::Write;
 use uimg_tree::Node;
 
-/// Tells of names that two nodes right below a node have, or two of its properties. Memory for the
-/// names may be refused.
+/// Warns about names that two child nodes of a node have, or two of its properties. Fails if memory
+/// for the names is refused.
 pub(crate) fn tell_equal_names<W: Write>(
     alloc: Global,
     path: NodePath<'_>,

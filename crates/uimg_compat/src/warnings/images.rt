@@ -19,7 +19,7 @@ const NAMED: [(&str, Field); 4] = [
     ("compression", Field::Compression),
 ];
 
-/// Tells what is wrong with the images, which are right below a node. Memory may be refused.
+/// Warns about the images, the child nodes of a node. Fails if memory is refused.
 pub(crate) fn tell_of_images<W: Write>(
     alloc: Global,
     images: &Node<Global>,
@@ -46,7 +46,7 @@ fn tell_of_image<W: Write>(path: NodePath<'_>, image: &Node<Global>, teller: &mu
     }
 }
 
-// The hash nodes of an image, and what else is right below it.
+// Warns about the hash nodes of an image, and its other child nodes.
 fn tell_of_hashes<W: Write>(
     alloc: Global,
     names: [&[u8]; 2],
@@ -61,7 +61,7 @@ fn tell_of_hashes<W: Write>(
     Ok(())
 }
 
-// A name that no code has. What stands behind a NUL is not looked at.
+// Warns about a name that no code has. What follows a NUL is ignored.
 fn tell_unknown_name<W: Write>(
     path: NodePath<'_>,
     property: &Prop<Global>,
@@ -77,7 +77,7 @@ fn tell_unknown_name<W: Write>(
     }
 }
 
-// The field whose names a property has.
+// Returns the field whose names a property has.
 fn field_of(property: &[u8]) -> Option<Field> {
     for (name, field) in NAMED {
         if name.as_bytes() == property {

@@ -4,8 +4,7 @@ use crate::quoted::Escaped;
 use std::fmt;
 use std::fmt::{Display, Formatter, Write};
 
-/// The path of a node: the names of the nodes that lead to it from the root, and its own. That of the
-/// root has none.
+/// The path of a node: the names of the nodes from the root to it; empty for the root.
 #[derive(Clone, Copy, Debug)]
 pub(crate) struct NodePath<'a>(pub(crate) &'a [&'a [u8]]);
 

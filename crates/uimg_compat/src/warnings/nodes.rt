@@ -1,9 +1,9 @@
-//! What is looked up in a node.
+//! Look-ups in a node.
 
 use std::alloc::Global;
 use uimg_tree::{Node, Value};
 
-/// The first node of a name right below a node.
+/// Returns the first child node of a name.
 pub(crate) fn child_of<'a>(node: &'a Node<Global>, name: &[u8]) -> Option<&'a Node<Global>> {
     for child in node.children.items() {
         if child.name.items() == name {
@@ -13,7 +13,7 @@ pub(crate) fn child_of<'a>(node: &'a Node<Global>, name: &[u8]) -> Option<&'a No
     None
 }
 
-/// Whether a node has a property of a name.
+/// Returns whether a node has a property of this name.
 pub(crate) fn has_property(node: &Node<Global>, name: &str) -> bool {
     for property in node.props.items() {
         if property.name.items() == name.as_bytes() {
@@ -23,7 +23,7 @@ pub(crate) fn has_property(node: &Node<Global>, name: &str) -> bool {
     false
 }
 
-/// The bytes of a value that is not left in a file.
+/// Returns the bytes of a value, unless they are left in a file.
 pub(crate) fn bytes_of(value: &Value<Global>) -> Option<&[u8]> {
     match value {
         Value::Bytes(bytes) => Some(bytes.items()),

@@ -11,14 +11,15 @@ use std::alloc::{AllocError, Global};
 use std::io::Write;
 use uimg_tree::{Node, Tree};
 
-/// Tells what is wrong with the tree of a source, a line each, the first 20 of them and how many more
-/// there are: a description that the root, an image or a configuration lacks, and the root's
-/// `#address-cells`; a name in a configuration that no image has, and a default that no configuration
-/// has; a type, architecture, operating system or compression of an image that is no name of image.h;
-/// and nodes or properties with one name in one node, down to what is right below an image.
+/// Warns about the tree of a source, a line for each of the first 20 warnings, and a line with the
+/// number of further ones: a description that the root, an image or a configuration lacks, and the
+/// root's `#address-cells`; a name in a configuration without an image, and a default without a
+/// configuration; a type, architecture, operating system or compression of an image that is no name
+/// of image.h; and nodes or properties with one name in one node, down to the child nodes of
+/// images.
 ///
-/// It takes memory for the names of one node and those of the images; where that is refused the rest
-/// is not looked for. A failed write changes nothing.
+/// Takes memory for the names of one node and those of the images; if that is refused, the rest is
+/// not checked. Failed writes are ignored.
 pub fn warn<W: Write>(alloc: Global, tree: &Tree<Global>, err: &mut W) {
     let mut teller = Teller::new(err);
     let _ = tell_of_root(alloc, &tree.root, &mut teller);

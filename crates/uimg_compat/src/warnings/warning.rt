@@ -1,4 +1,4 @@
-//! What a warning tells.
+//! The texts of warnings.
 
 use crate::names::title_of;
 use crate::quoted::{Escaped, Quoted};
@@ -6,22 +6,22 @@ use std::fmt;
 use std::fmt::{Display, Formatter, Write};
 use uimg_names::Field;
 
-/// What a warning tells of a node.
+/// A warning about a node.
 #[derive(Clone, Copy, Debug)]
 pub(crate) enum Warning<'a> {
     /// It lacks the property of this name.
     Lacks(&'static str),
 
-    /// A property of it names an image that there is not.
+    /// One of its properties names an image that does not exist.
     NoImage { property: &'a [u8], name: &'a [u8] },
 
-    /// Its `default` names a configuration that there is not.
+    /// Its `default` names a configuration that does not exist.
     NoConfiguration(&'a [u8]),
 
-    /// No code of a field has the name that it gives.
+    /// It gives a name that no code of the field has.
     UnknownName { field: Field, name: &'a [u8] },
 
-    /// Two nodes right below it have this name.
+    /// Two of its child nodes have this name.
     EqualNodes(&'a [u8]),
 
     /// Two of its properties have this name.

@@ -1,4 +1,4 @@
-//! What is found of images whose hash nodes are all right.
+//! The finding about images whose hash nodes are all right.
 
 ghost use Rattle.std.specs.Prelude.{◌≡◌, ◌+◌, ◌<◌, ◌≤◌, List, length};
 ghost use Rattle.std.specs.Option.{option_map};
@@ -19,7 +19,7 @@ use uimg_base::{Algo, Room, Span};
 use uimg_blob::Blob;
 use uimg_fit_reading::nodes::{first_hash, name_of, next_hash, next_of};
 
-// A count with the hash nodes from one on; there are no more of them than entries.
+// Adds the number of hash nodes from one on to a count; there are no more of them than entries.
 fn count_hashes<A: Allocator>(
     blob: &Blob,
     room: &Room<A>,
@@ -44,7 +44,7 @@ fn count_hashes<A: Allocator>(
     count
 }
 
-// How many hash nodes the images from one on have.
+// Counts the hash nodes of the images from one on.
 fn count_all<A: Allocator>(blob: &Blob, room: &Room<A>, first: Option<usize>) -> usize
     requires { IsEntryOrNone blob.now room.now first }
     ensures { InTreeFrom blob.now room.now in_images first (λ found. result ≡ hash_count found) }
@@ -58,7 +58,7 @@ fn count_all<A: Allocator>(blob: &Blob, room: &Room<A>, first: Option<usize>) ->
     count
 }
 
-// Where the name of the first image from one on stands that has no hash node.
+// Returns the span of the name of the first image from one on that has no hash node.
 fn first_unhashed<A: Allocator>(blob: &Blob, room: &Room<A>, first: Option<usize>) -> Option<Span>
     requires { IsEntryOrNone blob.now room.now first }
     ensures inside { InAnyFile blob.now room.now (λ size. Ends size result) }
@@ -75,7 +75,7 @@ fn first_unhashed<A: Allocator>(blob: &Blob, room: &Room<A>, first: Option<usize
     None
 }
 
-// The same where no strength is needed.
+// Does the same, if no strength is needed.
 fn unhashed<A: Allocator>(
     blob: &Blob,
     room: &Room<A>,
@@ -93,7 +93,7 @@ fn unhashed<A: Allocator>(
     }
 }
 
-// What is found of the images from one on, whose hash nodes are all right.
+// Returns the finding about the images from one on, whose hash nodes are all right.
 pub(crate) fn all_right<A: Allocator>(
     blob: &Blob,
     room: &Room<A>,

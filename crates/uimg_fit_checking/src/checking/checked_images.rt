@@ -1,4 +1,4 @@
-//! Images are checked one after the other, up to the first finding.
+//! Checks images one after the other, up to the first finding.
 
 ghost use Rattle.std.specs.Prelude.{length, IfOk, IfSome};
 ghost use Rattle.uimg_blob.specs.Roles.{in_images};
@@ -16,7 +16,7 @@ use uimg_fit_base::Fault;
 use uimg_fit_reading::nodes::next_of;
 use uimg_fit_reading::payload_place;
 
-// Checks an image, where so many bytes of payloads may be read.
+// Checks an image, of whose payload at most `left` bytes may be read.
 fn check_image<S: Source, A: Allocator>(
     source: &mut S,
     blob: &Blob,
@@ -35,7 +35,8 @@ fn check_image<S: Source, A: Allocator>(
     Ok(check_payload(source, blob, room, image, span, need, left)?)
 }
 
-// The first finding of the images from one on, of whose payloads as many bytes may be read as the source has.
+// Returns the first finding about the images from one on; of their payloads as many bytes may be
+// read as the source has.
 pub(crate) fn first_finding<S: Source, A: Allocator>(
     source: &mut S,
     blob: &Blob,

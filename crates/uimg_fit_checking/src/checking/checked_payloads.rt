@@ -1,4 +1,4 @@
-//! The hash nodes of one image are compared with its payload.
+//! Compares the hash nodes of one image with its payload.
 
 ghost use Rattle.std.specs.Prelude.{◌≡◌, ◌+◌, ◌≤◌, length, is_err, IfOk, if◌then◌else◌};
 ghost use Rattle.uimg_base.specs.Using.{Uses};
@@ -17,23 +17,23 @@ use uimg_fit_base::AlgoSet;
 use uimg_fit_reading::nodes::{first_hash, name_of};
 use uimg_fit_reading::{compared_algos, payload_digests};
 
-/// What is told of an image.
+/// The result of checking an image.
 #[derive(Clone, Copy, Debug, PartialEq, Eq)]
 pub(crate) enum Checked {
-    // It is in order, and so many bytes may still be read.
+    // It is in order, and this many bytes may still be read.
     On(u64),
-    // This is found of it.
+    // The finding about it.
     Ended(Finding),
 }
 
-// How many bytes of a payload are read to compare it by the algorithms of a set.
+// Returns how many bytes of a payload are read to compare it by the algorithms of a set.
 fn read_size(set: AlgoSet, span: Span) -> u64
     ensures { result ≡ (if is_empty set then 0 else span.length) }
 {
     if set.is_empty() { 0 } else { span.length }
 }
 
-// Checks an image whose payload stands at a place, where so many bytes may be read.
+// Checks an image whose payload was found, of which at most `left` bytes may be read.
 pub(crate) fn check_payload<S: Source, A: Allocator>(
     source: &mut S,
     blob: &Blob,

@@ -1,10 +1,10 @@
-//! What a FIT image says of itself, as the places of the values in its file.
+//! The facts of a FIT image, as spans in its file.
 
 use uimg_base::Span;
 use uimg_blob::PropertyPlace;
 use uimg_fit_reading::PayloadFacts;
 
-/// What a hash node says.
+/// The facts of a hash node.
 #[derive(Clone, Copy, Debug, PartialEq, Eq)]
 pub struct HashFacts {
     /// Its name.
@@ -15,7 +15,7 @@ pub struct HashFacts {
     pub value: Option<Span>,
 }
 
-/// What an image says.
+/// The facts of an image.
 #[derive(Drop)]
 pub struct ImageFacts {
     /// Its name.
@@ -34,13 +34,13 @@ pub struct ImageFacts {
     pub load: Option<Span>,
     /// `entry`: an address of one or two cells.
     pub entry: Option<Span>,
-    /// Where its payload stands, by its properties.
+    /// The properties that say where its payload is.
     pub payload: PayloadFacts,
     /// Its hash nodes, in their order.
     pub hashes: Vec<HashFacts>,
 }
 
-/// What a configuration says.
+/// The facts of a configuration.
 #[derive(Drop)]
 pub struct ConfigurationFacts {
     /// Its name.
@@ -65,14 +65,14 @@ pub struct ConfigurationFacts {
     pub standalone: Option<Span>,
     /// `script`: an image's name.
     pub script: Option<Span>,
-    /// The names of the nodes below it, its hashes and signatures, in their order.
+    /// The names of its child nodes, hashes and signatures, in their order.
     pub nodes: Vec<Span>,
 }
 
-/// What a FIT image says of itself. Of properties that come twice in a node the first counts.
+/// The facts of a FIT image. Of properties with the same name in a node the first counts.
 #[derive(Drop)]
 pub struct Survey {
-    /// How many bytes its blob has, by its header.
+    /// The length of its blob in bytes, by the blob's header.
     pub totalsize: u32,
     /// The root's `description`: a text.
     pub description: Option<Span>,
@@ -80,17 +80,17 @@ pub struct Survey {
     pub timestamp: Option<Span>,
     /// The images, in their order.
     pub images: Vec<ImageFacts>,
-    /// `default`: the name of the configuration that is taken where none is asked for.
+    /// `default`: the name of the configuration that is used unless another one is requested.
     pub preferred: Option<Span>,
     /// The configurations, in their order.
     pub configurations: Vec<ConfigurationFacts>,
 }
 
-/// What a FIT image says of itself, and where the properties of its configurations stand.
+/// The facts of a FIT image, and the properties of its configurations.
 #[derive(Drop)]
 pub struct FullSurvey {
-    /// What it says.
+    /// The facts.
     pub survey: Survey,
-    /// For each configuration, in their order, where its properties stand, in their order.
+    /// For each configuration, in their order, its properties, in their order.
     pub properties: Vec<Vec<PropertyPlace>>,
 }

@@ -1,20 +1,20 @@
-//! Why there is no survey of a FIT image.
+//! Why a FIT image has no survey.
 
 use std::alloc::AllocError;
 use thiserror::Error;
 use uimg_base::SourceFault;
 use uimg_fit_base::{Fault, FitFault};
 
-/// Why there is no survey. Its text is the line that the program prints.
+/// Why an image has no survey. Its text is the line that the program prints.
 #[derive(Clone, Copy, Debug, PartialEq, Eq, Error)]
 pub enum SurveyFault {
     /// The image is refused, a read failed, or memory for the table of its nodes was refused.
     #[error("{0}")]
     Stopped(Fault),
-    /// Memory for what is gathered was refused.
+    /// Memory for the facts was refused.
     #[error("out of memory")]
     OutOfMemory,
-    /// The source has not the blob that was indexed. It comes only of `survey_with_properties`.
+    /// The blob is not the one that was indexed. Only `survey_with_properties` returns it.
     #[error("changed while it was read")]
     Changed,
 }

@@ -1,4 +1,4 @@
-//! What images, hash nodes and configurations say, gathered from the nodes of an indexed blob.
+//! Collects the facts of images, hash nodes and configurations from the nodes of an indexed blob.
 
 ghost use Rattle.std.specs.Prelude.{◌≡◌, ◌<◌, length, IfOk, true};
 ghost use Rattle.uimg_blob.specs.LookUps.{hashes};
@@ -14,7 +14,7 @@ use uimg_blob::{Blob, Key};
 use uimg_fit_reading::nodes::{child_of, first_hash, name_of, next_hash, next_of, value_of};
 use uimg_fit_reading::payload_facts;
 
-// What a hash node says.
+// Returns the facts of a hash node.
 fn hash_facts<A: Allocator>(blob: &Blob, room: &Room<A>, hash: usize) -> HashFacts
     requires { hash < length room.now.entries }
     ensures inside { InAnyFile blob.now room.now (λ size. HashInside size result) }
@@ -28,7 +28,7 @@ fn hash_facts<A: Allocator>(blob: &Blob, room: &Room<A>, hash: usize) -> HashFac
     }
 }
 
-// What the hash nodes from one on say.
+// Collects the facts of the hash nodes from one on.
 fn gather_hashes<A: Allocator>(
     alloc: Global,
     blob: &Blob,
@@ -48,7 +48,7 @@ fn gather_hashes<A: Allocator>(
     Ok(facts)
 }
 
-// What an image says.
+// Returns the facts of an image.
 fn image_facts<A: Allocator>(
     alloc: Global,
     blob: &Blob,
@@ -75,7 +75,7 @@ fn image_facts<A: Allocator>(
     })
 }
 
-// What the images from one on say.
+// Collects the facts of the images from one on.
 pub(super) fn gather_images<A: Allocator>(
     alloc: Global,
     blob: &Blob,
@@ -95,7 +95,7 @@ pub(super) fn gather_images<A: Allocator>(
     Ok(facts)
 }
 
-// The names of the nodes from one on, below a configuration.
+// Collects the names of the child nodes of a configuration, from one on.
 fn gather_names<A: Allocator>(
     alloc: Global,
     blob: &Blob,
@@ -115,7 +115,7 @@ fn gather_names<A: Allocator>(
     Ok(names)
 }
 
-// What a configuration says.
+// Returns the facts of a configuration.
 fn configuration_facts<A: Allocator>(
     alloc: Global,
     blob: &Blob,
@@ -144,7 +144,7 @@ fn configuration_facts<A: Allocator>(
     })
 }
 
-// What the configurations from one on say.
+// Collects the facts of the configurations from one on.
 pub(super) fn gather_configurations<A: Allocator>(
     alloc: Global,
     blob: &Blob,

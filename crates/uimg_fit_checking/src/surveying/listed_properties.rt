@@ -1,4 +1,4 @@
-//! Where the properties of configurations stand, those of no known key too.
+//! Lists the properties of configurations, with or without a known key.
 
 ghost use Rattle.std.specs.Prelude.{◌<◌, length, map, IfOk};
 ghost use Rattle.std.specs.List.{All};
@@ -17,7 +17,7 @@ use uimg_blob::{Blob, PropertiesFault, PropertyPlace, properties_of};
 use uimg_fit_base::Fault;
 use uimg_fit_reading::nodes::{child_of, configurations_of, next_of};
 
-// Where the properties of a configuration stand.
+// Lists the properties of a configuration.
 fn list_properties<S: Source, A: Allocator>(
     alloc: Global,
     source: &mut S,
@@ -39,7 +39,7 @@ fn list_properties<S: Source, A: Allocator>(
     }
 }
 
-// Where the properties of the configurations from one on stand.
+// Lists the properties of the configurations from one on.
 fn gather_properties<S: Source, A: Allocator>(
     alloc: Global,
     source: &mut S,
@@ -69,7 +69,7 @@ fn gather_properties<S: Source, A: Allocator>(
     Ok(lists)
 }
 
-// Where the properties of the configurations stand, if there are any.
+// Lists the properties of the configurations, if there are any.
 pub(super) fn configuration_properties<S: Source, A: Allocator>(
     alloc: Global,
     source: &mut S,

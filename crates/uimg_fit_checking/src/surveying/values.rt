@@ -1,4 +1,4 @@
-//! Values are read where a survey tells that they stand.
+//! Reads values at the spans of a survey.
 
 ghost use Rattle.std.specs.Prelude.{◌≡◌, ◌+◌, ◌≤◌, length, IsTrue, IfOk};
 ghost use Rattle.uimg_base.specs.Using.{Asks};
@@ -9,8 +9,9 @@ use crate::surveying::fault::SurveyFault;
 use std::alloc::Global;
 use uimg_base::{Source, Span};
 
-/// The bytes at a span of a survey, read into memory by one read of just as many bytes. `OutOfMemory` comes
-/// where memory for them was refused, and `Stopped` where the read failed, and with no other fault.
+/// Reads the bytes at a span of a survey into memory, by one read of exactly these bytes. Returns
+/// `OutOfMemory` if memory for them was refused, `Stopped` with `Read` if the read failed, and no
+/// other fault.
 pub fn read_bytes<S: Source>(
     alloc: Global,
     source: &mut S,

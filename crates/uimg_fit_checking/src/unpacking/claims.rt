@@ -1,5 +1,5 @@
-//! Images are looked at before any payload is taken: whether their payloads are there, and are no more bytes
-//! together than the file has.
+//! Checks, before any payload is taken, that the payloads of all requested images are present and
+//! have at most the file's length together.
 
 ghost use Rattle.std.specs.Prelude.{◌≡◌, IsTrue};
 ghost use Rattle.std.specs.Option.{option_map};
@@ -17,16 +17,16 @@ use uimg_fit_base::Fault;
 use uimg_fit_reading::nodes::{name_of, next_of};
 use uimg_fit_reading::payload_place;
 
-/// What is told of an image before any payload is taken.
+/// The result of claiming an image.
 #[derive(Clone, Copy, Debug)]
 enum Claim {
-    // So many bytes may still be read.
+    // This many bytes may still be read.
     Fits(u64),
-    // With the payload of the image of this name, they are too few.
+    // The payload of the image of this name is longer than the bytes that may still be read.
     Overlaps(NodeName),
 }
 
-// Whether an image of a name is asked for, where all are or those of one name.
+// Returns whether an image is requested: all are, or those of one name.
 pub(super) fn is_asked(only: Option<NodeName>, name: &NodeName) -> bool
     ensures { result ≡ is_asked (option_map bytes_of only) (bytes_of name.now) }
 {
@@ -36,7 +36,7 @@ pub(super) fn is_asked(only: Option<NodeName>, name: &NodeName) -> bool
     }
 }
 
-// Claims an image, where so many bytes of payloads may be read.
+// Claims an image, of whose payload at most `left` bytes may be read.
 fn claim_image<S: Source, A: Allocator, T: Taker>(
     source: &mut S,
     blob: &Blob,
@@ -64,8 +64,8 @@ fn claim_image<S: Source, A: Allocator, T: Taker>(
     Ok(Claim::Fits(left - payload.length))
 }
 
-// Claims the images from one on that are asked for, of whose payloads as many bytes may be read as the
-// source has. It gives the name of the first with which they have more.
+// Claims the requested images from one on; of their payloads as many bytes may be read as the
+// source has. Returns the name of the first one that exceeds this.
 pub(super) fn claim_images<S: Source, A: Allocator, T: Taker>(
     source: &mut S,
     blob: &Blob,

@@ -1,4 +1,4 @@
-//! A payload is written while it is summed, so that each byte is asked for once.
+//! Writes a payload while it is summed: each byte is requested once.
 
 ghost use Rattle.std.specs.Prelude.{◌≡◌, ◌+◌, ◌≤◌, length, IfOk, OnOk};
 ghost use Rattle.uimg_base.specs.Device.{asked_more};
@@ -11,7 +11,7 @@ use std::io::Write;
 use uimg_base::{Bundle, MoveFault, Out, Room, Source, Span, WINDOW};
 use uimg_fit_base::{AlgoSet, Digests};
 
-// Takes at most a window.
+// Sums and writes at most one window.
 fn take_window<S: Source, W: Write>(
     sums: &mut Bundle,
     source: &mut S,
@@ -37,7 +37,7 @@ fn take_window<S: Source, W: Write>(
     Ok(())
 }
 
-// Takes the `len` bytes at an offset, through a window.
+// Sums and writes the `len` bytes at an offset, through a window.
 fn take_range<S: Source, W: Write>(
     sums: &mut Bundle,
     source: &mut S,
@@ -59,8 +59,8 @@ fn take_range<S: Source, W: Write>(
     Ok(())
 }
 
-// Writes a payload, and gives its digests by the algorithms of a set: whatever the source answers, they
-// are the digests of what was written.
+// Writes a payload, and returns its digests by the algorithms of a set. They are the digests of
+// what was written, whatever the source returned.
 pub(super) fn take_payload<S: Source, A: Allocator, W: Write>(
     source: &mut S,
     room: &mut Room<A>,

@@ -1,4 +1,4 @@
-//! Payloads that are taken into memory.
+//! Payloads that are unpacked into memory.
 
 ghost use Rattle.std.specs.Prelude.{◌≡◌, [], true, map};
 ghost use Rattle.uimg_fit_checking.specs.MemTakes.{take_at};
@@ -8,7 +8,7 @@ use crate::unpacking::taker::{Refusal, Taker, Vouched};
 use std::alloc::Allocator;
 use uimg_base::PutFault;
 
-/// A payload that was taken into memory, or refused.
+/// A payload that was unpacked into memory, or refused.
 #[derive(Drop)]
 pub enum MemTake<A: Allocator> {
     /// It is kept.
@@ -29,7 +29,7 @@ pub enum MemTake<A: Allocator> {
     },
 }
 
-/// A taker in memory, which keeps all that it is given. It refuses only where memory was refused.
+/// A taker in memory, which keeps all that it is given. It refuses only if memory was refused.
 #[derive(Drop)]
 pub struct MemTaker<A: Allocator + Copy> {
     alloc: A,
@@ -37,7 +37,7 @@ pub struct MemTaker<A: Allocator + Copy> {
 }
 
 impl<A: Allocator + Copy> MemTaker<A> {
-    /// A taker that was given nothing yet.
+    /// Returns a taker that was given nothing.
     pub fn new(alloc: A) -> MemTaker<A>
         ensures { ⟦<MemTaker<A> as Taker>⟧.takes result ≡ [] }
     {
@@ -47,7 +47,7 @@ impl<A: Allocator + Copy> MemTaker<A> {
         }
     }
 
-    /// What it was given.
+    /// Returns what it was given.
     pub fn takes(&self) -> &[MemTake<A>]
         ensures { map take_at result.now ≡ ⟦<MemTaker<A> as Taker>⟧.takes self.now }
     {

@@ -1,4 +1,4 @@
-//! Names of nodes, out of the image that they stand in.
+//! Names of nodes, read from their image.
 
 ghost use Rattle.std.specs.Prelude.{◌≡◌, ◌≤◌, ◌+◌, ◌↔◌, length, take, is_err, IfOk, IfSome, IsSome, IsTrue};
 ghost use Rattle.uimg_base.specs.Using.{Asks};
@@ -6,7 +6,7 @@ ghost use Rattle.uimg_fit_reading.specs.Values.{in_span};
 
 use uimg_base::{Source, SourceFault, Span};
 
-/// The most bytes that a name has.
+/// The longest name, in bytes.
 const NAME_LEN: usize = 255;
 
 /// The name of a node, of at most 255 bytes.
@@ -18,14 +18,14 @@ pub struct NodeName {
 }
 
 impl NodeName {
-    /// The bytes of the name.
+    /// Returns the bytes of the name.
     pub fn bytes(&self) -> &[u8]
         ensures { result.now ≡ take self.now.length self.now.bytes }
     {
         &self.bytes[..self.length]
     }
 
-    /// A name of these bytes, if they are not more than a name has.
+    /// Returns a name of these bytes, if they are at most 255.
     pub fn of(bytes: &[u8]) -> Option<NodeName>
         ensures bytes { IfSome result (λ name. take name.length name.bytes ≡ bytes.now) }
         ensures some { IsSome result ↔ (length bytes.now ≤ 255) }
@@ -42,7 +42,7 @@ impl NodeName {
     }
 }
 
-// The name at a span, of which no more is read than a name has.
+// Reads the name at a span, at most 255 bytes of it.
 pub(super) fn read_name<S: Source>(source: &mut S, span: Span) -> Result<NodeName, SourceFault>
     requires { span.place + span.length ≤ length (S.device source.old).bytes }
     ensures uses { Asks 255 (is_err result) (S.device source.old) (S.device source.new) }

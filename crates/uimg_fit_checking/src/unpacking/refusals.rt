@@ -1,4 +1,4 @@
-//! Whether the hash nodes of an image stand for what was written of its payload.
+//! Whether the hash nodes of an image vouch for what was written of its payload.
 
 ghost use Rattle.std.specs.Prelude.{◌≡◌, ◌≤◌, ◌+◌, ℕ, List, length, is_err, IfOk, IsTrue};
 ghost use Rattle.uimg_base.specs.Using.{Asks, Uses};
@@ -21,7 +21,7 @@ use uimg_blob::Blob;
 use uimg_fit_base::{AlgoSet, Digests};
 use uimg_fit_reading::nodes::first_hash;
 
-// The strongest algorithm of a set.
+// Returns the strongest algorithm of a set.
 #[tactic(auto, unfolding(crate::specs::Unpacking::strongest))]
 fn strongest(set: AlgoSet) -> Option<Algo>
     ensures { result ≡ strongest set }
@@ -47,7 +47,7 @@ fn strongest(set: AlgoSet) -> Option<Algo>
     None
 }
 
-// What vouches for bytes that are compared by the algorithms of a set, by their digests.
+// Returns what vouches for bytes that are compared by the algorithms of a set, from their digests.
 pub(super) fn vouched_by(set: AlgoSet, digests: &Digests) -> Option<Vouched>
     requires { set_of digests.now ≡ set }
     ensures { (message : List ℕ) → AreDigests digests.now message → result ≡ vouched_by set message }
@@ -61,7 +61,7 @@ pub(super) fn vouched_by(set: AlgoSet, digests: &Digests) -> Option<Vouched>
     }
 }
 
-// The refusal of a payload with a hash node that is not right.
+// Returns the refusal of a payload with a hash node that is not right.
 fn refusal<S: Source>(source: &mut S, wrong: WrongHash) -> Result<Refusal, SourceFault>
     requires { wrong.hash.place + wrong.hash.length ≤ length (S.device source.old).bytes }
     ensures uses { Asks 255 (is_err result) (S.device source.old) (S.device source.new) }
@@ -74,8 +74,8 @@ fn refusal<S: Source>(source: &mut S, wrong: WrongHash) -> Result<Refusal, Sourc
     })
 }
 
-// Why a payload is refused by its digests, if it is: a hash node that is not right, or else that none is as
-// strong as is needed.
+// Returns why a payload is refused by its digests, if it is: a hash node that is not right, or else
+// none as strong as needed.
 pub(super) fn refusal_of<S: Source, A: Allocator>(
     source: &mut S,
     blob: &Blob,

@@ -1,4 +1,4 @@
-//! Who is given the payloads that are taken out of an image.
+//! The trait of those who are given unpacked payloads.
 
 ghost use Rattle.std.specs.Prelude.{◌≡◌, ℕ, [], List, Bool, false, Some, IfOk, IsTrue};
 ghost use Rattle.uimg_fit_checking.specs.Unpacking.{Take, kept, refused, told_of, bytes_of, AddsIf, IsVouched};
@@ -13,7 +13,7 @@ use uimg_fit_base::Verdict;
 pub struct Vouched {
     /// The algorithm.
     pub algo: Algo,
-    /// The digest of the payload by it, with zeros behind it up to 64 bytes.
+    /// The payload's digest by it, padded with zeros to 64 bytes.
     pub digest: [u8; 64],
 }
 
@@ -24,19 +24,19 @@ pub enum Refusal {
     Wrong {
         /// The name of the hash node, the first of the image that is not right.
         hash: NodeName,
-        /// What a report says of it.
+        /// The word that a report prints for it.
         word: Verdict,
     },
     /// No hash node of its image is compared by an algorithm at least as strong as the needed one.
     Weak,
 }
 
-/// Who is given the payloads that are taken out of an image, one after another. An image is told by its
-/// name, which others may have too.
+/// Receives the unpacked payloads of an image one after another, by the names of their images,
+/// which may come more than once.
 ///
-/// Contracts see an honest one as the list of what it was given.
+/// Contracts see an honest taker as the list of what it was given.
 pub trait Taker {
-    /// What a payload is written to while nothing vouches for it yet. Only `keep` gives it its name.
+    /// What a payload is written to before anything vouches for it. Only `keep` gives it its name.
     type Shelf: Write + Drop;
 
     /// Whether shelves hold what is written to them, and the list has all that was given.
@@ -45,17 +45,17 @@ pub trait Taker {
     /// What was given so far.
     ghost takes: { Self → List Take };
 
-    /// Hears of a payload that is going to be taken, before any is. Nothing is taken if it refuses.
+    /// Announces a payload, before any is unpacked. Nothing is unpacked if it refuses.
     fn claim(&mut self, name: &NodeName) -> Result<(), PutFault>
         ensures { IsTrue honest → takes self.new ≡ takes self.old };
 
-    /// What the payload of an image is to be written to. Nothing was written to it yet.
+    /// Returns an empty shelf to write the payload of an image to.
     fn shelf(&mut self, name: &NodeName) -> Result<Self::Shelf, PutFault>
         ensures same { IsTrue honest → takes self.new ≡ takes self.old }
         ensures empty { IsTrue honest → IfOk result (λ shelf. Self.Shelf.contents shelf ≡ Some []) };
 
-    /// Is given a payload that is kept, with what vouches for it. For an honest taker the caller has
-    /// shown that this is the digest of what the shelf holds, whatever source it was read from.
+    /// Takes a payload to keep, with what vouches for it. For an honest taker the caller has shown
+    /// that this is the digest of what the shelf holds, whatever source it was read from.
     fn keep(
         &mut self,
         name: &NodeName,
@@ -68,7 +68,7 @@ pub trait Taker {
             AddsIf result (takes self.old) (takes self.new)
             (kept (bytes_of name.now) bytes vouched) };
 
-    /// Hears of a payload that is not kept. What was written of it is given back, to be thrown away.
+    /// Takes a payload that is not kept, to discard it.
     fn refuse(
         &mut self,
         name: &NodeName,

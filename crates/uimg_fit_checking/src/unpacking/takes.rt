@@ -1,4 +1,4 @@
-//! Payloads are taken one after the other: written while they are summed, judged, and then kept or refused.
+//! Takes payloads one after the other: each is written while it is summed, then kept or refused.
 
 ghost use Rattle.std.specs.Prelude.{◌≡◌, ◌≤◌, ◌+◌, ◌*◌, ℕ, List, true, Some, Ok, length, IsTrue};
 ghost use Rattle.std.specs.List.{sum_by};
@@ -24,7 +24,7 @@ use uimg_fit_base::Fault;
 use uimg_fit_reading::nodes::{first_hash, name_of, next_of};
 use uimg_fit_reading::{compared_algos, payload_place};
 
-// Takes the payload of an image of a name. It answers whether the payload is kept.
+// Takes the payload of an image of a name. Returns whether it is kept.
 fn take_named<S: Source, A: Allocator, T: Taker>(
     source: &mut S,
     blob: &Blob,
@@ -58,7 +58,7 @@ fn take_named<S: Source, A: Allocator, T: Taker>(
     Ok(true)
 }
 
-// Takes the payload of an image that is asked for. It answers whether none is refused.
+// Takes the payload of an image, if it is requested. Returns false if it is refused.
 fn take_image<S: Source, A: Allocator, T: Taker>(
     source: &mut S,
     blob: &Blob,
@@ -86,7 +86,7 @@ fn take_image<S: Source, A: Allocator, T: Taker>(
     take_named(source, blob, room, image, &name, span, need, taker)
 }
 
-// Takes the payloads of the images from one on that are asked for. It answers whether none is refused.
+// Takes the requested payloads of the images from one on. Returns whether none is refused.
 pub(super) fn take_images<S: Source, A: Allocator, T: Taker>(
     source: &mut S,
     blob: &Blob,

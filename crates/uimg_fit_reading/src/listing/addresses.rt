@@ -1,4 +1,4 @@
-//! Load addresses and entry points, of one cell or two.
+//! Prints load addresses and entry points, of one cell or two.
 
 ghost use Rattle.std.specs.Prelude.{◌≡◌, ◌+◌, ◌≤◌, ◌++◌, ◌==◌, not, min, length, codes};
 ghost use Rattle.hex.specs.Hex.{encode_lower};
@@ -11,7 +11,7 @@ use crate::puts::{put, put_line, read};
 use std::io::Write;
 use uimg_base::{MoveFault, Out, Source, Span};
 
-// How many zeros stand before the first other digit.
+// Counts the leading zeros of digits.
 fn leading_zeros(digits: &[u8]) -> usize
     ensures { result ≡ position_or_len (λ d. not (d == 48)) digits.now }
 {
@@ -23,7 +23,7 @@ fn leading_zeros(digits: &[u8]) -> usize
     digits.len()
 }
 
-// The digits without the zeros before the last eight.
+// Returns the digits without leading zeros, but at least eight.
 fn eight_or_more(digits: &[u8]) -> &[u8]
     requires { 8 ≤ length digits.now }
     ensures { result.now ≡ eight_or_more digits.now }
@@ -32,7 +32,7 @@ fn eight_or_more(digits: &[u8]) -> &[u8]
     &digits[zeros..]
 }
 
-// A line of a label and the address of one cell.
+// Writes a line with the address of one cell.
 fn put_one_cell<W: Write>(out: &mut Out<W>, bytes: &[u8; 4]) -> Result<(), MoveFault>
     ensures { PutsOwn result out.old out.new (line (codes "0x" ++ encode_lower bytes.now)) }
 {
@@ -43,7 +43,7 @@ fn put_one_cell<W: Write>(out: &mut Out<W>, bytes: &[u8; 4]) -> Result<(), MoveF
     put_line(out, b"0x", &digits)
 }
 
-// A line of a label and the address of two cells.
+// Writes a line with the address of two cells.
 fn put_two_cells<W: Write>(out: &mut Out<W>, bytes: &[u8; 8]) -> Result<(), MoveFault>
     ensures { PutsOwn result out.old out.new
         (line (codes "0x" ++ eight_or_more (encode_lower bytes.now))) }
@@ -55,7 +55,7 @@ fn put_two_cells<W: Write>(out: &mut Out<W>, bytes: &[u8; 8]) -> Result<(), Move
     put_line(out, b"0x", eight_or_more(&digits))
 }
 
-// What stands behind the label of an address.
+// Writes an address, or `unavailable`, and ends the line.
 fn put_address<S: Source, W: Write>(
     source: &mut S,
     span: Span,
@@ -80,7 +80,7 @@ fn put_address<S: Source, W: Write>(
     }
 }
 
-// A line of a label and an address.
+// Writes a line of a label and an address.
 #[tactic(auto, using(uimg_base::proofs::WritingLaws::writing))]
 pub(crate) fn put_address_line<S: Source, W: Write>(
     source: &mut S,

@@ -27,7 +27,7 @@ use std::io::Write;
 use uimg_base::{MoveFault, Out, Room, Source, Span, size_text, time_text};
 use uimg_blob::{Blob, put_text};
 
-// A line of a label and the text of a value.
+// Writes a line of a label and the text of a value.
 pub(crate) fn put_text_line<S: Source, A: Allocator, W: Write>(
     source: &mut S,
     room: &mut Room<A>,
@@ -44,7 +44,7 @@ pub(crate) fn put_text_line<S: Source, A: Allocator, W: Write>(
     put(out, b"\n")
 }
 
-// The lines of a value.
+// Writes the lines of a value.
 #[tactic(auto, unfolding(crate::specs::Shows::value_lines))]
 fn put_value<S: Source, A: Allocator, W: Write>(
     source: &mut S,
@@ -67,7 +67,7 @@ fn put_value<S: Source, A: Allocator, W: Write>(
     }
 }
 
-// The lines of a property, if it is there.
+// Writes the lines of a property, if it is present.
 fn put_property<S: Source, A: Allocator, W: Write>(
     source: &mut S,
     room: &mut Room<A>,
@@ -86,7 +86,7 @@ fn put_property<S: Source, A: Allocator, W: Write>(
     }
 }
 
-// The line of a time, if there is one.
+// Writes the line of a time, if there is one.
 fn put_time_line<W: Write>(
     out: &mut Out<W>,
     label: &[u8],
@@ -100,7 +100,7 @@ fn put_time_line<W: Write>(
     }
 }
 
-// The text of a size, and the end of its line.
+// Writes a size, and ends the line.
 fn put_size<W: Write>(out: &mut Out<W>, size: u32) -> Result<(), MoveFault>
     ensures { PutsOwn result out.old out.new (line (size_text size)) }
 {
@@ -110,7 +110,7 @@ fn put_size<W: Write>(out: &mut Out<W>, size: u32) -> Result<(), MoveFault>
     }
 }
 
-// The line of a size, or that it is not known.
+// Writes the line of a size, or that it is unavailable.
 fn put_size_line<W: Write>(
     out: &mut Out<W>,
     label: &[u8],
@@ -125,7 +125,7 @@ fn put_size_line<W: Write>(
     put_size(out, size)
 }
 
-// The lines of a row.
+// Writes the lines of a row.
 fn put_row<S: Source, A: Allocator, W: Write>(
     source: &mut S,
     blob: &Blob,
@@ -151,7 +151,7 @@ fn put_row<S: Source, A: Allocator, W: Write>(
     }
 }
 
-// The lines of rows.
+// Writes the lines of rows.
 pub(crate) fn put_rows<S: Source, A: Allocator, W: Write>(
     source: &mut S,
     blob: &Blob,

@@ -1,4 +1,4 @@
-//! The lines of a listing that name no image and no configuration.
+//! The head lines of a listing, and the line of the default configuration.
 ghost use Rattle.std.specs.Prelude.{◌+◌, ◌≤◌, ◌++◌, length, codes};
 ghost use Rattle.uimg_base.specs.Outcome.{line};
 ghost use Rattle.uimg_texts.specs.Nul.{text};
@@ -15,7 +15,7 @@ use std::io::Write;
 use uimg_base::{MoveFault, Out, Room, Source, Span, time_text};
 use uimg_blob::put_text;
 
-// The line of the image's description.
+// Writes the line of the image's description.
 fn put_description<S: Source, A: Allocator, W: Write>(
     source: &mut S,
     room: &mut Room<A>,
@@ -32,7 +32,7 @@ fn put_description<S: Source, A: Allocator, W: Write>(
     }
 }
 
-// The line of the image's time.
+// Writes the line of the image's time.
 fn put_created<W: Write>(out: &mut Out<W>, time: Option<u32>) -> Result<(), MoveFault>
     ensures { PutsOwn result out.old out.new (created_line time) }
 {
@@ -42,7 +42,7 @@ fn put_created<W: Write>(out: &mut Out<W>, time: Option<u32>) -> Result<(), Move
     }
 }
 
-// The two head lines.
+// Writes the two head lines.
 pub(crate) fn put_head<S: Source, A: Allocator, W: Write>(
     source: &mut S,
     room: &mut Room<A>,
@@ -58,7 +58,7 @@ pub(crate) fn put_head<S: Source, A: Allocator, W: Write>(
     put_created(out, time)
 }
 
-// The line of the default configuration.
+// Writes the line of the default configuration.
 fn put_default_line<S: Source, A: Allocator, W: Write>(
     source: &mut S,
     room: &mut Room<A>,
@@ -74,7 +74,7 @@ fn put_default_line<S: Source, A: Allocator, W: Write>(
     put(out, b"'\n")
 }
 
-// The line of the default configuration, if there is one.
+// Writes the line of the default configuration, if there is one.
 pub(crate) fn put_default<S: Source, A: Allocator, W: Write>(
     source: &mut S,
     room: &mut Room<A>,

@@ -1,4 +1,4 @@
-//! Values as hexadecimal digits.
+//! Prints values as hexadecimal digits.
 
 ghost use Rattle.std.specs.Prelude.{◌+◌, ◌≤◌, ◌++◌, length};
 ghost use Rattle.hex.specs.Hex.{encode_lower};
@@ -11,7 +11,7 @@ use crate::puts::{put, read};
 use std::io::Write;
 use uimg_base::{MoveFault, Out, Source, Span};
 
-// How many bytes are turned into digits at once.
+// The most bytes that are converted at once.
 const PART: usize = 64;
 
 // Writes bytes in hexadecimal.
@@ -27,7 +27,7 @@ fn put_digits<W: Write>(out: &mut Out<W>, bytes: &[u8]) -> Result<(), MoveFault>
     put(out, digits)
 }
 
-// Writes the bytes at a place in hexadecimal.
+// Writes the bytes at an offset in hexadecimal.
 fn put_part<S: Source, W: Write>(
     source: &mut S,
     at: u64,
@@ -64,7 +64,7 @@ fn put_hexadecimal<S: Source, W: Write>(
     Ok(())
 }
 
-// A line of a label and a value in hexadecimal.
+// Writes a line of a label and a value in hexadecimal.
 pub(crate) fn put_hexadecimal_line<S: Source, W: Write>(
     source: &mut S,
     label: &[u8],

@@ -1,4 +1,4 @@
-//! Images and configurations, as they are listed.
+//! The lines of images and configurations.
 ghost use Rattle.std.specs.Prelude.{◌≡◌, ◌<◌, ◌+◌, ◌*◌, ◌^◌, ◌++◌, codes, true, IfOk};
 ghost use Rattle.std.specs.List.{flat_map, sum_by};
 ghost use Rattle.uimg_blob.specs.LookUps.{hashes};
@@ -23,16 +23,16 @@ use uimg_blob::Blob;
 use uimg_fit_base::FitFault;
 use uimg_names::Naming;
 
-/// What a listed node is.
+/// The kind of a listed node.
 #[derive(Clone, Copy)]
 pub(crate) enum Kind {
-    /// An image, listed by a set of names, and the root's time, if it has one.
+    /// An image, with a set of names and the root's time, if it has one.
     Image(Naming, Option<u32>),
     /// A configuration.
     Configuration,
 }
 
-// The lines of a hash node.
+// Writes the lines of a hash node.
 fn put_hash<S: Source, A: Allocator, W: Write>(
     source: &mut S,
     blob: &Blob,
@@ -49,7 +49,7 @@ fn put_hash<S: Source, A: Allocator, W: Write>(
     put_rows(source, blob, room, hash, NO_FACTS, &HASH, out)
 }
 
-// The lines of hash nodes.
+// Writes the lines of the hash nodes from one on.
 fn put_hashes<S: Source, A: Allocator, W: Write>(
     source: &mut S,
     blob: &Blob,
@@ -70,7 +70,7 @@ fn put_hashes<S: Source, A: Allocator, W: Write>(
     Ok(())
 }
 
-// The size of a payload, if its place is known.
+// Returns the size of a payload, if its place is known.
 fn size_in(place: Result<Span, FitFault>) -> Option<u32>
     requires { IfOk place (λ p. p.length < 2 ^ 32) }
     ensures { result ≡ size_in place }
@@ -81,7 +81,7 @@ fn size_in(place: Result<Span, FitFault>) -> Option<u32>
     }
 }
 
-// The lines of an image of which some facts are known.
+// Writes the lines of an image, whose time and size are known.
 fn put_known_image<S: Source, A: Allocator, W: Write>(
     source: &mut S,
     blob: &Blob,
@@ -106,7 +106,7 @@ fn put_known_image<S: Source, A: Allocator, W: Write>(
     put_hashes(source, blob, room, first_hash(blob, room, image), out)
 }
 
-// The lines of an image.
+// Writes the lines of an image.
 fn put_image<S: Source, A: Allocator, W: Write>(
     source: &mut S,
     blob: &Blob,
@@ -133,7 +133,7 @@ fn put_image<S: Source, A: Allocator, W: Write>(
     }
 }
 
-// The lines of a configuration.
+// Writes the lines of a configuration.
 fn put_configuration<S: Source, A: Allocator, W: Write>(
     source: &mut S,
     blob: &Blob,
@@ -161,7 +161,7 @@ fn put_configuration<S: Source, A: Allocator, W: Write>(
     )
 }
 
-// The lines of a node.
+// Writes the lines of a node.
 fn put_listed<S: Source, A: Allocator, W: Write>(
     source: &mut S,
     blob: &Blob,
@@ -185,7 +185,7 @@ fn put_listed<S: Source, A: Allocator, W: Write>(
     }
 }
 
-// The lines of the nodes from one on.
+// Writes the lines of the nodes from one on.
 pub(crate) fn put_listed_nodes<S: Source, A: Allocator, W: Write>(
     source: &mut S,
     blob: &Blob,

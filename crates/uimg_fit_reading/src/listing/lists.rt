@@ -1,4 +1,4 @@
-//! Values of several texts.
+//! Prints values of several texts.
 
 ghost use Rattle.std.specs.Prelude.{◌≡◌, ◌+◌, ◌≤◌, ◌<◌, length, take, drop, IfOk};
 ghost use Rattle.uimg_texts.specs.Slices.{slice};
@@ -12,18 +12,18 @@ use std::alloc::Allocator;
 use std::io::Write;
 use uimg_base::{MoveFault, Out, Room, Source, Span, WINDOW, before_nul};
 
-/// Where the next byte of a list of texts stands.
+/// Where the next byte of a list of texts is on its line.
 #[derive(Clone, Copy)]
 pub(crate) enum Line {
-    /// On the first line, behind the label.
+    /// At the beginning of the first line, after the label.
     First,
-    /// On a new line, behind blanks.
+    /// At the beginning of another line, after blanks.
     Next,
     /// On a line that has begun.
     Open,
 }
 
-// What is written before the next byte.
+// Returns what is written before the next byte.
 fn start_of(label: &[u8], line: Line) -> &[u8]
     ensures { result.now ≡ start_of label.now line }
 {
@@ -34,7 +34,7 @@ fn start_of(label: &[u8], line: Line) -> &[u8]
     }
 }
 
-// The bytes behind the first ones.
+// Returns the bytes after the first `passed` ones.
 fn left(bytes: &[u8], passed: usize) -> &[u8]
     requires { passed ≤ length bytes.now }
     ensures { result.now ≡ drop passed bytes.now }
@@ -42,7 +42,7 @@ fn left(bytes: &[u8], passed: usize) -> &[u8]
     &bytes[passed..]
 }
 
-// The bytes up to the first NUL and that NUL, or all.
+// Returns the bytes up to and with the first NUL, or all.
 fn first_piece(bytes: &[u8]) -> &[u8]
     requires { 0 < length bytes.now }
     ensures piece { IsPiece result.now }
@@ -53,7 +53,7 @@ fn first_piece(bytes: &[u8]) -> &[u8]
     &bytes[..count]
 }
 
-// Writes a text up to its NUL, which ends the line; it gives where the next byte stands.
+// Writes a text up to its NUL, which ends the line. Returns where the next byte is.
 fn put_piece<W: Write>(
     label: &[u8],
     line: Line,
@@ -73,7 +73,7 @@ fn put_piece<W: Write>(
     Ok(Line::Next)
 }
 
-// Writes texts, each on its line; it gives where the next byte stands.
+// Writes texts, each on its line. Returns where the next byte is.
 fn put_texts<W: Write>(
     label: &[u8],
     line: Line,
@@ -93,7 +93,7 @@ fn put_texts<W: Write>(
     Ok(line)
 }
 
-// Writes the texts of at most a window's bytes.
+// Writes the texts of at most one window. Returns where the next byte is.
 fn put_window<S: Source, W: Write>(
     source: &mut S,
     window: &mut [u8; WINDOW],
@@ -115,7 +115,7 @@ fn put_window<S: Source, W: Write>(
     put_texts(label, line, window, out)
 }
 
-// Writes the texts of a value; it gives where the byte after them would stand.
+// Writes the texts of a value. Returns where a byte after them would be.
 fn put_value<S: Source, W: Write>(
     source: &mut S,
     window: &mut [u8; WINDOW],
@@ -140,7 +140,7 @@ fn put_value<S: Source, W: Write>(
     Ok(line)
 }
 
-// A line for each text of a value, the first with a label.
+// Writes a line for each text of a value, the first with a label.
 pub(crate) fn put_list_lines<S: Source, A: Allocator, W: Write>(
     source: &mut S,
     room: &mut Room<A>,

@@ -1,4 +1,4 @@
-//! Types, architectures, systems and compressions, by a set of names.
+//! Prints types, architectures, systems and compressions, with the names of a set.
 
 ghost use Rattle.std.specs.Prelude.{◌≡◌, ◌+◌, ◌≤◌, ◌++◌, min, length, is_err, IsTrue, IfOk};
 ghost use Rattle.uimg_base.specs.Outcome.{line};
@@ -13,7 +13,7 @@ use uimg_base::{MoveFault, Out, Source, SourceFault, Span};
 use uimg_blob::short_text;
 use uimg_names::{Field, Naming};
 
-// The printed name of what a value's text names.
+// Returns the printed name of the code that a value's text names.
 fn long_name<S: Source>(
     source: &mut S,
     naming: Naming,
@@ -33,7 +33,7 @@ fn long_name<S: Source>(
     }
 }
 
-// A line of a label and the printed name of what a value's text names.
+// Writes a line of a label and the printed name of the code that a value's text names.
 #[tactic(auto, using(uimg_base::proofs::WritingLaws::writing))]
 pub(crate) fn put_name_line<S: Source, W: Write>(
     source: &mut S,

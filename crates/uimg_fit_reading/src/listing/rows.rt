@@ -8,18 +8,18 @@ use crate::listing::shows::Show::{Address, Hexadecimal, List, Name, Text};
 use uimg_blob::Key;
 use uimg_names::{Field, Naming};
 
-/// A line of a listing. Its label is padded with blanks.
+/// A line of a listing, with a label that is padded with blanks.
 #[derive(Clone, Copy)]
 pub(crate) enum Row {
-    /// A property's value, where the node has one.
+    /// A property's value, if the node has one.
     Property(Key, [u8; 16], Show),
     /// The root's time, if it has one.
     Time([u8; 16]),
-    /// The size of the payload, or that it is not known.
+    /// The size of the payload, or that it is unavailable.
     Size([u8; 16]),
 }
 
-/// What the rows of a node show that is no property of it.
+/// What a node's rows show besides its properties.
 #[derive(Clone, Copy)]
 pub(crate) struct Facts {
     /// The root's time, if it has one.
@@ -34,7 +34,7 @@ pub(crate) const NO_FACTS: Facts = Facts {
     size: None,
 };
 
-/// The rows of an image, by a set of names.
+/// Returns the rows of an image, with the names of a set.
 pub(crate) fn image_rows(naming: Naming) -> [Row; 9]
     ensures { result ≡ image_rows naming }
 {

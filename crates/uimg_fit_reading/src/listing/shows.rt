@@ -1,18 +1,18 @@
-//! What values are printed as.
+//! How values are printed.
 
 use uimg_names::{Field, Naming};
 
-/// What the value of a property is printed as.
+/// How the value of a property is printed.
 #[derive(Clone, Copy)]
 pub(crate) enum Show {
     /// Its text.
     Text,
-    /// What the code of a field is called whose name is its text.
+    /// The printed name of the code of a field that its text names.
     Name(Naming, Field),
     /// An address of one or two cells.
     Address,
     /// All its bytes in hexadecimal.
     Hexadecimal,
-    /// A line for each of its texts.
+    /// A line for each text.
     List,
 }

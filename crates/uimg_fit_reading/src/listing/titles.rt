@@ -1,4 +1,4 @@
-//! The title of a node, and its lines.
+//! The title of a node, and its rows.
 ghost use Rattle.std.specs.Prelude.{◌≡◌, ◌+◌, ◌≤◌, ◌++◌, length, decimal, codes, true};
 ghost use Rattle.std.specs.List.{list_all, sum_by};
 ghost use Rattle.uimg_fit_reading.specs.Nodes.{HasNode, OfAnyNode};
@@ -17,7 +17,7 @@ use std::io::Write;
 use uimg_base::{MoveFault, Out, Room, Source, Span};
 use uimg_blob::Blob;
 
-// What stands before a node's name.
+// Writes what comes before a node's name.
 fn put_number<W: Write>(out: &mut Out<W>, before: &[u8], number: usize) -> Result<(), MoveFault>
     ensures { PutsOwn result out.old out.new (before.now ++ (decimal number ++ codes " (")) }
 {
@@ -28,7 +28,7 @@ fn put_number<W: Write>(out: &mut Out<W>, before: &[u8], number: usize) -> Resul
     }
 }
 
-// The title of a node.
+// Writes the title of a node.
 fn put_title<S: Source, A: Allocator, W: Write>(
     source: &mut S,
     room: &mut Room<A>,
@@ -46,7 +46,7 @@ fn put_title<S: Source, A: Allocator, W: Write>(
     put(out, b")\n")
 }
 
-// The title and the rows of a node.
+// Writes the title and the rows of a node.
 pub(crate) fn put_node<S: Source, A: Allocator, W: Write>(
     source: &mut S,
     blob: &Blob,

@@ -1,4 +1,4 @@
-//! The digests that the hash nodes of an image are compared with, of one pass over its payload.
+//! The digests that the hash nodes of an image are compared with, from one pass over its payload.
 ghost use Rattle.std.specs.Prelude.{◌≡◌, ◌+◌, ◌≤◌, length, is_err, IfOk, IsTrue, if◌then◌else◌};
 ghost use Rattle.uimg_base.specs.Using.{Asks, Uses};
 ghost use Rattle.uimg_fit_base.specs.AlgoSets.{is_empty, set_of, AreDigests};
@@ -14,7 +14,7 @@ use uimg_base::{Room, Source, SourceFault, Span};
 use uimg_blob::Blob;
 use uimg_fit_base::{AlgoSet, Digests, feed_through};
 
-// A set with the algorithm that a plan compares by, if it compares.
+// Adds the algorithm of a plan that compares to a set.
 fn with_plan(set: AlgoSet, plan: Plan) -> AlgoSet
     ensures { result ≡ with_plan set plan }
 {
@@ -24,7 +24,7 @@ fn with_plan(set: AlgoSet, plan: Plan) -> AlgoSet
     }
 }
 
-/// The algorithms that the hash nodes from one on are compared by.
+/// Returns the algorithms of the compared hash nodes, from one on.
 pub fn compared_algos<S: Source, A: Allocator>(
     source: &mut S,
     blob: &Blob,
@@ -46,7 +46,8 @@ pub fn compared_algos<S: Source, A: Allocator>(
     Ok(set)
 }
 
-/// The digests of a payload by the algorithms of a set; it is read once, and not at all where there is none.
+/// Returns the digests of a payload by the algorithms of a set. Reads it once, or not at all for an
+/// empty set.
 pub fn payload_digests<S: Source, A: Allocator>(
     source: &mut S,
     room: &mut Room<A>,
@@ -69,7 +70,7 @@ pub fn payload_digests<S: Source, A: Allocator>(
     Ok(Digests::of(set, sums))
 }
 
-// The digests of a payload that the hash nodes from one on are compared with.
+// Returns the digests of a payload that the hash nodes from one on are compared with.
 pub(crate) fn compared_digests<S: Source, A: Allocator>(
     source: &mut S,
     blob: &Blob,

@@ -1,4 +1,4 @@
-//! The line of a hash node, and the line of an image that has none.
+//! The line of a hash node, and the line of an image without hash nodes.
 ghost use Rattle.std.specs.Prelude.{◌+◌, ◌≤◌, ◌++◌, length, codes};
 ghost use Rattle.uimg_base.specs.Outcome.{line};
 ghost use Rattle.uimg_fit_base.specs.Report.{word_text};
@@ -14,8 +14,8 @@ use uimg_base::{MoveFault, Out, Room, Source, Span};
 use uimg_blob::put_text;
 use uimg_fit_base::{Verdict, word_text};
 
-/// What the line of a hash node is made of: where the image's name, its own and its algorithm's stand, and
-/// its word.
+/// The parts of a hash node's line: the spans of the image's name, of its own and of its
+/// algorithm's, and its word.
 #[derive(Clone, Copy)]
 pub(crate) struct HashLine {
     pub(crate) image: Span,
@@ -56,14 +56,14 @@ fn put_algo<S: Source, A: Allocator, W: Write>(
     }
 }
 
-// Writes a word behind a blank, and ends the line.
+// Writes a blank and a word, and ends the line.
 fn put_word<W: Write>(word: Verdict, out: &mut Out<W>) -> Result<(), MoveFault>
     ensures { PutsOwn result out.old out.new (line (codes " " ++ word_text word)) }
 {
     put_line(out, b" ", word_text(word).as_bytes())
 }
 
-// Writes the names that a hash node's line begins with.
+// Writes the names at the beginning of a hash node's line.
 fn put_names<S: Source, A: Allocator, W: Write>(
     source: &mut S,
     room: &mut Room<A>,
@@ -79,7 +79,7 @@ fn put_names<S: Source, A: Allocator, W: Write>(
     put_name(source, room, line.hash, out)
 }
 
-// Writes what a hash node's line ends with.
+// Writes the end of a hash node's line.
 fn put_end<S: Source, A: Allocator, W: Write>(
     source: &mut S,
     room: &mut Room<A>,

@@ -1,4 +1,4 @@
-//! Reporting on the hash nodes of an image.
+//! Reports on the hash nodes of an image.
 ghost use Rattle.std.specs.Prelude.{ℕ, ◌+◌, ◌≤◌, List, length};
 ghost use Rattle.uimg_fit_base.specs.AlgoSets.{set_of, AreDigests};
 ghost use Rattle.uimg_fit_reading.specs.HashReports.{AllCovered, PutsHashes, ReportsHashes};
@@ -14,7 +14,8 @@ use uimg_base::{MoveFault, Out, Room, Source, Span};
 use uimg_blob::Blob;
 use uimg_fit_base::{Digests, is_right};
 
-// Writes a line for each hash node from one on, by the digests of their payload; tells whether all are right.
+// Writes a line for each hash node from one on, by the digests of their payload. Returns whether
+// all are right.
 fn put_hashes<S: Source, A: Allocator, W: Write>(
     source: &mut S,
     blob: &Blob,
@@ -41,7 +42,8 @@ fn put_hashes<S: Source, A: Allocator, W: Write>(
     Ok(are_right)
 }
 
-// Reports on the hash nodes from one on, after one pass over their payload; tells whether all are right.
+// Reports on the hash nodes from one on, after one pass over their payload. Returns whether all are
+// right.
 pub(crate) fn report_hashes<S: Source, A: Allocator, W: Write>(
     source: &mut S,
     blob: &Blob,

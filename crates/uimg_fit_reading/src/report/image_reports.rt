@@ -1,4 +1,4 @@
-//! Reporting on images, one after the other.
+//! Reports on images, one after the other.
 ghost use Rattle.std.specs.Prelude.{◌≡◌, ◌+◌, ◌≤◌, length};
 ghost use Rattle.uimg_blob.specs.Roles.{in_images};
 ghost use Rattle.uimg_fit_reading.specs.ImageReports.{ReportsFound, ReportsImage, ReportsImages, status_of};
@@ -15,7 +15,7 @@ use uimg_base::{MoveFault, Out, Room, Source, Span, Status};
 use uimg_blob::Blob;
 use uimg_fit_base::Fault;
 
-// Reports on an image whose payload stands at a place; it tells whether all its hash nodes are right.
+// Reports on an image whose payload was found. Returns whether all its hash nodes are right.
 fn report_found<S: Source, A: Allocator, W: Write>(
     source: &mut S,
     blob: &Blob,
@@ -39,7 +39,7 @@ fn report_found<S: Source, A: Allocator, W: Write>(
     report_hashes(source, blob, room, name, span, first, out)
 }
 
-// Reports on an image; it tells whether all its hash nodes are right.
+// Reports on an image. Returns whether all its hash nodes are right.
 fn report_image<S: Source, A: Allocator, W: Write>(
     source: &mut S,
     blob: &Blob,
@@ -56,7 +56,7 @@ fn report_image<S: Source, A: Allocator, W: Write>(
     Ok(report_found(source, blob, room, image, span, out)?)
 }
 
-// The status of a report.
+// Returns the status of a report.
 fn status(are_right: bool) -> Status
     ensures { result ≡ status_of are_right }
 {

@@ -19,7 +19,7 @@ use uimg_base::{MoveFault, Out, Room, Source, SourceFault, Span};
 use uimg_blob::{Blob, Key};
 use uimg_fit_base::{Digests, Verdict};
 
-/// The word of a hash node, by the digests of its payload.
+/// Returns the word of a hash node, by the digests of its payload. Requests at most 96 bytes.
 pub fn judge<S: Source, A: Allocator>(
     source: &mut S,
     blob: &Blob,
@@ -64,7 +64,7 @@ fn put_judged<S: Source, A: Allocator, W: Write>(
     put_hash_line(source, room, line, out)
 }
 
-// Reports on a hash node: writes its line, and gives its word.
+// Writes the line of a hash node, and returns its word.
 pub(crate) fn put_hash<S: Source, A: Allocator, W: Write>(
     source: &mut S,
     blob: &Blob,

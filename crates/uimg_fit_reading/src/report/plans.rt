@@ -1,4 +1,4 @@
-//! What is to be done about a hash node before its payload is read, and its word once it is.
+//! The plan for a hash node before its payload is read, and its word afterwards.
 ghost use Rattle.std.specs.Prelude.{◌≡◌, ◌+◌, ◌≤◌, ℕ, List, length, take, is_err, IfOk, IsTrue};
 ghost use Rattle.std.specs.Str.{bytes_eq};
 ghost use Rattle.uimg_sums.specs.Algorithms.{algo_named};
@@ -16,7 +16,7 @@ use uimg_base::{Algo, Room, Source, SourceFault, Span};
 use uimg_blob::{Blob, Key, short_text};
 use uimg_fit_base::{Digests, Verdict};
 
-/// What is to be done about a hash node, before any payload is read.
+/// The plan for a hash node, made before any payload is read.
 #[derive(Clone, Copy)]
 pub(crate) enum Plan {
     Malformed,
@@ -24,7 +24,7 @@ pub(crate) enum Plan {
     Compared(Algo, Span),
 }
 
-// What is to be done about a value by a known algorithm.
+// Returns the plan for a value by a known algorithm.
 #[tactic(auto, unfolding(crate::specs::Plans::plan_for))]
 fn plan_by(algo: Algo, value: Option<Span>) -> Plan
     ensures plan { result ≡ plan_by_value algo value }
@@ -36,7 +36,7 @@ fn plan_by(algo: Algo, value: Option<Span>) -> Plan
     }
 }
 
-// What is to be done about a value by the name of an algorithm.
+// Returns the plan for a value by the name of an algorithm.
 fn plan_named(name: &[u8], value: Option<Span>) -> Plan
     ensures plan { result ≡ plan_by_algo (algo_named name.now) value }
     ensures value { IsOf value result }
@@ -47,7 +47,7 @@ fn plan_named(name: &[u8], value: Option<Span>) -> Plan
     }
 }
 
-// What is to be done by the text of an algorithm's name and the place of a value.
+// Returns the plan by the spans of an algorithm's name and of a value.
 fn planned<S: Source>(
     source: &mut S,
     algo: Option<Span>,
@@ -69,7 +69,7 @@ fn planned<S: Source>(
     }
 }
 
-// What is to be done about a hash node.
+// Returns the plan for a hash node.
 pub(crate) fn plan_at<S: Source, A: Allocator>(
     source: &mut S,
     blob: &Blob,
@@ -90,7 +90,7 @@ pub(crate) fn plan_at<S: Source, A: Allocator>(
     planned(source, algo, value)
 }
 
-// Whether the value at a span is what a digest begins with.
+// Returns whether the value at a span equals the beginning of a digest.
 fn is_digest<S: Source>(source: &mut S, span: Span, digest: &[u8; 64]) -> Result<bool, SourceFault>
     requires range { span.place + span.length ≤ length (S.device source.old).bytes }
     requires few { span.length ≤ 64 }
@@ -105,7 +105,7 @@ fn is_digest<S: Source>(source: &mut S, span: Span, digest: &[u8; 64]) -> Result
     Ok(bytes[..length] == digest[..length])
 }
 
-// The word of a hash node, by the digests of its payload.
+// Returns the word of a hash node, by its plan and the digests of its payload.
 pub(crate) fn judged<S: Source>(
     source: &mut S,
     plan: Plan,

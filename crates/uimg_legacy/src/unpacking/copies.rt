@@ -1,4 +1,4 @@
-//! Bytes of an image are summed as they were read, and written or not: each is asked for once.
+//! Sums a range of an image, with or without writing it; each byte is requested once.
 
 ghost use Rattle.std.specs.Prelude.{◌≡◌, ◌+◌, ◌≤◌, length, is_err, OnOk};
 ghost use Rattle.uimg_base.specs.Device.{asked_more};
@@ -9,7 +9,7 @@ ghost use Rattle.uimg_legacy.specs.UnpackingSteps.{SumsPiece, TakesPiece};
 use std::io::Write;
 use uimg_base::{Crc, MoveFault, Out, Source, SourceFault, Summer, WINDOW};
 
-// Sums at most a window.
+// Sums at most one window.
 fn sum_window<S: Source>(
     sum: &mut Crc,
     source: &mut S,
@@ -50,7 +50,7 @@ pub(super) fn sum_range<S: Source>(
     Ok(())
 }
 
-// Takes at most a window.
+// Sums and writes at most one window.
 fn take_window<S: Source, W: Write>(
     sum: &mut Crc,
     source: &mut S,
@@ -76,7 +76,7 @@ fn take_window<S: Source, W: Write>(
     Ok(())
 }
 
-// Takes the `len` bytes at an offset, through a window.
+// Sums and writes the `len` bytes at an offset, through a window.
 pub(super) fn take_range<S: Source, W: Write>(
     sum: &mut Crc,
     source: &mut S,

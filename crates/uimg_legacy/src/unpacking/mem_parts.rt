@@ -1,4 +1,4 @@
-//! Parts that are taken into memory.
+//! Parts that are unpacked into memory.
 
 ghost use Rattle.std.specs.Prelude.{◌≡◌, [], true, map, not};
 ghost use Rattle.uimg_legacy.specs.MemParts.{part_at, parts_if};
@@ -16,8 +16,8 @@ pub struct MemPart<A: Allocator> {
     pub bytes: Vec<u8, A>,
 }
 
-/// A taker in memory, of the parts of one image. It refuses where memory was refused, and parts that come
-/// after it kept some.
+/// A taker in memory, of the parts of one image. It refuses a part if memory is refused, or if it
+/// already keeps parts.
 #[derive(Drop)]
 pub struct MemParts<A: Allocator + Copy> {
     alloc: A,
@@ -26,7 +26,7 @@ pub struct MemParts<A: Allocator + Copy> {
 }
 
 impl<A: Allocator + Copy> MemParts<A> {
-    /// A taker that was given nothing yet.
+    /// Returns a taker without parts.
     pub fn new(alloc: A) -> MemParts<A>
         ensures held { ⟦<MemParts<A> as PartTaker>⟧.held result ≡ [] }
         ensures kept { ⟦<MemParts<A> as PartTaker>⟧.kept result ≡ [] }
@@ -38,7 +38,7 @@ impl<A: Allocator + Copy> MemParts<A> {
         }
     }
 
-    /// What it keeps.
+    /// Returns the parts that it keeps.
     pub fn kept(&self) -> &[MemPart<A>]
         ensures { map part_at result.now ≡ ⟦<MemParts<A> as PartTaker>⟧.kept self.now }
     {

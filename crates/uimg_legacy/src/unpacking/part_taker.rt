@@ -1,4 +1,4 @@
-//! Who is given the parts that are taken out of an image.
+//! The trait of those who are given unpacked parts.
 
 ghost use Rattle.std.specs.Prelude.{◌≡◌, ℕ, [], ◌∷◌, ◌++◌, List, Bool, false, Some, IfOk, OnOk, OnErr, IsTrue};
 ghost use Rattle.uimg_legacy.specs.Unpacking.{Part, AreRight, part_if};
@@ -7,16 +7,15 @@ ghost use Rattle.std.specs.Prelude.{true};
 use std::io::Write;
 use uimg_base::PutFault;
 
-/// Who is given the parts that are taken out of an image, one after another, by their numbers. What is
-/// written of them is held, until all of them are kept or refused. What is held when no more comes is
-/// thrown away.
+/// Receives the unpacked parts of an image one after another, by their numbers. A written part is
+/// held until all of them are kept or refused. Parts that are still held at the end are discarded.
 ///
-/// Contracts see an honest one as two lists: the parts that it holds, and those that it keeps.
+/// Contracts see an honest taker as two lists: the parts that it holds, and those that it keeps.
 pub trait PartTaker {
     /// What a part is written to.
     type Shelf: Write + Drop;
 
-    /// Whether shelves hold what is written to them, and the lists have all that was given.
+    /// Whether shelves hold what is written to them, and the lists have all parts that were given.
     ghost honest: { Bool } = { false };
 
     /// The parts that are held, and neither kept nor refused yet.
@@ -25,32 +24,32 @@ pub trait PartTaker {
     /// The parts that are kept.
     ghost kept: { Self → List Part };
 
-    /// Hears of a part that is going to be taken, before any is. Nothing is taken if it refuses.
+    /// Announces a part, before any is unpacked. Nothing is unpacked if it refuses.
     fn claim(&mut self, number: u32) -> Result<(), PutFault>
         ensures held { IsTrue honest → held self.new ≡ held self.old }
         ensures kept { IsTrue honest → kept self.new ≡ kept self.old };
 
-    /// What a part is to be written to. Nothing was written to it yet.
+    /// Returns an empty shelf to write a part to.
     fn shelf(&mut self, number: u32) -> Result<Self::Shelf, PutFault>
         ensures held { IsTrue honest → held self.new ≡ held self.old }
         ensures kept { IsTrue honest → kept self.new ≡ kept self.old }
         ensures empty { IsTrue honest → IfOk result (λ shelf. Self.Shelf.contents shelf ≡ Some []) };
 
-    /// Is given a part that was written, to be held.
+    /// Takes a written part, to hold it.
     fn hold(&mut self, number: u32, shelf: Self::Shelf) -> Result<(), PutFault>
         ensures held { IsTrue honest → (bytes : List ℕ) → Self.Shelf.contents shelf ≡ Some bytes →
             OnOk result (held self.new ≡ held self.old ++ part_if true number bytes) }
         ensures kept { IsTrue honest → kept self.new ≡ kept self.old };
 
-    /// Keeps the parts that are held. For an honest taker the caller has shown that they are the parts,
-    /// all or one, of some image with right checksums, whose data have this CRC, whatever source they
+    /// Keeps the held parts. For an honest taker the caller has shown that they are the parts, all
+    /// or one, of some image with right checksums, whose data have this CRC, whatever source they
     /// were read from.
     fn keep(&mut self, dcrc: u32) -> Result<(), PutFault>
         requires { IsTrue honest → AreRight dcrc (held self.old) }
         ensures ok { IsTrue honest → OnOk result (kept self.new ≡ kept self.old ++ held self.old) }
         ensures err { IsTrue honest → OnErr result (kept self.new ≡ kept self.old) };
 
-    /// Throws away what is held, as the data's CRC is not that in the header.
+    /// Discards the held parts, because the data's CRC is not that in the header.
     fn refuse(&mut self) -> Result<(), PutFault>
         ensures { IsTrue honest → kept self.new ≡ kept self.old };
 }

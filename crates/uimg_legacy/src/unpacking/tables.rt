@@ -11,7 +11,7 @@ use crate::table::leading_sizes;
 use std::alloc::Allocator;
 use uimg_base::{Crc, Room, Source, SourceFault, Summer};
 
-// Counts the words of a window of the data that stand before its first zero word, and sums them and that.
+// Counts the words of a window of the data before its first zero word, and sums them and that word.
 fn sum_sizes<S: Source, A: Allocator>(
     source: &mut S,
     room: &mut Room<A>,
@@ -33,8 +33,8 @@ fn sum_sizes<S: Source, A: Allocator>(
     Ok(found as u32)
 }
 
-// How many sizes stand before the zero word that ends the table, as `count_sizes` counts them. The table
-// is summed, with that word and nothing behind it.
+// Counts the sizes before the zero word that ends the table, as `count_sizes` does. Sums the table
+// up to and with that word.
 pub(super) fn sum_table<S: Source, A: Allocator>(
     source: &mut S,
     room: &mut Room<A>,

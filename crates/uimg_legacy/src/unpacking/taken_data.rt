@@ -1,4 +1,4 @@
-//! The parts of the data are taken, and the data summed.
+//! Takes the requested parts while the data are summed.
 
 ghost use Rattle.std.specs.Prelude.{◌≡◌, ◌+◌, ◌≤◌, length, true, false, IsTrue};
 ghost use Rattle.uimg_base.specs.Using.{UsesAtMost};
@@ -16,7 +16,7 @@ use crate::unpacking::takes::{Walk, take_part, take_parts};
 use std::alloc::Allocator;
 use uimg_base::{Crc, PutFault, Room, Source, Summer};
 
-// Whether there is a part of the number that is asked for, if one is.
+// Returns whether the requested part exists, if one is requested.
 fn is_there(only: Option<u32>, count: u32) -> bool
     ensures { result ≡ is_there only count }
 {
@@ -26,7 +26,7 @@ fn is_there(only: Option<u32>, count: u32) -> bool
     }
 }
 
-// Claims the parts that are asked for.
+// Claims the requested parts.
 fn claim_parts<T: PartTaker>(only: Option<u32>, count: u32, taker: &mut T) -> Result<(), PutFault>
     ensures held { IsTrue T.honest → T.held taker.new ≡ T.held taker.old }
     ensures kept { IsTrue T.honest → T.kept taker.new ≡ T.kept taker.old }
@@ -40,7 +40,7 @@ fn claim_parts<T: PartTaker>(only: Option<u32>, count: u32, taker: &mut T) -> Re
     Ok(())
 }
 
-// Takes the data of a type that has no parts as one.
+// Takes the data of a type without parts as one part.
 fn take_whole<S: Source, A: Allocator, T: PartTaker>(
     source: &mut S,
     room: &mut Room<A>,
@@ -63,8 +63,8 @@ fn take_whole<S: Source, A: Allocator, T: PartTaker>(
     Ok(sum.value() == header.dcrc)
 }
 
-// Takes the parts of a type that has them. The sum goes on behind the table as it was read first, and
-// counts where the sizes had the same sum when they were read again.
+// Takes the parts of a type with parts. The sum goes on from the table as it was read first; it
+// counts only if the sizes have the same sum when they are read again.
 fn take_listed<S: Source, A: Allocator, T: PartTaker>(
     source: &mut S,
     room: &mut Room<A>,
@@ -98,7 +98,7 @@ fn take_listed<S: Source, A: Allocator, T: PartTaker>(
     Ok(same & (crc == header.dcrc))
 }
 
-// Takes the parts of the data that are asked for. It answers whether the data's CRC is that in the header.
+// Takes the requested parts of the data. Returns whether the data's CRC is that in the header.
 pub(super) fn take_data<S: Source, A: Allocator, T: PartTaker>(
     source: &mut S,
     room: &mut Room<A>,

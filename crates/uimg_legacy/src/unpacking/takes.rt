@@ -1,4 +1,4 @@
-//! Parts are taken one after another, by their sizes in the table.
+//! Takes parts one after another, by their sizes in the table.
 
 ghost use Rattle.std.specs.Prelude.{◌≡◌, ◌+◌, ◌-◌, ◌*◌, ◌≤◌, length, false, true};
 ghost use Rattle.uimg_base.specs.Using.{Asks};
@@ -16,7 +16,7 @@ use uimg_base::{Crc, Out, Room, Source, Summer, number_at, up4};
 // How far parts were taken.
 #[derive(Drop)]
 pub(super) struct Walk {
-    // Where in the data the next one begins.
+    // The offset of the next one in the data.
     pub(super) at: u64,
     // The sum of the data before that.
     pub(super) sum: Crc,
@@ -24,7 +24,7 @@ pub(super) struct Walk {
     pub(super) sizes: Crc,
 }
 
-// Whether the part of a number is asked for, where all are or one is.
+// Returns whether a part is requested: all are, or one by its number.
 fn is_asked(only: Option<u32>, number: u32) -> bool
     ensures { result ≡ is_asked only number }
 {
@@ -55,7 +55,7 @@ pub(super) fn take_part<S: Source, A: Allocator, T: PartTaker>(
     Ok(())
 }
 
-// Takes the `len` bytes at an offset as a part if it is asked for, and else sums them.
+// Takes the `len` bytes at an offset as a part if it is requested, else only sums them.
 fn take_if<S: Source, A: Allocator, T: PartTaker>(
     source: &mut S,
     room: &mut Room<A>,
@@ -78,7 +78,7 @@ fn take_if<S: Source, A: Allocator, T: PartTaker>(
     Ok(())
 }
 
-// The same, and sums the bytes behind the part, so that there are `all` together.
+// Does the same, and sums the bytes after the part, up to `all` bytes in all.
 fn take_padded<S: Source, A: Allocator, T: PartTaker>(
     source: &mut S,
     room: &mut Room<A>,
@@ -102,7 +102,8 @@ fn take_padded<S: Source, A: Allocator, T: PartTaker>(
     Ok(())
 }
 
-// Takes the part of a number by its size in the table, which is read once more.
+// Takes the part of a number by its size in the table, which is read again. Returns `BadDataCrc` if
+// that size is 0, `PartOutside` if the part ends after the data.
 fn take_next<S: Source, A: Allocator, T: PartTaker>(
     source: &mut S,
     room: &mut Room<A>,
@@ -149,7 +150,7 @@ fn take_next<S: Source, A: Allocator, T: PartTaker>(
     Ok(())
 }
 
-// Takes so many parts by their sizes in the table.
+// Takes the first `count` parts by their sizes in the table.
 pub(super) fn take_parts<S: Source, A: Allocator, T: PartTaker>(
     source: &mut S,
     room: &mut Room<A>,

@@ -5,8 +5,9 @@ use std::{fs, rt};
 use uimg_base::{Files, Source};
 use uimg_engine::DiskFiles;
 
-// The folder, the name, and the three bytes of the file that is opened; no text where none is, and
-// `-` where its bytes are not looked at. A name that begins with a slash is not looked for in the folder.
+// The folder, the name, and the three bytes of the opened file; an empty text if none is opened,
+// and `-` if its bytes are not compared. A name with a leading slash is not looked for in the
+// folder.
 const ROWS: [(&str, &str, &str); 21] = [
     ("", "disk_folder/name", "abc"),
     (".", "disk_folder/name", "abc"),
@@ -31,7 +32,7 @@ const ROWS: [(&str, &str, &str); 21] = [
     ("none", "disk_name", ""),
 ];
 
-// The three bytes of a source, `-` where it has not so many.
+// Returns the three bytes of a source, `-` if it has another length.
 fn text_of<'a, S: Source>(source: &mut S, bytes: &'a mut [u8; 3]) -> &'a [u8] {
     if source.size() == Ok(3) && source.fill_at(0, bytes).is_ok() {
         bytes
@@ -40,7 +41,7 @@ fn text_of<'a, S: Source>(source: &mut S, bytes: &'a mut [u8; 3]) -> &'a [u8] {
     }
 }
 
-// Whether the file of a name is opened in a folder, and has this text.
+// Returns whether the file of a name is opened in a folder, and has this text.
 fn opens_as<R: rt::Files + AllocGlobal>(rt: &R, folder: &str, name: &str, text: &str) -> bool {
     match DiskFiles::new(rt, folder).open(name.as_bytes()) {
         Ok(mut source) => text_of(&mut source, &mut [0; 3]) == text.as_bytes(),

@@ -1,4 +1,4 @@
-//! Makings whose memory is refused.
+//! Making images while memory is refused.
 use super::listings::DEMO_LISTING;
 use super::makings::{Fuses, Outcome, making};
 use super::runs::{shown, told};
@@ -22,9 +22,9 @@ const NO_FUSE: Fuses = Fuses {
 const MANY: &str =
     "a:a:a:a:a:a:a:a:a:a:a:a:a:a:a:a:a:a:a:a:a:a:a:a:a:a:a:a:a:a:a:a:a:a:a:a:a:a:a:a";
 
-// A making of several parts grows once, for the opened files, before the first open. A heap of 1024
-// bytes has place for three of them, and none for 40: the image, from which open on they are refused,
-// and what the file has.
+// Making several parts grows once, for the opened files, before the first open. A heap of 1024
+// bytes has room for three of them, but not for 40. The columns: the image, from which open on they
+// are refused, and the resulting file.
 const PARTS: [(&str, u64, &str); 3] = [
     (MANY, 0, "no file"),
     (MANY, 100, "no file"),
@@ -47,7 +47,7 @@ fn growths_for_parts(rt: HostRuntime) -> Result<(), Fail> {
     Ok(())
 }
 
-// The step that a heap has no place for: the text, the tree, or the filled or built one.
+// Returns the step whose memory is refused: the text, the tree, or the filled or built tree.
 fn step_of(fault: Fault) -> u8 {
     match fault {
         Fault::OutOfMemory => 0,
@@ -57,7 +57,7 @@ fn step_of(fault: Fault) -> u8 {
     }
 }
 
-// The same of a making that lists and leaves nothing where it is refused; 3 where the image is made.
+// Returns the same if nothing is listed or left, and 3 if the image is made.
 fn step_left(made: &Outcome) -> u8 {
     match made.end {
         Ok(Status::Done) if made.file == "all" => 3,
@@ -66,8 +66,8 @@ fn step_left(made: &Outcome) -> u8 {
     }
 }
 
-// What the making of a FIT image on a heap of so many bytes ends with: 0 to 2 is the step that it has
-// no place for, 3 is that the image is made, and 9 is anything else.
+// Returns how making a FIT image ends on a heap of `size` bytes: 0 to 2 for the step whose memory
+// is refused, 3 if the image is made, and 9 for anything else.
 fn made_on<R: Files + AllocGlobal>(rt: &R, size: usize) -> u8 {
     let Ok(heap) = LocalHeap::new(rt.alloc(), size) else {
         return 9;
@@ -79,8 +79,9 @@ fn made_on<R: Files + AllocGlobal>(rt: &R, size: usize) -> u8 {
     }
 }
 
-// From a heap with hardly any place to one with ample, 16 bytes at a time: want of memory is told, and
-// nothing else, and no file is made. Each step meets it, and once the image is made it always is.
+// Heaps from hardly any room to ample room, 16 bytes at a time: refused memory is reported, nothing
+// else, and no file is made. It happens at each step, and once the image is made, it is made on all
+// larger heaps.
 #[test]
 fn growths_for_trees(rt: HostRuntime) {
     let mut met = [false; 4];
@@ -92,8 +93,8 @@ fn growths_for_trees(rt: HostRuntime) {
     assert_eq!(rt; met, [true; 4]);
 }
 
-// The bytes of the heap that the room grows on, and the end: the image is made, and where
-// there is a fault nothing is listed.
+// The size in bytes of the heap for the room, and the end: the image is made, and with a fault
+// nothing is listed.
 const ROOMS: [(usize, &str); 3] = [
     (64, "B11 out of memory at 56"),
     (1024, "B11 out of memory at 284"),

@@ -1,4 +1,4 @@
-//! Images by their names.
+//! Images by name.
 use super::samples::{SHARED_NAMES, SHARED_PAYLOAD, THOUSAND_DEEP, sample};
 use std::alloc::Global;
 use uimg_base_tests::samples::legacy::{ABC_KERNEL, PART_OUTSIDE, THREE_PART_MULTI};
@@ -14,7 +14,7 @@ const ZEROS_CRC: [u8; 4] = [0x97, 0x2f, 0x53, 0x02];
 // The CRC-32 of 8192 zeros.
 const WINDOW_CRC: [u8; 4] = [0xd8, 0xf4, 0x99, 0x94];
 
-// A legacy image, or no bytes.
+// Returns a legacy image, or no bytes.
 fn legacy_named(name: &str) -> &'static [u8] {
     match name {
         "abc-kernel" => &ABC_KERNEL,
@@ -24,7 +24,7 @@ fn legacy_named(name: &str) -> &'static [u8] {
     }
 }
 
-// A FIT image of so many zeros, and so many CRC-32 nodes of a value.
+// Returns a FIT image of `length` zeros, with `hashes` CRC-32 nodes of this value.
 fn zeros(alloc: Global, length: usize, crc: [u8; 4], hashes: u32) -> Option<Vec<u8>> {
     let data = ZEROS.get(..length).unwrap_or(&[]);
     match crc_fit(alloc, Payload::Inside(data), crc, hashes) {
@@ -33,7 +33,7 @@ fn zeros(alloc: Global, length: usize, crc: [u8; 4], hashes: u32) -> Option<Vec<
     }
 }
 
-// A FIT image of the table of cases.
+// Returns a FIT image of the tables, by its name.
 fn fit_named(alloc: Global, name: &str) -> Option<Vec<u8>> {
     match name {
         "four-hash-fit" => four_hash_fit(alloc).ok(),
@@ -54,8 +54,8 @@ fn fit_named(alloc: Global, name: &str) -> Option<Vec<u8>> {
     }
 }
 
-/// The bytes of an image, none where no image has the name. Behind the name stand cells that are
-/// changed in it, as `168=ffffffff`.
+/// Returns the bytes of an image, none for an unknown name. After the name come cells to change in
+/// it, as `168=ffffffff`.
 pub(super) fn image_named(alloc: Global, text: &str) -> Vec<u8> {
     let mut words = text.split(' ');
     let name = words.next().unwrap_or("");

@@ -1,7 +1,7 @@
-//! What is printed of the images that are made.
+//! The listings of the images that are made.
 use uimg_base_tests::samples::listings::{ABC_LISTING, THREE_PART_LISTING};
 
-/// The listing of the FIT image of one kernel with four hashes.
+/// The listing of a FIT image of one kernel with four hashes.
 pub(super) const DEMO_LISTING: &str = "FIT description: demo
 Created:         Thu Jan  1 00:00:00 1970
  Image 0 (kernel)
@@ -28,7 +28,7 @@ Created:         Thu Jan  1 00:00:00 1970
   Kernel:       kernel
 ";
 
-/// The listing of an image by its name.
+/// Returns the listing of an image by its name.
 pub(super) fn listing_named(name: &str) -> &'static str {
     match name {
         "abc-kernel" => ABC_LISTING,

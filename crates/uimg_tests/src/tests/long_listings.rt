@@ -6,13 +6,14 @@ use std::process::Abort;
 use std::rt::Files;
 use std::test::Fail;
 
-// How the header of the long image begins; all else of it is zeros. Its checksums are zlib's.
+// The beginning of the long image's header; the rest is zeros. Its checksums are zlib's.
 const HEAD: [u8; 32] = [
     0x27, 0x05, 0x19, 0x56, 0x62, 0x4e, 0xe2, 0xb4, 0x00, 0x00, 0x00, 0x00, 0x00, 0x00, 0x9c, 0x44,
     0x00, 0x00, 0x00, 0x00, 0x00, 0x00, 0x00, 0x00, 0xb8, 0x55, 0xb5, 0xb9, 0x05, 0x07, 0x04, 0x01,
 ];
 
-// A multi image of 5000 parts of one byte: the sizes stand from 64 to 20064, and the parts from 20068 on.
+// Returns a multi image of 5000 parts of one byte: the sizes are at 64 to 20064, and the parts from
+// 20068 on.
 fn long_image() -> [u8; 40068] {
     let mut image = [0; 40068];
     for (at, byte) in image.iter_mut().enumerate() {
@@ -28,8 +29,8 @@ fn long_image() -> [u8; 40068] {
 
 const ALL: usize = usize::MAX;
 
-// The bytes that standard output takes in all, and a call; whether it flushes; the exit status; and
-// standard error. What it took is the listing, or as much of it as it takes.
+// The bytes that standard output takes in all, and in a call; whether it flushes; the exit status;
+// and standard error. Standard output has the listing, or as much of it as it takes.
 const ROWS: [(usize, usize, bool, u8, &str); 14] = [
     (ALL, ALL, true, 0, ""),
     (ALL, 1, true, 0, ""),
@@ -47,12 +48,13 @@ const ROWS: [(usize, usize, bool, u8, &str); 14] = [
     (224_111, ALL, true, 3, "uimg: write failed\n"),
 ];
 
-// The listing has seven lines of 222 bytes in all, and 5000 of 41 bytes and the digits of a number.
+// The listing has seven lines of 222 bytes together, and 5000 lines of 41 bytes and the digits of a
+// number.
 const LENGTH: usize = 224_112;
 
 const LINE: &str = "uimg dumpimage -l long.img";
 
-// Whether the listing is printed as a row says.
+// Returns whether the listing is printed as a row says.
 fn prints<R: Files + AllocGlobal>(
     rt: &R,
     listing: &[u8],
@@ -67,8 +69,8 @@ fn prints<R: Files + AllocGlobal>(
         && out.taken.as_slice() == listing.get(..room).unwrap_or(listing)
 }
 
-// The lines are gathered: a write has 4096 bytes or more, but for the last one. What a short write
-// leaves is written by the next ones, and a failed one leaves a prefix.
+// The lines are buffered: each write but the last has at least 4096 bytes. What a short write
+// leaves is written by the next ones, and a failed write leaves a prefix.
 #[test]
 fn a_long_listing(rt: HostRuntime) -> Result<(), Fail> {
     fs::write(&rt, "long.img", long_image().as_slice())?;

@@ -1,4 +1,4 @@
-//! Makings whose opens, reads or shelf fail.
+//! Making images while opens, reads or the shelf fail.
 use super::listings::listing_named;
 use super::makings::{Fuses, Outcome, making};
 use super::runs::{shown, told};
@@ -10,9 +10,9 @@ use uimg_engine::Fault;
 
 const ALL: u64 = u64::MAX;
 
-// The image; from which open on they are refused; which open is one of a source that lets how many
-// calls through; how many bytes the shelf takes, and whether it keeps them; the end; and
-// what the file has.
+// The image; from which open on they are refused; which open has a source that fails, and after how
+// many calls; how many bytes the shelf takes, and whether it keeps them; the end; and the resulting
+// file.
 const ROWS: [(&str, u64, u64, u64, u64, bool, &str, &str); 24] = [
     (
         "three-part-multi",
@@ -184,7 +184,8 @@ const ROWS: [(&str, u64, u64, u64, u64, bool, &str, &str); 24] = [
     ),
 ];
 
-// Whether a making ends so, with its listing where it is done, and leaves such a file.
+// Returns whether making an image has this end, prints its listing if it is done, and leaves such a
+// file.
 fn is_left(alloc: Global, made: &Outcome, name: &str, end: &str, file: &str) -> bool {
     let listing = if end == "done" {
         listing_named(name)
@@ -196,7 +197,7 @@ fn is_left(alloc: Global, made: &Outcome, name: &str, end: &str, file: &str) -> 
         && made.listed.as_slice() == listing.as_bytes()
 }
 
-// Whether the making of a row leaves what it says.
+// Returns whether making the image of a row leaves what it says.
 fn leaves<R: Files + AllocGlobal>(
     rt: &R,
     row: (&str, u64, u64, u64, u64, bool, &str, &str),
@@ -224,7 +225,8 @@ fn makings_that_fail(rt: HostRuntime) {
     }
 }
 
-// Whether a making of three parts that fails leaves its fault, no listing and a part of the image.
+// Returns whether a failed making of three parts returns its fault, and leaves no listing and a
+// prefix of the image.
 fn is_stopped(made: &Outcome, fault: Fault) -> bool {
     made.end == Err(fault) && made.listed.is_empty() && made.file != "other bytes"
 }
@@ -236,8 +238,8 @@ fn is_whole(made: &Outcome) -> bool {
         && made.listed.as_slice() == listing.as_bytes()
 }
 
-// How often the making fails as it has to, while more calls of a file, or more bytes of the shelf, are
-// let through. 0 where it does otherwise.
+// Returns how often making the image fails as expected, while more calls of a file, or more bytes
+// of the shelf, succeed; 0 if it does otherwise.
 fn failures<R: Files + AllocGlobal>(rt: &R, turn: u64, fault: Fault) -> u64 {
     for most in 0..100u64 {
         let fuses = Fuses {

@@ -1,4 +1,4 @@
-//! What the making of an image leaves, where opens, reads, the shelf or memory fail.
+//! What making an image leaves if opens, reads, the shelf or memory fail.
 ghost use Rattle.std.specs.Prelude.{◌≡◌, ◌≢◌, false, length, IfOk};
 ghost use Rattle.uimg_base.specs.Device.{IsFresh};
 ghost use Rattle.uimg_legacy.specs.Parts.{has_parts};
@@ -56,7 +56,7 @@ const SOURCE: &[u8] = b"/dts-v1/;
 };
 ";
 
-// What a shelf keeps, or nothing.
+// Returns what a shelf keeps, or a fault.
 fn kept<H: Shelf>(shelf: H, keeps: bool) -> Result<H::Kept, SourceFault>
     ensures { IfOk result (λ kept. IsFresh (H.Kept.device kept)) }
 {
@@ -67,7 +67,7 @@ fn kept<H: Shelf>(shelf: H, keeps: bool) -> Result<H::Kept, SourceFault>
     }
 }
 
-// A shelf that takes so many bytes, and keeps what was written or refuses to.
+// A shelf that takes a number of bytes, and keeps what was written or refuses to.
 #[derive(Drop)]
 struct CutShelf<H: Shelf> {
     shelf: FuseWriter<H>,
@@ -97,8 +97,8 @@ impl<H: Shelf> Shelf for CutShelf<H> {
     }
 }
 
-/// What fails: opens are refused from a number on, the source of the open number `turn` lets so many
-/// calls through, and the shelf takes so many bytes, and keeps them or not.
+/// What fails: opens from number `from` on; the source of open number `turn` after `calls` calls;
+/// the shelf after `bytes` bytes, and its `keep` unless `keeps` is set.
 #[derive(Clone, Copy)]
 pub(super) struct Fuses {
     pub(super) from: u64,
@@ -108,7 +108,7 @@ pub(super) struct Fuses {
     pub(super) keeps: bool,
 }
 
-/// What a making left: its end, what it listed, and which part of the image its file has.
+/// What making an image left: its end, its listing, and how much of the image the file has.
 #[derive(Drop)]
 pub(super) struct Outcome {
     pub(super) end: Result<Status, Fault>,
@@ -116,7 +116,7 @@ pub(super) struct Outcome {
     pub(super) file: &'static str,
 }
 
-// A list of one name.
+// Returns a list of one name.
 fn one_name(alloc: Global, name: &str) -> Result<Vec<Vec<u8>>, AllocError>
     ensures { IfOk result (λ names. length names.items ≡ 1) }
 {
@@ -125,7 +125,7 @@ fn one_name(alloc: Global, name: &str) -> Result<Vec<Vec<u8>>, AllocError>
     Ok(names)
 }
 
-// The names that stand between colons.
+// Returns the names between colons.
 fn part_names(alloc: Global, data: &str) -> Result<Vec<Vec<u8>>, AllocError>
     ensures { IfOk result (λ names. length names.items ≢ 0) }
 {
@@ -138,7 +138,7 @@ fn part_names(alloc: Global, data: &str) -> Result<Vec<Vec<u8>>, AllocError>
     Ok(names)
 }
 
-// The names of a legacy image's files: one, or all that stand between colons.
+// Returns the names of a legacy image's files: one, or those between colons.
 fn file_names(alloc: Global, kind: u8, data: &str) -> Result<Vec<Vec<u8>>, AllocError>
     ensures some { IfOk result (λ names. length names.items ≢ 0) }
     ensures single { IfOk result (λ names. has_parts kind ≡ false → length names.items ≡ 1) }
@@ -150,7 +150,8 @@ fn file_names(alloc: Global, kind: u8, data: &str) -> Result<Vec<Vec<u8>>, Alloc
     }
 }
 
-/// The making of an image by its name; any other name is that of several parts with colons between them.
+/// Returns the command that makes an image, by its name; any other name is that of several parts,
+/// separated by colons.
 pub(super) fn command_named(alloc: Global, name: &str) -> Result<MakeCommand, AllocError>
     ensures { IfOk result (λ command. HasFitNames command) }
 {
@@ -189,7 +190,7 @@ pub(super) fn command_named(alloc: Global, name: &str) -> Result<MakeCommand, Al
     Ok(MakeCommand::Parts { options, files })
 }
 
-/// The time of an image by its name.
+/// Returns the time of an image, by its name.
 pub(super) fn time_of(name: &str) -> u32 {
     if name == "abc-kernel" {
         1_700_000_000
@@ -198,7 +199,7 @@ pub(super) fn time_of(name: &str) -> u32 {
     }
 }
 
-// Which part of the image of this name the file at a path has. The file is removed.
+// Returns how much of the image of this name the file at a path has, and removes the file.
 fn part_left<R: rt::Files + AllocGlobal>(rt: &R, path: &str, name: &str) -> &'static str {
     let Ok(bytes) = fs::read(rt, path) else {
         return "no file";
@@ -214,7 +215,7 @@ fn part_left<R: rt::Files + AllocGlobal>(rt: &R, path: &str, name: &str) -> &'st
     }
 }
 
-// The making by a command, with a fuse round the files.
+// Makes the image of a command, with fuses around the files and the shelf.
 fn built<R: AllocGlobal, A: Allocator + Copy, B: Allocator, F: Files + Drop, H: Shelf>(
     rt: &R,
     memory: (A, B),
@@ -244,8 +245,8 @@ fn built<R: AllocGlobal, A: Allocator + Copy, B: Allocator, F: Files + Drop, H: 
     (end, out.into_inner())
 }
 
-/// Makes the image of a name as the file at a path, which is removed again: the memory of the making
-/// is taken from the first, and that of the listing's room from the second.
+/// Makes the image of a name as the file at a path, and removes the file. `memory` is for making
+/// the image, and for the room of its listing.
 pub(super) fn making<R: rt::Files + AllocGlobal, A: Allocator + Copy, B: Allocator>(
     rt: &R,
     memory: (A, B),

@@ -34,7 +34,7 @@ impl<'a> Env for OneVariable<'a> {
     }
 }
 
-// A clock that stands, or cannot be read.
+// A clock that does not advance, or cannot be read.
 #[derive(Drop)]
 struct StandingClock {
     seconds: Option<u64>,
@@ -69,7 +69,8 @@ fn the_epoch_is_read_from_its_variable(rt: HostRuntime) -> Result<(), Fail> {
     Ok(())
 }
 
-// Parts of a second are cut, and a moment after 2106-02-07 is the last one that 32 bits hold.
+// Fractions of a second are cut; 2106-02-07 has the last time that 32 bits hold, and later ones are
+// that.
 #[test]
 fn the_clock_gives_whole_seconds(rt: HostRuntime) {
     for (seconds, moment) in [

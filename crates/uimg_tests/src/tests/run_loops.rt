@@ -1,4 +1,4 @@
-//! Commands on images at each place where a read or a write can fail, and on each beginning of an image.
+//! Commands on images while each read and each write fails in turn, and on each prefix of an image.
 use super::images::image_named;
 use super::runs::{ALL, Left, action_named, ran, shown, told};
 use linked_list_allocator::LocalHeap;
@@ -17,12 +17,13 @@ const IMAGES: [&str; 4] = [
     "external-fit",
 ];
 
-// Whether two runs left the same.
+// Returns whether two runs left the same.
 fn is_same(left: &Left, whole: &Left) -> bool {
     left.end == whole.end && left.text == whole.text
 }
 
-// Whether each writer that is full too early has what it takes of the text, up to one that takes all.
+// Returns whether each writer that is full too early has the prefix of the text that it takes, up
+// to one that takes all.
 fn takes_each(alloc: Global, action: &str, image: &[u8]) -> bool {
     let whole = ran(alloc, action, image, ALL, ALL);
     for bytes in 0..2000u64 {
@@ -38,7 +39,8 @@ fn takes_each(alloc: Global, action: &str, image: &[u8]) -> bool {
     false
 }
 
-// Whether each source that fails is answered by that, up to one that does not fail.
+// Returns whether a failed read is reported for each source that fails, up to one that does not
+// fail.
 fn fails_each(alloc: Global, action: &str, image: &[u8]) -> bool {
     let whole = ran(alloc, action, image, ALL, ALL);
     for calls in 0..2000u64 {
@@ -65,7 +67,7 @@ fn reads_and_writes_fail_in_turn(rt: HostRuntime) {
     }
 }
 
-// How a FIT image ends that is cut to so many bytes.
+// Returns the end for a FIT image that is cut to `length` bytes.
 fn cut_end(length: usize) -> &'static str {
     match length {
         0..=3 => "L1 too short",
@@ -74,7 +76,7 @@ fn cut_end(length: usize) -> &'static str {
     }
 }
 
-// How many beginnings of an image end as they have to, from the empty one on.
+// Returns how many prefixes of an image end as expected, from the empty one on.
 fn right_cuts(alloc: Global, action: &str, image: &[u8]) -> usize {
     for length in 0..image.len() {
         let left = ran(alloc, action, &image[..length], ALL, ALL);
@@ -95,7 +97,7 @@ fn every_cut_is_refused(rt: HostRuntime) {
     }
 }
 
-// Sizes of the structure block, and where it is truncated then.
+// Sizes of the structure block, and where it is truncated.
 const KNOWN_SIZES: [(u32, &str); 7] = [
     (0, "B6 truncated at 56"),
     (4, "B6 truncated at 56"),
@@ -106,13 +108,13 @@ const KNOWN_SIZES: [(u32, &str); 7] = [
     (599, "B6 truncated at 652"),
 ];
 
-// What a listing leaves where the cell of the structure block's size has this number.
+// Returns what a listing leaves if the structure block has this size in the header.
 fn listed_with_size(alloc: Global, image: &mut [u8], size: u32) -> Left {
     set_cell(image, 36, size);
     ran(alloc, "list", image, ALL, ALL)
 }
 
-// Every struct size: the block has 600 bytes.
+// Every size of the structure block, which has 600 bytes.
 #[test]
 fn every_structure_size_is_truncated(rt: HostRuntime) {
     let mut image = image_named(rt.alloc(), "four-hash-fit");
@@ -128,7 +130,8 @@ fn every_structure_size_is_truncated(rt: HostRuntime) {
     }
 }
 
-// A payload of 20000 bytes: a writer that takes none has a window asked for, and not the payload.
+// A payload of 20000 bytes: for a writer that takes nothing, only a window is requested, not the
+// payload.
 #[test]
 fn a_writer_takes_none_of_20000(rt: HostRuntime) {
     let image = image_named(rt.alloc(), "20000-bytes");
@@ -140,14 +143,14 @@ fn a_writer_takes_none_of_20000(rt: HostRuntime) {
     assert!(rt; whole.text.as_slice() == [0; 20000].as_slice());
 }
 
-// A few bytes behind a hole of so many.
+// Returns a few bytes after a hole of `hole` bytes.
 fn wall_behind(heap: &LocalHeap, hole: usize) -> Result<Vec<u8, &LocalHeap>, AllocError> {
     let _hole: Vec<u8, &LocalHeap> = Vec::with_capacity(heap, hole)?;
     Vec::with_capacity(heap, 16)
 }
 
-// The text of a command's end over a heap with two holes, each with place for three entries, where three
-// are held and nothing is written.
+// Returns the text of a command's end over a heap with two holes, each with room for three entries,
+// if three are held and nothing is written.
 fn end_in_holes(alloc: Global, action: &str, image: &[u8]) -> Option<Vec<u8>> {
     let Ok(heap) = LocalHeap::new(alloc, 256 * 3 + 96) else {
         return None;

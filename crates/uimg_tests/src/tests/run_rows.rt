@@ -1,10 +1,10 @@
-//! Commands on images: how they end, how many bytes they ask for at most, and how many they hold.
+//! Commands on images: how they end, how many bytes they request at most, and how many they hold.
 use super::images::image_named;
 use super::runs::{ALL, ran, shown, told};
 use std::alloc::Global;
 use std::process::Abort;
 
-// The image, the action, the bytes asked for at most, the bytes held, and the end.
+// The image, the action, the most requested bytes, the held bytes, and the end.
 const ROWS: [(&str, &str, u128, u128, &str); 47] = [
     ("abc-kernel", "list", 83, 8192, "done"),
     ("abc-kernel", "verify", 83, 8192, "done"),
@@ -139,7 +139,7 @@ const ROWS: [(&str, &str, u128, u128, &str); 47] = [
     ),
 ];
 
-// Whether the command of a row ends, asks and holds as it says.
+// Returns whether the command of a row ends, requests and holds as it says.
 fn is_left(alloc: Global, row: (&str, &str, u128, u128, &str)) -> bool {
     let (name, action, asked, held, end) = row;
     let image = image_named(alloc, name);

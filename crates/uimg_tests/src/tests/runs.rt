@@ -1,4 +1,4 @@
-//! What a command does to an image in memory, whose reads and writes may fail.
+//! Commands on an image in memory, whose reads and writes may fail.
 use std::alloc::Global;
 use uimg_base::{FuseSource, FuseWriter, MemSource, Out, Room, Source, Status};
 use uimg_engine::{Action, Command, Fault, Format, run};
@@ -7,8 +7,8 @@ use uimg_names::Naming;
 /// As many calls, or bytes, as there are.
 pub(super) const ALL: u64 = u64::MAX;
 
-/// What a command left: its answer and its text, how many bytes it asked for, how many its room held,
-/// and how many calls of the source failed.
+/// What a command left: its result and its text, how many bytes it requested, how many its room
+/// held, and how many calls of the source failed.
 #[derive(Drop)]
 pub(super) struct Left {
     pub(super) end: Result<Status, Fault>,
@@ -18,7 +18,7 @@ pub(super) struct Left {
     pub(super) failures: u64,
 }
 
-/// The action of a word: `list`, `verify`, or the position of what is extracted, `0` or `1`.
+/// Returns the action of a word: `list`, `verify`, or the position for an extraction, `0` or `1`.
 pub(super) fn action_named(word: &str) -> Action {
     match word {
         "list" => Action::List(Naming::Profile),
@@ -28,8 +28,8 @@ pub(super) fn action_named(word: &str) -> Action {
     }
 }
 
-/// What a command leaves over an image whose source lets so many calls through, on a writer that takes
-/// so many bytes.
+/// Runs a command on an image, with a source that fails after `calls` calls, and a writer that
+/// fails after `bytes` bytes.
 pub(super) fn ran(alloc: Global, action: &str, image: &[u8], calls: u64, bytes: u64) -> Left {
     let command = Command {
         action: action_named(action),
@@ -48,7 +48,7 @@ pub(super) fn ran(alloc: Global, action: &str, image: &[u8], calls: u64, bytes: 
     }
 }
 
-/// The text of an end.
+/// Returns the text of an end.
 pub(super) fn told(alloc: Global, end: &Result<Status, Fault>) -> Vec<u8> {
     let told = match end {
         Ok(Status::Done) => format!(in alloc; "done"),
@@ -61,7 +61,7 @@ pub(super) fn told(alloc: Global, end: &Result<Status, Fault>) -> Vec<u8> {
     }
 }
 
-/// Bytes as a text, for an assertion.
+/// Returns bytes as a text, for an assertion.
 pub(super) fn shown(text: &[u8]) -> &str {
     str::from_utf8(text).unwrap_or("no text")
 }

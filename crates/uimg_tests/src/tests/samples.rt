@@ -1,22 +1,22 @@
-//! Blobs that are written down as words: `(name` begins a node and `)` ends it, `37=616263` is a
-//! property with its name's place among the strings and its value, and `1000*` before a word stands
-//! for so many of them.
+//! Blobs that are written as words: `(name` begins a node and `)` ends it, `37=616263` is a
+//! property with its name's offset in the strings block and its value, and `1000*` before a word
+//! repeats it.
 use std::alloc::Global;
 use uimg_blob::samples::Sample;
 use uimg_fit_tests::samples::finish;
 
-/// Nodes without names, one in the other.
+/// Nodes without names, nested.
 pub(super) const THOUSAND_DEEP: &str = "1000*( 1000*)";
 
-/// Two images that have the same three bytes behind the blob.
+/// Two images with the same three bytes after the blob.
 pub(super) const SHARED_PAYLOAD: &str = "( (images \
 (a 104=00000000 116=00000003 (hash 78=637263333200 83=352441c2 ) ) \
 (b 104=00000000 116=00000003 (hash 78=637263333200 83=352441c2 ) ) ) )";
 
-/// Properties that share one name of 255 bytes, without values.
+/// Properties without values that share one name of 255 bytes.
 pub(super) const SHARED_NAMES: &str = "( 1000*0= )";
 
-// The bytes of a hexadecimal text of at most 16 of them, and how many they are.
+// Returns the bytes of a hexadecimal text, at most 16, and their number.
 fn bytes_of(text: &str) -> ([u8; 16], usize) {
     let length = usize::min(text.len() / 2, 16);
     let number = u128::from_str_radix(text, 16).unwrap_or(0);
@@ -24,7 +24,7 @@ fn bytes_of(text: &str) -> ([u8; 16], usize) {
     (number.unbounded_shl(shift).to_be_bytes(), length)
 }
 
-// Adds what a word stands for, and answers whether it could.
+// Adds what a word means. Returns whether it could.
 fn adds(blob: &mut Sample<Global>, word: &str) -> bool {
     if word == ")" {
         return blob.end_node().is_ok();
@@ -40,7 +40,7 @@ fn adds(blob: &mut Sample<Global>, word: &str) -> bool {
     }
 }
 
-// Adds what the words stand for, and answers whether it could.
+// Adds what the words mean. Returns whether it could.
 fn adds_all(blob: &mut Sample<Global>, words: &str) -> bool {
     for word in words.split(' ') {
         let (count, word) = word.split_once('*').unwrap_or(("1", word));
@@ -53,7 +53,7 @@ fn adds_all(blob: &mut Sample<Global>, words: &str) -> bool {
     true
 }
 
-/// The blob of the words, with a text behind it.
+/// Returns the blob of the words, with a text after it.
 pub(super) fn sample(alloc: Global, words: &str, behind: &str) -> Option<Vec<u8>> {
     let mut blob = Sample::new(alloc);
     if !adds_all(&mut blob, words) {

@@ -8,8 +8,8 @@ use std::test::Fail;
 use std::{fs, io};
 use uimg_tool::program;
 
-/// A writer that takes so many bytes in all, and so many a call. It counts its calls, and flushes or
-/// fails to.
+/// A writer that takes a number of bytes in all, and a number in a call. It counts its calls, and
+/// its flush succeeds or fails.
 #[derive(Drop)]
 pub(super) struct Meter {
     pub(super) taken: Vec<u8>,
@@ -42,7 +42,8 @@ impl Write for Meter {
     }
 }
 
-/// A writer that takes so many bytes in all, and so many a call, and flushes or fails to.
+/// Returns a writer that takes `room` bytes in all, and `most` in a call, and whose flush succeeds
+/// or fails.
 pub(super) fn writer_of<R: AllocGlobal>(rt: &R, room: usize, most: usize, flushes: bool) -> Meter {
     Meter {
         taken: Vec::new(rt.alloc()),
@@ -53,7 +54,7 @@ pub(super) fn writer_of<R: AllocGlobal>(rt: &R, room: usize, most: usize, flushe
     }
 }
 
-/// Runs the program on the words of a line, and answers the exit status.
+/// Runs the program on the words of a line, and returns the exit status.
 pub(super) fn ran<R: Files + AllocGlobal>(
     rt: &R,
     line: &str,
@@ -123,7 +124,7 @@ const ROWS: [(&str, &str, usize, usize, u8, &str, &str); 9] = [
     ),
 ];
 
-// Whether the streams of a row take what it says, and the status is its own.
+// Returns whether the streams of a row take what it says, with its status.
 fn takes<R: Files + AllocGlobal>(rt: &R, row: (&str, &str, usize, usize, u8, &str, &str)) -> bool {
     let (line, _, room, told, status, printed, fault) = row;
     let mut out = writer_of(rt, room, usize::MAX, true);

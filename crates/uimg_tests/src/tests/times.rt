@@ -1,11 +1,12 @@
-//! The time of an image that is made.
+//! The time of a new image.
 use std::fs;
 use std::process::Abort;
 use std::rt::Files;
 use std::test::Fail;
 use uimg_tool::program;
 
-// SOURCE_DATE_EPOCH, or no text where it is not set; the clock's moment; and the time in the header.
+// SOURCE_DATE_EPOCH, or an empty text if it is not set; the clock's time; and the time in the
+// header.
 const ROWS: [(&str, u32, u32); 7] = [
     ("", 0, 0),
     ("", 7, 7),
@@ -16,7 +17,7 @@ const ROWS: [(&str, u32, u32); 7] = [
     ("4294967295", 9, u32::MAX),
 ];
 
-// The exit status where the image is made.
+// Makes an image, and returns the exit status.
 fn status_of<R: Files + AllocGlobal>(rt: &R, epoch: &str, now: u32) -> u8 {
     let epoch = if epoch.is_empty() { None } else { Some(epoch) };
     let words = ["uimg", "mkimage", "-d", "times.bin", "times.img"];
@@ -25,7 +26,7 @@ fn status_of<R: Files + AllocGlobal>(rt: &R, epoch: &str, now: u32) -> u8 {
     program(rt, &words, epoch, now, &mut out, &mut err)
 }
 
-// Whether the image that was made has a time.
+// Returns whether the image has this time.
 fn has_time<R: Files + AllocGlobal>(rt: &R, time: u32) -> bool {
     match fs::read(rt, "times.img") {
         Ok(image) => image.get(8..12) == Some(time.to_be_bytes().as_slice()),
@@ -33,7 +34,7 @@ fn has_time<R: Files + AllocGlobal>(rt: &R, time: u32) -> bool {
     }
 }
 
-// SOURCE_DATE_EPOCH counts where it is set, or else the clock.
+// SOURCE_DATE_EPOCH counts if it is set, else the clock.
 #[test]
 fn times(rt: HostRuntime) -> Result<(), Fail> {
     fs::write(&rt, "times.bin", "abc")?;

@@ -9,22 +9,22 @@ use uimg_base::Algo;
 /// A check of images.
 #[derive(Drop)]
 pub struct CheckRequest<'a> {
-    /// The algorithm that is needed at least, if there is one.
+    /// The weakest algorithm that is enough, if one is needed.
     pub need: Option<Algo>,
 
-    /// Whether each image needs a hash, and each name that a configuration gives an image.
+    /// Whether each image needs a hash, and each name in a configuration its image.
     pub is_strict: bool,
 
-    /// The paths of images.
+    /// The paths of the images.
     pub images: Vec<&'a str>,
 
-    /// The path of a file that has the paths of further images, `-` for standard input.
+    /// The path of a file with the paths of further images, `-` for standard input.
     pub files_from: Option<&'a str>,
 
-    /// Whether a NUL ends each path of that file, and not a newline.
+    /// Whether each path in that file ends with a NUL instead of a newline.
     pub has_nuls: bool,
 
-    /// Whether an object of JSON is to be written for each image, and not a line of text.
+    /// Whether to write a JSON object for each image instead of a line of text.
     pub as_json: bool,
 }
 

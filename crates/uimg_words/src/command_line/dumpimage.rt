@@ -67,7 +67,7 @@ fn format_named(name: &str) -> Result<Format, WordsFault> {
     }
 }
 
-// A position is 0 where none is given.
+// Returns the position, 0 without an option.
 fn position(text: Option<&str>) -> Result<u32, WordsFault> {
     decimal(text.unwrap_or("0")).ok_or(WordsFault::BadNumber)
 }

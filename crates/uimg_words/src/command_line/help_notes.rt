@@ -1,4 +1,4 @@
-//! What stands below the options in the help of the program and of each command.
+//! The notes after the options, in the help of the program and of each command.
 
 /// The notes of the program.
 pub(super) const PROGRAM_NOTES: &str = "Examples:

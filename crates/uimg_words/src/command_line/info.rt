@@ -5,7 +5,7 @@ use super::image;
 use clap::{Arg, ArgAction, ArgMatches};
 use std::alloc::{AllocError, Global};
 
-/// The facts of an image, as an object of JSON.
+/// A request for the facts of an image, as a JSON object.
 #[derive(Drop)]
 pub struct InfoRequest<'a> {
     /// The path of the image.

@@ -5,10 +5,10 @@ use super::image;
 use clap::{Arg, ArgAction, ArgMatches};
 use std::alloc::{AllocError, Global};
 
-/// The map of an image's file.
+/// A request for the map of an image's file.
 #[derive(Drop)]
 pub struct MapRequest<'a> {
-    /// The path of the file that gets it as a picture, if it is not to be written as lines.
+    /// The path of a file for the map as a picture, if it is not printed as lines.
     pub picture: Option<&'a str>,
 
     /// The path of the image.

@@ -21,7 +21,7 @@ pub(super) fn command<'a>(alloc: Global) -> Result<clap::Command<'a>, AllocError
         .arg(image(alloc, "The image to make, or with -l to list"))
 }
 
-// The options of an image that is made from data.
+// Adds the options of an image that is made from data.
 fn header_options<'a>(
     alloc: Global,
     command: clap::Command<'a>,
@@ -57,7 +57,7 @@ fn header_options<'a>(
         ))
 }
 
-// The options of an image that is made from a source.
+// Adds the options of an image that is made from a source.
 fn source_options<'a>(
     alloc: Global,
     command: clap::Command<'a>,
@@ -112,7 +112,7 @@ pub(super) fn request<'a>(
     }
 }
 
-// Where the options place the payloads. The number of -p is looked at without -E too.
+// Returns where the options place the payloads. The number of -p is checked even without -E.
 fn placement(matches: &ArgMatches<'_>) -> Result<Placement, WordsFault> {
     let position = address(matches.get_str("position"), 0)?;
     match (matches.get_flag("external"), position) {
@@ -127,7 +127,7 @@ fn placement(matches: &ArgMatches<'_>) -> Result<Placement, WordsFault> {
     }
 }
 
-// The fields of the header that the options give. All names are looked at before any number.
+// Returns the fields of the header from the options. Names are checked before numbers.
 fn options(matches: &ArgMatches<'_>) -> Result<Options, WordsFault> {
     let arch = arch_code(word(matches, "arch", "ppc")).ok_or(WordsFault::UnknownName)?;
     let os = os_code(word(matches, "os", "linux")).ok_or(WordsFault::UnknownName)?;
@@ -150,12 +150,12 @@ fn options(matches: &ArgMatches<'_>) -> Result<Options, WordsFault> {
     })
 }
 
-// The word of an option, or the default.
+// Returns the word of an option, or the default.
 fn word<'a>(matches: &ArgMatches<'a>, id: &str, default: &'a str) -> &'a [u8] {
     matches.get_str(id).unwrap_or(default).as_bytes()
 }
 
-// The number of a hexadecimal text, or the default where there is none.
+// Returns the number of a hexadecimal text, or the default without one.
 fn address(text: Option<&str>, default: u32) -> Result<u32, WordsFault> {
     match text {
         Some(text) => hexadecimal(text).ok_or(WordsFault::BadNumber),
@@ -163,7 +163,7 @@ fn address(text: Option<&str>, default: u32) -> Result<u32, WordsFault> {
     }
 }
 
-// The moment that SOURCE_DATE_EPOCH gives where it is set, or else the clock's.
+// Returns the time by SOURCE_DATE_EPOCH, if it is set, else the current time.
 fn time(epoch: Option<&str>, now: u32) -> Result<u32, WordsFault> {
     match epoch {
         Some(text) => decimal(text).ok_or(WordsFault::BadEpoch),

@@ -6,19 +6,20 @@ use clap::{Arg, ArgAction, ArgMatches};
 use std::alloc::{AllocError, Global};
 use uimg_base::Algo;
 
-/// The unpacking of an image.
+/// A request to unpack an image.
 #[derive(Drop)]
 pub struct UnpackRequest<'a> {
-    /// The folder that its payloads are put in.
+    /// The folder for its payloads.
     pub folder: &'a str,
 
-    /// The name of the image whose payload, or of the file whose part, is asked for alone, if not all are.
+    /// The name of the image whose payload, or of the file whose part, is requested alone, unless
+    /// all are.
     pub only: Option<&'a str>,
 
-    /// The algorithm that is needed at least, if there is one.
+    /// The weakest algorithm that is enough, if one is needed.
     pub need: Option<Algo>,
 
-    /// Whether files that are there are replaced.
+    /// Whether existing files are replaced.
     pub is_forced: bool,
 
     /// The path of the image.
