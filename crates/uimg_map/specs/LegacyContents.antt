@@ -49,8 +49,7 @@ is_end [] = true
 is_end (size ∷ sizes) = false
 
 -- The parts of these sizes, the first at an offset and with a number, in data up to `end`: each
--- begins after the one before, rounded up to a multiple of 4. None follows one that ends after the
--- data.
+-- begins after the one before, rounded up to a multiple of 4; one that ends after the data is last.
 unfoldable pub parts_told : ℕ → ℕ → ℕ → List ℕ → Told
 parts_told end at number [] = nothing
 parts_told end at number (size ∷ sizes) = joined
