@@ -32,8 +32,7 @@ pub record Reports (o : Outcome Fault) (old new : List ℕ) (report : UimgReport
 abbrev pub no_report : UimgReport
 no_report = record { status = 3; fault = 0; place = 0; needed = 0; written = 0; peak = 0 }
 
--- A payload has the end of an extraction's outcome, and the span of the extracted bytes in the
--- image.
+-- A payload has the end of an extraction's outcome, and the span of the bytes in the image.
 pub record Finds (o : Outcome Fault) (image : List ℕ) (payload : UimgPayload) : Type 0 where
   pub code : code_of o.end ≡ Some (record { status = payload.status; fault = payload.fault; place = payload.place })
   -- exactly the bytes that an extraction writes

@@ -62,9 +62,8 @@ fit_number fit.ReadFailed = 10
 abbrev pub refusal : ℕ → ℕ → ℕ → Code
 refusal letter number place = record { status = 1; fault = 256 * letter + number; place = place }
 
--- The numbers of a fault of an image or its blob; none if memory for the table of nodes was
--- refused, a device failed, or the files of a making are at fault. Faults that no reading returns
--- (L9, L10, B10, F5 to F10) have numbers too.
+-- The numbers of a fault of an image or its blob, even one of making (L9, L10, B10, F5 to F10);
+-- none if memory for the table was refused, a device failed, or a making's files are at fault.
 abbrev pub code_of_fault : Fault → Option Code
 code_of_fault (Legacy f) = Some (refusal 76 (legacy_number f) 0)
 code_of_fault (Blob blob.OutOfMemory place) = None
@@ -72,8 +71,7 @@ code_of_fault (Blob f place) = Some (refusal 66 (blob_number f) place)
 code_of_fault (Fit f) = Some (refusal 70 (fit_number f) 0)
 code_of_fault _ = None
 
--- the numbers of a result: the status is 0 if all is done, 1 if something is not right or the image
--- is refused
+-- the numbers of a result: status 0 if all is done, 1 if something is wrong or the image refused
 abbrev pub code_of_answer : Result Status Fault → Option Code
 code_of_answer (Ok Done) = Some (record { status = 0; fault = 0; place = 0 })
 code_of_answer (Ok NotRight) = Some (record { status = 1; fault = 0; place = 0 })

@@ -92,7 +92,7 @@ fn refusal(letter: u32, number: u32, place: u64) -> Code
 }
 
 // Returns the numbers of a fault of an image or its blob; none if memory for the table of nodes was
-// refused, a device failed, or the files of a making are at fault.
+// refused, a device failed, or a making's files are at fault.
 pub(crate) fn fault_code(fault: Fault) -> Option<Code>
     ensures { result ≡ code_of_fault fault }
 {

@@ -13,8 +13,7 @@ use uimg_base::Room;
 use uimg_engine::run_in_memory;
 use uimg_requests::Command;
 
-/// Carries out a command on the bytes of an image, and copies its text to `text`, truncated to its
-/// length.
+/// Carries out a command on an image's bytes, and copies its text, truncated to `text`.
 pub(crate) fn report_on(
     alloc: Global,
     command: &Command,

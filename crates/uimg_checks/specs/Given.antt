@@ -1,6 +1,5 @@
--- The names that a configuration gives: its properties with their values, in the order in which
--- they are checked (Flattened Image Tree format, "'/configurations' node", and the properties of
--- U-Boot's include/image.h).
+-- The names that a configuration gives: its properties with their values, in the order of the check
+-- (Flattened Image Tree format, "'/configurations' node"; properties of U-Boot's include/image.h).
 use Rattle.std.specs.Prelude.{ℕ, List, [], ◌∷◌, Option}
 use Rattle.uimg_base.specs.declared.spans.Span.{Span}
 use Rattle.uimg_fit_base.specs.Files.{bytes_in}

@@ -1,5 +1,4 @@
--- Names in a FIT image without an image or a configuration (Flattened Image Tree format,
--- "'/configurations' node").
+-- Names that a FIT image uses but lacks (Flattened Image Tree format, "'/configurations' node").
 use Rattle.std.specs.Prelude.{◌≡◌, ℕ, List, [], ◌∷◌, map, Option, Some, None, Result, IfOk, IsTrue, Vec}
 use Rattle.std.specs.BTreeSet.{BTreeSet}
 use Rattle.std.specs.List.{find}
@@ -69,8 +68,7 @@ read_missing file missing = record { configuration = bytes_in file missing.confi
 abbrev pub TellsMissing : List ℕ → Option MissingSaid → Result (Option Missing) SurveyFault → Type 0
 TellsMissing file said result = IfOk result (λ found. option_map (read_missing file) found ≡ said)
 
--- What is missing by the spans of values in a file: for a property, for several, for a
--- configuration, and for several.
+-- What is missing by spans of values: for one property or several, one configuration or several.
 abbrev pub under_property : Option Span → Reference → Option Span → List (List ℕ) → List ℕ → Option MissingSaid
 under_property giver property value names file = missing_under names (bytes_in file giver) property (bytes_in file value)
 
@@ -83,9 +81,8 @@ of_configuration configuration images file = missing_of images (read_configurati
 abbrev pub of_configurations : List ConfigurationFacts → List (List ℕ) → List ℕ → Option MissingSaid
 of_configurations configurations images file = first_missing images (map (read_configuration file) configurations)
 
--- At most `most` bytes were requested, and a failed read was counted exactly if it is returned;
--- other faults are refused memory alone. Over an honest source, and with a set of exactly the names
--- of a list, the result is what is missing.
+-- At most `most` bytes were requested; only failed reads, which are counted, and refused memory are
+-- faults. Over an honest source, with the names of a list as set, it finds what is missing.
 pub record FindsBetween {Z : Type 0} (most : ℕ) (said : List (List ℕ) → List ℕ → Option MissingSaid) (names : BTreeSet (Vec ℕ Z)) (result : Result (Option Missing) SurveyFault) (d e : Device) : Type 0 where
   pub uses : Asks most (is_unread result) d e
   pub own : IsOwn result

@@ -1,4 +1,4 @@
-//! Finds names in a FIT image without an image or a configuration: `find_missing`.
+//! Finds names that a FIT image uses but lacks: `find_missing`.
 
 mod missing;
 mod names;

@@ -22,8 +22,7 @@ pub(crate) fn change_nothing(words: &str) -> bool {
     waiting.is_none()
 }
 
-// Returns whether a word changes nothing by itself: the empty word, `-q`, or an option with a
-// joined value.
+// Returns whether a word alone changes nothing: none, `-q`, or an option with a joined value.
 fn is_whole(word: &str) -> bool {
     match word.strip_prefix("-p") {
         Some(value) => is_number(value),

@@ -4,8 +4,7 @@ use crate::getopt::Misuse;
 use std::alloc::AllocError;
 use thiserror::Error;
 
-/// Why the words of a command line request nothing. Its text is the line after the name of the
-/// tool.
+/// Why the words of a command line request nothing. Its text is the line after the tool's name.
 #[derive(Clone, Copy, Debug, Error)]
 pub enum OldFault<'a> {
     /// The words are not options and operands as getopt reads them.

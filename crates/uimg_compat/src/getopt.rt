@@ -154,8 +154,7 @@ impl<'a> Words<'a> {
     }
 }
 
-// Returns the option of the first of these letters, whether it has a value, and the letters after
-// it.
+// Returns the option of the first letter, whether it has a value, and the letters after it.
 fn option_by_letter<'a>(rows: &[OptionRow], letters: &'a str) -> Option<(char, bool, &'a str)>
     ensures shorter { IfSome result (λ found. length found.2.now < length letters.now) }
 {

@@ -297,8 +297,7 @@ impl<'a> Settings<'a> {
         }
     }
 
-    // Returns the entry point if none is given: for an image that runs in place, the address after
-    // its header.
+    // Returns the default entry point: after the header of an image that runs in place.
     fn default_entry(&self) -> u32 {
         if self.is_xip {
             self.load.wrapping_add(HEADER_BYTES)

@@ -47,8 +47,7 @@ pub(crate) enum Named {
     List,
 }
 
-/// Returns the meaning of an option's word: the code of a name, in upper or lower case, or the
-/// list.
+/// Returns the meaning of an option's word: the code of a name, in any case, or the list.
 pub(crate) fn name_of<'a>(
     alloc: Global,
     field: Field,

@@ -60,8 +60,7 @@ abbrev pub StaysInside : ℕ → Checked → Type 0
 StaysInside size (On rest) = ⊤
 StaysInside size (Ended finding) = EndsInside size finding
 
--- An image whose payload is known was checked; 12 bytes of its allowance are left for finding the
--- payload.
+-- An image whose payload is known was checked; 12 bytes are left for finding the payload.
 pub record ChecksPayloadBetween (file : List ℕ) (need : Option Algo) (left : ℕ) (image : NodeOf Spot) (message : List ℕ) (asked new : ℕ) (result : Result Checked SourceFault) : Type 0 where
   pub told : IfOk result (IsChecked file left (hashed image (Ok message)) (found_of need left image message))
   pub paid : new + left_of result + 12 ≤ asked + left + node_allowance image

@@ -18,13 +18,11 @@ use Rattle.uimg_fit_checking.specs.declared.checking.Finding.TheVariants.{Right,
 use Rattle.uimg_fit_checking.specs.Vouching.{is_vouched}
 use Rattle.uimg_fit_reading.specs.Work.{own_meta, hashed}
 
--- the most bytes that a check requests: all payloads that are read have at most the file's length
--- together
+-- the most bytes that a check requests: of all payloads together at most the file's length
 abbrev pub check_work : List ℕ → ℕ
 check_work file = own_meta file + length file
 
--- The finding about a FIT image whose blob and payloads are in order, with the names of images and
--- hash nodes.
+-- The finding about a FIT image whose blob and payloads are in order, with the names of nodes.
 pub data Told : Type 0 where
   right : ℕ → ℕ → Told
   unhashed : List ℕ → Told
@@ -57,8 +55,7 @@ wrong_in image message [] = None
 wrong_in image message (h ∷ hs) =
     if is_right (word_of message h) then wrong_in image message hs else Some (wrong image h.name (word_of message h))
 
--- whether an image has no hash node that is compared by an algorithm at least as strong as the
--- needed one
+-- whether no hash node of an image is compared by an algorithm at least as strong as needed
 abbrev pub is_weak : Option Algo → NodeOf Spot → Bool
 is_weak None image = false
 is_weak (Some need) image = not (is_vouched need image)
@@ -86,8 +83,7 @@ or_later (Ok None) later = later
 or_later (Ok (Some told)) later = Ok (Some told)
 or_later (Err fault) later = Err fault
 
--- The first finding about images, or the first fault. The bytes read of a payload reduce what is
--- left for the next ones.
+-- The first finding about images, or the first fault. A payload that is read leaves fewer bytes.
 unfoldable pub first_told : Option Algo → List ℕ → ℕ → List (NodeOf Spot) → Result (Option Told) Fault
 first_told need file left [] = Ok None
 first_told need file left (image ∷ more) =

@@ -12,8 +12,7 @@ use Rattle.uimg_fit_base.specs.declared.algo_sets.AlgoSet.{AlgoSet}
 use Rattle.uimg_fit_base.specs.declared.algo_sets.Digests.{Digests}
 use Rattle.uimg_fit_base.specs.AlgoSets.{set_of, AreDigests}
 
--- Some bytes were fed to sums and appended to an output: those of a range of the device, if it is
--- honest.
+-- Some bytes were fed to sums and appended to an output: of a range of the device, if it is honest.
 pub record TakesPieceBetween (d : Device) (at len : ℕ) (old new : Bundle) (s t : Sink) : Type 0 where
   pub piece : List ℕ
   pub summed : (algos : List Algo) (fed : List ℕ) → Holds old algos fed → Holds new algos (fed ++ piece)

@@ -1,5 +1,4 @@
--- The facts of a FIT image, and the names of all properties of its configurations (Devicetree
--- Specification, section 5.4).
+-- A survey, and all properties of configurations (Devicetree Specification, section 5.4).
 use Rattle.std.specs.Prelude.{◌≡◌, ◌≤◌, ◌+◌, ◌*◌, ℕ, List, [], length, map, Option, Some, None, Result, Ok, Err, Vec, true}
 use Rattle.std.specs.List.{All, sum_by}
 use Rattle.uimg_base.specs.declared.spans.Span.{Span}
@@ -39,9 +38,8 @@ properties_of file = properties_read (tree_of file)
 abbrev pub read_properties : {Z : Type 0} → List ℕ → Vec PropertyPlace Z → List (NamedOf Span)
 read_properties file places = map (read_place file) places.items
 
--- the most bytes requested to list the properties of a node, in a blob with `nops` FDT_NOP tokens:
--- its header and a word, a head and at most 256 bytes of a name for each property, and the FDT_NOP
--- tokens
+-- the most bytes requested to list a node's properties, in a blob with `nops` FDT_NOP tokens: its
+-- header and a word, for each a head and at most 256 bytes of a name, and the FDT_NOP tokens
 abbrev pub list_cost : ℕ → List (NamedOf Span) → ℕ
 list_cost nops said = 44 + 268 * length said + 4 * nops
 
@@ -53,8 +51,7 @@ properties_cost file = sum_by (list_cost (nops_met file)) (properties_of file)
 abbrev pub PlacesInside : {Z : Type 0} → ℕ → Vec PropertyPlace Z → Type 0
 PlacesInside size places = All (EndsBy size) places.items
 
--- The survey's values and the properties' names and values end within the blob, and the blob within
--- the file.
+-- All values of the survey and the properties end within the blob, and the blob within the file.
 pub record FullInside (size : ℕ) (full : FullSurvey) : Type 0 where
   pub survey : SurveyInside size full.survey
   pub properties : All (PlacesInside full.survey.totalsize) full.properties.items

@@ -1,6 +1,5 @@
--- The facts of a FIT image, without its payloads: the values of the properties with a meaning
--- (Flattened Image Tree format, "Root node", "'/images' node", "Hash nodes", "'/configurations'
--- node").
+-- The facts of a FIT image, without payloads: the properties with a meaning (Flattened Image Tree
+-- format, "Root node", "'/images' node", "Hash nodes", "'/configurations' node").
 use Rattle.std.specs.Prelude.{◌≡◌, ℕ, List, [], map, codes, Option, Some, None, Result, Ok, IfOk, Vec}
 use Rattle.uimg_texts.specs.Numbers.{be32}
 use Rattle.uimg_texts.specs.Slices.{slice}

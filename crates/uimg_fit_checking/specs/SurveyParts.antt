@@ -76,8 +76,7 @@ abbrev pub is_changed : {X : Type 0} → Result X SurveyFault → Bool
 is_changed (Err Changed) = true
 is_changed _ = false
 
--- The result is the facts of the file, or its first fault, unless a read failed or memory was
--- refused.
+-- The result is the facts of the file or its first fault, unless a read or memory failed.
 abbrev pub Surveys : List ℕ → Result Survey SurveyFault → Type 0
 Surveys file (Ok survey) = survey_of file ≡ Ok (read_survey file survey)
 Surveys file (Err (Stopped (of.Blob fault at))) = refuses_memory fault ≡ false → survey_of file ≡ Err (of.Blob fault at)
@@ -100,8 +99,7 @@ IsOwn result = IfErr result (λ fault. is_own fault ≡ true)
 abbrev pub AllInside : {X Z E : Type 0} → (ℕ → X → Type 0) → Result (Vec X Z) E → ℕ → Type 0
 AllInside Inside result size = IfOk result (λ found. All (Inside size) found.items)
 
--- Source and room are unchanged, and a failure was counted exactly if it is returned; memory for
--- the table of nodes is not refused.
+-- Source and room are unchanged, and a failure was counted exactly if it is returned.
 pub record LeavesSurveyBetween {X : Type 0} (result : Result X SurveyFault) (d e : Device) (old new : Held) : Type 0 where
   pub uses : Uses (is_unread result) d e
   pub room : new ≡ old

@@ -133,8 +133,7 @@ pub record GivenFirst (old new ts : List Take) : Type 0 where
   pub count : ℕ
   pub given : new ≡ old ++ take count ts
 
--- What was given before a device failed: the first of the outcome, and nothing if the file is
--- refused.
+-- What was given before a device failed: the first of the outcome; nothing if the file is refused.
 abbrev pub StopsIn : Result Outcome Fault → List Take → List Take → Type 0
 StopsIn (Ok (taken ts)) old new = GivenFirst old new ts
 StopsIn (Ok (overlaps name)) old new = new ≡ old

@@ -23,8 +23,7 @@ use Rattle.uimg_fit_checking.specs.declared.unpacking.claims.Claim.TheVariants.{
 use Rattle.uimg_fit_checking.specs.Checks.{wrong_in, or_weak}
 use Rattle.uimg_fit_checking.specs.Unpacking.{Take, GivenFirst, overlapping, is_asked, is_kept, told_of, bytes_of}
 
--- The refusal of a payload was found, if there is one; at most 351 bytes were requested for each
--- hash node.
+-- The refusal of a payload was found, if any; at most 351 bytes were requested for each hash node.
 pub record FindsRefusalBetween (need : Option Algo) (image : NodeOf Spot) (message : List ℕ) (asked new : ℕ) (result : Result (Option Refusal) SourceFault) : Type 0 where
   pub told : IfOk result (λ found. option_map (told_of image.name) found ≡ or_weak (wrong_in image.name message (hashes image)) need image)
   pub paid : new ≤ asked + 351 * length (hashes image)

@@ -25,8 +25,7 @@ from Sha512 = Sha512 ∷ []
 abbrev pub has_from : AlgoSet → Algo → Bool
 has_from set need = list_any (has set) (from need)
 
--- An image has a hash node that is compared with its payload by an algorithm at least as strong as
--- the needed one.
+-- A hash node of an image is compared by an algorithm at least as strong as the needed one.
 abbrev pub is_vouched : Algo → NodeOf Spot → Bool
 is_vouched need image = has_from (with_all no_algos (hashes image)) need
 

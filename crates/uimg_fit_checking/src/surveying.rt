@@ -82,15 +82,14 @@ fn gather<A: Allocator>(
     })
 }
 
-/// Collects the facts of a FIT image: of its root, its images with their hash nodes, and its
-/// configurations with the names of their child nodes, without the payloads. Each fact is the span
-/// of a value, which ends inside the blob, and the blob inside the source, whatever that returns.
-/// Reads no value: of an honest source no more is requested than to index it.
+/// Collects the facts of a FIT image without its payloads: of its root, its images with their hash
+/// nodes, and its configurations with the names of their child nodes. A fact is the span of a
+/// value; it ends inside the blob, and the blob inside the source, whatever that returns. Reads no
+/// value: of an honest source no more is requested than to index it.
 ///
 /// Returns the faults of the blob, then `NoImages`. The room holds the nodes meanwhile, and refuses
 /// memory as for a listing. Returns `OutOfMemory` if memory for the facts was refused: some 300
-/// bytes for an image or a configuration, 80 for a hash node and 16 for a child node of a
-/// configuration.
+/// bytes for an image or a configuration, 80 for a hash node, 16 for a configuration's child node.
 pub fn survey<S: Source, A: Allocator>(
     alloc: Global,
     source: &mut S,

@@ -1,5 +1,4 @@
-//! Unpacks the payloads of a FIT image; each is summed while it is written, and kept if its hash
-//! nodes are right.
+//! Unpacks the payloads of a FIT image: each is summed while it is written, kept if it is right.
 
 ghost use Rattle.std.specs.Prelude.{IsTrue};
 ghost use Rattle.std.specs.Option.{option_map};

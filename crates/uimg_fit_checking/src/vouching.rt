@@ -45,8 +45,7 @@ pub(crate) fn lacks(set: AlgoSet, need: Option<Algo>) -> bool
     }
 }
 
-// Returns whether each image from one on has a hash node that is compared by an algorithm at least
-// as strong as the needed one.
+// Returns whether each image from one on has a compared hash node of at least the needed strength.
 fn all_vouched<S: Source, A: Allocator>(
     source: &mut S,
     blob: &Blob,

@@ -32,8 +32,7 @@ hash_cost n hash = n + 383 + algo_length hash
 abbrev pub AllCovered : AlgoSet → List (NodeOf Spot) → Type 0
 AllCovered set hs = AllByRecursion (λ h. IsCovered set (plan_of h)) hs
 
--- The algorithms of the compared hash nodes were found; at most 32 bytes were requested for each
--- node.
+-- The algorithms of the compared hash nodes were found; 32 bytes a node were requested at most.
 pub record FindsAlgosBetween (hs : List (NodeOf Spot)) (asked new : ℕ) (result : Result AlgoSet SourceFault) : Type 0 where
   pub algos : IfOk result (λ set. set ≡ with_all no_algos hs)
   pub paid : new ≤ asked + 32 * length hs
@@ -41,8 +40,7 @@ pub record FindsAlgosBetween (hs : List (NodeOf Spot)) (asked new : ℕ) (result
 abbrev pub FindsAlgos : {S : Type 0} → List (NodeOf Spot) → Result AlgoSet SourceFault → (S → Device) → Lent S → Type 0
 FindsAlgos hs result device source = FindsAlgosBetween hs (device source.entry.now).asked (device source.exit.now).asked result
 
--- The digests of a payload by these algorithms were found. The payload was requested at most once,
--- and not at all if no hash node is compared.
+-- The digests of a payload were found. It was requested at most once, and not if none is compared.
 pub record FindsDigestsBetween (message : List ℕ) (size : ℕ) (hs : List (NodeOf Spot)) (asked new : ℕ) (result : Result Digests SourceFault) : Type 0 where
   pub digests : IfOk result (λ found. AreDigests found message)
   pub covered : IfOk result (λ found. AllCovered (set_of found) hs)

@@ -26,8 +26,7 @@ abbrev pub status_of : Bool → Status
 status_of true = Done
 status_of false = NotRight
 
--- an image whose payload was found was reported on; 12 bytes of its allowance are left for finding
--- the payload
+-- an image whose payload was found was reported on; 12 bytes are left for finding the payload
 pub record ReportsFoundBetween (image : NodeOf Spot) (message : List ℕ) (size asked new : ℕ) (result : Result Bool MoveFault) (old now : Sink) : Type 0 where
   pub right : IfOk result (λ right. right ≡ are_right message (hashes image))
   pub written : Written (is_err result) old now (hash_lines image.name message (hashes image))

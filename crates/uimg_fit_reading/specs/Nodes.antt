@@ -55,8 +55,7 @@ pub record HasNodes (d : Device) (blob : Blob) (room : Held) (first : Option ℕ
   pub within : IfSome first (λ i. i < length room.entries)
   pub file : InFile (length d.bytes) blob room.entries
 
--- The tree of a file is t, the entries index it, and the blob has the total size that its header
--- says.
+-- The tree of a file is t, the entries index it, and the blob has the total size of its header.
 pub record IsRead (file : List ℕ) (blob : Blob) (es : List (List ℕ)) (t : Siblings) : Type 0 where
   pub is : tree file ≡ Ok t
   pub indexed : IsIndexed t blob es
@@ -90,8 +89,7 @@ pub record IsNode (t : Siblings) (level : Level) (number : ℕ) (found : NodeOf 
   pub stands : Stand t level parent number (node at name own below after)
   pub is : found ≡ record { name = name; own = map spot_of own; below = spots below }
 
--- These nodes follow one another at a level of the tree, from the node of a number on; none without
--- a number.
+-- These nodes follow one another at a level, from the node of a number on; none without a number.
 pub record AreFrom (t : Siblings) (level : Level) (first : Option ℕ) (found : List (NodeOf Spot)) : Type 0 where
   pub parent : Option ℕ
   pub number : ℕ
@@ -159,8 +157,7 @@ abbrev pub HashesAt : Siblings → Option ℕ → List (NodeOf Spot) → Type 0
 HashesAt t None hs = hs ≡ []
 HashesAt t (Some number) hs = FirstHash t number hs
 
--- The node `configurations` of a tree has this number. Its `default` is kept, and its children are
--- configurations.
+-- The node `configurations` has this number, keeps `default`, and has configurations as children.
 pub record HasConfigurations (t : Siblings) (number : ℕ) : Type 0 where
   pub found : NodeOf Spot
   pub is : configurations (spots t) ≡ Some found

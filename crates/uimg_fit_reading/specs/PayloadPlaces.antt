@@ -53,8 +53,7 @@ pub record PayloadInside (file_size : ℕ) (facts : PayloadFacts) : Type 0 where
   pub offset : Ends file_size facts.offset
   pub position : Ends file_size facts.position
 
--- The offset of a payload is below 2^41 and its length below 2^32, or its fault is not one of
--- building.
+-- A payload's offset is below 2^41 and its length below 2^32, or its fault is not of building.
 pub record PlaceOrFault (found : Result Span FitFault) : Type 0 where
   pub small : IfOk found (λ p. (p.place < 2 ^ 41) × (p.length < 2 ^ 32))
   pub no_making : IfErr found (λ fault. of_making fault ≡ false)

@@ -30,8 +30,7 @@ abbrev pub Leaves : {S X : Type 0} → Result X MoveFault → (S → Device) →
 Leaves result device source room out = LeavesBetween result
     (device source.entry.now) (device source.exit.now) room.entry.now room.exit.now out.entry.now out.exit.now
 
--- The same for a call that may refuse the image. Neither refused memory nor a fault of building is
--- returned.
+-- The same for a call that may refuse the image, but not for want of memory or a fault of building.
 pub record RefusesBetween {X : Type 0} (result : Result X Fault) (d e : Device) (old new : Held) (s t : Sink) : Type 0 where
   pub uses : Uses (fit.is_read result) d e
   pub room : new ≡ old

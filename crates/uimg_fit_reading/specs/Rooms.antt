@@ -84,8 +84,7 @@ abbrev pub TellsOf : {S : Type 0} → (List ℕ → Outcome Fault) → Result St
 TellsOf outcome result device source out = IsTrue (device source.entry.now).honest →
     Tells (end_of result) (outcome (device source.entry.now).bytes) out.entry.now out.exit.now
 
--- Of an honest source at most `work` bytes, those written of an outcome's text and one window were
--- requested.
+-- Of an honest source at most `work` bytes, the written text and one window were requested.
 abbrev pub KeepsAhead : {S : Type 0} → (List ℕ → ℕ) → (List ℕ → Outcome Fault) → (S → Device) → Lent S → Lent Sink → Type 0
 KeepsAhead work outcome device source out = IsTrue (device source.entry.now).honest →
     ReadsAhead (work (device source.entry.now).bytes) (device source.entry.now) (device source.exit.now) out.entry.now out.exit.now

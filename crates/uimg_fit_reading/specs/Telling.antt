@@ -6,8 +6,7 @@ use Rattle.uimg_base.specs.Sink.{Sink}
 use Rattle.uimg_base.specs.Writing.{Written}
 use Rattle.uimg_base.specs.declared.ranges.MoveFault.{MoveFault}
 
--- At most `most` bytes more were requested, and a text was written, or a prefix of it if the call
--- failed.
+-- At most `most` bytes more were requested; a text was written, or a prefix if the call failed.
 pub record ListsBetween (failed : Bool) (most : ℕ) (d e : Device) (s t : Sink) (text : List ℕ) : Type 0 where
   pub asked : e.asked ≤ d.asked + most
   pub written : Written failed s t text

@@ -129,8 +129,7 @@ head_members path size totalsize =
     string_member (codes "path") path ++ (number_member (codes "status") 0 ++ (string_member (codes "format") (codes "fit")
     ++ (number_member (codes "size") size ++ number_member (codes "totalsize") totalsize)))
 
--- the object of a file of `size` bytes at a path, with these facts and the properties of its
--- configurations
+-- the object of a file of `size` bytes at a path, with its facts and configurations' properties
 abbrev pub fit_members : List ℕ → ℕ → Option (List Reservation) → Said → List (List (NamedOf Span)) → List Member
 fit_members path size reserved said properties =
     head_members path size said.totalsize ++ (root_members reserved said

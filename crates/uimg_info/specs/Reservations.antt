@@ -28,9 +28,8 @@ entries_of (suc n) bytes = if is_end (entry_of bytes) then Some [] else option_m
 abbrev pub entries_in : List ℕ → Option (List Reservation)
 entries_in bytes = entries_of (length bytes / 16) bytes
 
--- The entries of the block of a file whose blob has this total size: from the header's offset up to
--- the blob's end, in at most 65,536 bytes. A blob that ends before that number of the header has
--- none.
+-- The entries of a file's block, whose blob has this total size: from the header's offset up to the
+-- blob's end, in at most 65,536 bytes; none if the blob ends before that number of the header.
 unfoldable pub reservations_of : List ℕ → ℕ → Option (List Reservation)
 reservations_of file totalsize =
     if nat_lt totalsize 20 then None else entries_in (slice file (be32 file 16) (min 65536 (totalsize - be32 file 16)))

@@ -55,8 +55,7 @@ Puts most result device source writer tokens = PutsBetween most result
 abbrev pub Adds : {X E : Type 0} → Result X E → Lent Written → List Token → Type 0
 Adds result writer tokens = Appends result writer.entry.now writer.exit.now tokens
 
--- a fact as a row of the program: the name of its member, the kind of its value, and the value's
--- span
+-- a row of the program: the name of a fact's member, the kind of its value, and the value's span
 abbrev pub Row : Type 0
 Row = Bor (List ℕ) × Kind × Option Span
 
@@ -68,8 +67,7 @@ RowInside size row = Ends size row.2
 abbrev pub read_row : List ℕ → Row → Fact
 read_row file row = record { name = row.0.now; kind = row.1; value = bytes_in file row.2 }
 
--- The result is the text of the object of a file at a path, or the file's first fault, unless a
--- read failed or memory was refused.
+-- The result is the text of the object of a file at a path, or its fault, unless a call failed.
 abbrev pub Informs : {X : Type 0} → (X → List ℕ) → List ℕ → List ℕ → Result X SurveyFault → Type 0
 Informs view path file (Ok text) = (j : Json) × (info_of path file ≡ Ok j) × (view text ≡ print (json_tokens j))
 Informs view path file (Err (Stopped (of.Blob fault at))) = refuses_memory fault ≡ false → info_of path file ≡ Err (of.Blob fault at)

@@ -95,7 +95,6 @@ abbrev pub size_if : Result Said Fault → ℕ
 size_if (Ok said) = said_size said
 size_if (Err fault) = 0
 
--- the most bytes requested: the index, the properties of the configurations and their names, and
--- the value of each fact
+-- the most bytes requested: the index, the configurations' properties and their names, each value
 abbrev pub info_work : List ℕ → ℕ
 info_work file = index_cost file + properties_cost file + sum_by names_size (properties_of file) + size_if (survey_of file)

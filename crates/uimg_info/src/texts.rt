@@ -44,14 +44,12 @@ fn survey_text<S: Source>(
 }
 
 /// Returns the text of the object of a FIT image's facts, of a file at a path. Over an honest
-/// source the text is one line, without its end, and reads as this object; over any source it is
-/// UTF-8.
+/// source it is one line, without its end, and reads as this object; over any source it is UTF-8.
 ///
-/// Returns the faults of `survey_with_properties`. Reads each value at most once, no value of more
-/// than 65,536 bytes, and no payload. Requests no more than that call, the values, the names of the
+/// Returns the faults of `survey_with_properties`. Reads each value at most once, none of more than
+/// 65,536 bytes, and no payload. Requests no more than that call, the values, the names of the
 /// properties, 12 bytes for each image and 65,540 for the memory reservation block. The room holds
-/// the nodes meanwhile. Returns `OutOfMemory` if memory was refused for the facts, for a value or
-/// for the text.
+/// the nodes meanwhile. Returns `OutOfMemory` if memory for facts, a value or the text was refused.
 pub fn fit_text<S: Source, A: Allocator>(
     alloc: Global,
     path: &str,

@@ -32,8 +32,7 @@ pub record Decides {X : Type 0} (kind : ℕ) (parts : List (List ℕ)) (result :
   -- `Put` is returned only for parts that are accepted
   pub accepted : IsTrue (is_put result) → data_to_build kind parts ≡ Ok (data_for kind parts)
 
--- Over honest parts the image is written, a prefix of it if a device failed, or nothing if the
--- parts are refused.
+-- Over honest parts the image is written, or a prefix if a device failed, or nothing if refused.
 abbrev pub TellsBuilt : {X P : Type 0} → Options → Result X Fault → (P → Device) → Lent (List P) → Lent Sink → Type 0
 TellsBuilt options result device parts out = AreHonest (map device parts.entry.now)
     → Tells (built_end result) (build_of options (bytes_of (map device parts.entry.now))) out.entry.now out.exit.now

@@ -19,8 +19,7 @@ numbered i parts = slice_index_or parts i []
 abbrev pub FitWords : List (List ℕ) → Type 0
 FitWords parts = All (λ part. length part < 2 ^ 32) parts
 
--- A step that requests no byte. Its result is about the parts' bytes, even of parts that are not
--- honest.
+-- A step that requests no byte. Its result is about the parts' bytes, honest or not.
 pub record LearnsBetween {X P : Type 0} (fact : List (List ℕ) → X → Type 0) (result : Result X SourceFault) (device : P → Device) (old new : List P) : Type 0 where
   pub uses : AsksNone (is_err result) (map device old) (map device new)
   pub answer : IfOk result (fact (bytes_of (map device old)))

@@ -18,7 +18,7 @@ sizes payload = before_first (λ w. w == 0) (words payload)
 unfoldable pub part_sizes : List ℕ → Result (List ℕ) LegacyFault
 part_sizes payload = if list_any (λ w. w == 0) (words payload) then Ok (sizes payload) else Err NoTableEnd
 
--- Part i starts after the table, its zero word and the parts before it, each rounded up to a multiple of 4.
+-- Part i starts after the table, its zero word and the earlier parts, each rounded up to 4 bytes.
 unfoldable pub start : List ℕ → ℕ → ℕ
 start table i = 4 * (length table + 1) + sum_by up4 (take i table)
 

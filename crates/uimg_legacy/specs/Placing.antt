@@ -57,8 +57,7 @@ GivesPlaces view (Err (Stopped of.Read)) r = ⊤
 GivesPlaces view (Err (Stopped of.Put)) r = ⊥
 GivesPlaces view (Err OutOfMemory) r = ⊤
 
--- Over an honest source whose table has `count` sizes, the result is the spans of its parts, or
--- their fault.
+-- Over an honest source whose table has `count` sizes: the spans of its parts, or their fault.
 abbrev pub TellsPlaces : {S X : Type 0} → (X → List Span) → ℕ → ℕ → Result X PartsFault → (S → Device) → Lent S → Type 0
 TellsPlaces view size count result device source = IsTrue (device source.entry.now).honest
     → count ≡ length (sizes (slice (device source.entry.now).bytes 64 size))

@@ -31,8 +31,7 @@ pub record ReadsBetween {X : Type 0} (used : Bool → Device → Device → Type
   pub no_making : is_of_making result ≡ false
   pub answer : IsTrue old.honest → answers old.bytes result
 
--- The same for a borrowed source and room. `uses` is a fact about the device, with a measure of its
--- bytes.
+-- The same for a borrowed source and room; `uses` is a fact about the device, with a measure.
 abbrev pub Reads : {S X : Type 0} → (ℕ → Bool → Device → Device → Type 0) → (List ℕ → ℕ) → (List ℕ → Result X Fault → Type 0) → Result X Fault → (S → Device) → Lent S → Lent Held → Type 0
 Reads uses work answers result device source room = ReadsBetween (uses (work (device source.entry.now).bytes)) answers result
     (device source.entry.now) (device source.exit.now) room.entry.now room.exit.now

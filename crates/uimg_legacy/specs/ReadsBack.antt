@@ -11,8 +11,7 @@ use Rattle.uimg_legacy.specs.Extraction.{extract_of}
 abbrev pub right_report : Outcome LegacyFault
 right_report = told (line (codes "header crc32 ok") ++ line (codes "data crc32 ok")) done
 
--- The image's checksums are right, its listing is not refused, and the part at each position is the part that it was
--- built from.
+-- A built image's checksums are right, its listing is not refused, and extractions give its parts.
 pub record ReadsBack (image : List ℕ) (parts : List (List ℕ)) : Type 0 where
   -- the report is the two `ok` lines
   pub report : verify_of image ≡ right_report

@@ -5,8 +5,7 @@ use Rattle.uimg_legacy.specs.declared.fault.Fault.{Fault}
 use Rattle.uimg_legacy.specs.declared.fault.Fault.TheVariants.{Legacy}
 use Rattle.uimg_legacy.specs.Parts.{sizes, part_sizes}
 
--- The result is the number of sizes, or the fault of a table without an end, unless a device
--- failed.
+-- The result is the number of sizes, or that the table has no end, unless a device failed.
 abbrev pub CountsSizes : List ℕ → Result ℕ Fault → Type 0
 CountsSizes payload (Ok n) = (part_sizes payload ≡ Ok (sizes payload)) × (n ≡ length (sizes payload))
 CountsSizes payload (Err (Legacy fault)) = part_sizes payload ≡ Err fault

@@ -27,8 +27,7 @@ abbrev pub before : List ℕ → Result (List (List ℕ)) LegacyFault → Result
 before part (Ok parts) = Ok (part ∷ parts)
 before part (Err fault) = Err fault
 
--- The parts of these sizes, one after another, each padded to a multiple of 4, unless one ends
--- after the bytes.
+-- Parts of these sizes, each padded to a multiple of 4, unless one ends after the bytes.
 unfoldable pub parts_by : List ℕ → List ℕ → Result (List (List ℕ)) LegacyFault
 parts_by [] bytes = Ok []
 parts_by (size ∷ more) bytes =
@@ -74,15 +73,13 @@ abbrev pub kept_if : Bool → List Part → Option (List Part)
 kept_if true parts = Some parts
 kept_if false parts = None
 
--- the same for the data of an image with this header, or the first fault: no table end, no such
--- part, part outside
+-- the same for the data after this header; its own faults: no table end, no such part, part outside
 abbrev pub unpacked : Option ℕ → Header → List ℕ → Result (Option (List Part)) LegacyFault
 unpacked only h bytes = do
   parts ← parts_in only (has_parts h.kind) bytes
   Ok (kept_if (crc bytes == h.dcrc) (chosen only 0 parts))
 
--- The unpacked parts of an image, or the first fault: too short, bad magic, bad header CRC,
--- truncated, and those of its data.
+-- The unpacked parts, or a fault: too short, bad magic, bad header CRC, truncated, of the data.
 abbrev pub unpack_of : Option ℕ → List ℕ → Result (Option (List Part)) LegacyFault
 unpack_of only image = do
   h ← header_of image

@@ -137,15 +137,13 @@ abbrev pub RefusesBy : {X Y : Type 0} → Result Y LegacyFault → Result X Faul
 RefusesBy told (Err (Legacy fault)) = told ≡ Err fault
 RefusesBy told result = ⊤
 
--- A refusal is the first fault of the parts from an offset of the data on, whose table has `count`
--- sizes.
+-- A refusal is the first fault of the parts from an offset on; their table has `count` sizes.
 abbrev pub RefusesFrom : {X : Type 0} → ℕ → ℕ → ℕ → List ℕ → Result X Fault → Type 0
 RefusesFrom count size at file result =
     count ≡ length (sizes (slice file 64 size))
     → RefusesBy (parts_by (sizes (slice file 64 size)) (slice file (64 + at) (size - at))) result
 
--- The parts of some data with the header's CRC are held; the data are the device's, if it is
--- honest.
+-- The parts of some data with the header's CRC are held: of the device's data, if it is honest.
 pub record HoldsParts (only : Option ℕ) (honest : Bool) (h : Header) (d : Device) (from to : List Part) : Type 0 where
   pub bytes : List ℕ
   pub parts : List (List ℕ)
@@ -174,8 +172,7 @@ abbrev pub TakesData : {S T : Type 0} → Option ℕ → Header → Result Bool 
 TakesData only h result device source honest held taker = TakesDataBetween only honest h (device source.entry.now) result
     (held taker.entry.now) (held taker.exit.now)
 
--- The held parts were kept if the data's CRC is right; else nothing was kept, nor if keeping
--- failed.
+-- The held parts were kept if the data's CRC is right; else, or if keeping failed, nothing was.
 abbrev pub SettlesBetween : {E : Type 0} → Bool → Result Bool E → List Part → List Part → List Part → Type 0
 SettlesBetween true (Ok kept) held old new = (kept ≡ true) × (new ≡ old ++ held)
 SettlesBetween false (Ok kept) held old new = (kept ≡ false) × (new ≡ old)

@@ -7,9 +7,8 @@ use Rattle.uimg_legacy.specs.Image.{Image, payload, legacy}
 use Rattle.uimg_legacy.specs.Parts.{has_parts, sizes}
 use Rattle.uimg_legacy.specs.Extraction.{extract_of}
 
--- The most bytes that a command requests beside payloads, if it reads `count` sizes: the metadata
--- of `64 + 16 * (count + 1)` bytes, less the four that the caller may have read to choose the
--- format.
+-- The most bytes requested beside payloads, with `count` sizes: the `64 + 16 * (count + 1)` of
+-- metadata, less the four that the caller may have read to choose the format.
 abbrev pub own_meta : ℕ → ℕ
 own_meta count = 60 + 16 * (count + 1)
 

@@ -43,8 +43,7 @@ pub struct Header {
     pub name: [u8; 32],
 }
 
-// Reads the 64 bytes of the header. Returns `TooShort` if the file is shorter, `BadMagic` if they
-// do not begin with the magic number.
+// Reads the 64 bytes of the header, or returns `TooShort` or `BadMagic`.
 #[tactic(auto, unfolding(crate::specs::Header::head))]
 pub(crate) fn read_head<S: Source>(source: &mut S) -> Result<[u8; HEADER_LEN], Fault>
     ensures reads { ReadsHead result S.device source }

@@ -10,8 +10,7 @@ use crate::header::{Header, read_header};
 use std::alloc::Allocator;
 use uimg_base::{Room, Source, crc_range};
 
-// Returns whether the data's CRC is that in the header, or `Truncated` if the file has not all the
-// data.
+// Returns whether the data's CRC is that in the header, or `Truncated`.
 #[tactic(auto, unfolding(crate::specs::Image::has_right_data, crate::specs::Work::data_read))]
 pub(crate) fn has_right_data<S: Source, A: Allocator>(
     source: &mut S,

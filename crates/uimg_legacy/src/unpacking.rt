@@ -20,8 +20,7 @@ pub use part_taker::PartTaker;
 use std::alloc::Allocator;
 use uimg_base::{PutFault, Room, Source};
 
-// Keeps the held parts if the data's CRC is right, else discards them. Returns whether they are
-// kept.
+// Keeps the held parts if the data's CRC is right, else discards them. Returns whether it is.
 fn settle<T: PartTaker>(right: bool, dcrc: u32, taker: &mut T) -> Result<bool, PutFault>
     requires { IsTrue right → IsTrue T.honest → AreRight dcrc (T.held taker.old) }
     ensures { Settles right result T.honest T.held T.kept taker }

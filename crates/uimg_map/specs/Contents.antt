@@ -14,8 +14,7 @@ abbrev pub numbered : ℕ → List Found → List Thing
 numbered number [] = []
 numbered number (f ∷ fs) = record { place = f.place; end = f.end; number = number } ∷ numbered (number + 1) fs
 
--- Contents grew by what is found in a file: each thing has the number of its label, and the first
--- fault stays.
+-- Contents grew by what is found in a file: things with their labels' numbers, and a first fault.
 pub record Grows (file : List ℕ) (more : Told) (old new : Contents) : Type 0 where
   pub size : new.size ≡ old.size
   pub things : new.things.items ≡ old.things.items ++ numbered (length old.labels.items) more.found

@@ -1,4 +1,4 @@
--- What is found in the file of a FIT image (Devicetree Specification, section 5.1; Flattened Image Tree format, "External data").
+-- FIT files (Devicetree Specification, section 5.1; Flattened Image Tree format, "External data").
 use Rattle.std.specs.Prelude.{ℕ, ◌+◌, List, [], ◌∷◌, length, ◌==◌, ◌&&◌, if◌then◌else◌, Bool, false, Option, Some, None, Result, Ok, Err}
 use Rattle.uimg_base.specs.declared.spans.Span.{Span}
 use Rattle.uimg_fit_base.specs.declared.fault.Fault.{Fault}

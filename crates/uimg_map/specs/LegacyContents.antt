@@ -21,8 +21,7 @@ abbrev pub is_bad_crc : LegacyFault → Bool
 is_bad_crc BadHeaderCrc = true
 is_bad_crc _ = false
 
--- A refused header. If its CRC is wrong there is a header, and the fault is at the CRC's offset;
--- otherwise it is at the file's start.
+-- a refused header is still one if its CRC is wrong, with the fault there, else at the start
 abbrev pub refused_with : Bool → LegacyFault → Told
 refused_with true fault = joined (thing the_header 0 64) (refused_at 4 (legacy_fault fault))
 refused_with false fault = refused_at 0 (legacy_fault fault)
@@ -30,13 +29,11 @@ refused_with false fault = refused_at 0 (legacy_fault fault)
 abbrev pub refused_header : LegacyFault → Told
 refused_header fault = refused_with (is_bad_crc fault) fault
 
--- the header of `count` bytes of data, in a file of `size` bytes; data that end after it are a
--- fault
+-- the header of `count` bytes of data in a file of `size`; data that end after it are a fault
 abbrev pub header_told : ℕ → ℕ → Told
 header_told size count = joined (thing the_header 0 64) (refused_behind size (64 + count) (legacy_fault Truncated))
 
--- the bytes from the end of a part up to the next part, if there are any and the part is not the
--- last
+-- the bytes from the end of a part up to the next one, if there are any and it is not the last
 abbrev pub padding_told : ℕ → Bool → Told
 padding_told stop true = nothing
 padding_told stop false = if nat_lt stop (up4 stop) then thing the_padding stop (up4 stop) else nothing
@@ -51,9 +48,8 @@ abbrev pub is_end : List ℕ → Bool
 is_end [] = true
 is_end (size ∷ sizes) = false
 
--- The parts of these sizes, the first at an offset and with a number, in data that end at `end`:
--- each begins after the one before it, rounded up to a multiple of 4. A part that ends after the
--- data is the last.
+-- The parts of these sizes, the first at an offset and with a number, in data up to `end`: each
+-- begins after the one before, rounded up to a multiple of 4; one that ends after the data is last.
 unfoldable pub parts_told : ℕ → ℕ → ℕ → List ℕ → Told
 parts_told end at number [] = nothing
 parts_told end at number (size ∷ sizes) = joined

@@ -3,8 +3,7 @@ use Rattle.std.specs.Prelude.{◌≡◌, ◌≤◌, ⊤, List, [], ◌∷◌}
 use Rattle.std.specs.List.{AllByRecursion}
 use Rattle.uimg_map.specs.declared.thing.Thing.{Thing}
 
--- a thing begins before another; with the same beginning it ends no later, and with the same end
--- its number is no greater
+-- lexicographic order, by offset, end and number
 pub record IsBefore (s t : Thing) : Type 0 where
   pub place : s.place ≤ t.place
   pub end : s.place ≡ t.place → s.end ≤ t.end

@@ -24,8 +24,7 @@ abbrev pub EndsBlock : List ℕ → ℕ → Option ℕ → Type 0
 EndsBlock file place (Some end) = EndsBehind file place end
 EndsBlock file place None = (count : ℕ) → place + 16 * count ≤ length file → GoesOn file place count
 
--- Where a block ends, if it does: after the first entry of zeros among `count` entries from an
--- offset on.
+-- Where a block ends: after the first entry of zeros, among `count` entries from an offset on.
 unfoldable pub end_among : ℕ → List ℕ → ℕ → Option ℕ
 end_among zero file at = None
 end_among (suc count) file at = if zeros (slice file at 16) then Some (at + 16) else end_among count file (at + 16)

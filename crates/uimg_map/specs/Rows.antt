@@ -30,8 +30,7 @@ rest size end = if nat_lt end size then Rest end size ∷ [] else []
 abbrev pub step : ℕ → Option Thing → Thing → List Row
 step size last t = gap (end_of last) (min t.place size) ++ Taken t (overlapped last t) ∷ []
 
--- The rows of things in their order, in a file of `size` bytes, after others of which `last` ends
--- last.
+-- The rows of things in order, in a file of `size` bytes, after others of which `last` ends last.
 abbrev pub rows_from : ℕ → Option Thing → List Thing → List Row
 rows_from size last [] = rest size (end_of last)
 rows_from size last (t ∷ ts) = step size last t ++ rows_from size (further last t) ts

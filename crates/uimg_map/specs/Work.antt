@@ -15,8 +15,7 @@ abbrev pub images_in : Result Said Fault → ℕ
 images_in (Ok said) = length said.images
 images_in (Err fault) = 0
 
--- of a FIT image: the header's numbers, the reservation block, which ends in the file, the index,
--- and three cells of each image
+-- of a FIT image: the header's numbers, the reservation block in the file, the index, 12 an image
 abbrev pub fit_work : List ℕ → ℕ
 fit_work file = 40 + length file + (index_cost file + 12 * images_in (survey_of file))
 

@@ -15,9 +15,8 @@ use crate::fault::MapFault;
 use uimg_base::{Source, SourceFault, number_at, up4};
 use uimg_legacy::{Fault, HEADER_LEN, Header, LegacyFault, has_parts, read_header};
 
-/// Adds what is in the file of a legacy image: the header and the data, or for the types multi and
-/// script the table of sizes and the parts; or else the fault of the header. Reads no data but the
-/// table.
+/// Adds what is in the file of a legacy image: the header and the data, for the types multi and
+/// script the table of sizes and the parts; or the header's fault. Reads no data but the table.
 pub(crate) fn add_legacy<S: Source>(source: &mut S, contents: &mut Contents) -> Result<(), MapFault>
     requires { contents.old.size ≡ length (S.device source.old).bytes }
     ensures { Gathers legacy_work legacy_contents result (S.device source.old) (S.device source.new)

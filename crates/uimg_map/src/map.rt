@@ -66,16 +66,15 @@ impl Map {
     }
 }
 
-/// Returns the map of an image's file: of a FIT image if it begins as a devicetree blob, else of a
-/// legacy image. A refused image has a map too, with what its header says and the offset of its
-/// fault, if that has one; a payload or a part that ends after the file is a fault too. Reads
-/// neither payloads nor the data of parts.
+/// Returns the map of a file: of a FIT image if it begins as a blob, else of a legacy image. A
+/// refused image has a map too, with what its header says and its fault, at its offset if it has
+/// one; a payload or part that ends after the file is a fault too. Reads no payload and no part.
 ///
-/// Returns a fault only if a read failed, or memory was refused for the nodes of a FIT image or for
-/// the map: some 500 bytes for an image, 300 for a part. Of a FIT image at most the header's
-/// numbers, the reservation block, which ends in the file, the index and 12 bytes for each image
-/// are requested; of a legacy image the header, 8 bytes for each size in its table and 4 for the
-/// word after them; of both the four bytes that show the format.
+/// Returns a fault only if a read failed, or memory was refused for a FIT image's nodes or for the
+/// map: some 500 bytes for an image, 300 for a part. Requests the four bytes of the format. Of a
+/// FIT image it requests at most the header's numbers, the reservation block, which ends in the
+/// file, the index and 12 bytes for each image; of a legacy image the header, 8 bytes for each size
+/// in its table and 4 for the word after them.
 pub fn map_of<S: Source>(alloc: Global, source: &mut S) -> Result<Map, MapFault>
     ensures uses { UsesAtMost (map_work (S.device source.old).bytes) (is_read result)
         (S.device source.old) (S.device source.new) }

@@ -75,8 +75,7 @@ fn put_rectangle<W: Write>(top: u64, map: &Map, row: &Row, out: &mut W) -> io::R
     writeln!(out, "fill=\"{colour}\"/>")
 }
 
-// Returns the colour of a row: of a thing, of a thing that shares bytes with another, or of bytes
-// in no thing.
+// Returns the colour of a row: of a thing, of one that shares bytes, or of bytes in no thing.
 fn colour_of(map: &Map, row: &Row) -> &'static str {
     match *row {
         Row::Taken(thing, over) => match map.standing_of(thing, over) {

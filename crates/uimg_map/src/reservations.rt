@@ -22,10 +22,9 @@ fn is_last<S: Source>(source: &mut S, at: u64) -> Result<bool, SourceFault>
     Ok(entry == [0; ENTRY_LEN])
 }
 
-/// Returns where the memory reservation block of a blob ends that begins at an offset (Devicetree
-/// Specification, section 5.3): after the first entry of zeros only. Returns none if the source
-/// ends before such an entry does. Reads one entry at a time, and requests no more bytes than the
-/// source has.
+/// Returns where a blob's memory reservation block ends that begins at an offset (Devicetree
+/// Specification, section 5.3): after the first entry of zeros, or none if the source ends before.
+/// Reads one entry at a time, and requests at most as many bytes as the source has.
 pub fn end_of_reservations<S: Source>(
     source: &mut S,
     place: u32,

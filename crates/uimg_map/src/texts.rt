@@ -12,10 +12,9 @@ use uimg_printing::PrintedWord;
 // The longest name of a node, in bytes.
 const NAME_LEN: usize = 255;
 
-/// Returns the text of a row. For a thing that is its name, which is read from the source, then the
-/// earlier thing that it overlaps, if any, and whether it ends after the file. The payload of an
-/// image that is the value of a property is in the structure block, as it should be; two spaces
-/// before it show that.
+/// Returns the text of a row: for a thing its name, which is read from the source, then the earlier
+/// thing that it overlaps, if any, and whether it ends after the file. Two spaces before a payload
+/// mark the value of a property, which is in the structure block, as it should be.
 pub(crate) fn text_of<S: Source>(
     alloc: Global,
     source: &mut S,

@@ -12,8 +12,7 @@ use uimg_compat::{AutoRequest, AutoSource, OldFault};
 use uimg_names::Naming;
 use uimg_requests::MakeRequest;
 
-/// Makes the requested image. The text of its source is written beside the image, and removed at
-/// the end.
+/// Makes the requested image. The text of its source is beside the image meanwhile.
 pub(crate) fn make_auto<R: Files + AllocGlobal, W: Write, V: Write>(
     rt: &R,
     tool: Tool,

@@ -16,11 +16,10 @@ use uimg_words::CheckRequest;
 /// The path of standard input as a file.
 const STANDARD_INPUT: &str = "/dev/stdin";
 
-/// Checks the requested images, those of the command line first, with a line for each on `out`, and
-/// continues after one that is not right. Returns the greatest status of all. A file of names that
-/// cannot be read, a line that cannot be written, and refused memory end it, with a line on `err`.
-/// If the reader closes the output, it ends without a line, as failed, because not all images were
-/// checked.
+/// Checks the requested images, those of the command line first, with a line for each on `out`,
+/// even after one that is not right. Returns the greatest status. A file of names that cannot be
+/// read, a line that cannot be written and refused memory end it with a line on `err`; a closed
+/// `out` ends it without one, as failed, because not all images were checked.
 pub(crate) fn check_images<R: Files + AllocGlobal, W: Write, V: Write>(
     rt: &R,
     request: &CheckRequest<'_>,

@@ -153,9 +153,8 @@ fn status_of_source(kind: Kind) -> u8 {
     }
 }
 
-/// Carries out a request, and writes what it prints through a buffer, which is flushed at the end.
-/// If the flush fails, `Put` is returned instead of the end, because the text comes before what
-/// ended the request.
+/// Carries out a request, and buffers what it prints. If the flush at the end fails, returns `Put`
+/// instead of the end, because the text comes before what ended the request.
 pub(crate) fn carry_out<'a, R: Files + AllocGlobal, W: Write>(
     rt: &'a R,
     request: &'a Request<'a>,

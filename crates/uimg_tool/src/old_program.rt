@@ -125,8 +125,7 @@ pub(crate) fn make_image<R: Files + AllocGlobal, W: Write, V: Write>(
     }
 }
 
-// Makes an image at one path, and moves it to another. Keeps it even if its listing could not be
-// printed.
+// Makes an image at one path, and moves it to another, even if its listing could not be printed.
 fn make_beside<'a, R: Files + AllocGlobal, W: Write, V: Write>(
     rt: &'a R,
     tool: Tool,
@@ -154,8 +153,7 @@ fn make_beside<'a, R: Files + AllocGlobal, W: Write, V: Write>(
     }
 }
 
-// Gives the written file its name, or removes it, and reports the end, with the path that it is
-// about.
+// Gives the written file its name or removes it; reports the end and the path that it is about.
 fn tell_written<R: Files, V: Write>(
     rt: &R,
     tool: Tool,
@@ -210,9 +208,8 @@ fn tell_end<R: Files, V: Write>(
     }
 }
 
-/// Reports a file that could not be opened for reading, with the operating system's reason, which
-/// is found by another look at the file. Only a regular file is opened for that, since a pipe would
-/// wait.
+/// Reports a file that could not be opened, with the operating system's reason, from another look
+/// at it. Only a regular file is opened for that, since a pipe would wait.
 pub(crate) fn tell_unread<R: Files, V: Write>(rt: &R, tool: Tool, path: &str, err: &mut V) -> u8 {
     let reason = match fs::metadata(rt, path) {
         Ok(found) if found.is_file() => fs::open(rt, path).err(),

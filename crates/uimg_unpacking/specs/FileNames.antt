@@ -14,7 +14,6 @@ is_allowed byte = list_any (λ known. known == byte) allowed
 abbrev pub begins : ℕ → Bool
 begins byte = not (list_any (λ known. known == byte) (codes ".-"))
 
--- Such a name is one in a folder, no path and no option. It is not `.` or `..`, is not hidden, and
--- has no slash.
+-- Such a name is no path and no option. It is not `.` or `..`, is not hidden, and has no slash.
 abbrev pub is_file_name : List ℕ → Bool
 is_file_name name = option_map_or begins (slice_get name 0) false && list_all is_allowed name

@@ -31,9 +31,8 @@ fn are_allowed(name: &[u8]) -> bool
     name.iter().all(|byte| is_allowed(*byte))
 }
 
-/// Returns whether the name of an image can be a file name: it has only letters, digits, `.`, `_`,
-/// `-`, `+` and `@`, and begins with neither `.` nor `-`. So it is no path, no option and not
-/// hidden.
+/// Returns whether an image's name can be a file name: it has only letters, digits, `.`, `_`, `-`,
+/// `+` and `@`, and begins with neither `.` nor `-`. So it is no path, no option and not hidden.
 pub fn is_file_name(name: &[u8]) -> bool
     ensures { result ≡ is_file_name name.now }
 {

@@ -50,8 +50,7 @@ impl<'a> Folder<'a> {
         format!(in rt.alloc(); "{}/{name}", self.path)
     }
 
-    /// Returns a path, if a file may be written there: nothing exists there, or a file that is
-    /// replaced and is not the image.
+    /// Returns a path, if it is free, or a file to replace exists there, which is not the image.
     pub(crate) fn allows<R: Files>(&self, rt: &R, path: String) -> Result<String, Trouble> {
         let found = FileId::of(rt, path.as_str());
         if found.is_some() & (found == self.image) {
@@ -63,9 +62,8 @@ impl<'a> Folder<'a> {
         }
     }
 
-    /// Creates a file in it, and returns it with its path: the first of `.uimg-new1` to
-    /// `.uimg-new100` that is free. Returns none if no file can be created. Fails if memory for the
-    /// path is refused.
+    /// Creates a file in it, and returns it with its path: the first free one of `.uimg-new1` to
+    /// `.uimg-new100`, none if no file can be created. Fails if memory for the path is refused.
     pub(crate) fn new_file<R: Files + AllocGlobal>(
         &self,
         rt: &R,
@@ -79,8 +77,8 @@ impl<'a> Folder<'a> {
         Ok(None)
     }
 
-    /// Creates a folder in it, and returns its path: the first of the same names that is free.
-    /// Returns none if no folder can be created. Fails if memory for the path is refused.
+    /// Creates a folder in it, and returns its path: the first free one of the same names, none if
+    /// no folder can be created. Fails if memory for the path is refused.
     pub(crate) fn new_folder<R: Files + AllocGlobal>(
         &self,
         rt: &R,

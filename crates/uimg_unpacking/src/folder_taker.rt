@@ -33,8 +33,7 @@ pub(crate) struct FolderTaker<'a, R: Files + AllocGlobal, W: Write + Drop> {
     folder: Folder<'a>,
     out: W,
     begun: Option<Begun>,
-    // The names of the files that were checked, and of those that were begun: the same ones, in the
-    // same order.
+    // The names of the files that were checked, then of those that were begun: the same ones.
     looked: Names,
     taken: Names,
     trouble: Option<Trouble>,
@@ -131,8 +130,7 @@ impl<'a, R: Files + AllocGlobal, W: Write + Drop> FolderTaker<'a, R, W> {
         Ok(())
     }
 
-    // Removes what was written of a refused payload and the file that it was to replace, and prints
-    // its line.
+    // Removes a refused payload and the file that it was to replace, and prints its line.
     fn throw_away(&mut self, name: &NodeName, refusal: Refusal) -> Result<(), Trouble> {
         if let Some(begun) = &self.begun {
             let (path, whole) = (begun.path.as_str(), begun.whole.as_str());

@@ -31,8 +31,7 @@ pub(crate) enum Line<'a> {
     /// The payload of the image of this name is refused.
     Refused(&'a NodeName, Refusal),
 
-    /// With the payload of the image of this name, the requested ones have more bytes than the
-    /// file.
+    /// With the payload of this image, the requested ones have more bytes than the file.
     Overlapping(&'a NodeName),
 
     /// A part is kept; the checksum is that of the data.

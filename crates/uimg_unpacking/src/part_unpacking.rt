@@ -65,8 +65,7 @@ fn stands_by_crc32(need: Option<Algo>) -> bool {
     }
 }
 
-// Returns the number of the part whose file has this name, or else a number that no image has a
-// part of.
+// Returns the number of the part whose file has this name, or else one that no image has.
 fn number_of(name: &str) -> u32 {
     match name.strip_prefix("image-") {
         Some(digits) if is_number(digits) => digits.parse().unwrap_or(u32::MAX),

@@ -71,8 +71,7 @@ pub fn unpack<R: Files + AllocGlobal, S: Source, W: Write + Drop>(
     }
 }
 
-// Returns the requested name, if there is one; none at all if it is too long for the name of an
-// image.
+// Returns the requested name, if there is one; `None` if it is too long for an image's name.
 fn only_of(only: Option<&str>) -> Option<Option<NodeName>> {
     match only {
         Some(name) => match NodeName::of(name.as_bytes()) {

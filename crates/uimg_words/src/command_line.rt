@@ -179,8 +179,7 @@ fn commands<'a>(alloc: Global) -> Result<clap::Command<'a>, AllocError> {
         .subcommand(map::command(alloc)?)
 }
 
-// Returns an option. Each further step on an argument takes the prover four times as long, so one
-// function has two.
+// Returns an option. Each further step takes the prover four times as long: two steps a function.
 fn option<'a>(alloc: Global, id: &'a str, short: char, help: &'a str) -> Arg<'a> {
     Arg::new(alloc, id).short(short).help(help)
 }

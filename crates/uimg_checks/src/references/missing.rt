@@ -88,8 +88,7 @@ fn missing_under<S: Source>(
     }
 }
 
-// Returns the properties of a configuration whose values name images, in the order in which they
-// are checked.
+// Returns the properties of a configuration that name images, in the order of the check.
 fn given_by(configuration: &ConfigurationFacts) -> [(Reference, Option<Span>); 9]
     ensures { result ≡ given_facts configuration.now }
 {
@@ -106,8 +105,7 @@ fn given_by(configuration: &ConfigurationFacts) -> [(Reference, Option<Span>); 9
     ]
 }
 
-// Returns the first text in the values of several properties that is not among these names, if
-// there is one.
+// Returns the first text in several properties that is not among these names, if there is one.
 fn missing_among<S: Source>(
     alloc: Global,
     source: &mut S,
@@ -163,14 +161,13 @@ fn first_missing<S: Source>(
     Ok(None)
 }
 
-/// Finds the first name in a FIT image without an image or a configuration: its default, if no
-/// configuration has this name, or else a name that no image has, under `kernel`, `ramdisk`, `fdt`,
-/// `loadables`, `firmware`, `fpga`, `setup`, `standalone` or `script` of a configuration, in this
-/// order. Configurations are checked in their order, and each text of a value is a name.
+/// Finds the first name that a FIT image uses but lacks: its default, if no configuration has this
+/// name, or else a name that no image has, under `kernel`, `ramdisk`, `fdt`, `loadables`,
+/// `firmware`, `fpga`, `setup`, `standalone` or `script` of a configuration, in this order.
+/// Configurations are checked in their order, and each text of a value is a name.
 ///
-/// Reads each name, and each value up to the one with the missing name, once. Holds the names and
-/// one value at a time in memory; returns `OutOfMemory` if that was refused, `Stopped` with `Read`
-/// if a read failed, and no other fault.
+/// Reads each name and each value once, up to the missing name, and holds the names and one value
+/// in memory. Returns `OutOfMemory` if that was refused, `Stopped` if a read failed.
 pub fn find_missing<S: Source>(
     alloc: Global,
     source: &mut S,

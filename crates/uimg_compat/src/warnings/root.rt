@@ -11,12 +11,11 @@ use std::alloc::{AllocError, Global};
 use std::io::Write;
 use uimg_tree::{Node, Tree};
 
-/// Warns about the tree of a source, a line for each of the first 20 warnings, and a line with the
-/// number of further ones: a description that the root, an image or a configuration lacks, and the
-/// root's `#address-cells`; a name in a configuration without an image, and a default without a
-/// configuration; a type, architecture, operating system or compression of an image that is no name
-/// of image.h; and nodes or properties with one name in one node, down to the child nodes of
-/// images.
+/// Warns about the tree of a source, a line for each of the first 20 warnings, then the number of
+/// further ones: a description that the root, an image or a configuration lacks, and the root's
+/// `#address-cells`; a name in a configuration without an image, and a default without a
+/// configuration; a type, architecture, operating system or compression that is no name of image.h;
+/// and equal names of nodes or properties in one node, down to the child nodes of images.
 ///
 /// Takes memory for the names of one node and those of the images; if that is refused, the rest is
 /// not checked. Failed writes are ignored.

@@ -35,8 +35,7 @@ fn check_image<S: Source, A: Allocator>(
     Ok(check_payload(source, blob, room, image, span, need, left)?)
 }
 
-// Returns the first finding about the images from one on; of their payloads as many bytes may be
-// read as the source has.
+// Returns the first finding from an image on; as many bytes may be read as the source has.
 pub(crate) fn first_finding<S: Source, A: Allocator>(
     source: &mut S,
     blob: &Blob,

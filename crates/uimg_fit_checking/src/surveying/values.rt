@@ -10,8 +10,7 @@ use std::alloc::Global;
 use uimg_base::{Source, Span};
 
 /// Reads the bytes at a span of a survey into memory, by one read of exactly these bytes. Returns
-/// `OutOfMemory` if memory for them was refused, `Stopped` with `Read` if the read failed, and no
-/// other fault.
+/// `OutOfMemory` if memory was refused, `Stopped` with `Read` if the read failed; no other fault.
 pub fn read_bytes<S: Source>(
     alloc: Global,
     source: &mut S,

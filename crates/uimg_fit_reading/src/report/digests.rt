@@ -46,8 +46,7 @@ pub fn compared_algos<S: Source, A: Allocator>(
     Ok(set)
 }
 
-/// Returns the digests of a payload by the algorithms of a set. Reads it once, or not at all for an
-/// empty set.
+/// Returns the digests of a payload by a set of algorithms. Reads it once, or not for an empty set.
 pub fn payload_digests<S: Source, A: Allocator>(
     source: &mut S,
     room: &mut Room<A>,

@@ -14,8 +14,7 @@ use uimg_base::{MoveFault, Out, Room, Source, Span};
 use uimg_blob::Blob;
 use uimg_fit_base::{Digests, is_right};
 
-// Writes a line for each hash node from one on, by the digests of their payload. Returns whether
-// all are right.
+// Writes a line for each hash node from one on, by these digests. Returns whether all are right.
 fn put_hashes<S: Source, A: Allocator, W: Write>(
     source: &mut S,
     blob: &Blob,
@@ -42,8 +41,7 @@ fn put_hashes<S: Source, A: Allocator, W: Write>(
     Ok(are_right)
 }
 
-// Reports on the hash nodes from one on, after one pass over their payload. Returns whether all are
-// right.
+// Reports on the hash nodes from one on, after one pass over the payload: whether all are right.
 pub(crate) fn report_hashes<S: Source, A: Allocator, W: Write>(
     source: &mut S,
     blob: &Blob,

@@ -102,8 +102,7 @@ fn take_padded<S: Source, A: Allocator, T: PartTaker>(
     Ok(())
 }
 
-// Takes the part of a number by its size in the table, which is read again. Returns `BadDataCrc` if
-// that size is 0, `PartOutside` if the part ends after the data.
+// Takes the part of a number by its size in the table, read again: `BadDataCrc` if that is 0.
 fn take_next<S: Source, A: Allocator, T: PartTaker>(
     source: &mut S,
     room: &mut Room<A>,

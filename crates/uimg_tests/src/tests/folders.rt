@@ -5,9 +5,8 @@ use std::{fs, rt};
 use uimg_base::{Files, Source};
 use uimg_engine::DiskFiles;
 
-// The folder, the name, and the three bytes of the opened file; an empty text if none is opened,
-// and `-` if its bytes are not compared. A name with a leading slash is not looked for in the
-// folder.
+// The folder, the name, and the three bytes of the opened file: an empty text if none is opened,
+// `-` if they are not compared. A name with a leading slash is not looked for in the folder.
 const ROWS: [(&str, &str, &str); 21] = [
     ("", "disk_folder/name", "abc"),
     (".", "disk_folder/name", "abc"),

@@ -79,9 +79,8 @@ fn made_on<R: Files + AllocGlobal>(rt: &R, size: usize) -> u8 {
     }
 }
 
-// Heaps from hardly any room to ample room, 16 bytes at a time: refused memory is reported, nothing
-// else, and no file is made. It happens at each step, and once the image is made, it is made on all
-// larger heaps.
+// From a heap with hardly any room to an ample one, 16 bytes at a time: only refused memory is
+// reported, at each step, and no file is made; once an image is made, all larger heaps make it.
 #[test]
 fn growths_for_trees(rt: HostRuntime) {
     let mut met = [false; 4];

@@ -12,8 +12,7 @@ const HEAD: [u8; 32] = [
     0x00, 0x00, 0x00, 0x00, 0x00, 0x00, 0x00, 0x00, 0xb8, 0x55, 0xb5, 0xb9, 0x05, 0x07, 0x04, 0x01,
 ];
 
-// Returns a multi image of 5000 parts of one byte: the sizes are at 64 to 20064, and the parts from
-// 20068 on.
+// Returns a multi image of 5000 parts of one byte: sizes at 64 to 20064, parts from 20068 on.
 fn long_image() -> [u8; 40068] {
     let mut image = [0; 40068];
     for (at, byte) in image.iter_mut().enumerate() {
@@ -48,8 +47,7 @@ const ROWS: [(usize, usize, bool, u8, &str); 14] = [
     (224_111, ALL, true, 3, "uimg: write failed\n"),
 ];
 
-// The listing has seven lines of 222 bytes together, and 5000 lines of 41 bytes and the digits of a
-// number.
+// The listing has seven lines of 222 bytes, and 5000 of 41 bytes and the digits of a number.
 const LENGTH: usize = 224_112;
 
 const LINE: &str = "uimg dumpimage -l long.img";

@@ -184,8 +184,7 @@ const ROWS: [(&str, u64, u64, u64, u64, bool, &str, &str); 24] = [
     ),
 ];
 
-// Returns whether making an image has this end, prints its listing if it is done, and leaves such a
-// file.
+// Returns whether making an image has this end, this file, and its listing if it is done.
 fn is_left(alloc: Global, made: &Outcome, name: &str, end: &str, file: &str) -> bool {
     let listing = if end == "done" {
         listing_named(name)
@@ -225,8 +224,7 @@ fn makings_that_fail(rt: HostRuntime) {
     }
 }
 
-// Returns whether a failed making of three parts returns its fault, and leaves no listing and a
-// prefix of the image.
+// Returns whether a failed making returns its fault, and leaves no listing and a prefix.
 fn is_stopped(made: &Outcome, fault: Fault) -> bool {
     made.end == Err(fault) && made.listed.is_empty() && made.file != "other bytes"
 }

@@ -150,8 +150,7 @@ fn file_names(alloc: Global, kind: u8, data: &str) -> Result<Vec<Vec<u8>>, Alloc
     }
 }
 
-/// Returns the command that makes an image, by its name; any other name is that of several parts,
-/// separated by colons.
+/// Returns the command that makes an image by its name; another name is one of parts with colons.
 pub(super) fn command_named(alloc: Global, name: &str) -> Result<MakeCommand, AllocError>
     ensures { IfOk result (λ command. HasFitNames command) }
 {

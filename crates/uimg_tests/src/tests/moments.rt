@@ -69,8 +69,7 @@ fn the_epoch_is_read_from_its_variable(rt: HostRuntime) -> Result<(), Fail> {
     Ok(())
 }
 
-// Fractions of a second are cut; 2106-02-07 has the last time that 32 bits hold, and later ones are
-// that.
+// Fractions of a second are cut; times after 2106-02-07 become the last one in 32 bits.
 #[test]
 fn the_clock_gives_whole_seconds(rt: HostRuntime) {
     for (seconds, moment) in [

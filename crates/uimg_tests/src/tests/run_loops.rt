@@ -22,8 +22,7 @@ fn is_same(left: &Left, whole: &Left) -> bool {
     left.end == whole.end && left.text == whole.text
 }
 
-// Returns whether each writer that is full too early has the prefix of the text that it takes, up
-// to one that takes all.
+// Returns whether each writer that is full too early has its prefix of the text.
 fn takes_each(alloc: Global, action: &str, image: &[u8]) -> bool {
     let whole = ran(alloc, action, image, ALL, ALL);
     for bytes in 0..2000u64 {
@@ -39,8 +38,7 @@ fn takes_each(alloc: Global, action: &str, image: &[u8]) -> bool {
     false
 }
 
-// Returns whether a failed read is reported for each source that fails, up to one that does not
-// fail.
+// Returns whether each failed read is reported, up to a source that does not fail.
 fn fails_each(alloc: Global, action: &str, image: &[u8]) -> bool {
     let whole = ran(alloc, action, image, ALL, ALL);
     for calls in 0..2000u64 {
@@ -130,8 +128,7 @@ fn every_structure_size_is_truncated(rt: HostRuntime) {
     }
 }
 
-// A payload of 20000 bytes: for a writer that takes nothing, only a window is requested, not the
-// payload.
+// A payload of 20000 bytes: a writer that takes nothing makes it request a window only.
 #[test]
 fn a_writer_takes_none_of_20000(rt: HostRuntime) {
     let image = image_named(rt.alloc(), "20000-bytes");

@@ -42,8 +42,7 @@ impl Write for Meter {
     }
 }
 
-/// Returns a writer that takes `room` bytes in all, and `most` in a call, and whose flush succeeds
-/// or fails.
+/// Returns a writer that takes `room` bytes, `most` in a call, and whose flush may fail.
 pub(super) fn writer_of<R: AllocGlobal>(rt: &R, room: usize, most: usize, flushes: bool) -> Meter {
     Meter {
         taken: Vec::new(rt.alloc()),

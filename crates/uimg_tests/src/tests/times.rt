@@ -5,8 +5,7 @@ use std::rt::Files;
 use std::test::Fail;
 use uimg_tool::program;
 
-// SOURCE_DATE_EPOCH, or an empty text if it is not set; the clock's time; and the time in the
-// header.
+// SOURCE_DATE_EPOCH, an empty text if not set; the clock's time; and the time in the header.
 const ROWS: [(&str, u32, u32); 7] = [
     ("", 0, 0),
     ("", 7, 7),

@@ -12,8 +12,7 @@ pub struct UnpackRequest<'a> {
     /// The folder for its payloads.
     pub folder: &'a str,
 
-    /// The name of the image whose payload, or of the file whose part, is requested alone, unless
-    /// all are.
+    /// The image's name, or the part's file name, that is requested alone, unless all are.
     pub only: Option<&'a str>,
 
     /// The weakest algorithm that is enough, if one is needed.
