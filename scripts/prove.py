@@ -23,18 +23,18 @@ import kit
 
 # What a job takes at most, in bytes, as it was measured.
 MEMORY = 2_500_000_000
-# Each job is a copy of all that a check reads, so more than one is for crates that gain more than it costs. While
-# uimg_base is proved, nothing else is ready: by three jobs it took 93 s (228 of processors), by one 179 (181), on four
-# virtual processors.
+# Each job is a copy of all that a check reads, so a crate has one, but for processors that would have nothing to do:
+# these go to crates that gain by them, up to so many jobs. Measured on four virtual processors, in seconds of the clock
+# (of processors): uimg_base by three jobs 93 (228), by one 179 (181).
 JOBS = {"uimg_base": 3}
 
 
 class Proof:
     """The proof of a crate, which a thread carries out."""
 
-    def __init__(self, crates, name, stamp):
+    def __init__(self, crates, name, stamp, jobs):
         self.crates, self.crate, self.stamp = crates, crates.by_name[name], stamp
-        self.name, self.jobs = name, min(JOBS.get(name, 1), kit.processors())
+        self.name, self.jobs = name, jobs
         self.begun, self.log, self.running, self.is_proved = time.monotonic(), f"out/{name}.log", None, False
         self.thread = threading.Thread(target=self.carry_out)
         self.thread.start()
@@ -121,12 +121,16 @@ class Run:
             return file.read() == self.crates.stamp(name, self.stamps)
 
     def begin_ready(self, at_once):
+        """Begins with the crates that wait for no other, the longest chain first. What is left of the processors when
+        each of them has one goes to those that gain by it, and one job more, since what is beside it ends first."""
         busy = self.proved + [it.name for it in self.running]
         ready = [it for it in self.wanted if it not in busy and all(dep in self.proved for dep in self.crates.own_uses(it))]
-        for name in sorted(ready, key=lambda it: -self.chain[it]):
-            jobs = sum(it.jobs for it in self.running)
-            if jobs < at_once and not self.failed:
-                self.running.append(Proof(self.crates, name, self.crates.stamp(name, self.stamps)))
+        ready.sort(key=lambda it: -self.chain[it])
+        while ready and not self.failed:
+            name, idle = ready.pop(0), at_once - sum(it.jobs for it in self.running)
+            if idle > 0:
+                jobs = max(1, min(JOBS.get(name, 1), idle - len(ready) + 1))
+                self.running.append(Proof(self.crates, name, self.crates.stamp(name, self.stamps), jobs))
 
     def end_ended(self):
         for it in [it for it in self.running if it.is_ended()]:
