@@ -15,8 +15,11 @@ import test
 
 
 def tests_of(crates, name):
-    """Returns the crate with the tests of a crate: of those that stand on it the one that stands on the fewest."""
-    found = [it for it in crates.by_name if test.has_tests(f"crates/{it}") and name in [it, *crates.below(it)]]
+    """Returns the crate with the tests of a crate: itself, or of those that stand on it the one that stands on the fewest.
+    That is not uimg_surface, whose tests are of names and signatures."""
+    if test.has_tests(f"crates/{name}"):
+        return name
+    found = [it for it in crates.by_name if it.endswith("_tests") and name in crates.below(it)]
     return min(found, key=lambda it: len(crates.below(it)), default=None)
 
 

@@ -11,7 +11,7 @@ use Rattle.uimg_c.specs.declared.reports.UimgPayload.{UimgPayload}
 use Rattle.uimg_c.specs.declared.reports.UimgCount.{UimgCount}
 use Rattle.uimg_fit_base.specs.declared.fault.Fault.{Fault as FitEngineFault}
 use Rattle.uimg_base.specs.Held.{held_bytes}
-use Rattle.uimg_requests.specs.declared.command.Format.{Format}
+use Rattle.uimg_requests.specs.declared.command.Form.{Form}
 use Rattle.uimg_checks.specs.Checking.{check_of}
 use Rattle.uimg_engine.specs.Headline.{is_fit, nodes_in}
 use Rattle.uimg_c.specs.Codes.{code_of, code_of_answer, code_of_fault, code_of_found, strength}
@@ -54,8 +54,8 @@ pub record Checks (need : ℕ) (image : List ℕ) (report : UimgReport) : Type 0
   pub no_text : (report.needed ≡ 0) × (report.written ≡ 0)
 
 -- the most bytes that the table of an image's nodes takes, with a window of 8192 bytes: 128 for each node of a FIT image
-abbrev pub table_most : Format → List ℕ → ℕ
-table_most format image = held_bytes (nodes_in (is_fit format image) image)
+abbrev pub table_most : Form → List ℕ → ℕ
+table_most form image = held_bytes (nodes_in (is_fit form image) image)
 
 -- the numbers for a count, or for the fault that refuses it
 abbrev pub code_of_count : Result ℕ Fault → Option Code

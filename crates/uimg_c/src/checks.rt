@@ -1,7 +1,7 @@
 //! Whether an image in memory is whole and vouched for.
 
 ghost use Rattle.std.specs.Prelude.{◌≡◌, ◌≢◌, ◌≤◌, Some};
-ghost use Rattle.uimg_requests.specs.declared.command.Format.TheVariants as format;
+ghost use Rattle.uimg_requests.specs.declared.command.Form.TheVariants as form;
 ghost use Rattle.uimg_c.specs.Answers.{Checks, no_report, table_most};
 ghost use Rattle.uimg_c.specs.Codes.{code_of_answer, strength};
 
@@ -64,7 +64,7 @@ pub(crate) fn check(alloc: Global, image: &[u8], need: u32, report: &mut UimgRep
     ensures told { result ≢ 3 → Checks need image.now report.new }
     ensures status { result ≡ report.new.status }
     ensures nothing { result ≡ 3 → report.new ≡ no_report }
-    ensures peak { report.new.peak ≤ table_most format.Guess image.now }
+    ensures peak { report.new.peak ≤ table_most form.Guess image.now }
 {
     let mut room = Room::new(alloc);
     let end = match strength(need) {

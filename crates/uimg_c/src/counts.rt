@@ -1,7 +1,7 @@
 //! How many payloads an image in memory has.
 
 ghost use Rattle.std.specs.Prelude.{◌≡◌, ◌≢◌, ◌≤◌, false};
-ghost use Rattle.uimg_requests.specs.declared.command.Format.TheVariants as format;
+ghost use Rattle.uimg_requests.specs.declared.command.Form.TheVariants as form;
 ghost use Rattle.uimg_checks.specs.Counting.{count_of};
 ghost use Rattle.uimg_engine.specs.Headline.{is_fit};
 ghost use Rattle.uimg_c.specs.Answers.{Counts, table_most};
@@ -15,11 +15,11 @@ use uimg_checks::count_in_memory;
 
 /// Counts the parts or the images of the bytes of an image.
 pub(crate) fn payload_count(alloc: Global, image: &[u8], count: &mut UimgCount) -> u32
-    ensures told { result ≢ 3 → Counts (count_of (is_fit format.Guess image.now) image.now) count.new }
+    ensures told { result ≢ 3 → Counts (count_of (is_fit form.Guess image.now) image.now) count.new }
     ensures status { result ≡ count.new.status }
     ensures nothing { result ≢ 0 → count.new.count ≡ 0 }
-    ensures legacy { is_fit format.Guess image.now ≡ false → result ≢ 3 }
-    ensures peak { count.new.peak ≤ table_most format.Guess image.now }
+    ensures legacy { is_fit form.Guess image.now ≡ false → result ≢ 3 }
+    ensures peak { count.new.peak ≤ table_most form.Guess image.now }
 {
     let mut room = Room::new(alloc);
     let (status, fault, place, payloads) = match count_in_memory(image, &mut room) {

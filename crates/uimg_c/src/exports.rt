@@ -9,7 +9,7 @@
 ghost use Rattle.std.specs.Prelude.{◌≡◌, ◌≢◌, ◌+◌, ◌≤◌, length, false};
 ghost use Rattle.uimg_names.specs.declared.naming.Naming.TheVariants as naming;
 ghost use Rattle.uimg_requests.specs.declared.command.Action.TheVariants as action;
-ghost use Rattle.uimg_requests.specs.declared.command.Format.TheVariants as format;
+ghost use Rattle.uimg_requests.specs.declared.command.Form.TheVariants as form;
 ghost use Rattle.uimg_checks.specs.Counting.{count_of};
 ghost use Rattle.uimg_engine.specs.Headline.{outcome_of, is_fit};
 ghost use Rattle.uimg_fit_checking.specs.Named.{name_at, payload_named};
@@ -23,8 +23,7 @@ use crate::payloads::{payload_at, payload_name, payload_named};
 use crate::reports::{UimgCount, UimgPayload, UimgReport};
 use crate::running::report_on;
 use std::alloc::Global;
-use uimg_names::Naming;
-use uimg_requests::{Action, Command, Format, VERSION};
+use uimg_requests::{Action, Command, Form, VERSION};
 
 /// Lists an image: the listing of `uimg dumpimage -l` is put to the front of `text`.
 #[unsafe(no_mangle)]
@@ -34,19 +33,19 @@ pub extern "C" fn uimg_list(
     text: &mut [u8],
     report: &mut UimgReport,
 ) -> u32
-    ensures told { result ≢ 3 → Reports (outcome_of (record {
-      action = action.List naming.Profile;
-      format = format.Guess;
+    ensures told { result ≢ 3 → Reports (outcome_of naming.Profile (record {
+      action = action.List;
+      form = form.Guess;
     }) image.now) text.old text.new report.new }
     ensures status { result ≡ report.new.status }
     ensures within { report.new.written ≤ length text.old }
-    ensures peak { report.new.peak ≤ table_most format.Guess image.now }
+    ensures peak { report.new.peak ≤ table_most form.Guess image.now }
     ensures nothing { result ≡ 3 → report.new ≡ no_report }
     ensures untouched { result ≡ 3 → text.new ≡ text.old }
 {
     let command = Command {
-        action: Action::List(Naming::Profile),
-        format: Format::Guess,
+        action: Action::List,
+        form: Form::Guess,
     };
     report_on(alloc, &command, image, text, report)
 }
@@ -59,19 +58,19 @@ pub extern "C" fn uimg_verify(
     text: &mut [u8],
     report: &mut UimgReport,
 ) -> u32
-    ensures told { result ≢ 3 → Reports (outcome_of (record {
+    ensures told { result ≢ 3 → Reports (outcome_of naming.Profile (record {
       action = action.Verify;
-      format = format.Guess;
+      form = form.Guess;
     }) image.now) text.old text.new report.new }
     ensures status { result ≡ report.new.status }
     ensures within { report.new.written ≤ length text.old }
-    ensures peak { report.new.peak ≤ table_most format.Guess image.now }
+    ensures peak { report.new.peak ≤ table_most form.Guess image.now }
     ensures nothing { result ≡ 3 → report.new ≡ no_report }
     ensures untouched { result ≡ 3 → text.new ≡ text.old }
 {
     let command = Command {
         action: Action::Verify,
-        format: Format::Guess,
+        form: Form::Guess,
     };
     report_on(alloc, &command, image, text, report)
 }
@@ -82,7 +81,7 @@ pub extern "C" fn uimg_verify(
 pub extern "C" fn uimg_check(alloc: Global, image: &[u8], need: u32, report: &mut UimgReport) -> u32
     ensures told { result ≢ 3 → Checks need image.now report.new }
     ensures status { result ≡ report.new.status }
-    ensures peak { report.new.peak ≤ table_most format.Guess image.now }
+    ensures peak { report.new.peak ≤ table_most form.Guess image.now }
     ensures nothing { result ≡ 3 → report.new ≡ no_report }
 {
     check(alloc, image, need, report)
@@ -97,15 +96,15 @@ pub extern "C" fn uimg_payload_at(
     position: u32,
     payload: &mut UimgPayload,
 ) -> u32
-    ensures told { result ≢ 3 → Finds (outcome_of (record {
+    ensures told { result ≢ 3 → Finds (outcome_of naming.Profile (record {
       action = action.Extract position;
-      format = format.Guess;
+      form = form.Guess;
     }) image.now) image.now payload.new }
     ensures status { result ≡ payload.new.status }
     ensures inside { payload.new.start + payload.new.size ≤ length image.now }
     ensures nowhere { result ≢ 0 → (payload.new.start ≡ 0) × (payload.new.size ≡ 0) }
-    ensures legacy { is_fit format.Guess image.now ≡ false → result ≢ 3 }
-    ensures peak { payload.new.peak ≤ table_most format.Guess image.now }
+    ensures legacy { is_fit form.Guess image.now ≡ false → result ≢ 3 }
+    ensures peak { payload.new.peak ≤ table_most form.Guess image.now }
 {
     payload_at(alloc, image, position, payload)
 }
@@ -120,7 +119,7 @@ pub extern "C" fn uimg_payload_named(
 ) -> u32
     ensures told { result ≢ 3 → FindsNamed (payload_named image.now name.now) image.now payload.new }
     ensures status { result ≡ payload.new.status }
-    ensures peak { payload.new.peak ≤ table_most format.Fit image.now }
+    ensures peak { payload.new.peak ≤ table_most form.Fit image.now }
     ensures inside { payload.new.start + payload.new.size ≤ length image.now }
     ensures nowhere { result ≢ 0 → (payload.new.start ≡ 0) × (payload.new.size ≡ 0) }
 {
@@ -137,7 +136,7 @@ pub extern "C" fn uimg_payload_name(
 ) -> u32
     ensures told { result ≢ 3 → FindsNamed (name_at image.now position) image.now name.new }
     ensures status { result ≡ name.new.status }
-    ensures peak { name.new.peak ≤ table_most format.Fit image.now }
+    ensures peak { name.new.peak ≤ table_most form.Fit image.now }
     ensures inside { name.new.start + name.new.size ≤ length image.now }
     ensures nowhere { result ≢ 0 → (name.new.start ≡ 0) × (name.new.size ≡ 0) }
 {
@@ -147,11 +146,11 @@ pub extern "C" fn uimg_payload_name(
 /// Counts the parts of a legacy image, or the images of a FIT image.
 #[unsafe(no_mangle)]
 pub extern "C" fn uimg_payload_count(alloc: Global, image: &[u8], count: &mut UimgCount) -> u32
-    ensures told { result ≢ 3 → Counts (count_of (is_fit format.Guess image.now) image.now) count.new }
+    ensures told { result ≢ 3 → Counts (count_of (is_fit form.Guess image.now) image.now) count.new }
     ensures status { result ≡ count.new.status }
     ensures nothing { result ≢ 0 → count.new.count ≡ 0 }
-    ensures legacy { is_fit format.Guess image.now ≡ false → result ≢ 3 }
-    ensures peak { count.new.peak ≤ table_most format.Guess image.now }
+    ensures legacy { is_fit form.Guess image.now ≡ false → result ≢ 3 }
+    ensures peak { count.new.peak ≤ table_most form.Guess image.now }
 {
     payload_count(alloc, image, count)
 }

@@ -1,8 +1,9 @@
 //! Where a payload is in an image in memory.
 
 ghost use Rattle.std.specs.Prelude.{◌≡◌, ◌≢◌, ◌+◌, ◌≤◌, length, false, Some, None};
+ghost use Rattle.uimg_names.specs.declared.naming.Naming.TheVariants as naming;
 ghost use Rattle.uimg_requests.specs.declared.command.Action.TheVariants as action;
-ghost use Rattle.uimg_requests.specs.declared.command.Format.TheVariants as format;
+ghost use Rattle.uimg_requests.specs.declared.command.Form.TheVariants as form;
 ghost use Rattle.uimg_engine.specs.Headline.{outcome_of, is_fit};
 ghost use Rattle.uimg_fit_checking.specs.Named.{name_at, payload_named};
 ghost use Rattle.uimg_c.specs.Answers.{Finds, FindsNamed, table_most};
@@ -15,7 +16,7 @@ use std::alloc::Global;
 use uimg_base::{Room, Span};
 use uimg_engine::{Fault, locate_in_memory};
 use uimg_fit_checking::{locate_name, locate_named};
-use uimg_requests::Format;
+use uimg_requests::Form;
 
 // What is told of a payload that was not found, for which so much memory was taken.
 fn unfound(fault: Fault, peak: u64) -> UimgPayload
@@ -70,18 +71,18 @@ pub(crate) fn payload_at(
     position: u32,
     payload: &mut UimgPayload,
 ) -> u32
-    ensures told { result ≢ 3 → Finds (outcome_of (record {
+    ensures told { result ≢ 3 → Finds (outcome_of naming.Profile (record {
       action = action.Extract position;
-      format = format.Guess;
+      form = form.Guess;
     }) image.now) image.now payload.new }
     ensures status { result ≡ payload.new.status }
     ensures inside { payload.new.start + payload.new.size ≤ length image.now }
     ensures nowhere { result ≢ 0 → (payload.new.start ≡ 0) × (payload.new.size ≡ 0) }
-    ensures legacy { is_fit format.Guess image.now ≡ false → result ≢ 3 }
-    ensures peak { payload.new.peak ≤ table_most format.Guess image.now }
+    ensures legacy { is_fit form.Guess image.now ≡ false → result ≢ 3 }
+    ensures peak { payload.new.peak ≤ table_most form.Guess image.now }
 {
     let mut room = Room::new(alloc);
-    let located = locate_in_memory(Format::Guess, position, image, &mut room);
+    let located = locate_in_memory(Form::Guess, position, image, &mut room);
     let peak = peak_of(&room);
     *payload = match located {
         Ok(span) => found(span, peak),
@@ -99,7 +100,7 @@ pub(crate) fn payload_named(
 ) -> u32
     ensures told { result ≢ 3 → FindsNamed (payload_named image.now name.now) image.now payload.new }
     ensures status { result ≡ payload.new.status }
-    ensures peak { payload.new.peak ≤ table_most format.Fit image.now }
+    ensures peak { payload.new.peak ≤ table_most form.Fit image.now }
     ensures inside { payload.new.start + payload.new.size ≤ length image.now }
     ensures nowhere { result ≢ 0 → (payload.new.start ≡ 0) × (payload.new.size ≡ 0) }
 {
@@ -122,7 +123,7 @@ pub(crate) fn payload_name(
 ) -> u32
     ensures told { result ≢ 3 → FindsNamed (name_at image.now position) image.now name.new }
     ensures status { result ≡ name.new.status }
-    ensures peak { name.new.peak ≤ table_most format.Fit image.now }
+    ensures peak { name.new.peak ≤ table_most form.Fit image.now }
     ensures inside { name.new.start + name.new.size ≤ length image.now }
     ensures nowhere { result ≢ 0 → (name.new.start ≡ 0) × (name.new.size ≡ 0) }
 {

@@ -11,6 +11,7 @@ use crate::reports::UimgReport;
 use std::alloc::Global;
 use uimg_base::Room;
 use uimg_engine::run_in_memory;
+use uimg_names::Naming;
 use uimg_requests::Command;
 
 /// Carries out a command on an image's bytes, and copies its text, truncated to `text`.
@@ -21,15 +22,15 @@ pub(crate) fn report_on(
     text: &mut [u8],
     report: &mut UimgReport,
 ) -> u32
-    ensures told { result ≢ 3 → Reports (outcome_of command.now image.now) text.old text.new report.new }
+    ensures told { result ≢ 3 → Reports (outcome_of Naming.Profile command.now image.now) text.old text.new report.new }
     ensures status { result ≡ report.new.status }
     ensures within { report.new.written ≤ length text.old }
-    ensures peak { report.new.peak ≤ table_most command.now.format image.now }
+    ensures peak { report.new.peak ≤ table_most command.now.form image.now }
     ensures nothing { result ≡ 3 → report.new ≡ no_report }
     ensures untouched { result ≡ 3 → text.new ≡ text.old }
 {
     let mut room = Room::new(alloc);
-    let (end, whole) = run_in_memory(alloc, command, image, &mut room);
+    let (end, whole) = run_in_memory(alloc, Naming::Profile, command, image, &mut room);
     let Some(code) = answer_code(end) else {
         *report = UimgReport {
             status: NO_MEMORY,

@@ -5,8 +5,9 @@ use Rattle.uimg_sums.specs.declared.algo.Algo.TheVariants as algo
 use Rattle.uimg_base.specs.Outcome.{End, done, not_right, refused}
 use Rattle.uimg_fit_base.specs.declared.fault.Fault.{Fault as FitEngineFault}
 use Rattle.uimg_fit_checking.specs.Vouching.{vouched_in}
+use Rattle.uimg_names.specs.declared.naming.Naming.TheVariants.{Profile}
 use Rattle.uimg_requests.specs.declared.command.Action.TheVariants as action
-use Rattle.uimg_requests.specs.declared.command.Format.TheVariants as format
+use Rattle.uimg_requests.specs.declared.command.Form.TheVariants as form
 use Rattle.uimg_engine.specs.declared.fault.Fault.{Fault}
 use Rattle.uimg_engine.specs.Faults.{of_fit}
 use Rattle.uimg_engine.specs.Headline.{is_fit, outcome_of}
@@ -35,4 +36,4 @@ stricter says (refused fault) = refused fault
 
 -- A verification ends well, and each image of a FIT, of which there is one at least, has a hash node of a certain strength.
 abbrev pub check_of : Algo → List ℕ → End Fault
-check_of need file = stricter (vouched (is_fit format.Guess file) need file) (outcome_of (record { action = action.Verify; format = format.Guess }) file).end
+check_of need file = stricter (vouched (is_fit form.Guess file) need file) (outcome_of Profile (record { action = action.Verify; form = form.Guess }) file).end

@@ -12,7 +12,7 @@ use Rattle.uimg_fit_checking.specs.Checks as fit
 use Rattle.uimg_legacy.specs.declared.fault.LegacyFault.{LegacyFault}
 use Rattle.uimg_legacy.specs.Report as legacy_report
 use Rattle.uimg_legacy.specs.Work as legacy
-use Rattle.uimg_requests.specs.declared.command.Format.TheVariants as format
+use Rattle.uimg_requests.specs.declared.command.Form.TheVariants as form
 use Rattle.uimg_engine.specs.declared.fault.Fault.{Fault}
 use Rattle.uimg_engine.specs.declared.fault.Fault.TheVariants.{Legacy}
 use Rattle.uimg_checks.specs.declared.finding.Checked.{Checked}
@@ -27,7 +27,7 @@ work_in false file = legacy.verify_work file
 
 -- the most bytes that a check asks for: the four that tell the format, the metadata, and no more bytes of payloads than the file has
 abbrev pub check_work : List ℕ → ℕ
-check_work file = 4 + work_in (is_fit format.Guess file) file
+check_work file = 4 + work_in (is_fit form.Guess file) file
 
 -- each place that is told ends in a file of so many bytes
 abbrev pub EndsInside : ℕ → Checked → Type 0
@@ -85,7 +85,7 @@ TellsCheckIn fit need file result = is_read result ≡ false → is_no_memory re
 
 -- .. of a file that is read as its first bytes tell
 abbrev pub TellsCheck : Option Algo → List ℕ → Result Checked Fault → Type 0
-TellsCheck need file result = TellsCheckIn (is_fit format.Guess file) need file result
+TellsCheck need file result = TellsCheckIn (is_fit form.Guess file) need file result
 
 -- What the check of an image of a format did at any exit.
 pub record ChecksInBetween (fit : Bool) (need : Option Algo) (result : Result Checked Fault) (d e : Device) (old new : Held) : Type 0 where

@@ -1,7 +1,7 @@
 //! Whether an image in memory is whole, and vouched for by checksums of a needed strength.
 
 ghost use Rattle.std.specs.Prelude.{◌≡◌, false, Some, Ok};
-ghost use Rattle.uimg_requests.specs.declared.command.Format.TheVariants as format;
+ghost use Rattle.uimg_requests.specs.declared.command.Form.TheVariants as form;
 ghost use Rattle.uimg_checks.specs.Checking.{check_of, vouched, end_by, is_crc32};
 ghost use Rattle.uimg_engine.specs.Faults.{is_put, is_no_memory, end_of};
 ghost use Rattle.uimg_engine.specs.Headline.{is_fit, InMemory};
@@ -9,7 +9,8 @@ ghost use Rattle.uimg_engine.specs.Headline.{is_fit, InMemory};
 use std::alloc::Allocator;
 use uimg_base::{Algo, MemSource, Room, Status};
 use uimg_engine::{Fault, is_fit, run_in_memory};
-use uimg_requests::{Action, Command, Format};
+use uimg_names::Naming;
+use uimg_requests::{Action, Command, Form};
 
 // Whether checksums by CRC-32 are strong enough.
 fn is_crc32(need: Algo) -> bool
@@ -35,11 +36,11 @@ fn status_of(is_vouched: bool) -> Status
 // Returns whether a FIT image's hash nodes, or a legacy image's CRC-32, are strong enough.
 fn vouch<A: Allocator>(need: Algo, image: &[u8], room: &mut Room<A>) -> Result<Status, Fault>
     ensures end { is_no_memory result ≡ false → end_of result
-        ≡ Some (end_by (vouched (is_fit format.Guess image.now) need image.now)) }
+        ≡ Some (end_by (vouched (is_fit form.Guess image.now) need image.now)) }
     ensures no_put { is_put result ≡ false }
-    ensures memory { InMemory format.Guess image.now result room }
+    ensures memory { InMemory form.Guess image.now result room }
 {
-    if is_fit(Format::Guess, &mut MemSource::new(image))? {
+    if is_fit(Form::Guess, &mut MemSource::new(image))? {
         let is_vouched = uimg_fit_checking::is_vouched(need, image, room)?;
         return Ok(status_of(is_vouched));
     }
@@ -62,13 +63,13 @@ pub fn check_in_memory<A: Allocator, B: Allocator>(
 ) -> Result<Status, Fault>
     ensures end { is_put result ≡ false → is_no_memory result ≡ false →
         end_of result ≡ Some (check_of need image.now) }
-    ensures memory { InMemory format.Guess image.now result room }
+    ensures memory { InMemory form.Guess image.now result room }
 {
     let command = Command {
         action: Action::Verify,
-        format: Format::Guess,
+        form: Form::Guess,
     };
-    let (end, _report) = run_in_memory(alloc, &command, image, room);
+    let (end, _report) = run_in_memory(alloc, Naming::Profile, &command, image, room);
     match end {
         Ok(Status::Done) => vouch(need, image, room),
         Ok(Status::NotRight) => Ok(Status::NotRight),

@@ -1,7 +1,7 @@
 //! What a check of an image finds, over any source.
 
 ghost use Rattle.std.specs.Prelude.{◌≡◌, true, false, length, IfOk};
-ghost use Rattle.uimg_requests.specs.declared.command.Format.TheVariants as format;
+ghost use Rattle.uimg_requests.specs.declared.command.Form.TheVariants as form;
 ghost use Rattle.uimg_checks.specs.Finding.{ChecksIn, EndsInside, TellsCheck, check_work, stands_by_crc32};
 ghost use Rattle.uimg_engine.specs.Headline.{HonestSource, OnlyReads};
 
@@ -9,7 +9,7 @@ use std::alloc::Allocator;
 use uimg_base::{Algo, Room, Source};
 use uimg_engine::{Fault, is_fit};
 use uimg_fit_checking::Finding;
-use uimg_requests::Format;
+use uimg_requests::Form;
 
 /// What is found of an image.
 #[derive(Clone, Copy, Debug, PartialEq, Eq)]
@@ -83,13 +83,13 @@ pub fn check<S: Source, A: Allocator>(
     source: &mut S,
     room: &mut Room<A>,
 ) -> Result<Checked, Fault>
-    ensures reads { OnlyReads format.Guess check_work result S.device source room }
+    ensures reads { OnlyReads form.Guess check_work result S.device source room }
     ensures inside { IfOk result (EndsInside (length (S.device source.old).bytes)) }
     ensures told { HonestSource S.device source →
         TellsCheck need (S.device source.old).bytes result }
 {
     room.clear();
-    if is_fit(Format::Guess, source)? {
+    if is_fit(Form::Guess, source)? {
         check_fit(need, source, room)
     } else {
         check_legacy(need, source, room)

@@ -83,15 +83,16 @@ impl<'a> Settings<'a> {
             return Err(OldFault::NoImage);
         };
         let action = match (self.is_list, self.outfile) {
-            (true, _) => Action::List(Naming::All),
+            (true, _) => Action::List,
             (false, Some(_)) => Action::Extract(self.position),
             (false, None) => return Err(OldFault::NoOutfile),
         };
         let outfile = if self.is_list { None } else { self.outfile };
-        let format = format_of(self.kind, self.kind_name)?;
+        let form = format_of(self.kind, self.kind_name)?;
         Ok(OldRequest::Run {
             request: RunRequest {
-                command: Command { action, format },
+                command: Command { action, form },
+                naming: Naming::All,
                 image,
                 outfile,
                 written: outfile,

@@ -14,7 +14,7 @@ use uimg_base::{FLAT_DT, MULTI, SCRIPT};
 use uimg_fit_base::{Placement, WORD_ALIGNMENT};
 use uimg_legacy::{Options, name_field};
 use uimg_names::{Field, Naming};
-use uimg_requests::{Action, Command, MakeRequest, RunRequest};
+use uimg_requests::{Action, Command, MakeRequest, Manner, RunRequest};
 
 /// The word of -f for a source that mkimage makes itself.
 const AUTO: &str = "auto";
@@ -192,14 +192,13 @@ impl<'a> Settings<'a> {
         if self.source == Some(AUTO) {
             return Ok(OldRequest::MakeAuto(AutoRequest {
                 source: self.auto_source(words)?,
-                placement: self.placement()?,
-                time,
+                placement: self.placement(),
+                manner: self.manner(time)?,
                 outfile: image,
                 is_quiet,
             }));
         }
-        let mut request = self.making(alloc, image, time)?;
-        request.naming = Naming::All;
+        let request = self.making(alloc, image, time)?;
         Ok(OldRequest::Make { request, is_quiet })
     }
 
@@ -208,12 +207,13 @@ impl<'a> Settings<'a> {
             return Err(OldFault::ListWithSource);
         }
         let command = Command {
-            action: Action::List(Naming::All),
-            format: format_of(self.kind, self.kind_name)?,
+            action: Action::List,
+            form: format_of(self.kind, self.kind_name)?,
         };
         Ok(OldRequest::Run {
             request: RunRequest {
                 command,
+                naming: Naming::All,
                 image,
                 outfile: None,
                 written: None,
@@ -232,8 +232,11 @@ impl<'a> Settings<'a> {
             (None, None) => Err(OldFault::NothingToMake),
             (Some(_), Some(_)) => Err(OldFault::DataWithSource),
             (None, Some(source)) => {
-                let placement = self.placement()?;
-                Ok(MakeRequest::of_source(alloc, source, placement, time, image)?)
+                let manner = self.manner(time)?;
+                let placement = self.placement();
+                let mut request = MakeRequest::of_source(alloc, source, placement, time, image)?;
+                request.manner = manner;
+                Ok(request)
             }
             (Some(_), None) if self.kind == Some(FLAT_DT) => Err(OldFault::NoSource),
             (Some(data), None) => {
@@ -259,6 +262,10 @@ impl<'a> Settings<'a> {
         }
         let data = if self.has_no_data { NO_DATA } else { data };
         let mut request = MakeRequest::of_parts(alloc, options, data, time, image)?;
+        request.manner = Manner {
+            naming: Naming::All,
+            ..request.manner
+        };
         request.is_xip = self.is_xip && !self.has_no_data;
         Ok(request)
     }
@@ -276,20 +283,30 @@ impl<'a> Settings<'a> {
         })
     }
 
-    // Where the payloads stand. The alignment counts only where that is behind the tree.
-    fn placement(&self) -> Result<Placement, OldFault<'a>> {
-        if !self.is_external {
-            return Ok(Placement::Inside);
-        }
-        let align = self.align()?;
-        match self.position {
-            0 => Ok(Placement::After { align }),
-            position => Ok(Placement::At { position, align }),
+    // Where the payloads stand.
+    fn placement(&self) -> Placement {
+        match (self.is_external, self.position) {
+            (false, _) => Placement::Inside,
+            (true, 0) => Placement::After,
+            (true, position) => Placement::At(position),
         }
     }
 
-    // The alignment of payloads behind the tree, at which those that read the image find them.
+    // How a FIT image is made at a time.
+    fn manner(&self, time: u32) -> Result<Manner, OldFault<'a>> {
+        Ok(Manner {
+            time,
+            naming: Naming::All,
+            align: self.align()?,
+        })
+    }
+
+    // The alignment of payloads behind the tree, at which those that read the image find them. It is not
+    // looked at where they stand in the tree.
     fn align(&self) -> Result<u32, OldFault<'a>> {
+        if !self.is_external {
+            return Ok(WORD_ALIGNMENT);
+        }
         match self.alignment {
             0 => Ok(WORD_ALIGNMENT),
             align if align % WORD_ALIGNMENT == 0 => Ok(align),

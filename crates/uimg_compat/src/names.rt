@@ -5,7 +5,7 @@ use crate::nearest::nearest;
 use std::alloc::Global;
 use uimg_base::FLAT_DT;
 use uimg_names::{Field, Naming};
-use uimg_requests::Format;
+use uimg_requests::Form;
 
 /// The type of a kernel that runs where it stands (`IH_TYPE_KERNEL_NOLOAD`).
 const KERNEL_NOLOAD: u8 = 14;
@@ -94,12 +94,12 @@ pub(crate) fn check_made(kind: u8, name: &str) -> Result<(), OldFault<'_>> {
 
 /// The format of the images of a type, by its name. The type `invalid` is as none. A type of other
 /// images is refused.
-pub(crate) fn format_of(kind: Option<u8>, name: &str) -> Result<Format, OldFault<'_>> {
+pub(crate) fn format_of(kind: Option<u8>, name: &str) -> Result<Form, OldFault<'_>> {
     match kind {
-        None | Some(0) => Ok(Format::Guess),
-        Some(FLAT_DT) => Ok(Format::Fit),
-        Some(code) if is_made(code) || code == FIRMWARE_IVT => Ok(Format::Legacy),
-        Some(code) if ANY_FORMAT.contains(&code) => Ok(Format::Guess),
+        None | Some(0) => Ok(Form::Guess),
+        Some(FLAT_DT) => Ok(Form::Fit),
+        Some(code) if is_made(code) || code == FIRMWARE_IVT => Ok(Form::Legacy),
+        Some(code) if ANY_FORMAT.contains(&code) => Ok(Form::Guess),
         Some(_) => Err(OldFault::OtherImages(name)),
     }
 }

@@ -3,7 +3,7 @@
 use crate::auto_source::AutoSource;
 use uimg_fit_base::Placement;
 use uimg_names::Field;
-use uimg_requests::{MakeRequest, RunRequest};
+use uimg_requests::{MakeRequest, Manner, RunRequest};
 
 /// What the words of a command line ask for.
 #[derive(Drop)]
@@ -36,8 +36,8 @@ pub struct AutoRequest<'a> {
     /// Where the payloads are placed.
     pub placement: Placement,
 
-    /// The time of the making, in seconds since 1970.
-    pub time: u32,
+    /// How it is made.
+    pub manner: Manner,
 
     /// The path of the image.
     pub outfile: &'a str,

@@ -11,6 +11,7 @@ use Rattle.uimg_base.specs.Outcome.{Tells}
 use Rattle.uimg_base.specs.declared.status.Status.{Status}
 use Rattle.uimg_blob.specs.Counts.{nodes_met}
 use Rattle.uimg_fit_base.specs.Faults.{of_making}
+use Rattle.uimg_fit_base.specs.Placements.{aligned_by}
 use Rattle.uimg_fit_base.specs.declared.fault.FitFault.{FitFault}
 use Rattle.uimg_fit_base.specs.declared.fault.FitFault.TheVariants as fit_fault
 use Rattle.uimg_names.specs.declared.naming.Naming.{Naming}
@@ -26,19 +27,19 @@ use Rattle.uimg_engine.proofs.MakingLaws.{building_stops, keeping, listing_makes
 use Rattle.uimg_engine.proofs.TreeListing.{building_stops_tree, keeping_tree, listing_makes_tree, listing_stops_tree, no_memory_built}
 
 -- what is kept
-abbrev KeepsCommand : MakeCommand → ℕ → (List ℕ → Option (List ℕ)) → Device → Type 0
-KeepsCommand (Parts options names) time files kept = Keeps (timed options time) files (map (λ name. name.items) names.items) kept
-KeepsCommand (Tree source placement) time files kept = KeepsTree files source.items time placement kept
+abbrev KeepsCommand : MakeCommand → ℕ → ℕ → (List ℕ → Option (List ℕ)) → Device → Type 0
+KeepsCommand (Parts options names) time align files kept = Keeps (timed options time) files (map (λ name. name.items) names.items) kept
+KeepsCommand (Tree source placement) time align files kept = KeepsTree files source.items time (aligned_by placement align) kept
 
 -- why an image is not built, where nothing is listed
-pub building_stops_command : (X : Type 0) {K : Type 0} (device : K → Device) (naming : Naming) (command : MakeCommand) (time : ℕ) (files : List ℕ → Option (List ℕ)) (f : Fault) (image now s : Sink) → is_keep {X = X} (Err f) ≡ false → BuildsCommand {X = X} command time files (Err f) image now → MakesCommandBetween device naming command time files (Err f) s s
-building_stops_command X device naming (Parts options names) time files f image now s never stop = building_stops X naming _ files _ f image now s never stop
-building_stops_command X device naming (Tree source placement) time files f image now s never stop = building_stops_tree X naming files source.items time placement f image now s stop
+pub building_stops_command : (X : Type 0) {K : Type 0} (device : K → Device) (naming : Naming) (command : MakeCommand) (time align : ℕ) (files : List ℕ → Option (List ℕ)) (f : Fault) (image now s : Sink) → is_keep {X = X} (Err f) ≡ false → BuildsCommand {X = X} command time align files (Err f) image now → MakesCommandBetween device naming command time align files (Err f) s s
+building_stops_command X device naming (Parts options names) time align files f image now s never stop = building_stops X naming _ files _ f image now s never stop
+building_stops_command X device naming (Tree source placement) time align files f image now s never stop = building_stops_tree X naming files source.items time (aligned_by placement align) f image now s stop
 
 -- an image that was built on an empty shelf, and kept
-keeping_written : {X : Type 0} (command : MakeCommand) (time : ℕ) (files : List ℕ → Option (List ℕ)) (x : X) (image now : Sink) (kept : Device) → BuildsCommand command time files (Ok x) image now → image.contents ≡ Some [] → now.contents ≡ Some kept.bytes → IsTrue kept.honest → KeepsCommand command time files kept
-keeping_written {X = X} (Parts options names) time files x image now kept builds empty whole honest = keeping X _ files _ x image now kept builds empty whole honest
-keeping_written (Tree source placement) time files x image now kept builds empty whole honest = keeping_tree files source.items time placement image now kept builds empty whole honest
+keeping_written : {X : Type 0} (command : MakeCommand) (time align : ℕ) (files : List ℕ → Option (List ℕ)) (x : X) (image now : Sink) (kept : Device) → BuildsCommand command time align files (Ok x) image now → image.contents ≡ Some [] → now.contents ≡ Some kept.bytes → IsTrue kept.honest → KeepsCommand command time align files kept
+keeping_written {X = X} (Parts options names) time align files x image now kept builds empty whole honest = keeping X _ files _ x image now kept builds empty whole honest
+keeping_written (Tree source placement) time align files x image now kept builds empty whole honest = keeping_tree files source.items time (aligned_by placement align) image now kept builds empty whole honest
 
 -- what is known of an output that was written to stays known when it is written out
 known_after : (old new : Option (List ℕ)) (bytes : List ℕ) → old ≡ Some [] → Appends old new bytes → IsSome new
@@ -46,28 +47,28 @@ known_after None new bytes empty appended = absurd (cc)
 known_after (Some a) None bytes empty appended = absurd appended
 known_after (Some a) (Some now) bytes empty appended = refl
 
-known_built : {X : Type 0} (command : MakeCommand) (time : ℕ) (files : List ℕ → Option (List ℕ)) (x : X) (image now : Sink) → BuildsCommand command time files (Ok x) image now → image.contents ≡ Some [] → IsSome now.contents
-known_built (Parts options names) time files x image now builds empty = known_after _ _ _ empty builds.builds.written.appended
-known_built (Tree source placement) time files x image now builds empty = known_after _ _ _ empty builds.written.appended
+known_built : {X : Type 0} (command : MakeCommand) (time align : ℕ) (files : List ℕ → Option (List ℕ)) (x : X) (image now : Sink) → BuildsCommand command time align files (Ok x) image now → image.contents ≡ Some [] → IsSome now.contents
+known_built (Parts options names) time align files x image now builds empty = known_after _ _ _ empty builds.builds.written.appended
+known_built (Tree source placement) time align files x image now builds empty = known_after _ _ _ empty builds.written.appended
 
 written_out : (now held : Option (List ℕ)) (bytes : List ℕ) → IsSome now → Io.Keeps now held → held ≡ Some bytes → now ≡ Some bytes
 written_out None held bytes known keeps whole = absurd (cc)
 written_out (Some a) None bytes known keeps whole = absurd keeps
 written_out (Some a) (Some b) bytes known keeps whole = cc
 
-pub keeping_command : {X : Type 0} (command : MakeCommand) (time : ℕ) (files : List ℕ → Option (List ℕ)) (x : X) (image now : Sink) (held : Option (List ℕ)) (kept : Device) → BuildsCommand command time files (Ok x) image now → image.contents ≡ Some [] → Io.Keeps now.contents held → held ≡ Some kept.bytes → IsTrue kept.honest → KeepsCommand command time files kept
-keeping_command command time files x image now held kept builds empty out whole honest =
-    keeping_written command time files x image now kept builds empty (written_out now.contents held kept.bytes (known_built command time files x image now builds empty) out whole) honest
+pub keeping_command : {X : Type 0} (command : MakeCommand) (time align : ℕ) (files : List ℕ → Option (List ℕ)) (x : X) (image now : Sink) (held : Option (List ℕ)) (kept : Device) → BuildsCommand command time align files (Ok x) image now → image.contents ≡ Some [] → Io.Keeps now.contents held → held ≡ Some kept.bytes → IsTrue kept.honest → KeepsCommand command time align files kept
+keeping_command command time align files x image now held kept builds empty out whole honest =
+    keeping_written command time align files x image now kept builds empty (written_out now.contents held kept.bytes (known_built command time align files x image now builds empty) out whole) honest
 
 -- what is kept, and then listed
-pub listing_makes_command : {K : Type 0} (device : K → Device) (k : K) (naming : Naming) (command : MakeCommand) (time : ℕ) (files : List ℕ → Option (List ℕ)) (kept : Device) (status : Status) (s t : Sink) → KeepsCommand command time files kept → SameDevice kept (device k) → Tells (end_of (Ok status)) (listing_of naming command kept.bytes) s t → MakesCommandBetween device naming command time files (Ok k) s t
-listing_makes_command device k naming (Parts options names) time files kept status s t keeps same told = listing_makes naming _ files _ kept (device k) status s t keeps same told
-listing_makes_command device k naming (Tree source placement) time files kept status s t keeps same told = listing_makes_tree naming files source.items time placement kept (device k) status s t keeps same told
+pub listing_makes_command : {K : Type 0} (device : K → Device) (k : K) (naming : Naming) (command : MakeCommand) (time align : ℕ) (files : List ℕ → Option (List ℕ)) (kept : Device) (status : Status) (s t : Sink) → KeepsCommand command time align files kept → SameDevice kept (device k) → Tells (end_of (Ok status)) (listing_of naming command kept.bytes) s t → MakesCommandBetween device naming command time align files (Ok k) s t
+listing_makes_command device k naming (Parts options names) time align files kept status s t keeps same told = listing_makes naming _ files _ kept (device k) status s t keeps same told
+listing_makes_command device k naming (Tree source placement) time align files kept status s t keeps same told = listing_makes_tree naming files source.items time (aligned_by placement align) kept (device k) status s t keeps same told
 
 -- why the listing stops
-pub listing_stops_command : {K : Type 0} (device : K → Device) (naming : Naming) (command : MakeCommand) (time : ℕ) (files : List ℕ → Option (List ℕ)) (kept : Device) (f : Fault) (s t : Sink) (old new : Held) → KeepsCommand command time files kept → is_of_making {X = Status} (Err f) ≡ false → TakesListing command kept (is_no_memory {X = Status} (Err f)) old new → Tells (end_of (Err f)) (listing_of naming command kept.bytes) s t → MakesCommandBetween device naming command time files (Err f) s t
-listing_stops_command device naming (Parts options names) time files kept f s t old new keeps not takes told = listing_stops naming _ files _ kept f s t keeps not takes.1 told
-listing_stops_command device naming (Tree source placement) time files kept f s t old new keeps not takes told = listing_stops_tree naming files source.items time placement kept f s t keeps not told
+pub listing_stops_command : {K : Type 0} (device : K → Device) (naming : Naming) (command : MakeCommand) (time align : ℕ) (files : List ℕ → Option (List ℕ)) (kept : Device) (f : Fault) (s t : Sink) (old new : Held) → KeepsCommand command time align files kept → is_of_making {X = Status} (Err f) ≡ false → TakesListing command kept (is_no_memory {X = Status} (Err f)) old new → Tells (end_of (Err f)) (listing_of naming command kept.bytes) s t → MakesCommandBetween device naming command time align files (Err f) s t
+listing_stops_command device naming (Parts options names) time align files kept f s t old new keeps not takes told = listing_stops naming _ files _ kept f s t keeps not takes.1 told
+listing_stops_command device naming (Tree source placement) time align files kept f s t old new keeps not takes told = listing_stops_tree naming files source.items time (aligned_by placement align) kept f s t keeps not told
 
 -- a listing loses no payload
 no_loss : (f : FitFault) → of_making f ≡ false → loses_payload f ≡ false
@@ -94,22 +95,22 @@ listing_loses_none X Y Keep is = refl
 listing_loses_none X Y OutOfMemory is = refl
 
 -- the room, where no image is built
-pub room_stays : (X : Type 0) {K : Type 0} (device : K → Device) (honest : Bool) (command : MakeCommand) (time : ℕ) (files : List ℕ → Option (List ℕ)) (f : Fault) (image now : Sink) (old new : Held) → new ≡ record old { entries = [] } → (IsTrue honest → BuildsCommand {X = X} command time files (Err f) image now) → LeavesRoomBetween device honest command (Err f) old new
-room_stays X device honest (Parts options names) time files f image now old new cleared built = cleared
-room_stays X device honest (Tree source placement) time files f image now old new cleared built =
+pub room_stays : (X : Type 0) {K : Type 0} (device : K → Device) (honest : Bool) (command : MakeCommand) (time align : ℕ) (files : List ℕ → Option (List ℕ)) (f : Fault) (image now : Sink) (old new : Held) → new ≡ record old { entries = [] } → (IsTrue honest → BuildsCommand {X = X} command time align files (Err f) image now) → LeavesRoomBetween device honest command (Err f) old new
+room_stays X device honest (Parts options names) time align files f image now old new cleared built = cleared
+room_stays X device honest (Tree source placement) time align files f image now old new cleared built =
     record {
       cleared = λ is. cleared;
-      refused = λ is. subst (λ (b : Bool). RisesIf b old.refused new.refused) (sym (no_memory_built X ⊤ files source.items time placement f image now (built is))) (ap (λ (h : Held). h.refused) cleared);
+      refused = λ is. subst (λ (b : Bool). RisesIf b old.refused new.refused) (sym (no_memory_built X ⊤ files source.items time (aligned_by placement align) f image now (built is))) (ap (λ (h : Held). h.refused) cleared);
     }
 
 -- the room, where nothing is listed, and where what is kept is
-pub holds_nothing : (command : MakeCommand) (time : ℕ) (files : List ℕ → Option (List ℕ)) (old new : Held) → new ≡ record old { entries = [] } → HoldsCommandBetween command time files old new
-holds_nothing (Parts options names) time files old new cleared = cleared
-holds_nothing (Tree source placement) time files old new cleared = only_cleared cleared
+pub holds_nothing : (command : MakeCommand) (time align : ℕ) (files : List ℕ → Option (List ℕ)) (old new : Held) → new ≡ record old { entries = [] } → HoldsCommandBetween command time align files old new
+holds_nothing (Parts options names) time align files old new cleared = cleared
+holds_nothing (Tree source placement) time align files old new cleared = only_cleared cleared
 
-pub holds_listed : (command : MakeCommand) (time : ℕ) (files : List ℕ → Option (List ℕ)) (kept : Device) (no_memory : Bool) (old now new : Held) → now ≡ record old { entries = [] } → KeepsCommand command time files kept → TakesListing command kept no_memory now new → HoldsCommandBetween command time files old new
-holds_listed (Parts options names) time files kept no_memory old now new cleared keeps takes = takes.0 ∙ ap (λ (h : Held). record h { entries = [] }) cleared
-holds_listed (Tree source placement) time files kept no_memory old now new cleared keeps takes =
+pub holds_listed : (command : MakeCommand) (time align : ℕ) (files : List ℕ → Option (List ℕ)) (kept : Device) (no_memory : Bool) (old now new : Held) → now ≡ record old { entries = [] } → KeepsCommand command time align files kept → TakesListing command kept no_memory now new → HoldsCommandBetween command time align files old new
+holds_listed (Parts options names) time align files kept no_memory old now new cleared keeps takes = takes.0 ∙ ap (λ (h : Held). record h { entries = [] }) cleared
+holds_listed (Tree source placement) time align files kept no_memory old now new cleared keeps takes =
     for_nodes (record {
       tree = keeps.tree;
       accepts = keeps.accepts;
@@ -119,8 +120,8 @@ holds_listed (Tree source placement) time files kept no_memory old now new clear
     })
 
 -- an answer over files is one over the same files
-pub made_of_same : {K : Type 0} (device : K → Device) (naming : Naming) (command : MakeCommand) (time : ℕ) (a b : List ℕ → Option (List ℕ)) (result : Result K Fault) (s t : Sink) → a ≡ b → MakesCommandBetween device naming command time a result s t → MakesCommandBetween device naming command time b result s t
-made_of_same device naming command time a b result s t same made = subst (λ (files : List ℕ → Option (List ℕ)). MakesCommandBetween device naming command time files result s t) same made
+pub made_of_same : {K : Type 0} (device : K → Device) (naming : Naming) (command : MakeCommand) (time align : ℕ) (a b : List ℕ → Option (List ℕ)) (result : Result K Fault) (s t : Sink) → a ≡ b → MakesCommandBetween device naming command time align a result s t → MakesCommandBetween device naming command time align b result s t
+made_of_same device naming command time align a b result s t same made = subst (λ (files : List ℕ → Option (List ℕ)). MakesCommandBetween device naming command time align files result s t) same made
 
 -- what files that are complete and honest lack
 lacks_by : (files : List ℕ → Option (List ℕ)) (source : List ℕ) (f : Fault) → LacksSource files source f → is_no_payload {X = ⊤} (Err f) ≡ false → LacksPayload files source f

@@ -15,7 +15,7 @@ use Rattle.uimg_fit_base.specs.declared.fault.Fault.{Fault as FitEngineFault}
 use Rattle.uimg_fit_base.specs.declared.fault.Fault.TheVariants as fit
 use Rattle.uimg_fit_base.specs.declared.fault.FitFault.{FitFault}
 use Rattle.uimg_fit_base.specs.declared.fault.FitFault.TheVariants as fit_fault
-use Rattle.uimg_fit_base.specs.declared.placement.Placement.{Placement}
+use Rattle.uimg_fit_base.specs.declared.placement.AlignedPlacement.{AlignedPlacement}
 use Rattle.uimg_fit_building.specs.BuildAnswers.{is_no_file as fit_is_no_file, CanBuild, BuildsAnswer}
 use Rattle.uimg_fit_building.specs.Building.{placed_blob, built}
 use Rattle.uimg_fit_base.specs.Faults.{is_read as fit_is_read}
@@ -164,12 +164,12 @@ kept_payload false true c = refl
 kept_payload false false true = refl
 kept_payload false false false = tt
 
-keeps_payload : (t : Nodes) (placement : Placement) → KeepsPayload (build_fault t placement)
+keeps_payload : (t : Nodes) (placement : AlignedPlacement) → KeepsPayload (build_fault t placement)
 unfolding build_fault
 keeps_payload t placement =
     kept_payload (nat_lt 4294967295 (length (placed_blob t placement))) (is_low (length (placed_blob t placement)) placement) (nat_lt 4294967295 (length (built t placement)))
 
-lost_by : (t : Nodes) (placement : Placement) (f : FitFault) (s u : Sink) → BuildsAnswer {X = ⊤} t placement (Err (fit.Fit f)) s u → loses_payload f ≡ false
+lost_by : (t : Nodes) (placement : AlignedPlacement) (f : FitFault) (s u : Sink) → BuildsAnswer {X = ⊤} t placement (Err (fit.Fit f)) s u → loses_payload f ≡ false
 lost_by t placement fit_fault.NoImages s u builds = refl
 lost_by t placement fit_fault.NoData s u builds = refl
 lost_by t placement fit_fault.DataOutside s u builds = refl
@@ -181,7 +181,7 @@ lost_by t placement fit_fault.OutOfMemory s u builds = refl
 lost_by t placement fit_fault.NoFile s u builds = refl
 lost_by t placement fit_fault.ReadFailed s u builds = subst KeepsPayload builds.1 (keeps_payload t placement)
 
-pub lost_of_building : (X : Type 0) (t : Nodes) (placement : Placement) (fault : FitEngineFault) (s u : Sink) → BuildsAnswer {X = ⊤} t placement (Err fault) s u → is_lost_payload {X = X} (Err (of_fit fault)) ≡ false
+pub lost_of_building : (X : Type 0) (t : Nodes) (placement : AlignedPlacement) (fault : FitEngineFault) (s u : Sink) → BuildsAnswer {X = ⊤} t placement (Err fault) s u → is_lost_payload {X = X} (Err (of_fit fault)) ≡ false
 lost_of_building X t placement (fit.Blob f at) s u builds = refl
 lost_of_building X t placement (fit.Fit f) s u builds = lost_by t placement f s u builds
 lost_of_building X t placement fit.Read s u builds = refl
@@ -209,7 +209,7 @@ opens_last {X = X} source fault refused a b d payload text lacks same stayed use
     }
 
 -- an image that is built
-pub built_source : (a b : FileMap) (source : List ℕ) (time : ℕ) (placement : Placement) (u : Unread) (s t : Sink) → SameFiles a b → IsTrue a.honest → FillsSource a.bytes source time u
+pub built_source : (a b : FileMap) (source : List ℕ) (time : ℕ) (placement : AlignedPlacement) (u : Unread) (s t : Sink) → SameFiles a b → IsTrue a.honest → FillsSource a.bytes source time u
     → (IsTrue b.honest → AreKept b.bytes u → CanBuild (in_full b.bytes u) placement × AppendsAll s t (built (in_full b.bytes u) placement))
     → (IsTrue b.honest → AreKept b.bytes u → IsFilled (in_full b.bytes u) → ReadsBack (built (in_full b.bytes u) placement) (in_full b.bytes u))
     → BuildsTree a.bytes source time placement s t
@@ -226,14 +226,14 @@ built_source a b source time placement u s t same honest fills builds reads_back
       reads_back = back;
     }
 
-fault_of_building : (files : List ℕ → Option (List ℕ)) (source : List ℕ) (time : ℕ) (placement : Placement) (u : Nodes) (fault : FitEngineFault) (s t : Sink) → FillsTree files source time u → BuildsAnswer {X = ⊤} u placement (Err fault) s t → BuildsSource {X = ⊤} files source time placement (Err (of_fit fault)) s t
+fault_of_building : (files : List ℕ → Option (List ℕ)) (source : List ℕ) (time : ℕ) (placement : AlignedPlacement) (u : Nodes) (fault : FitEngineFault) (s t : Sink) → FillsTree files source time u → BuildsAnswer {X = ⊤} u placement (Err fault) s t → BuildsSource {X = ⊤} files source time placement (Err (of_fit fault)) s t
 fault_of_building files source time placement u (fit.Blob f at) s t fills builds = record { tree = u; fills = fills; builds = builds }
 fault_of_building files source time placement u (fit.Fit f) s t fills builds = unbuilt (record { tree = u; fills = fills; builds = builds })
 fault_of_building files source time placement u fit.Read s t fills builds = unwritten (record { tree = u; fills = fills; builds = builds })
 fault_of_building files source time placement u fit.Put s t fills builds = record { tree = u; fills = fills; builds = builds }
 
 -- an image that is not built
-pub unbuilt_source : (a b : FileMap) (source : List ℕ) (time : ℕ) (placement : Placement) (u : Unread) (fault : FitEngineFault) (s t : Sink) → SameFiles a b → IsTrue a.honest → FillsSource a.bytes source time u
+pub unbuilt_source : (a b : FileMap) (source : List ℕ) (time : ℕ) (placement : AlignedPlacement) (u : Unread) (fault : FitEngineFault) (s t : Sink) → SameFiles a b → IsTrue a.honest → FillsSource a.bytes source time u
     → (IsTrue b.honest → AreKept b.bytes u → BuildsAnswer {X = ⊤} (in_full b.bytes u) placement (Err fault) s t)
     → BuildsSource {X = ⊤} a.bytes source time placement (Err (of_fit fault)) s t
 unbuilt_source a b source time placement u fault s t same honest fills builds =

@@ -10,12 +10,13 @@ use Rattle.uimg_base.specs.Outcome.{Outcome, Tells}
 use Rattle.uimg_base.specs.Sink.{Sink}
 use Rattle.uimg_base.specs.Using.{Uses}
 use Rattle.uimg_base.specs.declared.status.Status.{Status}
+use Rattle.uimg_fit_base.specs.Placements.{aligned_by}
 use Rattle.uimg_fit_reading.specs.Rooms.{TakesNodes}
 use Rattle.uimg_names.specs.declared.naming.Naming.{Naming}
 use Rattle.uimg_engine.specs.declared.fault.Fault.{Fault}
 use Rattle.uimg_engine.specs.declared.fault.Fault.TheVariants.{NoFile, Fit}
 use Rattle.uimg_requests.specs.declared.command.Action.TheVariants as Action
-use Rattle.uimg_requests.specs.declared.command.Format.TheVariants as Format
+use Rattle.uimg_requests.specs.declared.command.Form.TheVariants as Form
 use Rattle.uimg_requests.specs.declared.make_command.MakeCommand.{MakeCommand}
 use Rattle.uimg_requests.specs.declared.make_command.MakeCommand.TheVariants.{Parts, Tree}
 use Rattle.uimg_engine.specs.Faults.{end_of, is_read, is_put, is_no_memory, is_of_making, is_no_text, is_no_payload, refuses_payload}
@@ -59,18 +60,18 @@ abbrev pub OpensToBuild : {X : Type 0} → MakeCommand → Result X Fault → Fi
 OpensToBuild (Parts options files) result old new = OpensNames (map (λ name. name.items) files.items) result old new
 OpensToBuild (Tree source placement) result old new = OpensSource source.items result old new
 
--- what the answer of a building says of the files, and of what was appended
-abbrev pub BuildsCommand : {X : Type 0} → MakeCommand → ℕ → (List ℕ → Option (List ℕ)) → Result X Fault → Sink → Sink → Type 0
-BuildsCommand (Parts options names) time files result s t = BuildsNames (timed options time) files (map (λ name. name.items) names.items) result s t
-BuildsCommand (Tree source placement) time files result s t = BuildsSource files source.items time placement result s t
+-- what the answer of a building at a time, by an alignment, says of the files, and of what was appended
+abbrev pub BuildsCommand : {X : Type 0} → MakeCommand → ℕ → ℕ → (List ℕ → Option (List ℕ)) → Result X Fault → Sink → Sink → Type 0
+BuildsCommand (Parts options names) time align files result s t = BuildsNames (timed options time) files (map (λ name. name.items) names.items) result s t
+BuildsCommand (Tree source placement) time align files result s t = BuildsSource files source.items time (aligned_by placement align) result s t
 
--- what the answer of a making says of the files, and of what was listed
-abbrev pub MakesCommandBetween : {K : Type 0} → (K → Device) → Naming → MakeCommand → ℕ → (List ℕ → Option (List ℕ)) → Result K Fault → Sink → Sink → Type 0
-MakesCommandBetween device naming (Parts options names) time files result s t = MakesAnswer device naming (timed options time) files (map (λ name. name.items) names.items) result s t
-MakesCommandBetween device naming (Tree source placement) time files result s t = MakesSource device naming files source.items time placement result s t
+-- what the answer of a making at a time, by an alignment, says of the files, and of what was listed
+abbrev pub MakesCommandBetween : {K : Type 0} → (K → Device) → Naming → MakeCommand → ℕ → ℕ → (List ℕ → Option (List ℕ)) → Result K Fault → Sink → Sink → Type 0
+MakesCommandBetween device naming (Parts options names) time align files result s t = MakesAnswer device naming (timed options time) files (map (λ name. name.items) names.items) result s t
+MakesCommandBetween device naming (Tree source placement) time align files result s t = MakesSource device naming files source.items time (aligned_by placement align) result s t
 
-abbrev pub MakesCommand : {K : Type 0} → (K → Device) → Naming → MakeCommand → ℕ → (List ℕ → Option (List ℕ)) → Result K Fault → Lent Sink → Type 0
-MakesCommand device naming command time files result out = MakesCommandBetween device naming command time files result out.entry.now out.exit.now
+abbrev pub MakesCommand : {K : Type 0} → (K → Device) → Naming → MakeCommand → ℕ → ℕ → (List ℕ → Option (List ℕ)) → Result K Fault → Lent Sink → Type 0
+MakesCommand device naming command time align files result out = MakesCommandBetween device naming command time align files result out.entry.now out.exit.now
 
 -- Files that are complete and honest lack what a fault says: a name, or the source. They lack no payload.
 abbrev pub LacksPayload : (List ℕ → Option (List ℕ)) → List ℕ → Fault → Type 0
@@ -101,17 +102,17 @@ abbrev pub LeavesRoom : {K : Type 0} → (K → Device) → Bool → MakeCommand
 LeavesRoom device honest command result room = LeavesRoomBetween device honest command result room.entry.now room.exit.now
 
 -- What a making did to a room, whatever its answer: to list parts takes no memory, and to list a FIT image that for its nodes.
-abbrev pub HoldsCommandBetween : MakeCommand → ℕ → (List ℕ → Option (List ℕ)) → (old new : Held) → Type 0
-HoldsCommandBetween (Parts options names) time files old new = new ≡ record old { entries = [] }
-HoldsCommandBetween (Tree source placement) time files old new = HoldsSource files source.items time placement old new
+abbrev pub HoldsCommandBetween : MakeCommand → ℕ → ℕ → (List ℕ → Option (List ℕ)) → (old new : Held) → Type 0
+HoldsCommandBetween (Parts options names) time align files old new = new ≡ record old { entries = [] }
+HoldsCommandBetween (Tree source placement) time align files old new = HoldsSource files source.items time (aligned_by placement align) old new
 
-abbrev pub HoldsCommand : MakeCommand → ℕ → (List ℕ → Option (List ℕ)) → Lent Held → Type 0
-HoldsCommand command time files room = HoldsCommandBetween command time files room.entry.now room.exit.now
+abbrev pub HoldsCommand : MakeCommand → ℕ → ℕ → (List ℕ → Option (List ℕ)) → Lent Held → Type 0
+HoldsCommand command time align files room = HoldsCommandBetween command time align files room.entry.now room.exit.now
 
 -- the listing of an image that was made, by a set of names
 abbrev pub listing_of : Naming → MakeCommand → List ℕ → Outcome Fault
-listing_of naming (Parts options files) file = outcome_in false (Action.List naming) file
-listing_of naming (Tree source placement) file = outcome_of (record { action = Action.List naming; format = Format.Guess }) file
+listing_of naming (Parts options files) file = outcome_in naming false Action.List file
+listing_of naming (Tree source placement) file = outcome_of naming (record { action = Action.List; form = Form.Guess }) file
 
 -- what that listing did to a room
 abbrev pub TakesListing : MakeCommand → Device → Bool → (old new : Held) → Type 0

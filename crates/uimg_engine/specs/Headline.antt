@@ -23,12 +23,12 @@ use Rattle.uimg_legacy.specs.Extraction as legacy_extraction
 use Rattle.uimg_legacy.specs.Work as legacy
 use Rattle.uimg_engine.specs.declared.fault.Fault.{Fault}
 use Rattle.uimg_engine.specs.declared.fault.Fault.TheVariants.{Legacy}
-use Rattle.uimg_names.specs.declared.naming.Naming.TheVariants.{Profile}
+use Rattle.uimg_names.specs.declared.naming.Naming.{Naming}
 use Rattle.uimg_requests.specs.declared.command.Action.{Action}
 use Rattle.uimg_requests.specs.declared.command.Action.TheVariants as action
 use Rattle.uimg_requests.specs.declared.command.Command.{Command}
-use Rattle.uimg_requests.specs.declared.command.Format.{Format}
-use Rattle.uimg_requests.specs.declared.command.Format.TheVariants as format
+use Rattle.uimg_requests.specs.declared.command.Form.{Form}
+use Rattle.uimg_requests.specs.declared.command.Form.TheVariants as form
 use Rattle.uimg_engine.specs.Faults.{end_of, of_fit, is_read, is_put, is_no_memory, is_refused, is_of_making}
 
 -- the file begins with the magic number of a devicetree blob (Devicetree Specification, section 5.2)
@@ -36,10 +36,10 @@ unfoldable pub begins_as_blob : List ℕ → Bool
 begins_as_blob file = if nat_lt (length file) 4 then false else be32 file 0 == 0xd00dfeed
 
 -- The file is read as a FIT image: that is asked for, or its first bytes tell it. Any other file is read as a legacy image.
-abbrev pub is_fit : Format → List ℕ → Bool
-is_fit format.Guess file = begins_as_blob file
-is_fit format.Legacy file = false
-is_fit format.Fit file = true
+abbrev pub is_fit : Form → List ℕ → Bool
+is_fit form.Guess file = begins_as_blob file
+is_fit form.Legacy file = false
+is_fit form.Fit file = true
 
 -- an outcome whose fault is told in another way
 abbrev pub end_as : {F : Type 0} → (F → Fault) → End F → End Fault
@@ -51,32 +51,32 @@ abbrev pub outcome_as : {F : Type 0} → (F → Fault) → Outcome F → Outcome
 outcome_as name o = record { text = o.text; end = end_as name o.end }
 
 -- the outcome of an action on a legacy image: its listing by a set of names, its report, or its part at a position
-abbrev pub legacy_outcome : Action → List ℕ → Outcome LegacyFault
-legacy_outcome (action.List naming) file = legacy_listing.list_of naming file
-legacy_outcome action.Verify file = legacy_report.verify_of file
-legacy_outcome (action.Extract position) file = legacy_extraction.extract_of file position
+abbrev pub legacy_outcome : Naming → Action → List ℕ → Outcome LegacyFault
+legacy_outcome naming action.List file = legacy_listing.list_of naming file
+legacy_outcome naming action.Verify file = legacy_report.verify_of file
+legacy_outcome naming (action.Extract position) file = legacy_extraction.extract_of file position
 
 -- the outcome of an action on a FIT image: its listing by a set of names, its report, or the payload of its image at a position
-abbrev pub fit_outcome : Action → List ℕ → Outcome FitEngineFault
-fit_outcome (action.List naming) file = fit_listing.list_of naming file
-fit_outcome action.Verify file = fit_report.verify_of file
-fit_outcome (action.Extract position) file = fit_extraction.extract_of file position
+abbrev pub fit_outcome : Naming → Action → List ℕ → Outcome FitEngineFault
+fit_outcome naming action.List file = fit_listing.list_of naming file
+fit_outcome naming action.Verify file = fit_report.verify_of file
+fit_outcome naming (action.Extract position) file = fit_extraction.extract_of file position
 
 -- the outcome of an action on a file that is read as a FIT image, or as a legacy image
-abbrev pub outcome_in : Bool → Action → List ℕ → Outcome Fault
-outcome_in true action file = outcome_as of_fit (fit_outcome action file)
-outcome_in false action file = outcome_as Legacy (legacy_outcome action file)
+abbrev pub outcome_in : Naming → Bool → Action → List ℕ → Outcome Fault
+outcome_in naming true action file = outcome_as of_fit (fit_outcome naming action file)
+outcome_in naming false action file = outcome_as Legacy (legacy_outcome naming action file)
 
--- the outcome of a command on a file
-abbrev pub outcome_of : Command → List ℕ → Outcome Fault
-outcome_of command file = outcome_in (is_fit command.format file) command.action file
+-- the outcome of a command on a file, a listing by a set of names
+abbrev pub outcome_of : Naming → Command → List ℕ → Outcome Fault
+outcome_of naming command file = outcome_in naming (is_fit command.form file) command.action file
 
 -- the most bytes that the engine of a format asks for
 abbrev pub work_in : Bool → Action → List ℕ → ℕ
-work_in true (action.List naming) file = fit.list_work file
+work_in true action.List file = fit.list_work file
 work_in true action.Verify file = fit.verify_work file
 work_in true (action.Extract position) file = fit.extract_work file position
-work_in false (action.List naming) file = legacy.list_work file
+work_in false action.List file = legacy.list_work file
 work_in false action.Verify file = legacy.verify_work file
 work_in false (action.Extract position) file = legacy.extract_work file position
 
@@ -84,11 +84,11 @@ work_in false (action.Extract position) file = legacy.extract_work file position
 -- that is `64 + 1024 * (nodes + properties) + 4 * (bytes of texts + NOPs)` for a FIT image, each counted as it is met, and
 -- `64 + 16 * (sizes + 1)` for a legacy image.
 abbrev pub work : Command → List ℕ → ℕ
-work command file = 4 + work_in (is_fit command.format file) command.action file
+work command file = 4 + work_in (is_fit command.form file) command.action file
 
 -- the most bytes that a listing asks for
-abbrev pub listing_work : Format → List ℕ → ℕ
-listing_work format file = work (record { action = action.List Profile; format = format }) file
+abbrev pub listing_work : Form → List ℕ → ℕ
+listing_work form file = work (record { action = action.List; form = form }) file
 
 -- how many entries a command's table has at most: one for each node of a FIT image, none for a legacy image
 abbrev pub nodes_in : Bool → List ℕ → ℕ
@@ -96,31 +96,31 @@ nodes_in true file = nodes_met file
 nodes_in false file = 0
 
 abbrev pub nodes_of : Command → List ℕ → ℕ
-nodes_of command file = nodes_in (is_fit command.format file) file
+nodes_of command file = nodes_in (is_fit command.form file) file
 
 -- An extraction asked for at most its work without the payload, the bytes that it wrote, and a window of 8192 more.
 -- Of other actions this says nothing.
 abbrev pub ExtractsAheadBetween : ℕ → Action → Outcome Fault → (old new : Device) → Sink → Sink → Type 0
-ExtractsAheadBetween most (action.List naming) o old new s t = ⊤
+ExtractsAheadBetween most action.List o old new s t = ⊤
 ExtractsAheadBetween most action.Verify o old new s t = ⊤
 ExtractsAheadBetween most (action.Extract position) o old new s t = ReadsAhead most old new s t o.text
 
-abbrev pub ExtractsAhead : {S : Type 0} → Command → (S → Device) → Lent S → Lent Sink → Type 0
-ExtractsAhead command device source out = ExtractsAheadBetween
-    (listing_work command.format (device source.entry.now).bytes) command.action
-    (outcome_of command (device source.entry.now).bytes)
+abbrev pub ExtractsAhead : {S : Type 0} → Naming → Command → (S → Device) → Lent S → Lent Sink → Type 0
+ExtractsAhead naming command device source out = ExtractsAheadBetween
+    (listing_work command.form (device source.entry.now).bytes) command.action
+    (outcome_of naming command (device source.entry.now).bytes)
     (device source.entry.now) (device source.exit.now) out.entry.now out.exit.now
 
 -- An extraction that is refused has written nothing. Of other actions and answers this says nothing.
 abbrev pub KeepsOutput : Action → Bool → (old new : Sink) → Type 0
-KeepsOutput (action.List naming) is_refused old new = ⊤
+KeepsOutput action.List is_refused old new = ⊤
 KeepsOutput action.Verify is_refused old new = ⊤
 KeepsOutput (action.Extract position) true old new = new ≡ old
 KeepsOutput (action.Extract position) false old new = ⊤
 
 -- An extraction that is refused has written nothing to a text that was empty. Of other actions and answers this says nothing.
 abbrev pub WritesNone : Action → Bool → List ℕ → Type 0
-WritesNone (action.List naming) is_refused text = ⊤
+WritesNone action.List is_refused text = ⊤
 WritesNone action.Verify is_refused text = ⊤
 WritesNone (action.Extract position) true text = text ≡ []
 WritesNone (action.Extract position) false text = ⊤
@@ -163,14 +163,14 @@ GrowthsSucceedBetween true old new = Stays old.refused new.refused
 GrowthsSucceedBetween false old new = ⊤
 
 abbrev pub GrowthsSucceed : {S : Type 0} → Command → (S → Device) → Lent S → Lent Held → Type 0
-GrowthsSucceed command device source room = GrowthsSucceedBetween (is_fit command.format (device source.entry.now).bytes)
+GrowthsSucceed command device source room = GrowthsSucceedBetween (is_fit command.form (device source.entry.now).bytes)
     room.entry.now room.exit.now
 
 -- The file is surely read as a legacy image: that is asked for, or the bytes of an honest source tell it.
-abbrev pub IsLegacy : Format → Device → Type 0
-IsLegacy format.Guess source = IsTrue source.honest × (begins_as_blob source.bytes ≡ false)
-IsLegacy format.Legacy source = ⊤
-IsLegacy format.Fit source = ⊥
+abbrev pub IsLegacy : Form → Device → Type 0
+IsLegacy form.Guess source = IsTrue source.honest × (begins_as_blob source.bytes ≡ false)
+IsLegacy form.Legacy source = ⊤
+IsLegacy form.Fit source = ⊥
 
 -- What a command does to a room: it takes memory for a table of nodes, or none.
 abbrev pub Takes : Bool → Device → Bool → (old new : Held) → Type 0
@@ -178,12 +178,12 @@ Takes true source no_memory old new = TakesNodes source no_memory old new
 Takes false source no_memory old new = (new ≡ record old { entries = [] }) × (no_memory ≡ false)
 
 -- What the engine of a format did at any exit: what it asked for and took, what it wrote of the outcome, and which failures it counted.
-pub record CarriesOutBetween (fit : Bool) (what : Action) (result : Result Status Fault) (d e : Device) (old new : Held) (s t : Sink) : Type 0 where
+pub record CarriesOutBetween (naming : Naming) (fit : Bool) (what : Action) (result : Result Status Fault) (d e : Device) (old new : Held) (s t : Sink) : Type 0 where
   -- the source is unchanged; `Read` is returned exactly if its failures rose
   pub uses : UsesAtMost (work_in fit what d.bytes) (is_read result) d e
   pub room : Takes fit d (is_no_memory result) old new
   -- of an extraction
-  pub ahead : IsTrue d.honest → ExtractsAheadBetween (work_in fit (action.List Profile) d.bytes) what (outcome_in fit what d.bytes) d e s t
+  pub ahead : IsTrue d.honest → ExtractsAheadBetween (work_in fit action.List d.bytes) what (outcome_in naming fit what d.bytes) d e s t
   -- an extraction that is refused wrote nothing, over any source
   pub untouched : KeepsOutput what (is_refused result) s t
   -- `Put` is returned exactly if the faults of the output rose
@@ -191,25 +191,25 @@ pub record CarriesOutBetween (fit : Bool) (what : Action) (result : Result Statu
   -- a fault that only a making has is never returned
   pub not_making : is_of_making result ≡ false
   -- the outcome at its end, or a prefix of its text where a call failed
-  pub told : IsTrue d.honest → Tells (end_of result) (outcome_in fit what d.bytes) s t
+  pub told : IsTrue d.honest → Tells (end_of result) (outcome_in naming fit what d.bytes) s t
 
-abbrev pub CarriesOut : {S : Type 0} → Bool → Action → Result Status Fault → (S → Device) → Lent S → Lent Held → Lent Sink → Type 0
-CarriesOut fit what result device source room out = CarriesOutBetween fit what result
+abbrev pub CarriesOut : {S : Type 0} → Naming → Bool → Action → Result Status Fault → (S → Device) → Lent S → Lent Held → Lent Sink → Type 0
+CarriesOut naming fit what result device source room out = CarriesOutBetween naming fit what result
     (device source.entry.now) (device source.exit.now) room.entry.now room.exit.now out.entry.now out.exit.now
 
 -- The same of a command, whose format it names or the file's first bytes tell.
-pub record RunsBetween (command : Command) (result : Result Status Fault) (d e : Device) (old new : Held) (s t : Sink) : Type 0 where
+pub record RunsBetween (naming : Naming) (command : Command) (result : Result Status Fault) (d e : Device) (old new : Held) (s t : Sink) : Type 0 where
   pub uses : UsesAtMost (work command d.bytes) (is_read result) d e
   pub room : TakesNodes d (is_no_memory result) old new
-  pub legacy : IsLegacy command.format d → Takes false d (is_no_memory result) old new
-  pub ahead : IsTrue d.honest → ExtractsAheadBetween (listing_work command.format d.bytes) command.action (outcome_of command d.bytes) d e s t
+  pub legacy : IsLegacy command.form d → Takes false d (is_no_memory result) old new
+  pub ahead : IsTrue d.honest → ExtractsAheadBetween (listing_work command.form d.bytes) command.action (outcome_of naming command d.bytes) d e s t
   pub untouched : KeepsOutput command.action (is_refused result) s t
   pub faults : RisesIf (is_put result) s.faults t.faults
   pub not_making : is_of_making result ≡ false
-  pub told : IsTrue d.honest → Tells (end_of result) (outcome_of command d.bytes) s t
+  pub told : IsTrue d.honest → Tells (end_of result) (outcome_of naming command d.bytes) s t
 
-abbrev pub Runs : {S : Type 0} → Command → Result Status Fault → (S → Device) → Lent S → Lent Held → Lent Sink → Type 0
-Runs command result device source room out = RunsBetween command result
+abbrev pub Runs : {S : Type 0} → Naming → Command → Result Status Fault → (S → Device) → Lent S → Lent Held → Lent Sink → Type 0
+Runs naming command result device source room out = RunsBetween naming command result
     (device source.entry.now) (device source.exit.now) room.entry.now room.exit.now out.entry.now out.exit.now
 
 -- the answer is the outcome's end, and exactly its text was appended
@@ -226,21 +226,21 @@ WritesPrefix outcome device source out = AppendsPrefix out.entry.now out.exit.no
 
 -- What a call that only reads an image did, whatever it answers: it asked for at most so many bytes, and took memory for the
 -- nodes of a FIT image alone, and none for a legacy image. Neither a failed write nor a fault of a making is answered.
-pub record OnlyReadsBetween {X : Type 0} (format : Format) (most : ℕ) (result : Result X Fault) (d e : Device) (old new : Held) : Type 0 where
+pub record OnlyReadsBetween {X : Type 0} (form : Form) (most : ℕ) (result : Result X Fault) (d e : Device) (old new : Held) : Type 0 where
   -- the source is unchanged; `Read` is returned exactly if its failures rose
   pub uses : UsesAtMost most (is_read result) d e
   -- `OutOfMemory` of the blob is returned exactly if the refusals of the room rose
   pub room : TakesNodes d (is_no_memory result) old new
   -- none is taken for a legacy image
-  pub legacy : IsLegacy format d → Takes false d (is_no_memory result) old new
+  pub legacy : IsLegacy form d → Takes false d (is_no_memory result) old new
   -- `Put` is never returned
   pub no_put : is_put result ≡ false
   -- a fault that only a making has is never returned
   pub not_making : is_of_making result ≡ false
 
 -- .. as many bytes as this work of the source's
-abbrev pub OnlyReads : {S X : Type 0} → Format → (List ℕ → ℕ) → Result X Fault → (S → Device) → Lent S → Lent Held → Type 0
-OnlyReads format work result device source room = OnlyReadsBetween format (work (device source.entry.now).bytes) result
+abbrev pub OnlyReads : {S X : Type 0} → Form → (List ℕ → ℕ) → Result X Fault → (S → Device) → Lent S → Lent Held → Type 0
+OnlyReads form work result device source room = OnlyReadsBetween form (work (device source.entry.now).bytes) result
     (device source.entry.now) (device source.exit.now) room.entry.now room.exit.now
 
 -- What a call on the bytes of an image in memory did: no more memory was taken than for its nodes, and a refusal was counted
@@ -255,8 +255,8 @@ pub record InMemoryBetween {X : Type 0} (nodes : ℕ) (result : Result X Fault) 
   -- 8192 bytes, and 128 for each node
   pub peak : new.peak ≤ max old.peak (held_bytes nodes)
 
-abbrev pub InMemory : {X : Type 0} → Format → List ℕ → Result X Fault → Lent Held → Type 0
-InMemory format file result room = InMemoryBetween (nodes_in (is_fit format file) file) result room.entry.now room.exit.now
+abbrev pub InMemory : {X : Type 0} → Form → List ℕ → Result X Fault → Lent Held → Type 0
+InMemory form file result room = InMemoryBetween (nodes_in (is_fit form file) file) result room.entry.now room.exit.now
 
 -- No memory was taken, and none was refused: the room was only cleared.
 abbrev pub TakesNone : {X : Type 0} → Result X Fault → Lent Held → Type 0

@@ -9,7 +9,7 @@ use Rattle.uimg_base.specs.Using.{UsesAtMost}
 use Rattle.uimg_base.specs.declared.spans.Span.{Span}
 use Rattle.uimg_names.specs.declared.naming.Naming.TheVariants.{Profile}
 use Rattle.uimg_requests.specs.declared.command.Action.TheVariants as action
-use Rattle.uimg_requests.specs.declared.command.Format.{Format}
+use Rattle.uimg_requests.specs.declared.command.Form.{Form}
 use Rattle.uimg_engine.specs.declared.fault.Fault.{Fault}
 use Rattle.uimg_engine.specs.Faults.{is_read, is_put, is_no_memory, is_of_making, end_of}
 use Rattle.uimg_engine.specs.Headline.{outcome_in, outcome_of, work_in, Takes}
@@ -26,9 +26,9 @@ pub record TellsSpan (file : List ℕ) (o : Outcome Fault) (result : Result Span
   -- just the bytes that the extraction writes
   pub text : IfOk result (λ span. o.text ≡ slice file span.place span.length)
 
--- .. the extraction from a position
-abbrev pub FindsSpan : Format → ℕ → List ℕ → Result Span Fault → Type 0
-FindsSpan format position file result = TellsSpan file (outcome_of (record { action = action.Extract position; format = format }) file) result
+-- .. the extraction from a position, which names nothing
+abbrev pub FindsSpan : Form → ℕ → List ℕ → Result Span Fault → Type 0
+FindsSpan form position file result = TellsSpan file (outcome_of Profile (record { action = action.Extract position; form = form }) file) result
 
 -- a span ends in the file
 abbrev pub StandsIn : List ℕ → Span → Type 0
@@ -36,12 +36,12 @@ StandsIn file span = span.place + span.length ≤ length file
 
 -- What the engine of a format did at any exit: it asked for no more than for a listing, and wrote nothing.
 pub record LocatesBetween (fit : Bool) (position : ℕ) (result : Result Span Fault) (d e : Device) (old new : Held) : Type 0 where
-  pub uses : UsesAtMost (work_in fit (action.List Profile) d.bytes) (is_read result) d e
+  pub uses : UsesAtMost (work_in fit action.List d.bytes) (is_read result) d e
   pub room : Takes fit d (is_no_memory result) old new
   pub no_put : is_put result ≡ false
   pub not_making : is_of_making result ≡ false
   pub inside : IfOk result (StandsIn d.bytes)
-  pub told : IsTrue d.honest → TellsSpan d.bytes (outcome_in fit (action.Extract position) d.bytes) result
+  pub told : IsTrue d.honest → TellsSpan d.bytes (outcome_in Profile fit (action.Extract position) d.bytes) result
 
 abbrev pub Locates : {S : Type 0} → Bool → ℕ → Result Span Fault → (S → Device) → Lent S → Lent Held → Type 0
 Locates fit position result device source room = LocatesBetween fit position result

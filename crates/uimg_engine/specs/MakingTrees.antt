@@ -24,7 +24,7 @@ use Rattle.uimg_fit_building.specs.Refusing.{fill_of}
 use Rattle.uimg_fit_base.specs.declared.fault.Fault.{Fault as FitEngineFault}
 use Rattle.uimg_fit_base.specs.declared.fault.Fault.TheVariants as fit
 use Rattle.uimg_fit_base.specs.declared.fault.FitFault.{FitFault}
-use Rattle.uimg_fit_base.specs.declared.placement.Placement.{Placement}
+use Rattle.uimg_fit_base.specs.declared.placement.AlignedPlacement.{AlignedPlacement}
 use Rattle.uimg_names.specs.declared.naming.Naming.{Naming}
 use Rattle.uimg_engine.specs.declared.fault.Fault.{Fault}
 use Rattle.uimg_engine.specs.declared.fault.Fault.TheVariants.{Legacy, Blob, Fit, Its, Read, Put, NoFile, Keep, OutOfMemory}
@@ -62,18 +62,18 @@ pub record FillsSource (files : List ℕ → Option (List ℕ)) (source : List �
   pub kept : AreKept files u
 
 -- What the answer of a building says of the filled tree.
-pub record BuildsFilled {X : Type 0} (files : List ℕ → Option (List ℕ)) (source : List ℕ) (time : ℕ) (placement : Placement) (result : Result X FitEngineFault) (s t : Sink) : Type 0 where
+pub record BuildsFilled {X : Type 0} (files : List ℕ → Option (List ℕ)) (source : List ℕ) (time : ℕ) (placement : AlignedPlacement) (result : Result X FitEngineFault) (s t : Sink) : Type 0 where
   pub tree : Nodes
   pub fills : FillsTree files source time tree
   pub builds : BuildsAnswer tree placement result s t
 
 -- The filled tree can be built.
-pub record AcceptsTree (files : List ℕ → Option (List ℕ)) (source : List ℕ) (time : ℕ) (placement : Placement) (tree : Nodes) : Type 0 where
+pub record AcceptsTree (files : List ℕ → Option (List ℕ)) (source : List ℕ) (time : ℕ) (placement : AlignedPlacement) (tree : Nodes) : Type 0 where
   pub fills : FillsTree files source time tree
   pub accepted : CanBuild tree placement
 
 -- The image of the filled tree was appended, and reads back as such.
-pub record BuildsTree (files : List ℕ → Option (List ℕ)) (source : List ℕ) (time : ℕ) (placement : Placement) (s t : Sink) : Type 0 where
+pub record BuildsTree (files : List ℕ → Option (List ℕ)) (source : List ℕ) (time : ℕ) (placement : AlignedPlacement) (s t : Sink) : Type 0 where
   pub tree : Nodes
   pub accepts : AcceptsTree files source time placement tree
   pub written : AppendsAll s t (built tree placement)
@@ -81,12 +81,12 @@ pub record BuildsTree (files : List ℕ → Option (List ℕ)) (source : List �
 
 -- Why an image is refused for its images: the tree isn't filled, or what is filled isn't built (of which the fault alone says
 -- why, and nothing was appended).
-pub data StopsAtImages (files : List ℕ → Option (List ℕ)) (source : List ℕ) (time : ℕ) (placement : Placement) (fault : FitFault) (s t : Sink) : Type 0 where
+pub data StopsAtImages (files : List ℕ → Option (List ℕ)) (source : List ℕ) (time : ℕ) (placement : AlignedPlacement) (fault : FitFault) (s t : Sink) : Type 0 where
   unfilled : Unfilled files source time fault → t ≡ s → StopsAtImages files source time placement fault s t
   unbuilt : BuildsFilled {X = ⊤} files source time placement (Err (fit.Fit fault)) s t → StopsAtImages files source time placement fault s t
 
 -- Why a read failed in a building: the text isn't read, and nothing was appended, or a file isn't while the image is written.
-pub data StopsAtRead (files : List ℕ → Option (List ℕ)) (source : List ℕ) (time : ℕ) (placement : Placement) (s t : Sink) : Type 0 where
+pub data StopsAtRead (files : List ℕ → Option (List ℕ)) (source : List ℕ) (time : ℕ) (placement : AlignedPlacement) (s t : Sink) : Type 0 where
   before : IsSome (files source) → t ≡ s → StopsAtRead files source time placement s t
   unwritten : BuildsFilled {X = ⊤} files source time placement (Err fit.Read) s t → StopsAtRead files source time placement s t
 
@@ -110,7 +110,7 @@ ReadsTree view files source time (Err _) = ⊥
 
 -- What the answer of a building says of the source, and of what was appended: the image, or why not; where an open, a read
 -- or a write failed, a prefix of it.
-abbrev pub BuildsSource : {X : Type 0} → (List ℕ → Option (List ℕ)) → List ℕ → ℕ → Placement → Result X Fault → Sink → Sink → Type 0
+abbrev pub BuildsSource : {X : Type 0} → (List ℕ → Option (List ℕ)) → List ℕ → ℕ → AlignedPlacement → Result X Fault → Sink → Sink → Type 0
 BuildsSource files source time placement (Ok x) s t = BuildsTree files source time placement s t
 BuildsSource files source time placement (Err (Legacy fault)) s t = ⊥
 BuildsSource files source time placement (Err (Blob fault at)) s t = BuildsFilled {X = ⊤} files source time placement (Err (fit.Blob fault at)) s t
@@ -124,7 +124,7 @@ BuildsSource files source time placement (Err OutOfMemory) s t = ⊤
 
 -- What is kept is the image of the filled tree, reads back as such, and is told as a FIT image by its first bytes; its listing
 -- ends well.
-pub record KeepsTree (files : List ℕ → Option (List ℕ)) (source : List ℕ) (time : ℕ) (placement : Placement) (kept : Device) : Type 0 where
+pub record KeepsTree (files : List ℕ → Option (List ℕ)) (source : List ℕ) (time : ℕ) (placement : AlignedPlacement) (kept : Device) : Type 0 where
   pub tree : Nodes
   -- the source spells a tree, this is that tree filled, and it can be built
   pub accepts : AcceptsTree files source time placement tree
@@ -136,29 +136,29 @@ pub record KeepsTree (files : List ℕ → Option (List ℕ)) (source : List ℕ
   pub done : (naming : Naming) → (list_of naming (built tree placement)).end ≡ done
 
 -- The image of the filled tree is kept, and its whole listing was appended.
-pub record MakesTree (naming : Naming) (files : List ℕ → Option (List ℕ)) (source : List ℕ) (time : ℕ) (placement : Placement) (kept : Device) (s t : Sink) : Type 0 where
+pub record MakesTree (naming : Naming) (files : List ℕ → Option (List ℕ)) (source : List ℕ) (time : ℕ) (placement : AlignedPlacement) (kept : Device) (s t : Sink) : Type 0 where
   pub keeps : KeepsTree files source time placement kept
   -- exactly its listing was appended
   pub listed : AppendsAll s t (list_of naming (built keeps.tree placement)).text
 
 -- A prefix of the listing of the image of the filled tree was appended.
-pub record BreaksTree (naming : Naming) (files : List ℕ → Option (List ℕ)) (source : List ℕ) (time : ℕ) (placement : Placement) (s t : Sink) : Type 0 where
+pub record BreaksTree (naming : Naming) (files : List ℕ → Option (List ℕ)) (source : List ℕ) (time : ℕ) (placement : AlignedPlacement) (s t : Sink) : Type 0 where
   pub tree : Nodes
   pub accepts : AcceptsTree files source time placement tree
   pub prefix : AppendsPrefix s t (list_of naming (built tree placement)).text
 
 -- Why a blob is refused: a name of the filled tree is bad, or memory for the table of the nodes was refused in the listing.
-pub data StopsAtBlob (naming : Naming) (files : List ℕ → Option (List ℕ)) (source : List ℕ) (time : ℕ) (placement : Placement) (fault : BlobFault) (at : ℕ) (s t : Sink) : Type 0 where
+pub data StopsAtBlob (naming : Naming) (files : List ℕ → Option (List ℕ)) (source : List ℕ) (time : ℕ) (placement : AlignedPlacement) (fault : BlobFault) (at : ℕ) (s t : Sink) : Type 0 where
   unnamed : BuildsFilled {X = ⊤} files source time placement (Err (fit.Blob fault at)) s t → t ≡ s → StopsAtBlob naming files source time placement fault at s t
   no_table : IsTrue (refuses_memory fault) → BreaksTree naming files source time placement s t → StopsAtBlob naming files source time placement fault at s t
 
 -- Why a read failed in a making: the text isn't read, and nothing was listed, or a file, or what was kept in the listing.
-pub data StopsReading (naming : Naming) (files : List ℕ → Option (List ℕ)) (source : List ℕ) (time : ℕ) (placement : Placement) (s t : Sink) : Type 0 where
+pub data StopsReading (naming : Naming) (files : List ℕ → Option (List ℕ)) (source : List ℕ) (time : ℕ) (placement : AlignedPlacement) (s t : Sink) : Type 0 where
   unread : IsSome (files source) → t ≡ s → StopsReading naming files source time placement s t
   unlisted : BreaksTree naming files source time placement s t → StopsReading naming files source time placement s t
 
 -- what the fault of a making says of the source, and of what was listed
-abbrev pub StopsSource : Naming → (List ℕ → Option (List ℕ)) → List ℕ → ℕ → Placement → Fault → Sink → Sink → Type 0
+abbrev pub StopsSource : Naming → (List ℕ → Option (List ℕ)) → List ℕ → ℕ → AlignedPlacement → Fault → Sink → Sink → Type 0
 StopsSource naming files source time placement (Legacy fault) s t = ⊥
 StopsSource naming files source time placement (Blob fault at) s t = StopsAtBlob naming files source time placement fault at s t
 StopsSource naming files source time placement (Fit fault) s t = StopsAtImages files source time placement fault s t × (t ≡ s)
@@ -170,18 +170,18 @@ StopsSource naming files source time placement Keep s t = ((tree : Nodes) × Acc
 StopsSource naming files source time placement OutOfMemory s t = t ≡ s
 
 -- An answer is the kept image with its listing appended, or the fault of a making.
-abbrev pub MakesSource : {K : Type 0} → (K → Device) → Naming → (List ℕ → Option (List ℕ)) → List ℕ → ℕ → Placement → Result K Fault → Sink → Sink → Type 0
+abbrev pub MakesSource : {K : Type 0} → (K → Device) → Naming → (List ℕ → Option (List ℕ)) → List ℕ → ℕ → AlignedPlacement → Result K Fault → Sink → Sink → Type 0
 MakesSource device naming files source time placement (Ok kept) s t = MakesTree naming files source time placement (device kept) s t
 MakesSource device naming files source time placement (Err fault) s t = StopsSource naming files source time placement fault s t
 
 -- A room took no more memory than for the nodes of the image of the filled tree.
-pub record HoldsNodes (files : List ℕ → Option (List ℕ)) (source : List ℕ) (time : ℕ) (placement : Placement) (old new : Held) : Type 0 where
+pub record HoldsNodes (files : List ℕ → Option (List ℕ)) (source : List ℕ) (time : ℕ) (placement : AlignedPlacement) (old new : Held) : Type 0 where
   pub tree : Nodes
   pub accepts : AcceptsTree files source time placement tree
   pub peak : new.peak ≤ max old.peak (held_bytes (nodes_met (built tree placement)))
 
 -- What the making of an image did to a room, whatever its answer: it cleared it and did nothing else, or it took memory for the
 -- nodes of an image that can be built.
-pub data HoldsSource (files : List ℕ → Option (List ℕ)) (source : List ℕ) (time : ℕ) (placement : Placement) (old new : Held) : Type 0 where
+pub data HoldsSource (files : List ℕ → Option (List ℕ)) (source : List ℕ) (time : ℕ) (placement : AlignedPlacement) (old new : Held) : Type 0 where
   only_cleared : new ≡ record old { entries = [] } → HoldsSource files source time placement old new
   for_nodes : HoldsNodes files source time placement old new → HoldsSource files source time placement old new

@@ -11,19 +11,21 @@ use crate::formats::is_fit;
 use std::alloc::Allocator;
 use std::io::Write;
 use uimg_base::{Out, Room, Source, Status};
+use uimg_names::Naming;
 use uimg_requests::{Action, Command};
 
 // The action by the engine of legacy images.
 pub(crate) fn run_legacy<S: Source, A: Allocator, W: Write>(
+    naming: Naming,
     action: Action,
     source: &mut S,
     room: &mut Room<A>,
     out: &mut Out<W>,
 ) -> Result<Status, Fault>
-    ensures { CarriesOut false action result S.device source room out }
+    ensures { CarriesOut naming false action result S.device source room out }
 {
     let status = match action {
-        Action::List(naming) => uimg_legacy::list(source, room, naming, out)?,
+        Action::List => uimg_legacy::list_by(source, room, naming, out)?,
         Action::Verify => uimg_legacy::verify(source, room, out)?,
         Action::Extract(position) => uimg_legacy::extract(position, source, room, out)?,
     };
@@ -32,15 +34,16 @@ pub(crate) fn run_legacy<S: Source, A: Allocator, W: Write>(
 
 // The action by the engine of FIT images.
 fn run_fit<S: Source, A: Allocator, W: Write>(
+    naming: Naming,
     action: Action,
     source: &mut S,
     room: &mut Room<A>,
     out: &mut Out<W>,
 ) -> Result<Status, Fault>
-    ensures { CarriesOut true action result S.device source room out }
+    ensures { CarriesOut naming true action result S.device source room out }
 {
     let status = match action {
-        Action::List(naming) => uimg_fit_reading::list(source, room, naming, out)?,
+        Action::List => uimg_fit_reading::list_by(source, room, naming, out)?,
         Action::Verify => uimg_fit_reading::verify(source, room, out)?,
         Action::Extract(position) => uimg_fit_reading::extract(position, source, room, out)?,
     };
@@ -49,23 +52,24 @@ fn run_fit<S: Source, A: Allocator, W: Write>(
 
 // The command by the engine of the format that the file is read as.
 pub(crate) fn run_by_format<S: Source, A: Allocator, W: Write>(
+    naming: Naming,
     command: &Command,
     source: &mut S,
     room: &mut Room<A>,
     out: &mut Out<W>,
 ) -> Result<Status, Fault>
-    ensures { Runs command.now result S.device source room out }
+    ensures { Runs naming command.now result S.device source room out }
 {
     room.clear();
-    if is_fit(command.format, source)? {
-        run_fit(command.action, source, room, out)
+    if is_fit(command.form, source)? {
+        run_fit(naming, command.action, source, room, out)
     } else {
-        run_legacy(command.action, source, room, out)
+        run_legacy(naming, command.action, source, room, out)
     }
 }
 
-/// Carries out a command on an image: writes its listing, its verification report, one part of a
-/// legacy image or one payload of a FIT image to `out`, and answers the status.
+/// Carries out a command on an image: writes its listing, by the names of the profile, its verification
+/// report, one part of a legacy image or one payload of a FIT image to `out`, and answers the status.
 ///
 /// Over an honest source, one that answers its bytes, a room that grows where a FIT image needs it,
 /// and a writer that takes what it is given, exactly the outcome of the command is written and
@@ -84,9 +88,9 @@ pub fn run<S: Source, A: Allocator, W: Write>(
 ) -> Result<Status, Fault>
     ensures headline { HonestSource S.device source → NoReadFails S.device source →
         NoWriteFails out → GrowthsSucceed command.now S.device source room →
-        Meets (outcome_of command.now) result S.device source out }
+        Meets (outcome_of Naming.Profile command.now) result S.device source out }
     ensures prefix { HonestSource S.device source →
-        WritesPrefix (outcome_of command.now) S.device source out }
+        WritesPrefix (outcome_of Naming.Profile command.now) S.device source out }
     ensures read { ExactlyIfRose (result ≡ Err Fault.Read)
         (S.device source.old).failures (S.device source.new).failures }
     ensures put { ExactlyIfRose (result ≡ Err Fault.Put) out.old.faults out.new.faults }
@@ -94,13 +98,46 @@ pub fn run<S: Source, A: Allocator, W: Write>(
         room.old.refused room.new.refused }
     ensures not_making { is_of_making result ≡ false }
     ensures asked { HonestSource S.device source → AsksAtMost (work command.now) S.device source }
-    ensures ahead { HonestSource S.device source → ExtractsAhead command.now S.device source out }
+    ensures ahead { HonestSource S.device source →
+        ExtractsAhead Naming.Profile command.now S.device source out }
     ensures untouched { KeepsOutput command.now.action (is_refused result) out.old out.new }
     ensures peak { HonestSource S.device source →
         PeaksAtMost (held_bytes (nodes_of command.now (S.device source.old).bytes)) room }
     ensures most { PeaksAtMost (8320 + 16 * length (S.device source.old).bytes) room }
-    ensures legacy { IsLegacy command.now.format (S.device source.old) → OnlyClears room }
+    ensures legacy { IsLegacy command.now.form (S.device source.old) → OnlyClears room }
     ensures same { SameDevice (S.device source.old) (S.device source.new) }
 {
-    run_by_format(command, source, room, out)
+    run_by(Naming::Profile, command, source, room, out)
+}
+
+/// Carries out a command on an image as `run` does, a listing by a set of names.
+pub fn run_by<S: Source, A: Allocator, W: Write>(
+    naming: Naming,
+    command: &Command,
+    source: &mut S,
+    room: &mut Room<A>,
+    out: &mut Out<W>,
+) -> Result<Status, Fault>
+    ensures headline { HonestSource S.device source → NoReadFails S.device source →
+        NoWriteFails out → GrowthsSucceed command.now S.device source room →
+        Meets (outcome_of naming command.now) result S.device source out }
+    ensures prefix { HonestSource S.device source →
+        WritesPrefix (outcome_of naming command.now) S.device source out }
+    ensures read { ExactlyIfRose (result ≡ Err Fault.Read)
+        (S.device source.old).failures (S.device source.new).failures }
+    ensures put { ExactlyIfRose (result ≡ Err Fault.Put) out.old.faults out.new.faults }
+    ensures no_memory { ExactlyIfRose (is_no_memory result ≡ true)
+        room.old.refused room.new.refused }
+    ensures not_making { is_of_making result ≡ false }
+    ensures asked { HonestSource S.device source → AsksAtMost (work command.now) S.device source }
+    ensures ahead { HonestSource S.device source →
+        ExtractsAhead naming command.now S.device source out }
+    ensures untouched { KeepsOutput command.now.action (is_refused result) out.old out.new }
+    ensures peak { HonestSource S.device source →
+        PeaksAtMost (held_bytes (nodes_of command.now (S.device source.old).bytes)) room }
+    ensures most { PeaksAtMost (8320 + 16 * length (S.device source.old).bytes) room }
+    ensures legacy { IsLegacy command.now.form (S.device source.old) → OnlyClears room }
+    ensures same { SameDevice (S.device source.old) (S.device source.new) }
+{
+    run_by_format(naming, command, source, room, out)
 }

@@ -6,7 +6,7 @@ ghost use Rattle.uimg_engine.specs.Headline.{begins_as_blob, is_fit, HonestSourc
 
 use uimg_base::{Source, SourceFault, number_at};
 use uimg_blob::BLOB_MAGIC;
-use uimg_requests::Format;
+use uimg_requests::Form;
 
 // Whether a file begins as a blob does.
 #[tactic(auto, unfolding(crate::specs::Headline::begins_as_blob, uimg_texts::specs::Numbers::be32))]
@@ -25,15 +25,15 @@ fn begins_as_blob<S: Source>(source: &mut S) -> Result<bool, SourceFault>
 
 /// Whether a file is read as a FIT image: where that is asked for, or its first four bytes tell it, which
 /// are those of a blob. `SourceFault` comes exactly where a read failed.
-pub fn is_fit<S: Source>(format: Format, source: &mut S) -> Result<bool, SourceFault>
+pub fn is_fit<S: Source>(form: Form, source: &mut S) -> Result<bool, SourceFault>
     ensures uses { Asks 4 (is_err result) (S.device source.old) (S.device source.new) }
-    ensures asked_for { format ≡ Format.Legacy → IfOk result (λ fit. fit ≡ false) }
+    ensures asked_for { form ≡ Form.Legacy → IfOk result (λ fit. fit ≡ false) }
     ensures told { HonestSource S.device source →
-        IfOk result (λ fit. fit ≡ is_fit format (S.device source.old).bytes) }
+        IfOk result (λ fit. fit ≡ is_fit form (S.device source.old).bytes) }
 {
-    match format {
-        Format::Guess => begins_as_blob(source),
-        Format::Legacy => Ok(false),
-        Format::Fit => Ok(true),
+    match form {
+        Form::Guess => begins_as_blob(source),
+        Form::Legacy => Ok(false),
+        Form::Fit => Ok(true),
     }
 }

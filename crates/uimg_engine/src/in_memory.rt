@@ -1,4 +1,4 @@
-//! `run`, `locate` and `make` over memory alone, where nothing but memory can fail.
+//! `run_by`, `locate` and `make_by` over memory alone, where nothing but memory can fail.
 ghost use Rattle.std.specs.Prelude.{◌≡◌, true, false, IsTrue, IfOk, IfErr};
 ghost use Rattle.std.specs.Io.{StartsWith};
 ghost use Rattle.uimg_engine.specs.Faults.{LosesNothing, is_put, is_refused, is_of_making, is_keep};
@@ -10,14 +10,15 @@ ghost use Rattle.uimg_engine.specs.Commands.{bytes_among, LacksFile, MakesComman
 use crate::engine::run_by_format;
 use crate::fault::Fault;
 use crate::locating::locate;
-use crate::making::make;
+use crate::making::make_by;
 use std::alloc::Allocator;
 use std::io::Write;
 use uimg_base::{MemFiles, MemKept, MemShelf, MemSource, Out, Room, Source, Span, Status};
 use uimg_names::Naming;
-use uimg_requests::{Command, Format, MakeCommand};
+use uimg_requests::{Command, Form, MakeCommand, Manner};
 
-/// Carries out a command on the bytes of an image: the answer of `run`, and all that was written.
+/// Carries out a command on the bytes of an image, a listing by a set of names: the answer of `run_by`,
+/// and all that was written.
 ///
 /// The answer and the text are exactly the outcome of the command, unless memory was refused: it is
 /// `Fault::Put` where that for the text was, and `OutOfMemory` of the blob exactly where that for the
@@ -27,19 +28,20 @@ use uimg_requests::{Command, Format, MakeCommand};
 /// FIT image that is met, and for a legacy image none.
 pub fn run_in_memory<A: Allocator, B: Allocator>(
     alloc: B,
+    naming: Naming,
     command: &Command,
     image: &[u8],
     room: &mut Room<A>,
 ) -> (Result<Status, Fault>, Vec<u8, B>)
-    ensures told { GivesOutcome (outcome_of command.now image.now) result.0 result.1.items }
-    ensures prefix { StartsWith (outcome_of command.now image.now).text result.1.items }
+    ensures told { GivesOutcome (outcome_of naming command.now image.now) result.0 result.1.items }
+    ensures prefix { StartsWith (outcome_of naming command.now image.now).text result.1.items }
     ensures untouched { WritesNone command.now.action (is_refused result.0) result.1.items }
-    ensures memory { InMemory command.now.format image.now result.0 room }
-    ensures legacy { is_fit command.now.format image.now ≡ false → TakesNone result.0 room }
+    ensures memory { InMemory command.now.form image.now result.0 room }
+    ensures legacy { is_fit command.now.form image.now ≡ false → TakesNone result.0 room }
 {
     let mut source = MemSource::new(image);
     let mut out = Out::new(Vec::new(alloc));
-    let end = run_by_format(command, &mut source, room, &mut out);
+    let end = run_by_format(naming, command, &mut source, room, &mut out);
     (end, out.into_inner())
 }
 
@@ -51,23 +53,23 @@ pub fn run_in_memory<A: Allocator, B: Allocator>(
 /// answers. The room takes at most 128 bytes for each node of a FIT image that is met, and for a legacy
 /// image none.
 pub fn locate_in_memory<A: Allocator>(
-    format: Format,
+    form: Form,
     position: u32,
     image: &[u8],
     room: &mut Room<A>,
 ) -> Result<Span, Fault>
-    ensures told { FindsSpan format position image.now result }
+    ensures told { FindsSpan form position image.now result }
     ensures inside { IfOk result (StandsIn image.now) }
     ensures no_put { is_put result ≡ false }
-    ensures memory { InMemory format image.now result room }
-    ensures legacy { is_fit format image.now ≡ false → TakesNone result room }
+    ensures memory { InMemory form image.now result room }
+    ensures legacy { is_fit form image.now ≡ false → TakesNone result room }
 {
     let mut source = MemSource::new(image);
-    locate(format, position, &mut source, room)
+    locate(form, position, &mut source, room)
 }
 
-/// Makes an image at a time, in seconds since 1970, from files in memory, pairs of a name and its
-/// bytes, and gives it as a source: what `make` does over these.
+/// Makes an image in a manner from files in memory, pairs of a name and its bytes, and gives it as a
+/// source: what `make_by` does over these.
 ///
 /// It is the image of the files' bytes, which reads back, and exactly its listing was written.
 /// `Fault::NoFile` comes only for a name that no file has. Neither `Fault::Read` nor `Fault::Keep`
@@ -83,16 +85,15 @@ pub fn locate_in_memory<A: Allocator>(
 pub fn make_in_memory<W: Write, A: Allocator + Copy, B: Allocator, H: Allocator>(
     alloc: A,
     command: &MakeCommand,
-    time: u32,
-    naming: Naming,
+    manner: Manner,
     files: &[(&[u8], &[u8])],
     shelf: H,
     room: &mut Room<B>,
     out: &mut Out<W>,
 ) -> Result<MemKept<H>, Fault>
     requires fit { HasFitNames command.now }
-    ensures made { MakesCommand (⟦<MemKept<H> as Source>⟧.device) naming command.now time
-        (bytes_among files.now) result out }
+    ensures made { MakesCommand (⟦<MemKept<H> as Source>⟧.device) manner.naming command.now manner.time
+        manner.align (bytes_among files.now) result out }
     ensures missing { IfErr result (LacksFile command.now (bytes_among files.now)) }
     ensures reads { LosesNothing result }
     ensures keep { is_keep result ≡ false }
@@ -100,13 +101,12 @@ pub fn make_in_memory<W: Write, A: Allocator + Copy, B: Allocator, H: Allocator>
     ensures puts { is_put result ≡ false → out.new.faults ≡ out.old.faults }
     ensures put { IsTrue (is_put result) → NoWriteFails out → out.new ≡ out.old }
     ensures room { LeavesRoom (⟦<MemKept<H> as Source>⟧.device) true command.now result room }
-    ensures peak { HoldsCommand command.now time (bytes_among files.now) room }
+    ensures peak { HoldsCommand command.now manner.time manner.align (bytes_among files.now) room }
 {
-    make(
+    make_by(
         alloc,
         command,
-        time,
-        naming,
+        manner,
         &mut MemFiles::new(files),
         MemShelf::new(shelf),
         room,

@@ -15,11 +15,11 @@ mod making_trees;
 mod same_files;
 
 pub use disk_files::DiskFiles;
-pub use engine::run;
+pub use engine::{run, run_by};
 pub use fault::Fault;
 pub use formats::is_fit;
 pub use in_memory::{locate_in_memory, make_in_memory, run_in_memory};
 pub use locating::locate;
-pub use making::{build_image, make};
+pub use making::{build_image, make, make_by};
 pub use same_files::is_same_file;
-pub use uimg_requests::{Action, Command, Format, MakeCommand};
+pub use uimg_requests::{Action, Command, Form, MakeCommand, Manner};

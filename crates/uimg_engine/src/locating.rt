@@ -8,7 +8,7 @@ use crate::fault::Fault;
 use crate::formats::is_fit;
 use std::alloc::Allocator;
 use uimg_base::{Room, Source, Span};
-use uimg_requests::Format;
+use uimg_requests::Form;
 
 // Where the part of a legacy image at a position stands.
 fn locate_part<S: Source, A: Allocator>(
@@ -43,18 +43,18 @@ fn locate_payload<S: Source, A: Allocator>(
 /// the blob exactly where the room refused to grow, which a legacy image never asks of it. `Fault::Put`
 /// never comes, nor do the faults that only `make` answers.
 pub fn locate<S: Source, A: Allocator>(
-    format: Format,
+    form: Form,
     position: u32,
     source: &mut S,
     room: &mut Room<A>,
 ) -> Result<Span, Fault>
-    ensures reads { OnlyReads format (listing_work format) result S.device source room }
+    ensures reads { OnlyReads form (listing_work form) result S.device source room }
     ensures inside { IfOk result (StandsIn (S.device source.old).bytes) }
     ensures told { HonestSource S.device source →
-        FindsSpan format position (S.device source.old).bytes result }
+        FindsSpan form position (S.device source.old).bytes result }
 {
     room.clear();
-    if is_fit(format, source)? {
+    if is_fit(form, source)? {
         locate_payload(position, source, room)
     } else {
         locate_part(position, source, room)

@@ -16,11 +16,14 @@ use crate::making_trees::build_tree;
 use std::alloc::Allocator;
 use std::io::Write;
 use uimg_base::{Files, Out, Room, Shelf, Source};
+use uimg_fit_base::WORD_ALIGNMENT;
 use uimg_legacy::Options;
 use uimg_names::Naming;
-use uimg_requests::MakeCommand;
+use uimg_requests::{MakeCommand, Manner};
 
-/// Builds the image of a command at a time, in seconds since 1970, and appends it to `image`.
+/// Builds the image of a command at a time, in seconds since 1970, and appends it to `image`. Where
+/// the payloads of a FIT image stand after the blob, its end and each payload's are rounded up by an
+/// alignment.
 ///
 /// A legacy image: the files of the command are opened in order. Over honest files what is appended is
 /// the image of their bytes, and it reads back: its checksums are right, and each part is found in it.
@@ -41,12 +44,13 @@ pub fn build_image<F: Files, W: Write, A: Allocator + Copy>(
     alloc: A,
     command: &MakeCommand,
     time: u32,
+    align: u32,
     files: &mut F,
     image: &mut Out<W>,
 ) -> Result<(), Fault>
     requires fit { HasFitNames command.now }
     ensures built { HonestFiles F.map files →
-        BuildsCommand command.now time (F.map files.old).bytes result image.old image.new }
+        BuildsCommand command.now time align (F.map files.old).bytes result image.old image.new }
     ensures files { OpensToBuild command.now result (F.map files.old) (F.map files.new) }
     ensures image { WritesImage result image }
     ensures reads { IsTrue F.Opened.steady → KeepsSizes command.now (F.map files.old) →
@@ -63,7 +67,8 @@ pub fn build_image<F: Files, W: Write, A: Allocator + Copy>(
             build_parts(alloc, &options, names, files, image)
         }
         MakeCommand::Tree { source, placement } => {
-            build_tree(alloc, source, *placement, time, files, image)
+            let placement = (*placement).aligned_by(align);
+            build_tree(alloc, source, placement, time, files, image)
         }
     }
 }
@@ -94,8 +99,9 @@ fn keep<H: Shelf>(shelf: H) -> Result<H::Kept, Fault>
 }
 
 /// Makes an image at a time, in seconds since 1970: it builds the image of the command on the shelf,
-/// keeps it, and writes the listing of what was kept to `out`, by a set of names. It gives what was
-/// kept.
+/// keeps it, and writes the listing of what was kept to `out`, by the names of the profile. It gives
+/// what was kept. Where the payloads of a FIT image stand after the blob, its end and each payload's
+/// are rounded up to a multiple of 4.
 ///
 /// Over honest files and an honest, empty shelf, what was kept is the image that `build_image` tells,
 /// which reads back, and exactly its listing was written. Refusals come in the order of the work: those
@@ -128,7 +134,6 @@ pub fn make<F: Files, H: Shelf, W: Write, A: Allocator + Copy, B: Allocator>(
     alloc: A,
     command: &MakeCommand,
     time: u32,
-    naming: Naming,
     files: &mut F,
     shelf: H,
     room: &mut Room<B>,
@@ -136,7 +141,8 @@ pub fn make<F: Files, H: Shelf, W: Write, A: Allocator + Copy, B: Allocator>(
 ) -> Result<H::Kept, Fault>
     requires fit { HasFitNames command.now }
     ensures made { HonestFiles F.map files → IsTrue H.honest → H.contents shelf ≡ Some [] →
-        MakesCommand H.Kept.device naming command.now time (F.map files.old).bytes result out }
+        MakesCommand H.Kept.device Naming.Profile command.now time 4 (F.map files.old).bytes
+        result out }
     ensures files { OpensToBuild command.now result (F.map files.old) (F.map files.new) }
     ensures quiet { IsTrue (is_of_making result) → out.new ≡ out.old }
     ensures puts { is_put result ≡ false → out.new.faults ≡ out.old.faults }
@@ -146,17 +152,55 @@ pub fn make<F: Files, H: Shelf, W: Write, A: Allocator + Copy, B: Allocator>(
     ensures steady_payloads { IsTrue F.Opened.steady → HonestFiles F.map files →
         is_lost_payload result ≡ false }
     ensures steady_keeps { IsTrue H.steady → is_keep result ≡ false }
-    ensures listed { IfOk result (ListsKept H.Kept.device naming command.now out) }
+    ensures listed { IfOk result (ListsKept H.Kept.device Naming.Profile command.now out) }
     ensures kept_reads { IfOk result (λ kept. (H.Kept.device kept).failures ≡ 0) }
     ensures room { LeavesRoom H.Kept.device (F.map files.old).honest command.now result room }
     ensures peak { HonestFiles F.map files → IsTrue H.honest → H.contents shelf ≡ Some [] →
-        HoldsCommand command.now time (F.map files.old).bytes room }
+        HoldsCommand command.now time 4 (F.map files.old).bytes room }
+{
+    let manner = Manner {
+        time,
+        naming: Naming::Profile,
+        align: WORD_ALIGNMENT,
+    };
+    make_by(alloc, command, manner, files, shelf, room, out)
+}
+
+/// Makes an image as `make` does, in a manner: at its time, listed by its names, and the end of a FIT
+/// image's blob and of each payload after it rounded up by its alignment.
+pub fn make_by<F: Files, H: Shelf, W: Write, A: Allocator + Copy, B: Allocator>(
+    alloc: A,
+    command: &MakeCommand,
+    manner: Manner,
+    files: &mut F,
+    shelf: H,
+    room: &mut Room<B>,
+    out: &mut Out<W>,
+) -> Result<H::Kept, Fault>
+    requires fit { HasFitNames command.now }
+    ensures made { HonestFiles F.map files → IsTrue H.honest → H.contents shelf ≡ Some [] →
+        MakesCommand H.Kept.device manner.naming command.now manner.time manner.align
+        (F.map files.old).bytes result out }
+    ensures files { OpensToBuild command.now result (F.map files.old) (F.map files.new) }
+    ensures quiet { IsTrue (is_of_making result) → out.new ≡ out.old }
+    ensures puts { is_put result ≡ false → out.new.faults ≡ out.old.faults }
+    ensures put { IsTrue (is_put result) → NoWriteFails out → out.new ≡ out.old }
+    ensures steady_reads { IsTrue F.Opened.steady → IsTrue H.Kept.steady →
+        KeepsSizes command.now (F.map files.old) → is_unread result ≡ false }
+    ensures steady_payloads { IsTrue F.Opened.steady → HonestFiles F.map files →
+        is_lost_payload result ≡ false }
+    ensures steady_keeps { IsTrue H.steady → is_keep result ≡ false }
+    ensures listed { IfOk result (ListsKept H.Kept.device manner.naming command.now out) }
+    ensures kept_reads { IfOk result (λ kept. (H.Kept.device kept).failures ≡ 0) }
+    ensures room { LeavesRoom H.Kept.device (F.map files.old).honest command.now result room }
+    ensures peak { HonestFiles F.map files → IsTrue H.honest → H.contents shelf ≡ Some [] →
+        HoldsCommand command.now manner.time manner.align (F.map files.old).bytes room }
 {
     room.clear();
     let mut image = Out::new(shelf);
-    build_image(alloc, command, time, files, &mut image)?;
+    build_image(alloc, command, manner.time, manner.align, files, &mut image)?;
     let shelf = write_out(image)?;
     let mut kept = keep(shelf)?;
-    list_kept(naming, command, &mut kept, room, out)?;
+    list_kept(manner.naming, command, &mut kept, room, out)?;
     Ok(kept)
 }

@@ -7,7 +7,7 @@ use std::alloc::Allocator;
 use std::io::Write;
 use uimg_base::{Out, Room, Source, Status};
 use uimg_names::Naming;
-use uimg_requests::{Action, Command, Format, MakeCommand};
+use uimg_requests::{Action, Command, Form, MakeCommand};
 
 /// Writes the listing of what was kept, by a set of names: of a legacy image, or of the format that
 /// its first bytes tell.
@@ -21,13 +21,13 @@ pub(crate) fn list_kept<S: Source, A: Allocator, W: Write>(
     ensures { Lists naming command.now result S.device kept room out }
 {
     match command {
-        MakeCommand::Parts { .. } => run_legacy(Action::List(naming), kept, room, out),
+        MakeCommand::Parts { .. } => run_legacy(naming, Action::List, kept, room, out),
         MakeCommand::Tree { .. } => {
             let command = Command {
-                action: Action::List(naming),
-                format: Format::Guess,
+                action: Action::List,
+                form: Form::Guess,
             };
-            run_by_format(&command, kept, room, out)
+            run_by_format(naming, &command, kept, room, out)
         },
     }
 }

@@ -12,8 +12,8 @@ use crate::fault::Fault;
 use std::alloc::Allocator;
 use std::io::Write;
 use uimg_base::{Files, MoveFault, Out, Source, WINDOW, copy_through};
-use uimg_fit_base::Placement;
-use uimg_fit_building::{build, fill};
+use uimg_fit_base::AlignedPlacement;
+use uimg_fit_building::{build_by, fill};
 use uimg_its::compile;
 use uimg_tree::Tree;
 
@@ -84,7 +84,7 @@ fn filled_tree<F: Files, A: Allocator + Copy>(
 pub(crate) fn build_tree<F: Files, W: Write, A: Allocator + Copy>(
     alloc: A,
     name: &[u8],
-    placement: Placement,
+    placement: AlignedPlacement,
     time: u32,
     files: &mut F,
     image: &mut Out<W>,
@@ -96,6 +96,6 @@ pub(crate) fn build_tree<F: Files, W: Write, A: Allocator + Copy>(
     ensures steady { IsTrue F.Opened.steady → HonestFiles F.map files → LosesNothing result }
 {
     let tree = filled_tree(alloc, name, time, files)?;
-    build(alloc, &tree, files, placement, image)?;
+    build_by(alloc, &tree, files, placement, image)?;
     Ok(())
 }

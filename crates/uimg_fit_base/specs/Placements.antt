@@ -1,10 +1,18 @@
 -- Where payloads stand.
 use Rattle.std.specs.Prelude.{ℕ}
 use Rattle.uimg_fit_base.specs.declared.placement.Placement.{Placement}
-use Rattle.uimg_fit_base.specs.declared.placement.Placement.TheVariants.{Inside, After, At}
+use Rattle.uimg_fit_base.specs.declared.placement.Placement.TheVariants as placement
+use Rattle.uimg_fit_base.specs.declared.placement.AlignedPlacement.{AlignedPlacement}
+use Rattle.uimg_fit_base.specs.declared.placement.AlignedPlacement.TheVariants.{Inside, After, At}
 
 -- the alignment by which the blob's end and each payload's are rounded up: that of the blob's own values, or the one given
-abbrev pub align_of : Placement → ℕ
+abbrev pub align_of : AlignedPlacement → ℕ
 align_of Inside = 4
 align_of (After align) = align
 align_of (At position align) = align
+
+-- a placement with an alignment
+abbrev pub aligned_by : Placement → ℕ → AlignedPlacement
+aligned_by placement.Inside align = Inside
+aligned_by placement.After align = After align
+aligned_by (placement.At position) align = At position align

@@ -13,5 +13,5 @@ mod verdicts;
 pub use algo_sets::{AlgoSet, Digests};
 pub use fault::{Fault, FitFault};
 pub use feeds::feed_through;
-pub use placement::{Placement, WORD_ALIGNMENT};
+pub use placement::{AlignedPlacement, Placement, WORD_ALIGNMENT};
 pub use verdicts::{Verdict, is_right, word_text};

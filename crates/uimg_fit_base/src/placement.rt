@@ -1,17 +1,41 @@
 //! Where the payloads of an image that is built stand.
 
 ghost use Rattle.std.specs.Prelude.{◌≡◌};
-ghost use Rattle.uimg_fit_base.specs.Placements.{align_of};
+ghost use Rattle.uimg_fit_base.specs.Placements.{align_of, aligned_by};
 
 /// The alignment of a blob's own values, and the least of a payload behind it.
 pub const WORD_ALIGNMENT: u32 = 4;
 
 /// Where the payloads of a FIT image that is built stand.
-///
-/// Behind the blob, its end and that of each payload are rounded up by an alignment, as
-/// `uimg_tree::aligned` does it.
 #[derive(Clone, Copy, Debug, PartialEq, Eq)]
 pub enum Placement {
+    /// In the blob, as the values of `data`.
+    Inside,
+    /// After the blob, each told by `data-offset`, counted from the blob's end.
+    After,
+    /// After the blob, each told by `data-position`, the first at this offset of the file.
+    At(u32),
+}
+
+impl Placement {
+    /// The placement with an alignment, which counts only for payloads after the blob.
+    pub fn aligned_by(self, align: u32) -> AlignedPlacement
+        ensures { result ≡ aligned_by self align }
+    {
+        match self {
+            Placement::Inside => AlignedPlacement::Inside,
+            Placement::After => AlignedPlacement::After { align },
+            Placement::At(position) => AlignedPlacement::At { position, align },
+        }
+    }
+}
+
+/// Where the payloads of a FIT image that is built stand, and by which alignment.
+///
+/// Behind the blob, its end and that of each payload are rounded up by the alignment, as
+/// `uimg_tree::aligned` does it.
+#[derive(Clone, Copy)]
+pub enum AlignedPlacement {
     /// In the blob, as the values of `data`.
     Inside,
     /// After the blob, each told by `data-offset`, counted from the blob's end.
@@ -20,15 +44,15 @@ pub enum Placement {
     At { position: u32, align: u32 },
 }
 
-impl Placement {
+impl AlignedPlacement {
     /// The alignment of the blob's end and of each payload's.
     pub fn align(self) -> u32
         ensures { result ≡ align_of self }
     {
         match self {
-            Placement::Inside => WORD_ALIGNMENT,
-            Placement::After { align } => align,
-            Placement::At { position: _, align } => align,
+            AlignedPlacement::Inside => WORD_ALIGNMENT,
+            AlignedPlacement::After { align } => align,
+            AlignedPlacement::At { position: _, align } => align,
         }
     }
 }

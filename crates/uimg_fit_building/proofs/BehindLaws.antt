@@ -12,8 +12,8 @@ use Rattle.uimg_tree.proofs.AlignmentLaws.{aligned-none}
 use Rattle.uimg_tree.proofs.SizeLaws.{kept-size}
 use Rattle.uimg_tree.proofs.WritesLaws.{flat_map-both, all-both}
 use Rattle.uimg_fit_base.specs.declared.fault.FitFault.TheVariants.{PositionTooLow, TooLarge}
-use Rattle.uimg_fit_base.specs.declared.placement.Placement.{Placement}
-use Rattle.uimg_fit_base.specs.declared.placement.Placement.TheVariants.{Inside, After, At}
+use Rattle.uimg_fit_base.specs.declared.placement.AlignedPlacement.{AlignedPlacement}
+use Rattle.uimg_fit_base.specs.declared.placement.AlignedPlacement.TheVariants.{Inside, After, At}
 use Rattle.uimg_fit_base.specs.Placements.{align_of}
 use Rattle.uimg_fit_building.specs.Building.{data_of, placed_blob, payloads, behind, built}
 use Rattle.uimg_fit_building.specs.Refusing.{is_low, build_fault}
@@ -96,13 +96,13 @@ module _ (files : List ℕ → Option (List ℕ)) (align : ℕ) where
 
 module _ (files : List ℕ → Option (List ℕ)) where
   -- the files of what is written behind the blob are kept where those of the tree are
-  pub behind-kept : (size : ℕ) (t : Unread) (placement : Placement) → AreKept files t → AllByRecursion (IsKept files) (behind_pieces size t placement)
+  pub behind-kept : (size : ℕ) (t : Unread) (placement : AlignedPlacement) → AreKept files t → AllByRecursion (IsKept files) (behind_pieces size t placement)
   behind-kept size t Inside kept = tt
   behind-kept size t (After align) kept = images-kept files align (images t) (images-has (IsKept files) t kept)
   behind-kept size t (At p align) kept = (tt, images-kept files align (images t) (images-has (IsKept files) t kept))
 
   -- what is written behind the blob of a tree
-  pub behind-joined : (size : ℕ) (t : Unread) (placement : Placement) → AreKept files t → length (placed_blob (in_full files t) placement) ≡ size
+  pub behind-joined : (size : ℕ) (t : Unread) (placement : AlignedPlacement) → AreKept files t → length (placed_blob (in_full files t) placement) ≡ size
       → flat_map (bytes_in files) (behind_pieces size t placement) ≡ behind (in_full files t) placement
   behind-joined size t Inside kept is = refl
   behind-joined size t (After align) kept is = payloads-joined files align t kept
@@ -110,7 +110,7 @@ module _ (files : List ℕ → Option (List ℕ)) where
       ap (λ (w : List ℕ). replicate (p - size) 0 ++ w) (payloads-joined files align t kept)
       ∙ ap (λ (n : ℕ). replicate (p - n) 0 ++ payloads align (in_full files t)) (sym is)
 
-  length-built : (size : ℕ) (t : Unread) (placement : Placement) → AreKept files t → length (placed_blob (in_full files t) placement) ≡ size → is_low size placement ≡ false
+  length-built : (size : ℕ) (t : Unread) (placement : AlignedPlacement) → AreKept files t → length (placed_blob (in_full files t) placement) ≡ size → is_low size placement ≡ false
       → length (built (in_full files t) placement) ≡ file_size size (padded_sizes (align_of placement) (images_in t)) placement
   length-built size t Inside kept is high = ap (λ (w : List ℕ). length w) (append-nil (placed_blob (in_full files t) Inside)) ∙ is
   length-built size t (After align) kept is high =
@@ -128,7 +128,7 @@ module _ (files : List ℕ → Option (List ℕ)) where
   fault-step false false c d h k = ap (λ (x : Bool). if x then Some TooLarge else None) (k refl)
 
   -- why the file of a tree whose blob isn't too large can't be built
-  pub fault-same : (size : ℕ) (t : Unread) (placement : Placement) → AreKept files t → length (placed_blob (in_full files t) placement) ≡ size → size ≤ 4294967295
+  pub fault-same : (size : ℕ) (t : Unread) (placement : AlignedPlacement) → AreKept files t → length (placed_blob (in_full files t) placement) ≡ size → size ≤ 4294967295
       → build_fault (in_full files t) placement ≡ end_fault size (padded_sizes (align_of placement) (images_in t)) placement
   unfolding build_fault end_fault
   fault-same size t placement kept is small =
@@ -149,11 +149,11 @@ test-step n a b false true e f h k = let l : n < a = k (ltb-true n b f) in let m
 same-test : (n a b : ℕ) → (n < a → n < b) → (n < b → n < a) → nat_lt n a ≡ nat_lt n b
 same-test n a b h k = test-step n a b (nat_lt n a) (nat_lt n b) refl refl h k
 
-size-capped : (size room : ℕ) (placement : Placement) → nat_lt 4294967295 (file_size size (min room (2 ^ 36)) placement) ≡ nat_lt 4294967295 (file_size size room placement)
+size-capped : (size room : ℕ) (placement : AlignedPlacement) → nat_lt 4294967295 (file_size size (min room (2 ^ 36)) placement) ≡ nat_lt 4294967295 (file_size size room placement)
 size-capped size room Inside = refl
 size-capped size room (After align) = same-test 4294967295 (size + min room (2 ^ 36)) (size + room) (λ h. omega (arith, h)) (λ h. omega (arith, h))
 size-capped size room (At p align) = same-test 4294967295 (p + min room (2 ^ 36)) (p + room) (λ h. omega (arith, h)) (λ h. omega (arith, h))
 
-pub end-capped : (size room : ℕ) (placement : Placement) → end_fault size (min room (2 ^ 36)) placement ≡ end_fault size room placement
+pub end-capped : (size room : ℕ) (placement : AlignedPlacement) → end_fault size (min room (2 ^ 36)) placement ≡ end_fault size room placement
 unfolding end_fault
 end-capped size room placement = ap (λ (b : Bool). if is_low size placement then Some PositionTooLow else if b then Some TooLarge else None) (size-capped size room placement)

@@ -19,7 +19,7 @@ use Rattle.uimg_fit_base.specs.declared.fault.Fault.{Fault}
 use Rattle.uimg_fit_base.specs.declared.fault.Fault.TheVariants.{Blob, Fit, Read, Put}
 use Rattle.uimg_fit_base.specs.declared.fault.FitFault.{FitFault}
 use Rattle.uimg_fit_base.specs.declared.fault.FitFault.TheVariants.{NoImages, NoData, DataOutside, NoSuchImage, UnknownAlgo, PositionTooLow, TooLarge, OutOfMemory, NoFile, ReadFailed}
-use Rattle.uimg_fit_base.specs.declared.placement.Placement.{Placement}
+use Rattle.uimg_fit_base.specs.declared.placement.AlignedPlacement.{AlignedPlacement}
 use Rattle.uimg_fit_base.specs.Placements.{align_of}
 use Rattle.uimg_fit_building.specs.Behind.{images_in, padded_sizes, file_size, end_fault}
 use Rattle.uimg_fit_building.specs.BuildAnswers.{CanBuild, BuildsAnswer}
@@ -111,7 +111,7 @@ measured-err align t blob.TooLarge e = large-told (bad_name t) (plan_of align t)
 measured-err align t blob.OutOfMemory e = tt
 
 -- a tree that is placed and one whose files are read, of the same tree
-module _ (t : Unread) (placement : Placement) where
+module _ (t : Unread) (placement : AlignedPlacement) where
   names : (files : List ℕ → Option (List ℕ)) → bad_name (moved_unread t placement) ≡ bad_name (in_full files t)
   names files = placed-names t placement ∙ sym (name-values (bytes_in files) t)
 
@@ -140,7 +140,7 @@ failed fault = Err fault
 abbrev pub went_well : Answer
 went_well = Ok tt
 
-module _ (steady : Bool) (t : Unread) (placement : Placement) (m : FileMap) (s : Sink) where
+module _ (steady : Bool) (t : Unread) (placement : AlignedPlacement) (m : FileMap) (s : Sink) where
   -- memory was refused
   pub out_of_memory : BuildsBetween steady t placement (failed (Fit OutOfMemory)) m m s s
   out_of_memory = record {
@@ -283,12 +283,12 @@ module _ (steady : Bool) (t : Unread) (placement : Placement) (m : FileMap) (s :
       }
 
 -- a refusal of a written tree, as an answer of building
-pub refused : (steady : Bool) (t : Unread) (placement : Placement) (r : Answer) (e : Fault) (m n : FileMap) (s u : Sink) → IsErrAnd r (λ x. x ≡ e) → BuildsBetween steady t placement (failed e) m n s u → BuildsBetween steady t placement r m n s u
+pub refused : (steady : Bool) (t : Unread) (placement : AlignedPlacement) (r : Answer) (e : Fault) (m n : FileMap) (s u : Sink) → IsErrAnd r (λ x. x ≡ e) → BuildsBetween steady t placement (failed e) m n s u → BuildsBetween steady t placement r m n s u
 refused steady t placement (Ok x) e m n s u h b = absurd h
 refused steady t placement (Err f) e m n s u h b = subst (λ (x : Fault). BuildsBetween steady t placement (failed x) m n s u) (sym h) b
 
 -- where the file of a filled tree was built, it reads back
-pub on-built : (name : List ℕ) (own : List (NamedOf (List ℕ))) (below : NodesOf (List ℕ)) (placement : Placement) (r : Answer) (s u : Sink) → (let t : NodesOf (List ℕ) = a_node name own below no_node in BuildsAnswer t placement r s u)
+pub on-built : (name : List ℕ) (own : List (NamedOf (List ℕ))) (below : NodesOf (List ℕ)) (placement : AlignedPlacement) (r : Answer) (s u : Sink) → (let t : NodesOf (List ℕ) = a_node name own below no_node in BuildsAnswer t placement r s u)
     → (let t : NodesOf (List ℕ) = a_node name own below no_node in IsFilled t) → OnOk r (let t : NodesOf (List ℕ) = a_node name own below no_node in ReadsBack (built t placement) t)
 on-built name own below placement (Ok x) s u h filled = reads_back name own below placement h.0.named filled h.0.fits
 on-built name own below placement (Err f) s u h filled = tt
@@ -298,6 +298,6 @@ low-step true c e = absurd (cc)
 low-step false c e = refl
 
 -- where the payloads can stand behind the blob, they don't begin in it
-pub no-low : (size room : ℕ) (placement : Placement) → end_fault size room placement ≡ None → is_low size placement ≡ false
+pub no-low : (size room : ℕ) (placement : AlignedPlacement) → end_fault size room placement ≡ None → is_low size placement ≡ false
 unfolding end_fault
 no-low size room placement e = low-step (is_low size placement) (nat_lt 4294967295 (file_size size room placement)) e

@@ -10,8 +10,8 @@ use Rattle.uimg_blob.specs.Plain.{Named, Nodes, no_node, a_node, IsName, AreName
 use Rattle.uimg_tree.specs.Encoding.{encode_by}
 use Rattle.uimg_tree.specs.Measured.{is_name, bad_property, bad_name}
 use Rattle.uimg_fit_base.specs.declared.fault.FitFault.TheVariants.{PositionTooLow, TooLarge}
-use Rattle.uimg_fit_base.specs.declared.placement.Placement.{Placement}
-use Rattle.uimg_fit_base.specs.declared.placement.Placement.TheVariants.{Inside, After, At}
+use Rattle.uimg_fit_base.specs.declared.placement.AlignedPlacement.{AlignedPlacement}
+use Rattle.uimg_fit_base.specs.declared.placement.AlignedPlacement.TheVariants.{Inside, After, At}
 use Rattle.uimg_fit_building.specs.Filling.{IsFilled}
 use Rattle.uimg_fit_building.specs.Building.{placed_blob, built}
 use Rattle.uimg_fit_building.specs.Refusing.{is_low, build_fault}
@@ -67,7 +67,7 @@ module _ (name : List ℕ) (own : List Named) (below : Nodes) where
   abbrev t : Nodes
   t = a_node name own below no_node
 
-  fits : (placement : Placement) → build_fault t placement ≡ None → length (built t placement) < 2 ^ 32
+  fits : (placement : AlignedPlacement) → build_fault t placement ≡ None → length (built t placement) < 2 ^ 32
   unfolding build_fault
   fits placement h =
       let s = accepted (nat_lt 4294967295 (length (placed_blob t placement))) (is_low (length (placed_blob t placement)) placement) (nat_lt 4294967295 (length (built t placement))) h in
@@ -81,7 +81,7 @@ module _ (name : List ℕ) (own : List Named) (below : Nodes) where
       ltb-false _ _ s.1
 
   -- a filled tree that can be built is what is read of its file again
-  pub reads_back : (placement : Placement) → bad_name t ≡ None → IsFilled t → build_fault t placement ≡ None → ReadsBack (built t placement) t
+  pub reads_back : (placement : AlignedPlacement) → bad_name t ≡ None → IsFilled t → build_fault t placement ≡ None → ReadsBack (built t placement) t
   reads_back Inside good filled ok =
       let small : length (encode_by 4 t) < 2 ^ 32 = omega (arith, fits Inside ok, length-append (encode_by 4 t) []) in
       built-inside name own below (named-good t good) small filled

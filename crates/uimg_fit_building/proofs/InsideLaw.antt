@@ -11,7 +11,7 @@ use Rattle.uimg_blob.specs.Plain.{Named, Nodes, no_node, a_node, AllValues, AreN
 use Rattle.uimg_tree.specs.Encoding.{encode_by}
 use Rattle.uimg_tree.proofs.Spelling.{placed}
 use Rattle.uimg_fit_base.specs.declared.fault.FitFault.{FitFault}
-use Rattle.uimg_fit_base.specs.declared.placement.Placement.TheVariants.{Inside}
+use Rattle.uimg_fit_base.specs.declared.placement.AlignedPlacement.TheVariants.{Inside}
 use Rattle.uimg_blob.specs.LookUps.{NodeOf, first, images}
 use Rattle.uimg_blob.specs.Spots.{Spot, spots}
 use Rattle.uimg_blob.specs.Indexed.{value_span}

@@ -12,8 +12,8 @@ use Rattle.uimg_tree.specs.Content.{Content, Unread, IsKept, AreKept, bytes, siz
 use Rattle.uimg_tree.specs.Encoding.{word}
 use Rattle.uimg_tree.proofs.WritesLaws.{all-first, all-second}
 use Rattle.uimg_fit_building.specs.Building.{moved_from_by, moved_own_by}
-use Rattle.uimg_fit_base.specs.declared.placement.Placement.{Placement}
-use Rattle.uimg_fit_base.specs.declared.placement.Placement.TheVariants.{Inside, After, At}
+use Rattle.uimg_fit_base.specs.declared.placement.AlignedPlacement.{AlignedPlacement}
+use Rattle.uimg_fit_base.specs.declared.placement.AlignedPlacement.TheVariants.{Inside, After, At}
 use Rattle.uimg_fit_building.specs.Behind.{padded_pieces, payload_pieces, behind_pieces, images_in}
 use Rattle.uimg_fit_building.specs.Filling.{in_first, with_images}
 use Rattle.uimg_fit_building.specs.UnreadTrees.{unread_own, padded_size_of, unread_from, moved_unread}
@@ -76,13 +76,13 @@ module _ (files : List ℕ → Option (List ℕ)) where
   tree-kept align key at (a_node name own below after) placed behind = (placed.0, first-kept align key at below placed.1 behind, placed.2)
 
   -- the files of a tree are kept where those of its blob are, and those of what stands behind it
-  pub both-kept : (size : ℕ) (t : Unread) (placement : Placement) → AreKept files (moved_unread t placement) → all_pieces (behind_pieces size t placement) → AreKept files t
+  pub both-kept : (size : ℕ) (t : Unread) (placement : AlignedPlacement) → AreKept files (moved_unread t placement) → all_pieces (behind_pieces size t placement) → AreKept files t
   both-kept size t Inside placed behind = placed
   both-kept size t (After align) placed behind = tree-kept align (codes "data-offset") 0 t placed behind
   both-kept size t (At p align) placed behind = tree-kept align (codes "data-position") p t placed behind.1
 
   -- the same where the blob was written, of what writing the rest answers
-  pub kept-then : (r : Result (Unit {0}) TreeFault) (size : ℕ) (t : Unread) (placement : Placement) → AreKept files (moved_unread t placement)
+  pub kept-then : (r : Result (Unit {0}) TreeFault) (size : ℕ) (t : Unread) (placement : AlignedPlacement) → AreKept files (moved_unread t placement)
       → OnFalse (is_err r) (all_pieces (behind_pieces size t placement)) → OnOk r (AreKept files t)
   kept-then (Ok x) size t placement placed behind = both-kept size t placement placed behind
   kept-then (Err e) size t placement placed behind = tt

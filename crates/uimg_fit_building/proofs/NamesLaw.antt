@@ -11,8 +11,8 @@ use Rattle.uimg_tree.specs.Content.{Content, Unread, bytes, size_of}
 use Rattle.uimg_tree.specs.Encoding.{word}
 use Rattle.uimg_tree.specs.Measured.{is_name, bad_property, bad_name}
 use Rattle.uimg_fit_building.specs.Building.{moved_from_by, moved_own_by}
-use Rattle.uimg_fit_base.specs.declared.placement.Placement.{Placement}
-use Rattle.uimg_fit_base.specs.declared.placement.Placement.TheVariants.{Inside, After, At}
+use Rattle.uimg_fit_base.specs.declared.placement.AlignedPlacement.{AlignedPlacement}
+use Rattle.uimg_fit_base.specs.declared.placement.AlignedPlacement.TheVariants.{Inside, After, At}
 use Rattle.uimg_fit_building.specs.Filling.{in_first, with_images}
 use Rattle.uimg_fit_building.specs.UnreadTrees.{unread_own, padded_size_of, unread_from, moved_unread}
 
@@ -91,7 +91,7 @@ module _ (align : ℕ) (key : List ℕ) (good : is_name key ≡ true) where
       ap (λ (o : Option BlobFault). if is_name name then option_or (bad_property own) (option_or o (bad_name after)) else Some BadNodeName) (first-names (codes "images") at below)
 
 -- the bad name of a tree whose payloads are placed
-pub placed-names : (t : Unread) (placement : Placement) → bad_name (moved_unread t placement) ≡ bad_name t
+pub placed-names : (t : Unread) (placement : AlignedPlacement) → bad_name (moved_unread t placement) ≡ bad_name t
 placed-names t Inside = refl
 placed-names t (After align) = images-names align (codes "data-offset") offset_is_good 0 t
 placed-names t (At p align) = images-names align (codes "data-position") position_is_good p t
@@ -132,7 +132,7 @@ module _ (P : Content → Type 0) (of-bytes : (b : List ℕ) → P (bytes b)) wh
   kept-images align key at (a_node name own below after) h = (h.0, kept-first align (codes "images") key at below h.1, h.2)
 
   -- a fact on all values is one on those of the tree whose payloads are placed
-  pub placed-values : (t : Unread) (placement : Placement) → AllValues P t → AllValues P (moved_unread t placement)
+  pub placed-values : (t : Unread) (placement : AlignedPlacement) → AllValues P t → AllValues P (moved_unread t placement)
   placed-values t Inside h = h
   placed-values t (After align) h = kept-images align (codes "data-offset") 0 t h
   placed-values t (At p align) h = kept-images align (codes "data-position") p t h

@@ -13,7 +13,7 @@ use Rattle.uimg_tree.specs.Encoding.{word, structure, strings, names_of, encode_
 use Rattle.uimg_tree.proofs.AlignmentLaws.{aligned-words}
 use Rattle.uimg_tree.proofs.ReadsBackLaw.{length-encode, totalsize}
 use Rattle.uimg_fit_base.specs.declared.fault.FitFault.{FitFault}
-use Rattle.uimg_fit_base.specs.declared.placement.Placement.TheVariants.{After, At}
+use Rattle.uimg_fit_base.specs.declared.placement.AlignedPlacement.TheVariants.{After, At}
 use Rattle.uimg_blob.specs.LookUps.{NodeOf, first, images, hashes}
 use Rattle.uimg_blob.specs.Spots.{Spot}
 use Rattle.uimg_base.specs.Results.{◌>>=◌}

@@ -15,7 +15,7 @@ use Rattle.uimg_tree.specs.Layouts.{plan_of, totalsize}
 use Rattle.uimg_tree.specs.Pieces.{WritesPieces}
 use Rattle.uimg_tree.specs.UsingFiles.{UsesFiles}
 use Rattle.uimg_tree.proofs.WritesLaws.{rises-then}
-use Rattle.uimg_fit_base.specs.declared.placement.Placement.{Placement}
+use Rattle.uimg_fit_base.specs.declared.placement.AlignedPlacement.{AlignedPlacement}
 use Rattle.uimg_fit_base.specs.Placements.{align_of}
 use Rattle.uimg_fit_building.specs.Behind.{behind_pieces}
 use Rattle.uimg_fit_building.specs.Building.{placed_blob, behind}
@@ -72,7 +72,7 @@ module _ (steady : Bool) (t : Unread) where
   refused (Ok x) f m n s u a h p = absurd h
   refused (Err e) f m n s u a h p = subst (λ (g : TreeFault). WritesTextBetween steady t (failed g) m n s u a) (sym h) p
 
-  module _ (placement : Placement) (r : Answer) (m n : FileMap) (s u : Sink) where
+  module _ (placement : AlignedPlacement) (r : Answer) (m n : FileMap) (s u : Sink) where
     -- the blob of a tree whose payloads are placed
     pub blob-sent : (placed : Unread) → placed ≡ moved_unread t placement → UsesFiles (is_no_file r) m n → RisesIf (is_put r) s.faults u.faults
         → (IsTrue m.complete → AreKept m.bytes placed → is_no_file r ≡ false)

@@ -8,8 +8,8 @@ use Rattle.uimg_tree.specs.Alignment.{aligned}
 use Rattle.uimg_tree.specs.Encoding.{word}
 use Rattle.uimg_tree.specs.Content.{Content, Unread, IsKept, bytes, bytes_in, size_of}
 use Rattle.uimg_tree.proofs.SizeLaws.{kept-size}
-use Rattle.uimg_fit_base.specs.declared.placement.Placement.{Placement}
-use Rattle.uimg_fit_base.specs.declared.placement.Placement.TheVariants.{Inside, After, At}
+use Rattle.uimg_fit_base.specs.declared.placement.AlignedPlacement.{AlignedPlacement}
+use Rattle.uimg_fit_base.specs.declared.placement.AlignedPlacement.TheVariants.{Inside, After, At}
 use Rattle.uimg_blob.specs.LookUps.{first}
 use Rattle.uimg_fit_building.specs.Filling.{in_first, with_images}
 use Rattle.uimg_fit_building.specs.Building.{padded_size, moved_own, moved_from, moved, moved_from_by, moved_own_by}
@@ -74,7 +74,7 @@ module _ (files : List ℕ → Option (List ℕ)) where
   images-moved align key at no_node kept = refl
   images-moved align key at (a_node name own below after) kept = ap (λ (u : Nodes). a_node name (map (with_value read) own) u (with_values read after)) (in-moved align (codes "images") key at below kept.1)
 
-  pub moved-unread : (t : Unread) (placement : Placement) → AllValues (IsKept files) t → moved (with_values read t) placement ≡ with_values read (moved_unread t placement)
+  pub moved-unread : (t : Unread) (placement : AlignedPlacement) → AllValues (IsKept files) t → moved (with_values read t) placement ≡ with_values read (moved_unread t placement)
   moved-unread t Inside kept = refl
   moved-unread t (After align) kept = images-moved align (codes "data-offset") 0 t kept
   moved-unread t (At p align) kept = images-moved align (codes "data-position") p t kept

@@ -8,8 +8,8 @@ use Rattle.uimg_tree.specs.Content.{Content, Unread, bytes, size_of}
 use Rattle.uimg_tree.specs.Alignment.{padding_by}
 use Rattle.uimg_fit_base.specs.declared.fault.FitFault.{FitFault}
 use Rattle.uimg_fit_base.specs.declared.fault.FitFault.TheVariants.{PositionTooLow, TooLarge}
-use Rattle.uimg_fit_base.specs.declared.placement.Placement.{Placement}
-use Rattle.uimg_fit_base.specs.declared.placement.Placement.TheVariants.{Inside, After, At}
+use Rattle.uimg_fit_base.specs.declared.placement.AlignedPlacement.{AlignedPlacement}
+use Rattle.uimg_fit_base.specs.declared.placement.AlignedPlacement.TheVariants.{Inside, After, At}
 use Rattle.uimg_fit_building.specs.Refusing.{is_low}
 use Rattle.uimg_fit_building.specs.UnreadTrees.{padded_size_of}
 
@@ -36,19 +36,19 @@ padded_sizes align [] = 0
 padded_sizes align (i ∷ is) = padded_size_of align i.own + padded_sizes align is
 
 -- what stands after a blob of so many bytes
-abbrev pub behind_pieces : ℕ → Unread → Placement → List Content
+abbrev pub behind_pieces : ℕ → Unread → AlignedPlacement → List Content
 behind_pieces size t Inside = []
 behind_pieces size t (After align) = flat_map (payload_pieces align) (images_in t)
 behind_pieces size t (At p align) = bytes (replicate (p - size) 0) ∷ flat_map (payload_pieces align) (images_in t)
 
 -- how many bytes the file has
-abbrev pub file_size : ℕ → ℕ → Placement → ℕ
+abbrev pub file_size : ℕ → ℕ → AlignedPlacement → ℕ
 file_size size padded Inside = size
 file_size size padded (After align) = size + padded
 file_size size padded (At p align) = p + padded
 
 -- why payloads of so many bytes can't stand behind a blob of so many
-unfoldable pub end_fault : ℕ → ℕ → Placement → Option FitFault
+unfoldable pub end_fault : ℕ → ℕ → AlignedPlacement → Option FitFault
 end_fault size padded placement =
     if is_low size placement then Some PositionTooLow
     else if nat_lt 4294967295 (file_size size padded placement) then Some TooLarge

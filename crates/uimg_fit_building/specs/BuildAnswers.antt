@@ -6,7 +6,7 @@ use Rattle.uimg_tree.specs.Measured.{bad_name}
 use Rattle.uimg_fit_base.specs.declared.fault.Fault.{Fault}
 use Rattle.uimg_fit_base.specs.declared.fault.Fault.TheVariants.{Blob, Fit, Read, Put}
 use Rattle.uimg_fit_base.specs.declared.fault.FitFault.TheVariants.{OutOfMemory, NoFile}
-use Rattle.uimg_fit_base.specs.declared.placement.Placement.{Placement}
+use Rattle.uimg_fit_base.specs.declared.placement.AlignedPlacement.{AlignedPlacement}
 use Rattle.uimg_fit_building.specs.Building.{built}
 use Rattle.uimg_fit_building.specs.Refusing.{build_fault}
 
@@ -23,14 +23,14 @@ is_before_writing (Err (Fit fault)) = true
 is_before_writing _ = false
 
 -- The file of a tree can be built.
-pub record CanBuild (t : Nodes) (placement : Placement) : Type 0 where
+pub record CanBuild (t : Nodes) (placement : AlignedPlacement) : Type 0 where
   -- each name of the tree has at most 255 bytes and no NUL
   pub named : bad_name t ≡ None
   pub fits : build_fault t placement ≡ None
 
 -- What an answer says of the tree, and of what was appended: the file of the tree, or why not; where an open, a read or a
 -- write failed, a prefix of the file.
-abbrev pub BuildsAnswer : {X : Type 0} → Nodes → Placement → Result X Fault → Sink → Sink → Type 0
+abbrev pub BuildsAnswer : {X : Type 0} → Nodes → AlignedPlacement → Result X Fault → Sink → Sink → Type 0
 BuildsAnswer t placement (Ok x) old new = CanBuild t placement × AppendsAll old new (built t placement)
 BuildsAnswer t placement (Err (Blob fault at)) old new = (bad_name t ≡ Some fault) × (at ≡ 0)
 BuildsAnswer t placement (Err (Fit OutOfMemory)) old new = ⊤

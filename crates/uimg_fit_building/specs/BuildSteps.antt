@@ -18,7 +18,7 @@ use Rattle.uimg_tree.specs.UsingFiles.{UsesFiles}
 use Rattle.uimg_fit_base.specs.declared.fault.Fault.{Fault}
 use Rattle.uimg_fit_base.specs.declared.fault.Fault.TheVariants.{Blob, Fit, Read, Put}
 use Rattle.uimg_fit_base.specs.declared.fault.FitFault.TheVariants.{TooLarge, OutOfMemory, NoFile}
-use Rattle.uimg_fit_base.specs.declared.placement.Placement.{Placement}
+use Rattle.uimg_fit_base.specs.declared.placement.AlignedPlacement.{AlignedPlacement}
 use Rattle.uimg_fit_building.specs.BuildAnswers.{is_no_file, is_before_writing, BuildsAnswer}
 use Rattle.uimg_fit_base.specs.Faults.{is_read, is_put}
 
@@ -56,7 +56,7 @@ abbrev pub WritesText : {F X : Type 0} → Bool → (F → FileMap) → Unread �
 WritesText steady map t answer files out text = WritesTextBetween steady t answer (map files.entry.now) (map files.exit.now) out.entry.now out.exit.now text
 
 -- What building did to files and to an output.
-pub record BuildsBetween {X : Type 0} (steady : Bool) (t : Unread) (placement : Placement) (answer : Result X Fault) (old new : FileMap) (s u : Sink) : Type 0 where
+pub record BuildsBetween {X : Type 0} (steady : Bool) (t : Unread) (placement : AlignedPlacement) (answer : Result X Fault) (old new : FileMap) (s u : Sink) : Type 0 where
   pub files : UsesFiles (is_no_file answer) old new
   pub found : IsTrue old.complete → AreKept old.bytes t → is_no_file answer ≡ false
   pub reads : IsTrue steady → IsTrue old.honest → AreKept old.bytes t → is_read answer ≡ false
@@ -65,5 +65,5 @@ pub record BuildsBetween {X : Type 0} (steady : Bool) (t : Unread) (placement : 
   pub kept : IsTrue old.honest → OnOk answer (AreKept old.bytes t)
   pub told : IsTrue old.honest → AreKept old.bytes t → BuildsAnswer (in_full old.bytes t) placement answer s u
 
-abbrev pub Builds : {F X : Type 0} → Bool → (F → FileMap) → Unread → Placement → Result X Fault → Lent F → Lent Sink → Type 0
+abbrev pub Builds : {F X : Type 0} → Bool → (F → FileMap) → Unread → AlignedPlacement → Result X Fault → Lent F → Lent Sink → Type 0
 Builds steady map t placement answer files out = BuildsBetween steady t placement answer (map files.entry.now) (map files.exit.now) out.entry.now out.exit.now

@@ -6,8 +6,8 @@ use Rattle.std.specs.Str.{bytes_eq}
 use Rattle.uimg_blob.specs.Plain.{NamedOf, NodesOf, Named, Nodes, no_node, a_node}
 use Rattle.uimg_tree.specs.Alignment.{aligned, padded_by}
 use Rattle.uimg_tree.specs.Encoding.{word, encode_by}
-use Rattle.uimg_fit_base.specs.declared.placement.Placement.{Placement}
-use Rattle.uimg_fit_base.specs.declared.placement.Placement.TheVariants.{Inside, After, At}
+use Rattle.uimg_fit_base.specs.declared.placement.AlignedPlacement.{AlignedPlacement}
+use Rattle.uimg_fit_base.specs.declared.placement.AlignedPlacement.TheVariants.{Inside, After, At}
 use Rattle.uimg_fit_base.specs.Placements.{align_of}
 use Rattle.uimg_blob.specs.LookUps.{first, images}
 use Rattle.uimg_fit_building.specs.Filling.{with_images}
@@ -39,7 +39,7 @@ moved_from_by size made align key at (a_node name own below after) =
 
 -- a tree whose payloads are placed: inside the blob; at `data-offset`, counted from the blob's end;
 -- or at `data-position`, counted from the file's start
-abbrev pub moved_by : {V : Type 0} → (V → ℕ) → (List ℕ → V) → NodesOf V → Placement → NodesOf V
+abbrev pub moved_by : {V : Type 0} → (V → ℕ) → (List ℕ → V) → NodesOf V → AlignedPlacement → NodesOf V
 moved_by size made t Inside = t
 moved_by size made t (After align) = with_images (moved_from_by size made align (codes "data-offset") 0) t
 moved_by size made t (At p align) = with_images (moved_from_by size made align (codes "data-position") p) t
@@ -54,7 +54,7 @@ moved_own = moved_own_by (λ value. length value) (λ value. value)
 abbrev pub moved_from : ℕ → List ℕ → ℕ → Nodes → Nodes
 moved_from = moved_from_by (λ value. length value) (λ value. value)
 
-abbrev pub moved : Nodes → Placement → Nodes
+abbrev pub moved : Nodes → AlignedPlacement → Nodes
 moved = moved_by (λ value. length value) (λ value. value)
 
 -- the payloads of a tree, each with zeros up to where an alignment has it end
@@ -62,15 +62,15 @@ abbrev pub payloads : ℕ → Nodes → List ℕ
 payloads align t = flat_map (λ image. padded_by align (data_of image.own)) (unwrap_or (images t) [])
 
 -- the blob of a tree whose payloads are placed
-abbrev pub placed_blob : Nodes → Placement → List ℕ
+abbrev pub placed_blob : Nodes → AlignedPlacement → List ℕ
 placed_blob t placement = encode_by (align_of placement) (moved t placement)
 
 -- what stands after the blob
-abbrev pub behind : Nodes → Placement → List ℕ
+abbrev pub behind : Nodes → AlignedPlacement → List ℕ
 behind t Inside = []
 behind t (After align) = payloads align t
 behind t (At p align) = replicate (p - length (placed_blob t (At p align))) 0 ++ payloads align t
 
 -- the file of a tree
-abbrev pub built : Nodes → Placement → List ℕ
+abbrev pub built : Nodes → AlignedPlacement → List ℕ
 built t placement = placed_blob t placement ++ behind t placement

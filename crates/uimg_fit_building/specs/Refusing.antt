@@ -5,8 +5,8 @@ use Rattle.std.specs.Option.{option_or}
 use Rattle.uimg_blob.specs.Plain.{Nodes}
 use Rattle.uimg_fit_base.specs.declared.fault.FitFault.{FitFault}
 use Rattle.uimg_fit_base.specs.declared.fault.FitFault.TheVariants.{NoImages, NoData, UnknownAlgo, PositionTooLow, TooLarge}
-use Rattle.uimg_fit_base.specs.declared.placement.Placement.{Placement}
-use Rattle.uimg_fit_base.specs.declared.placement.Placement.TheVariants.{Inside, After, At}
+use Rattle.uimg_fit_base.specs.declared.placement.AlignedPlacement.{AlignedPlacement}
+use Rattle.uimg_fit_base.specs.declared.placement.AlignedPlacement.TheVariants.{Inside, After, At}
 use Rattle.uimg_blob.specs.LookUps.{NodeOf, first, images, hashes}
 use Rattle.uimg_fit_building.specs.Filling.{algo_in, filled}
 use Rattle.uimg_fit_building.specs.Building.{placed_blob, built}
@@ -36,14 +36,14 @@ abbrev pub fill_of : ℕ → Nodes → Result Nodes FitFault
 fill_of time t = fill_from (fault_of (images t)) (filled time t)
 
 -- the payloads would begin before the blob's end
-abbrev pub is_low : ℕ → Placement → Bool
+abbrev pub is_low : ℕ → AlignedPlacement → Bool
 is_low size Inside = Bool.false
 is_low size (After align) = Bool.false
 is_low size (At p align) = nat_lt p size
 
 -- whether a tree whose names are good can be built, or the first fault: the blob is too large, the
 -- payloads would begin before its end, the file is too large
-unfoldable pub build_fault : Nodes → Placement → Option FitFault
+unfoldable pub build_fault : Nodes → AlignedPlacement → Option FitFault
 build_fault t placement =
     if nat_lt 4294967295 (length (placed_blob t placement)) then Some TooLarge
     else if is_low (length (placed_blob t placement)) placement then Some PositionTooLow

@@ -2,7 +2,7 @@
 use Rattle.std.specs.Prelude.{ℕ, List, Option}
 use Rattle.uimg_blob.specs.Plain.{NamedOf}
 use Rattle.uimg_tree.specs.Content.{Content, Unread, bytes, bytes_in, size_of}
-use Rattle.uimg_fit_base.specs.declared.placement.Placement.{Placement}
+use Rattle.uimg_fit_base.specs.declared.placement.AlignedPlacement.{AlignedPlacement}
 use Rattle.uimg_fit_building.specs.Building.{padded_size_by, moved_own_by, moved_from_by, moved_by}
 use Rattle.uimg_fit_building.specs.Filling.{filled_by}
 
@@ -23,5 +23,5 @@ abbrev pub unread_from : ℕ → List ℕ → ℕ → Unread → Unread
 unread_from = moved_from_by size_of bytes
 
 -- a tree whose payloads are placed, as it is written
-abbrev pub moved_unread : Unread → Placement → Unread
+abbrev pub moved_unread : Unread → AlignedPlacement → Unread
 moved_unread = moved_by size_of bytes

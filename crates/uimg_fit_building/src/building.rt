@@ -11,7 +11,7 @@ ghost use Rattle.uimg_fit_building.specs.BuildAnswers.{is_no_file, is_before_wri
 ghost use Rattle.uimg_fit_building.specs.BuildSteps.{of_measure, of_writing, MeasuresTree, WritesText, Builds};
 ghost use Rattle.uimg_fit_building.specs.Building.{built};
 ghost use Rattle.uimg_fit_base.specs.Faults.{is_put, is_read};
-ghost use Rattle.uimg_fit_base.specs.Placements.{align_of};
+ghost use Rattle.uimg_fit_base.specs.Placements.{align_of, aligned_by};
 ghost use Rattle.uimg_fit_building.specs.Filling.{IsFilled};
 ghost use Rattle.uimg_fit_building.specs.ReadsBack.{ReadsBack};
 ghost use Rattle.uimg_fit_building.specs.Refusing.{is_low};
@@ -27,8 +27,8 @@ use std::alloc::Allocator;
 use std::io::Write;
 use uimg_base::{Files, Out, Source};
 use uimg_blob::BlobFault;
-use uimg_fit_base::{Fault, FitFault, Placement};
-use uimg_tree::{Layout, Tree, TreeFault, measure, write_tree};
+use uimg_fit_base::{AlignedPlacement, Fault, FitFault, Placement, WORD_ALIGNMENT};
+use uimg_tree::{Layout, Tree, TreeFault, measure_by, write_tree};
 
 // The fault of a tree that can't be measured.
 fn of_measure(fault: BlobFault) -> Fault
@@ -60,7 +60,7 @@ fn measure_placed<'a, A: Allocator>(
 ) -> Result<Layout<'a, A>, Fault>
     ensures { MeasuresTree align result (node_of placed.now.root) }
 {
-    match measure(alloc, placed, align) {
+    match measure_by(alloc, placed, align) {
         Ok(layout) => Ok(layout),
         Err(fault) => Err(of_measure(fault)),
     }
@@ -71,7 +71,7 @@ fn write_file<F: Files, W: Write, A: Allocator>(
     placed: &Tree<A>,
     layout: &Layout<A>,
     tree: &Tree<A>,
-    placement: Placement,
+    placement: AlignedPlacement,
     files: &mut F,
     out: &mut Out<W>,
 ) -> Result<(), TreeFault>
@@ -92,7 +92,7 @@ fn build_placed<F: Files, W: Write, A: Allocator>(
     alloc: A,
     placed: &Tree<A>,
     tree: &Tree<A>,
-    placement: Placement,
+    placement: AlignedPlacement,
     files: &mut F,
     out: &mut Out<W>,
 ) -> Result<(), Fault>
@@ -111,21 +111,21 @@ fn build_placed<F: Files, W: Write, A: Allocator>(
 fn place_and_build<F: Files, W: Write, A: Allocator + Copy>(
     alloc: A,
     tree: &Tree<A>,
-    placement: Placement,
+    placement: AlignedPlacement,
     files: &mut F,
     out: &mut Out<W>,
 ) -> Result<(), Fault>
     ensures { Builds F.Opened.steady F.map (node_of tree.now.root) placement result files out }
 {
     match placement {
-        Placement::Inside => build_placed(alloc, tree, tree, placement, files, out),
-        Placement::After { align } => {
+        AlignedPlacement::Inside => build_placed(alloc, tree, tree, placement, files, out),
+        AlignedPlacement::After { align } => {
             let Ok(placed) = place(alloc, tree, align, b"data-offset", 0) else {
                 return Err(Fault::Fit(FitFault::OutOfMemory));
             };
             build_placed(alloc, &placed, tree, placement, files, out)
         }
-        Placement::At { position, align } => {
+        AlignedPlacement::At { position, align } => {
             let Ok(placed) = place(alloc, tree, align, b"data-position", position) else {
                 return Err(Fault::Fit(FitFault::OutOfMemory));
             };
@@ -139,9 +139,8 @@ fn place_and_build<F: Files, W: Write, A: Allocator + Copy>(
 ///
 /// With `Inside` the tree is written as it is. With `After` and `At` two cells stand in the place of
 /// the first `data` of each image, `data-offset` or `data-position`, and `data-size`; the payloads
-/// follow in order. The blob's end and each payload's are rounded up by the placement's alignment, with
-/// zeros behind them, and zeros fill up to the position of the first. An image without `data` is left as
-/// it is.
+/// follow in order. The blob's end and each payload's are rounded up to a multiple of 4, with zeros
+/// behind them, and zeros fill up to the position of the first. An image without `data` is left as it is.
 ///
 /// All memory is taken, and all is refused, before the first byte: `BadNodeName` or `BadPropertyName`
 /// of the blob, at offset 0, for the first bad name in the order of writing; `TooLarge` where the blob
@@ -160,6 +159,38 @@ pub fn build<F: Files, W: Write, A: Allocator + Copy>(
     tree: &Tree<A>,
     files: &mut F,
     placement: Placement,
+    out: &mut Out<W>,
+) -> Result<(), Fault>
+    ensures files { UsesFiles (is_no_file result) (F.map files.old) (F.map files.new) }
+    ensures found { IfComplete F.map files (node_of tree.now.root) (is_no_file result ≡ false) }
+    ensures steady { IfSteady F.Opened.steady F.map files (node_of tree.now.root)
+        (is_read result ≡ false) }
+    ensures faults { RisesIf (is_put result) out.old.faults out.new.faults }
+    ensures untouched { IsTrue (is_before_writing result) → out.new ≡ out.old }
+    ensures kept { IfHonest F.map files (λ there.
+        OnOk result (AreKept there (node_of tree.now.root))) }
+    // Here `t` is the tree with the bytes of its files.
+    ensures built { IfInFull F.map files (node_of tree.now.root) (λ t.
+        BuildsAnswer t (aligned_by placement 4) result out.old out.new) }
+    ensures reads_back { IfInFull F.map files (node_of tree.now.root) (λ t.
+        IsFilled t → OnOk result (ReadsBack (built t (aligned_by placement 4)) t)) }
+{
+    build_by(
+        alloc,
+        tree,
+        files,
+        placement.aligned_by(WORD_ALIGNMENT),
+        out,
+    )
+}
+
+/// Builds the FIT image of a tree as `build` does, the blob's end and each payload's rounded up by the
+/// alignment of the placement.
+pub fn build_by<F: Files, W: Write, A: Allocator + Copy>(
+    alloc: A,
+    tree: &Tree<A>,
+    files: &mut F,
+    placement: AlignedPlacement,
     out: &mut Out<W>,
 ) -> Result<(), Fault>
     ensures files { UsesFiles (is_no_file result) (F.map files.old) (F.map files.new) }

@@ -12,5 +12,5 @@ mod filling;
 mod payloads;
 mod setting;
 
-pub use building::build;
+pub use building::{build, build_by};
 pub use filling::fill;

@@ -13,7 +13,7 @@ mod report;
 mod tree;
 
 pub use extraction::{extract, locate};
-pub use listing::list;
+pub use listing::{list, list_by};
 pub use places::{PayloadFacts, find_payload, payload_facts, payload_place};
 pub use report::{compared_algos, judge, payload_digests, verify};
 pub use tree::read_tree;

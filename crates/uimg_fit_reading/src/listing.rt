@@ -103,7 +103,7 @@ fn list_body<S: Source, A: Allocator, W: Write>(
     Ok(Status::Done)
 }
 
-/// Writes the listing of the image, by a set of names.
+/// Writes the listing of the image, by the names of the profile.
 ///
 /// Two head lines come first, then the lines of each image with those of its hash nodes, the default
 /// configuration, and the lines of each configuration. Refusals of the blob come before the first line,
@@ -112,6 +112,18 @@ fn list_body<S: Source, A: Allocator, W: Write>(
 /// honest source a prefix of the listing was written after `Read` or `Put`, and at most 60 bytes, 1024
 /// for each node and property, and 4 for each NOP and each byte of a text were requested.
 pub fn list<S: Source, A: Allocator, W: Write>(
+    source: &mut S,
+    room: &mut Room<A>,
+    out: &mut Out<W>,
+) -> Result<Status, Fault>
+    ensures delivers { Delivers list_work result S.device source room out }
+    ensures told { TellsOf (list_of Naming.Profile) result S.device source out }
+{
+    list_by(source, room, Naming::Profile, out)
+}
+
+/// Writes the listing of the image as `list` does, by a set of names.
+pub fn list_by<S: Source, A: Allocator, W: Write>(
     source: &mut S,
     room: &mut Room<A>,
     naming: Naming,

@@ -26,7 +26,7 @@ pub use counting::count_parts;
 pub use extraction::{extract, locate};
 pub use fault::{Fault, LegacyFault};
 pub use header::{HEADER_LEN, Header, header_bytes, name_field, read_header};
-pub use listing::list;
+pub use listing::{list, list_by};
 pub use options::Options;
 pub use parts::has_parts;
 pub use placing::{PartsFault, locate_parts};

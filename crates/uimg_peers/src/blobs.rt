@@ -7,7 +7,7 @@ use uimg_base::{Out, Room, Source};
 use uimg_blob::index;
 use uimg_engine::DiskFiles;
 use uimg_its::compile;
-use uimg_tree::{WORD_ALIGNMENT, measure, write_tree};
+use uimg_tree::{measure, write_tree};
 
 // Writes the blob of a source to standard output. The files that it names lie in its folder.
 pub(crate) fn compile_source<R: Files + Print + AllocGlobal>(rt: &R, path: &str) -> io::Result<()> {
@@ -16,7 +16,7 @@ pub(crate) fn compile_source<R: Files + Print + AllocGlobal>(rt: &R, path: &str)
     let Ok(tree) = compile(rt.alloc(), &text, &mut files) else {
         return Err(io::Error::from(ErrorKind::InvalidData));
     };
-    let Ok(layout) = measure(rt.alloc(), &tree, WORD_ALIGNMENT) else {
+    let Ok(layout) = measure(rt.alloc(), &tree) else {
         return Err(io::Error::from(ErrorKind::InvalidData));
     };
     match write_tree(&tree, &layout, &mut files, &mut Out::new(io::writer(rt))) {

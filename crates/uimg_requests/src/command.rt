@@ -1,12 +1,10 @@
 //! An action on an image, and the format that it is read as.
 
-use uimg_names::Naming;
-
 /// What is done with an image.
 #[derive(Clone, Copy, Debug, PartialEq, Eq)]
 pub enum Action {
-    /// Its listing is written, by a set of names.
-    List(Naming),
+    /// Its listing is written.
+    List,
 
     /// Its verification report is written.
     Verify,
@@ -18,7 +16,7 @@ pub enum Action {
 
 /// The format that an image is read as.
 #[derive(Clone, Copy, Debug, PartialEq, Eq)]
-pub enum Format {
+pub enum Form {
     /// The format that its first four bytes tell: a FIT image where they are `0xd00dfeed`, a legacy
     /// image otherwise, also where there are fewer.
     Guess,
@@ -37,5 +35,5 @@ pub struct Command {
     pub action: Action,
 
     /// What the image is read as.
-    pub format: Format,
+    pub form: Form,
 }

@@ -8,8 +8,8 @@ mod number_words;
 mod requests;
 mod version;
 
-pub use command::{Action, Command, Format};
-pub use make_command::MakeCommand;
+pub use command::{Action, Command, Form};
+pub use make_command::{MakeCommand, Manner};
 pub use names::file_names;
 pub use number_words::{decimal, hexadecimal};
 pub use requests::{MakeRequest, RunRequest};

@@ -1,7 +1,8 @@
-//! What an image is made from.
+//! What an image is made from, and how.
 
 use uimg_fit_base::Placement;
 use uimg_legacy::Options;
+use uimg_names::Naming;
 
 /// What an image is made from.
 #[derive(Drop)]
@@ -24,4 +25,18 @@ pub enum MakeCommand {
         /// Where its payloads stand.
         placement: Placement,
     },
+}
+
+/// How an image is made.
+#[derive(Clone, Copy, Debug)]
+pub struct Manner {
+    /// The time of the making, in seconds since 1970.
+    pub time: u32,
+
+    /// The names that the listing of the image is written by.
+    pub naming: Naming,
+
+    /// The alignment by which the blob's end and each payload's are rounded up, where the payloads of a
+    /// FIT image stand after the blob.
+    pub align: u32,
 }

@@ -6,10 +6,10 @@ ghost use Rattle.uimg_requests.specs.Requests.{AsksParts, AsksSource};
 ghost use Rattle.uimg_requests.specs.Commands.{HasFitNames, has_fit_names_prop};
 
 use crate::command::Command;
-use crate::make_command::MakeCommand;
+use crate::make_command::{MakeCommand, Manner};
 use crate::names::file_names;
 use std::alloc::{AllocError, Global};
-use uimg_fit_base::Placement;
+use uimg_fit_base::{Placement, WORD_ALIGNMENT};
 use uimg_legacy::Options;
 use uimg_names::Naming;
 
@@ -18,6 +18,9 @@ use uimg_names::Naming;
 pub struct RunRequest<'a> {
     /// What is done with the image.
     pub command: Command,
+
+    /// The names that a listing is written by.
+    pub naming: Naming,
 
     /// The path of the image.
     pub image: &'a str,
@@ -35,11 +38,8 @@ pub struct MakeRequest<'a> {
     /// What it is made from. The names of its files are such as `make` takes.
     pub command: MakeCommand,
 
-    /// The time of the making, in seconds since 1970.
-    pub time: u32,
-
-    /// The names that the listing of the image is written by.
-    pub naming: Naming,
+    /// How it is made.
+    pub manner: Manner,
 
     /// The path of the image source, or an empty text where it is made from data.
     pub source: &'a str,
@@ -72,8 +72,9 @@ impl<'a> MakeRequest<'a> {
     ) -> Result<MakeRequest<'a>, AllocError>
         ensures asks { IfOk result (λ request. AsksParts request.command options
             (names_of options.kind word.now)) }
-        ensures time { IfOk result (λ request. request.time ≡ time) }
-        ensures naming { IfOk result (λ request. request.naming ≡ Naming.Profile) }
+        ensures time { IfOk result (λ request. request.manner.time ≡ time) }
+        ensures naming { IfOk result (λ request. request.manner.naming ≡ Naming.Profile) }
+        ensures align { IfOk result (λ request. request.manner.align ≡ 4) }
         ensures whole { IfOk result (λ request. request.is_xip ≡ false) }
         ensures outfile { IfOk result (λ request. request.outfile.now ≡ outfile.entry.now) }
         ensures written { IfOk result (λ request. request.written.now ≡ outfile.entry.now) }
@@ -81,8 +82,11 @@ impl<'a> MakeRequest<'a> {
         let files = file_names(alloc, options.kind, word)?;
         Ok(MakeRequest {
             command: MakeCommand::Parts { options, files },
-            time,
-            naming: Naming::Profile,
+            manner: Manner {
+                time,
+                naming: Naming::Profile,
+                align: WORD_ALIGNMENT,
+            },
             source: "",
             folder: "",
             outfile,
@@ -92,8 +96,9 @@ impl<'a> MakeRequest<'a> {
     }
 
     /// The making of a FIT image from the source at a path, whose folder is that of its files, listed
-    /// by the names of the profile. Memory for its name may be refused. Folder and name together are
-    /// the path; tests show that the folder is all up to the last slash.
+    /// by the names of the profile, with payloads padded to multiples of 4. Memory for its name may be
+    /// refused. Folder and name together are the path; tests show that the folder is all up to the last
+    /// slash.
     pub fn of_source(
         alloc: Global,
         path: &'a str,
@@ -103,8 +108,9 @@ impl<'a> MakeRequest<'a> {
     ) -> Result<MakeRequest<'a>, AllocError>
         ensures asks { IfOk result (λ request. AsksSource request.command request.folder.now
             path.entry.now placement) }
-        ensures time { IfOk result (λ request. request.time ≡ time) }
-        ensures naming { IfOk result (λ request. request.naming ≡ Naming.Profile) }
+        ensures time { IfOk result (λ request. request.manner.time ≡ time) }
+        ensures naming { IfOk result (λ request. request.manner.naming ≡ Naming.Profile) }
+        ensures align { IfOk result (λ request. request.manner.align ≡ 4) }
         ensures whole { IfOk result (λ request. request.is_xip ≡ false) }
         ensures outfile { IfOk result (λ request. request.outfile.now ≡ outfile.entry.now) }
         ensures written { IfOk result (λ request. request.written.now ≡ outfile.entry.now) }
@@ -124,8 +130,9 @@ impl<'a> MakeRequest<'a> {
         ensures asks { IfOk result (λ request. AsksSource request.command request.folder.now
             path.entry.now placement) }
         ensures folder { IfOk result (λ request. request.folder.now ≡ []) }
-        ensures time { IfOk result (λ request. request.time ≡ time) }
-        ensures naming { IfOk result (λ request. request.naming ≡ Naming.Profile) }
+        ensures time { IfOk result (λ request. request.manner.time ≡ time) }
+        ensures naming { IfOk result (λ request. request.manner.naming ≡ Naming.Profile) }
+        ensures align { IfOk result (λ request. request.manner.align ≡ 4) }
         ensures whole { IfOk result (λ request. request.is_xip ≡ false) }
         ensures outfile { IfOk result (λ request. request.outfile.now ≡ outfile.entry.now) }
         ensures written { IfOk result (λ request. request.written.now ≡ outfile.entry.now) }
@@ -146,8 +153,9 @@ impl<'a> MakeRequest<'a> {
         ensures asks { IfOk result (λ request. AsksSource request.command request.folder.now
             (folder.entry.now ++ name.entry.now) placement) }
         ensures folder { IfOk result (λ request. request.folder.now ≡ folder.entry.now) }
-        ensures time { IfOk result (λ request. request.time ≡ time) }
-        ensures naming { IfOk result (λ request. request.naming ≡ Naming.Profile) }
+        ensures time { IfOk result (λ request. request.manner.time ≡ time) }
+        ensures naming { IfOk result (λ request. request.manner.naming ≡ Naming.Profile) }
+        ensures align { IfOk result (λ request. request.manner.align ≡ 4) }
         ensures whole { IfOk result (λ request. request.is_xip ≡ false) }
         ensures outfile { IfOk result (λ request. request.outfile.now ≡ outfile.entry.now) }
         ensures written { IfOk result (λ request. request.written.now ≡ outfile.entry.now) }
@@ -155,8 +163,11 @@ impl<'a> MakeRequest<'a> {
         let source = Vec::from_slice(alloc, name.as_bytes())?;
         Ok(MakeRequest {
             command: MakeCommand::Tree { source, placement },
-            time,
-            naming: Naming::Profile,
+            manner: Manner {
+                time,
+                naming: Naming::Profile,
+                align: WORD_ALIGNMENT,
+            },
             source: path,
             folder,
             outfile,

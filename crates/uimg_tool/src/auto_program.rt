@@ -9,7 +9,6 @@ use std::io::{BufWriter, Write};
 use std::rt::Files;
 use uimg_base::FileSource;
 use uimg_compat::{AutoRequest, AutoSource, OldFault};
-use uimg_names::Naming;
 use uimg_requests::MakeRequest;
 
 /// Makes the requested image. The text of its source is beside the image meanwhile.
@@ -55,12 +54,12 @@ fn make_of_text<R: Files + AllocGlobal, W: Write, V: Write>(
         rt.alloc(),
         path,
         request.placement,
-        request.time,
+        request.manner.time,
         request.outfile,
     );
     match made {
         Ok(mut making) => {
-            making.naming = Naming::All;
+            making.manner = request.manner;
             make_image(rt, tool, making, request.is_quiet, out, err)
         }
         Err(_) => tell(tool, err, &OldFault::OutOfMemory, FAILED),

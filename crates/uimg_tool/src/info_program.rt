@@ -8,7 +8,7 @@ use std::io::{ErrorKind, Write};
 use std::rt::Files;
 use uimg_base::{FileSource, Room, Source};
 use uimg_checks::object_text;
-use uimg_engine::{Fault, Format, is_fit};
+use uimg_engine::{Fault, Form, is_fit};
 use uimg_fit_checking::SurveyFault;
 use uimg_info::{fit_text, legacy_text};
 use uimg_legacy::{PartsFault, locate_parts, read_header};
@@ -110,7 +110,7 @@ fn facts_of<R: Files + AllocGlobal>(rt: &R, path: &str) -> Result<Vec<u8>, Stop>
         return Err(Stop::Unread);
     };
     let mut room = Room::new(rt.alloc());
-    match is_fit(Format::Guess, &mut source) {
+    match is_fit(Form::Guess, &mut source) {
         Ok(true) => Ok(fit_text(rt.alloc(), path, &mut source, &mut room)?),
         Ok(false) => legacy_facts(rt.alloc(), path, &mut source, &mut room),
         Err(_) => Err(Stop::from(Fault::Read)),

@@ -19,4 +19,4 @@ mod xip_files;
 
 pub use main_program::program;
 pub use moments::{epoch, now};
-pub use uimg_engine::{Action, Command, DiskFiles, Fault, Format, MakeCommand, make, run};
+pub use uimg_engine::{Action, Command, DiskFiles, Fault, Form, MakeCommand, make, run};

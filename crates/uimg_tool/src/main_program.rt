@@ -14,7 +14,7 @@ use std::rt::Files;
 use thiserror::Error;
 use uimg_base::{FileSource, Out, Room, Status};
 use uimg_blob::BlobFault;
-use uimg_engine::{Fault, is_same_file, run};
+use uimg_engine::{Fault, is_same_file, run_by};
 use uimg_fit_base::FitFault;
 use uimg_its::Kind;
 use uimg_requests::RunRequest;
@@ -206,7 +206,13 @@ fn run_command<'a, R: Files + AllocGlobal, W: Write>(
     };
     let mut room = Room::new(rt.alloc());
     let status = match request.outfile {
-        None => run(&request.command, &mut source, &mut room, &mut Out::new(out))?,
+        None => run_by(
+            request.naming,
+            &request.command,
+            &mut source,
+            &mut room,
+            &mut Out::new(out),
+        )?,
         Some(path) => {
             if is_same_file(rt, path, request.image) {
                 return Err(RequestFault::WritesWhatIsRead(path));
@@ -214,7 +220,8 @@ fn run_command<'a, R: Files + AllocGlobal, W: Write>(
             let Ok(outfile) = fs::create(rt, request.written.unwrap_or(path)) else {
                 return Err(RequestFault::CannotWrite(path));
             };
-            run(
+            run_by(
+                request.naming,
                 &request.command,
                 &mut source,
                 &mut room,

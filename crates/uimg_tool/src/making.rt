@@ -5,7 +5,7 @@ use crate::xip_files::XipFiles;
 use std::io::Write;
 use std::rt;
 use uimg_base::{FileShelf, Files, Out, Room, Status};
-use uimg_engine::{DiskFiles, Fault, make};
+use uimg_engine::{DiskFiles, Fault, make_by};
 use uimg_requests::{MakeCommand, MakeRequest};
 
 /// Makes the requested image.
@@ -45,11 +45,10 @@ fn make_over<R: rt::Files + AllocGlobal, F: Files, W: Write>(
     files: &mut F,
     out: &mut W,
 ) -> Result<(), Fault> {
-    let made = make(
+    let made = make_by(
         rt.alloc(),
         &request.command,
-        request.time,
-        request.naming,
+        request.manner,
         files,
         FileShelf::new(rt, request.written),
         &mut Room::new(rt.alloc()),

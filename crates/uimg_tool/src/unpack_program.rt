@@ -5,7 +5,7 @@ use crate::main_program::{DONE, FAILED, REFUSED, RequestFault, WRONG_LINE, statu
 use std::io::{BufWriter, Write};
 use std::rt::Files;
 use uimg_base::{FileSource, Source};
-use uimg_engine::{Fault, Format, is_fit};
+use uimg_engine::{Fault, Form, is_fit};
 use uimg_printing::Printed;
 use uimg_unpacking::{Ended, FileId, Folder, PartsEnded, Trouble, Unpacking, unpack, unpack_parts};
 use uimg_words::UnpackRequest;
@@ -36,7 +36,7 @@ pub(crate) fn unpack_image<R: Files + AllocGlobal, W: Write, V: Write>(
         only: request.only,
         need: request.need,
     };
-    let status = match is_fit(Format::Guess, &mut source) {
+    let status = match is_fit(Form::Guess, &mut source) {
         Ok(true) => tell_ended(unpack(rt, &asked, &mut source, &mut gathered), err),
         Ok(false) => unpack_legacy(rt, request.image, &asked, &mut source, &mut gathered, err),
         Err(fault) => tell(err, &RequestFault::Stopped(Fault::from(fault)), FAILED),

@@ -26,7 +26,7 @@ pub use byte_list::ByteList;
 pub use copying::{copy_bytes, copy_node, copy_nodes, copy_properties, copy_property, copy_value};
 pub use fault::TreeFault;
 pub use layout::Layout;
-pub use measuring::measure;
+pub use measuring::{measure, measure_by};
 pub use payloads::{put_aligned, value_size};
 pub use props::{Prop, Props, Value};
 pub use tree::{Node, Nodes, Tree};

@@ -9,7 +9,7 @@ ghost use Rattle.uimg_tree.specs.Layouts.{totalsize};
 ghost use Rattle.uimg_tree.specs.Measured.{measured, Measures};
 ghost use Rattle.uimg_tree.specs.Trees.{node_of};
 
-use crate::alignment::aligned;
+use crate::alignment::{WORD_ALIGNMENT, aligned};
 use crate::checking::check_names;
 use crate::layout::{Layout, STRUCTURE_OFFSET};
 use crate::names::add_all_names;
@@ -23,7 +23,7 @@ use uimg_blob::BlobFault;
 const LARGEST: u128 = 0xffff_ffff;
 
 /// Measures the blob of a tree: the names of its properties, each once in the order of first use,
-/// and the sizes of its blocks. The blob's end is rounded up by `align`, of which four is the least.
+/// and the sizes of its blocks. The blob's end is rounded up to a multiple of 4.
 ///
 /// `BadNodeName` or `BadPropertyName` comes for the first name, in the order of writing, that has
 /// more than 255 bytes or a NUL; then `TooLarge` where the blob has more than 4294967295 bytes, each
@@ -32,7 +32,20 @@ const LARGEST: u128 = 0xffff_ffff;
 ///
 /// The time grows with the properties times the distinct names. The depth of its calls is that of
 /// the tree.
-pub fn measure<'a, A: Allocator>(
+pub fn measure<'a, A: Allocator>(alloc: A, tree: &'a Tree<A>) -> Result<Layout<'a, A>, BlobFault>
+    ensures measured { Measures result (measured 4 (node_of tree.now.root)) }
+    ensures memory { result ≡ Err OutOfMemory → names_of (node_of tree.now.root) ≢ [] }
+    ensures named { OnOk result (AreNamed (node_of tree.now.root)) }
+    ensures sized { IfOk result (λ layout. (files : List ℕ → Option (List ℕ)) →
+        AreKept files (node_of tree.now.root) →
+        length (encode_by 4 (in_full files (node_of tree.now.root))) ≡ totalsize layout) }
+{
+    measure_by(alloc, tree, WORD_ALIGNMENT)
+}
+
+/// Measures the blob of a tree as `measure` does, its end rounded up by an alignment, of which four is
+/// the least.
+pub fn measure_by<'a, A: Allocator>(
     alloc: A,
     tree: &'a Tree<A>,
     align: u32,

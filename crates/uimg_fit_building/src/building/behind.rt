@@ -13,7 +13,7 @@ use crate::payloads::{images_of, payload_of};
 use std::alloc::Allocator;
 use std::io::Write;
 use uimg_base::{Files, Out, Source, WINDOW};
-use uimg_fit_base::{FitFault, Placement};
+use uimg_fit_base::{AlignedPlacement, FitFault};
 use uimg_tree::{Node, Tree, TreeFault, put_aligned, put_zeros};
 
 // The most bytes of a file.
@@ -22,19 +22,19 @@ const LARGEST: u64 = 0xffff_ffff;
 // Refuses payloads that would begin before the end of a blob of so many bytes, and a file that is too
 // large.
 #[tactic(auto, unfolding(crate::specs::Behind::end_fault))]
-fn check_end(size: u32, padded: u64, placement: Placement) -> Result<(), FitFault>
+fn check_end(size: u32, padded: u64, placement: AlignedPlacement) -> Result<(), FitFault>
     requires { padded ≤ 2 ^ 36 }
     ensures { fault_in result ≡ end_fault size padded placement }
 {
     match placement {
-        Placement::Inside => Ok(()),
-        Placement::After { align: _ } => {
+        AlignedPlacement::Inside => Ok(()),
+        AlignedPlacement::After { align: _ } => {
             if size as u64 + padded > LARGEST {
                 return Err(FitFault::TooLarge);
             }
             Ok(())
         }
-        Placement::At { position, align: _ } => {
+        AlignedPlacement::At { position, align: _ } => {
             if position < size {
                 return Err(FitFault::PositionTooLow);
             }
@@ -50,7 +50,7 @@ fn check_end(size: u32, padded: u64, placement: Placement) -> Result<(), FitFaul
 pub(crate) fn check_payloads<A: Allocator>(
     size: u32,
     tree: &Tree<A>,
-    placement: Placement,
+    placement: AlignedPlacement,
 ) -> Result<(), FitFault>
     ensures { fault_in result
         ≡ end_fault size (padded_sizes (align_of placement) (images_in (node_of tree.now.root)))
@@ -98,7 +98,7 @@ fn put_payloads<F: Files, W: Write, A: Allocator>(
 pub(crate) fn put_behind<F: Files, W: Write, A: Allocator>(
     size: u32,
     tree: &Tree<A>,
-    placement: Placement,
+    placement: AlignedPlacement,
     files: &mut F,
     out: &mut Out<W>,
 ) -> Result<(), TreeFault>
@@ -107,9 +107,9 @@ pub(crate) fn put_behind<F: Files, W: Write, A: Allocator>(
         out.old out.new (behind_pieces size (node_of tree.now.root) placement) }
 {
     match placement {
-        Placement::Inside => Ok(()),
-        Placement::After { align } => put_payloads(images_of(&tree.root), align, files, out),
-        Placement::At { position, align } => {
+        AlignedPlacement::Inside => Ok(()),
+        AlignedPlacement::After { align } => put_payloads(images_of(&tree.root), align, files, out),
+        AlignedPlacement::At { position, align } => {
             put_zeros((position - size) as u64, out)?;
             put_payloads(images_of(&tree.root), align, files, out)
         }

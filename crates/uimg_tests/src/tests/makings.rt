@@ -14,7 +14,6 @@ use uimg_base::{
 use uimg_engine::{Fault, MakeCommand, make};
 use uimg_fit_base::Placement;
 use uimg_legacy::{Options, has_parts, name_field};
-use uimg_names::Naming;
 
 /// The files that images are made from.
 pub(super) const FILES: [(&[u8], &[u8]); 5] = [
@@ -234,10 +233,7 @@ fn built<R: AllocGlobal, A: Allocator + Copy, B: Allocator, F: Files + Drop, H: 
     };
     let mut room = Room::new(heap);
     let mut out = Out::new(Vec::new(rt.alloc()));
-    let naming = Naming::Profile;
-    let end = match make(
-        alloc, command, time, naming, &mut files, shelf, &mut room, &mut out,
-    ) {
+    let end = match make(alloc, command, time, &mut files, shelf, &mut room, &mut out) {
         Ok(_) => Ok(Status::Done),
         Err(fault) => Err(fault),
     };

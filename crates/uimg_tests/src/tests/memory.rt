@@ -6,7 +6,8 @@ use super::runs::{action_named, shown, told};
 use std::process::Abort;
 use std::test::Fail;
 use uimg_base::{Out, Room, Source};
-use uimg_engine::{Command, Format, make_in_memory, run_in_memory};
+use uimg_engine::{Command, Form, Manner, make_in_memory, run_in_memory};
+use uimg_fit_base::WORD_ALIGNMENT;
 use uimg_names::Naming;
 
 // The image, the action, its end, and what is written.
@@ -30,9 +31,9 @@ fn plays<R: AllocGlobal + Abort>(rt: &R, row: (&str, &str, &str, &str)) {
     let mut room = Room::new(rt.alloc());
     let command = Command {
         action: action_named(action),
-        format: Format::Guess,
+        form: Form::Guess,
     };
-    let (answer, written) = run_in_memory(rt.alloc(), &command, &image, &mut room);
+    let (answer, written) = run_in_memory(rt.alloc(), Naming::Profile, &command, &image, &mut room);
     assert_eq!(rt; shown(&told(rt.alloc(), &answer)), end, "{name}: {action}");
     assert_eq!(rt; shown(&written), text, "{name}: {action}");
 }
@@ -61,8 +62,11 @@ fn makes<R: AllocGlobal + Abort>(rt: &R, name: &str) -> Result<(), Fail> {
     let made = make_in_memory(
         rt.alloc(),
         &command,
-        time_of(name),
-        Naming::Profile,
+        Manner {
+            time: time_of(name),
+            naming: Naming::Profile,
+            align: WORD_ALIGNMENT,
+        },
         &FILES,
         rt.alloc(),
         &mut room,

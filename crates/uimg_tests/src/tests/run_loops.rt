@@ -5,7 +5,7 @@ use linked_list_allocator::LocalHeap;
 use std::alloc::{AllocError, Global};
 use std::process::Abort;
 use uimg_base::{MemSource, Out, Room};
-use uimg_engine::{Command, Fault, Format, run};
+use uimg_engine::{Command, Fault, Form, run};
 use uimg_fit_tests::samples::set_cell;
 
 const ACTIONS: [&str; 3] = ["list", "verify", "0"];
@@ -159,7 +159,7 @@ fn end_in_holes(alloc: Global, action: &str, image: &[u8]) -> Option<Vec<u8>> {
     let mut out = Out::new(Vec::new(alloc));
     let command = Command {
         action: action_named(action),
-        format: Format::Guess,
+        form: Form::Guess,
     };
     let end = run(&command, &mut MemSource::new(image), &mut room, &mut out);
     if room.count() == 3 && out.into_inner().is_empty() {

@@ -1,8 +1,7 @@
 //! Commands on an image in memory, whose reads and writes may fail.
 use std::alloc::Global;
 use uimg_base::{FuseSource, FuseWriter, MemSource, Out, Room, Source, Status};
-use uimg_engine::{Action, Command, Fault, Format, run};
-use uimg_names::Naming;
+use uimg_engine::{Action, Command, Fault, Form, run};
 
 /// As many calls, or bytes, as there are.
 pub(super) const ALL: u64 = u64::MAX;
@@ -21,7 +20,7 @@ pub(super) struct Left {
 /// Returns the action of a word: `list`, `verify`, or the position for an extraction, `0` or `1`.
 pub(super) fn action_named(word: &str) -> Action {
     match word {
-        "list" => Action::List(Naming::Profile),
+        "list" => Action::List,
         "verify" => Action::Verify,
         "1" => Action::Extract(1),
         _ => Action::Extract(0),
@@ -33,7 +32,7 @@ pub(super) fn action_named(word: &str) -> Action {
 pub(super) fn ran(alloc: Global, action: &str, image: &[u8], calls: u64, bytes: u64) -> Left {
     let command = Command {
         action: action_named(action),
-        format: Format::Guess,
+        form: Form::Guess,
     };
     let mut source = FuseSource::new(MemSource::new(image), calls);
     let mut room = Room::new(alloc);

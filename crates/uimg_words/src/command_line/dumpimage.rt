@@ -6,7 +6,7 @@ use clap::ArgMatches;
 use std::alloc::{AllocError, Global};
 use uimg_base::{FLAT_DT, kind_code};
 use uimg_names::Naming;
-use uimg_requests::{Action, Command, Format, RunRequest, decimal};
+use uimg_requests::{Action, Command, Form, RunRequest, decimal};
 
 pub(super) fn command<'a>(alloc: Global) -> Result<clap::Command<'a>, AllocError> {
     clap::Command::new(alloc, "dumpimage")
@@ -40,18 +40,19 @@ pub(super) fn request<'a>(matches: &ArgMatches<'a>) -> Result<RunRequest<'a>, Wo
     if !list && outfile.is_none() {
         return Err(WordsFault::NoListOrOutfile);
     }
-    let format = match matches.get_str("type") {
+    let form = match matches.get_str("type") {
         Some(name) => format_named(name)?,
-        None => Format::Guess,
+        None => Form::Guess,
     };
     let action = if list {
-        Action::List(Naming::Profile)
+        Action::List
     } else {
         Action::Extract(position(matches.get_str("position"))?)
     };
     let outfile = if list { None } else { outfile };
     Ok(RunRequest {
-        command: Command { action, format },
+        command: Command { action, form },
+        naming: Naming::Profile,
         image: matches.get_str("image").unwrap_or(""),
         outfile,
         written: outfile,
@@ -59,10 +60,10 @@ pub(super) fn request<'a>(matches: &ArgMatches<'a>) -> Result<RunRequest<'a>, Wo
 }
 
 // The format of an image type's short name.
-fn format_named(name: &str) -> Result<Format, WordsFault> {
+fn format_named(name: &str) -> Result<Form, WordsFault> {
     match kind_code(name.as_bytes()) {
-        Some(FLAT_DT) => Ok(Format::Fit),
-        Some(_) => Ok(Format::Legacy),
+        Some(FLAT_DT) => Ok(Form::Fit),
+        Some(_) => Ok(Form::Legacy),
         None => Err(WordsFault::UnknownName),
     }
 }

@@ -5,10 +5,10 @@ use super::{Request, WordsFault, flag, image, value};
 use clap::ArgMatches;
 use std::alloc::{AllocError, Global};
 use uimg_base::{FLAT_DT, arch_code, comp_code, kind_code, os_code};
-use uimg_fit_base::{Placement, WORD_ALIGNMENT};
+use uimg_fit_base::Placement;
 use uimg_legacy::{Options, name_field};
 use uimg_names::Naming;
-use uimg_requests::{Action, Command, Format, MakeRequest, RunRequest, decimal, hexadecimal};
+use uimg_requests::{Action, Command, Form, MakeRequest, RunRequest, decimal, hexadecimal};
 
 pub(super) fn command<'a>(alloc: Global) -> Result<clap::Command<'a>, AllocError> {
     let command = clap::Command::new(alloc, "mkimage")
@@ -88,9 +88,10 @@ pub(super) fn request<'a>(
     if matches.get_flag("list") {
         return Ok(Request::Run(RunRequest {
             command: Command {
-                action: Action::List(Naming::Profile),
-                format: Format::Guess,
+                action: Action::List,
+                form: Form::Guess,
             },
+            naming: Naming::Profile,
             image,
             outfile: None,
             written: None,
@@ -117,13 +118,8 @@ fn placement(matches: &ArgMatches<'_>) -> Result<Placement, WordsFault> {
     let position = address(matches.get_str("position"), 0)?;
     match (matches.get_flag("external"), position) {
         (false, _) => Ok(Placement::Inside),
-        (true, 0) => Ok(Placement::After {
-            align: WORD_ALIGNMENT,
-        }),
-        (true, _) => Ok(Placement::At {
-            position,
-            align: WORD_ALIGNMENT,
-        }),
+        (true, 0) => Ok(Placement::After),
+        (true, _) => Ok(Placement::At(position)),
     }
 }
 

@@ -4,7 +4,8 @@ use super::help_notes::VERIFY_NOTES;
 use super::image;
 use clap::ArgMatches;
 use std::alloc::{AllocError, Global};
-use uimg_requests::{Action, Command, Format, RunRequest};
+use uimg_names::Naming;
+use uimg_requests::{Action, Command, Form, RunRequest};
 
 pub(super) fn command<'a>(alloc: Global) -> Result<clap::Command<'a>, AllocError> {
     clap::Command::new(alloc, "verify")
@@ -17,8 +18,9 @@ pub(super) fn request<'a>(matches: &ArgMatches<'a>) -> RunRequest<'a> {
     RunRequest {
         command: Command {
             action: Action::Verify,
-            format: Format::Guess,
+            form: Form::Guess,
         },
+        naming: Naming::Profile,
         image: matches.get_str("image").unwrap_or(""),
         outfile: None,
         written: None,

@@ -2,7 +2,7 @@
 use std::alloc::{Allocator, Global};
 use std::io::Write;
 use uimg_base::{FuseSource, FuseWriter, MemSource, Out, Room, Source, Status};
-use uimg_legacy::{Fault, extract, list, verify};
+use uimg_legacy::{Fault, extract, list, list_by, verify};
 use uimg_names::Naming;
 
 /// The result of a command.
@@ -34,8 +34,8 @@ fn run<S: Source, A: Allocator, W: Write>(
     out: &mut Out<W>,
 ) -> Result<Status, Fault> {
     match command {
-        "list" => list(source, room, Naming::Profile, out),
-        "list by all names" => list(source, room, Naming::All, out),
+        "list" => list(source, room, out),
+        "list by all names" => list_by(source, room, Naming::All, out),
         "verify" => verify(source, room, out),
         _ => extract(position_of(command), source, room, out),
     }

@@ -1,7 +1,7 @@
 //! Images that are made from sources.
 use std::alloc::{AllocError, Global};
 use uimg_base::{Files, MemFiles, Out};
-use uimg_fit::{Fault, Placement, build, fill};
+use uimg_fit::{Fault, Placement, build, build_by, fill};
 use uimg_its::compile;
 use uimg_tree::Tree;
 
@@ -36,18 +36,12 @@ pub(super) const FOUR_HASH: &str = "/dts-v1/;
 };
 ";
 
-/// The placement of a word: `inside`, `after`, or a position; the latter two may have an alignment, as
-/// in `after by 8`.
+/// The placement of a word: `inside`, `after`, or a position.
 pub(super) fn placement(word: &str) -> Placement {
-    let (place, align) = word.split_once(" by ").unwrap_or((word, "4"));
-    let align = align.parse().unwrap_or(0);
-    match place {
+    match word {
         "inside" => Placement::Inside,
-        "after" => Placement::After { align },
-        _ => Placement::At {
-            position: place.parse().unwrap_or(0),
-            align,
-        },
+        "after" => Placement::After,
+        _ => Placement::At(word.parse().unwrap_or(0)),
     }
 }
 
@@ -77,7 +71,8 @@ pub(super) fn filled<F: Files>(
     }
 }
 
-/// What is answered, and written, where a tree is built.
+/// What is answered, and written, where a tree is built by the word of a placement, which may have an
+/// alignment, as `after by 8`.
 pub(super) fn built<F: Files>(
     alloc: Global,
     tree: &Tree<Global>,
@@ -85,6 +80,12 @@ pub(super) fn built<F: Files>(
     files: &mut F,
 ) -> (Result<(), Fault>, Vec<u8>) {
     let mut out = Out::new(Vec::new(alloc));
-    let answer = build(alloc, tree, files, placement(word), &mut out);
+    let answer = match word.split_once(" by ") {
+        None => build(alloc, tree, files, placement(word), &mut out),
+        Some((word, align)) => {
+            let placement = placement(word).aligned_by(align.parse().unwrap_or(0));
+            build_by(alloc, tree, files, placement, &mut out)
+        }
+    };
     (answer, out.into_inner())
 }

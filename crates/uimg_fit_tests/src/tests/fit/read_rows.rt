@@ -4,7 +4,7 @@ use super::images::{hashed, image};
 use std::alloc::{AllocError, Global};
 use std::test::Fail;
 use uimg_base::{MemSource, Out, Room, Status, crc_of};
-use uimg_fit::{Fault, extract, list, verify};
+use uimg_fit::{Fault, extract, list, list_by, verify};
 use uimg_names::Naming;
 
 // Returns an end in words.
@@ -23,8 +23,8 @@ fn read(alloc: Global, fit: &[u8], call: &str) -> (Result<Status, Fault>, Vec<u8
     let mut room = Room::new(alloc);
     let mut out = Out::new(Vec::new(alloc));
     let end = match call {
-        "list" => list(&mut source, &mut room, Naming::Profile, &mut out),
-        "list by all names" => list(&mut source, &mut room, Naming::All, &mut out),
+        "list" => list(&mut source, &mut room, &mut out),
+        "list by all names" => list_by(&mut source, &mut room, Naming::All, &mut out),
         "verify" => verify(&mut source, &mut room, &mut out),
         _ => extract(call.parse().unwrap_or(9), &mut source, &mut room, &mut out),
     };

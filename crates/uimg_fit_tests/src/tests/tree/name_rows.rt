@@ -9,7 +9,9 @@ use linked_list_allocator::LocalHeap;
 use std::alloc::{AllocError, Global};
 use std::test::Fail;
 use uimg_blob::BlobFault;
-use uimg_tree::{ByteList, Node, Nodes, Prop, Props, Tree, Value, WORD_ALIGNMENT, measure};
+use uimg_tree::{
+    ByteList, Node, Nodes, Prop, Props, Tree, Value, WORD_ALIGNMENT, measure, measure_by,
+};
 
 // What is measured of a tree: its size, or the fault.
 fn measured(alloc: Global, tree: &Tree<Global>) -> Result<String, AllocError> {
@@ -18,7 +20,7 @@ fn measured(alloc: Global, tree: &Tree<Global>) -> Result<String, AllocError> {
 
 // The same by an alignment.
 fn measured_by(alloc: Global, tree: &Tree<Global>, align: u32) -> Result<String, AllocError> {
-    match measure(alloc, tree, align) {
+    match measure_by(alloc, tree, align) {
         Ok(layout) => {
             let size = layout.totalsize();
             format!(in alloc; "{size}")
@@ -237,7 +239,7 @@ fn measured_with<'a>(
     let Ok(_filler) = Vec::<u8, &LocalHeap>::with_capacity(heap, 16 * taken) else {
         return None;
     };
-    match measure(heap, tree, WORD_ALIGNMENT) {
+    match measure(heap, tree) {
         Ok(layout) => Some(Ok(layout.totalsize())),
         Err(fault) => Some(Err(fault)),
     }

@@ -2,7 +2,7 @@
 use std::alloc::Global;
 use uimg_base::{MemFiles, Out};
 use uimg_its::compile;
-use uimg_tree::{Tree, WORD_ALIGNMENT, measure, write_tree};
+use uimg_tree::{Tree, WORD_ALIGNMENT, measure_by, write_tree};
 
 /// The files of the tests.
 pub(super) const NAMED: [(&[u8], &[u8]); 2] = [(b"a", b"abc"), (b"abc.bin", b"abc")];
@@ -98,7 +98,7 @@ pub(super) fn blob_by(
     align: u32,
     named: &[(&[u8], &[u8])],
 ) -> Option<Vec<u8>> {
-    let layout = measure(alloc, tree, align).ok()?;
+    let layout = measure_by(alloc, tree, align).ok()?;
     let mut files = MemFiles::new(named);
     let mut out = Out::new(Vec::new(alloc));
     let answer = write_tree(tree, &layout, &mut files, &mut out);

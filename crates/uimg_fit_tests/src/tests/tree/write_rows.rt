@@ -36,7 +36,7 @@ fn fused<F: Files + Drop>(
 ) -> Result<String, AllocError> {
     let mut files = FuseFiles::new(files, from, 0, calls);
     let mut out = Out::new(Vec::new(alloc));
-    let Ok(layout) = measure(alloc, tree, WORD_ALIGNMENT) else {
+    let Ok(layout) = measure(alloc, tree) else {
         return format!(in alloc; "no layout");
     };
     let answer = write_tree(tree, &layout, &mut files, &mut out);
@@ -101,7 +101,7 @@ fn file_rows(rt: HostRuntime) {
 
 // Whether a writer that takes so many bytes of a tree's blob leaves that prefix.
 fn leaves_prefix(alloc: Global, tree: &Tree<Global>, whole: &[u8], taken: usize) -> bool {
-    let Ok(layout) = measure(alloc, tree, WORD_ALIGNMENT) else {
+    let Ok(layout) = measure(alloc, tree) else {
         return false;
     };
     let mut out = Out::new(FuseWriter::new(Vec::new(alloc), taken as u64));

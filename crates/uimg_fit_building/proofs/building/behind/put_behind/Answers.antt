@@ -5,7 +5,7 @@ use Rattle.uimg_tree.specs.Content.{Content}
 use Rattle.uimg_tree.specs.Pieces.{WritesPieces}
 use Rattle.uimg_tree.specs.Trees.{node_of}
 use Rattle.uimg_tree.proofs.WritesLaws.{◌▶◌, all-put}
-use Rattle.uimg_fit_base.specs.declared.placement.Placement.{Placement}
+use Rattle.uimg_fit_base.specs.declared.placement.AlignedPlacement.{AlignedPlacement}
 use Rattle.uimg_fit_building.specs.Behind.{payload_pieces, behind_pieces}
 use Rattle.uimg_fit_building.proofs.building.behind.put_behind.Goals as goal
 
@@ -17,5 +17,5 @@ returns-in_ok-put_zeros-in-At g c =
     let r = c.put_payloads-in-At.result in
     let u = c.put_payloads-in-At.new.out in
     let payloads = subst (λ (l : List (NodeOf Content)). WritesPieces steady r m n c.put_zeros.new.out u (flat_map (payload_pieces c.in-At.align) l)) c.images_of-in-At.ensures c.put_payloads-in-At.ensures in
-    subst (λ (p : Placement). WritesPieces steady r m n c.args.out.now u (behind_pieces c.args.size (node_of c.args.tree.now.root) p)) (sym c.in-At.is)
+    subst (λ (p : AlignedPlacement). WritesPieces steady r m n c.args.out.now u (behind_pieces c.args.size (node_of c.args.tree.now.root) p)) (sym c.in-At.is)
     (all-put c.in_ok-put_zeros-in-At.ensures ▶ payloads)

@@ -2,7 +2,7 @@ use Rattle.std.proofs.lemmas.Result.{err_from_is_err_and}
 use Rattle.uimg_base.proofs.SinkLaws.{prefix_first}
 use Rattle.uimg_base.proofs.OutcomeLaws.{Tells-after}
 use Rattle.uimg_legacy.proofs.SourceLaws.{honest_still}
-use Rattle.uimg_legacy.proofs.listing.list.Goals as goal
+use Rattle.uimg_legacy.proofs.listing.list_by.Goals as goal
 
 pub returns-in_err-put_head-clause-told : goal.returns-in_err-put_head-clause-told
 returns-in_err-put_head-clause-told g c = λ honest.

@@ -18,7 +18,7 @@ use Rattle.uimg_fit_reading.proofs.ListingLaws.{head_is, list_is}
 use Rattle.uimg_fit_reading.proofs.SharesLaws.{one_text}
 use Rattle.uimg_fit_reading.proofs.TellingLaws.{read_same}
 use Rattle.uimg_fit_reading.proofs.WithinLaws.{no_end, paid, read_size, root_allowed, body_allowed}
-use Rattle.uimg_fit_reading.proofs.listing.list.Goals as goal
+use Rattle.uimg_fit_reading.proofs.listing.list_by.Goals as goal
 
 pub returns-in_err-put_head-clause-delivers : goal.returns-in_err-put_head-clause-delivers
 returns-in_err-put_head-clause-delivers g c = record {

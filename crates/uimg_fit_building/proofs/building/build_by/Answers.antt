@@ -2,7 +2,7 @@ use Rattle.std.proofs.Common.{map}
 use Rattle.uimg_blob.specs.Plain.{with_value, with_values}
 use Rattle.uimg_tree.specs.Content.{bytes_in}
 use Rattle.uimg_fit_building.proofs.BuildLaws.{on-built}
-use Rattle.uimg_fit_building.proofs.building.build.Goals as goal
+use Rattle.uimg_fit_building.proofs.building.build_by.Goals as goal
 
 pub returns-clause-reads_back : goal.returns-clause-reads_back
 unfolding with_values

@@ -10,7 +10,7 @@ use Rattle.uimg_tree.proofs.MeasuredLaws.{are_named, not-memory, same-fault}
 use Rattle.uimg_tree.proofs.PlanLaws.{on-ok, measured-ok, measured-large, measured-bad, Measures-bad}
 use Rattle.uimg_tree.proofs.AlignmentLaws.{large-by}
 use Rattle.uimg_tree.proofs.TotalLaws.{encode-size}
-use Rattle.uimg_tree.proofs.measuring.measure.Goals as goal
+use Rattle.uimg_tree.proofs.measuring.measure_by.Goals as goal
 
 pub returns-in_err-check_names-clause-measured : goal.returns-in_err-check_names-clause-measured
 returns-in_err-check_names-clause-measured g c =

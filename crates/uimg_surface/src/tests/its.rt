@@ -1,0 +1,52 @@
+//! The calls of `uimg_its`.
+
+use super::samples::{FILES, SOURCE};
+use std::alloc::Allocator;
+use uimg_base::MemFiles;
+use uimg_its::{Files, ItsFault, Kind, compile};
+use uimg_tree::Tree;
+
+fn compiled<F: Files, A: Allocator + Copy>(
+    alloc: A,
+    text: &[u8],
+    files: &mut F,
+) -> Result<Tree<A>, ItsFault> {
+    compile(alloc, text, files)
+}
+
+#[test]
+fn sources(rt: HostRuntime) {
+    let compiled = compiled(rt.alloc(), SOURCE, &mut MemFiles::new(&FILES));
+    let Ok(tree) = compiled else {
+        panic!(rt; "no tree");
+    };
+    assert_eq!(rt; tree.root.children.items().len(), 1);
+}
+
+// The number of a kind of fault.
+fn number(kind: Kind) -> u8 {
+    match kind {
+        Kind::BadToken => 1,
+        Kind::BadSyntax => 2,
+        Kind::OutOfProfile(_name) => 3,
+        Kind::BadNumber => 4,
+        Kind::NoFile => 5,
+        Kind::ReadFailed => 6,
+        Kind::OutOfMemory => 7,
+    }
+}
+
+// The number and the line of a fault.
+fn number_at(fault: ItsFault) -> (u8, u64) {
+    let ItsFault { kind, line } = fault;
+    (number(kind), line)
+}
+
+#[test]
+fn faults(rt: HostRuntime) {
+    let found = match compiled(rt.alloc(), SOURCE, &mut MemFiles::new(&[])) {
+        Ok(_) => None,
+        Err(fault) => Some(number_at(fault)),
+    };
+    assert_eq!(rt; found, Some((5, 6)));
+}
