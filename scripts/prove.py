@@ -24,9 +24,9 @@ import kit
 MEMORY = 2_500_000_000
 # Each job is a copy of all that a check reads, so a crate has one, but for processors that would have nothing to do:
 # these go to crates that gain by them, up to so many jobs. Measured on four virtual processors, in seconds of the clock
-# (of processors): uimg_base by three jobs 93 (228), by one 179 (181), beside other work; uimg_blob 73 (200), by one 161;
+# (of processors): uimg_base by three jobs 93 (228), by one 179 (181), beside other work; uimg_blob_reading 73 (200), by one 161;
 # uimg_tool 179 (471), by one 349.
-JOBS = {"uimg_base": 3, "uimg_blob": 3, "uimg_tool": 3}
+JOBS = {"uimg_base": 3, "uimg_blob_reading": 3, "uimg_tool": 3}
 
 
 class Proof:

@@ -8,11 +8,13 @@ contents_of contents None = None
 contents_of contents (Some file) = contents file
 
 -- Bytes were appended to a new file.
-pub record Begins {F : Type 0} (contents : F → Option (List ℕ)) (new : Option (List ℕ)) (bytes : List ℕ) : Type 0 where
+pub record Begins {F : Type 0} (contents : F → Option (List ℕ)) (new : Option (List ℕ))
+    (bytes : List ℕ) : Type 0 where
   pub made : F
   pub appended : Appends (contents made) new bytes
 
 -- The first write created a file and appended as many bytes as it returned.
-abbrev pub BeginsFirst : {F E : Type 0} → (F → Option (List ℕ)) → Option F → Result ℕ E → Option (List ℕ) → List ℕ → Type 0
+abbrev pub BeginsFirst : {F E : Type 0} → (F → Option (List ℕ)) → Option F → Result ℕ E
+    → Option (List ℕ) → List ℕ → Type 0
 BeginsFirst contents None result new bytes = IfOk result (λ n. Begins contents new (take n bytes))
 BeginsFirst contents (Some file) result new bytes = ⊤

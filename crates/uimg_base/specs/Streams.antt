@@ -1,5 +1,6 @@
 -- What contracts know of a file with a position.
-use Rattle.std.specs.Prelude.{◌≡◌, ℕ, IfSome, ◌+◌, ◌^◌, ◌<◌, List, take, length, Option, Some, None, Result, Ok, Err}
+use Rattle.std.specs.Prelude.{◌≡◌, ℕ, IfSome, ◌+◌, ◌^◌, ◌<◌, List, take, length, Option, Some, None}
+use Rattle.std.specs.Prelude.{Result, Ok, Err}
 use Rattle.std.specs.Option.{option_map}
 use Rattle.uimg_texts.specs.Slices.{slice}
 use Rattle.std.proofs.Common.{subst, sym}
@@ -58,6 +59,7 @@ HasLength count s = IfSome s (λ stream. length stream.bytes ≡ count)
 abbrev pub HoldsFrom : ℕ → Option Stream → List ℕ → Type 0
 HoldsFrom at s to = IfSome s (λ stream. to ≡ slice stream.bytes at (length to))
 
-pub short_bytes : (count : ℕ) (s : Option Stream) → count < 2 ^ 64 → HasLength count s → length (bytes_of count s) < 2 ^ 64
+pub short_bytes : (count : ℕ) (s : Option Stream) → count < 2 ^ 64 → HasLength count s
+    → length (bytes_of count s) < 2 ^ 64
 short_bytes count None small whole = zeros_short count small
 short_bytes count (Some s) small whole = subst (λ (n : ℕ). n < 2 ^ 64) (sym whole) small

@@ -1,33 +1,9 @@
-//! Flattened devicetree blobs: the header, the tokens of the structure block, the index of nodes.
-//!
-//! The index is made in one pass. Lemmas prove that this pass follows the grammar
-//! (`proofs/WalkLaws.antt`), what it costs (`CostLaws`), that a node's properties are those after
-//! its name (`OwnLaws`), and that the first node of the role `images` or `configurations` is the
-//! root's first child of that name (`NumberedLaws`). `Examples` has worked blobs.
+//! Devicetree blobs: reading, trees in memory, and writing.
 #![tactic(auto)]
 
-mod entries;
-mod extent;
-mod fault;
-mod indexing;
-mod keys;
-mod labels;
-mod nodes;
-mod places;
-mod properties;
-mod reads;
-mod roles;
-pub mod samples;
-mod slots;
-mod states;
-mod texts;
-mod tokens;
-
-pub use extent::BLOB_MAGIC;
-pub use fault::{BlobFault, IndexFault};
-pub use indexing::index;
-pub use keys::Key;
-pub use nodes::Blob;
-pub use places::PropertyPlace;
-pub use properties::{PropertiesFault, properties_of};
-pub use texts::{put_text, short_text};
+pub use uimg_blob_reading::{
+    Blob, BlobFault, IndexFault, Key, index, put_text, samples, short_text,
+};
+pub use uimg_blob_writing::{
+    ByteList, Layout, Node, Nodes, Prop, Props, Tree, TreeFault, Value, measure, write_tree,
+};

@@ -1,5 +1,6 @@
 -- What the exports report of the outcome of a command.
-use Rattle.std.specs.Prelude.{◌≡◌, ℕ, min, List, ◌++◌, length, take, drop, Option, Some, None, Result, Ok, Err}
+use Rattle.std.specs.Prelude.{◌≡◌, ℕ, min, List, ◌++◌, length, take, drop, Option, Some, None}
+use Rattle.std.specs.Prelude.{Result, Ok, Err}
 use Rattle.uimg_sums.specs.declared.algo.Algo.{Algo}
 use Rattle.uimg_texts.specs.Slices.{slice}
 use Rattle.uimg_base.specs.Outcome.{Outcome, End, not_right}
@@ -20,7 +21,8 @@ use Rattle.uimg_c.specs.Codes.{code_of, code_of_answer, code_of_fault, code_of_f
 -- length; the rest of that memory is unchanged.
 pub record Reports (o : Outcome Fault) (old new : List ℕ) (report : UimgReport) : Type 0 where
   -- status, fault and offset are those of the outcome
-  pub code : code_of o.end ≡ Some (record { status = report.status; fault = report.fault; place = report.place })
+  pub code : code_of o.end ≡ Some
+      (record { status = report.status; fault = report.fault; place = report.place })
   -- the length of the whole text
   pub needed : report.needed ≡ length o.text
   -- never more than the caller has memory for
@@ -34,13 +36,16 @@ no_report = record { status = 3; fault = 0; place = 0; needed = 0; written = 0; 
 
 -- A payload has the end of an extraction's outcome, and the span of the bytes in the image.
 pub record Finds (o : Outcome Fault) (image : List ℕ) (payload : UimgPayload) : Type 0 where
-  pub code : code_of o.end ≡ Some (record { status = payload.status; fault = payload.fault; place = payload.place })
+  pub code : code_of o.end ≡ Some
+      (record { status = payload.status; fault = payload.fault; place = payload.place })
   -- exactly the bytes that an extraction writes
   pub bytes : payload.status ≡ 0 → o.text ≡ slice image payload.start payload.size
 
 -- The same for a search in a FIT image, which finds exactly these bytes, or a fault.
-pub record FindsNamed (found : Result (List ℕ) FitEngineFault) (image : List ℕ) (payload : UimgPayload) : Type 0 where
-  pub code : code_of_found found ≡ Some (record { status = payload.status; fault = payload.fault; place = payload.place })
+pub record FindsNamed (found : Result (List ℕ) FitEngineFault) (image : List ℕ)
+    (payload : UimgPayload) : Type 0 where
+  pub code : code_of_found found ≡ Some
+      (record { status = payload.status; fault = payload.fault; place = payload.place })
   pub bytes : payload.status ≡ 0 → found ≡ Ok (slice image payload.start payload.size)
 
 -- the end of a check; an unknown algorithm vouches for nothing
@@ -50,10 +55,12 @@ check_by (Some need) image = check_of need image
 
 -- A report without a text has the end of a check.
 pub record Checks (need : ℕ) (image : List ℕ) (report : UimgReport) : Type 0 where
-  pub code : code_of (check_by (strength need) image) ≡ Some (record { status = report.status; fault = report.fault; place = report.place })
+  pub code : code_of (check_by (strength need) image) ≡ Some
+      (record { status = report.status; fault = report.fault; place = report.place })
   pub no_text : (report.needed ≡ 0) × (report.written ≡ 0)
 
--- the most bytes that the table of an image's nodes takes, with a window of 8192 bytes: 128 for each node of a FIT image
+-- the most bytes that the table of an image's nodes takes, with a window of 8192 bytes: 128 for
+-- each node of a FIT image
 abbrev pub table_most : Form → List ℕ → ℕ
 table_most form image = held_bytes (nodes_in (is_fit form image) image)
 
@@ -64,5 +71,6 @@ code_of_count (Err fault) = code_of_fault fault
 
 -- A count has the number of payloads, or why they cannot be counted.
 pub record Counts (counted : Result ℕ Fault) (count : UimgCount) : Type 0 where
-  pub code : code_of_count counted ≡ Some (record { status = count.status; fault = count.fault; place = count.place })
+  pub code : code_of_count counted ≡ Some
+      (record { status = count.status; fault = count.fault; place = count.place })
   pub is : count.status ≡ 0 → counted ≡ Ok count.count

@@ -5,8 +5,8 @@ use Rattle.uimg_sums.specs.declared.algo.Algo.TheVariants as algo
 use Rattle.uimg_base.specs.Outcome.{End, done, not_right, refused}
 use Rattle.uimg_base.specs.declared.status.Status.{Status}
 use Rattle.uimg_base.specs.declared.status.Status.TheVariants.{Done, NotRight}
-use Rattle.uimg_blob.specs.declared.fault.BlobFault.{BlobFault}
-use Rattle.uimg_blob.specs.declared.fault.BlobFault.TheVariants as blob
+use Rattle.uimg_blob_reading.specs.declared.fault.BlobFault.{BlobFault}
+use Rattle.uimg_blob_reading.specs.declared.fault.BlobFault.TheVariants as blob
 use Rattle.uimg_fit_base.specs.declared.fault.FitFault.{FitFault}
 use Rattle.uimg_fit_base.specs.declared.fault.FitFault.TheVariants as fit
 use Rattle.uimg_legacy.specs.declared.fault.LegacyFault.{LegacyFault}
@@ -91,5 +91,6 @@ code_of (refused fault) = code_of_fault fault
 -- the algorithms, by the numbers of their strength
 abbrev pub strength : ℕ → Option Algo
 strength n =
-    if n == 1 then Some algo.Crc32 else if n == 2 then Some algo.Md5 else if n == 3 then Some algo.Sha1 else if n == 4 then Some algo.Sha256
+    if n == 1 then Some algo.Crc32 else if n == 2 then Some algo.Md5 else if n == 3 then Some
+    algo.Sha1 else if n == 4 then Some algo.Sha256
     else if n == 5 then Some algo.Sha384 else if n == 6 then Some algo.Sha512 else None

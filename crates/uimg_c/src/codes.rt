@@ -4,7 +4,7 @@ ghost use Rattle.std.specs.Prelude.{◌≡◌, ◌+◌, ◌*◌, ◌<◌};
 ghost use Rattle.uimg_c.specs.Codes.{legacy_number, blob_number, fit_number, code_of_fault, code_of_answer};
 
 use uimg_base::Status;
-use uimg_blob::BlobFault;
+use uimg_blob_reading::BlobFault;
 use uimg_engine::Fault;
 use uimg_fit_base::FitFault;
 use uimg_legacy::LegacyFault;

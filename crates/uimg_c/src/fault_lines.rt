@@ -5,7 +5,7 @@ ghost use Rattle.std.specs.Prelude.{◌≤◌};
 use crate::fronts::copy_front;
 use std::fmt;
 use std::fmt::{Display, Write};
-use uimg_blob::BlobFault;
+use uimg_blob_reading::BlobFault;
 use uimg_fit_base::FitFault;
 use uimg_legacy::LegacyFault;
 

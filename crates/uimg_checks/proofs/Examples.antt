@@ -4,14 +4,14 @@ use Rattle.uimg_sums.specs.Crc
 use Rattle.uimg_sums.specs.declared.algo.Algo.TheVariants as algo
 use Rattle.uimg_texts.specs.Nul.{before_nul, text}
 use Rattle.uimg_texts.specs.Numbers.{be32}
-use Rattle.uimg_blob.specs.Tokens.{tokens_from, token_at}
-use Rattle.uimg_blob.specs.Grammar.{root, properties, children, without_nops}
-use Rattle.uimg_blob.specs.Blob.{tree, blocks}
-use Rattle.uimg_blob.specs.Plain.{Nodes, no_node, a_node}
-use Rattle.uimg_blob.specs.LookUps.{listed}
-use Rattle.uimg_blob.specs.Spots.{spots}
-use Rattle.uimg_tree.specs.Alignment.{aligned}
-use Rattle.uimg_tree.specs.Encoding.{word, with_names, with_names_in, name_offset, property_bytes, nodes_bytes, blob, encode}
+use Rattle.uimg_blob_reading.specs.Tokens.{tokens_from, token_at}
+use Rattle.uimg_blob_reading.specs.Grammar.{root, properties, children, without_nops}
+use Rattle.uimg_blob_reading.specs.Blob.{tree, blocks}
+use Rattle.uimg_blob_reading.specs.Plain.{Nodes, no_node, a_node}
+use Rattle.uimg_blob_reading.specs.LookUps.{listed}
+use Rattle.uimg_blob_reading.specs.Spots.{spots}
+use Rattle.uimg_blob_writing.specs.Alignment.{aligned}
+use Rattle.uimg_blob_writing.specs.Encoding.{word, with_names, with_names_in, name_offset, property_bytes, nodes_bytes, blob, encode}
 use Rattle.uimg_fit_base.specs.declared.fault.Fault.TheVariants.{Fit}
 use Rattle.uimg_fit_base.specs.declared.fault.FitFault.TheVariants.{NoImages}
 use Rattle.uimg_fit_base.specs.declared.verdicts.Verdict.TheVariants as word_of

@@ -2,7 +2,10 @@
 use Rattle.std.specs.Prelude.{ℕ, List, codes}
 use Rattle.uimg_fit_base.specs.Report.{word_text}
 use Rattle.uimg_checks.specs.declared.answer.Answer.{Answer}
-use Rattle.uimg_checks.specs.declared.answer.Answer.TheVariants.{Right, Unhashed, Wrong, Weak, Overlapping, Empty, Missing, RightChecksums, BadChecksum, WeakChecksums, Refused, Failed}
+use Rattle.uimg_checks.specs.declared.answer.Answer.TheVariants.{Right, Unhashed, Wrong, Weak}
+use Rattle.uimg_checks.specs.declared.answer.Answer.TheVariants.{Overlapping, Empty, Missing}
+use Rattle.uimg_checks.specs.declared.answer.Answer.TheVariants.{RightChecksums, BadChecksum}
+use Rattle.uimg_checks.specs.declared.answer.Answer.TheVariants.{WeakChecksums, Refused, Failed}
 
 abbrev pub status_of : Answer → ℕ
 status_of (Right images hashes unchecked) = 0

@@ -1,5 +1,6 @@
 -- What a check of an image finds.
-use Rattle.std.specs.Prelude.{◌≡◌, ⊤, ℕ, ◌+◌, List, length, Bool, true, false, Option, Some, None, Result, Ok, Err, IsTrue, IfOk}
+use Rattle.std.specs.Prelude.{◌≡◌, ⊤, ℕ, ◌+◌, List, length, Bool, true, false, Option, Some, None}
+use Rattle.std.specs.Prelude.{Result, Ok, Err, IsTrue, IfOk}
 use Rattle.uimg_sums.specs.declared.algo.Algo.{Algo}
 use Rattle.uimg_sums.specs.declared.algo.Algo.TheVariants as algo
 use Rattle.uimg_base.specs.Device.{Device}
@@ -25,7 +26,8 @@ abbrev pub work_in : Bool → List ℕ → ℕ
 work_in true file = fit.check_work file
 work_in false file = legacy.verify_work file
 
--- the most bytes that a check asks for: the four that tell the format, the metadata, and no more bytes of payloads than the file has
+-- the most bytes that a check asks for: the four that tell the format, the metadata, and no more
+-- bytes of payloads than the file has
 abbrev pub check_work : List ℕ → ℕ
 check_work file = 4 + work_in (is_fit form.Guess file) file
 
@@ -81,14 +83,17 @@ told_at file (Err fault) = Err fault
 
 -- The result is the finding of the definition, unless a read failed or memory was refused.
 abbrev pub TellsCheckIn : Bool → Option Algo → List ℕ → Result Checked Fault → Type 0
-TellsCheckIn fit need file result = is_read result ≡ false → is_no_memory result ≡ false → check_of fit need file ≡ told_at file result
+TellsCheckIn fit need file result =
+    is_read result ≡ false → is_no_memory result ≡ false
+    → check_of fit need file ≡ told_at file result
 
 -- .. of a file that is read as its first bytes tell
 abbrev pub TellsCheck : Option Algo → List ℕ → Result Checked Fault → Type 0
 TellsCheck need file result = TellsCheckIn (is_fit form.Guess file) need file result
 
 -- What the check of an image of a format did at any exit.
-pub record ChecksInBetween (fit : Bool) (need : Option Algo) (result : Result Checked Fault) (d e : Device) (old new : Held) : Type 0 where
+pub record ChecksInBetween (fit : Bool) (need : Option Algo) (result : Result Checked Fault)
+    (d e : Device) (old new : Held) : Type 0 where
   pub uses : UsesAtMost (work_in fit d.bytes) (is_read result) d e
   pub room : Takes fit d (is_no_memory result) old new
   pub no_put : is_put result ≡ false
@@ -96,6 +101,7 @@ pub record ChecksInBetween (fit : Bool) (need : Option Algo) (result : Result Ch
   pub inside : IfOk result (EndsInside (length d.bytes))
   pub told : IsTrue d.honest → TellsCheckIn fit need d.bytes result
 
-abbrev pub ChecksIn : {S : Type 0} → Bool → Option Algo → Result Checked Fault → (S → Device) → Lent S → Lent Held → Type 0
+abbrev pub ChecksIn : {S : Type 0} → Bool → Option Algo → Result Checked Fault → (S → Device)
+    → Lent S → Lent Held → Type 0
 ChecksIn fit need result device source room = ChecksInBetween fit need result
     (device source.entry.now) (device source.exit.now) room.entry.now room.exit.now

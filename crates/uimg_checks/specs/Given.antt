@@ -7,18 +7,24 @@ use Rattle.uimg_fit_checking.specs.declared.surveying.facts.ConfigurationFacts.{
 use Rattle.uimg_fit_checking.specs.Survey.{ConfigurationSaid}
 use Rattle.uimg_fit_reading.specs.PayloadPlaces.{Ends}
 use Rattle.uimg_checks.specs.declared.references.reference.Reference.{Reference}
-use Rattle.uimg_checks.specs.declared.references.reference.Reference.TheVariants.{Kernel, Ramdisk, Fdt, Loadables, Firmware, Fpga, Setup, Standalone, Script}
+use Rattle.uimg_checks.specs.declared.references.reference.Reference.TheVariants.{Kernel, Ramdisk}
+use Rattle.uimg_checks.specs.declared.references.reference.Reference.TheVariants.{Fdt, Loadables}
+use Rattle.uimg_checks.specs.declared.references.reference.Reference.TheVariants.{Firmware, Fpga}
+use Rattle.uimg_checks.specs.declared.references.reference.Reference.TheVariants.{Setup, Standalone}
+use Rattle.uimg_checks.specs.declared.references.reference.Reference.TheVariants.{Script}
 
 -- the values
 abbrev pub given_by : ConfigurationSaid → List (Reference × Option (List ℕ))
 given_by c =
-    (Kernel, c.kernel) ∷ (Ramdisk, c.ramdisk) ∷ (Fdt, c.fdt) ∷ (Loadables, c.loadables) ∷ (Firmware, c.firmware)
+    (Kernel, c.kernel) ∷ (Ramdisk, c.ramdisk) ∷ (Fdt, c.fdt) ∷ (Loadables, c.loadables)
+    ∷ (Firmware, c.firmware)
     ∷ (Fpga, c.fpga) ∷ (Setup, c.setup) ∷ (Standalone, c.standalone) ∷ (Script, c.script) ∷ []
 
 -- the spans of the values
 abbrev pub given_facts : ConfigurationFacts → List (Reference × Option Span)
 given_facts c =
-    (Kernel, c.kernel) ∷ (Ramdisk, c.ramdisk) ∷ (Fdt, c.fdt) ∷ (Loadables, c.loadables) ∷ (Firmware, c.firmware)
+    (Kernel, c.kernel) ∷ (Ramdisk, c.ramdisk) ∷ (Fdt, c.fdt) ∷ (Loadables, c.loadables)
+    ∷ (Firmware, c.firmware)
     ∷ (Fpga, c.fpga) ∷ (Setup, c.setup) ∷ (Standalone, c.standalone) ∷ (Script, c.script) ∷ []
 
 -- a property with its value in a file

@@ -2,9 +2,13 @@
 use Rattle.std.specs.Prelude.{ℕ, List, [], ◌++◌, codes, Option, Some, None}
 use Rattle.std.specs.Borrow.{Bor}
 use Rattle.json.specs.Json.{Json}
-use Rattle.uimg_printing.specs.Members.{Member, object_of, string_member, number_member, number_if, text_members}
+use Rattle.uimg_printing.specs.Members.{Member, object_of, string_member, number_member, number_if}
+use Rattle.uimg_printing.specs.Members.{text_members}
 use Rattle.uimg_checks.specs.declared.answer.Answer.{Answer}
-use Rattle.uimg_checks.specs.declared.answer.Answer.TheVariants.{Right, Unhashed, Wrong, Weak, Overlapping, Empty, Missing, RightChecksums, BadChecksum, WeakChecksums, Refused, Failed}
+use Rattle.uimg_checks.specs.declared.answer.Answer.TheVariants.{Right, Unhashed, Wrong, Weak}
+use Rattle.uimg_checks.specs.declared.answer.Answer.TheVariants.{Overlapping, Empty, Missing}
+use Rattle.uimg_checks.specs.declared.answer.Answer.TheVariants.{RightChecksums, BadChecksum}
+use Rattle.uimg_checks.specs.declared.answer.Answer.TheVariants.{WeakChecksums, Refused, Failed}
 use Rattle.uimg_checks.specs.declared.answer.Format.{Format}
 use Rattle.uimg_checks.specs.declared.answer.Format.TheVariants.{Fit, Legacy}
 use Rattle.uimg_checks.specs.declared.answer.Stop.{Stop}
@@ -45,14 +49,18 @@ format_of (Failed stop) = stop.format
 -- a fault: its code, its line, and its offset
 abbrev pub stop_members : Stop → List Member
 stop_members stop =
-    string_if (codes "fault") stop.code ++ (string_member (codes "message") stop.message.now ++ number_if (codes "offset") stop.offset)
+    string_if (codes "fault") stop.code
+    ++ (string_member (codes "message") stop.message.now
+    ++ number_if (codes "offset") stop.offset)
 
 -- the members after the format
 abbrev pub about : Answer → List Member
 about (Right images hashes unchecked) =
-    number_member (codes "images") images ++ (number_member (codes "hashes") hashes ++ number_if (codes "unchecked") unchecked)
+    number_member (codes "images") images
+    ++ (number_member (codes "hashes") hashes ++ number_if (codes "unchecked") unchecked)
 about (Unhashed image) = text_members (codes "image") image.now
-about (Wrong word image hash) = text_members (codes "image") image.now ++ text_members (codes "hash") hash.now
+about (Wrong word image hash) =
+    text_members (codes "image") image.now ++ text_members (codes "hash") hash.now
 about (Weak image) = text_members (codes "image") image.now
 about (Overlapping image) = text_members (codes "image") image.now
 about Empty = []

@@ -1,7 +1,12 @@
 -- The properties whose values are names (Flattened Image Tree format, "'/configurations' node").
 use Rattle.std.specs.Prelude.{ℕ, List, codes}
 use Rattle.uimg_checks.specs.declared.references.reference.Reference.{Reference}
-use Rattle.uimg_checks.specs.declared.references.reference.Reference.TheVariants.{Default, Kernel, Ramdisk, Fdt, Loadables, Firmware, Fpga, Setup, Standalone, Script}
+use Rattle.uimg_checks.specs.declared.references.reference.Reference.TheVariants.{Default, Kernel}
+use Rattle.uimg_checks.specs.declared.references.reference.Reference.TheVariants.{Ramdisk, Fdt}
+use Rattle.uimg_checks.specs.declared.references.reference.Reference.TheVariants.{Loadables}
+use Rattle.uimg_checks.specs.declared.references.reference.Reference.TheVariants.{Firmware, Fpga}
+use Rattle.uimg_checks.specs.declared.references.reference.Reference.TheVariants.{Setup, Standalone}
+use Rattle.uimg_checks.specs.declared.references.reference.Reference.TheVariants.{Script}
 
 abbrev pub property_name : Reference → List ℕ
 property_name Default = codes "default"

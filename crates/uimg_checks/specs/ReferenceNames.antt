@@ -23,7 +23,8 @@ abbrev pub AddsName : {Z W : Type 0} → List ℕ → BTreeSet (Vec ℕ Z) → B
 AddsName added old new = (name : List ℕ) → has new name ≡ (bytes_eq name added || has old name)
 
 -- Over an honest source a set has exactly the names of a list, read from its bytes.
-abbrev pub TellsNames : {S Z E : Type 0} → (List ℕ → List (List ℕ)) → Result (BTreeSet (Vec ℕ Z)) E → (S → Device) → Lent S → Type 0
+abbrev pub TellsNames : {S Z E : Type 0} → (List ℕ → List (List ℕ)) → Result (BTreeSet (Vec ℕ Z)) E
+    → (S → Device) → Lent S → Type 0
 TellsNames list result device source = IsTrue (device source.entry.now).honest
     → IfOk result (λ names. HasNames names (list (device source.entry.now).bytes))
 

@@ -20,4 +20,5 @@ values_size c = sum_by given_size (given_facts c)
 abbrev pub missing_work : Survey → ℕ
 missing_work survey =
     sum_by (λ c. c.name.length) survey.configurations.items + span_size survey.preferred
-    + sum_by (λ i. i.name.length) survey.images.items + sum_by values_size survey.configurations.items
+    + sum_by (λ i. i.name.length) survey.images.items
+    + sum_by values_size survey.configurations.items

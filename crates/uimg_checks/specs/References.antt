@@ -1,5 +1,6 @@
 -- Names that a FIT image uses but lacks (Flattened Image Tree format, "'/configurations' node").
-use Rattle.std.specs.Prelude.{◌≡◌, ℕ, List, [], ◌∷◌, map, Option, Some, None, Result, IfOk, IsTrue, Vec}
+use Rattle.std.specs.Prelude.{◌≡◌, ℕ, List, [], ◌∷◌, map, Option, Some, None, Result, IfOk, IsTrue}
+use Rattle.std.specs.Prelude.{Vec}
 use Rattle.std.specs.BTreeSet.{BTreeSet}
 use Rattle.std.specs.List.{find}
 use Rattle.std.specs.Option.{option_map}
@@ -32,8 +33,14 @@ lost_in names None = None
 lost_in names (Some value) = find (is_lost names) (pieces value)
 
 -- the same with the configuration and the property that give it
-abbrev pub missing_under : List (List ℕ) → Option (List ℕ) → Reference → Option (List ℕ) → Option MissingSaid
-missing_under names giver property value = option_map (λ text. record { configuration = giver; reference = property; name = text }) (lost_in names value)
+abbrev pub missing_under : List (List ℕ) → Option (List ℕ) → Reference → Option (List ℕ)
+    → Option MissingSaid
+missing_under names giver property value =
+    option_map (λ text. record {
+      configuration = giver;
+      reference = property;
+      name = text;
+    }) (lost_in names value)
 
 -- the first of two, if there is one
 abbrev pub first_of : Option MissingSaid → Option MissingSaid → Option MissingSaid
@@ -41,9 +48,11 @@ first_of (Some found) later = Some found
 first_of None later = later
 
 -- the first in the values of several properties
-abbrev pub missing_among : List (List ℕ) → Option (List ℕ) → List (Reference × Option (List ℕ)) → Option MissingSaid
+abbrev pub missing_among : List (List ℕ) → Option (List ℕ) → List (Reference × Option (List ℕ))
+    → Option MissingSaid
 missing_among names giver [] = None
-missing_among names giver (given ∷ more) = first_of (missing_under names giver given.0 given.1) (missing_among names giver more)
+missing_among names giver (given ∷ more) =
+    first_of (missing_under names giver given.0 given.1) (missing_among names giver more)
 
 -- the first name in a configuration that no image has
 abbrev pub missing_of : List (List ℕ) → ConfigurationSaid → Option MissingSaid
@@ -62,36 +71,54 @@ missing_in said =
 
 -- a missing name, read in a file
 abbrev pub read_missing : List ℕ → Missing → MissingSaid
-read_missing file missing = record { configuration = bytes_in file missing.configuration; reference = missing.reference; name = missing.name.items }
+read_missing file missing =
+    record {
+      configuration = bytes_in file missing.configuration;
+      reference = missing.reference;
+      name = missing.name.items;
+    }
 
 -- The result is what is missing in a file.
 abbrev pub TellsMissing : List ℕ → Option MissingSaid → Result (Option Missing) SurveyFault → Type 0
 TellsMissing file said result = IfOk result (λ found. option_map (read_missing file) found ≡ said)
 
 -- What is missing by spans of values: for one property or several, one configuration or several.
-abbrev pub under_property : Option Span → Reference → Option Span → List (List ℕ) → List ℕ → Option MissingSaid
-under_property giver property value names file = missing_under names (bytes_in file giver) property (bytes_in file value)
+abbrev pub under_property : Option Span → Reference → Option Span → List (List ℕ) → List ℕ
+    → Option MissingSaid
+under_property giver property value names file =
+    missing_under names (bytes_in file giver) property (bytes_in file value)
 
-abbrev pub among_properties : Option Span → List (Reference × Option Span) → List (List ℕ) → List ℕ → Option MissingSaid
-among_properties giver properties names file = missing_among names (bytes_in file giver) (map (read_given file) properties)
+abbrev pub among_properties : Option Span → List (Reference × Option Span) → List (List ℕ) → List ℕ
+    → Option MissingSaid
+among_properties giver properties names file =
+    missing_among names (bytes_in file giver) (map (read_given file) properties)
 
 abbrev pub of_configuration : ConfigurationFacts → List (List ℕ) → List ℕ → Option MissingSaid
-of_configuration configuration images file = missing_of images (read_configuration file configuration)
+of_configuration configuration images file =
+    missing_of images (read_configuration file configuration)
 
 abbrev pub of_configurations : List ConfigurationFacts → List (List ℕ) → List ℕ → Option MissingSaid
-of_configurations configurations images file = first_missing images (map (read_configuration file) configurations)
+of_configurations configurations images file =
+    first_missing images (map (read_configuration file) configurations)
 
 -- At most `most` bytes were requested; only failed reads, which are counted, and refused memory are
 -- faults. Over an honest source, with the names of a list as set, it finds what is missing.
-pub record FindsBetween {Z : Type 0} (most : ℕ) (said : List (List ℕ) → List ℕ → Option MissingSaid) (names : BTreeSet (Vec ℕ Z)) (result : Result (Option Missing) SurveyFault) (d e : Device) : Type 0 where
+pub record FindsBetween {Z : Type 0} (most : ℕ) (said : List (List ℕ) → List ℕ → Option MissingSaid)
+    (names : BTreeSet (Vec ℕ Z)) (result : Result (Option Missing) SurveyFault) (d e : Device)
+    : Type 0 where
   pub uses : Asks most (is_unread result) d e
   pub own : IsOwn result
-  pub told : IsTrue d.honest → (list : List (List ℕ)) → HasNames names list → TellsMissing d.bytes (said list d.bytes) result
+  pub told : IsTrue d.honest → (list : List (List ℕ)) → HasNames names list
+      → TellsMissing d.bytes (said list d.bytes) result
 
-abbrev pub Finds : {S Z : Type 0} → ℕ → (List (List ℕ) → List ℕ → Option MissingSaid) → BTreeSet (Vec ℕ Z) → Result (Option Missing) SurveyFault → (S → Device) → Lent S → Type 0
-Finds most said names result device source = FindsBetween most said names result (device source.entry.now) (device source.exit.now)
+abbrev pub Finds : {S Z : Type 0} → ℕ → (List (List ℕ) → List ℕ → Option MissingSaid)
+    → BTreeSet (Vec ℕ Z) → Result (Option Missing) SurveyFault → (S → Device) → Lent S → Type 0
+Finds most said names result device source =
+    FindsBetween most said names result (device source.entry.now) (device source.exit.now)
 
 -- Over an honest source the result is what is missing in a survey.
-abbrev pub TellsFirst : {S : Type 0} → Survey → Result (Option Missing) SurveyFault → (S → Device) → Lent S → Type 0
+abbrev pub TellsFirst : {S : Type 0} → Survey → Result (Option Missing) SurveyFault → (S → Device)
+    → Lent S → Type 0
 TellsFirst survey result device source = IsTrue (device source.entry.now).honest
-    → TellsMissing (device source.entry.now).bytes (missing_in (read_survey (device source.entry.now).bytes survey)) result
+    → TellsMissing (device source.entry.now).bytes
+    (missing_in (read_survey (device source.entry.now).bytes survey)) result

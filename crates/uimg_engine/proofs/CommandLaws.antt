@@ -9,7 +9,7 @@ use Rattle.uimg_base.specs.Named.{FileMap}
 use Rattle.uimg_base.specs.Sink.{Sink}
 use Rattle.uimg_base.specs.Outcome.{Tells}
 use Rattle.uimg_base.specs.declared.status.Status.{Status}
-use Rattle.uimg_blob.specs.Counts.{nodes_met}
+use Rattle.uimg_blob_reading.specs.Counts.{nodes_met}
 use Rattle.uimg_fit_base.specs.Faults.{of_making}
 use Rattle.uimg_fit_base.specs.Placements.{aligned_by}
 use Rattle.uimg_fit_base.specs.declared.fault.FitFault.{FitFault}

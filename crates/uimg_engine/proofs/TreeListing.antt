@@ -10,14 +10,14 @@ use Rattle.uimg_base.specs.Outcome.{Outcome, done, refused, Tells, unless_refuse
 use Rattle.uimg_base.specs.declared.status.Status.{Status}
 use Rattle.uimg_base.proofs.SinkLaws.{prefix_none, appended_to_nothing}
 use Rattle.uimg_texts.specs.Numbers.{be32}
-use Rattle.uimg_blob.specs.Faults.{refuses_memory}
-use Rattle.uimg_blob.specs.Plain.{NamedOf, NodesOf, Nodes, no_node, a_node}
-use Rattle.uimg_blob.specs.LookUps.{NodeOf, images}
-use Rattle.uimg_blob.specs.Spots.{Spot}
-use Rattle.uimg_blob.specs.declared.fault.BlobFault.{BlobFault}
-use Rattle.uimg_blob.specs.declared.fault.BlobFault.TheVariants.{BadNodeName, BadPropertyName}
-use Rattle.uimg_tree.specs.Encoding.{blob}
-use Rattle.uimg_tree.specs.Measured.{is_name, bad_property, bad_name}
+use Rattle.uimg_blob_reading.specs.Faults.{refuses_memory}
+use Rattle.uimg_blob_reading.specs.Plain.{NamedOf, NodesOf, Nodes, no_node, a_node}
+use Rattle.uimg_blob_reading.specs.LookUps.{NodeOf, images}
+use Rattle.uimg_blob_reading.specs.Spots.{Spot}
+use Rattle.uimg_blob_reading.specs.declared.fault.BlobFault.{BlobFault}
+use Rattle.uimg_blob_reading.specs.declared.fault.BlobFault.TheVariants.{BadNodeName, BadPropertyName}
+use Rattle.uimg_blob_writing.specs.Encoding.{blob}
+use Rattle.uimg_blob_writing.specs.Measured.{is_name, bad_property, bad_name}
 use Rattle.uimg_fit_base.specs.declared.fault.Fault.{Fault as FitEngineFault}
 use Rattle.uimg_fit_base.specs.declared.fault.Fault.TheVariants as fit
 use Rattle.uimg_fit_base.specs.declared.fault.FitFault.{FitFault}

@@ -1,6 +1,7 @@
 -- What the making of an image gives, by its command.
 use Rattle.std.specs.Borrow.{Bor}
-use Rattle.std.specs.Prelude.{◌≡◌, ℕ, List, [], map, Option, None, Result, Ok, Err, IsTrue, IfErr, Bool, false, ⊤}
+use Rattle.std.specs.Prelude.{◌≡◌, ℕ, List, [], map, Option, None, Result, Ok, Err, IsTrue, IfErr}
+use Rattle.std.specs.Prelude.{Bool, false, ⊤}
 use Rattle.std.specs.Bool.{OnFalse}
 use Rattle.uimg_base.specs.Device.{Device, Rose, RisesIf}
 use Rattle.uimg_base.specs.Held.{Held}
@@ -19,7 +20,8 @@ use Rattle.uimg_requests.specs.declared.command.Action.TheVariants as Action
 use Rattle.uimg_requests.specs.declared.command.Form.TheVariants as Form
 use Rattle.uimg_requests.specs.declared.make_command.MakeCommand.{MakeCommand}
 use Rattle.uimg_requests.specs.declared.make_command.MakeCommand.TheVariants.{Parts, Tree}
-use Rattle.uimg_engine.specs.Faults.{end_of, is_read, is_put, is_no_memory, is_of_making, is_no_text, is_no_payload, refuses_payload}
+use Rattle.uimg_engine.specs.Faults.{end_of, is_read, is_put, is_no_memory, is_of_making}
+use Rattle.uimg_engine.specs.Faults.{is_no_text, is_no_payload, refuses_payload}
 use Rattle.uimg_engine.specs.Headline.{outcome_in, outcome_of, Takes}
 use Rattle.uimg_engine.specs.Making.{timed, OpensNames, Lacks, BuildsNames, MakesAnswer}
 use Rattle.uimg_engine.specs.MakingTrees.{BuildsSource, MakesSource, HoldsSource}
@@ -32,7 +34,8 @@ HonestFiles view files = IsTrue (view files.entry.now).honest
 abbrev pub bytes_among : List (Bor (List ℕ) × Bor (List ℕ)) → List ℕ → Option (List ℕ)
 bytes_among files = λ name. bytes_named name files
 
--- Files have the sizes that a command keeps of them: those of a tree do where the files are honest, and parts keep none.
+-- Files have the sizes that a command keeps of them: those of a tree do where the files are honest,
+-- and parts keep none.
 abbrev pub KeepsSizes : MakeCommand → FileMap → Type 0
 KeepsSizes (Parts options files) map = ⊤
 KeepsSizes (Tree source placement) map = IsTrue map.honest
@@ -42,9 +45,11 @@ abbrev pub LacksSource : (List ℕ → Option (List ℕ)) → List ℕ → Fault
 LacksSource files source (NoFile i) = files source ≡ None
 LacksSource files source _ = ⊤
 
--- The files are what they were, a refusal was counted exactly where the answer is that the source or a file of it could not
--- be opened, and complete files refuse only a source that has no bytes, and no payload where they are honest.
-pub record OpensSource {X : Type 0} (source : List ℕ) (result : Result X Fault) (old new : FileMap) : Type 0 where
+-- The files are what they were, a refusal was counted exactly where the answer is that the source
+-- or a file of it could not be opened, and complete files refuse only a source that has no bytes,
+-- and no payload where they are honest.
+pub record OpensSource {X : Type 0} (source : List ℕ) (result : Result X Fault) (old new : FileMap)
+    : Type 0 where
   pub same : SameFiles old new
   -- of the source, and of a file that is read into the tree (I5)
   pub text : OnFalse (is_no_payload result) (RisesIf (is_no_text result) old.refusals new.refusals)
@@ -57,82 +62,116 @@ pub record OpensSource {X : Type 0} (source : List ℕ) (result : Result X Fault
 
 -- what a building or a making did to the files
 abbrev pub OpensToBuild : {X : Type 0} → MakeCommand → Result X Fault → FileMap → FileMap → Type 0
-OpensToBuild (Parts options files) result old new = OpensNames (map (λ name. name.items) files.items) result old new
+OpensToBuild (Parts options files) result old new =
+    OpensNames (map (λ name. name.items) files.items) result old new
 OpensToBuild (Tree source placement) result old new = OpensSource source.items result old new
 
--- what the answer of a building at a time, by an alignment, says of the files, and of what was appended
-abbrev pub BuildsCommand : {X : Type 0} → MakeCommand → ℕ → ℕ → (List ℕ → Option (List ℕ)) → Result X Fault → Sink → Sink → Type 0
-BuildsCommand (Parts options names) time align files result s t = BuildsNames (timed options time) files (map (λ name. name.items) names.items) result s t
-BuildsCommand (Tree source placement) time align files result s t = BuildsSource files source.items time (aligned_by placement align) result s t
+-- what the answer of a building at a time, by an alignment, says of the files, and of what was
+-- appended
+abbrev pub BuildsCommand : {X : Type 0} → MakeCommand → ℕ → ℕ → (List ℕ → Option (List ℕ))
+    → Result X Fault → Sink → Sink → Type 0
+BuildsCommand (Parts options names) time align files result s t =
+    BuildsNames (timed options time) files (map (λ name. name.items) names.items) result s t
+BuildsCommand (Tree source placement) time align files result s t =
+    BuildsSource files source.items time (aligned_by placement align) result s t
 
 -- what the answer of a making at a time, by an alignment, says of the files, and of what was listed
-abbrev pub MakesCommandBetween : {K : Type 0} → (K → Device) → Naming → MakeCommand → ℕ → ℕ → (List ℕ → Option (List ℕ)) → Result K Fault → Sink → Sink → Type 0
-MakesCommandBetween device naming (Parts options names) time align files result s t = MakesAnswer device naming (timed options time) files (map (λ name. name.items) names.items) result s t
-MakesCommandBetween device naming (Tree source placement) time align files result s t = MakesSource device naming files source.items time (aligned_by placement align) result s t
+abbrev pub MakesCommandBetween : {K : Type 0} → (K → Device) → Naming → MakeCommand → ℕ → ℕ
+    → (List ℕ → Option (List ℕ)) → Result K Fault → Sink → Sink → Type 0
+MakesCommandBetween device naming (Parts options names) time align files result s t =
+    MakesAnswer device naming (timed options time) files (map (λ name. name.items) names.items)
+    result s t
+MakesCommandBetween device naming (Tree source placement) time align files result s t =
+    MakesSource device naming files source.items time (aligned_by placement align) result s t
 
-abbrev pub MakesCommand : {K : Type 0} → (K → Device) → Naming → MakeCommand → ℕ → ℕ → (List ℕ → Option (List ℕ)) → Result K Fault → Lent Sink → Type 0
-MakesCommand device naming command time align files result out = MakesCommandBetween device naming command time align files result out.entry.now out.exit.now
+abbrev pub MakesCommand : {K : Type 0} → (K → Device) → Naming → MakeCommand → ℕ → ℕ
+    → (List ℕ → Option (List ℕ)) → Result K Fault → Lent Sink → Type 0
+MakesCommand device naming command time align files result out =
+    MakesCommandBetween device naming command time align files result out.entry.now out.exit.now
 
--- Files that are complete and honest lack what a fault says: a name, or the source. They lack no payload.
+-- Files that are complete and honest lack what a fault says: a name, or the source. They lack no
+-- payload.
 abbrev pub LacksPayload : (List ℕ → Option (List ℕ)) → List ℕ → Fault → Type 0
 LacksPayload files source (Fit fault) = refuses_payload fault ≡ false
 LacksPayload files source fault = LacksSource files source fault
 
 abbrev pub LacksFile : MakeCommand → (List ℕ → Option (List ℕ)) → Fault → Type 0
-LacksFile (Parts options names) files fault = Lacks files (map (λ name. name.items) names.items) fault
+LacksFile (Parts options names) files fault =
+    Lacks files (map (λ name. name.items) names.items) fault
 LacksFile (Tree source placement) files fault = LacksPayload files source.items fault
 
--- What a making from a source that is refused did to a room: where a fault comes that no listing gives, it cleared the room
--- and did nothing else. A refusal was counted exactly where the memory for the nodes was refused, if the files are honest.
+-- What a making from a source that is refused did to a room: where a fault comes that no listing
+-- gives, it cleared the room and did nothing else. A refusal was counted exactly where the memory
+-- for the nodes was refused, if the files are honest.
 pub record LeavesRefused (honest of_making no_memory : Bool) (old new : Held) : Type 0 where
   pub cleared : IsTrue of_making → new ≡ record old { entries = [] }
   -- `OutOfMemory` of the blob is returned exactly if the refusals of the room rose
   pub refused : IsTrue honest → RisesIf no_memory old.refused new.refused
 
--- What a making that lists a FIT image did to a room: it took memory for the nodes of what is kept, or it is refused.
-abbrev pub TakesKept : {K : Type 0} → (K → Device) → Bool → Result K Fault → (old new : Held) → Type 0
+-- What a making that lists a FIT image did to a room: it took memory for the nodes of what is kept,
+-- or it is refused.
+abbrev pub TakesKept : {K : Type 0} → (K → Device) → Bool → Result K Fault → (old new : Held)
+    → Type 0
 TakesKept device honest (Ok kept) old new = TakesNodes (device kept) false old new
-TakesKept device honest (Err fault) old new = LeavesRefused honest (is_of_making {X = ⊤} (Err fault)) (is_no_memory {X = ⊤} (Err fault)) old new
+TakesKept device honest (Err fault) old new =
+    LeavesRefused honest (is_of_making {X = ⊤} (Err fault)) (is_no_memory {X = ⊤} (Err fault)) old
+    new
 
-abbrev pub LeavesRoomBetween : {K : Type 0} → (K → Device) → Bool → MakeCommand → Result K Fault → (old new : Held) → Type 0
-LeavesRoomBetween device honest (Parts options files) result old new = new ≡ record old { entries = [] }
-LeavesRoomBetween device honest (Tree source placement) result old new = TakesKept device honest result old new
+abbrev pub LeavesRoomBetween : {K : Type 0} → (K → Device) → Bool → MakeCommand → Result K Fault
+    → (old new : Held) → Type 0
+LeavesRoomBetween device honest (Parts options files) result old new =
+    new ≡ record old { entries = [] }
+LeavesRoomBetween device honest (Tree source placement) result old new =
+    TakesKept device honest result old new
 
-abbrev pub LeavesRoom : {K : Type 0} → (K → Device) → Bool → MakeCommand → Result K Fault → Lent Held → Type 0
-LeavesRoom device honest command result room = LeavesRoomBetween device honest command result room.entry.now room.exit.now
+abbrev pub LeavesRoom : {K : Type 0} → (K → Device) → Bool → MakeCommand → Result K Fault
+    → Lent Held → Type 0
+LeavesRoom device honest command result room =
+    LeavesRoomBetween device honest command result room.entry.now room.exit.now
 
--- What a making did to a room, whatever its answer: to list parts takes no memory, and to list a FIT image that for its nodes.
-abbrev pub HoldsCommandBetween : MakeCommand → ℕ → ℕ → (List ℕ → Option (List ℕ)) → (old new : Held) → Type 0
-HoldsCommandBetween (Parts options names) time align files old new = new ≡ record old { entries = [] }
-HoldsCommandBetween (Tree source placement) time align files old new = HoldsSource files source.items time (aligned_by placement align) old new
+-- What a making did to a room, whatever its answer: to list parts takes no memory, and to list a
+-- FIT image that for its nodes.
+abbrev pub HoldsCommandBetween : MakeCommand → ℕ → ℕ → (List ℕ → Option (List ℕ)) → (old new : Held)
+    → Type 0
+HoldsCommandBetween (Parts options names) time align files old new =
+    new ≡ record old { entries = [] }
+HoldsCommandBetween (Tree source placement) time align files old new =
+    HoldsSource files source.items time (aligned_by placement align) old new
 
 abbrev pub HoldsCommand : MakeCommand → ℕ → ℕ → (List ℕ → Option (List ℕ)) → Lent Held → Type 0
-HoldsCommand command time align files room = HoldsCommandBetween command time align files room.entry.now room.exit.now
+HoldsCommand command time align files room =
+    HoldsCommandBetween command time align files room.entry.now room.exit.now
 
 -- the listing of an image that was made, by a set of names
 abbrev pub listing_of : Naming → MakeCommand → List ℕ → Outcome Fault
 listing_of naming (Parts options files) file = outcome_in naming false Action.List file
-listing_of naming (Tree source placement) file = outcome_of naming (record { action = Action.List; form = Form.Guess }) file
+listing_of naming (Tree source placement) file =
+    outcome_of naming (record { action = Action.List; form = Form.Guess }) file
 
 -- what that listing did to a room
 abbrev pub TakesListing : MakeCommand → Device → Bool → (old new : Held) → Type 0
 TakesListing (Parts options files) kept no_memory old new = Takes false kept no_memory old new
 TakesListing (Tree source placement) kept no_memory old new = TakesNodes kept no_memory old new
 
--- What the listing of what was kept did at any exit: the source is what it was, and each failure was counted exactly where one
--- is answered; no fault of a making is.
-pub record ListsBetween (naming : Naming) (command : MakeCommand) (result : Result Status Fault) (d e : Device) (old new : Held) (s t : Sink) : Type 0 where
+-- What the listing of what was kept did at any exit: the source is what it was, and each failure
+-- was counted exactly where one is answered; no fault of a making is.
+pub record ListsBetween (naming : Naming) (command : MakeCommand) (result : Result Status Fault)
+    (d e : Device) (old new : Held) (s t : Sink) : Type 0 where
   pub uses : Uses (is_read result) d e
   pub room : TakesListing command d (is_no_memory result) old new
   pub faults : RisesIf (is_put result) s.faults t.faults
   pub not_making : is_of_making result ≡ false
   pub told : IsTrue d.honest → Tells (end_of result) (listing_of naming command d.bytes) s t
 
-abbrev pub Lists : {S : Type 0} → Naming → MakeCommand → Result Status Fault → (S → Device) → Lent S → Lent Held → Lent Sink → Type 0
+abbrev pub Lists : {S : Type 0} → Naming → MakeCommand → Result Status Fault → (S → Device) → Lent S
+    → Lent Held → Lent Sink → Type 0
 Lists naming command result device source room out = ListsBetween naming command result
-    (device source.entry.now) (device source.exit.now) room.entry.now room.exit.now out.entry.now out.exit.now
+    (device source.entry.now) (device source.exit.now) room.entry.now room.exit.now out.entry.now
+    out.exit.now
 
--- Exactly the listing of what is kept was appended, and nothing in it is refused, if it answers its bytes.
+-- Exactly the listing of what is kept was appended, and nothing in it is refused, if it answers its
+-- bytes.
 abbrev pub ListsKept : {K : Type 0} → (K → Device) → Naming → MakeCommand → Lent Sink → K → Type 0
 ListsKept device naming command out kept = IsTrue (device kept).honest → (status : Status)
-    × Tells (end_of (Ok status)) (listing_of naming command (device kept).bytes) out.entry.now out.exit.now
+    × Tells (end_of (Ok status)) (listing_of naming command (device kept).bytes) out.entry.now
+    out.exit.now

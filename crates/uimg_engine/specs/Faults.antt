@@ -3,7 +3,7 @@ use Rattle.std.specs.Prelude.{◌≡◌, Result, Ok, Err, Option, Some, None, Bo
 use Rattle.uimg_base.specs.Outcome.{End, done, not_right, refused}
 use Rattle.uimg_base.specs.declared.status.Status.{Status}
 use Rattle.uimg_base.specs.declared.status.Status.TheVariants.{Done, NotRight}
-use Rattle.uimg_blob.specs.Faults.{refuses_memory, is_too_large}
+use Rattle.uimg_blob_reading.specs.Faults.{refuses_memory, is_too_large}
 use Rattle.uimg_fit_base.specs.Faults.{of_making as fit_of_making}
 use Rattle.uimg_fit_base.specs.declared.fault.Fault.TheVariants as fit
 use Rattle.uimg_fit_base.specs.declared.fault.Fault.{Fault as FitEngineFault}
@@ -14,7 +14,8 @@ use Rattle.uimg_legacy.specs.Faults.{of_making as legacy_of_making}
 use Rattle.uimg_legacy.specs.declared.fault.Fault.TheVariants as legacy
 use Rattle.uimg_legacy.specs.declared.fault.Fault.{Fault as LegacyEngineFault}
 use Rattle.uimg_engine.specs.declared.fault.Fault.{Fault}
-use Rattle.uimg_engine.specs.declared.fault.Fault.TheVariants.{Legacy, Blob, Fit, Its, Read, Put, NoFile, Keep, OutOfMemory}
+use Rattle.uimg_engine.specs.declared.fault.Fault.TheVariants.{Legacy, Blob, Fit, Its, Read, Put}
+use Rattle.uimg_engine.specs.declared.fault.Fault.TheVariants.{NoFile, Keep, OutOfMemory}
 
 -- the command's fault that a fault of the engine of legacy images is
 abbrev pub of_legacy : LegacyEngineFault → Fault
@@ -67,8 +68,8 @@ abbrev pub refuses_payload : FitFault → Bool
 refuses_payload fit_fault.NoFile = true
 refuses_payload _ = false
 
--- the answer is that the image, the files, the source or the memory for them were refused: nothing is written then, unless
--- a payload's file could not be opened
+-- the answer is that the image, the files, the source or the memory for them were refused: nothing
+-- is written then, unless a payload's file could not be opened
 abbrev pub is_before_building : {X : Type 0} → Result X Fault → Bool
 is_before_building (Err (Legacy fault)) = true
 is_before_building (Err (Blob fault at)) = true
@@ -99,7 +100,8 @@ abbrev pub loses_payload : FitFault → Bool
 loses_payload fit_fault.ReadFailed = true
 loses_payload _ = false
 
--- the answer is that a read of a payload's file failed while its hashes were filled in, or that it has another size
+-- the answer is that a read of a payload's file failed while its hashes were filled in, or that it
+-- has another size
 abbrev pub is_lost_payload : {X : Type 0} → Result X Fault → Bool
 is_lost_payload (Err (Fit fault)) = loses_payload fault
 is_lost_payload _ = false
@@ -127,8 +129,8 @@ abbrev pub unless_memory : Bool → End Fault → Option (End Fault)
 unless_memory true e = None
 unless_memory false e = Some e
 
--- The end that an answer tells, where no device failed and no memory was refused. A command on an image answers none of the
--- faults of a making, which no outcome has as its end.
+-- The end that an answer tells, where no device failed and no memory was refused. A command on an
+-- image answers none of the faults of a making, which no outcome has as its end.
 abbrev pub end_of : Result Status Fault → Option (End Fault)
 end_of (Ok Done) = Some done
 end_of (Ok NotRight) = Some not_right

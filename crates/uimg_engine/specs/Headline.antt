@@ -1,5 +1,7 @@
--- What a command on an image has to write, how it has to end, how much it may ask for, and what memory it may take.
-use Rattle.std.specs.Prelude.{◌≡◌, ◌↔◌, ℕ, ◌+◌, ◌-◌, ◌^◌, ◌<◌, ◌≤◌, max, List, [], length, nat_lt, ◌==◌, if◌then◌else◌, Result, Some, ⊤, Bool, true, false, IsTrue}
+-- What a command on an image has to write, how it has to end, how much it may ask for, and what
+-- memory it may take.
+use Rattle.std.specs.Prelude.{◌≡◌, ◌↔◌, ℕ, ◌+◌, ◌-◌, ◌^◌, ◌<◌, ◌≤◌, max, List, [], length, nat_lt}
+use Rattle.std.specs.Prelude.{◌==◌, if◌then◌else◌, Result, Some, ⊤, Bool, true, false, IsTrue}
 use Rattle.uimg_base.specs.Device.{Device, RisesIf}
 use Rattle.uimg_base.specs.Held.{Held, held_bytes}
 use Rattle.uimg_base.specs.Lent.{Lent}
@@ -9,7 +11,7 @@ use Rattle.uimg_base.specs.Outcome.{End, Outcome, done, not_right, refused, Tell
 use Rattle.uimg_base.specs.Using.{UsesAtMost}
 use Rattle.uimg_base.specs.declared.status.Status.{Status}
 use Rattle.uimg_texts.specs.Numbers.{be32}
-use Rattle.uimg_blob.specs.Counts.{nodes_met}
+use Rattle.uimg_blob_reading.specs.Counts.{nodes_met}
 use Rattle.uimg_fit_base.specs.declared.fault.Fault.{Fault as FitEngineFault}
 use Rattle.uimg_fit_reading.specs.Rooms.{TakesNodes}
 use Rattle.uimg_fit_reading.specs.Listing as fit_listing
@@ -29,13 +31,16 @@ use Rattle.uimg_requests.specs.declared.command.Action.TheVariants as action
 use Rattle.uimg_requests.specs.declared.command.Command.{Command}
 use Rattle.uimg_requests.specs.declared.command.Form.{Form}
 use Rattle.uimg_requests.specs.declared.command.Form.TheVariants as form
-use Rattle.uimg_engine.specs.Faults.{end_of, of_fit, is_read, is_put, is_no_memory, is_refused, is_of_making}
+use Rattle.uimg_engine.specs.Faults.{end_of, of_fit, is_read, is_put, is_no_memory, is_refused}
+use Rattle.uimg_engine.specs.Faults.{is_of_making}
 
--- the file begins with the magic number of a devicetree blob (Devicetree Specification, section 5.2)
+-- the file begins with the magic number of a devicetree blob (Devicetree Specification, section
+-- 5.2)
 unfoldable pub begins_as_blob : List ℕ → Bool
 begins_as_blob file = if nat_lt (length file) 4 then false else be32 file 0 == 0xd00dfeed
 
--- The file is read as a FIT image: that is asked for, or its first bytes tell it. Any other file is read as a legacy image.
+-- The file is read as a FIT image: that is asked for, or its first bytes tell it. Any other file is
+-- read as a legacy image.
 abbrev pub is_fit : Form → List ℕ → Bool
 is_fit form.Guess file = begins_as_blob file
 is_fit form.Legacy file = false
@@ -50,13 +55,15 @@ end_as name (refused fault) = refused (name fault)
 abbrev pub outcome_as : {F : Type 0} → (F → Fault) → Outcome F → Outcome Fault
 outcome_as name o = record { text = o.text; end = end_as name o.end }
 
--- the outcome of an action on a legacy image: its listing by a set of names, its report, or its part at a position
+-- the outcome of an action on a legacy image: its listing by a set of names, its report, or its
+-- part at a position
 abbrev pub legacy_outcome : Naming → Action → List ℕ → Outcome LegacyFault
 legacy_outcome naming action.List file = legacy_listing.list_of naming file
 legacy_outcome naming action.Verify file = legacy_report.verify_of file
 legacy_outcome naming (action.Extract position) file = legacy_extraction.extract_of file position
 
--- the outcome of an action on a FIT image: its listing by a set of names, its report, or the payload of its image at a position
+-- the outcome of an action on a FIT image: its listing by a set of names, its report, or the
+-- payload of its image at a position
 abbrev pub fit_outcome : Naming → Action → List ℕ → Outcome FitEngineFault
 fit_outcome naming action.List file = fit_listing.list_of naming file
 fit_outcome naming action.Verify file = fit_report.verify_of file
@@ -80,9 +87,10 @@ work_in false action.List file = legacy.list_work file
 work_in false action.Verify file = legacy.verify_work file
 work_in false (action.Extract position) file = legacy.extract_work file position
 
--- The most bytes that a command asks for, a listing by whatever names: the four that tell the format, and what the format's engine asks for. Beside payloads
--- that is `64 + 1024 * (nodes + properties) + 4 * (bytes of texts + NOPs)` for a FIT image, each counted as it is met, and
--- `64 + 16 * (sizes + 1)` for a legacy image.
+-- The most bytes that a command asks for, a listing by whatever names: the four that tell the
+-- format, and what the format's engine asks for. Beside payloads that is `64 + 1024 * (nodes +
+-- properties) + 4 * (bytes of texts + NOPs)` for a FIT image, each counted as it is met, and `64 +
+-- 16 * (sizes + 1)` for a legacy image.
 abbrev pub work : Command → List ℕ → ℕ
 work command file = 4 + work_in (is_fit command.form file) command.action file
 
@@ -90,7 +98,8 @@ work command file = 4 + work_in (is_fit command.form file) command.action file
 abbrev pub listing_work : Form → List ℕ → ℕ
 listing_work form file = work (record { action = action.List; form = form }) file
 
--- how many entries a command's table has at most: one for each node of a FIT image, none for a legacy image
+-- how many entries a command's table has at most: one for each node of a FIT image, none for a
+-- legacy image
 abbrev pub nodes_in : Bool → List ℕ → ℕ
 nodes_in true file = nodes_met file
 nodes_in false file = 0
@@ -98,27 +107,32 @@ nodes_in false file = 0
 abbrev pub nodes_of : Command → List ℕ → ℕ
 nodes_of command file = nodes_in (is_fit command.form file) file
 
--- An extraction asked for at most its work without the payload, the bytes that it wrote, and a window of 8192 more.
--- Of other actions this says nothing.
-abbrev pub ExtractsAheadBetween : ℕ → Action → Outcome Fault → (old new : Device) → Sink → Sink → Type 0
+-- An extraction asked for at most its work without the payload, the bytes that it wrote, and a
+-- window of 8192 more. Of other actions this says nothing.
+abbrev pub ExtractsAheadBetween : ℕ → Action → Outcome Fault → (old new : Device) → Sink → Sink
+    → Type 0
 ExtractsAheadBetween most action.List o old new s t = ⊤
 ExtractsAheadBetween most action.Verify o old new s t = ⊤
-ExtractsAheadBetween most (action.Extract position) o old new s t = ReadsAhead most old new s t o.text
+ExtractsAheadBetween most (action.Extract position) o old new s t =
+    ReadsAhead most old new s t o.text
 
-abbrev pub ExtractsAhead : {S : Type 0} → Naming → Command → (S → Device) → Lent S → Lent Sink → Type 0
+abbrev pub ExtractsAhead : {S : Type 0} → Naming → Command → (S → Device) → Lent S → Lent Sink
+    → Type 0
 ExtractsAhead naming command device source out = ExtractsAheadBetween
     (listing_work command.form (device source.entry.now).bytes) command.action
     (outcome_of naming command (device source.entry.now).bytes)
     (device source.entry.now) (device source.exit.now) out.entry.now out.exit.now
 
--- An extraction that is refused has written nothing. Of other actions and answers this says nothing.
+-- An extraction that is refused has written nothing. Of other actions and answers this says
+-- nothing.
 abbrev pub KeepsOutput : Action → Bool → (old new : Sink) → Type 0
 KeepsOutput action.List is_refused old new = ⊤
 KeepsOutput action.Verify is_refused old new = ⊤
 KeepsOutput (action.Extract position) true old new = new ≡ old
 KeepsOutput (action.Extract position) false old new = ⊤
 
--- An extraction that is refused has written nothing to a text that was empty. Of other actions and answers this says nothing.
+-- An extraction that is refused has written nothing to a text that was empty. Of other actions and
+-- answers this says nothing.
 abbrev pub WritesNone : Action → Bool → List ℕ → Type 0
 WritesNone action.List is_refused text = ⊤
 WritesNone action.Verify is_refused text = ⊤
@@ -139,7 +153,8 @@ HonestSource device source = IsTrue (device source.entry.now).honest
 
 -- no read of the source failed
 abbrev pub NoReadFails : {S : Type 0} → (S → Device) → Lent S → Type 0
-NoReadFails device source = Stays (device source.entry.now).failures (device source.exit.now).failures
+NoReadFails device source =
+    Stays (device source.entry.now).failures (device source.exit.now).failures
 
 -- no write to the output failed
 abbrev pub NoWriteFails : Lent Sink → Type 0
@@ -147,7 +162,9 @@ NoWriteFails out = Stays out.entry.now.faults out.exit.now.faults
 
 -- at most so many bytes more were asked for, by the bytes of the source
 abbrev pub AsksAtMost : {S : Type 0} → (List ℕ → ℕ) → (S → Device) → Lent S → Type 0
-AsksAtMost most device source = (device source.exit.now).asked ≤ (device source.entry.now).asked + most (device source.entry.now).bytes
+AsksAtMost most device source =
+    (device source.exit.now).asked
+    ≤ (device source.entry.now).asked + most (device source.entry.now).bytes
 
 -- the room never held more than it did before, or so many bytes
 abbrev pub PeaksAtMost : ℕ → Lent Held → Type 0
@@ -163,10 +180,12 @@ GrowthsSucceedBetween true old new = Stays old.refused new.refused
 GrowthsSucceedBetween false old new = ⊤
 
 abbrev pub GrowthsSucceed : {S : Type 0} → Command → (S → Device) → Lent S → Lent Held → Type 0
-GrowthsSucceed command device source room = GrowthsSucceedBetween (is_fit command.form (device source.entry.now).bytes)
+GrowthsSucceed command device source room =
+    GrowthsSucceedBetween (is_fit command.form (device source.entry.now).bytes)
     room.entry.now room.exit.now
 
--- The file is surely read as a legacy image: that is asked for, or the bytes of an honest source tell it.
+-- The file is surely read as a legacy image: that is asked for, or the bytes of an honest source
+-- tell it.
 abbrev pub IsLegacy : Form → Device → Type 0
 IsLegacy form.Guess source = IsTrue source.honest × (begins_as_blob source.bytes ≡ false)
 IsLegacy form.Legacy source = ⊤
@@ -177,13 +196,17 @@ abbrev pub Takes : Bool → Device → Bool → (old new : Held) → Type 0
 Takes true source no_memory old new = TakesNodes source no_memory old new
 Takes false source no_memory old new = (new ≡ record old { entries = [] }) × (no_memory ≡ false)
 
--- What the engine of a format did at any exit: what it asked for and took, what it wrote of the outcome, and which failures it counted.
-pub record CarriesOutBetween (naming : Naming) (fit : Bool) (what : Action) (result : Result Status Fault) (d e : Device) (old new : Held) (s t : Sink) : Type 0 where
+-- What the engine of a format did at any exit: what it asked for and took, what it wrote of the
+-- outcome, and which failures it counted.
+pub record CarriesOutBetween (naming : Naming) (fit : Bool) (what : Action)
+    (result : Result Status Fault) (d e : Device) (old new : Held) (s t : Sink) : Type 0 where
   -- the source is unchanged; `Read` is returned exactly if its failures rose
   pub uses : UsesAtMost (work_in fit what d.bytes) (is_read result) d e
   pub room : Takes fit d (is_no_memory result) old new
   -- of an extraction
-  pub ahead : IsTrue d.honest → ExtractsAheadBetween (work_in fit action.List d.bytes) what (outcome_in naming fit what d.bytes) d e s t
+  pub ahead : IsTrue d.honest
+      → ExtractsAheadBetween (work_in fit action.List d.bytes) what
+      (outcome_in naming fit what d.bytes) d e s t
   -- an extraction that is refused wrote nothing, over any source
   pub untouched : KeepsOutput what (is_refused result) s t
   -- `Put` is returned exactly if the faults of the output rose
@@ -193,40 +216,53 @@ pub record CarriesOutBetween (naming : Naming) (fit : Bool) (what : Action) (res
   -- the outcome at its end, or a prefix of its text where a call failed
   pub told : IsTrue d.honest → Tells (end_of result) (outcome_in naming fit what d.bytes) s t
 
-abbrev pub CarriesOut : {S : Type 0} → Naming → Bool → Action → Result Status Fault → (S → Device) → Lent S → Lent Held → Lent Sink → Type 0
+abbrev pub CarriesOut : {S : Type 0} → Naming → Bool → Action → Result Status Fault → (S → Device)
+    → Lent S → Lent Held → Lent Sink → Type 0
 CarriesOut naming fit what result device source room out = CarriesOutBetween naming fit what result
-    (device source.entry.now) (device source.exit.now) room.entry.now room.exit.now out.entry.now out.exit.now
+    (device source.entry.now) (device source.exit.now) room.entry.now room.exit.now out.entry.now
+    out.exit.now
 
 -- The same of a command, whose format it names or the file's first bytes tell.
-pub record RunsBetween (naming : Naming) (command : Command) (result : Result Status Fault) (d e : Device) (old new : Held) (s t : Sink) : Type 0 where
+pub record RunsBetween (naming : Naming) (command : Command) (result : Result Status Fault)
+    (d e : Device) (old new : Held) (s t : Sink) : Type 0 where
   pub uses : UsesAtMost (work command d.bytes) (is_read result) d e
   pub room : TakesNodes d (is_no_memory result) old new
   pub legacy : IsLegacy command.form d → Takes false d (is_no_memory result) old new
-  pub ahead : IsTrue d.honest → ExtractsAheadBetween (listing_work command.form d.bytes) command.action (outcome_of naming command d.bytes) d e s t
+  pub ahead : IsTrue d.honest
+      → ExtractsAheadBetween (listing_work command.form d.bytes) command.action
+      (outcome_of naming command d.bytes) d e s t
   pub untouched : KeepsOutput command.action (is_refused result) s t
   pub faults : RisesIf (is_put result) s.faults t.faults
   pub not_making : is_of_making result ≡ false
   pub told : IsTrue d.honest → Tells (end_of result) (outcome_of naming command d.bytes) s t
 
-abbrev pub Runs : {S : Type 0} → Naming → Command → Result Status Fault → (S → Device) → Lent S → Lent Held → Lent Sink → Type 0
+abbrev pub Runs : {S : Type 0} → Naming → Command → Result Status Fault → (S → Device) → Lent S
+    → Lent Held → Lent Sink → Type 0
 Runs naming command result device source room out = RunsBetween naming command result
-    (device source.entry.now) (device source.exit.now) room.entry.now room.exit.now out.entry.now out.exit.now
+    (device source.entry.now) (device source.exit.now) room.entry.now room.exit.now out.entry.now
+    out.exit.now
 
 -- the answer is the outcome's end, and exactly its text was appended
 abbrev pub MeetsBetween : Result Status Fault → Outcome Fault → Sink → Sink → Type 0
 MeetsBetween result o s t = (end_of result ≡ Some o.end) × AppendsAll s t o.text
 
 -- .. this outcome of the bytes of the source
-abbrev pub Meets : {S : Type 0} → (List ℕ → Outcome Fault) → Result Status Fault → (S → Device) → Lent S → Lent Sink → Type 0
-Meets outcome result device source out = MeetsBetween result (outcome (device source.entry.now).bytes) out.entry.now out.exit.now
+abbrev pub Meets : {S : Type 0} → (List ℕ → Outcome Fault) → Result Status Fault → (S → Device)
+    → Lent S → Lent Sink → Type 0
+Meets outcome result device source out =
+    MeetsBetween result (outcome (device source.entry.now).bytes) out.entry.now out.exit.now
 
 -- a prefix of the text of this outcome of the bytes of the source was appended
-abbrev pub WritesPrefix : {S : Type 0} → (List ℕ → Outcome Fault) → (S → Device) → Lent S → Lent Sink → Type 0
-WritesPrefix outcome device source out = AppendsPrefix out.entry.now out.exit.now (outcome (device source.entry.now).bytes).text
+abbrev pub WritesPrefix : {S : Type 0} → (List ℕ → Outcome Fault) → (S → Device) → Lent S
+    → Lent Sink → Type 0
+WritesPrefix outcome device source out =
+    AppendsPrefix out.entry.now out.exit.now (outcome (device source.entry.now).bytes).text
 
--- What a call that only reads an image did, whatever it answers: it asked for at most so many bytes, and took memory for the
--- nodes of a FIT image alone, and none for a legacy image. Neither a failed write nor a fault of a making is answered.
-pub record OnlyReadsBetween {X : Type 0} (form : Form) (most : ℕ) (result : Result X Fault) (d e : Device) (old new : Held) : Type 0 where
+-- What a call that only reads an image did, whatever it answers: it asked for at most so many
+-- bytes, and took memory for the nodes of a FIT image alone, and none for a legacy image. Neither a
+-- failed write nor a fault of a making is answered.
+pub record OnlyReadsBetween {X : Type 0} (form : Form) (most : ℕ) (result : Result X Fault)
+    (d e : Device) (old new : Held) : Type 0 where
   -- the source is unchanged; `Read` is returned exactly if its failures rose
   pub uses : UsesAtMost most (is_read result) d e
   -- `OutOfMemory` of the blob is returned exactly if the refusals of the room rose
@@ -239,13 +275,17 @@ pub record OnlyReadsBetween {X : Type 0} (form : Form) (most : ℕ) (result : Re
   pub not_making : is_of_making result ≡ false
 
 -- .. as many bytes as this work of the source's
-abbrev pub OnlyReads : {S X : Type 0} → Form → (List ℕ → ℕ) → Result X Fault → (S → Device) → Lent S → Lent Held → Type 0
-OnlyReads form work result device source room = OnlyReadsBetween form (work (device source.entry.now).bytes) result
+abbrev pub OnlyReads : {S X : Type 0} → Form → (List ℕ → ℕ) → Result X Fault → (S → Device) → Lent S
+    → Lent Held → Type 0
+OnlyReads form work result device source room =
+    OnlyReadsBetween form (work (device source.entry.now).bytes) result
     (device source.entry.now) (device source.exit.now) room.entry.now room.exit.now
 
--- What a call on the bytes of an image in memory did: no more memory was taken than for its nodes, and a refusal was counted
--- exactly where memory was refused. Neither a failed read nor a fault of a making is answered.
-pub record InMemoryBetween {X : Type 0} (nodes : ℕ) (result : Result X Fault) (old new : Held) : Type 0 where
+-- What a call on the bytes of an image in memory did: no more memory was taken than for its nodes,
+-- and a refusal was counted exactly where memory was refused. Neither a failed read nor a fault of
+-- a making is answered.
+pub record InMemoryBetween {X : Type 0} (nodes : ℕ) (result : Result X Fault) (old new : Held)
+    : Type 0 where
   -- `Read` is never returned
   pub no_read : is_read result ≡ false
   -- a fault that only a making has is never returned
@@ -256,12 +296,16 @@ pub record InMemoryBetween {X : Type 0} (nodes : ℕ) (result : Result X Fault) 
   pub peak : new.peak ≤ max old.peak (held_bytes nodes)
 
 abbrev pub InMemory : {X : Type 0} → Form → List ℕ → Result X Fault → Lent Held → Type 0
-InMemory form file result room = InMemoryBetween (nodes_in (is_fit form file) file) result room.entry.now room.exit.now
+InMemory form file result room =
+    InMemoryBetween (nodes_in (is_fit form file) file) result room.entry.now room.exit.now
 
 -- No memory was taken, and none was refused: the room was only cleared.
 abbrev pub TakesNone : {X : Type 0} → Result X Fault → Lent Held → Type 0
 TakesNone result room = OnlyClears room × (is_no_memory result ≡ false)
 
--- An answer and a text are those of an outcome, unless memory was refused, that for the text or that for a table of nodes.
+-- An answer and a text are those of an outcome, unless memory was refused, that for the text or
+-- that for a table of nodes.
 abbrev pub GivesOutcome : Outcome Fault → Result Status Fault → List ℕ → Type 0
-GivesOutcome o result text = is_put result ≡ false → is_no_memory result ≡ false → (text ≡ o.text) × (end_of result ≡ Some o.end)
+GivesOutcome o result text =
+    is_put result ≡ false → is_no_memory result ≡ false
+    → (text ≡ o.text) × (end_of result ≡ Some o.end)

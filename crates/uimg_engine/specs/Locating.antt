@@ -1,5 +1,6 @@
 -- Where a part of a legacy image, or the payload of a FIT image's image, stands.
-use Rattle.std.specs.Prelude.{◌≡◌, ℕ, ◌+◌, ◌≤◌, List, length, Result, Ok, Err, Option, Some, Bool, false, IsTrue, IfOk, IfSome}
+use Rattle.std.specs.Prelude.{◌≡◌, ℕ, ◌+◌, ◌≤◌, List, length, Result, Ok, Err, Option, Some, Bool}
+use Rattle.std.specs.Prelude.{false, IsTrue, IfOk, IfSome}
 use Rattle.uimg_texts.specs.Slices.{slice}
 use Rattle.uimg_base.specs.Device.{Device}
 use Rattle.uimg_base.specs.Held.{Held}
@@ -19,7 +20,8 @@ abbrev pub ends : Result Span Fault → Option (End Fault)
 ends (Ok span) = Some done
 ends (Err fault) = end_of (Err fault)
 
--- An extraction with this outcome writes just the bytes at the span that is answered, or it ends by just the fault that is.
+-- An extraction with this outcome writes just the bytes at the span that is answered, or it ends by
+-- just the fault that is.
 pub record TellsSpan (file : List ℕ) (o : Outcome Fault) (result : Result Span Fault) : Type 0 where
   -- its end, unless a read failed or memory was refused
   pub end : IfSome (ends result) (λ e. o.end ≡ e)
@@ -28,21 +30,27 @@ pub record TellsSpan (file : List ℕ) (o : Outcome Fault) (result : Result Span
 
 -- .. the extraction from a position, which names nothing
 abbrev pub FindsSpan : Form → ℕ → List ℕ → Result Span Fault → Type 0
-FindsSpan form position file result = TellsSpan file (outcome_of Profile (record { action = action.Extract position; form = form }) file) result
+FindsSpan form position file result =
+    TellsSpan file
+    (outcome_of Profile (record { action = action.Extract position; form = form }) file) result
 
 -- a span ends in the file
 abbrev pub StandsIn : List ℕ → Span → Type 0
 StandsIn file span = span.place + span.length ≤ length file
 
--- What the engine of a format did at any exit: it asked for no more than for a listing, and wrote nothing.
-pub record LocatesBetween (fit : Bool) (position : ℕ) (result : Result Span Fault) (d e : Device) (old new : Held) : Type 0 where
+-- What the engine of a format did at any exit: it asked for no more than for a listing, and wrote
+-- nothing.
+pub record LocatesBetween (fit : Bool) (position : ℕ) (result : Result Span Fault) (d e : Device)
+    (old new : Held) : Type 0 where
   pub uses : UsesAtMost (work_in fit action.List d.bytes) (is_read result) d e
   pub room : Takes fit d (is_no_memory result) old new
   pub no_put : is_put result ≡ false
   pub not_making : is_of_making result ≡ false
   pub inside : IfOk result (StandsIn d.bytes)
-  pub told : IsTrue d.honest → TellsSpan d.bytes (outcome_in Profile fit (action.Extract position) d.bytes) result
+  pub told : IsTrue d.honest
+      → TellsSpan d.bytes (outcome_in Profile fit (action.Extract position) d.bytes) result
 
-abbrev pub Locates : {S : Type 0} → Bool → ℕ → Result Span Fault → (S → Device) → Lent S → Lent Held → Type 0
+abbrev pub Locates : {S : Type 0} → Bool → ℕ → Result Span Fault → (S → Device) → Lent S → Lent Held
+    → Type 0
 Locates fit position result device source room = LocatesBetween fit position result
     (device source.entry.now) (device source.exit.now) room.entry.now room.exit.now

@@ -1,5 +1,7 @@
 -- What the making of an image gives.
-use Rattle.std.specs.Prelude.{◌≡◌, ℕ, ⊤, ◌<◌, List, length, map, take, Result, Ok, Err, Option, Some, IsSome, IsTrue, IfErr, All, false, slice_index_or, [], None, Vec}
+use Rattle.std.specs.Prelude.{◌≡◌, ℕ, ⊤, ◌<◌, List, length, map, take, Result, Ok, Err, Option}
+use Rattle.std.specs.Prelude.{Some, IsSome, IsTrue, IfErr, All, false, slice_index_or, [], None}
+use Rattle.std.specs.Prelude.{Vec}
 use Rattle.uimg_base.specs.Device.{Device, RisesIf}
 use Rattle.uimg_base.specs.Lent.{Lent}
 use Rattle.uimg_base.specs.Named.{FileMap, SameFiles}
@@ -14,7 +16,8 @@ use Rattle.uimg_legacy.specs.Devices.{bytes_of, AreHonest}
 use Rattle.uimg_legacy.specs.ReadsBack.{ReadsBack}
 use Rattle.uimg_names.specs.declared.naming.Naming.{Naming}
 use Rattle.uimg_engine.specs.declared.fault.Fault.{Fault}
-use Rattle.uimg_engine.specs.declared.fault.Fault.TheVariants.{Legacy, Blob, Fit, Its, Read, Put, NoFile, Keep, OutOfMemory}
+use Rattle.uimg_engine.specs.declared.fault.Fault.TheVariants.{Legacy, Blob, Fit, Its, Read, Put}
+use Rattle.uimg_engine.specs.declared.fault.Fault.TheVariants.{NoFile, Keep, OutOfMemory}
 use Rattle.uimg_engine.specs.Faults.{is_no_file, is_put, is_keep, is_before_building}
 
 -- the options at the time of the making
@@ -35,13 +38,15 @@ pub record Misses (files : List ℕ → Option (List ℕ)) (names : List (List �
   pub before : All (λ name. IsSome (files name)) (take i names)
 
 -- The parts of the names are refused.
-pub record Refuses (options : Options) (files : List ℕ → Option (List ℕ)) (names : List (List ℕ)) (fault : LegacyFault) : Type 0 where
+pub record Refuses (options : Options) (files : List ℕ → Option (List ℕ)) (names : List (List ℕ))
+    (fault : LegacyFault) : Type 0 where
   pub parts : List (List ℕ)
   pub have : HaveParts files names parts
   pub refused : data_to_build options.kind parts ≡ Err fault
 
 -- The names have parts that an image is built from.
-pub record Accepts (options : Options) (files : List ℕ → Option (List ℕ)) (names : List (List ℕ)) : Type 0 where
+pub record Accepts (options : Options) (files : List ℕ → Option (List ℕ)) (names : List (List ℕ))
+    : Type 0 where
   pub parts : List (List ℕ)
   pub have : HaveParts files names parts
   pub accepted : data_to_build options.kind parts ≡ Ok (data_of (has_parts options.kind) parts)
@@ -60,13 +65,16 @@ pub record KeepsImage (options : Options) (parts : List (List ℕ)) (kept : Devi
   pub reads_back : ReadsBack (legacy_built options parts) parts
 
 -- What is kept is the image of the names' parts, and reads back as such.
-pub record Keeps (options : Options) (files : List ℕ → Option (List ℕ)) (names : List (List ℕ)) (kept : Device) : Type 0 where
+pub record Keeps (options : Options) (files : List ℕ → Option (List ℕ)) (names : List (List ℕ))
+    (kept : Device) : Type 0 where
   pub parts : List (List ℕ)
   pub have : HaveParts files names parts
   pub image : KeepsImage options parts kept
 
--- The image of the names' parts is kept, its whole listing was appended, and the listing is not refused.
-pub record Makes (naming : Naming) (options : Options) (files : List ℕ → Option (List ℕ)) (names : List (List ℕ)) (kept : Device) (s t : Sink) : Type 0 where
+-- The image of the names' parts is kept, its whole listing was appended, and the listing is not
+-- refused.
+pub record Makes (naming : Naming) (options : Options) (files : List ℕ → Option (List ℕ))
+    (names : List (List ℕ)) (kept : Device) (s t : Sink) : Type 0 where
   -- the source that is kept is honest, and has the bytes of `legacy_built`
   pub keeps : Keeps options files names kept
   -- exactly its listing was appended
@@ -74,7 +82,8 @@ pub record Makes (naming : Naming) (options : Options) (files : List ℕ → Opt
   pub done : (list_of naming (legacy_built options keeps.parts)).end ≡ done
 
 -- A prefix of the listing of the image of the names' parts was appended.
-pub record Breaks (naming : Naming) (options : Options) (files : List ℕ → Option (List ℕ)) (names : List (List ℕ)) (s t : Sink) : Type 0 where
+pub record Breaks (naming : Naming) (options : Options) (files : List ℕ → Option (List ℕ))
+    (names : List (List ℕ)) (s t : Sink) : Type 0 where
   pub parts : List (List ℕ)
   pub have : HaveParts files names parts
   pub prefix : AppendsPrefix s t (list_of naming (legacy_built options parts)).text
@@ -85,66 +94,81 @@ StopsOpening files names (NoFile i) = Misses files names i
 StopsOpening files names OutOfMemory = ⊤
 StopsOpening files names _ = ⊥
 
--- An answer is the opened files, honest sources of the names' bytes, or why they are not all opened.
-abbrev pub OpensAnswer : {V : Type 0} → (V → List Device) → (List ℕ → Option (List ℕ)) → List (List ℕ) → Result V Fault → Type 0
-OpensAnswer devices files names (Ok opened) = HaveParts files names (bytes_of (devices opened)) × AreHonest (devices opened)
+-- An answer is the opened files, honest sources of the names' bytes, or why they are not all
+-- opened.
+abbrev pub OpensAnswer : {V : Type 0} → (V → List Device) → (List ℕ → Option (List ℕ))
+    → List (List ℕ) → Result V Fault → Type 0
+OpensAnswer devices files names (Ok opened) =
+    HaveParts files names (bytes_of (devices opened)) × AreHonest (devices opened)
 OpensAnswer devices files names (Err fault) = StopsOpening files names fault
 
--- What the answer of a building says of the parts, and of what was appended: the image, or why not; where a read or a
--- write failed, a prefix of it.
-abbrev pub BuildsParts : {X : Type 0} → Options → List (List ℕ) → Result X Fault → Sink → Sink → Type 0
+-- What the answer of a building says of the parts, and of what was appended: the image, or why not;
+-- where a read or a write failed, a prefix of it.
+abbrev pub BuildsParts : {X : Type 0} → Options → List (List ℕ) → Result X Fault → Sink → Sink
+    → Type 0
 BuildsParts options parts (Ok x) s t = BuildsImage options parts s t
 BuildsParts options parts (Err (Legacy fault)) s t = data_to_build options.kind parts ≡ Err fault
 BuildsParts options parts (Err Read) s t = AppendsPrefix s t (build_of options parts).text
 BuildsParts options parts (Err Put) s t =
-    (data_to_build options.kind parts ≡ Ok (data_of (has_parts options.kind) parts)) × AppendsPrefix s t (build_of options parts).text
+    (data_to_build options.kind parts ≡ Ok (data_of (has_parts options.kind) parts))
+    × AppendsPrefix s t (build_of options parts).text
 BuildsParts options parts (Err _) s t = ⊥
 
 -- The names have parts, of which the answer of a building says what it says.
-pub record BuildsThese {X : Type 0} (options : Options) (files : List ℕ → Option (List ℕ)) (names : List (List ℕ)) (result : Result X Fault) (s t : Sink) : Type 0 where
+pub record BuildsThese {X : Type 0} (options : Options) (files : List ℕ → Option (List ℕ))
+    (names : List (List ℕ)) (result : Result X Fault) (s t : Sink) : Type 0 where
   pub parts : List (List ℕ)
   pub have : HaveParts files names parts
   pub builds : BuildsParts options parts result s t
 
 -- What the answer of a building says of the files of the names, and of what was appended.
-abbrev pub BuildsNames : {X : Type 0} → Options → (List ℕ → Option (List ℕ)) → List (List ℕ) → Result X Fault → Sink → Sink → Type 0
+abbrev pub BuildsNames : {X : Type 0} → Options → (List ℕ → Option (List ℕ)) → List (List ℕ)
+    → Result X Fault → Sink → Sink → Type 0
 BuildsNames options files names (Err (NoFile i)) s t = Misses files names i
 BuildsNames options files names (Err OutOfMemory) s t = ⊤
 BuildsNames options files names result s t = BuildsThese options files names result s t
 
 -- what the fault of a making says of what was appended
-abbrev pub StopsMaking : Naming → Options → (List ℕ → Option (List ℕ)) → List (List ℕ) → Fault → Sink → Sink → Type 0
-StopsMaking naming options files names (Legacy fault) s t = Refuses options files names fault × (t ≡ s)
+abbrev pub StopsMaking : Naming → Options → (List ℕ → Option (List ℕ)) → List (List ℕ) → Fault
+    → Sink → Sink → Type 0
+StopsMaking naming options files names (Legacy fault) s t =
+    Refuses options files names fault × (t ≡ s)
 StopsMaking naming options files names (Blob fault at) s t = ⊥
 StopsMaking naming options files names (Fit fault) s t = ⊥
 StopsMaking naming options files names (Its fault) s t = ⊥
 StopsMaking naming options files names Read s t = Breaks naming options files names s t
-StopsMaking naming options files names Put s t = Accepts options files names × Breaks naming options files names s t
+StopsMaking naming options files names Put s t =
+    Accepts options files names × Breaks naming options files names s t
 StopsMaking naming options files names (NoFile i) s t = Misses files names i × (t ≡ s)
 StopsMaking naming options files names Keep s t = Accepts options files names × (t ≡ s)
 StopsMaking naming options files names OutOfMemory s t = t ≡ s
 
 -- An answer is the kept image with its listing appended, or the fault of a making.
-abbrev pub MakesAnswer : {K : Type 0} → (K → Device) → Naming → Options → (List ℕ → Option (List ℕ)) → List (List ℕ) → Result K Fault → Sink → Sink → Type 0
-MakesAnswer device naming options files names (Ok kept) s t = Makes naming options files names (device kept) s t
-MakesAnswer device naming options files names (Err fault) s t = StopsMaking naming options files names fault s t
+abbrev pub MakesAnswer : {K : Type 0} → (K → Device) → Naming → Options → (List ℕ → Option (List ℕ))
+    → List (List ℕ) → Result K Fault → Sink → Sink → Type 0
+MakesAnswer device naming options files names (Ok kept) s t =
+    Makes naming options files names (device kept) s t
+MakesAnswer device naming options files names (Err fault) s t =
+    StopsMaking naming options files names fault s t
 
 -- a name whose open was refused has no bytes; of other faults this says nothing
 abbrev pub Lacks : (List ℕ → Option (List ℕ)) → List (List ℕ) → Fault → Type 0
 Lacks files names (NoFile i) = files (slice_index_or names i []) ≡ None
 Lacks files names _ = ⊤
 
--- The files are what they were, a refusal was counted exactly where the answer is that a file could not be opened, and
--- complete files refuse only a name that has no bytes.
-pub record OpensNames {X : Type 0} (names : List (List ℕ)) (result : Result X Fault) (old new : FileMap) : Type 0 where
+-- The files are what they were, a refusal was counted exactly where the answer is that a file could
+-- not be opened, and complete files refuse only a name that has no bytes.
+pub record OpensNames {X : Type 0} (names : List (List ℕ)) (result : Result X Fault)
+    (old new : FileMap) : Type 0 where
   pub same : SameFiles old new
   -- `NoFile` is returned exactly if the refusals rose
   pub refusals : RisesIf (is_no_file result) old.refusals new.refusals
   -- `NoFile` only for a name without bytes
   pub missing : IsTrue old.complete → IfErr result (Lacks old.bytes names)
 
--- What the building of an image did to its output: after an answer that comes before the first byte it is as it was, and a
--- failed write was counted exactly where one is answered. Nothing is kept yet.
+-- What the building of an image did to its output: after an answer that comes before the first byte
+-- it is as it was, and a failed write was counted exactly where one is answered. Nothing is kept
+-- yet.
 pub record WritesImageBetween {X : Type 0} (result : Result X Fault) (old new : Sink) : Type 0 where
   -- a refusal of files, parts, source, tree or memory, but not F9, wrote nothing
   pub untouched : IsTrue (is_before_building result) → new ≡ old
@@ -158,4 +182,5 @@ WritesImage result image = WritesImageBetween result image.entry.now image.exit.
 
 -- A shelf has just the bytes of what it kept, which answers them.
 abbrev pub KeepsBytes : {K : Type 0} → (K → Device) → Option (List ℕ) → K → Type 0
-KeepsBytes device contents kept = (contents ≡ Some (device kept).bytes) × IsTrue (device kept).honest
+KeepsBytes device contents kept =
+    (contents ≡ Some (device kept).bytes) × IsTrue (device kept).honest

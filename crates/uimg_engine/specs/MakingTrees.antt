@@ -1,19 +1,20 @@
 -- What the making of a FIT image from its source gives.
-use Rattle.std.specs.Prelude.{◌≡◌, ◌≤◌, ℕ, max, List, [], Option, Some, IsSome, Result, Ok, Err, IsTrue, true, ⊤}
+use Rattle.std.specs.Prelude.{◌≡◌, ◌≤◌, ℕ, max, List, [], Option, Some, IsSome, Result, Ok, Err}
+use Rattle.std.specs.Prelude.{IsTrue, true, ⊤}
 use Rattle.std.specs.Bool.{OnFalse}
 use Rattle.uimg_base.specs.Device.{Device}
 use Rattle.uimg_base.specs.Held.{Held, held_bytes}
 use Rattle.uimg_base.specs.Sink.{Sink, AppendsAll, AppendsPrefix}
 use Rattle.uimg_base.specs.Outcome.{done}
-use Rattle.uimg_blob.specs.Counts.{nodes_met}
-use Rattle.uimg_blob.specs.Faults.{refuses_memory}
-use Rattle.uimg_blob.specs.Plain.{Nodes}
-use Rattle.uimg_blob.specs.declared.fault.BlobFault.{BlobFault}
-use Rattle.uimg_tree.specs.Content.{Unread, AreKept, in_full}
+use Rattle.uimg_blob_reading.specs.Counts.{nodes_met}
+use Rattle.uimg_blob_reading.specs.Faults.{refuses_memory}
+use Rattle.uimg_blob_reading.specs.Plain.{Nodes}
+use Rattle.uimg_blob_reading.specs.declared.fault.BlobFault.{BlobFault}
+use Rattle.uimg_blob_writing.specs.Content.{Unread, AreKept, in_full}
 use Rattle.uimg_its.specs.Answers.{is_outside}
 use Rattle.uimg_its.specs.Grammar.{Spells}
 use Rattle.uimg_its.specs.Words.{words}
-use Rattle.uimg_its.specs.declared.fault.Kind.{Kind}
+use Rattle.uimg_its.specs.declared.fault.FaultKind.{FaultKind}
 use Rattle.uimg_fit_building.specs.BuildAnswers.{CanBuild, BuildsAnswer}
 use Rattle.uimg_fit_building.specs.Building.{built}
 use Rattle.uimg_fit_building.specs.FillAnswers.{FillsAnswer}
@@ -27,68 +28,83 @@ use Rattle.uimg_fit_base.specs.declared.fault.FitFault.{FitFault}
 use Rattle.uimg_fit_base.specs.declared.placement.AlignedPlacement.{AlignedPlacement}
 use Rattle.uimg_names.specs.declared.naming.Naming.{Naming}
 use Rattle.uimg_engine.specs.declared.fault.Fault.{Fault}
-use Rattle.uimg_engine.specs.declared.fault.Fault.TheVariants.{Legacy, Blob, Fit, Its, Read, Put, NoFile, Keep, OutOfMemory}
+use Rattle.uimg_engine.specs.declared.fault.Fault.TheVariants.{Legacy, Blob, Fit, Its, Read, Put}
+use Rattle.uimg_engine.specs.declared.fault.Fault.TheVariants.{NoFile, Keep, OutOfMemory}
 use Rattle.uimg_engine.specs.Headline.{begins_as_blob}
 
 -- The source has a text, whose words spell a tree.
-pub record SpellsTree (files : List ℕ → Option (List ℕ)) (source : List ℕ) (t : Nodes) : Type 0 where
+pub record SpellsTree (files : List ℕ → Option (List ℕ)) (source : List ℕ) (t : Nodes)
+    : Type 0 where
   pub text : List ℕ
   pub have : files source ≡ Some text
   pub spelled : Spells (words text) files t
 
 -- The source has a text, and where it is refused for a reason in the text, its words spell no tree.
-pub record RefusesText (files : List ℕ → Option (List ℕ)) (source : List ℕ) (kind : Kind) : Type 0 where
+pub record RefusesText (files : List ℕ → Option (List ℕ)) (source : List ℕ) (kind : FaultKind)
+    : Type 0 where
   pub text : List ℕ
   pub have : files source ≡ Some text
   -- of I5, I6 and I7 nothing is claimed
   pub none : OnFalse (is_outside kind) ((t : Nodes) → Spells (words text) files t → ⊥)
 
 -- The tree that is spelled is another one when it is filled at a time.
-pub record FillsTree (files : List ℕ → Option (List ℕ)) (source : List ℕ) (time : ℕ) (u : Nodes) : Type 0 where
+pub record FillsTree (files : List ℕ → Option (List ℕ)) (source : List ℕ) (time : ℕ) (u : Nodes)
+    : Type 0 where
   pub tree : Nodes
   pub spelled : SpellsTree files source tree
   pub filled : fill_of time tree ≡ Ok u
 
 -- The tree that is spelled is not filled: a fault of filling says why.
-pub record Unfilled (files : List ℕ → Option (List ℕ)) (source : List ℕ) (time : ℕ) (fault : FitFault) : Type 0 where
+pub record Unfilled (files : List ℕ → Option (List ℕ)) (source : List ℕ) (time : ℕ)
+    (fault : FitFault) : Type 0 where
   pub tree : Unread
   pub spelled : SpellsTree files source (in_full files tree)
   pub stops : FillsAnswer {X = Unread} (λ t. t) files time tree (Err fault)
 
 -- What is filled is the tree that is spelled, filled; its files are those of the source.
-pub record FillsSource (files : List ℕ → Option (List ℕ)) (source : List ℕ) (time : ℕ) (u : Unread) : Type 0 where
+pub record FillsSource (files : List ℕ → Option (List ℕ)) (source : List ℕ) (time : ℕ) (u : Unread)
+    : Type 0 where
   pub fills : FillsTree files source time (in_full files u)
   pub is_filled : IsFilled (in_full files u)
   pub kept : AreKept files u
 
 -- What the answer of a building says of the filled tree.
-pub record BuildsFilled {X : Type 0} (files : List ℕ → Option (List ℕ)) (source : List ℕ) (time : ℕ) (placement : AlignedPlacement) (result : Result X FitEngineFault) (s t : Sink) : Type 0 where
+pub record BuildsFilled {X : Type 0} (files : List ℕ → Option (List ℕ)) (source : List ℕ) (time : ℕ)
+    (placement : AlignedPlacement) (result : Result X FitEngineFault) (s t : Sink) : Type 0 where
   pub tree : Nodes
   pub fills : FillsTree files source time tree
   pub builds : BuildsAnswer tree placement result s t
 
 -- The filled tree can be built.
-pub record AcceptsTree (files : List ℕ → Option (List ℕ)) (source : List ℕ) (time : ℕ) (placement : AlignedPlacement) (tree : Nodes) : Type 0 where
+pub record AcceptsTree (files : List ℕ → Option (List ℕ)) (source : List ℕ) (time : ℕ)
+    (placement : AlignedPlacement) (tree : Nodes) : Type 0 where
   pub fills : FillsTree files source time tree
   pub accepted : CanBuild tree placement
 
 -- The image of the filled tree was appended, and reads back as such.
-pub record BuildsTree (files : List ℕ → Option (List ℕ)) (source : List ℕ) (time : ℕ) (placement : AlignedPlacement) (s t : Sink) : Type 0 where
+pub record BuildsTree (files : List ℕ → Option (List ℕ)) (source : List ℕ) (time : ℕ)
+    (placement : AlignedPlacement) (s t : Sink) : Type 0 where
   pub tree : Nodes
   pub accepts : AcceptsTree files source time placement tree
   pub written : AppendsAll s t (built tree placement)
   pub reads_back : ReadsBack (built tree placement) tree
 
--- Why an image is refused for its images: the tree isn't filled, or what is filled isn't built (of which the fault alone says
--- why, and nothing was appended).
-pub data StopsAtImages (files : List ℕ → Option (List ℕ)) (source : List ℕ) (time : ℕ) (placement : AlignedPlacement) (fault : FitFault) (s t : Sink) : Type 0 where
-  unfilled : Unfilled files source time fault → t ≡ s → StopsAtImages files source time placement fault s t
-  unbuilt : BuildsFilled {X = ⊤} files source time placement (Err (fit.Fit fault)) s t → StopsAtImages files source time placement fault s t
+-- Why an image is refused for its images: the tree isn't filled, or what is filled isn't built (of
+-- which the fault alone says why, and nothing was appended).
+pub data StopsAtImages (files : List ℕ → Option (List ℕ)) (source : List ℕ) (time : ℕ)
+    (placement : AlignedPlacement) (fault : FitFault) (s t : Sink) : Type 0 where
+  unfilled : Unfilled files source time fault → t ≡ s
+      → StopsAtImages files source time placement fault s t
+  unbuilt : BuildsFilled {X = ⊤} files source time placement (Err (fit.Fit fault)) s t
+      → StopsAtImages files source time placement fault s t
 
--- Why a read failed in a building: the text isn't read, and nothing was appended, or a file isn't while the image is written.
-pub data StopsAtRead (files : List ℕ → Option (List ℕ)) (source : List ℕ) (time : ℕ) (placement : AlignedPlacement) (s t : Sink) : Type 0 where
+-- Why a read failed in a building: the text isn't read, and nothing was appended, or a file isn't
+-- while the image is written.
+pub data StopsAtRead (files : List ℕ → Option (List ℕ)) (source : List ℕ) (time : ℕ)
+    (placement : AlignedPlacement) (s t : Sink) : Type 0 where
   before : IsSome (files source) → t ≡ s → StopsAtRead files source time placement s t
-  unwritten : BuildsFilled {X = ⊤} files source time placement (Err fit.Read) s t → StopsAtRead files source time placement s t
+  unwritten : BuildsFilled {X = ⊤} files source time placement (Err fit.Read) s t
+      → StopsAtRead files source time placement s t
 
 -- What an answer says of the bytes of the source, if it is there: all of them, or why not.
 abbrev pub ReadsText : {X : Type 0} → (X → List ℕ) → Option (List ℕ) → Result X Fault → Type 0
@@ -99,7 +115,8 @@ ReadsText view bytes (Err OutOfMemory) = ⊤
 ReadsText view bytes (Err _) = ⊥
 
 -- What an answer says of the source: the filled tree, or why there is none.
-abbrev pub ReadsTree : {X : Type 0} → (X → Unread) → (List ℕ → Option (List ℕ)) → List ℕ → ℕ → Result X Fault → Type 0
+abbrev pub ReadsTree : {X : Type 0} → (X → Unread) → (List ℕ → Option (List ℕ)) → List ℕ → ℕ
+    → Result X Fault → Type 0
 ReadsTree view files source time (Ok x) = FillsSource files source time (view x)
 ReadsTree view files source time (Err (Fit fault)) = Unfilled files source time fault
 ReadsTree view files source time (Err (Its fault)) = RefusesText files source fault.kind
@@ -108,23 +125,29 @@ ReadsTree view files source time (Err (NoFile i)) = i ≡ 0
 ReadsTree view files source time (Err OutOfMemory) = ⊤
 ReadsTree view files source time (Err _) = ⊥
 
--- What the answer of a building says of the source, and of what was appended: the image, or why not; where an open, a read
--- or a write failed, a prefix of it.
-abbrev pub BuildsSource : {X : Type 0} → (List ℕ → Option (List ℕ)) → List ℕ → ℕ → AlignedPlacement → Result X Fault → Sink → Sink → Type 0
+-- What the answer of a building says of the source, and of what was appended: the image, or why
+-- not; where an open, a read or a write failed, a prefix of it.
+abbrev pub BuildsSource : {X : Type 0} → (List ℕ → Option (List ℕ)) → List ℕ → ℕ → AlignedPlacement
+    → Result X Fault → Sink → Sink → Type 0
 BuildsSource files source time placement (Ok x) s t = BuildsTree files source time placement s t
 BuildsSource files source time placement (Err (Legacy fault)) s t = ⊥
-BuildsSource files source time placement (Err (Blob fault at)) s t = BuildsFilled {X = ⊤} files source time placement (Err (fit.Blob fault at)) s t
-BuildsSource files source time placement (Err (Fit fault)) s t = StopsAtImages files source time placement fault s t
+BuildsSource files source time placement (Err (Blob fault at)) s t =
+    BuildsFilled {X = ⊤} files source time placement (Err (fit.Blob fault at)) s t
+BuildsSource files source time placement (Err (Fit fault)) s t =
+    StopsAtImages files source time placement fault s t
 BuildsSource files source time placement (Err (Its fault)) s t = RefusesText files source fault.kind
-BuildsSource files source time placement (Err Read) s t = StopsAtRead files source time placement s t
-BuildsSource files source time placement (Err Put) s t = BuildsFilled {X = ⊤} files source time placement (Err fit.Put) s t
+BuildsSource files source time placement (Err Read) s t =
+    StopsAtRead files source time placement s t
+BuildsSource files source time placement (Err Put) s t =
+    BuildsFilled {X = ⊤} files source time placement (Err fit.Put) s t
 BuildsSource files source time placement (Err (NoFile i)) s t = i ≡ 0
 BuildsSource files source time placement (Err Keep) s t = ⊥
 BuildsSource files source time placement (Err OutOfMemory) s t = ⊤
 
--- What is kept is the image of the filled tree, reads back as such, and is told as a FIT image by its first bytes; its listing
--- ends well.
-pub record KeepsTree (files : List ℕ → Option (List ℕ)) (source : List ℕ) (time : ℕ) (placement : AlignedPlacement) (kept : Device) : Type 0 where
+-- What is kept is the image of the filled tree, reads back as such, and is told as a FIT image by
+-- its first bytes; its listing ends well.
+pub record KeepsTree (files : List ℕ → Option (List ℕ)) (source : List ℕ) (time : ℕ)
+    (placement : AlignedPlacement) (kept : Device) : Type 0 where
   pub tree : Nodes
   -- the source spells a tree, this is that tree filled, and it can be built
   pub accepts : AcceptsTree files source time placement tree
@@ -136,52 +159,75 @@ pub record KeepsTree (files : List ℕ → Option (List ℕ)) (source : List ℕ
   pub done : (naming : Naming) → (list_of naming (built tree placement)).end ≡ done
 
 -- The image of the filled tree is kept, and its whole listing was appended.
-pub record MakesTree (naming : Naming) (files : List ℕ → Option (List ℕ)) (source : List ℕ) (time : ℕ) (placement : AlignedPlacement) (kept : Device) (s t : Sink) : Type 0 where
+pub record MakesTree (naming : Naming) (files : List ℕ → Option (List ℕ)) (source : List ℕ)
+    (time : ℕ) (placement : AlignedPlacement) (kept : Device) (s t : Sink) : Type 0 where
   pub keeps : KeepsTree files source time placement kept
   -- exactly its listing was appended
   pub listed : AppendsAll s t (list_of naming (built keeps.tree placement)).text
 
 -- A prefix of the listing of the image of the filled tree was appended.
-pub record BreaksTree (naming : Naming) (files : List ℕ → Option (List ℕ)) (source : List ℕ) (time : ℕ) (placement : AlignedPlacement) (s t : Sink) : Type 0 where
+pub record BreaksTree (naming : Naming) (files : List ℕ → Option (List ℕ)) (source : List ℕ)
+    (time : ℕ) (placement : AlignedPlacement) (s t : Sink) : Type 0 where
   pub tree : Nodes
   pub accepts : AcceptsTree files source time placement tree
   pub prefix : AppendsPrefix s t (list_of naming (built tree placement)).text
 
--- Why a blob is refused: a name of the filled tree is bad, or memory for the table of the nodes was refused in the listing.
-pub data StopsAtBlob (naming : Naming) (files : List ℕ → Option (List ℕ)) (source : List ℕ) (time : ℕ) (placement : AlignedPlacement) (fault : BlobFault) (at : ℕ) (s t : Sink) : Type 0 where
-  unnamed : BuildsFilled {X = ⊤} files source time placement (Err (fit.Blob fault at)) s t → t ≡ s → StopsAtBlob naming files source time placement fault at s t
-  no_table : IsTrue (refuses_memory fault) → BreaksTree naming files source time placement s t → StopsAtBlob naming files source time placement fault at s t
+-- Why a blob is refused: a name of the filled tree is bad, or memory for the table of the nodes was
+-- refused in the listing.
+pub data StopsAtBlob (naming : Naming) (files : List ℕ → Option (List ℕ)) (source : List ℕ)
+    (time : ℕ) (placement : AlignedPlacement) (fault : BlobFault) (at : ℕ) (s t : Sink)
+    : Type 0 where
+  unnamed : BuildsFilled {X = ⊤} files source time placement (Err (fit.Blob fault at)) s t → t ≡ s
+      → StopsAtBlob naming files source time placement fault at s t
+  no_table : IsTrue (refuses_memory fault) → BreaksTree naming files source time placement s t
+      → StopsAtBlob naming files source time placement fault at s t
 
--- Why a read failed in a making: the text isn't read, and nothing was listed, or a file, or what was kept in the listing.
-pub data StopsReading (naming : Naming) (files : List ℕ → Option (List ℕ)) (source : List ℕ) (time : ℕ) (placement : AlignedPlacement) (s t : Sink) : Type 0 where
+-- Why a read failed in a making: the text isn't read, and nothing was listed, or a file, or what
+-- was kept in the listing.
+pub data StopsReading (naming : Naming) (files : List ℕ → Option (List ℕ)) (source : List ℕ)
+    (time : ℕ) (placement : AlignedPlacement) (s t : Sink) : Type 0 where
   unread : IsSome (files source) → t ≡ s → StopsReading naming files source time placement s t
-  unlisted : BreaksTree naming files source time placement s t → StopsReading naming files source time placement s t
+  unlisted : BreaksTree naming files source time placement s t
+      → StopsReading naming files source time placement s t
 
 -- what the fault of a making says of the source, and of what was listed
-abbrev pub StopsSource : Naming → (List ℕ → Option (List ℕ)) → List ℕ → ℕ → AlignedPlacement → Fault → Sink → Sink → Type 0
+abbrev pub StopsSource : Naming → (List ℕ → Option (List ℕ)) → List ℕ → ℕ → AlignedPlacement → Fault
+    → Sink → Sink → Type 0
 StopsSource naming files source time placement (Legacy fault) s t = ⊥
-StopsSource naming files source time placement (Blob fault at) s t = StopsAtBlob naming files source time placement fault at s t
-StopsSource naming files source time placement (Fit fault) s t = StopsAtImages files source time placement fault s t × (t ≡ s)
-StopsSource naming files source time placement (Its fault) s t = RefusesText files source fault.kind × (t ≡ s)
-StopsSource naming files source time placement Read s t = StopsReading naming files source time placement s t
-StopsSource naming files source time placement Put s t = BreaksTree naming files source time placement s t
+StopsSource naming files source time placement (Blob fault at) s t =
+    StopsAtBlob naming files source time placement fault at s t
+StopsSource naming files source time placement (Fit fault) s t =
+    StopsAtImages files source time placement fault s t × (t ≡ s)
+StopsSource naming files source time placement (Its fault) s t =
+    RefusesText files source fault.kind × (t ≡ s)
+StopsSource naming files source time placement Read s t =
+    StopsReading naming files source time placement s t
+StopsSource naming files source time placement Put s t =
+    BreaksTree naming files source time placement s t
 StopsSource naming files source time placement (NoFile i) s t = (i ≡ 0) × (t ≡ s)
-StopsSource naming files source time placement Keep s t = ((tree : Nodes) × AcceptsTree files source time placement tree) × (t ≡ s)
+StopsSource naming files source time placement Keep s t =
+    ((tree : Nodes) × AcceptsTree files source time placement tree) × (t ≡ s)
 StopsSource naming files source time placement OutOfMemory s t = t ≡ s
 
 -- An answer is the kept image with its listing appended, or the fault of a making.
-abbrev pub MakesSource : {K : Type 0} → (K → Device) → Naming → (List ℕ → Option (List ℕ)) → List ℕ → ℕ → AlignedPlacement → Result K Fault → Sink → Sink → Type 0
-MakesSource device naming files source time placement (Ok kept) s t = MakesTree naming files source time placement (device kept) s t
-MakesSource device naming files source time placement (Err fault) s t = StopsSource naming files source time placement fault s t
+abbrev pub MakesSource : {K : Type 0} → (K → Device) → Naming → (List ℕ → Option (List ℕ)) → List ℕ
+    → ℕ → AlignedPlacement → Result K Fault → Sink → Sink → Type 0
+MakesSource device naming files source time placement (Ok kept) s t =
+    MakesTree naming files source time placement (device kept) s t
+MakesSource device naming files source time placement (Err fault) s t =
+    StopsSource naming files source time placement fault s t
 
 -- A room took no more memory than for the nodes of the image of the filled tree.
-pub record HoldsNodes (files : List ℕ → Option (List ℕ)) (source : List ℕ) (time : ℕ) (placement : AlignedPlacement) (old new : Held) : Type 0 where
+pub record HoldsNodes (files : List ℕ → Option (List ℕ)) (source : List ℕ) (time : ℕ)
+    (placement : AlignedPlacement) (old new : Held) : Type 0 where
   pub tree : Nodes
   pub accepts : AcceptsTree files source time placement tree
   pub peak : new.peak ≤ max old.peak (held_bytes (nodes_met (built tree placement)))
 
--- What the making of an image did to a room, whatever its answer: it cleared it and did nothing else, or it took memory for the
--- nodes of an image that can be built.
-pub data HoldsSource (files : List ℕ → Option (List ℕ)) (source : List ℕ) (time : ℕ) (placement : AlignedPlacement) (old new : Held) : Type 0 where
+-- What the making of an image did to a room, whatever its answer: it cleared it and did nothing
+-- else, or it took memory for the nodes of an image that can be built.
+pub data HoldsSource (files : List ℕ → Option (List ℕ)) (source : List ℕ) (time : ℕ)
+    (placement : AlignedPlacement) (old new : Held) : Type 0 where
   only_cleared : new ≡ record old { entries = [] } → HoldsSource files source time placement old new
-  for_nodes : HoldsNodes files source time placement old new → HoldsSource files source time placement old new
+  for_nodes : HoldsNodes files source time placement old new
+      → HoldsSource files source time placement old new

@@ -3,7 +3,7 @@
 use std::alloc::AllocError;
 use thiserror::Error;
 use uimg_base::SourceFault;
-use uimg_blob::BlobFault;
+use uimg_blob_reading::BlobFault;
 use uimg_fit_base::FitFault;
 use uimg_its::ItsFault;
 use uimg_legacy::LegacyFault;

@@ -4,8 +4,8 @@ ghost use Rattle.std.specs.Prelude.{◌≡◌, false, IfOk, is_err};
 ghost use Rattle.uimg_base.specs.Using.{Asks};
 ghost use Rattle.uimg_engine.specs.Headline.{begins_as_blob, is_fit, HonestSource};
 
-use uimg_base::{Source, SourceFault, number_at};
-use uimg_blob::BLOB_MAGIC;
+use uimg_base::{Source, SourceFault, be32_at};
+use uimg_blob_reading::BLOB_MAGIC;
 use uimg_requests::Form;
 
 // Whether a file begins as a blob does.
@@ -20,7 +20,7 @@ fn begins_as_blob<S: Source>(source: &mut S) -> Result<bool, SourceFault>
     }
     let mut magic = [0; 4];
     source.fill_at(0, &mut magic)?;
-    Ok(number_at(&magic, 0) == BLOB_MAGIC)
+    Ok(be32_at(&magic, 0) == BLOB_MAGIC)
 }
 
 /// Whether a file is read as a FIT image: where that is asked for, or its first four bytes tell it, which

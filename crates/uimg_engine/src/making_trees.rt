@@ -1,7 +1,7 @@
 //! FIT images, made from image-tree source.
 ghost use Rattle.std.specs.Prelude.{◌≡◌, false, Some, IsTrue, IsSome, IfErr};
-ghost use Rattle.uimg_tree.specs.Trees.{node_of};
-ghost use Rattle.uimg_tree.specs.UsingFiles.{UsesFiles};
+ghost use Rattle.uimg_blob_writing.specs.Trees.{node_of};
+ghost use Rattle.uimg_blob_writing.specs.UsingFiles.{UsesFiles};
 ghost use Rattle.uimg_engine.specs.Faults.{LosesNothing, is_unread, is_lost_payload, is_put, is_keep, is_no_file, is_no_text, is_no_payload};
 ghost use Rattle.uimg_engine.specs.Headline.{HonestSource};
 ghost use Rattle.uimg_engine.specs.Commands.{HonestFiles, LacksSource, OpensSource};
@@ -12,10 +12,10 @@ use crate::fault::Fault;
 use std::alloc::Allocator;
 use std::io::Write;
 use uimg_base::{Files, MoveFault, Out, Source, WINDOW, copy_through};
+use uimg_blob_writing::Tree;
 use uimg_fit_base::AlignedPlacement;
 use uimg_fit_building::{build_by, fill};
 use uimg_its::compile;
-use uimg_tree::Tree;
 
 // All the bytes of a source.
 fn whole_text<S: Source, A: Allocator>(alloc: A, source: &mut S) -> Result<Vec<u8, A>, Fault>

@@ -9,13 +9,13 @@ use Rattle.uimg_texts.specs.Slices.{slice}
 use Rattle.uimg_texts.specs.Nul.{before_nul}
 use Rattle.uimg_texts.specs.Numbers.{be32}
 use Rattle.uimg_base.specs.Results.{◌>>=◌}
-use Rattle.uimg_blob.specs.declared.fault.BlobFault.{BlobFault}
-use Rattle.uimg_blob.specs.declared.fault.BlobFault.TheVariants.{TooShort, BadMagic, BadVersion, BlockOutside, BadNodeName, Truncated, BadPropertyName, BadToken}
-use Rattle.uimg_blob.specs.Reading.{Fault}
-use Rattle.uimg_blob.specs.Tokens.{Property, Token, Blocks, begin_node, end_node, prop, nop, last, stray, reach, node_name, named, property, token_at, next, tokens_from, tokens}
-use Rattle.uimg_blob.specs.Grammar.{Siblings, none, node, properties, end, inside, children, ended, root, without_nops}
-use Rattle.uimg_blob.specs.Blob.{magic, ends_outside, blocks_named, blocks, tree}
-use Rattle.uimg_blob.proofs.PhaseLaws.{some_none, some_some}
+use Rattle.uimg_blob_reading.specs.declared.fault.BlobFault.{BlobFault}
+use Rattle.uimg_blob_reading.specs.declared.fault.BlobFault.TheVariants.{TooShort, BadMagic, BadVersion, BlockOutside, BadNodeName, Truncated, BadPropertyName, BadToken}
+use Rattle.uimg_blob_reading.specs.Reading.{Fault}
+use Rattle.uimg_blob_reading.specs.Tokens.{Property, Token, Blocks, begin_node, end_node, prop, nop, last, stray, reach, node_name, named, property, token_at, next, tokens_from, tokens}
+use Rattle.uimg_blob_reading.specs.Grammar.{Siblings, none, node, properties, end, inside, children, ended, root, without_nops}
+use Rattle.uimg_blob_reading.specs.Blob.{magic, ends_outside, blocks_named, blocks, tree}
+use Rattle.uimg_blob_reading.proofs.PhaseLaws.{some_none, some_some}
 use Rattle.uimg_fit_base.specs.Lying.{NameLies, ValueLies, Lie}
 
 -- a refusal is passed by

@@ -6,7 +6,7 @@ use Rattle.uimg_sums.specs.Algorithms.{digest_by}
 use Rattle.uimg_sums.specs.AnySum.{padded_digest}
 use Rattle.uimg_sums.specs.Bundle.{digest_at, padded_digests}
 use Rattle.uimg_sums.specs.declared.algo.Algo.{Algo}
-use Rattle.uimg_blob.proofs.PhaseLaws.{some_none, some_some}
+use Rattle.uimg_blob_reading.proofs.PhaseLaws.{some_none, some_some}
 
 -- the digest of an algorithm stands where the algorithm does
 slot_at : (f : Option Algo → List ℕ × ℕ) (algos : List Algo) (rest : List (Option Algo)) (i : ℕ) (algo : Algo) (d : List ℕ × ℕ) → slice_get algos i ≡ Some algo

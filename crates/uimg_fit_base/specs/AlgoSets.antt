@@ -1,5 +1,6 @@
 -- The algorithms that are in use, of the six there are, and the digests by them.
-use Rattle.std.specs.Prelude.{◌≡◌, ◌≤◌, ℕ, List, [], ◌∷◌, ◌++◌, length, drop, Bool, true, false, not, if◌then◌else◌}
+use Rattle.std.specs.Prelude.{◌≡◌, ◌≤◌, ℕ, List, [], ◌∷◌, ◌++◌, length, drop, Bool, true, false}
+use Rattle.std.specs.Prelude.{not, if◌then◌else◌}
 use Rattle.std.specs.List.{filter}
 use Rattle.uimg_sums.specs.declared.algo.Algo.{Algo}
 use Rattle.uimg_sums.specs.declared.algo.Algo.TheVariants.{Crc32, Md5, Sha1, Sha256, Sha384, Sha512}
@@ -41,7 +42,15 @@ marked set Sha512 = record set { sha512 = true }
 
 -- no algorithm is in use
 abbrev pub no_algos : AlgoSet
-no_algos = record { crc32 = false; md5 = false; sha1 = false; sha256 = false; sha384 = false; sha512 = false }
+no_algos =
+    record {
+      crc32 = false;
+      md5 = false;
+      sha1 = false;
+      sha256 = false;
+      sha384 = false;
+      sha512 = false;
+    }
 
 -- whether no algorithm is in use
 unfoldable pub is_empty : AlgoSet → Bool

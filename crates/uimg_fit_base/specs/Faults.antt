@@ -5,13 +5,15 @@ use Rattle.uimg_base.specs.declared.status.Status.{Status}
 use Rattle.uimg_base.specs.declared.status.Status.TheVariants.{Done, NotRight}
 use Rattle.uimg_base.specs.declared.ranges.MoveFault.{MoveFault}
 use Rattle.uimg_base.specs.declared.ranges.MoveFault.TheVariants as move
-use Rattle.uimg_blob.specs.Faults.{refuses_memory, is_too_large}
-use Rattle.uimg_blob.specs.declared.fault.IndexFault.{IndexFault}
-use Rattle.uimg_blob.specs.declared.fault.IndexFault.TheVariants as index
+use Rattle.uimg_blob_reading.specs.Faults.{refuses_memory, is_too_large}
+use Rattle.uimg_blob_reading.specs.declared.fault.IndexFault.{IndexFault}
+use Rattle.uimg_blob_reading.specs.declared.fault.IndexFault.TheVariants as index
 use Rattle.uimg_fit_base.specs.declared.fault.Fault.{Fault}
 use Rattle.uimg_fit_base.specs.declared.fault.Fault.TheVariants.{Blob, Fit, Read, Put}
 use Rattle.uimg_fit_base.specs.declared.fault.FitFault.{FitFault}
-use Rattle.uimg_fit_base.specs.declared.fault.FitFault.TheVariants.{UnknownAlgo, PositionTooLow, TooLarge, OutOfMemory, NoFile, ReadFailed}
+use Rattle.uimg_fit_base.specs.declared.fault.FitFault.TheVariants.{UnknownAlgo, PositionTooLow}
+use Rattle.uimg_fit_base.specs.declared.fault.FitFault.TheVariants.{TooLarge, OutOfMemory, NoFile}
+use Rattle.uimg_fit_base.specs.declared.fault.FitFault.TheVariants.{ReadFailed}
 
 -- the fault of a command that a fault of the index is
 abbrev pub of_index : IndexFault → Fault
@@ -73,7 +75,8 @@ is_refused (Err (Blob fault at)) = true
 is_refused (Err (Fit fault)) = true
 is_refused _ = false
 
--- An answer is the value or the fault of a definition, unless a device failed or memory was refused.
+-- An answer is the value or the fault of a definition, unless a device failed or memory was
+-- refused.
 abbrev pub Gives : {X Y : Type 0} → (X → Y) → Result X Fault → Result Y Fault → Type 0
 Gives view (Ok x) r = r ≡ Ok (view x)
 Gives view (Err (Blob fault at)) r = refuses_memory fault ≡ false → r ≡ Err (Blob fault at)

@@ -1,21 +1,23 @@
 -- What a FIT image has (Flattened Image Tree format, "Root node", "'/images' node").
-use Rattle.std.specs.Prelude.{ℕ, List, [], length, Option, Some, None, Result, Ok, Err, ◌==◌, if◌then◌else◌}
+use Rattle.std.specs.Prelude.{ℕ, List, [], length, Option, Some, None, Result, Ok, Err, ◌==◌}
+use Rattle.std.specs.Prelude.{if◌then◌else◌}
 use Rattle.std.specs.Int.{from_be_bytes, w32}
 use Rattle.std.specs.Option.{option_and_then, option_map}
 use Rattle.uimg_texts.specs.Slices.{slice}
 use Rattle.uimg_base.specs.Results.{◌>>=◌}
 use Rattle.uimg_base.specs.declared.spans.Span.{Span}
-use Rattle.uimg_blob.specs.Reading.{Fault as BlobFaultAt}
-use Rattle.uimg_blob.specs.Grammar.{Siblings}
-use Rattle.uimg_blob.specs.Blob.{tree}
-use Rattle.uimg_blob.specs.Plain.{NamedOf, NodesOf, no_node, a_node}
-use Rattle.uimg_blob.specs.LookUps.{NodeOf, first, images}
-use Rattle.uimg_blob.specs.Spots.{Spot, spots}
+use Rattle.uimg_blob_reading.specs.Reading.{Fault as BlobFaultAt}
+use Rattle.uimg_blob_reading.specs.Grammar.{Siblings}
+use Rattle.uimg_blob_reading.specs.Blob.{tree}
+use Rattle.uimg_blob_reading.specs.Plain.{NamedOf, NodesOf, no_node, a_node}
+use Rattle.uimg_blob_reading.specs.LookUps.{NodeOf, first, images}
+use Rattle.uimg_blob_reading.specs.Spots.{Spot, spots}
 use Rattle.uimg_fit_base.specs.declared.fault.Fault.{Fault}
 use Rattle.uimg_fit_base.specs.declared.fault.Fault.TheVariants.{Blob, Fit}
 use Rattle.uimg_fit_base.specs.declared.fault.FitFault.TheVariants.{NoImages}
 
--- the tree of a file, each value with the place where it stands, or the first fault of its blob with its offset
+-- the tree of a file, each value with the place where it stands, or the first fault of its blob
+-- with its offset
 abbrev pub spots_in : Result Siblings BlobFaultAt → Result (NodesOf Spot) Fault
 spots_in (Ok t) = Ok (spots t)
 spots_in (Err e) = Err (Blob e.0 e.1)

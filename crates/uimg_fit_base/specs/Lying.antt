@@ -2,8 +2,8 @@
 use Rattle.std.specs.Prelude.{◌≡◌, ℕ, ◌≤◌, ◌+◌, List, length, ⊤}
 use Rattle.std.specs.List.{AllByRecursion}
 use Rattle.uimg_texts.specs.Slices.{slice}
-use Rattle.uimg_blob.specs.Tokens.{Property}
-use Rattle.uimg_blob.specs.Grammar.{Siblings, none, node}
+use Rattle.uimg_blob_reading.specs.Tokens.{Property}
+use Rattle.uimg_blob_reading.specs.Grammar.{Siblings, none, node}
 
 -- A node's name stands behind the word that begins the node.
 pub record NameLies (file : List ℕ) (at : ℕ) (name : List ℕ) : Type 0 where

@@ -5,7 +5,8 @@ use Rattle.uimg_fit_base.specs.declared.placement.Placement.TheVariants as place
 use Rattle.uimg_fit_base.specs.declared.placement.AlignedPlacement.{AlignedPlacement}
 use Rattle.uimg_fit_base.specs.declared.placement.AlignedPlacement.TheVariants.{Inside, After, At}
 
--- the alignment by which the blob's end and each payload's are rounded up: that of the blob's own values, or the one given
+-- the alignment by which the blob's end and each payload's are rounded up: that of the blob's own
+-- values, or the one given
 abbrev pub align_of : AlignedPlacement → ℕ
 align_of Inside = 4
 align_of (After align) = align

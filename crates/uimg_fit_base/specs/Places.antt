@@ -1,13 +1,14 @@
 -- Where the payload of an image stands (Flattened Image Tree format, "External data").
-use Rattle.std.specs.Prelude.{◌≡◌, ℕ, ⊤, ◌+◌, List, length, nat_lt, if◌then◌else◌, Option, Some, None, Result, Ok, Err, codes}
+use Rattle.std.specs.Prelude.{◌≡◌, ℕ, ⊤, ◌+◌, List, length, nat_lt, if◌then◌else◌, Option, Some}
+use Rattle.std.specs.Prelude.{None, Result, Ok, Err, codes}
 use Rattle.uimg_texts.specs.Slices.{slice}
 use Rattle.uimg_texts.specs.Numbers.{be32, up4}
 use Rattle.uimg_base.specs.Results.{◌>>=◌}
 use Rattle.std.specs.Option.{option_map}
 use Rattle.uimg_base.specs.declared.spans.Span.{Span}
-use Rattle.uimg_blob.specs.Indexed.{value_span}
-use Rattle.uimg_blob.specs.LookUps.{NodeOf, first}
-use Rattle.uimg_blob.specs.Spots.{Spot}
+use Rattle.uimg_blob_reading.specs.Indexed.{value_span}
+use Rattle.uimg_blob_reading.specs.LookUps.{NodeOf, first}
+use Rattle.uimg_blob_reading.specs.Spots.{Spot}
 use Rattle.uimg_fit_base.specs.declared.fault.Fault.{Fault}
 use Rattle.uimg_fit_base.specs.declared.fault.Fault.TheVariants.{Blob, Fit}
 use Rattle.uimg_fit_base.specs.declared.fault.FitFault.{FitFault}
@@ -30,18 +31,22 @@ or_else (Some p) second third = Ok p
 or_else None (Some p) third = Ok p
 or_else None None third = third
 
--- The payload's place: `data-position` from the file's start, else `data-offset` from the blob's end, rounded up to a multiple
--- of 4, each with `data-size`; else that of the first `data`; else there is none.
--- Sums are of whole numbers: no limit of 32 or 64 bits cuts them.
+-- The payload's place: `data-position` from the file's start, else `data-offset` from the blob's
+-- end, rounded up to a multiple of 4, each with `data-size`; else that of the first `data`; else
+-- there is none. Sums are of whole numbers: no limit of 32 or 64 bits cuts them.
 abbrev pub place : List ℕ → NodeOf Spot → Result Span FitFault
 place file image =
-    or_else (external 0 (cell image.own (codes "data-position")) (cell image.own (codes "data-size")))
-    (external (up4 (be32 file 4)) (cell image.own (codes "data-offset")) (cell image.own (codes "data-size")))
+    or_else
+    (external 0 (cell image.own (codes "data-position")) (cell image.own (codes "data-size")))
+    (external (up4 (be32 file 4)) (cell image.own (codes "data-offset"))
+    (cell image.own (codes "data-size")))
     (embedded (option_map value_span (first image.own (codes "data"))))
 
 -- the bytes at a place, unless they end after the file
 unfoldable pub bytes_at : List ℕ → Span → Result (List ℕ) FitFault
-bytes_at file p = if nat_lt (length file) (p.place + p.length) then Err DataOutside else Ok (slice file p.place p.length)
+bytes_at file p =
+    if nat_lt (length file) (p.place + p.length) then Err DataOutside else Ok
+    (slice file p.place p.length)
 
 -- the payload of an image
 abbrev pub payload : List ℕ → NodeOf Spot → Result (List ℕ) FitFault
@@ -49,7 +54,8 @@ payload file image = do
   p ← place file image
   bytes_at file p
 
--- what is said of the place of an image's payload: where it is, or why there is none that ends in the file
+-- what is said of the place of an image's payload: where it is, or why there is none that ends in
+-- the file
 abbrev pub TellsPlace : List ℕ → NodeOf Spot → Result Span Fault → Type 0
 TellsPlace file image (Ok p) = payload file image ≡ Ok (slice file p.place p.length)
 TellsPlace file image (Err (Fit fault)) = payload file image ≡ Err fault

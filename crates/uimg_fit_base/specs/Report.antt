@@ -1,19 +1,22 @@
 -- The report on the hashes of images (Flattened Image Tree format, "Hash nodes").
-use Rattle.std.specs.Prelude.{ℕ, List, [], ◌∷◌, ◌++◌, length, ◌==◌, if◌then◌else◌, Option, Some, None, Result, Ok, Err, Bool, true, false, codes}
+use Rattle.std.specs.Prelude.{ℕ, List, [], ◌∷◌, ◌++◌, length, ◌==◌, if◌then◌else◌, Option, Some}
+use Rattle.std.specs.Prelude.{None, Result, Ok, Err, Bool, true, false, codes}
 use Rattle.std.specs.List.{flat_map, list_all}
 use Rattle.std.specs.Option.{option_map, option_map_or}
 use Rattle.std.specs.Str.{bytes_eq}
 use Rattle.uimg_sums.specs.declared.algo.Algo.{Algo}
 use Rattle.uimg_sums.specs.Algorithms.{algo_named, digest_size, digest_by}
 use Rattle.uimg_texts.specs.Nul.{text}
-use Rattle.uimg_base.specs.Outcome.{Outcome, End, done, not_right, refused, told, line, unless_refused}
-use Rattle.uimg_blob.specs.LookUps.{NodeOf, hashes}
-use Rattle.uimg_blob.specs.Spots.{Spot}
+use Rattle.uimg_base.specs.Outcome.{Outcome, End, done, not_right, refused, told, line}
+use Rattle.uimg_base.specs.Outcome.{unless_refused}
+use Rattle.uimg_blob_reading.specs.LookUps.{NodeOf, hashes}
+use Rattle.uimg_blob_reading.specs.Spots.{Spot}
 use Rattle.uimg_fit_base.specs.declared.fault.Fault.{Fault}
 use Rattle.uimg_fit_base.specs.declared.fault.Fault.TheVariants.{Fit}
 use Rattle.uimg_fit_base.specs.declared.fault.FitFault.{FitFault}
 use Rattle.uimg_fit_base.specs.declared.verdicts.Verdict.{Verdict}
-use Rattle.uimg_fit_base.specs.declared.verdicts.Verdict.TheVariants.{Malformed, Unsupported, Right, Wrong}
+use Rattle.uimg_fit_base.specs.declared.verdicts.Verdict.TheVariants.{Malformed, Unsupported, Right}
+use Rattle.uimg_fit_base.specs.declared.verdicts.Verdict.TheVariants.{Wrong}
 use Rattle.uimg_fit_base.specs.Files.{images_of, bytes_of}
 use Rattle.uimg_fit_base.specs.Places.{payload}
 
@@ -40,10 +43,11 @@ is_compared Wrong = true
 -- whether a value is the digest of a payload; one of another length is malformed
 unfoldable pub compared : Algo → List ℕ → List ℕ → Verdict
 compared algo value message =
-    if length value == digest_size algo then (if bytes_eq value (digest_by algo message) then Right else Wrong) else Malformed
+    if length value == digest_size
+    algo then (if bytes_eq value (digest_by algo message) then Right else Wrong) else Malformed
 
--- The word of a hash node, by the name of its algorithm and its value, each of which may be missing: a missing name comes
--- first, then an unknown one, then a missing value.
+-- The word of a hash node, by the name of its algorithm and its value, each of which may be
+-- missing: a missing name comes first, then an unknown one, then a missing value.
 abbrev pub by_value : Algo → Option (List ℕ) → List ℕ → Verdict
 by_value algo None message = Malformed
 by_value algo (Some value) message = compared algo value message
@@ -67,7 +71,9 @@ word_of message hash = by_name (algo_of hash) (bytes_of hash.own (codes "value")
 -- `<image> <hash> <algo> <word>`; `-` stands for a missing algorithm
 abbrev pub hash_line : List ℕ → List ℕ → NodeOf Spot → List ℕ
 hash_line name message hash =
-    line (name ++ codes " " ++ hash.name ++ codes " " ++ option_map_or (λ n. n) (algo_of hash) (codes "-") ++ codes " " ++ word_text (word_of message hash))
+    line (name ++ codes " " ++ hash.name ++ codes " "
+    ++ option_map_or (λ n. n) (algo_of hash) (codes "-") ++ codes " "
+    ++ word_text (word_of message hash))
 
 -- the lines of an image's hash nodes, or the one line of an image that has none
 abbrev pub hash_lines : List ℕ → List ℕ → List (NodeOf Spot) → List ℕ

@@ -2,7 +2,7 @@
 
 use thiserror::Error;
 use uimg_base::{MoveFault, PutFault, SourceFault};
-use uimg_blob::{BlobFault, IndexFault};
+use uimg_blob_reading::{BlobFault, IndexFault};
 
 /// What is wrong with the images of a FIT image, or with a tree that one is to be built from. Its text
 /// is the line that the program prints.

@@ -33,7 +33,7 @@ impl Placement {
 /// Where the payloads of a FIT image that is built stand, and by which alignment.
 ///
 /// Behind the blob, its end and that of each payload are rounded up by the alignment, as
-/// `uimg_tree::aligned` does it.
+/// `uimg_blob_writing::aligned` does it.
 #[derive(Clone, Copy)]
 pub enum AlignedPlacement {
     /// In the blob, as the values of `data`.

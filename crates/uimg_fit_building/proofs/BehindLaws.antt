@@ -4,13 +4,13 @@ use Rattle.std.specs.List.{flat_map, AllByRecursion}
 use Rattle.std.specs.Option.{option_map, IfSome}
 use Rattle.std.proofs.lemmas.Bool.{le-ltb, ltb-false, ltb-true}
 use Rattle.std.proofs.lemmas.List.{length-replicate}
-use Rattle.uimg_blob.specs.Plain.{with_value}
-use Rattle.uimg_blob.specs.LookUps.{NodeOf, first, images}
-use Rattle.uimg_tree.specs.Content.{Content, Unread, IsKept, AreKept, bytes_in, size_of, in_full}
-use Rattle.uimg_tree.specs.Alignment.{padding_by, padded_by}
-use Rattle.uimg_tree.proofs.AlignmentLaws.{aligned-none}
-use Rattle.uimg_tree.proofs.SizeLaws.{kept-size}
-use Rattle.uimg_tree.proofs.WritesLaws.{flat_map-both, all-both}
+use Rattle.uimg_blob_reading.specs.Plain.{with_value}
+use Rattle.uimg_blob_reading.specs.LookUps.{NodeOf, first, images}
+use Rattle.uimg_blob_writing.specs.Content.{Content, Unread, IsKept, AreKept, bytes_in, size_of, in_full}
+use Rattle.uimg_blob_writing.specs.Alignment.{padding_by, padded_by}
+use Rattle.uimg_blob_writing.proofs.AlignmentLaws.{aligned-none}
+use Rattle.uimg_blob_writing.proofs.SizeLaws.{kept-size}
+use Rattle.uimg_blob_writing.proofs.WritesLaws.{flat_map-both, all-both}
 use Rattle.uimg_fit_base.specs.declared.fault.FitFault.TheVariants.{PositionTooLow, TooLarge}
 use Rattle.uimg_fit_base.specs.declared.placement.AlignedPlacement.{AlignedPlacement}
 use Rattle.uimg_fit_base.specs.declared.placement.AlignedPlacement.TheVariants.{Inside, After, At}

@@ -5,16 +5,16 @@ use Rattle.std.proofs.lemmas.Bool.{lt-ltb, ltb-true}
 use Rattle.std.specs.Result.{IsErrAnd, OnOk}
 use Rattle.uimg_base.specs.Named.{FileMap, SameFiles}
 use Rattle.uimg_base.specs.Sink.{Sink}
-use Rattle.uimg_blob.specs.declared.fault.BlobFault.{BlobFault}
-use Rattle.uimg_blob.specs.declared.fault.BlobFault.TheVariants as blob
-use Rattle.uimg_blob.specs.Plain.{NamedOf, NodesOf, no_node, a_node}
-use Rattle.uimg_tree.specs.declared.fault.TreeFault.{TreeFault}
-use Rattle.uimg_tree.specs.declared.fault.TreeFault.TheVariants as tree
-use Rattle.uimg_tree.specs.Content.{Unread, AreKept, IsKept, bytes_in, in_full}
-use Rattle.uimg_tree.specs.Encoding.{encode_by}
-use Rattle.uimg_tree.specs.Layouts.{Plan, plan_of, totalsize}
-use Rattle.uimg_tree.specs.Measured.{is_name, bad_property, bad_name, measured_with, measured, Measures}
-use Rattle.uimg_tree.proofs.TotalLaws.{encode-size}
+use Rattle.uimg_blob_reading.specs.declared.fault.BlobFault.{BlobFault}
+use Rattle.uimg_blob_reading.specs.declared.fault.BlobFault.TheVariants as blob
+use Rattle.uimg_blob_reading.specs.Plain.{NamedOf, NodesOf, no_node, a_node}
+use Rattle.uimg_blob_writing.specs.declared.fault.TreeFault.{TreeFault}
+use Rattle.uimg_blob_writing.specs.declared.fault.TreeFault.TheVariants as tree
+use Rattle.uimg_blob_writing.specs.Content.{Unread, AreKept, IsKept, bytes_in, in_full}
+use Rattle.uimg_blob_writing.specs.Encoding.{encode_by}
+use Rattle.uimg_blob_writing.specs.Layouts.{Plan, plan_of, totalsize}
+use Rattle.uimg_blob_writing.specs.Measured.{is_name, bad_property, bad_name, measured_with, measured, Measures}
+use Rattle.uimg_blob_writing.proofs.TotalLaws.{encode-size}
 use Rattle.uimg_fit_base.specs.declared.fault.Fault.{Fault}
 use Rattle.uimg_fit_base.specs.declared.fault.Fault.TheVariants.{Blob, Fit, Read, Put}
 use Rattle.uimg_fit_base.specs.declared.fault.FitFault.{FitFault}

@@ -3,12 +3,12 @@ use Rattle.std.proofs.Common.{◌≡◌, ◌≤◌, ◌<◌, ◌^◌, ℕ, List,
 use Rattle.std.specs.List.{AllByRecursion}
 use Rattle.std.specs.Option.{option_or}
 use Rattle.std.proofs.lemmas.Bool.{ltb-false, leb-true}
-use Rattle.uimg_blob.specs.declared.fault.BlobFault.{BlobFault}
-use Rattle.uimg_blob.specs.declared.fault.BlobFault.TheVariants.{BadNodeName, BadPropertyName}
+use Rattle.uimg_blob_reading.specs.declared.fault.BlobFault.{BlobFault}
+use Rattle.uimg_blob_reading.specs.declared.fault.BlobFault.TheVariants.{BadNodeName, BadPropertyName}
 use Rattle.uimg_texts.specs.Nul.{before_nul}
-use Rattle.uimg_blob.specs.Plain.{Named, Nodes, no_node, a_node, IsName, AreNamed}
-use Rattle.uimg_tree.specs.Encoding.{encode_by}
-use Rattle.uimg_tree.specs.Measured.{is_name, bad_property, bad_name}
+use Rattle.uimg_blob_reading.specs.Plain.{Named, Nodes, no_node, a_node, IsName, AreNamed}
+use Rattle.uimg_blob_writing.specs.Encoding.{encode_by}
+use Rattle.uimg_blob_writing.specs.Measured.{is_name, bad_property, bad_name}
 use Rattle.uimg_fit_base.specs.declared.fault.FitFault.TheVariants.{PositionTooLow, TooLarge}
 use Rattle.uimg_fit_base.specs.declared.placement.AlignedPlacement.{AlignedPlacement}
 use Rattle.uimg_fit_base.specs.declared.placement.AlignedPlacement.TheVariants.{Inside, After, At}

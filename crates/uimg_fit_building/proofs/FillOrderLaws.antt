@@ -6,10 +6,10 @@ use Rattle.std.specs.Result.{IsErrAnd}
 use Rattle.std.specs.Bool.{⊤}
 use Rattle.std.proofs.lemmas.List.{take_all}
 use Rattle.uimg_base.specs.Named.{FileMap, SameFiles}
-use Rattle.uimg_blob.specs.Roles.{is_hash}
-use Rattle.uimg_blob.specs.LookUps.{NodeOf, listed, first}
-use Rattle.uimg_tree.specs.declared.tree.Node.{Node}
-use Rattle.uimg_tree.specs.Content.{Content, Unread, IsKept}
+use Rattle.uimg_blob_reading.specs.Roles.{is_hash}
+use Rattle.uimg_blob_reading.specs.LookUps.{NodeOf, listed, first}
+use Rattle.uimg_blob_writing.specs.declared.tree.Node.{Node}
+use Rattle.uimg_blob_writing.specs.Content.{Content, Unread, IsKept}
 use Rattle.uimg_fit_base.specs.declared.fault.FitFault.{FitFault}
 use Rattle.uimg_fit_base.specs.declared.fault.FitFault.TheVariants.{NoImages, NoData, DataOutside, NoSuchImage, UnknownAlgo, PositionTooLow, TooLarge, OutOfMemory, NoFile, ReadFailed}
 use Rattle.uimg_fit_building.specs.Behind.{entry}

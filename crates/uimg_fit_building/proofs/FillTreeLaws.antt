@@ -3,13 +3,13 @@ use Rattle.std.proofs.Common.{◌≡◌, ℕ, suc, ◌+◌, ◌<◌, ◌≤◌, 
 use Rattle.std.specs.List.{filter, list_all, prefix_len, AllByRecursion}
 use Rattle.std.specs.Option.{option_map, option_or, IfSome}
 use Rattle.std.specs.Str.{bytes_eq}
-use Rattle.uimg_blob.specs.Roles.{is_hash}
-use Rattle.uimg_blob.specs.Plain.{NamedOf, Nodes, no_node, a_node}
-use Rattle.uimg_blob.specs.LookUps.{NodeOf, listed, first, images}
-use Rattle.uimg_tree.specs.declared.tree.Node.{Node}
-use Rattle.uimg_tree.specs.Content.{Content, Unread, bytes, bytes_in, in_full, IsKept, AreKept, FilesAtData}
-use Rattle.uimg_tree.specs.Trees.{siblings}
-use Rattle.uimg_tree.specs.Encoding.{word}
+use Rattle.uimg_blob_reading.specs.Roles.{is_hash}
+use Rattle.uimg_blob_reading.specs.Plain.{NamedOf, Nodes, no_node, a_node}
+use Rattle.uimg_blob_reading.specs.LookUps.{NodeOf, listed, first, images}
+use Rattle.uimg_blob_writing.specs.declared.tree.Node.{Node}
+use Rattle.uimg_blob_writing.specs.Content.{Content, Unread, bytes, bytes_in, in_full, IsKept, AreKept, FilesAtData}
+use Rattle.uimg_blob_writing.specs.Trees.{siblings}
+use Rattle.uimg_blob_writing.specs.Encoding.{word}
 use Rattle.uimg_fit_building.specs.Behind.{entry}
 use Rattle.uimg_fit_base.specs.declared.fault.FitFault.{FitFault}
 use Rattle.uimg_fit_base.specs.declared.fault.FitFault.TheVariants.{NoImages, NoData, DataOutside, NoSuchImage, UnknownAlgo, PositionTooLow, TooLarge, OutOfMemory, NoFile, ReadFailed}

@@ -9,10 +9,10 @@ use Rattle.uimg_sums.specs.Algorithms.{algo_named, digest_by, digest_size}
 use Rattle.uimg_sums.specs.AnySum.{padded_digest}
 use Rattle.uimg_sums.proofs.DigestSizes.{length-digest_by}
 use Rattle.uimg_texts.specs.Nul.{before_nul, text}
-use Rattle.uimg_blob.specs.Roles.{is_hash}
-use Rattle.uimg_blob.specs.LookUps.{NodeOf}
-use Rattle.uimg_tree.specs.declared.tree.Node.{Node}
-use Rattle.uimg_tree.specs.Content.{Content, bytes}
+use Rattle.uimg_blob_reading.specs.Roles.{is_hash}
+use Rattle.uimg_blob_reading.specs.LookUps.{NodeOf}
+use Rattle.uimg_blob_writing.specs.declared.tree.Node.{Node}
+use Rattle.uimg_blob_writing.specs.Content.{Content, bytes}
 use Rattle.uimg_fit_base.specs.declared.algo_sets.AlgoSet.{AlgoSet}
 use Rattle.uimg_fit_base.specs.AlgoSets.{has}
 use Rattle.uimg_fit_building.specs.Behind.{entry}

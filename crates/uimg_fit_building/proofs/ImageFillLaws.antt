@@ -6,12 +6,12 @@ use Rattle.uimg_sums.specs.declared.algo.Algo.{Algo}
 use Rattle.uimg_sums.specs.declared.algo.Algo.TheVariants.{Crc32, Md5, Sha1, Sha256, Sha384, Sha512}
 use Rattle.uimg_sums.specs.Algorithms.{algo_named}
 use Rattle.uimg_texts.specs.Nul.{text}
-use Rattle.uimg_blob.specs.Roles.{is_hash}
-use Rattle.uimg_blob.specs.Plain.{NamedOf, no_node, a_node, with_value}
-use Rattle.uimg_blob.specs.LookUps.{NodeOf, listed, first, hashes}
-use Rattle.uimg_tree.specs.declared.tree.Node.{Node}
-use Rattle.uimg_tree.specs.Content.{Content, Unread, bytes, file, bytes_in}
-use Rattle.uimg_tree.specs.Trees.{siblings}
+use Rattle.uimg_blob_reading.specs.Roles.{is_hash}
+use Rattle.uimg_blob_reading.specs.Plain.{NamedOf, no_node, a_node, with_value}
+use Rattle.uimg_blob_reading.specs.LookUps.{NodeOf, listed, first, hashes}
+use Rattle.uimg_blob_writing.specs.declared.tree.Node.{Node}
+use Rattle.uimg_blob_writing.specs.Content.{Content, Unread, bytes, file, bytes_in}
+use Rattle.uimg_blob_writing.specs.Trees.{siblings}
 use Rattle.uimg_fit_base.specs.declared.algo_sets.AlgoSet.{AlgoSet}
 use Rattle.uimg_fit_base.specs.declared.fault.FitFault.{FitFault}
 use Rattle.uimg_fit_base.specs.declared.fault.FitFault.TheVariants.{NoImages, NoData, DataOutside, NoSuchImage, UnknownAlgo, PositionTooLow, TooLarge, OutOfMemory, NoFile, ReadFailed}

@@ -6,10 +6,10 @@ use Rattle.std.specs.Str.{bytes_eq}
 use Rattle.uimg_sums.specs.declared.algo.Algo.{Algo}
 use Rattle.uimg_sums.specs.Algorithms.{algo_named, digest_by}
 use Rattle.uimg_texts.specs.Nul.{text}
-use Rattle.uimg_blob.specs.Roles.{is_hash}
-use Rattle.uimg_blob.specs.Plain.{NamedOf, no_node, a_node}
-use Rattle.uimg_blob.specs.LookUps.{NodeOf, first}
-use Rattle.uimg_tree.specs.Content.{Content, Unread, bytes, file, bytes_in, StandsAtData, FilesAtData}
+use Rattle.uimg_blob_reading.specs.Roles.{is_hash}
+use Rattle.uimg_blob_reading.specs.Plain.{NamedOf, no_node, a_node}
+use Rattle.uimg_blob_reading.specs.LookUps.{NodeOf, first}
+use Rattle.uimg_blob_writing.specs.Content.{Content, Unread, bytes, file, bytes_in, StandsAtData, FilesAtData}
 use Rattle.uimg_fit_building.specs.Filling.{with, without_external, each, algo_by, hashed_by, filled_image_by}
 use Rattle.uimg_fit_building.specs.ImageFillings.{hashed_in, filled_over}
 use Rattle.uimg_fit_building.specs.PayloadSums.{in_memory}

@@ -4,24 +4,24 @@ use Rattle.std.specs.List.{AllByRecursion}
 use Rattle.std.specs.Option.{option_map, option_and_then, IfSome}
 use Rattle.std.specs.Result.{IfOk}
 use Rattle.std.proofs.lemmas.Bool.{le-ltb}
-use Rattle.uimg_blob.specs.Reading.{Fault}
-use Rattle.uimg_blob.specs.Grammar.{Siblings}
-use Rattle.uimg_blob.specs.Blob.{tree}
-use Rattle.uimg_blob.specs.Plain.{Named, Nodes, no_node, a_node, AllValues, AreNamed}
-use Rattle.uimg_tree.specs.Encoding.{encode_by}
-use Rattle.uimg_tree.proofs.Spelling.{placed}
+use Rattle.uimg_blob_reading.specs.Reading.{Fault}
+use Rattle.uimg_blob_reading.specs.Grammar.{Siblings}
+use Rattle.uimg_blob_reading.specs.Blob.{tree}
+use Rattle.uimg_blob_reading.specs.Plain.{Named, Nodes, no_node, a_node, AllValues, AreNamed}
+use Rattle.uimg_blob_writing.specs.Encoding.{encode_by}
+use Rattle.uimg_blob_writing.proofs.Spelling.{placed}
 use Rattle.uimg_fit_base.specs.declared.fault.FitFault.{FitFault}
 use Rattle.uimg_fit_base.specs.declared.placement.AlignedPlacement.TheVariants.{Inside}
-use Rattle.uimg_blob.specs.LookUps.{NodeOf, first, images}
-use Rattle.uimg_blob.specs.Spots.{Spot, spots}
-use Rattle.uimg_blob.specs.Indexed.{value_span}
+use Rattle.uimg_blob_reading.specs.LookUps.{NodeOf, first, images}
+use Rattle.uimg_blob_reading.specs.Spots.{Spot, spots}
+use Rattle.uimg_blob_reading.specs.Indexed.{value_span}
 use Rattle.uimg_base.specs.Results.{◌>>=◌}
 use Rattle.uimg_fit_base.specs.Files.{listed_or, images_of, number, cell}
 use Rattle.uimg_fit_base.specs.Places.{embedded, bytes_at}
 use Rattle.uimg_fit_building.specs.Filling.{IsFilledImage, IsFilled}
 use Rattle.uimg_fit_building.specs.Building.{data_of, built}
 use Rattle.uimg_fit_building.specs.ReadsBack.{ReadsBack}
-use Rattle.uimg_tree.proofs.ReadsBackLaw.{encode-tree}
+use Rattle.uimg_blob_writing.proofs.ReadsBackLaw.{encode-tree}
 use Rattle.uimg_fit_base.proofs.ReadLaws.{tree-lies}
 use Rattle.uimg_fit_base.proofs.FileLaws.{images_are}
 use Rattle.uimg_fit_building.proofs.SpotLaws.{Lies, lies-spots, bytes-placed}

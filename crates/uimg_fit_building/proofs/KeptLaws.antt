@@ -5,12 +5,12 @@ use Rattle.std.specs.List.{flat_map, AllByRecursion}
 use Rattle.std.specs.Option.{option_map}
 use Rattle.std.specs.Result.{OnOk}
 use Rattle.std.specs.Str.{bytes_eq}
-use Rattle.uimg_blob.specs.Plain.{NamedOf, no_node, a_node}
-use Rattle.uimg_blob.specs.LookUps.{NodeOf, listed, first}
-use Rattle.uimg_tree.specs.declared.fault.TreeFault.{TreeFault}
-use Rattle.uimg_tree.specs.Content.{Content, Unread, IsKept, AreKept, bytes, size_of}
-use Rattle.uimg_tree.specs.Encoding.{word}
-use Rattle.uimg_tree.proofs.WritesLaws.{all-first, all-second}
+use Rattle.uimg_blob_reading.specs.Plain.{NamedOf, no_node, a_node}
+use Rattle.uimg_blob_reading.specs.LookUps.{NodeOf, listed, first}
+use Rattle.uimg_blob_writing.specs.declared.fault.TreeFault.{TreeFault}
+use Rattle.uimg_blob_writing.specs.Content.{Content, Unread, IsKept, AreKept, bytes, size_of}
+use Rattle.uimg_blob_writing.specs.Encoding.{word}
+use Rattle.uimg_blob_writing.proofs.WritesLaws.{all-first, all-second}
 use Rattle.uimg_fit_building.specs.Building.{moved_from_by, moved_own_by}
 use Rattle.uimg_fit_base.specs.declared.placement.AlignedPlacement.{AlignedPlacement}
 use Rattle.uimg_fit_base.specs.declared.placement.AlignedPlacement.TheVariants.{Inside, After, At}

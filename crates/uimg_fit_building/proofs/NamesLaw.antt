@@ -4,12 +4,12 @@ use Rattle.std.specs.List.{AllByRecursion}
 use Rattle.std.specs.Option.{option_or}
 use Rattle.std.specs.Str.{bytes_eq}
 use Rattle.std.proofs.lemmas.Slice.Eq.{bytes_eq-Decides}
-use Rattle.uimg_blob.specs.declared.fault.BlobFault.{BlobFault}
-use Rattle.uimg_blob.specs.declared.fault.BlobFault.TheVariants.{BadNodeName, BadPropertyName}
-use Rattle.uimg_blob.specs.Plain.{NamedOf, NodesOf, no_node, a_node, with_value, with_values, AllValues}
-use Rattle.uimg_tree.specs.Content.{Content, Unread, bytes, size_of}
-use Rattle.uimg_tree.specs.Encoding.{word}
-use Rattle.uimg_tree.specs.Measured.{is_name, bad_property, bad_name}
+use Rattle.uimg_blob_reading.specs.declared.fault.BlobFault.{BlobFault}
+use Rattle.uimg_blob_reading.specs.declared.fault.BlobFault.TheVariants.{BadNodeName, BadPropertyName}
+use Rattle.uimg_blob_reading.specs.Plain.{NamedOf, NodesOf, no_node, a_node, with_value, with_values, AllValues}
+use Rattle.uimg_blob_writing.specs.Content.{Content, Unread, bytes, size_of}
+use Rattle.uimg_blob_writing.specs.Encoding.{word}
+use Rattle.uimg_blob_writing.specs.Measured.{is_name, bad_property, bad_name}
 use Rattle.uimg_fit_building.specs.Building.{moved_from_by, moved_own_by}
 use Rattle.uimg_fit_base.specs.declared.placement.AlignedPlacement.{AlignedPlacement}
 use Rattle.uimg_fit_base.specs.declared.placement.AlignedPlacement.TheVariants.{Inside, After, At}

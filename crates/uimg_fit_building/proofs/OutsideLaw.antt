@@ -7,15 +7,15 @@ use Rattle.std.proofs.lemmas.Bool.{le-ltb}
 use Rattle.std.proofs.lemmas.List.{length-replicate}
 use Rattle.std.proofs.Math.Seq.{drop-append_seam}
 use Rattle.uimg_texts.specs.Numbers.{be32, up4}
-use Rattle.uimg_blob.specs.Plain.{Named, Nodes, no_node, a_node, AreNamed}
-use Rattle.uimg_tree.specs.Alignment.{padding_by, padded_by}
-use Rattle.uimg_tree.specs.Encoding.{word, structure, strings, names_of, encode_by}
-use Rattle.uimg_tree.proofs.AlignmentLaws.{aligned-words}
-use Rattle.uimg_tree.proofs.ReadsBackLaw.{length-encode, totalsize}
+use Rattle.uimg_blob_reading.specs.Plain.{Named, Nodes, no_node, a_node, AreNamed}
+use Rattle.uimg_blob_writing.specs.Alignment.{padding_by, padded_by}
+use Rattle.uimg_blob_writing.specs.Encoding.{word, structure, strings, names_of, encode_by}
+use Rattle.uimg_blob_writing.proofs.AlignmentLaws.{aligned-words}
+use Rattle.uimg_blob_writing.proofs.ReadsBackLaw.{length-encode, totalsize}
 use Rattle.uimg_fit_base.specs.declared.fault.FitFault.{FitFault}
 use Rattle.uimg_fit_base.specs.declared.placement.AlignedPlacement.TheVariants.{After, At}
-use Rattle.uimg_blob.specs.LookUps.{NodeOf, first, images, hashes}
-use Rattle.uimg_blob.specs.Spots.{Spot}
+use Rattle.uimg_blob_reading.specs.LookUps.{NodeOf, first, images, hashes}
+use Rattle.uimg_blob_reading.specs.Spots.{Spot}
 use Rattle.uimg_base.specs.Results.{◌>>=◌}
 use Rattle.uimg_base.specs.declared.spans.Span.{Span}
 use Rattle.uimg_fit_base.specs.Files.{number, cell}
@@ -23,7 +23,7 @@ use Rattle.uimg_fit_base.specs.Places.{place, bytes_at}
 use Rattle.uimg_fit_building.specs.Filling.{in_first, IsFilledImage, IsFilled, IsDigest}
 use Rattle.uimg_fit_building.specs.Building.{data_of, padded_size, moved_own, moved_from, placed_blob, payloads, built}
 use Rattle.uimg_fit_building.specs.ReadsBack.{ReadsBack}
-use Rattle.uimg_tree.proofs.TokenLaws.{drop-piece}
+use Rattle.uimg_blob_writing.proofs.TokenLaws.{drop-piece}
 use Rattle.uimg_fit_building.proofs.SpotLaws.{piece-within, piece-lies}
 use Rattle.uimg_fit_building.proofs.LookUpLaws.{first-with}
 use Rattle.uimg_fit_building.proofs.SoundLaws.{plain, IsSound, AreSound, reads_back-sound}

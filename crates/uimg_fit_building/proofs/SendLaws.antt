@@ -7,14 +7,14 @@ use Rattle.uimg_base.specs.Sink.{Sink}
 use Rattle.uimg_base.specs.Writing.{Written}
 use Rattle.uimg_base.proofs.SinkLaws.{prefix_first}
 use Rattle.uimg_base.proofs.WritingLaws.{written_then}
-use Rattle.uimg_tree.specs.declared.fault.TreeFault.{TreeFault}
-use Rattle.uimg_tree.specs.Content.{Unread, AreKept, in_full}
-use Rattle.uimg_tree.specs.Encoding.{encode_by}
-use Rattle.uimg_tree.specs.Faults.{is_no_file, is_put, is_read}
-use Rattle.uimg_tree.specs.Layouts.{plan_of, totalsize}
-use Rattle.uimg_tree.specs.Pieces.{WritesPieces}
-use Rattle.uimg_tree.specs.UsingFiles.{UsesFiles}
-use Rattle.uimg_tree.proofs.WritesLaws.{rises-then}
+use Rattle.uimg_blob_writing.specs.declared.fault.TreeFault.{TreeFault}
+use Rattle.uimg_blob_writing.specs.Content.{Unread, AreKept, in_full}
+use Rattle.uimg_blob_writing.specs.Encoding.{encode_by}
+use Rattle.uimg_blob_writing.specs.Faults.{is_no_file, is_put, is_read}
+use Rattle.uimg_blob_writing.specs.Layouts.{plan_of, totalsize}
+use Rattle.uimg_blob_writing.specs.Pieces.{WritesPieces}
+use Rattle.uimg_blob_writing.specs.UsingFiles.{UsesFiles}
+use Rattle.uimg_blob_writing.proofs.WritesLaws.{rises-then}
 use Rattle.uimg_fit_base.specs.declared.placement.AlignedPlacement.{AlignedPlacement}
 use Rattle.uimg_fit_base.specs.Placements.{align_of}
 use Rattle.uimg_fit_building.specs.Behind.{behind_pieces}

@@ -3,10 +3,10 @@ use Rattle.std.proofs.Common.{◌≡◌, ℕ, suc, ◌+◌, ◌<◌, ◌≤◌, 
 use Rattle.std.specs.List.{filter, list_any}
 use Rattle.std.specs.Str.{bytes_eq}
 use Rattle.std.proofs.lemmas.List.{set_split, take_all, drop_all, map-append}
-use Rattle.uimg_blob.specs.Plain.{NamedOf}
-use Rattle.uimg_tree.specs.declared.props.Prop.{Prop}
-use Rattle.uimg_tree.specs.Content.{Content}
-use Rattle.uimg_tree.specs.Properties.{content, property}
+use Rattle.uimg_blob_reading.specs.Plain.{NamedOf}
+use Rattle.uimg_blob_writing.specs.declared.props.Prop.{Prop}
+use Rattle.uimg_blob_writing.specs.Content.{Content}
+use Rattle.uimg_blob_writing.specs.Properties.{content, property}
 use Rattle.uimg_fit_building.specs.Filling.{with, external_names, without_external}
 
 abbrev pub external-kept : {A : Type 0} → Prop A → Bool

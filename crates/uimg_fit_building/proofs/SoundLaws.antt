@@ -13,8 +13,8 @@ use Rattle.uimg_sums.proofs.DigestSizes.{length-digest_by}
 use Rattle.uimg_base.specs.Outcome.{done, told, unless_refused}
 use Rattle.uimg_base.specs.Results.{◌>>=◌}
 use Rattle.uimg_texts.specs.Nul.{text}
-use Rattle.uimg_blob.specs.LookUps.{NodeOf, images, hashes}
-use Rattle.uimg_blob.specs.Spots.{Spot}
+use Rattle.uimg_blob_reading.specs.LookUps.{NodeOf, images, hashes}
+use Rattle.uimg_blob_reading.specs.Spots.{Spot}
 use Rattle.uimg_fit_base.specs.declared.fault.Fault.{Fault}
 use Rattle.uimg_fit_base.specs.declared.fault.FitFault.{FitFault}
 use Rattle.uimg_fit_base.specs.Files.{images_of, bytes_of}
@@ -22,7 +22,7 @@ use Rattle.uimg_fit_base.specs.Places.{payload}
 use Rattle.uimg_fit_base.specs.declared.verdicts.Verdict.TheVariants.{Right}
 use Rattle.uimg_fit_base.specs.Report.{compared, by_value, by_algo, by_name, word_of, are_right, report}
 use Rattle.uimg_fit_base.specs.Extraction.{of_images, payload_of}
-use Rattle.uimg_blob.specs.Plain.{Nodes}
+use Rattle.uimg_blob_reading.specs.Plain.{Nodes}
 use Rattle.uimg_fit_building.specs.Building.{data_of}
 use Rattle.uimg_fit_building.specs.ReadsBack.{ReadsBack}
 use Rattle.uimg_fit_building.specs.Filling.{IsDigest}

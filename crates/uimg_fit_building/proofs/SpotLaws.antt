@@ -4,11 +4,11 @@ use Rattle.std.specs.List.{AllByRecursion}
 use Rattle.std.proofs.lemmas.List.{length-drop}
 use Rattle.std.proofs.Math.Seq.{take-append_seam}
 use Rattle.uimg_texts.specs.Slices.{slice}
-use Rattle.uimg_blob.specs.Tokens.{Property}
-use Rattle.uimg_blob.specs.Grammar.{Siblings, none, node}
-use Rattle.uimg_blob.specs.Plain.{Named, Nodes, no_node, a_node, with_value, with_values, AllValues}
-use Rattle.uimg_blob.specs.Spots.{Spot, spot_of, spots}
-use Rattle.uimg_tree.proofs.Spelling.{placed_properties, placed, past_name, past_property, past_properties, past}
+use Rattle.uimg_blob_reading.specs.Tokens.{Property}
+use Rattle.uimg_blob_reading.specs.Grammar.{Siblings, none, node}
+use Rattle.uimg_blob_reading.specs.Plain.{Named, Nodes, no_node, a_node, with_value, with_values, AllValues}
+use Rattle.uimg_blob_reading.specs.Spots.{Spot, spot_of, spots}
+use Rattle.uimg_blob_writing.proofs.Spelling.{placed_properties, placed, past_name, past_property, past_properties, past}
 use Rattle.uimg_fit_base.specs.Lying.{ValueLies, Lie}
 
 -- A value stands at its place.

@@ -3,14 +3,14 @@ use Rattle.std.proofs.Common.{◌≡◌, ℕ, ◌+◌, List, [], ◌∷◌, leng
 use Rattle.std.specs.List.{AllByRecursion}
 use Rattle.std.specs.Option.{option_map, option_map_or, IfSome}
 use Rattle.std.specs.Str.{bytes_eq}
-use Rattle.uimg_blob.specs.Plain.{NamedOf, Named, Nodes, no_node, a_node, with_value, with_values, AllValues}
-use Rattle.uimg_tree.specs.Alignment.{aligned}
-use Rattle.uimg_tree.specs.Encoding.{word}
-use Rattle.uimg_tree.specs.Content.{Content, Unread, IsKept, bytes, bytes_in, size_of}
-use Rattle.uimg_tree.proofs.SizeLaws.{kept-size}
+use Rattle.uimg_blob_reading.specs.Plain.{NamedOf, Named, Nodes, no_node, a_node, with_value, with_values, AllValues}
+use Rattle.uimg_blob_writing.specs.Alignment.{aligned}
+use Rattle.uimg_blob_writing.specs.Encoding.{word}
+use Rattle.uimg_blob_writing.specs.Content.{Content, Unread, IsKept, bytes, bytes_in, size_of}
+use Rattle.uimg_blob_writing.proofs.SizeLaws.{kept-size}
 use Rattle.uimg_fit_base.specs.declared.placement.AlignedPlacement.{AlignedPlacement}
 use Rattle.uimg_fit_base.specs.declared.placement.AlignedPlacement.TheVariants.{Inside, After, At}
-use Rattle.uimg_blob.specs.LookUps.{first}
+use Rattle.uimg_blob_reading.specs.LookUps.{first}
 use Rattle.uimg_fit_building.specs.Filling.{in_first, with_images}
 use Rattle.uimg_fit_building.specs.Building.{padded_size, moved_own, moved_from, moved, moved_from_by, moved_own_by}
 use Rattle.uimg_fit_building.specs.UnreadTrees.{unread_own, padded_size_of, unread_from, moved_unread}

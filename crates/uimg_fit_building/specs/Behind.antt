@@ -1,11 +1,12 @@
 -- What stands behind a blob, where payloads stay in their files.
-use Rattle.std.specs.Prelude.{ℕ, ◌+◌, ◌-◌, List, [], ◌∷◌, replicate, nat_lt, if◌then◌else◌, Option, Some, None, unwrap_or, codes, Result, Ok, Err}
+use Rattle.std.specs.Prelude.{ℕ, ◌+◌, ◌-◌, List, [], ◌∷◌, replicate, nat_lt, if◌then◌else◌, Option}
+use Rattle.std.specs.Prelude.{Some, None, unwrap_or, codes, Result, Ok, Err}
 use Rattle.std.specs.List.{flat_map}
-use Rattle.uimg_blob.specs.Plain.{NodesOf}
-use Rattle.uimg_blob.specs.LookUps.{NodeOf, first, images}
-use Rattle.uimg_tree.specs.declared.tree.Node.{Node}
-use Rattle.uimg_tree.specs.Content.{Content, Unread, bytes, size_of}
-use Rattle.uimg_tree.specs.Alignment.{padding_by}
+use Rattle.uimg_blob_reading.specs.Plain.{NodesOf}
+use Rattle.uimg_blob_reading.specs.LookUps.{NodeOf, first, images}
+use Rattle.uimg_blob_writing.specs.declared.tree.Node.{Node}
+use Rattle.uimg_blob_writing.specs.Content.{Content, Unread, bytes, size_of}
+use Rattle.uimg_blob_writing.specs.Alignment.{padding_by}
 use Rattle.uimg_fit_base.specs.declared.fault.FitFault.{FitFault}
 use Rattle.uimg_fit_base.specs.declared.fault.FitFault.TheVariants.{PositionTooLow, TooLarge}
 use Rattle.uimg_fit_base.specs.declared.placement.AlignedPlacement.{AlignedPlacement}
@@ -39,7 +40,8 @@ padded_sizes align (i ∷ is) = padded_size_of align i.own + padded_sizes align 
 abbrev pub behind_pieces : ℕ → Unread → AlignedPlacement → List Content
 behind_pieces size t Inside = []
 behind_pieces size t (After align) = flat_map (payload_pieces align) (images_in t)
-behind_pieces size t (At p align) = bytes (replicate (p - size) 0) ∷ flat_map (payload_pieces align) (images_in t)
+behind_pieces size t (At p align) =
+    bytes (replicate (p - size) 0) ∷ flat_map (payload_pieces align) (images_in t)
 
 -- how many bytes the file has
 abbrev pub file_size : ℕ → ℕ → AlignedPlacement → ℕ

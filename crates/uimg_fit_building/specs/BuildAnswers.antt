@@ -1,8 +1,8 @@
 -- What building answers, over files that have those of the tree.
 use Rattle.std.specs.Prelude.{◌≡◌, Bool, true, false, Some, None, Result, Ok, Err, ⊤}
 use Rattle.uimg_base.specs.Sink.{Sink, AppendsAll, AppendsPrefix}
-use Rattle.uimg_blob.specs.Plain.{Nodes}
-use Rattle.uimg_tree.specs.Measured.{bad_name}
+use Rattle.uimg_blob_reading.specs.Plain.{Nodes}
+use Rattle.uimg_blob_writing.specs.Measured.{bad_name}
 use Rattle.uimg_fit_base.specs.declared.fault.Fault.{Fault}
 use Rattle.uimg_fit_base.specs.declared.fault.Fault.TheVariants.{Blob, Fit, Read, Put}
 use Rattle.uimg_fit_base.specs.declared.fault.FitFault.TheVariants.{OutOfMemory, NoFile}
@@ -28,13 +28,19 @@ pub record CanBuild (t : Nodes) (placement : AlignedPlacement) : Type 0 where
   pub named : bad_name t ≡ None
   pub fits : build_fault t placement ≡ None
 
--- What an answer says of the tree, and of what was appended: the file of the tree, or why not; where an open, a read or a
--- write failed, a prefix of the file.
-abbrev pub BuildsAnswer : {X : Type 0} → Nodes → AlignedPlacement → Result X Fault → Sink → Sink → Type 0
-BuildsAnswer t placement (Ok x) old new = CanBuild t placement × AppendsAll old new (built t placement)
+-- What an answer says of the tree, and of what was appended: the file of the tree, or why not;
+-- where an open, a read or a write failed, a prefix of the file.
+abbrev pub BuildsAnswer : {X : Type 0} → Nodes → AlignedPlacement → Result X Fault → Sink → Sink
+    → Type 0
+BuildsAnswer t placement (Ok x) old new =
+    CanBuild t placement × AppendsAll old new (built t placement)
 BuildsAnswer t placement (Err (Blob fault at)) old new = (bad_name t ≡ Some fault) × (at ≡ 0)
 BuildsAnswer t placement (Err (Fit OutOfMemory)) old new = ⊤
-BuildsAnswer t placement (Err (Fit NoFile)) old new = CanBuild t placement × AppendsPrefix old new (built t placement)
-BuildsAnswer t placement (Err (Fit fault)) old new = (bad_name t ≡ None) × (build_fault t placement ≡ Some fault)
-BuildsAnswer t placement (Err Read) old new = CanBuild t placement × AppendsPrefix old new (built t placement)
-BuildsAnswer t placement (Err Put) old new = CanBuild t placement × AppendsPrefix old new (built t placement)
+BuildsAnswer t placement (Err (Fit NoFile)) old new =
+    CanBuild t placement × AppendsPrefix old new (built t placement)
+BuildsAnswer t placement (Err (Fit fault)) old new =
+    (bad_name t ≡ None) × (build_fault t placement ≡ Some fault)
+BuildsAnswer t placement (Err Read) old new =
+    CanBuild t placement × AppendsPrefix old new (built t placement)
+BuildsAnswer t placement (Err Put) old new =
+    CanBuild t placement × AppendsPrefix old new (built t placement)

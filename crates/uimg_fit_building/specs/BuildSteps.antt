@@ -1,20 +1,21 @@
 -- What the steps of building do.
-use Rattle.std.specs.Prelude.{◌≡◌, ◌<◌, ℕ, Bool, IsTrue, List, Option, Some, None, Result, Ok, Err, ⊤, false, is_err}
+use Rattle.std.specs.Prelude.{◌≡◌, ◌<◌, ℕ, Bool, IsTrue, List, Option, Some, None, Result, Ok, Err}
+use Rattle.std.specs.Prelude.{⊤, false, is_err}
 use Rattle.std.specs.Result.{OnOk}
 use Rattle.uimg_base.specs.Device.{RisesIf}
 use Rattle.uimg_base.specs.Lent.{Lent}
 use Rattle.uimg_base.specs.Named.{FileMap}
 use Rattle.uimg_base.specs.Sink.{Sink}
 use Rattle.uimg_base.specs.Writing.{Written}
-use Rattle.uimg_blob.specs.declared.fault.BlobFault.{BlobFault}
-use Rattle.uimg_blob.specs.declared.fault.BlobFault.TheVariants as blob
-use Rattle.uimg_tree.specs.declared.fault.TreeFault.{TreeFault}
-use Rattle.uimg_tree.specs.declared.fault.TreeFault.TheVariants as tree
-use Rattle.uimg_tree.specs.Content.{Unread, AreKept, in_full}
-use Rattle.uimg_tree.specs.Faults as writing
-use Rattle.uimg_tree.specs.Layouts.{Plan, plan_of, totalsize}
-use Rattle.uimg_tree.specs.Measured.{bad_name}
-use Rattle.uimg_tree.specs.UsingFiles.{UsesFiles}
+use Rattle.uimg_blob_reading.specs.declared.fault.BlobFault.{BlobFault}
+use Rattle.uimg_blob_reading.specs.declared.fault.BlobFault.TheVariants as blob
+use Rattle.uimg_blob_writing.specs.declared.fault.TreeFault.{TreeFault}
+use Rattle.uimg_blob_writing.specs.declared.fault.TreeFault.TheVariants as tree
+use Rattle.uimg_blob_writing.specs.Content.{Unread, AreKept, in_full}
+use Rattle.uimg_blob_writing.specs.Faults as writing
+use Rattle.uimg_blob_writing.specs.Layouts.{Plan, plan_of, totalsize}
+use Rattle.uimg_blob_writing.specs.Measured.{bad_name}
+use Rattle.uimg_blob_writing.specs.UsingFiles.{UsesFiles}
 use Rattle.uimg_fit_base.specs.declared.fault.Fault.{Fault}
 use Rattle.uimg_fit_base.specs.declared.fault.Fault.TheVariants.{Blob, Fit, Read, Put}
 use Rattle.uimg_fit_base.specs.declared.fault.FitFault.TheVariants.{TooLarge, OutOfMemory, NoFile}
@@ -22,7 +23,8 @@ use Rattle.uimg_fit_base.specs.declared.placement.AlignedPlacement.{AlignedPlace
 use Rattle.uimg_fit_building.specs.BuildAnswers.{is_no_file, is_before_writing, BuildsAnswer}
 use Rattle.uimg_fit_base.specs.Faults.{is_read, is_put}
 
--- the fault of a tree that can't be measured: its blob is too large for a file, or memory was refused, or a name is bad
+-- the fault of a tree that can't be measured: its blob is too large for a file, or memory was
+-- refused, or a name is bad
 abbrev pub of_measure : BlobFault → Fault
 of_measure blob.TooLarge = Fit TooLarge
 of_measure blob.OutOfMemory = Fit OutOfMemory
@@ -38,32 +40,44 @@ of_writing tree.NoFile = Fit NoFile
 abbrev pub MeasuresTree : ℕ → Result Plan Fault → Unread → Type 0
 MeasuresTree align (Ok p) t = (bad_name t ≡ None) × (plan_of align t ≡ p)
 MeasuresTree align (Err (Blob fault at)) t = (bad_name t ≡ Some fault) × (at ≡ 0)
-MeasuresTree align (Err (Fit TooLarge)) t = (bad_name t ≡ None) × (4294967295 < totalsize (plan_of align t))
+MeasuresTree align (Err (Fit TooLarge)) t =
+    (bad_name t ≡ None) × (4294967295 < totalsize (plan_of align t))
 MeasuresTree align (Err (Fit OutOfMemory)) t = ⊤
 MeasuresTree align (Err (Fit fault)) t = ⊥
 MeasuresTree align (Err Read) t = ⊥
 MeasuresTree align (Err Put) t = ⊥
 
 -- What a call did that writes a text, which depends on files, where those of a tree are kept.
-pub record WritesTextBetween {X : Type 0} (steady : Bool) (t : Unread) (answer : Result X TreeFault) (old new : FileMap) (s u : Sink) (text : (List ℕ → Option (List ℕ)) → List ℕ) : Type 0 where
+pub record WritesTextBetween {X : Type 0} (steady : Bool) (t : Unread) (answer : Result X TreeFault)
+    (old new : FileMap) (s u : Sink) (text : (List ℕ → Option (List ℕ)) → List ℕ) : Type 0 where
   pub files : UsesFiles (writing.is_no_file answer) old new
   pub faults : RisesIf (writing.is_put answer) s.faults u.faults
   pub found : IsTrue old.complete → AreKept old.bytes t → writing.is_no_file answer ≡ false
-  pub reads : IsTrue steady → IsTrue old.honest → AreKept old.bytes t → writing.is_read answer ≡ false
-  pub written : IsTrue old.honest → AreKept old.bytes t → Written (is_err answer) s u (text old.bytes)
+  pub reads : IsTrue steady → IsTrue old.honest → AreKept old.bytes t
+      → writing.is_read answer ≡ false
+  pub written : IsTrue old.honest → AreKept old.bytes t
+      → Written (is_err answer) s u (text old.bytes)
 
-abbrev pub WritesText : {F X : Type 0} → Bool → (F → FileMap) → Unread → Result X TreeFault → Lent F → Lent Sink → ((List ℕ → Option (List ℕ)) → List ℕ) → Type 0
-WritesText steady map t answer files out text = WritesTextBetween steady t answer (map files.entry.now) (map files.exit.now) out.entry.now out.exit.now text
+abbrev pub WritesText : {F X : Type 0} → Bool → (F → FileMap) → Unread → Result X TreeFault → Lent F
+    → Lent Sink → ((List ℕ → Option (List ℕ)) → List ℕ) → Type 0
+WritesText steady map t answer files out text =
+    WritesTextBetween steady t answer (map files.entry.now) (map files.exit.now) out.entry.now
+    out.exit.now text
 
 -- What building did to files and to an output.
-pub record BuildsBetween {X : Type 0} (steady : Bool) (t : Unread) (placement : AlignedPlacement) (answer : Result X Fault) (old new : FileMap) (s u : Sink) : Type 0 where
+pub record BuildsBetween {X : Type 0} (steady : Bool) (t : Unread) (placement : AlignedPlacement)
+    (answer : Result X Fault) (old new : FileMap) (s u : Sink) : Type 0 where
   pub files : UsesFiles (is_no_file answer) old new
   pub found : IsTrue old.complete → AreKept old.bytes t → is_no_file answer ≡ false
   pub reads : IsTrue steady → IsTrue old.honest → AreKept old.bytes t → is_read answer ≡ false
   pub faults : RisesIf (is_put answer) s.faults u.faults
   pub untouched : IsTrue (is_before_writing answer) → u ≡ s
   pub kept : IsTrue old.honest → OnOk answer (AreKept old.bytes t)
-  pub told : IsTrue old.honest → AreKept old.bytes t → BuildsAnswer (in_full old.bytes t) placement answer s u
+  pub told : IsTrue old.honest → AreKept old.bytes t
+      → BuildsAnswer (in_full old.bytes t) placement answer s u
 
-abbrev pub Builds : {F X : Type 0} → Bool → (F → FileMap) → Unread → AlignedPlacement → Result X Fault → Lent F → Lent Sink → Type 0
-Builds steady map t placement answer files out = BuildsBetween steady t placement answer (map files.entry.now) (map files.exit.now) out.entry.now out.exit.now
+abbrev pub Builds : {F X : Type 0} → Bool → (F → FileMap) → Unread → AlignedPlacement
+    → Result X Fault → Lent F → Lent Sink → Type 0
+Builds steady map t placement answer files out =
+    BuildsBetween steady t placement answer (map files.entry.now) (map files.exit.now) out.entry.now
+    out.exit.now

@@ -1,48 +1,59 @@
 -- The file that is built of a tree (Flattened Image Tree format, "External data").
-use Rattle.std.specs.Prelude.{ℕ, ◌+◌, ◌-◌, List, [], ◌∷◌, ◌++◌, length, replicate, if◌then◌else◌, codes, unwrap_or}
+use Rattle.std.specs.Prelude.{ℕ, ◌+◌, ◌-◌, List, [], ◌∷◌, ◌++◌, length, replicate, if◌then◌else◌}
+use Rattle.std.specs.Prelude.{codes, unwrap_or}
 use Rattle.std.specs.List.{flat_map}
 use Rattle.std.specs.Option.{option_map_or}
 use Rattle.std.specs.Str.{bytes_eq}
-use Rattle.uimg_blob.specs.Plain.{NamedOf, NodesOf, Named, Nodes, no_node, a_node}
-use Rattle.uimg_tree.specs.Alignment.{aligned, padded_by}
-use Rattle.uimg_tree.specs.Encoding.{word, encode_by}
+use Rattle.uimg_blob_reading.specs.Plain.{NamedOf, NodesOf, Named, Nodes, no_node, a_node}
+use Rattle.uimg_blob_writing.specs.Alignment.{aligned, padded_by}
+use Rattle.uimg_blob_writing.specs.Encoding.{word, encode_by}
 use Rattle.uimg_fit_base.specs.declared.placement.AlignedPlacement.{AlignedPlacement}
 use Rattle.uimg_fit_base.specs.declared.placement.AlignedPlacement.TheVariants.{Inside, After, At}
 use Rattle.uimg_fit_base.specs.Placements.{align_of}
-use Rattle.uimg_blob.specs.LookUps.{first, images}
+use Rattle.uimg_blob_reading.specs.LookUps.{first, images}
 use Rattle.uimg_fit_building.specs.Filling.{with_images}
 
 -- the first `data` of an image, or nothing
 abbrev pub data_of : List Named → List ℕ
 data_of own = unwrap_or (first own (codes "data")) []
 
--- The steps of placing are over any values: `size` gives how many bytes a value has, `made` the value of bytes.
+-- The steps of placing are over any values: `size` gives how many bytes a value has, `made` the
+-- value of bytes.
 
 -- how many bytes the payload of an image takes, rounded up by an alignment
 abbrev pub padded_size_by : {V : Type 0} → (V → ℕ) → ℕ → List (NamedOf V) → ℕ
-padded_size_by size align own = option_map_or (λ payload. aligned align (size payload)) (first own (codes "data")) 0
+padded_size_by size align own =
+    option_map_or (λ payload. aligned align (size payload)) (first own (codes "data")) 0
 
--- properties, the first `data` moved to a place: two cells stand for it, the place by a key, and the size
-unfoldable pub moved_own_by : {V : Type 0} → (V → ℕ) → (List ℕ → V) → List ℕ → ℕ → List (NamedOf V) → List (NamedOf V)
+-- properties, the first `data` moved to a place: two cells stand for it, the place by a key, and
+-- the size
+unfoldable pub moved_own_by : {V : Type 0} → (V → ℕ) → (List ℕ → V) → List ℕ → ℕ → List (NamedOf V)
+    → List (NamedOf V)
 moved_own_by size made key at [] = []
 moved_own_by size made key at (p ∷ own) =
     if bytes_eq (codes "data") p.name then
-    record { name = key; value = made (word at) } ∷ record { name = codes "data-size"; value = made (word (size p.value)) } ∷ own
+    record { name = key; value = made (word at) }
+    ∷ record { name = codes "data-size"; value = made (word (size p.value)) } ∷ own
     else p ∷ moved_own_by size made key at own
 
--- images, the first `data` of each moved: one after the other from a place on, each rounded up by an alignment
--- An image without `data` stays as it is.
-unfoldable pub moved_from_by : {V : Type 0} → (V → ℕ) → (List ℕ → V) → ℕ → List ℕ → ℕ → NodesOf V → NodesOf V
+-- images, the first `data` of each moved: one after the other from a place on, each rounded up by
+-- an alignment An image without `data` stays as it is.
+unfoldable pub moved_from_by : {V : Type 0} → (V → ℕ) → (List ℕ → V) → ℕ → List ℕ → ℕ → NodesOf V
+    → NodesOf V
 moved_from_by size made align key at no_node = no_node
 moved_from_by size made align key at (a_node name own below after) =
-    a_node name (moved_own_by size made key at own) below (moved_from_by size made align key (at + padded_size_by size align own) after)
+    a_node name (moved_own_by size made key at own) below
+    (moved_from_by size made align key (at + padded_size_by size align own) after)
 
 -- a tree whose payloads are placed: inside the blob; at `data-offset`, counted from the blob's end;
 -- or at `data-position`, counted from the file's start
-abbrev pub moved_by : {V : Type 0} → (V → ℕ) → (List ℕ → V) → NodesOf V → AlignedPlacement → NodesOf V
+abbrev pub moved_by : {V : Type 0} → (V → ℕ) → (List ℕ → V) → NodesOf V → AlignedPlacement
+    → NodesOf V
 moved_by size made t Inside = t
-moved_by size made t (After align) = with_images (moved_from_by size made align (codes "data-offset") 0) t
-moved_by size made t (At p align) = with_images (moved_from_by size made align (codes "data-position") p) t
+moved_by size made t (After align) =
+    with_images (moved_from_by size made align (codes "data-offset") 0) t
+moved_by size made t (At p align) =
+    with_images (moved_from_by size made align (codes "data-position") p) t
 
 -- the same where the values are bytes
 abbrev pub padded_size : ℕ → List Named → ℕ

@@ -1,11 +1,11 @@
 -- A tree but for the bytes of its images' digests.
 use Rattle.std.specs.Prelude.{List, length, replicate, if◌then◌else◌, codes}
 use Rattle.std.specs.Option.{option_map_or}
-use Rattle.uimg_blob.specs.Roles.{is_hash}
-use Rattle.uimg_blob.specs.Plain.{NamedOf}
-use Rattle.uimg_blob.specs.LookUps.{NodeOf, first}
-use Rattle.uimg_tree.specs.declared.tree.Node.{Node}
-use Rattle.uimg_tree.specs.Content.{Content, Unread, bytes, file}
+use Rattle.uimg_blob_reading.specs.Roles.{is_hash}
+use Rattle.uimg_blob_reading.specs.Plain.{NamedOf}
+use Rattle.uimg_blob_reading.specs.LookUps.{NodeOf, first}
+use Rattle.uimg_blob_writing.specs.declared.tree.Node.{Node}
+use Rattle.uimg_blob_writing.specs.Content.{Content, Unread, bytes, file}
 use Rattle.uimg_fit_building.specs.Filling.{with, each, in_first, with_images, algo_by}
 use Rattle.uimg_fit_building.specs.PayloadSums.{in_memory}
 
@@ -16,11 +16,13 @@ zeroed (file name size) = file name size
 
 -- properties, the first `value` as zeros
 abbrev pub zeroed_own : List (NamedOf Content) → List (NamedOf Content)
-zeroed_own own = option_map_or (λ c. with (codes "value") (zeroed c) own) (first own (codes "value")) own
+zeroed_own own =
+    option_map_or (λ c. with (codes "value") (zeroed c) own) (first own (codes "value")) own
 
 -- a hash node, its digest as zeros; one whose algorithm is unknown stays
 abbrev pub zeroed_hash : NodeOf Content → NodeOf Content
-zeroed_hash h = option_map_or (λ algo. record h { own = zeroed_own h.own }) (algo_by in_memory h.own) h
+zeroed_hash h =
+    option_map_or (λ algo. record h { own = zeroed_own h.own }) (algo_by in_memory h.own) h
 
 -- a child of an image: a hash node with its digest as zeros, any other as it is
 abbrev pub zeroed_child : NodeOf Content → NodeOf Content

@@ -1,11 +1,12 @@
 -- What filling answers, over files that have those of the tree.
-use Rattle.std.specs.Prelude.{◌≡◌, ◌≢◌, ℕ, List, [], ◌∷◌, ◌++◌, map, Bool, true, false, IsTrue, Option, Some, None, Result, Ok, Err, codes, ⊤}
+use Rattle.std.specs.Prelude.{◌≡◌, ◌≢◌, ℕ, List, [], ◌∷◌, ◌++◌, map, Bool, true, false, IsTrue}
+use Rattle.std.specs.Prelude.{Option, Some, None, Result, Ok, Err, codes, ⊤}
 use Rattle.uimg_base.specs.Lent.{Lent}
 use Rattle.uimg_base.specs.Named.{FileMap}
-use Rattle.uimg_tree.specs.UsingFiles.{UsesFiles}
-use Rattle.uimg_blob.specs.Plain.{with_value, with_values}
-use Rattle.uimg_blob.specs.LookUps.{NodeOf, first, images, hashes}
-use Rattle.uimg_tree.specs.Content.{Content, Unread, file, bytes_in, in_full, AreKept}
+use Rattle.uimg_blob_writing.specs.UsingFiles.{UsesFiles}
+use Rattle.uimg_blob_reading.specs.Plain.{with_value, with_values}
+use Rattle.uimg_blob_reading.specs.LookUps.{NodeOf, first, images, hashes}
+use Rattle.uimg_blob_writing.specs.Content.{Content, Unread, file, bytes_in, in_full, AreKept}
 use Rattle.uimg_fit_base.specs.declared.fault.FitFault.{FitFault}
 use Rattle.uimg_fit_base.specs.declared.fault.FitFault.TheVariants.{OutOfMemory, NoFile, ReadFailed}
 use Rattle.uimg_fit_building.specs.Filling.{IsFilled}
@@ -22,16 +23,20 @@ abbrev pub fails_to_read : {X : Type 0} → Result X FitFault → Bool
 fails_to_read (Err ReadFailed) = true
 fails_to_read _ = false
 
--- A call that opens files leaves them as they were, and counts each refused open. Where the files that are kept are there, those of
--- a complete map refuse none, and what never fails is read.
-pub record OpensKeptBetween {X : Type 0} (never_fails : Bool) (AreThere : Type 0) (result : Result X FitFault) (old new : FileMap) : Type 0 where
+-- A call that opens files leaves them as they were, and counts each refused open. Where the files
+-- that are kept are there, those of a complete map refuse none, and what never fails is read.
+pub record OpensKeptBetween {X : Type 0} (never_fails : Bool) (AreThere : Type 0)
+    (result : Result X FitFault) (old new : FileMap) : Type 0 where
   -- F9 is returned exactly if the refusals of the files rose
   pub files : UsesFiles (opens_no_file result) old new
   pub found : IsTrue old.complete → AreThere → opens_no_file result ≡ false
   pub steady : IsTrue never_fails → IsTrue old.honest → AreThere → fails_to_read result ≡ false
 
-abbrev pub OpensKept : {F X : Type 0} → Bool → (F → FileMap) → ((List ℕ → Option (List ℕ)) → Type 0) → Result X FitFault → Lent F → Type 0
-OpensKept never_fails map AreThere result files = OpensKeptBetween never_fails (AreThere (map files.entry.now).bytes) result (map files.entry.now) (map files.exit.now)
+abbrev pub OpensKept : {F X : Type 0} → Bool → (F → FileMap) → ((List ℕ → Option (List ℕ)) → Type 0)
+    → Result X FitFault → Lent F → Type 0
+OpensKept never_fails map AreThere result files =
+    OpensKeptBetween never_fails (AreThere (map files.entry.now).bytes) result (map files.entry.now)
+    (map files.exit.now)
 
 -- a node with the bytes of each file in its place
 abbrev pub node_in_full : (List ℕ → Option (List ℕ)) → NodeOf Content → NodeOf (List ℕ)
@@ -52,7 +57,8 @@ pub record Fills (files : List ℕ → Option (List ℕ)) (time : ℕ) (t u : Un
   -- each file has the size that the tree keeps
   pub kept : AreKept files u
 
--- The filling of a tree stopped at the file of an image with hash nodes: neither that image nor one before it is refused.
+-- The filling of a tree stopped at the file of an image with hash nodes: neither that image nor one
+-- before it is refused.
 pub record StopsAtFile (files : List ℕ → Option (List ℕ)) (t : Unread) : Type 0 where
   pub before : List (NodeOf Content)
   pub image : NodeOf Content
@@ -65,8 +71,10 @@ pub record StopsAtFile (files : List ℕ → Option (List ℕ)) (t : Unread) : T
   pub is_file : first image.own (codes "data") ≡ Some (file name size)
   pub is_hashed : hashes image ≢ []
 
--- An answer is the filled tree, or the first fault; or memory was refused, or a file could not be opened or read.
-abbrev pub FillsAnswer : {X : Type 0} → (X → Unread) → (List ℕ → Option (List ℕ)) → ℕ → Unread → Result X FitFault → Type 0
+-- An answer is the filled tree, or the first fault; or memory was refused, or a file could not be
+-- opened or read.
+abbrev pub FillsAnswer : {X : Type 0} → (X → Unread) → (List ℕ → Option (List ℕ)) → ℕ → Unread
+    → Result X FitFault → Type 0
 FillsAnswer view files time t (Ok x) = Fills files time t (view x)
 FillsAnswer view files time t (Err OutOfMemory) = ⊤
 FillsAnswer view files time t (Err NoFile) = StopsAtFile files t

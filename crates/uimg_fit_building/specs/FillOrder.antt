@@ -1,15 +1,18 @@
 -- In what order filling reads and refuses, over files of any sizes.
-use Rattle.std.specs.Prelude.{◌≡◌, ◌≢◌, ℕ, List, [], ◌∷◌, ◌++◌, Bool, IsTrue, Option, Some, None, Result, Ok, Err, ⊤}
+use Rattle.std.specs.Prelude.{◌≡◌, ◌≢◌, ℕ, List, [], ◌∷◌, ◌++◌, Bool, IsTrue, Option, Some, None}
+use Rattle.std.specs.Prelude.{Result, Ok, Err, ⊤}
 use Rattle.std.specs.List.{AllByRecursion}
 use Rattle.std.specs.Option.{IsSomeAnd}
 use Rattle.uimg_base.specs.Named.{FileMap}
-use Rattle.uimg_blob.specs.LookUps.{NodeOf, hashes}
-use Rattle.uimg_tree.specs.Content.{Content}
+use Rattle.uimg_blob_reading.specs.LookUps.{NodeOf, hashes}
+use Rattle.uimg_blob_writing.specs.Content.{Content}
 use Rattle.uimg_fit_base.specs.declared.fault.FitFault.{FitFault}
-use Rattle.uimg_fit_base.specs.declared.fault.FitFault.TheVariants.{NoImages, NoData, UnknownAlgo, OutOfMemory, NoFile, ReadFailed}
+use Rattle.uimg_fit_base.specs.declared.fault.FitFault.TheVariants.{NoImages, NoData, UnknownAlgo}
+use Rattle.uimg_fit_base.specs.declared.fault.FitFault.TheVariants.{OutOfMemory, NoFile, ReadFailed}
 use Rattle.uimg_fit_building.specs.ImageFillings.{fault_in_memory, IsKeptImage, StopsAtImage}
 
--- The file of an image with hash nodes can be read: it stands among files, with as many bytes as are kept of it.
+-- The file of an image with hash nodes can be read: it stands among files, with as many bytes as
+-- are kept of it.
 abbrev pub CanBeRead : (List ℕ → Option (List ℕ)) → NodeOf Content → Type 0
 CanBeRead files image = hashes image ≢ [] → IsKeptImage files image
 
@@ -20,13 +23,16 @@ pub record IsPassed (files : List ℕ → Option (List ℕ)) (image : NodeOf Con
   -- if it has hash nodes, its file is there with the size that the tree keeps
   pub read : CanBeRead files image
 
--- Filling stops at the file of an image with hash nodes; where only that file can be the reason, it is missing or has another size.
-pub record StopsAtFileOf (sole : Bool) (files : List ℕ → Option (List ℕ)) (image : NodeOf Content) : Type 0 where
+-- Filling stops at the file of an image with hash nodes; where only that file can be the reason, it
+-- is missing or has another size.
+pub record StopsAtFileOf (sole : Bool) (files : List ℕ → Option (List ℕ)) (image : NodeOf Content)
+    : Type 0 where
   pub stops : StopsAtImage image
   pub unread : IsTrue sole → IsKeptImage files image → ⊥
 
--- Filling stops at an image with a fault: its fault in memory; or, where it has none, a fault of its file,
--- for which only this file can be the reason where the files are complete (of a refused open), or steady (of a failed read).
+-- Filling stops at an image with a fault: its fault in memory; or, where it has none, a fault of
+-- its file, for which only this file can be the reason where the files are complete (of a refused
+-- open), or steady (of a failed read).
 abbrev pub IsRefused : FileMap → Bool → NodeOf Content → FitFault → Type 0
 IsRefused files steady image NoData = fault_in_memory image ≡ Some NoData
 IsRefused files steady image UnknownAlgo = fault_in_memory image ≡ Some UnknownAlgo
@@ -41,7 +47,8 @@ FillsNext files steady image (Ok x) = IsPassed files.bytes image
 FillsNext files steady image (Err fault) = IsRefused files steady image fault
 
 -- Filling goes past the images before one, and stops at that.
-pub record StopsInOrder (files : FileMap) (steady : Bool) (found : Option (List (NodeOf Content))) (fault : FitFault) : Type 0 where
+pub record StopsInOrder (files : FileMap) (steady : Bool) (found : Option (List (NodeOf Content)))
+    (fault : FitFault) : Type 0 where
   pub before : List (NodeOf Content)
   pub image : NodeOf Content
   pub after : List (NodeOf Content)
@@ -51,8 +58,10 @@ pub record StopsInOrder (files : FileMap) (steady : Bool) (found : Option (List 
   -- this image has
   pub refused : IsRefused files steady image fault
 
--- What filling answers of a root's images: it goes past all, or there are none, or it stops at the first that it can't pass; or memory was refused.
-abbrev pub FillsInOrder : {X : Type 0} → FileMap → Bool → Option (List (NodeOf Content)) → Result X FitFault → Type 0
+-- What filling answers of a root's images: it goes past all, or there are none, or it stops at the
+-- first that it can't pass; or memory was refused.
+abbrev pub FillsInOrder : {X : Type 0} → FileMap → Bool → Option (List (NodeOf Content))
+    → Result X FitFault → Type 0
 FillsInOrder files steady found (Ok x) = IsSomeAnd found (AllByRecursion (IsPassed files.bytes))
 FillsInOrder files steady found (Err NoImages) = found ≡ None
 FillsInOrder files steady found (Err OutOfMemory) = ⊤

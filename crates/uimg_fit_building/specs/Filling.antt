@@ -5,16 +5,18 @@ use Rattle.std.specs.Option.{option_and_then, option_map_or}
 use Rattle.std.specs.Str.{bytes_eq}
 use Rattle.uimg_sums.specs.declared.algo.Algo.{Algo}
 use Rattle.uimg_sums.specs.Algorithms.{algo_named, digest_by}
-use Rattle.uimg_blob.specs.Roles.{is_hash}
+use Rattle.uimg_blob_reading.specs.Roles.{is_hash}
 use Rattle.uimg_texts.specs.Nul.{text}
-use Rattle.uimg_blob.specs.Plain.{NamedOf, NodesOf, Named, Nodes, no_node, a_node}
-use Rattle.uimg_tree.specs.Encoding.{word}
-use Rattle.uimg_blob.specs.LookUps.{NodeOf, first, images, hashes}
+use Rattle.uimg_blob_reading.specs.Plain.{NamedOf, NodesOf, Named, Nodes, no_node, a_node}
+use Rattle.uimg_blob_writing.specs.Encoding.{word}
+use Rattle.uimg_blob_reading.specs.LookUps.{NodeOf, first, images, hashes}
 
 -- properties, the first of a name with another value; where there is none, one more
 unfoldable pub with : {V : Type 0} → List ℕ → V → List (NamedOf V) → List (NamedOf V)
 with key value [] = record { name = key; value = value } ∷ []
-with key value (p ∷ own) = if bytes_eq key p.name then record { name = key; value = value } ∷ own else p ∷ with key value own
+with key value (p ∷ own) =
+    if bytes_eq key p.name then record { name = key; value = value } ∷ own else p
+    ∷ with key value own
 
 -- the names of the properties that give a payload a place outside the blob
 abbrev pub external_names : List (List ℕ)
@@ -31,33 +33,43 @@ before n after = a_node n.name n.own n.below after
 -- nodes, each by a function
 unfoldable pub each : {V : Type 0} → (NodeOf V → NodeOf V) → NodesOf V → NodesOf V
 each f no_node = no_node
-each f (a_node name own below after) = before (f (record { name = name; own = own; below = below })) (each f after)
+each f (a_node name own below after) =
+    before (f (record { name = name; own = own; below = below })) (each f after)
 
 -- nodes, the children of the first of a name by a function
 unfoldable pub in_first : {V : Type 0} → List ℕ → (NodesOf V → NodesOf V) → NodesOf V → NodesOf V
 in_first key f no_node = no_node
-in_first key f (a_node name own below after) = if bytes_eq key name then a_node name own (f below) after else a_node name own below (in_first key f after)
+in_first key f (a_node name own below after) =
+    if bytes_eq key name then a_node name own (f below) after else a_node name own below
+    (in_first key f after)
 
 -- a tree, its images by a function
 abbrev pub with_images : {V : Type 0} → (NodesOf V → NodesOf V) → NodesOf V → NodesOf V
 with_images f no_node = no_node
-with_images f (a_node name own below after) = a_node name own (in_first (codes "images") f below) after
+with_images f (a_node name own below after) =
+    a_node name own (in_first (codes "images") f below) after
 
 -- a tree, one of the root's properties with another value
 abbrev pub with_root : {V : Type 0} → List ℕ → V → NodesOf V → NodesOf V
 with_root key value no_node = no_node
 with_root key value (a_node name own below after) = a_node name (with key value own) below after
 
--- The steps of filling are over any values: `read` gives the bytes of a value, `made` the value of bytes.
+-- The steps of filling are over any values: `read` gives the bytes of a value, `made` the value of
+-- bytes.
 
 -- the algorithm of a hash node, if its name is known
 abbrev pub algo_by : {V : Type 0} → (V → List ℕ) → List (NamedOf V) → Option Algo
-algo_by read own = option_and_then (λ name. algo_named (text (read name))) (first own (codes "algo"))
+algo_by read own =
+    option_and_then (λ name. algo_named (text (read name))) (first own (codes "algo"))
 
 -- a hash node with the digest of a payload; one whose algorithm is unknown stays
-abbrev pub with_digest_by : {V : Type 0} → (V → List ℕ) → (List ℕ → V) → List ℕ → NodeOf V → NodeOf V
+abbrev pub with_digest_by : {V : Type 0} → (V → List ℕ) → (List ℕ → V) → List ℕ → NodeOf V
+    → NodeOf V
 with_digest_by read made message h =
-    option_map_or (λ algo. record h { own = with (codes "value") (made (digest_by algo message)) h.own }) (algo_by read h.own) h
+    option_map_or (λ algo. record h {
+      own = with (codes "value") (made (digest_by algo message))
+          h.own;
+    }) (algo_by read h.own) h
 
 -- a child of an image: a hash node with the digest, any other as it is
 abbrev pub hashed_by : {V : Type 0} → (V → List ℕ) → (List ℕ → V) → List ℕ → NodeOf V → NodeOf V
@@ -67,12 +79,16 @@ hashed_by read made message h = if is_hash h.name then with_digest_by read made 
 abbrev pub filled_image_by : {V : Type 0} → (V → List ℕ) → (List ℕ → V) → NodeOf V → NodeOf V
 filled_image_by read made image = record image {
   own = without_external image.own;
-  below = option_map_or (λ payload. each (hashed_by read made (read payload)) image.below) (first image.own (codes "data")) image.below;
+  below =
+      option_map_or (λ payload. each (hashed_by read made (read payload)) image.below)
+      (first image.own (codes "data")) image.below;
 }
 
 -- a tree with a time and its images' digests
 abbrev pub filled_by : {V : Type 0} → (V → List ℕ) → (List ℕ → V) → ℕ → NodesOf V → NodesOf V
-filled_by read made time t = with_root (codes "timestamp") (made (word time)) (with_images (each (filled_image_by read made)) t)
+filled_by read made time t =
+    with_root (codes "timestamp") (made (word time))
+    (with_images (each (filled_image_by read made)) t)
 
 -- the same where the values are bytes
 abbrev pub algo_in : List Named → Option Algo
@@ -93,7 +109,8 @@ pub record IsDigest (message : List ℕ) (h : NodeOf (List ℕ)) : Type 0 where
   pub known : algo_in h.own ≡ Some algo
   pub value : first h.own (codes "value") ≡ Some (digest_by algo message)
 
--- An image has `data` and no place outside the blob, and each of its hash nodes has the digest of its first `data`.
+-- An image has `data` and no place outside the blob, and each of its hash nodes has the digest of
+-- its first `data`.
 pub record IsFilledImage (image : NodeOf (List ℕ)) : Type 0 where
   pub message : List ℕ
   pub has : first image.own (codes "data") ≡ Some message

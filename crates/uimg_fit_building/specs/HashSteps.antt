@@ -2,10 +2,10 @@
 use Rattle.std.specs.Prelude.{◌≡◌, ℕ, List, map, true, Result, OnOk, IsOkUnless}
 use Rattle.std.specs.List.{filter, AllByRecursion}
 use Rattle.uimg_base.specs.Lent.{Lent}
-use Rattle.uimg_blob.specs.Roles.{is_hash}
-use Rattle.uimg_tree.specs.declared.tree.Node.{Node}
-use Rattle.uimg_tree.specs.Content.{bytes}
-use Rattle.uimg_tree.specs.Trees.{siblings}
+use Rattle.uimg_blob_reading.specs.Roles.{is_hash}
+use Rattle.uimg_blob_writing.specs.declared.tree.Node.{Node}
+use Rattle.uimg_blob_writing.specs.Content.{bytes}
+use Rattle.uimg_blob_writing.specs.Trees.{siblings}
 use Rattle.uimg_fit_base.specs.declared.algo_sets.Digests.{Digests}
 use Rattle.uimg_fit_base.specs.declared.fault.FitFault.{FitFault}
 use Rattle.uimg_fit_base.specs.declared.fault.FitFault.TheVariants.{OutOfMemory}
@@ -16,24 +16,35 @@ use Rattle.uimg_fit_building.specs.Filling.{each, with_digest_by}
 use Rattle.uimg_fit_building.specs.ImageFillings.{hashed_in}
 use Rattle.uimg_fit_building.specs.PayloadSums.{in_memory, IsCovered}
 
--- Digests were set. Where they are those of a message, by the algorithms of all hash nodes there are, these have them now; whatever
--- they are, all is so but for their bytes; and only memory can have been refused.
-pub record SetsDigests {T X : Type 0} (digests : Digests) (AreCovered : Type 0) (hashed : List ℕ → T) (zeroed : T → T) (new : T) (result : Result X FitFault) : Type 0 where
-  pub filled : (message : List ℕ) → AreDigests digests message → AreCovered → OnOk result (new ≡ hashed message)
+-- Digests were set. Where they are those of a message, by the algorithms of all hash nodes there
+-- are, these have them now; whatever they are, all is so but for their bytes; and only memory can
+-- have been refused.
+pub record SetsDigests {T X : Type 0} (digests : Digests) (AreCovered : Type 0)
+    (hashed : List ℕ → T) (zeroed : T → T) (new : T) (result : Result X FitFault) : Type 0 where
+  pub filled : (message : List ℕ) → AreDigests digests message → AreCovered
+      → OnOk result (new ≡ hashed message)
   pub rest : (message : List ℕ) → OnOk result (zeroed new ≡ zeroed (hashed message))
   pub memory : IsOkUnless result OutOfMemory
 
 -- in a hash node
 abbrev pub SetsHash : {A X : Type 0} → Digests → Result X FitFault → Lent (Node A) → Type 0
-SetsHash digests result node = SetsDigests digests (IsCovered (set_of digests) (entry node.entry.now))
-    (λ message. with_digest_by in_memory bytes message (entry node.entry.now)) zeroed_hash (entry node.exit.now) result
+SetsHash digests result node =
+    SetsDigests digests (IsCovered (set_of digests) (entry node.entry.now))
+    (λ message. with_digest_by in_memory bytes message (entry node.entry.now)) zeroed_hash
+    (entry node.exit.now) result
 
 -- in a child of an image, if it is a hash node
 abbrev pub SetsChild : {A X : Type 0} → Digests → Result X FitFault → Lent (Node A) → Type 0
-SetsChild digests result node = SetsDigests digests (is_hash node.entry.now.name ≡ true → IsCovered (set_of digests) (entry node.entry.now))
+SetsChild digests result node =
+    SetsDigests digests
+    (is_hash node.entry.now.name ≡ true → IsCovered (set_of digests) (entry node.entry.now))
     (λ message. hashed_in message (entry node.entry.now)) zeroed_child (entry node.exit.now) result
 
 -- in the hash nodes among the children of an image
-abbrev pub SetsChildren : {A X : Type 0} → Digests → Result X FitFault → Lent (List (Node A)) → Type 0
-SetsChildren digests result nodes = SetsDigests digests (AllByRecursion (IsCovered (set_of digests)) (filter (λ h. is_hash h.name) (map entry nodes.entry.now)))
-    (λ message. each (hashed_in message) (siblings nodes.entry.now)) (each zeroed_child) (siblings nodes.exit.now) result
+abbrev pub SetsChildren : {A X : Type 0} → Digests → Result X FitFault → Lent (List (Node A))
+    → Type 0
+SetsChildren digests result nodes =
+    SetsDigests digests (AllByRecursion (IsCovered (set_of digests))
+    (filter (λ h. is_hash h.name) (map entry nodes.entry.now)))
+    (λ message. each (hashed_in message) (siblings nodes.entry.now)) (each zeroed_child)
+    (siblings nodes.exit.now) result

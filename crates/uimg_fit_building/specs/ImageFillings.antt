@@ -1,14 +1,16 @@
 -- What filling does to an image, by what is in memory and the bytes of its payload.
-use Rattle.std.specs.Prelude.{◌≡◌, ◌≢◌, ℕ, List, [], ◌∷◌, ◌++◌, map, Bool, true, false, is_some, find, Option, Some, None, Result, Ok, Err, codes, ⊤}
+use Rattle.std.specs.Prelude.{◌≡◌, ◌≢◌, ℕ, List, [], ◌∷◌, ◌++◌, map, Bool, true, false, is_some}
+use Rattle.std.specs.Prelude.{find, Option, Some, None, Result, Ok, Err, codes, ⊤}
 use Rattle.std.specs.List.{filter, list_all}
 use Rattle.std.specs.Option.{option_map, option_map_or, IfSome}
 use Rattle.std.specs.Str.{bytes_eq}
-use Rattle.uimg_blob.specs.LookUps.{NodeOf, listed, first, hashes}
-use Rattle.uimg_blob.specs.Roles.{is_hash}
-use Rattle.uimg_tree.specs.declared.tree.Node.{Node}
-use Rattle.uimg_tree.specs.Content.{Content, Unread, bytes, file, bytes_in, IsKept}
+use Rattle.uimg_blob_reading.specs.LookUps.{NodeOf, listed, first, hashes}
+use Rattle.uimg_blob_reading.specs.Roles.{is_hash}
+use Rattle.uimg_blob_writing.specs.declared.tree.Node.{Node}
+use Rattle.uimg_blob_writing.specs.Content.{Content, Unread, bytes, file, bytes_in, IsKept}
 use Rattle.uimg_fit_base.specs.declared.fault.FitFault.{FitFault}
-use Rattle.uimg_fit_base.specs.declared.fault.FitFault.TheVariants.{NoImages, UnknownAlgo, OutOfMemory, NoFile, ReadFailed}
+use Rattle.uimg_fit_base.specs.declared.fault.FitFault.TheVariants.{NoImages, UnknownAlgo}
+use Rattle.uimg_fit_base.specs.declared.fault.FitFault.TheVariants.{OutOfMemory, NoFile, ReadFailed}
 use Rattle.uimg_fit_building.specs.Filling.{without_external, each, in_first, algo_by, hashed_by}
 use Rattle.uimg_fit_building.specs.Refusing.{image_fault, first_fault}
 use Rattle.uimg_fit_building.specs.FillAnswers.{node_in_full}
@@ -22,7 +24,9 @@ hashed_in message h = hashed_by in_memory bytes message h
 abbrev pub filled_over : (List ℕ → Option (List ℕ)) → NodeOf Content → NodeOf Content
 filled_over files image = record image {
   own = without_external image.own;
-  below = option_map_or (λ c. each (hashed_in (bytes_in files c)) image.below) (first image.own (codes "data")) image.below;
+  below =
+      option_map_or (λ c. each (hashed_in (bytes_in files c)) image.below)
+      (first image.own (codes "data")) image.below;
 }
 
 -- why an image isn't filled, whatever its file has
@@ -41,7 +45,8 @@ IsFileFault c fault = ⊥
 
 -- whether the hash nodes among nodes have known algorithms
 abbrev pub are_known : Unread → Bool
-are_known t = list_all (λ h. is_some (algo_by in_memory h.own)) (filter (λ h. is_hash h.name) (listed t))
+are_known t =
+    list_all (λ h. is_some (algo_by in_memory h.own)) (filter (λ h. is_hash h.name) (listed t))
 
 -- Filling stops at the payload of nodes with hash nodes among them.
 pub record StopsAtPayload (c : Content) (t : Unread) : Type 0 where
@@ -52,8 +57,10 @@ pub record StopsAtPayload (c : Content) (t : Unread) : Type 0 where
   pub is_hashed : filter (λ h. is_hash h.name) (listed t) ≢ []
 
 -- what is said of nodes whose hash nodes were to have the digests of a payload
-abbrev pub FillsHashes : {X : Type 0} → (X → Unread) → (List ℕ → Option (List ℕ)) → Content → Unread → Result X FitFault → Type 0
-FillsHashes view files c t (Ok x) = (are_known t ≡ true) × (view x ≡ each (hashed_in (bytes_in files c)) t)
+abbrev pub FillsHashes : {X : Type 0} → (X → Unread) → (List ℕ → Option (List ℕ)) → Content → Unread
+    → Result X FitFault → Type 0
+FillsHashes view files c t (Ok x) =
+    (are_known t ≡ true) × (view x ≡ each (hashed_in (bytes_in files c)) t)
 FillsHashes view files c t (Err OutOfMemory) = ⊤
 FillsHashes view files c t (Err UnknownAlgo) = are_known t ≡ false
 FillsHashes view files c t (Err NoFile) = StopsAtPayload c t
@@ -69,7 +76,8 @@ pub record StopsAtImage (image : NodeOf Content) : Type 0 where
   pub is_hashed : hashes image ≢ []
 
 -- what is said of an image that was to be filled
-abbrev pub FillsImage : {X : Type 0} → (List ℕ → Option (List ℕ)) → NodeOf Content → NodeOf Content → Result X FitFault → Type 0
+abbrev pub FillsImage : {X : Type 0} → (List ℕ → Option (List ℕ)) → NodeOf Content → NodeOf Content
+    → Result X FitFault → Type 0
 FillsImage files old new (Ok x) = (fault_in_memory old ≡ None) × (new ≡ filled_over files old)
 FillsImage files old new (Err OutOfMemory) = ⊤
 FillsImage files old new (Err NoFile) = StopsAtImage old
@@ -86,8 +94,10 @@ pub record StopsAmong (images : List (NodeOf Content)) : Type 0 where
   pub stops : StopsAtImage image
 
 -- what is said of images that were to be filled
-abbrev pub FillsImages : {X : Type 0} → (List ℕ → Option (List ℕ)) → List (NodeOf Content) → List (NodeOf Content) → Result X FitFault → Type 0
-FillsImages files old new (Ok x) = (first_in_memory old ≡ None) × (new ≡ map (filled_over files) old)
+abbrev pub FillsImages : {X : Type 0} → (List ℕ → Option (List ℕ)) → List (NodeOf Content)
+    → List (NodeOf Content) → Result X FitFault → Type 0
+FillsImages files old new (Ok x) =
+    (first_in_memory old ≡ None) × (new ≡ map (filled_over files) old)
 FillsImages files old new (Err OutOfMemory) = ⊤
 FillsImages files old new (Err NoFile) = StopsAmong old
 FillsImages files old new (Err ReadFailed) = StopsAmong old
@@ -98,8 +108,11 @@ abbrev pub IsKeptImage : (List ℕ → Option (List ℕ)) → NodeOf Content →
 IsKeptImage files image = IfSome (first image.own (codes "data")) (IsKept files)
 
 -- what is said of a node whose children are images that were to be filled
-abbrev pub FillsParent : {A X : Type 0} → (List ℕ → Option (List ℕ)) → Node A → Node A → Result X FitFault → Type 0
-FillsParent files old new (Ok x) = (first_in_memory (listed old.children) ≡ None) × (new ≡ record old { children = each (filled_over files) old.children })
+abbrev pub FillsParent : {A X : Type 0} → (List ℕ → Option (List ℕ)) → Node A → Node A
+    → Result X FitFault → Type 0
+FillsParent files old new (Ok x) =
+    (first_in_memory (listed old.children) ≡ None)
+    × (new ≡ record old { children = each (filled_over files) old.children })
 FillsParent files old new (Err OutOfMemory) = ⊤
 FillsParent files old new (Err NoFile) = StopsAmong (listed old.children)
 FillsParent files old new (Err ReadFailed) = StopsAmong (listed old.children)
@@ -107,7 +120,8 @@ FillsParent files old new (Err fault) = first_in_memory (listed old.children) �
 
 -- the images among the children of the root
 abbrev pub images_among : Unread → Option (List (NodeOf Content))
-images_among t = option_map (λ c. listed c.below) (find (λ c. bytes_eq (codes "images") c.name) (listed t))
+images_among t =
+    option_map (λ c. listed c.below) (find (λ c. bytes_eq (codes "images") c.name) (listed t))
 
 -- why they aren't filled, whatever their files have
 abbrev pub fault_among : Option (List (NodeOf Content)) → Option FitFault
@@ -121,8 +135,11 @@ pub record StopsBelow (t : Unread) : Type 0 where
   pub stops : StopsAmong images
 
 -- what is said of the children of a root that was to be filled
-abbrev pub FillsBelow : {X : Type 0} → (List ℕ → Option (List ℕ)) → Unread → Unread → Result X FitFault → Type 0
-FillsBelow files old new (Ok x) = (fault_among (images_among old) ≡ None) × (new ≡ in_first (codes "images") (each (filled_over files)) old)
+abbrev pub FillsBelow : {X : Type 0} → (List ℕ → Option (List ℕ)) → Unread → Unread
+    → Result X FitFault → Type 0
+FillsBelow files old new (Ok x) =
+    (fault_among (images_among old) ≡ None)
+    × (new ≡ in_first (codes "images") (each (filled_over files)) old)
 FillsBelow files old new (Err OutOfMemory) = ⊤
 FillsBelow files old new (Err NoFile) = StopsBelow old
 FillsBelow files old new (Err ReadFailed) = StopsBelow old

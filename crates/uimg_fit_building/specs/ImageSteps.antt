@@ -4,17 +4,21 @@ use Rattle.std.specs.List.{AllByRecursion}
 use Rattle.std.specs.Option.{IfSome}
 use Rattle.uimg_base.specs.Lent.{Lent}
 use Rattle.uimg_base.specs.Named.{FileMap}
-use Rattle.uimg_blob.specs.LookUps.{NodeOf}
-use Rattle.uimg_tree.specs.Content.{Content}
+use Rattle.uimg_blob_reading.specs.LookUps.{NodeOf}
+use Rattle.uimg_blob_writing.specs.Content.{Content}
 use Rattle.uimg_fit_base.specs.declared.fault.FitFault.{FitFault}
 use Rattle.uimg_fit_building.specs.FillAnswers.{OpensKept}
 use Rattle.uimg_fit_building.specs.FillOrder.{FillsInOrder}
 use Rattle.uimg_fit_building.specs.ImageFillings.{IsKeptImage}
 
 -- The files of images were opened as they are kept.
-abbrev pub OpensImages : {F X : Type 0} → Bool → (F → FileMap) → Option (List (NodeOf Content)) → Result X FitFault → Lent F → Type 0
-OpensImages steady map found result files = OpensKept steady map (λ there. IfSome found (AllByRecursion (IsKeptImage there))) result files
+abbrev pub OpensImages : {F X : Type 0} → Bool → (F → FileMap) → Option (List (NodeOf Content))
+    → Result X FitFault → Lent F → Type 0
+OpensImages steady map found result files =
+    OpensKept steady map (λ there. IfSome found (AllByRecursion (IsKeptImage there))) result files
 
 -- Where files were honest, the answer is by the first of a root's images that filling can't pass.
-abbrev pub AnswersInOrder : {F X : Type 0} → Bool → (F → FileMap) → Option (List (NodeOf Content)) → Result X FitFault → Lent F → Type 0
-AnswersInOrder steady map found result files = IsTrue (map files.entry.now).honest → FillsInOrder (map files.entry.now) steady found result
+abbrev pub AnswersInOrder : {F X : Type 0} → Bool → (F → FileMap) → Option (List (NodeOf Content))
+    → Result X FitFault → Lent F → Type 0
+AnswersInOrder steady map found result files =
+    IsTrue (map files.entry.now).honest → FillsInOrder (map files.entry.now) steady found result

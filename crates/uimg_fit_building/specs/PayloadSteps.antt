@@ -5,21 +5,25 @@ use Rattle.uimg_sums.specs.declared.bundle.Bundle.{Bundle}
 use Rattle.uimg_sums.specs.Bundle.{Holds}
 use Rattle.uimg_base.specs.Lent.{Lent}
 use Rattle.uimg_base.specs.Named.{FileMap}
-use Rattle.uimg_tree.specs.Content.{Content, IsKept}
+use Rattle.uimg_blob_writing.specs.Content.{Content, IsKept}
 use Rattle.uimg_fit_base.specs.declared.fault.FitFault.{FitFault}
 use Rattle.uimg_fit_building.specs.FillAnswers.{OpensKeptBetween}
 use Rattle.uimg_fit_building.specs.ImageFillings.{IsFileFault}
 
--- The file of a payload, if it is one, was opened and read as it is kept: any fault is of that file, and where files were honest,
--- there is none only if it is kept.
-pub record ReadsPayloadBetween {X : Type 0} (steady : Bool) (payload : Content) (result : Result X FitFault) (old new : FileMap) : Type 0 where
+-- The file of a payload, if it is one, was opened and read as it is kept: any fault is of that
+-- file, and where files were honest, there is none only if it is kept.
+pub record ReadsPayloadBetween {X : Type 0} (steady : Bool) (payload : Content)
+    (result : Result X FitFault) (old new : FileMap) : Type 0 where
   pub opens : OpensKeptBetween steady (IsKept old.bytes payload) result old new
   pub faults : IfErr result (IsFileFault payload)
   pub kept : IsTrue old.honest → OnOk result (IsKept old.bytes payload)
 
-abbrev pub ReadsPayload : {F X : Type 0} → Bool → (F → FileMap) → Content → Result X FitFault → Lent F → Type 0
-ReadsPayload steady map payload result files = ReadsPayloadBetween steady payload result (map files.entry.now) (map files.exit.now)
+abbrev pub ReadsPayload : {F X : Type 0} → Bool → (F → FileMap) → Content → Result X FitFault
+    → Lent F → Type 0
+ReadsPayload steady map payload result files =
+    ReadsPayloadBetween steady payload result (map files.entry.now) (map files.exit.now)
 
 -- A bundle that was new had these bytes.
 abbrev pub Feeds : Lent Bundle → List ℕ → Type 0
-Feeds bundle fed = (algos : List Algo) → Holds bundle.entry.now algos [] → Holds bundle.exit.now algos fed
+Feeds bundle fed =
+    (algos : List Algo) → Holds bundle.entry.now algos [] → Holds bundle.exit.now algos fed

@@ -1,8 +1,8 @@
 -- The algorithms of the hash nodes of an image, which is in memory but for the bytes of its files.
 use Rattle.std.specs.Prelude.{◌≡◌, ℕ, List, [], ◌∷◌, true, Option, Some, None}
 use Rattle.std.specs.Option.{option_and_then, IfSome}
-use Rattle.uimg_blob.specs.LookUps.{NodeOf}
-use Rattle.uimg_tree.specs.Content.{Content, bytes_in}
+use Rattle.uimg_blob_reading.specs.LookUps.{NodeOf}
+use Rattle.uimg_blob_writing.specs.Content.{Content, bytes_in}
 use Rattle.uimg_fit_base.specs.declared.algo_sets.AlgoSet.{AlgoSet}
 use Rattle.uimg_fit_base.specs.AlgoSets.{has, marked}
 use Rattle.uimg_fit_building.specs.Filling.{algo_by}
@@ -18,7 +18,8 @@ in_memory c = bytes_in no_files c
 -- a set with the algorithms of hash nodes, if each is known
 unfoldable pub all_marked : AlgoSet → List (NodeOf Content) → Option AlgoSet
 all_marked set [] = Some set
-all_marked set (h ∷ hs) = option_and_then (λ algo. all_marked (marked set algo) hs) (algo_by in_memory h.own)
+all_marked set (h ∷ hs) =
+    option_and_then (λ algo. all_marked (marked set algo) hs) (algo_by in_memory h.own)
 
 -- The algorithm of a hash node, if it is known, is in use.
 abbrev pub IsCovered : AlgoSet → NodeOf Content → Type 0

@@ -1,12 +1,12 @@
 -- The steps of placing a tree's payloads, over lists.
 use Rattle.std.specs.Prelude.{ℕ, ◌+◌, List, [], ◌∷◌, ◌++◌, Bool, true, false, if◌then◌else◌, codes}
 use Rattle.std.specs.Str.{bytes_eq}
-use Rattle.uimg_tree.specs.declared.props.Prop.{Prop}
-use Rattle.uimg_tree.specs.declared.props.Value.TheVariants.{Bytes}
-use Rattle.uimg_tree.specs.declared.tree.Node.{Node}
-use Rattle.uimg_tree.specs.Content.{size_of}
-use Rattle.uimg_tree.specs.Encoding.{word}
-use Rattle.uimg_tree.specs.Properties.{content}
+use Rattle.uimg_blob_writing.specs.declared.props.Prop.{Prop}
+use Rattle.uimg_blob_writing.specs.declared.props.Value.TheVariants.{Bytes}
+use Rattle.uimg_blob_writing.specs.declared.tree.Node.{Node}
+use Rattle.uimg_blob_writing.specs.Content.{size_of}
+use Rattle.uimg_blob_writing.specs.Encoding.{word}
+use Rattle.uimg_blob_writing.specs.Properties.{content}
 use Rattle.uimg_fit_building.specs.UnreadTrees.{padded_size_of, unread_own, unread_from}
 
 -- a list, the first element that passes a test by a function
@@ -41,7 +41,8 @@ placed_image key at n = record n { props = unread_own key at n.props }
 -- images, one after the other from a place on
 unfoldable pub placed_images : {A : Type 0} → ℕ → List ℕ → ℕ → List (Node A) → List (Node A)
 placed_images align key at [] = []
-placed_images align key at (n ∷ ns) = placed_image key at n ∷ placed_images align key (at + padded_size_of align n.props) ns
+placed_images align key at (n ∷ ns) =
+    placed_image key at n ∷ placed_images align key (at + padded_size_of align n.props) ns
 
 abbrev pub is_images : {A : Type 0} → Node A → Bool
 is_images n = bytes_eq (codes "images") n.name

@@ -1,13 +1,15 @@
 -- What filling answers, and what building answers.
-use Rattle.std.specs.Prelude.{ℕ, List, [], ◌∷◌, Bool, length, is_some, is_none, nat_lt, if◌then◌else◌, Option, Some, None, Result, Ok, Err, codes}
+use Rattle.std.specs.Prelude.{ℕ, List, [], ◌∷◌, Bool, length, is_some, is_none, nat_lt}
+use Rattle.std.specs.Prelude.{if◌then◌else◌, Option, Some, None, Result, Ok, Err, codes}
 use Rattle.std.specs.List.{list_all}
 use Rattle.std.specs.Option.{option_or}
-use Rattle.uimg_blob.specs.Plain.{Nodes}
+use Rattle.uimg_blob_reading.specs.Plain.{Nodes}
 use Rattle.uimg_fit_base.specs.declared.fault.FitFault.{FitFault}
-use Rattle.uimg_fit_base.specs.declared.fault.FitFault.TheVariants.{NoImages, NoData, UnknownAlgo, PositionTooLow, TooLarge}
+use Rattle.uimg_fit_base.specs.declared.fault.FitFault.TheVariants.{NoImages, NoData, UnknownAlgo}
+use Rattle.uimg_fit_base.specs.declared.fault.FitFault.TheVariants.{PositionTooLow, TooLarge}
 use Rattle.uimg_fit_base.specs.declared.placement.AlignedPlacement.{AlignedPlacement}
 use Rattle.uimg_fit_base.specs.declared.placement.AlignedPlacement.TheVariants.{Inside, After, At}
-use Rattle.uimg_blob.specs.LookUps.{NodeOf, first, images, hashes}
+use Rattle.uimg_blob_reading.specs.LookUps.{NodeOf, first, images, hashes}
 use Rattle.uimg_fit_building.specs.Filling.{algo_in, filled}
 use Rattle.uimg_fit_building.specs.Building.{placed_blob, built}
 
@@ -31,7 +33,8 @@ abbrev pub fill_from : Option FitFault → Nodes → Result Nodes FitFault
 fill_from (Some f) t = Err f
 fill_from None t = Ok t
 
--- the filled tree, or the first of: no `images`; image by image, no `data`, a hash node of an unknown algorithm
+-- the filled tree, or the first of: no `images`; image by image, no `data`, a hash node of an
+-- unknown algorithm
 abbrev pub fill_of : ℕ → Nodes → Result Nodes FitFault
 fill_of time t = fill_from (fault_of (images t)) (filled time t)
 

@@ -1,12 +1,13 @@
 -- The same filling and placing where payloads stay in their files.
 use Rattle.std.specs.Prelude.{ℕ, List, Option}
-use Rattle.uimg_blob.specs.Plain.{NamedOf}
-use Rattle.uimg_tree.specs.Content.{Content, Unread, bytes, bytes_in, size_of}
+use Rattle.uimg_blob_reading.specs.Plain.{NamedOf}
+use Rattle.uimg_blob_writing.specs.Content.{Content, Unread, bytes, bytes_in, size_of}
 use Rattle.uimg_fit_base.specs.declared.placement.AlignedPlacement.{AlignedPlacement}
 use Rattle.uimg_fit_building.specs.Building.{padded_size_by, moved_own_by, moved_from_by, moved_by}
 use Rattle.uimg_fit_building.specs.Filling.{filled_by}
 
--- a tree with a time and its images' digests, where files have these bytes at their names: each file stays one
+-- a tree with a time and its images' digests, where files have these bytes at their names: each
+-- file stays one
 abbrev pub filled_unread : (List ℕ → Option (List ℕ)) → ℕ → Unread → Unread
 filled_unread files time t = filled_by (bytes_in files) bytes time t
 

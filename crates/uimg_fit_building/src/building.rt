@@ -2,11 +2,11 @@
 
 ghost use Rattle.std.specs.Prelude.{◌≡◌, IsTrue, OnOk, false};
 ghost use Rattle.uimg_base.specs.Device.{RisesIf};
-ghost use Rattle.uimg_tree.specs.Content.{AreKept, in_full};
-ghost use Rattle.uimg_tree.specs.Layouts.{plan_of, totalsize};
-ghost use Rattle.uimg_tree.specs.Trees.{node_of};
-ghost use Rattle.uimg_tree.specs.UsingFiles.{UsesFiles};
-ghost use Rattle.uimg_tree.specs.LentFiles.{IfHonest, IfComplete, IfSteady, IfInFull};
+ghost use Rattle.uimg_blob_writing.specs.Content.{AreKept, in_full};
+ghost use Rattle.uimg_blob_writing.specs.Layouts.{plan_of, totalsize};
+ghost use Rattle.uimg_blob_writing.specs.Trees.{node_of};
+ghost use Rattle.uimg_blob_writing.specs.UsingFiles.{UsesFiles};
+ghost use Rattle.uimg_blob_writing.specs.LentFiles.{IfHonest, IfComplete, IfSteady, IfInFull};
 ghost use Rattle.uimg_fit_building.specs.BuildAnswers.{is_no_file, is_before_writing, BuildsAnswer};
 ghost use Rattle.uimg_fit_building.specs.BuildSteps.{of_measure, of_writing, MeasuresTree, WritesText, Builds};
 ghost use Rattle.uimg_fit_building.specs.Building.{built};
@@ -26,9 +26,9 @@ use crate::building::placing::place;
 use std::alloc::Allocator;
 use std::io::Write;
 use uimg_base::{Files, Out, Source};
-use uimg_blob::BlobFault;
+use uimg_blob_reading::BlobFault;
+use uimg_blob_writing::{Layout, Tree, TreeFault, measure_by, write_tree};
 use uimg_fit_base::{AlignedPlacement, Fault, FitFault, Placement, WORD_ALIGNMENT};
-use uimg_tree::{Layout, Tree, TreeFault, measure_by, write_tree};
 
 // The fault of a tree that can't be measured.
 fn of_measure(fault: BlobFault) -> Fault

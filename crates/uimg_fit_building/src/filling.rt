@@ -3,13 +3,13 @@
 ghost use Rattle.std.specs.Prelude.{◌≡◌, codes, not, Some, IfOk, OnOk, false};
 ghost use Rattle.std.specs.List.{prefix_len};
 ghost use Rattle.std.specs.Str.{bytes_eq};
-ghost use Rattle.uimg_blob.specs.LookUps.{images, listed};
-ghost use Rattle.uimg_tree.specs.Content.{bytes, FilesAtData};
-ghost use Rattle.uimg_tree.specs.Encoding.{word};
+ghost use Rattle.uimg_blob_reading.specs.LookUps.{images, listed};
+ghost use Rattle.uimg_blob_writing.specs.Content.{bytes, FilesAtData};
+ghost use Rattle.uimg_blob_writing.specs.Encoding.{word};
 ghost use Rattle.uimg_fit_building.specs.Filling.{with, each, in_first};
-ghost use Rattle.uimg_tree.specs.Trees.{node_of, siblings};
-ghost use Rattle.uimg_tree.specs.UsingFiles.{UsesFiles};
-ghost use Rattle.uimg_tree.specs.LentFiles.{IfHonest, IfKept, IfComplete, IfSteady};
+ghost use Rattle.uimg_blob_writing.specs.Trees.{node_of, siblings};
+ghost use Rattle.uimg_blob_writing.specs.UsingFiles.{UsesFiles};
+ghost use Rattle.uimg_blob_writing.specs.LentFiles.{IfHonest, IfKept, IfComplete, IfSteady};
 ghost use Rattle.uimg_fit_building.specs.FillAnswers.{opens_no_file, fails_to_read, FillsAnswer};
 ghost use Rattle.uimg_fit_building.specs.ImageFillings.{filled_over, FillsParent, FillsBelow, images_among};
 ghost use Rattle.uimg_fit_building.specs.ImageSteps.{OpensImages, AnswersInOrder};
@@ -28,8 +28,8 @@ use crate::setting::{copied, with_value};
 use std::alloc::Allocator;
 use std::mem;
 use uimg_base::{Files, Source};
+use uimg_blob_writing::{Node, Nodes, Props, Tree, Value};
 use uimg_fit_base::FitFault;
-use uimg_tree::{Node, Nodes, Props, Tree, Value};
 
 // Properties with the time.
 fn with_time<A: Allocator + Copy>(

@@ -3,14 +3,14 @@
 ghost use Rattle.std.specs.Prelude.{◌≡◌, map, codes};
 ghost use Rattle.std.specs.Option.{option_map};
 ghost use Rattle.std.specs.Str.{bytes_eq};
-ghost use Rattle.uimg_blob.specs.LookUps.{first};
-ghost use Rattle.uimg_tree.specs.Properties.{content};
-ghost use Rattle.uimg_tree.specs.Trees.{node_of};
+ghost use Rattle.uimg_blob_reading.specs.LookUps.{first};
+ghost use Rattle.uimg_blob_writing.specs.Properties.{content};
+ghost use Rattle.uimg_blob_writing.specs.Trees.{node_of};
 ghost use Rattle.uimg_fit_building.specs.Behind.{entry, images_in};
 
 use crate::setting::first_value;
 use std::alloc::Allocator;
-use uimg_tree::{Node, Prop, Props, Value};
+use uimg_blob_writing::{Node, Prop, Props, Value};
 
 // Whether a property is named `data`.
 pub(crate) fn is_data<A: Allocator>(prop: &Prop<A>) -> bool

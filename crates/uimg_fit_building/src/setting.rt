@@ -4,15 +4,15 @@ ghost use Rattle.std.specs.Prelude.{◌≡◌, ◌≤◌, ◌++◌, ◌∷◌, [
 ghost use Rattle.std.specs.List.{list_any};
 ghost use Rattle.std.specs.Option.{option_map};
 ghost use Rattle.std.specs.Str.{bytes_eq};
-ghost use Rattle.uimg_blob.specs.LookUps.{first};
-ghost use Rattle.uimg_tree.specs.Content.{Content};
-ghost use Rattle.uimg_tree.specs.Properties.{content, property};
+ghost use Rattle.uimg_blob_reading.specs.LookUps.{first};
+ghost use Rattle.uimg_blob_writing.specs.Content.{Content};
+ghost use Rattle.uimg_blob_writing.specs.Properties.{content, property};
 ghost use Rattle.uimg_fit_building.specs.Filling.{with, external_names, without_external};
 ghost use Rattle.uimg_fit_building.specs.SettingSteps.{Makes};
 
 use std::alloc::Allocator;
+use uimg_blob_writing::{ByteList, Prop, Props, Value, copy_bytes};
 use uimg_fit_base::FitFault;
-use uimg_tree::{ByteList, Prop, Props, Value, copy_bytes};
 
 /// A copy of bytes.
 pub(crate) fn copied<A: Allocator>(alloc: A, bytes: &[u8]) -> Result<ByteList<A>, FitFault>

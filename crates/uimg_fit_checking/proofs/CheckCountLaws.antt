@@ -4,16 +4,16 @@ use Rattle.std.specs.List.{filter}
 use Rattle.std.specs.Option.{is_some}
 use Rattle.std.proofs.lemmas.List.{length-append}
 use Rattle.std.proofs.lemmas.List.Sums.{sum_by-cons}
-use Rattle.uimg_blob.specs.declared.nodes.Blob.{Blob}
-use Rattle.uimg_blob.specs.Grammar.{Siblings, none, node}
-use Rattle.uimg_blob.specs.Indexed.{IsIndexed}
-use Rattle.uimg_blob.specs.LookUps.{NodeOf, hashes, listed}
-use Rattle.uimg_blob.specs.Roles.{Level, top, in_images, level_after, is_hash}
-use Rattle.uimg_blob.specs.Rows.{Row, rows, size}
-use Rattle.uimg_blob.specs.Spots.{Spot, spot_of, spots}
-use Rattle.uimg_blob.specs.Standing.{Stand}
-use Rattle.uimg_blob.proofs.LookLaws.{length_rows}
-use Rattle.uimg_blob.proofs.PhaseLaws.{by_bool}
+use Rattle.uimg_blob_reading.specs.declared.nodes.Blob.{Blob}
+use Rattle.uimg_blob_reading.specs.Grammar.{Siblings, none, node}
+use Rattle.uimg_blob_reading.specs.Indexed.{IsIndexed}
+use Rattle.uimg_blob_reading.specs.LookUps.{NodeOf, hashes, listed}
+use Rattle.uimg_blob_reading.specs.Roles.{Level, top, in_images, level_after, is_hash}
+use Rattle.uimg_blob_reading.specs.Rows.{Row, rows, size}
+use Rattle.uimg_blob_reading.specs.Spots.{Spot, spot_of, spots}
+use Rattle.uimg_blob_reading.specs.Standing.{Stand}
+use Rattle.uimg_blob_reading.proofs.LookLaws.{length_rows}
+use Rattle.uimg_blob_reading.proofs.PhaseLaws.{by_bool}
 use Rattle.uimg_fit_checking.specs.Checks.{hash_count, name_or, unhashed_in}
 use Rattle.uimg_fit_reading.specs.Nodes.{AreFrom, IsNode, HashesAt, FirstHash}
 use Rattle.uimg_fit_reading.proofs.ImageLaws.{front, none_left, entries_size}

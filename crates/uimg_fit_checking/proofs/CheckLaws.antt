@@ -10,14 +10,14 @@ use Rattle.uimg_texts.specs.Slices.{slice}
 use Rattle.uimg_base.specs.Results.{◌>>=◌}
 use Rattle.uimg_base.specs.declared.source.SourceFault.{SourceFault}
 use Rattle.uimg_base.specs.declared.spans.Span.{Span}
-use Rattle.uimg_blob.specs.Blob.{tree}
-use Rattle.uimg_blob.specs.Counts.{index_cost, nodes_met, texts_met}
-use Rattle.uimg_blob.specs.Grammar.{Siblings}
-use Rattle.uimg_blob.specs.LookUps.{NodeOf, hashes, images}
-use Rattle.uimg_blob.specs.Reading.{Fault as BlobFaultAt}
-use Rattle.uimg_blob.specs.Roles.{in_images}
-use Rattle.uimg_blob.specs.Spots.{Spot, spots}
-use Rattle.uimg_blob.proofs.PhaseLaws.{true_false}
+use Rattle.uimg_blob_reading.specs.Blob.{tree}
+use Rattle.uimg_blob_reading.specs.Counts.{index_cost, nodes_met, texts_met}
+use Rattle.uimg_blob_reading.specs.Grammar.{Siblings}
+use Rattle.uimg_blob_reading.specs.LookUps.{NodeOf, hashes, images}
+use Rattle.uimg_blob_reading.specs.Reading.{Fault as BlobFaultAt}
+use Rattle.uimg_blob_reading.specs.Roles.{in_images}
+use Rattle.uimg_blob_reading.specs.Spots.{Spot, spots}
+use Rattle.uimg_blob_reading.proofs.PhaseLaws.{true_false}
 use Rattle.uimg_fit_base.specs.declared.algo_sets.AlgoSet.{AlgoSet}
 use Rattle.uimg_fit_base.specs.declared.fault.Fault.{Fault}
 use Rattle.uimg_fit_base.specs.declared.fault.Fault.TheVariants as of

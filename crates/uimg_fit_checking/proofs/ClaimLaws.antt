@@ -5,11 +5,11 @@ use Rattle.std.proofs.lemmas.Bool.{lt-ltb, le-ltb, ltb-false}
 use Rattle.uimg_texts.specs.Slices.{slice}
 use Rattle.uimg_base.proofs.Slices.{length-slice}
 use Rattle.uimg_base.specs.declared.spans.Span.{Span}
-use Rattle.uimg_blob.specs.Grammar.{Siblings}
-use Rattle.uimg_blob.specs.LookUps.{NodeOf}
-use Rattle.uimg_blob.specs.Roles.{in_images}
-use Rattle.uimg_blob.specs.Spots.{Spot}
-use Rattle.uimg_blob.proofs.PhaseLaws.{by_bool, true_false}
+use Rattle.uimg_blob_reading.specs.Grammar.{Siblings}
+use Rattle.uimg_blob_reading.specs.LookUps.{NodeOf}
+use Rattle.uimg_blob_reading.specs.Roles.{in_images}
+use Rattle.uimg_blob_reading.specs.Spots.{Spot}
+use Rattle.uimg_blob_reading.proofs.PhaseLaws.{by_bool, true_false}
 use Rattle.uimg_fit_base.specs.declared.fault.Fault.{Fault}
 use Rattle.uimg_fit_base.specs.declared.fault.Fault.TheVariants as of
 use Rattle.uimg_fit_base.specs.declared.fault.FitFault.{FitFault}

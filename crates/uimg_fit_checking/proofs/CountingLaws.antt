@@ -1,11 +1,11 @@
 -- The images that are counted, and those that are left.
 use Rattle.std.proofs.Common.{◌≡◌, ◌+◌, ◌≤◌, ◌<◌, IfSome, ℕ, List, ◌∷◌, length, Option, Some, None, Result, Ok, ap, subst, arith}
 use Rattle.uimg_base.specs.Results.{◌>>=◌}
-use Rattle.uimg_blob.specs.Blob.{tree}
-use Rattle.uimg_blob.specs.Grammar.{Siblings}
-use Rattle.uimg_blob.specs.LookUps.{NodeOf, images}
-use Rattle.uimg_blob.specs.Roles.{in_images, level_after}
-use Rattle.uimg_blob.specs.Spots.{Spot, spots}
+use Rattle.uimg_blob_reading.specs.Blob.{tree}
+use Rattle.uimg_blob_reading.specs.Grammar.{Siblings}
+use Rattle.uimg_blob_reading.specs.LookUps.{NodeOf, images}
+use Rattle.uimg_blob_reading.specs.Roles.{in_images, level_after}
+use Rattle.uimg_blob_reading.specs.Spots.{Spot, spots}
 use Rattle.uimg_fit_base.specs.declared.fault.Fault.{Fault}
 use Rattle.uimg_fit_base.proofs.FileLaws.{images_are}
 use Rattle.uimg_fit_checking.specs.Counting.{count_of}

@@ -8,20 +8,20 @@ use Rattle.uimg_base.specs.Device.{Device, SameDevice, RisesIf}
 use Rattle.uimg_base.specs.Held.{Held}
 use Rattle.uimg_base.specs.Using.{Uses, UsesAtMost}
 use Rattle.uimg_base.specs.declared.spans.Span.{Span}
-use Rattle.uimg_blob.specs.declared.nodes.Blob.{Blob}
-use Rattle.uimg_blob.specs.declared.places.PropertyPlace.{PropertyPlace}
-use Rattle.uimg_blob.specs.declared.properties.PropertiesFault.{PropertiesFault}
-use Rattle.uimg_blob.specs.declared.properties.PropertiesFault.TheVariants.{Read, OutOfMemory, Changed}
-use Rattle.uimg_blob.specs.Counts.{nops_met}
-use Rattle.uimg_blob.specs.Grammar.{Siblings}
-use Rattle.uimg_blob.specs.Indexed.{value_span}
-use Rattle.uimg_blob.specs.LookUps.{NodeOf, configurations}
-use Rattle.uimg_blob.specs.Plain.{NamedOf, with_value}
-use Rattle.uimg_blob.specs.Properties.{places_of, OfRowRead, TellsPlaces}
-use Rattle.uimg_blob.specs.Roles.{in_configurations}
-use Rattle.uimg_blob.specs.Rows.{Row}
-use Rattle.uimg_blob.specs.Spots.{Spot, spot_of, spots}
-use Rattle.uimg_blob.specs.Reading.{Fault as BlobFaultAt}
+use Rattle.uimg_blob_reading.specs.declared.nodes.Blob.{Blob}
+use Rattle.uimg_blob_reading.specs.declared.places.PropertyPlace.{PropertyPlace}
+use Rattle.uimg_blob_reading.specs.declared.properties.PropertiesFault.{PropertiesFault}
+use Rattle.uimg_blob_reading.specs.declared.properties.PropertiesFault.TheVariants.{Read, OutOfMemory, Changed}
+use Rattle.uimg_blob_reading.specs.Counts.{nops_met}
+use Rattle.uimg_blob_reading.specs.Grammar.{Siblings}
+use Rattle.uimg_blob_reading.specs.Indexed.{value_span}
+use Rattle.uimg_blob_reading.specs.LookUps.{NodeOf, configurations}
+use Rattle.uimg_blob_reading.specs.Plain.{NamedOf, with_value}
+use Rattle.uimg_blob_reading.specs.Properties.{places_of, OfRowRead, TellsPlaces}
+use Rattle.uimg_blob_reading.specs.Roles.{in_configurations}
+use Rattle.uimg_blob_reading.specs.Rows.{Row}
+use Rattle.uimg_blob_reading.specs.Spots.{Spot, spot_of, spots}
+use Rattle.uimg_blob_reading.specs.Reading.{Fault as BlobFaultAt}
 use Rattle.uimg_fit_base.specs.Files.{spots_in}
 use Rattle.uimg_fit_base.specs.declared.fault.Fault.TheVariants as of
 use Rattle.uimg_fit_checking.specs.FullSurvey.{properties_said, properties_in, properties_read, properties_of, read_properties, list_cost, properties_cost, ReadsAs, Tells, TellsProperties, TellsLists}

@@ -1,8 +1,8 @@
 -- What was gathered of nodes, and what is left of them.
 use Rattle.std.proofs.Common.{◌≡◌, ℕ, List, [], ◌∷◌, ◌++◌, map, Option, refl, ap, sym, ◌∙◌, append_assoc, append-nil}
 use Rattle.std.proofs.lemmas.List.{map-append}
-use Rattle.uimg_blob.specs.LookUps.{NodeOf}
-use Rattle.uimg_blob.specs.Spots.{Spot}
+use Rattle.uimg_blob_reading.specs.LookUps.{NodeOf}
+use Rattle.uimg_blob_reading.specs.Spots.{Spot}
 
 -- The facts of some nodes are gathered, and the others stand from a number on.
 pub record Gathered (F R : Type 0) (At : Option ℕ → List (NodeOf Spot) → Type 0) (read : F → R) (said : NodeOf Spot → R) (facts : List F) (next : Option ℕ) (all : List (NodeOf Spot)) : Type 0 where

@@ -15,11 +15,11 @@ use Rattle.uimg_sums.specs.AnySum.{padded_digest}
 use Rattle.uimg_texts.specs.Slices.{slice}
 use Rattle.uimg_base.specs.declared.spans.Span.{Span}
 use Rattle.uimg_base.proofs.Slices.{length-slice}
-use Rattle.uimg_blob.specs.Grammar.{Siblings}
-use Rattle.uimg_blob.specs.LookUps.{NodeOf, hashes}
-use Rattle.uimg_blob.specs.Roles.{in_images}
-use Rattle.uimg_blob.proofs.PhaseLaws.{true_false}
-use Rattle.uimg_blob.specs.Spots.{Spot}
+use Rattle.uimg_blob_reading.specs.Grammar.{Siblings}
+use Rattle.uimg_blob_reading.specs.LookUps.{NodeOf, hashes}
+use Rattle.uimg_blob_reading.specs.Roles.{in_images}
+use Rattle.uimg_blob_reading.proofs.PhaseLaws.{true_false}
+use Rattle.uimg_blob_reading.specs.Spots.{Spot}
 use Rattle.uimg_fit_base.specs.declared.algo_sets.AlgoSet.{AlgoSet}
 use Rattle.uimg_fit_base.specs.declared.fault.Fault.{Fault}
 use Rattle.uimg_fit_base.specs.declared.fault.Fault.TheVariants as of

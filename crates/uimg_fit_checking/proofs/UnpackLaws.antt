@@ -7,9 +7,9 @@ use Rattle.uimg_sums.specs.declared.algo.Algo.TheVariants.{Crc32, Md5, Sha1, Sha
 use Rattle.uimg_sums.specs.Algorithms.{digest_by}
 use Rattle.uimg_sums.specs.AnySum.{padded_digest}
 use Rattle.uimg_base.specs.declared.source.SourceFault.{SourceFault}
-use Rattle.uimg_blob.specs.LookUps.{NodeOf, hashes}
-use Rattle.uimg_blob.specs.Spots.{Spot}
-use Rattle.uimg_blob.proofs.PhaseLaws.{some_none, some_some}
+use Rattle.uimg_blob_reading.specs.LookUps.{NodeOf, hashes}
+use Rattle.uimg_blob_reading.specs.Spots.{Spot}
+use Rattle.uimg_blob_reading.proofs.PhaseLaws.{some_none, some_some}
 use Rattle.uimg_fit_base.specs.declared.algo_sets.AlgoSet.{AlgoSet}
 use Rattle.uimg_fit_base.specs.AlgoSets.{has, no_algos}
 use Rattle.uimg_fit_checking.specs.declared.wrong_hashes.WrongHash.{WrongHash}

@@ -1,11 +1,12 @@
 -- What a check of a FIT image finds.
-use Rattle.std.specs.Prelude.{⊤, ℕ, ◌+◌, ◌-◌, ◌≤◌, List, [], ◌∷◌, length, not, nat_lt, Bool, false, if◌then◌else◌, Option, Some, None, Result, Ok, Err}
+use Rattle.std.specs.Prelude.{⊤, ℕ, ◌+◌, ◌-◌, ◌≤◌, List, [], ◌∷◌, length, not, nat_lt, Bool, false}
+use Rattle.std.specs.Prelude.{if◌then◌else◌, Option, Some, None, Result, Ok, Err}
 use Rattle.std.specs.List.{sum_by}
 use Rattle.uimg_sums.specs.declared.algo.Algo.{Algo}
 use Rattle.uimg_texts.specs.Slices.{slice}
 use Rattle.uimg_base.specs.Results.{◌>>=◌}
-use Rattle.uimg_blob.specs.LookUps.{NodeOf, hashes}
-use Rattle.uimg_blob.specs.Spots.{Spot}
+use Rattle.uimg_blob_reading.specs.LookUps.{NodeOf, hashes}
+use Rattle.uimg_blob_reading.specs.Spots.{Spot}
 use Rattle.uimg_fit_base.specs.declared.fault.Fault.{Fault}
 use Rattle.uimg_fit_base.specs.declared.fault.Fault.TheVariants as of
 use Rattle.uimg_fit_base.specs.declared.fault.FitFault.{FitFault}
@@ -14,7 +15,9 @@ use Rattle.uimg_fit_base.specs.Files.{images_of}
 use Rattle.uimg_fit_base.specs.Places.{payload}
 use Rattle.uimg_fit_base.specs.Report.{word_of, is_right}
 use Rattle.uimg_fit_checking.specs.declared.checking.Finding.{Finding}
-use Rattle.uimg_fit_checking.specs.declared.checking.Finding.TheVariants.{Right, Unhashed, Wrong, Weak, Overlapping, NoImage}
+use Rattle.uimg_fit_checking.specs.declared.checking.Finding.TheVariants.{Right, Unhashed, Wrong}
+use Rattle.uimg_fit_checking.specs.declared.checking.Finding.TheVariants.{Weak, Overlapping}
+use Rattle.uimg_fit_checking.specs.declared.checking.Finding.TheVariants.{NoImage}
 use Rattle.uimg_fit_checking.specs.Vouching.{is_vouched}
 use Rattle.uimg_fit_reading.specs.Work.{own_meta, hashed}
 
@@ -35,7 +38,8 @@ pub data Told : Type 0 where
 abbrev pub told_of : List ℕ → Finding → Told
 told_of file (Right images nodes) = right images nodes
 told_of file (Unhashed image) = unhashed (slice file image.place image.length)
-told_of file (Wrong image hash word) = wrong (slice file image.place image.length) (slice file hash.place hash.length) word
+told_of file (Wrong image hash word) =
+    wrong (slice file image.place image.length) (slice file hash.place hash.length) word
 told_of file (Weak image) = weak (slice file image.place image.length)
 told_of file (Overlapping image) = overlapping (slice file image.place image.length)
 told_of file NoImage = no_image
@@ -44,7 +48,8 @@ told_of file NoImage = no_image
 abbrev pub EndsInside : ℕ → Finding → Type 0
 EndsInside size (Right images nodes) = ⊤
 EndsInside size (Unhashed image) = image.place + image.length ≤ size
-EndsInside size (Wrong image hash word) = (image.place + image.length ≤ size) × (hash.place + hash.length ≤ size)
+EndsInside size (Wrong image hash word) =
+    (image.place + image.length ≤ size) × (hash.place + hash.length ≤ size)
 EndsInside size (Weak image) = image.place + image.length ≤ size
 EndsInside size (Overlapping image) = image.place + image.length ≤ size
 EndsInside size NoImage = ⊤
@@ -53,7 +58,8 @@ EndsInside size NoImage = ⊤
 unfoldable pub wrong_in : List ℕ → List ℕ → List (NodeOf Spot) → Option Told
 wrong_in image message [] = None
 wrong_in image message (h ∷ hs) =
-    if is_right (word_of message h) then wrong_in image message hs else Some (wrong image h.name (word_of message h))
+    if is_right (word_of message h) then wrong_in image message hs else Some
+    (wrong image h.name (word_of message h))
 
 -- whether no hash node of an image is compared by an algorithm at least as strong as needed
 abbrev pub is_weak : Option Algo → NodeOf Spot → Bool
@@ -73,21 +79,25 @@ found_of need left image message =
     else or_weak (wrong_in image.name message (hashes image)) need image
 
 -- the same, or the fault of the payload
-abbrev pub image_told : Option Algo → ℕ → NodeOf Spot → Result (List ℕ) FitFault → Result (Option Told) Fault
+abbrev pub image_told : Option Algo → ℕ → NodeOf Spot → Result (List ℕ) FitFault
+    → Result (Option Told) Fault
 image_told need left image (Ok message) = Ok (found_of need left image message)
 image_told need left image (Err fault) = Err (of.Fit fault)
 
 -- the finding about an image, or else that about the others
-abbrev pub or_later : Result (Option Told) Fault → Result (Option Told) Fault → Result (Option Told) Fault
+abbrev pub or_later : Result (Option Told) Fault → Result (Option Told) Fault
+    → Result (Option Told) Fault
 or_later (Ok None) later = later
 or_later (Ok (Some told)) later = Ok (Some told)
 or_later (Err fault) later = Err fault
 
 -- The first finding about images, or the first fault. A payload that is read leaves fewer bytes.
-unfoldable pub first_told : Option Algo → List ℕ → ℕ → List (NodeOf Spot) → Result (Option Told) Fault
+unfoldable pub first_told : Option Algo → List ℕ → ℕ → List (NodeOf Spot)
+    → Result (Option Told) Fault
 first_told need file left [] = Ok None
 first_told need file left (image ∷ more) =
-    or_later (image_told need left image (payload file image)) (first_told need file (left - hashed image (payload file image)) more)
+    or_later (image_told need left image (payload file image))
+    (first_told need file (left - hashed image (payload file image)) more)
 
 -- how many hash nodes these images have
 abbrev pub hash_count : List (NodeOf Spot) → ℕ

@@ -13,19 +13,24 @@ use Rattle.uimg_fit_base.specs.declared.algo_sets.Digests.{Digests}
 use Rattle.uimg_fit_base.specs.AlgoSets.{set_of, AreDigests}
 
 -- Some bytes were fed to sums and appended to an output: of a range of the device, if it is honest.
-pub record TakesPieceBetween (d : Device) (at len : ℕ) (old new : Bundle) (s t : Sink) : Type 0 where
+pub record TakesPieceBetween (d : Device) (at len : ℕ) (old new : Bundle) (s t : Sink)
+    : Type 0 where
   pub piece : List ℕ
-  pub summed : (algos : List Algo) (fed : List ℕ) → Holds old algos fed → Holds new algos (fed ++ piece)
+  pub summed : (algos : List Algo) (fed : List ℕ) → Holds old algos fed
+      → Holds new algos (fed ++ piece)
   pub wrote : AppendsAll s t piece
   pub right : IsTrue d.honest → piece ≡ slice d.bytes at len
 
-abbrev pub TakesPiece : {S : Type 0} → (S → Device) → Lent S → ℕ → ℕ → Lent Bundle → Lent Sink → Type 0
+abbrev pub TakesPiece : {S : Type 0} → (S → Device) → Lent S → ℕ → ℕ → Lent Bundle → Lent Sink
+    → Type 0
 TakesPiece device source at len sums out =
-    TakesPieceBetween (device source.entry.now) at len sums.entry.now sums.exit.now out.entry.now out.exit.now
+    TakesPieceBetween (device source.entry.now) at len sums.entry.now sums.exit.now out.entry.now
+    out.exit.now
 
 -- The digests, by the algorithms of a set, of the bytes appended to an output: the payload at a
 -- span of the device, if it is honest.
-pub record TakesPayloadBetween (d : Device) (payload : Span) (algos : AlgoSet) (found : Digests) (s t : Sink) : Type 0 where
+pub record TakesPayloadBetween (d : Device) (payload : Span) (algos : AlgoSet) (found : Digests)
+    (s t : Sink) : Type 0 where
   -- what was read, whatever the source returned
   pub message : List ℕ
   pub set : set_of found ≡ algos
@@ -36,6 +41,7 @@ pub record TakesPayloadBetween (d : Device) (payload : Span) (algos : AlgoSet) (
   -- the payload in the file, if the source is honest
   pub right : IsTrue d.honest → message ≡ slice d.bytes payload.place payload.length
 
-abbrev pub TakesPayload : {S : Type 0} → (S → Device) → Lent S → Span → AlgoSet → Digests → Lent Sink → Type 0
+abbrev pub TakesPayload : {S : Type 0} → (S → Device) → Lent S → Span → AlgoSet → Digests
+    → Lent Sink → Type 0
 TakesPayload device source payload algos found out =
     TakesPayloadBetween (device source.entry.now) payload algos found out.entry.now out.exit.now

@@ -1,15 +1,16 @@
 -- A survey, and all properties of configurations (Devicetree Specification, section 5.4).
-use Rattle.std.specs.Prelude.{◌≡◌, ◌≤◌, ◌+◌, ◌*◌, ℕ, List, [], length, map, Option, Some, None, Result, Ok, Err, Vec, true}
+use Rattle.std.specs.Prelude.{◌≡◌, ◌≤◌, ◌+◌, ◌*◌, ℕ, List, [], length, map, Option, Some, None}
+use Rattle.std.specs.Prelude.{Result, Ok, Err, Vec, true}
 use Rattle.std.specs.List.{All, sum_by}
 use Rattle.uimg_base.specs.declared.spans.Span.{Span}
 use Rattle.uimg_base.specs.Device.{Device}
-use Rattle.uimg_blob.specs.declared.places.PropertyPlace.{PropertyPlace}
-use Rattle.uimg_blob.specs.Counts.{nops_met}
-use Rattle.uimg_blob.specs.Indexed.{value_span}
-use Rattle.uimg_blob.specs.LookUps.{NodeOf, listed, configurations}
-use Rattle.uimg_blob.specs.Places.{read_place, EndsBy}
-use Rattle.uimg_blob.specs.Plain.{NamedOf, NodesOf, with_value}
-use Rattle.uimg_blob.specs.Spots.{Spot}
+use Rattle.uimg_blob_reading.specs.declared.places.PropertyPlace.{PropertyPlace}
+use Rattle.uimg_blob_reading.specs.Counts.{nops_met}
+use Rattle.uimg_blob_reading.specs.Indexed.{value_span}
+use Rattle.uimg_blob_reading.specs.LookUps.{NodeOf, listed, configurations}
+use Rattle.uimg_blob_reading.specs.Places.{read_place, EndsBy}
+use Rattle.uimg_blob_reading.specs.Plain.{NamedOf, NodesOf, with_value}
+use Rattle.uimg_blob_reading.specs.Spots.{Spot}
 use Rattle.uimg_fit_base.specs.Files.{tree_of}
 use Rattle.uimg_fit_base.specs.declared.fault.Fault.{Fault}
 use Rattle.uimg_fit_checking.specs.SurveyParts.{SurveyInside, is_own}
@@ -67,14 +68,21 @@ ReadsAs read said (Ok x) = read x ≡ said
 ReadsAs read said (Err fault) = is_own fault ≡ true
 
 -- The same, and at most `cost` bytes more were requested.
-pub record Tells {X Y : Type 0} (read : X → Y) (said : Y) (cost : ℕ) (result : Result X SurveyFault) (old new : Device) : Type 0 where
+pub record Tells {X Y : Type 0} (read : X → Y) (said : Y) (cost : ℕ) (result : Result X SurveyFault)
+    (old new : Device) : Type 0 where
   pub told : ReadsAs read said result
   pub asked : new.asked ≤ old.asked + cost
 
 -- what a result says of the properties of one node
-abbrev pub TellsProperties : {Z : Type 0} → Device → Device → NodeOf Spot → Result (Vec PropertyPlace Z) SurveyFault → Type 0
-TellsProperties d e node result = Tells (read_properties d.bytes) (properties_said node) (list_cost (nops_met d.bytes) (properties_said node)) result d e
+abbrev pub TellsProperties : {Z : Type 0} → Device → Device → NodeOf Spot
+    → Result (Vec PropertyPlace Z) SurveyFault → Type 0
+TellsProperties d e node result =
+    Tells (read_properties d.bytes) (properties_said node)
+    (list_cost (nops_met d.bytes) (properties_said node)) result d e
 
 -- the same for several lists of properties
-abbrev pub TellsLists : {Z W : Type 0} → Device → Device → List (List (NamedOf Span)) → Result (Vec (Vec PropertyPlace Z) W) SurveyFault → Type 0
-TellsLists d e said result = Tells (λ lists. map (read_properties d.bytes) lists.items) said (sum_by (list_cost (nops_met d.bytes)) said) result d e
+abbrev pub TellsLists : {Z W : Type 0} → Device → Device → List (List (NamedOf Span))
+    → Result (Vec (Vec PropertyPlace Z) W) SurveyFault → Type 0
+TellsLists d e said result =
+    Tells (λ lists. map (read_properties d.bytes) lists.items) said
+    (sum_by (list_cost (nops_met d.bytes)) said) result d e

@@ -1,12 +1,13 @@
 -- The payload of an image, found by name.
-use Rattle.std.specs.Prelude.{◌≡◌, ℕ, List, [], ◌∷◌, Option, Some, None, Result, Ok, Err, if◌then◌else◌}
+use Rattle.std.specs.Prelude.{◌≡◌, ℕ, List, [], ◌∷◌, Option, Some, None, Result, Ok, Err}
+use Rattle.std.specs.Prelude.{if◌then◌else◌}
 use Rattle.std.specs.List.{slice_get}
 use Rattle.std.specs.Str.{bytes_eq}
 use Rattle.uimg_base.specs.Results.{◌>>=◌}
-use Rattle.uimg_blob.specs.Grammar.{Siblings}
-use Rattle.uimg_blob.specs.LookUps.{NodeOf, images}
-use Rattle.uimg_blob.specs.Roles.{in_images}
-use Rattle.uimg_blob.specs.Spots.{Spot, spots}
+use Rattle.uimg_blob_reading.specs.Grammar.{Siblings}
+use Rattle.uimg_blob_reading.specs.LookUps.{NodeOf, images}
+use Rattle.uimg_blob_reading.specs.Roles.{in_images}
+use Rattle.uimg_blob_reading.specs.Spots.{Spot, spots}
 use Rattle.uimg_fit_base.specs.declared.fault.Fault.{Fault}
 use Rattle.uimg_fit_base.specs.declared.fault.FitFault.{FitFault}
 use Rattle.uimg_fit_base.specs.declared.fault.FitFault.TheVariants.{NoImages, NoSuchImage}

@@ -1,13 +1,14 @@
 -- The facts of a FIT image, without payloads: the properties with a meaning (Flattened Image Tree
 -- format, "Root node", "'/images' node", "Hash nodes", "'/configurations' node").
-use Rattle.std.specs.Prelude.{◌≡◌, ℕ, List, [], map, codes, Option, Some, None, Result, Ok, IfOk, Vec}
+use Rattle.std.specs.Prelude.{◌≡◌, ℕ, List, [], map, codes, Option, Some, None, Result, Ok, IfOk}
+use Rattle.std.specs.Prelude.{Vec}
 use Rattle.uimg_texts.specs.Numbers.{be32}
 use Rattle.uimg_texts.specs.Slices.{slice}
 use Rattle.uimg_base.specs.Results.{◌>>=◌}
 use Rattle.uimg_base.specs.declared.spans.Span.{Span}
-use Rattle.uimg_blob.specs.LookUps.{NodeOf, listed, hashes, images, configurations}
-use Rattle.uimg_blob.specs.Plain.{NodesOf}
-use Rattle.uimg_blob.specs.Spots.{Spot}
+use Rattle.uimg_blob_reading.specs.LookUps.{NodeOf, listed, hashes, images, configurations}
+use Rattle.uimg_blob_reading.specs.Plain.{NodesOf}
+use Rattle.uimg_blob_reading.specs.Spots.{Spot}
 use Rattle.uimg_fit_base.specs.declared.fault.Fault.{Fault}
 use Rattle.uimg_fit_base.specs.Files.{tree_of, listed_or, root_own, bytes_of, bytes_in}
 use Rattle.uimg_fit_checking.specs.declared.surveying.facts.HashFacts.{HashFacts}
@@ -181,5 +182,7 @@ read_survey file survey = record {
 }
 
 -- The facts of a result, read in a file, are those of these nodes.
-abbrev pub Say : {X Y Z E : Type 0} → (List ℕ → X → Y) → (NodeOf Spot → Y) → Result (Vec X Z) E → List ℕ → List (NodeOf Spot) → Type 0
-Say read said result file found = IfOk result (λ facts. map (read file) facts.items ≡ map said found)
+abbrev pub Say : {X Y Z E : Type 0} → (List ℕ → X → Y) → (NodeOf Spot → Y) → Result (Vec X Z) E
+    → List ℕ → List (NodeOf Spot) → Type 0
+Say read said result file found =
+    IfOk result (λ facts. map (read file) facts.items ≡ map said found)

@@ -1,5 +1,6 @@
 -- What holds of a survey, besides its facts: where its spans end.
-use Rattle.std.specs.Prelude.{◌≡◌, ◌≤◌, ◌+◌, ℕ, ⊤, List, IfOk, IfSome, IfErr, Option, Result, Ok, Err, Bool, true, false, Vec}
+use Rattle.std.specs.Prelude.{◌≡◌, ◌≤◌, ◌+◌, ℕ, ⊤, List, IfOk, IfSome, IfErr, Option, Result, Ok}
+use Rattle.std.specs.Prelude.{Err, Bool, true, false, Vec}
 use Rattle.std.specs.List.{All}
 use Rattle.uimg_base.specs.Device.{Device}
 use Rattle.uimg_base.specs.Held.{Held}
@@ -12,9 +13,11 @@ use Rattle.uimg_fit_checking.specs.declared.surveying.facts.ImageFacts.{ImageFac
 use Rattle.uimg_fit_checking.specs.declared.surveying.facts.ConfigurationFacts.{ConfigurationFacts}
 use Rattle.uimg_fit_checking.specs.declared.surveying.facts.Survey.{Survey}
 use Rattle.uimg_fit_checking.specs.declared.surveying.fault.SurveyFault.{SurveyFault}
-use Rattle.uimg_fit_checking.specs.declared.surveying.fault.SurveyFault.TheVariants.{Stopped, OutOfMemory, Changed}
+use Rattle.uimg_fit_checking.specs.declared.surveying.fault.SurveyFault.TheVariants.{Stopped}
+use Rattle.uimg_fit_checking.specs.declared.surveying.fault.SurveyFault.TheVariants.{OutOfMemory}
+use Rattle.uimg_fit_checking.specs.declared.surveying.fault.SurveyFault.TheVariants.{Changed}
 use Rattle.uimg_fit_checking.specs.Survey.{read_survey, survey_of}
-use Rattle.uimg_blob.specs.Faults.{refuses_memory}
+use Rattle.uimg_blob_reading.specs.Faults.{refuses_memory}
 use Rattle.uimg_fit_base.specs.declared.fault.Fault.TheVariants as of
 
 -- A name ends within `size` bytes.
@@ -79,7 +82,8 @@ is_changed _ = false
 -- The result is the facts of the file or its first fault, unless a read or memory failed.
 abbrev pub Surveys : List ℕ → Result Survey SurveyFault → Type 0
 Surveys file (Ok survey) = survey_of file ≡ Ok (read_survey file survey)
-Surveys file (Err (Stopped (of.Blob fault at))) = refuses_memory fault ≡ false → survey_of file ≡ Err (of.Blob fault at)
+Surveys file (Err (Stopped (of.Blob fault at))) =
+    refuses_memory fault ≡ false → survey_of file ≡ Err (of.Blob fault at)
 Surveys file (Err (Stopped (of.Fit fault))) = survey_of file ≡ Err (of.Fit fault)
 Surveys file (Err (Stopped of.Read)) = ⊤
 Surveys file (Err (Stopped of.Put)) = ⊥
@@ -100,11 +104,14 @@ abbrev pub AllInside : {X Z E : Type 0} → (ℕ → X → Type 0) → Result (V
 AllInside Inside result size = IfOk result (λ found. All (Inside size) found.items)
 
 -- Source and room are unchanged, and a failure was counted exactly if it is returned.
-pub record LeavesSurveyBetween {X : Type 0} (result : Result X SurveyFault) (d e : Device) (old new : Held) : Type 0 where
+pub record LeavesSurveyBetween {X : Type 0} (result : Result X SurveyFault) (d e : Device)
+    (old new : Held) : Type 0 where
   pub uses : Uses (is_unread result) d e
   pub room : new ≡ old
   pub no_table : lacks_room result ≡ false
 
-abbrev pub LeavesSurvey : {S X : Type 0} → Result X SurveyFault → (S → Device) → Lent S → Lent Held → Type 0
+abbrev pub LeavesSurvey : {S X : Type 0} → Result X SurveyFault → (S → Device) → Lent S → Lent Held
+    → Type 0
 LeavesSurvey result device source room =
-    LeavesSurveyBetween result (device source.entry.now) (device source.exit.now) room.entry.now room.exit.now
+    LeavesSurveyBetween result (device source.entry.now) (device source.exit.now) room.entry.now
+    room.exit.now

@@ -1,5 +1,7 @@
 -- What becomes of the unpacked payloads of a FIT image.
-use Rattle.std.specs.Prelude.{◌≡◌, ⊤, ℕ, ◌+◌, ◌-◌, List, [], ◌∷◌, ◌++◌, length, take, nat_lt, Bool, true, false, if◌then◌else◌, Option, Some, None, Result, Ok, Err, IfSome}
+use Rattle.std.specs.Prelude.{◌≡◌, ⊤, ℕ, ◌+◌, ◌-◌, List, [], ◌∷◌, ◌++◌, length, take, nat_lt, Bool}
+use Rattle.std.specs.Prelude.{true, false, if◌then◌else◌, Option, Some, None, Result, Ok, Err}
+use Rattle.std.specs.Prelude.{IfSome}
 use Rattle.std.specs.List.{list_all}
 use Rattle.std.specs.Option.{option_map}
 use Rattle.std.specs.Str.{bytes_eq}
@@ -8,8 +10,8 @@ use Rattle.uimg_sums.specs.declared.algo.Algo.TheVariants.{Crc32, Md5, Sha1, Sha
 use Rattle.uimg_sums.specs.Algorithms.{digest_by}
 use Rattle.uimg_sums.specs.AnySum.{padded_digest}
 use Rattle.uimg_base.specs.Results.{◌>>=◌}
-use Rattle.uimg_blob.specs.LookUps.{NodeOf, hashes}
-use Rattle.uimg_blob.specs.Spots.{Spot}
+use Rattle.uimg_blob_reading.specs.LookUps.{NodeOf, hashes}
+use Rattle.uimg_blob_reading.specs.Spots.{Spot}
 use Rattle.uimg_fit_base.specs.declared.algo_sets.AlgoSet.{AlgoSet}
 use Rattle.uimg_fit_base.specs.declared.fault.Fault.{Fault}
 use Rattle.uimg_fit_base.specs.declared.fault.Fault.TheVariants as of
@@ -23,7 +25,7 @@ use Rattle.uimg_fit_checking.specs.declared.unpacking.taker.Refusal.{Refusal}
 use Rattle.uimg_fit_checking.specs.declared.unpacking.taker.Refusal.TheVariants.{Wrong, Weak}
 use Rattle.uimg_fit_checking.specs.declared.unpacking.Unpacked.{Unpacked}
 use Rattle.uimg_fit_checking.specs.declared.unpacking.Unpacked.TheVariants.{Taken, Overlapping}
-use Rattle.uimg_blob.specs.Faults.{refuses_memory}
+use Rattle.uimg_blob_reading.specs.Faults.{refuses_memory}
 use Rattle.uimg_fit_reading.specs.Work.{own_meta}
 use Rattle.uimg_fit_checking.specs.Checks.{Told, wrong, weak, wrong_in, or_weak}
 use Rattle.uimg_fit_reading.specs.Plans.{with_all}
@@ -49,26 +51,35 @@ AddsIf (Err fault) old new one = new ≡ old
 
 -- The digest that vouches for some bytes is theirs.
 abbrev pub IsVouched : List ℕ → Option Vouched → Type 0
-IsVouched bytes vouched = IfSome vouched (λ v. v.digest ≡ (padded_digest (digest_by v.algo bytes)).0)
+IsVouched bytes vouched =
+    IfSome vouched (λ v. v.digest ≡ (padded_digest (digest_by v.algo bytes)).0)
 
 -- the strongest algorithm of a set
 unfoldable pub strongest : AlgoSet → Option Algo
 strongest set =
-    if has set Sha512 then Some Sha512 else if has set Sha384 then Some Sha384 else if has set Sha256 then Some Sha256
-    else if has set Sha1 then Some Sha1 else if has set Md5 then Some Md5 else if has set Crc32 then Some Crc32 else None
+    if has set Sha512 then Some Sha512 else if has set Sha384 then Some Sha384 else if has set
+    Sha256 then Some Sha256
+    else if has set Sha1 then Some Sha1 else if has set Md5 then Some Md5 else if has set
+    Crc32 then Some Crc32 else None
 
 -- what vouches for bytes that are compared by the algorithms of a set
 abbrev pub vouched_by : AlgoSet → List ℕ → Option Vouched
-vouched_by set bytes = option_map (λ algo. record { algo = algo; digest = (padded_digest (digest_by algo bytes)).0 }) (strongest set)
+vouched_by set bytes =
+    option_map (λ algo. record {
+      algo = algo;
+      digest = (padded_digest (digest_by algo bytes)).0;
+    }) (strongest set)
 
 -- a payload is kept if there is no finding, else refused
 abbrev pub take_by : NodeOf Spot → List ℕ → Option Told → Take
-take_by image message None = kept image.name message (vouched_by (with_all no_algos (hashes image)) message)
+take_by image message None =
+    kept image.name message (vouched_by (with_all no_algos (hashes image)) message)
 take_by image message (Some told) = refused image.name told
 
 -- A payload is kept if each hash node of its image is right and its image is not weak.
 abbrev pub take_of : Option Algo → NodeOf Spot → List ℕ → Take
-take_of need image message = take_by image message (or_weak (wrong_in image.name message (hashes image)) need image)
+take_of need image message =
+    take_by image message (or_weak (wrong_in image.name message (hashes image)) need image)
 
 -- whether an image is requested: all are, or those of one name
 abbrev pub is_asked : Option (List ℕ) → List ℕ → Bool
@@ -84,20 +95,25 @@ bytes_or_none (Err fault) = []
 unfoldable pub takes : Option Algo → Option (List ℕ) → List ℕ → List (NodeOf Spot) → List Take
 takes need only file [] = []
 takes need only file (image ∷ more) =
-    if is_asked only image.name then take_of need image (bytes_or_none (payload file image)) ∷ takes need only file more
+    if is_asked only image.name then take_of need image (bytes_or_none (payload file image))
+    ∷ takes need only file more
     else takes need only file more
 
 -- whether a payload fits the bytes that may still be read, and then the other ones
-abbrev pub fits_before : List ℕ → ℕ → Result (List ℕ) FitFault → (ℕ → Result (Option (List ℕ)) FitFault) → Result (Option (List ℕ)) FitFault
-fits_before name left (Ok message) later = if nat_lt left (length message) then Ok (Some name) else later (left - length message)
+abbrev pub fits_before : List ℕ → ℕ → Result (List ℕ) FitFault
+    → (ℕ → Result (Option (List ℕ)) FitFault) → Result (Option (List ℕ)) FitFault
+fits_before name left (Ok message) later =
+    if nat_lt left (length message) then Ok (Some name) else later (left - length message)
 fits_before name left (Err fault) later = Err fault
 
 -- The name of the first requested image with which the payloads exceed the bytes that may be read,
 -- if there is one, or the fault of a payload before it.
-unfoldable pub overlapping : Option (List ℕ) → List ℕ → ℕ → List (NodeOf Spot) → Result (Option (List ℕ)) FitFault
+unfoldable pub overlapping : Option (List ℕ) → List ℕ → ℕ → List (NodeOf Spot)
+    → Result (Option (List ℕ)) FitFault
 overlapping only file left [] = Ok None
 overlapping only file left (image ∷ more) =
-    if is_asked only image.name then fits_before image.name left (payload file image) (λ rest. overlapping only file rest more)
+    if is_asked only image.name then fits_before image.name left (payload file image)
+    (λ rest. overlapping only file rest more)
     else overlapping only file left more
 
 -- The outcome of unpacking a file: payloads overlap, or what becomes of each.
@@ -114,8 +130,10 @@ told_or_fault (Ok found) ts = Ok (outcome found ts)
 told_or_fault (Err fault) ts = Err (of.Fit fault)
 
 -- the same for its images; as many bytes may be read as the file has
-abbrev pub images_unpacked : Option Algo → Option (List ℕ) → List ℕ → List (NodeOf Spot) → Result Outcome Fault
-images_unpacked need only file found = told_or_fault (overlapping only file (length file) found) (takes need only file found)
+abbrev pub images_unpacked : Option Algo → Option (List ℕ) → List ℕ → List (NodeOf Spot)
+    → Result Outcome Fault
+images_unpacked need only file found =
+    told_or_fault (overlapping only file (length file) found) (takes need only file found)
 
 -- the outcome for a file, or its first fault
 abbrev pub unpack_of : Option Algo → Option (List ℕ) → List ℕ → Result Outcome Fault
@@ -144,7 +162,8 @@ abbrev pub Unpacks : Result Unpacked Fault → Result Outcome Fault → List Tak
 Unpacks (Ok (Taken all)) (Ok (taken ts)) old new = (new ≡ old ++ ts) × (all ≡ list_all is_kept ts)
 Unpacks (Ok (Overlapping name)) (Ok (overlaps its)) old new = (bytes_of name ≡ its) × (new ≡ old)
 Unpacks (Ok found) told old new = ⊥
-Unpacks (Err (of.Blob fault at)) told old new = (refuses_memory fault ≡ false → told ≡ Err (of.Blob fault at)) × (new ≡ old)
+Unpacks (Err (of.Blob fault at)) told old new =
+    (refuses_memory fault ≡ false → told ≡ Err (of.Blob fault at)) × (new ≡ old)
 Unpacks (Err (of.Fit fault)) told old new = (told ≡ Err (of.Fit fault)) × (new ≡ old)
 Unpacks (Err of.Read) told old new = StopsIn told old new
 Unpacks (Err of.Put) told old new = StopsIn told old new

@@ -1,5 +1,6 @@
 -- Unpacking the payloads of a FIT image, one after the other.
-use Rattle.std.specs.Prelude.{◌≡◌, ⊤, ℕ, ◌+◌, ◌<◌, ◌≤◌, ◌*◌, List, [], ◌∷◌, ◌++◌, length, Bool, true, false, Option, None, Result, Ok, Err, IfOk}
+use Rattle.std.specs.Prelude.{◌≡◌, ⊤, ℕ, ◌+◌, ◌<◌, ◌≤◌, ◌*◌, List, [], ◌∷◌, ◌++◌, length, Bool}
+use Rattle.std.specs.Prelude.{true, false, Option, None, Result, Ok, Err, IfOk}
 use Rattle.std.specs.List.{list_all}
 use Rattle.std.specs.Option.{option_map}
 use Rattle.uimg_sums.specs.declared.algo.Algo.{Algo}
@@ -8,8 +9,8 @@ use Rattle.uimg_base.specs.Device.{Device}
 use Rattle.uimg_base.specs.Held.{Held}
 use Rattle.uimg_base.specs.Using.{Uses}
 use Rattle.uimg_base.specs.declared.source.SourceFault.{SourceFault}
-use Rattle.uimg_blob.specs.LookUps.{NodeOf, hashes}
-use Rattle.uimg_blob.specs.Spots.{Spot}
+use Rattle.uimg_blob_reading.specs.LookUps.{NodeOf, hashes}
+use Rattle.uimg_blob_reading.specs.Spots.{Spot}
 use Rattle.uimg_fit_base.specs.declared.fault.Fault.{Fault}
 use Rattle.uimg_fit_base.specs.declared.fault.Fault.TheVariants as of
 use Rattle.uimg_fit_base.specs.declared.fault.FitFault.{FitFault}
@@ -21,43 +22,57 @@ use Rattle.uimg_fit_checking.specs.declared.unpacking.taker.Refusal.{Refusal}
 use Rattle.uimg_fit_checking.specs.declared.unpacking.claims.Claim.{Claim}
 use Rattle.uimg_fit_checking.specs.declared.unpacking.claims.Claim.TheVariants.{Fits, Overlaps}
 use Rattle.uimg_fit_checking.specs.Checks.{wrong_in, or_weak}
-use Rattle.uimg_fit_checking.specs.Unpacking.{Take, GivenFirst, overlapping, is_asked, is_kept, told_of, bytes_of}
+use Rattle.uimg_fit_checking.specs.Unpacking.{Take, GivenFirst, overlapping, is_asked, is_kept}
+use Rattle.uimg_fit_checking.specs.Unpacking.{told_of, bytes_of}
 
 -- The refusal of a payload was found, if any; at most 351 bytes were requested for each hash node.
-pub record FindsRefusalBetween (need : Option Algo) (image : NodeOf Spot) (message : List ℕ) (asked new : ℕ) (result : Result (Option Refusal) SourceFault) : Type 0 where
-  pub told : IfOk result (λ found. option_map (told_of image.name) found ≡ or_weak (wrong_in image.name message (hashes image)) need image)
+pub record FindsRefusalBetween (need : Option Algo) (image : NodeOf Spot) (message : List ℕ)
+    (asked new : ℕ) (result : Result (Option Refusal) SourceFault) : Type 0 where
+  pub told : IfOk result
+      (λ found. option_map (told_of image.name) found
+      ≡ or_weak (wrong_in image.name message (hashes image)) need image)
   pub paid : new ≤ asked + 351 * length (hashes image)
 
-abbrev pub FindsRefusal : {S : Type 0} → Option Algo → NodeOf Spot → List ℕ → Result (Option Refusal) SourceFault → (S → Device) → Lent S → Type 0
-FindsRefusal need image message result device source = FindsRefusalBetween need image message (device source.entry.now).asked (device source.exit.now).asked result
+abbrev pub FindsRefusal : {S : Type 0} → Option Algo → NodeOf Spot → List ℕ
+    → Result (Option Refusal) SourceFault → (S → Device) → Lent S → Type 0
+FindsRefusal need image message result device source =
+    FindsRefusalBetween need image message (device source.entry.now).asked
+    (device source.exit.now).asked result
 
 -- Source and room are unchanged; the fault is neither refused memory nor one of building.
-pub record LeavesImageBetween {X : Type 0} (result : Result X Fault) (d e : Device) (old new : Held) : Type 0 where
+pub record LeavesImageBetween {X : Type 0} (result : Result X Fault) (d e : Device) (old new : Held)
+    : Type 0 where
   pub uses : Uses (is_read result) d e
   pub room : new ≡ old
   pub memory : is_out_of_memory result ≡ false
   pub no_making : is_of_making result ≡ false
 
-abbrev pub LeavesImage : {S X : Type 0} → Result X Fault → (S → Device) → Lent S → Lent Held → Type 0
+abbrev pub LeavesImage : {S X : Type 0} → Result X Fault → (S → Device) → Lent S → Lent Held
+    → Type 0
 LeavesImage result device source room =
-    LeavesImageBetween result (device source.entry.now) (device source.exit.now) room.entry.now room.exit.now
+    LeavesImageBetween result (device source.entry.now) (device source.exit.now) room.entry.now
+    room.exit.now
 
 -- The same, and the fault is not a failed write.
-pub record ReadsOrRefusesBetween {X : Type 0} (result : Result X Fault) (d e : Device) (old new : Held) : Type 0 where
+pub record ReadsOrRefusesBetween {X : Type 0} (result : Result X Fault) (d e : Device)
+    (old new : Held) : Type 0 where
   pub uses : Uses (is_read result) d e
   pub room : new ≡ old
   pub no_put : is_put result ≡ false
   pub memory : is_out_of_memory result ≡ false
   pub no_making : is_of_making result ≡ false
 
-abbrev pub ReadsOrRefuses : {S X : Type 0} → Result X Fault → (S → Device) → Lent S → Lent Held → Type 0
+abbrev pub ReadsOrRefuses : {S X : Type 0} → Result X Fault → (S → Device) → Lent S → Lent Held
+    → Type 0
 ReadsOrRefuses result device source room =
-    ReadsOrRefusesBetween result (device source.entry.now) (device source.exit.now) room.entry.now room.exit.now
+    ReadsOrRefusesBetween result (device source.entry.now) (device source.exit.now) room.entry.now
+    room.exit.now
 
 -- What a claim says of an image's payload, if `left` bytes may be read.
 abbrev pub ClaimsTo : List ℕ → ℕ → Result Claim Fault → Result (List ℕ) FitFault → Type 0
 ClaimsTo name left (Ok (Fits rest)) (Ok message) = rest + length message ≡ left
-ClaimsTo name left (Ok (Overlaps its)) (Ok message) = (left < length message) × (bytes_of its ≡ name)
+ClaimsTo name left (Ok (Overlaps its)) (Ok message) =
+    (left < length message) × (bytes_of its ≡ name)
 ClaimsTo name left (Ok claim) (Err fault) = ⊥
 ClaimsTo name left (Err (of.Fit fault)) payload = payload ≡ Err fault
 ClaimsTo name left (Err (of.Blob fault at)) payload = ⊥
@@ -66,15 +81,20 @@ ClaimsTo name left (Err fault) payload = ⊤
 -- The same for an image that may not be requested.
 abbrev pub ClaimsIf : Bool → List ℕ → ℕ → Result Claim Fault → Result (List ℕ) FitFault → Type 0
 ClaimsIf true name left result payload = ClaimsTo name left result payload
-ClaimsIf false name left result payload = IfOk result (λ claim. claim ≡ Fits left) × (is_refused result ≡ false)
+ClaimsIf false name left result payload =
+    IfOk result (λ claim. claim ≡ Fits left) × (is_refused result ≡ false)
 
 -- An image was claimed; its name and the span of its payload took at most 267 bytes.
-pub record ClaimsImageBetween (file : List ℕ) (only : Option (List ℕ)) (left : ℕ) (image : NodeOf Spot) (asked new : ℕ) (result : Result Claim Fault) : Type 0 where
+pub record ClaimsImageBetween (file : List ℕ) (only : Option (List ℕ)) (left : ℕ)
+    (image : NodeOf Spot) (asked new : ℕ) (result : Result Claim Fault) : Type 0 where
   pub told : ClaimsIf (is_asked only image.name) image.name left result (payload file image)
   pub paid : new ≤ asked + 267
 
-abbrev pub ClaimsImage : {S : Type 0} → Option (List ℕ) → ℕ → NodeOf Spot → Result Claim Fault → (S → Device) → Lent S → Type 0
-ClaimsImage only left image result device source = ClaimsImageBetween (device source.entry.now).bytes only left image (device source.entry.now).asked (device source.exit.now).asked result
+abbrev pub ClaimsImage : {S : Type 0} → Option (List ℕ) → ℕ → NodeOf Spot → Result Claim Fault
+    → (S → Device) → Lent S → Type 0
+ClaimsImage only left image result device source =
+    ClaimsImageBetween (device source.entry.now).bytes only left image
+    (device source.entry.now).asked (device source.exit.now).asked result
 
 -- what claiming all images returns, by the definition
 abbrev pub ClaimsAll : Result (Option (List ℕ)) FitFault → Result (Option NodeName) Fault → Type 0
@@ -84,19 +104,24 @@ ClaimsAll told (Err (of.Blob fault at)) = ⊥
 ClaimsAll told (Err fault) = ⊤
 
 -- The images were claimed, up to the first with which payloads overlap.
-pub record ClaimsImagesBetween (file : List ℕ) (only : Option (List ℕ)) (found : List (NodeOf Spot)) (asked new : ℕ) (result : Result (Option NodeName) Fault) : Type 0 where
+pub record ClaimsImagesBetween (file : List ℕ) (only : Option (List ℕ)) (found : List (NodeOf Spot))
+    (asked new : ℕ) (result : Result (Option NodeName) Fault) : Type 0 where
   pub told : ClaimsAll (overlapping only file (length file) found) result
   pub paid : new ≤ asked + 267 * length found
 
-abbrev pub ClaimsImages : {S : Type 0} → Option (List ℕ) → List (NodeOf Spot) → Result (Option NodeName) Fault → (S → Device) → Lent S → Type 0
-ClaimsImages only found result device source = ClaimsImagesBetween (device source.entry.now).bytes only found (device source.entry.now).asked (device source.exit.now).asked result
+abbrev pub ClaimsImages : {S : Type 0} → Option (List ℕ) → List (NodeOf Spot)
+    → Result (Option NodeName) Fault → (S → Device) → Lent S → Type 0
+ClaimsImages only found result device source =
+    ClaimsImagesBetween (device source.entry.now).bytes only found (device source.entry.now).asked
+    (device source.exit.now).asked result
 
 -- the most bytes requested for an image besides its payload, its name and its span
 abbrev pub take_allowance : NodeOf Spot → ℕ
 take_allowance image = 493 + allowance image.below
 
 -- What a result says of an image that was taken, or passed over if it is not requested.
-abbrev pub TakesTo : Bool → Take → Result Bool Fault → Result (List ℕ) FitFault → List Take → List Take → Type 0
+abbrev pub TakesTo : Bool → Take → Result Bool Fault → Result (List ℕ) FitFault → List Take
+    → List Take → Type 0
 TakesTo true one (Ok all) payload old new = (new ≡ old ++ one ∷ []) × (all ≡ is_kept one)
 TakesTo false one (Ok all) payload old new = (new ≡ old) × (all ≡ true)
 TakesTo true one (Err (of.Fit fault)) payload old new = (new ≡ old) × (payload ≡ Err fault)

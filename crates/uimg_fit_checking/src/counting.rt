@@ -1,7 +1,7 @@
 //! Counts the images of a FIT image in memory.
 
 ghost use Rattle.std.specs.Prelude.{◌≡◌, ◌<◌, length};
-ghost use Rattle.uimg_blob.specs.Roles.{in_images};
+ghost use Rattle.uimg_blob_reading.specs.Roles.{in_images};
 ghost use Rattle.uimg_fit_base.specs.Faults.{Gives};
 ghost use Rattle.uimg_fit_checking.specs.Counting.{count_of};
 ghost use Rattle.uimg_fit_reading.specs.Puts.{IfHonest};
@@ -10,7 +10,7 @@ ghost use Rattle.uimg_fit_reading.specs.Nodes.{IsEntryOrNone, InTreeFrom};
 
 use std::alloc::Allocator;
 use uimg_base::{MemSource, Room, Source};
-use uimg_blob::Blob;
+use uimg_blob_reading::Blob;
 use uimg_fit_base::Fault;
 use uimg_fit_reading::images::first_image;
 use uimg_fit_reading::nodes::next_of;

@@ -3,10 +3,10 @@
 ghost use Rattle.std.specs.Prelude.{◌≡◌, ◌+◌, ◌<◌, ◌≤◌, false, length, IsTrue, IfErr, IfOk};
 ghost use Rattle.std.specs.Str.{bytes_eq};
 ghost use Rattle.uimg_texts.specs.Slices.{slice};
-ghost use Rattle.uimg_blob.specs.Grammar.{Siblings};
-ghost use Rattle.uimg_blob.specs.LookUps.{NodeOf};
-ghost use Rattle.uimg_blob.specs.Roles.{in_images};
-ghost use Rattle.uimg_blob.specs.Spots.{Spot};
+ghost use Rattle.uimg_blob_reading.specs.Grammar.{Siblings};
+ghost use Rattle.uimg_blob_reading.specs.LookUps.{NodeOf};
+ghost use Rattle.uimg_blob_reading.specs.Roles.{in_images};
+ghost use Rattle.uimg_blob_reading.specs.Spots.{Spot};
 ghost use Rattle.uimg_fit_base.specs.Faults.{of_making, Gives};
 ghost use Rattle.uimg_fit_checking.specs.Named.{TellsNamed, name_at, payload_named};
 ghost use Rattle.uimg_fit_reading.specs.Nodes.{InFile, IsNode, IsRead};
@@ -16,7 +16,7 @@ ghost use Rattle.uimg_fit_reading.specs.Puts.{IfHonest};
 
 use std::alloc::Allocator;
 use uimg_base::{MemSource, Room, Source, Span};
-use uimg_blob::Blob;
+use uimg_blob_reading::Blob;
 use uimg_fit_base::{Fault, FitFault};
 use uimg_fit_reading::images::{first_image, image_at};
 use uimg_fit_reading::nodes::{name_of, next_of};

@@ -1,11 +1,11 @@
 //! Surveys a FIT image: collects where its facts are, without its payloads.
 
 ghost use Rattle.std.specs.Prelude.{◌≡◌, ◌+◌, ◌<◌, ℕ, List, length, false, IsTrue, IfOk};
-ghost use Rattle.uimg_blob.specs.Counts.{index_cost};
-ghost use Rattle.uimg_blob.specs.Grammar.{Siblings};
-ghost use Rattle.uimg_blob.specs.LookUps.{NodeOf, images, configurations};
-ghost use Rattle.uimg_blob.specs.Roles.{in_images};
-ghost use Rattle.uimg_blob.specs.Spots.{Spot, spots};
+ghost use Rattle.uimg_blob_reading.specs.Counts.{index_cost};
+ghost use Rattle.uimg_blob_reading.specs.Grammar.{Siblings};
+ghost use Rattle.uimg_blob_reading.specs.LookUps.{NodeOf, images, configurations};
+ghost use Rattle.uimg_blob_reading.specs.Roles.{in_images};
+ghost use Rattle.uimg_blob_reading.specs.Spots.{Spot, spots};
 ghost use Rattle.uimg_fit_reading.specs.Nodes.{Indexed, IsRead, AreFrom, IsEntryOrNone, InAnyFile};
 ghost use Rattle.uimg_fit_checking.specs.FullSurvey.{properties_of, properties_cost, read_properties, FullInside, survey_in};
 ghost use Rattle.uimg_fit_reading.specs.Rooms.{TakesNodes, UsesWithin};
@@ -29,7 +29,7 @@ pub use facts::{ConfigurationFacts, FullSurvey, HashFacts, ImageFacts, Survey};
 pub use fault::SurveyFault;
 use std::alloc::{AllocError, Allocator, Global};
 use uimg_base::{Room, Source, Span};
-use uimg_blob::{Blob, Key};
+use uimg_blob_reading::{Blob, Key};
 use uimg_fit_reading::images::first_image;
 use uimg_fit_reading::nodes::{child_of, configurations_of, root_value, value_of};
 use uimg_fit_reading::read_tree;

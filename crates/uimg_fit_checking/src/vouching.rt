@@ -3,7 +3,7 @@ ghost use Rattle.std.specs.Prelude.{◌≡◌, IfOk, is_err, not, false, IsTrue,
 ghost use Rattle.std.specs.List.{list_all};
 ghost use Rattle.std.specs.Option.{option_map_or};
 ghost use Rattle.uimg_base.specs.Using.{Uses};
-ghost use Rattle.uimg_blob.specs.Roles.{in_images};
+ghost use Rattle.uimg_blob_reading.specs.Roles.{in_images};
 ghost use Rattle.uimg_fit_base.specs.Faults.{Gives};
 ghost use Rattle.uimg_fit_reading.specs.Nodes.{OfNodes, HasNodes};
 ghost use Rattle.uimg_fit_checking.specs.Vouching.{has_from, is_vouched, vouched_in};
@@ -11,7 +11,7 @@ ghost use Rattle.uimg_fit_reading.specs.Rooms.{ReadsAny, ReadsInMemory};
 
 use std::alloc::Allocator;
 use uimg_base::{Algo, MemSource, Room, Source, SourceFault};
-use uimg_blob::Blob;
+use uimg_blob_reading::Blob;
 use uimg_fit_base::{AlgoSet, Fault};
 use uimg_fit_reading::images::first_image;
 use uimg_fit_reading::nodes::{first_hash, next_of};

@@ -10,7 +10,7 @@ ghost use Rattle.uimg_fit_reading.specs.Nodes.{OfHashes, HasNodes};
 use crate::checking::Finding;
 use std::alloc::Allocator;
 use uimg_base::{Room, Source, SourceFault, Span};
-use uimg_blob::Blob;
+use uimg_blob_reading::Blob;
 use uimg_fit_base::{Digests, Verdict, is_right};
 use uimg_fit_reading::judge;
 use uimg_fit_reading::nodes::{name_of, next_hash};

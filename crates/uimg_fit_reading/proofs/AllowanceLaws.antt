@@ -4,13 +4,13 @@ use Rattle.std.specs.List.{sum_by, count_by}
 use Rattle.std.specs.Result.{IfOk}
 use Rattle.std.proofs.lemmas.List.Sums.{sum_by-cons}
 use Rattle.uimg_base.specs.Results.{◌>>=◌}
-use Rattle.uimg_blob.specs.declared.fault.BlobFault.{BlobFault}
-use Rattle.uimg_blob.specs.Reading.{Fault}
-use Rattle.uimg_blob.specs.Tokens.{Property, Token, Blocks, begin_node, end_node, prop, nop, last, stray, tokens}
-use Rattle.uimg_blob.specs.Grammar.{Siblings, none, node, properties, end, inside, children, ended, root, without_nops}
-use Rattle.uimg_blob.specs.Blob.{blocks, tree, met_in, met_from}
-use Rattle.uimg_blob.specs.Counts.{is_begin, text_length, begun_by, sound_in, nodes_met, texts_met}
-use Rattle.uimg_blob.specs.Spots.{spot_of, spots}
+use Rattle.uimg_blob_reading.specs.declared.fault.BlobFault.{BlobFault}
+use Rattle.uimg_blob_reading.specs.Reading.{Fault}
+use Rattle.uimg_blob_reading.specs.Tokens.{Property, Token, Blocks, begin_node, end_node, prop, nop, last, stray, tokens}
+use Rattle.uimg_blob_reading.specs.Grammar.{Siblings, none, node, properties, end, inside, children, ended, root, without_nops}
+use Rattle.uimg_blob_reading.specs.Blob.{blocks, tree, met_in, met_from}
+use Rattle.uimg_blob_reading.specs.Counts.{is_begin, text_length, begun_by, sound_in, nodes_met, texts_met}
+use Rattle.uimg_blob_reading.specs.Spots.{spot_of, spots}
 use Rattle.uimg_fit_reading.specs.Allowances.{text_size, text_sizes, allowance}
 
 -- what a token leaves

@@ -4,7 +4,7 @@ use Rattle.std.specs.Int.{from_be_bytes, w32}
 use Rattle.std.proofs.lemmas.Bool.{eqb-true}
 use Rattle.std.proofs.lemmas.List.{take_all}
 use Rattle.uimg_texts.specs.Numbers.{be32}
-use Rattle.uimg_blob.proofs.PhaseLaws.{by_bool}
+use Rattle.uimg_blob_reading.proofs.PhaseLaws.{by_bool}
 use Rattle.uimg_fit_base.specs.Files.{number}
 
 -- a value of four bytes has their number

@@ -6,12 +6,12 @@ use Rattle.std.specs.Str.{bytes_eq}
 use Rattle.uimg_sums.specs.declared.algo.Algo.{Algo}
 use Rattle.uimg_sums.specs.declared.algo.Algo.TheVariants.{Crc32, Md5, Sha1, Sha256, Sha384, Sha512}
 use Rattle.uimg_sums.specs.Algorithms.{algo_named, digest_size, digest_by}
-use Rattle.uimg_blob.specs.declared.keys.Key.TheVariants as key
-use Rattle.uimg_blob.specs.Indexed.{keeps, value_span}
-use Rattle.uimg_blob.specs.LookUps.{NodeOf, first}
-use Rattle.uimg_blob.specs.Roles.{in_image, is_hash, role_at}
-use Rattle.uimg_blob.specs.Spots.{Spot}
-use Rattle.uimg_blob.proofs.PhaseLaws.{by_bool, true_false}
+use Rattle.uimg_blob_reading.specs.declared.keys.Key.TheVariants as key
+use Rattle.uimg_blob_reading.specs.Indexed.{keeps, value_span}
+use Rattle.uimg_blob_reading.specs.LookUps.{NodeOf, first}
+use Rattle.uimg_blob_reading.specs.Roles.{in_image, is_hash, role_at}
+use Rattle.uimg_blob_reading.specs.Spots.{Spot}
+use Rattle.uimg_blob_reading.proofs.PhaseLaws.{by_bool, true_false}
 use Rattle.uimg_fit_base.specs.declared.algo_sets.AlgoSet.{AlgoSet}
 use Rattle.uimg_sums.specs.Bundle.{padded_digests}
 use Rattle.uimg_fit_base.specs.declared.algo_sets.Digests.{Digests}

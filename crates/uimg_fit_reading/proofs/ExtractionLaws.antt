@@ -15,13 +15,13 @@ use Rattle.uimg_base.specs.declared.ranges.MoveFault.TheVariants as move
 use Rattle.uimg_base.specs.declared.status.Status.{Status}
 use Rattle.uimg_base.proofs.SinkLaws.{Appends-none, prefix_none}
 use Rattle.uimg_base.proofs.Slices.{length-slice}
-use Rattle.uimg_blob.specs.Faults.{refuses_memory}
-use Rattle.uimg_blob.proofs.PhaseLaws.{by_bool}
-use Rattle.uimg_blob.specs.Blob.{tree}
-use Rattle.uimg_blob.specs.Grammar.{Siblings}
-use Rattle.uimg_blob.specs.Roles.{in_images}
-use Rattle.uimg_blob.specs.LookUps.{NodeOf}
-use Rattle.uimg_blob.specs.Spots.{Spot}
+use Rattle.uimg_blob_reading.specs.Faults.{refuses_memory}
+use Rattle.uimg_blob_reading.proofs.PhaseLaws.{by_bool}
+use Rattle.uimg_blob_reading.specs.Blob.{tree}
+use Rattle.uimg_blob_reading.specs.Grammar.{Siblings}
+use Rattle.uimg_blob_reading.specs.Roles.{in_images}
+use Rattle.uimg_blob_reading.specs.LookUps.{NodeOf}
+use Rattle.uimg_blob_reading.specs.Spots.{Spot}
 use Rattle.uimg_base.specs.declared.spans.Span.{Span}
 use Rattle.uimg_fit_base.specs.declared.fault.Fault.{Fault}
 use Rattle.uimg_fit_base.specs.declared.fault.Fault.TheVariants.{Blob as OfBlob, Fit, Read, Put}

@@ -4,24 +4,24 @@ use Rattle.std.specs.List.{slice_get}
 use Rattle.std.specs.Option.{option_map}
 use Rattle.std.specs.Str.{bytes_eq}
 use Rattle.std.proofs.lemmas.Slice.Eq.{bytes_eq-Decides}
-use Rattle.uimg_blob.specs.declared.keys.Key.TheVariants.{Default}
+use Rattle.uimg_blob_reading.specs.declared.keys.Key.TheVariants.{Default}
 use Rattle.std.proofs.Math.ListN.{length-map}
 use Rattle.std.proofs.Math.Nat.{suc-ne-zero}
 use Rattle.std.proofs.lemmas.List.{length-drop, drop-drop}
 use Rattle.std.proofs.lemmas.Option.{slice_get_within, slice_get_past}
-use Rattle.uimg_blob.specs.declared.nodes.Blob.{Blob}
-use Rattle.uimg_blob.specs.Grammar.{Siblings, none, node}
-use Rattle.uimg_blob.specs.Roles.{Level, role_at, level_in, level_after, in_root, in_images, in_configurations, is_images, is_configurations}
-use Rattle.uimg_blob.specs.Rows.{Row, first_of, table, size, child_number}
-use Rattle.uimg_blob.specs.Kept.{kept_of, entry_of}
-use Rattle.uimg_blob.specs.Standing.{Stand}
-use Rattle.uimg_blob.specs.Indexed.{IsIndexed, IsRow, keeps}
-use Rattle.uimg_blob.specs.LookUps.{NodeOf, listed, images, configurations}
-use Rattle.uimg_blob.specs.Spots.{Spot, spot_of, spots}
-use Rattle.uimg_blob.proofs.LookLaws.{length_rows}
-use Rattle.uimg_blob.proofs.PhaseLaws.{some_none, some_some}
-use Rattle.uimg_blob.proofs.SoFarLaws.{length_kept}
-use Rattle.uimg_blob.proofs.StandLaws.{row_of, row_stands, below_stand, after_stand, images_stand, no_images, configurations_stand, no_configurations}
+use Rattle.uimg_blob_reading.specs.declared.nodes.Blob.{Blob}
+use Rattle.uimg_blob_reading.specs.Grammar.{Siblings, none, node}
+use Rattle.uimg_blob_reading.specs.Roles.{Level, role_at, level_in, level_after, in_root, in_images, in_configurations, is_images, is_configurations}
+use Rattle.uimg_blob_reading.specs.Rows.{Row, first_of, table, size, child_number}
+use Rattle.uimg_blob_reading.specs.Kept.{kept_of, entry_of}
+use Rattle.uimg_blob_reading.specs.Standing.{Stand}
+use Rattle.uimg_blob_reading.specs.Indexed.{IsIndexed, IsRow, keeps}
+use Rattle.uimg_blob_reading.specs.LookUps.{NodeOf, listed, images, configurations}
+use Rattle.uimg_blob_reading.specs.Spots.{Spot, spot_of, spots}
+use Rattle.uimg_blob_reading.proofs.LookLaws.{length_rows}
+use Rattle.uimg_blob_reading.proofs.PhaseLaws.{some_none, some_some}
+use Rattle.uimg_blob_reading.proofs.SoFarLaws.{length_kept}
+use Rattle.uimg_blob_reading.proofs.StandLaws.{row_of, row_stands, below_stand, after_stand, images_stand, no_images, configurations_stand, no_configurations}
 use Rattle.uimg_fit_reading.specs.Nodes.{HasImages, HasImage, LacksImage, AreFrom, IsNode, HasConfigurations, TellsConfigurations}
 
 -- each node has an entry

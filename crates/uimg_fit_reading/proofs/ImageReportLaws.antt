@@ -11,12 +11,12 @@ use Rattle.uimg_base.specs.declared.ranges.MoveFault.{MoveFault}
 use Rattle.uimg_base.specs.declared.status.Status.{Status}
 use Rattle.uimg_base.proofs.OutcomeLaws.{Tells-after}
 use Rattle.uimg_base.proofs.SinkLaws.{Appends-none, prefix_first, prefix_none}
-use Rattle.uimg_blob.specs.Grammar.{Siblings}
-use Rattle.uimg_blob.specs.LookUps.{NodeOf, hashes}
-use Rattle.uimg_blob.specs.Roles.{in_images}
-use Rattle.uimg_blob.specs.Spots.{Spot}
-use Rattle.uimg_blob.proofs.PhaseLaws.{true_false}
-use Rattle.uimg_blob.specs.Faults.{refuses_memory}
+use Rattle.uimg_blob_reading.specs.Grammar.{Siblings}
+use Rattle.uimg_blob_reading.specs.LookUps.{NodeOf, hashes}
+use Rattle.uimg_blob_reading.specs.Roles.{in_images}
+use Rattle.uimg_blob_reading.specs.Spots.{Spot}
+use Rattle.uimg_blob_reading.proofs.PhaseLaws.{true_false}
+use Rattle.uimg_blob_reading.specs.Faults.{refuses_memory}
 use Rattle.uimg_fit_base.specs.declared.fault.Fault.{Fault}
 use Rattle.uimg_fit_base.specs.declared.fault.Fault.TheVariants.{Blob as OfBlob, Fit, Read, Put}
 use Rattle.uimg_fit_base.specs.declared.fault.FitFault.{FitFault}

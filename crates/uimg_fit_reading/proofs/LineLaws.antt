@@ -9,8 +9,8 @@ use Rattle.uimg_base.specs.Sink.{Sink}
 use Rattle.uimg_base.specs.Writing.{Written}
 use Rattle.uimg_base.proofs.Slices.{length-slice}
 use Rattle.uimg_base.specs.declared.spans.Span.{Span}
-use Rattle.uimg_blob.specs.LookUps.{NodeOf}
-use Rattle.uimg_blob.specs.Spots.{Spot}
+use Rattle.uimg_blob_reading.specs.LookUps.{NodeOf}
+use Rattle.uimg_blob_reading.specs.Spots.{Spot}
 use Rattle.uimg_base.specs.declared.ranges.MoveFault.{MoveFault}
 use Rattle.uimg_fit_reading.specs.declared.report.hash_lines.HashLine.{HashLine}
 use Rattle.uimg_fit_base.specs.declared.verdicts.Verdict.{Verdict}

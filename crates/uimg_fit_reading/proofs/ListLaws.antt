@@ -4,8 +4,8 @@ use Rattle.std.specs.List.{flat_map}
 use Rattle.std.proofs.lemmas.List.{take_all}
 use Rattle.uimg_texts.specs.Nul.{before_nul, text}
 use Rattle.uimg_base.specs.Outcome.{line}
-use Rattle.uimg_blob.proofs.PhaseLaws.{some_none, some_some}
-use Rattle.uimg_blob.proofs.TextLaws.{text_all}
+use Rattle.uimg_blob_reading.proofs.PhaseLaws.{some_none, some_some}
+use Rattle.uimg_blob_reading.proofs.TextLaws.{text_all}
 use Rattle.uimg_fit_reading.specs.declared.listing.lists.Line.{Line}
 use Rattle.uimg_fit_reading.specs.declared.listing.lists.Line.TheVariants.{First, Next, Open}
 use Rattle.uimg_fit_reading.specs.Values.{pieces, onto}

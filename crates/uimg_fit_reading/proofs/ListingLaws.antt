@@ -2,12 +2,12 @@
 use Rattle.std.proofs.Common.{◌≡◌, ℕ, List, ◌++◌, Option, Ok, Result, codes, refl, ap, sym}
 use Rattle.uimg_base.specs.Outcome.{after, unless_refused}
 use Rattle.uimg_names.specs.declared.naming.Naming.{Naming}
-use Rattle.uimg_blob.specs.Blob.{tree}
-use Rattle.uimg_blob.specs.Grammar.{Siblings}
-use Rattle.uimg_blob.specs.Reading.{Fault as BlobFaultAt}
-use Rattle.uimg_blob.specs.Plain.{NamedOf, NodesOf}
-use Rattle.uimg_blob.specs.LookUps.{NodeOf, images, configurations}
-use Rattle.uimg_blob.specs.Spots.{Spot, spots}
+use Rattle.uimg_blob_reading.specs.Blob.{tree}
+use Rattle.uimg_blob_reading.specs.Grammar.{Siblings}
+use Rattle.uimg_blob_reading.specs.Reading.{Fault as BlobFaultAt}
+use Rattle.uimg_blob_reading.specs.Plain.{NamedOf, NodesOf}
+use Rattle.uimg_blob_reading.specs.LookUps.{NodeOf, images, configurations}
+use Rattle.uimg_blob_reading.specs.Spots.{Spot, spots}
 use Rattle.uimg_fit_base.specs.Files.{bytes_of, cell, root_own, spots_in}
 use Rattle.uimg_fit_reading.specs.Heads.{description_line, created_line}
 use Rattle.uimg_fit_reading.specs.Listing.{head_lines, time_of, image_lines, numbered, configurations_lines, lists, list_of}

@@ -6,21 +6,21 @@ use Rattle.std.specs.Result.{IfOk}
 use Rattle.std.specs.Str.{bytes_eq}
 use Rattle.std.proofs.Math.Nat.{suc-ne-zero}
 use Rattle.uimg_texts.specs.Slices.{slice}
-use Rattle.uimg_blob.specs.declared.nodes.Blob.{Blob}
+use Rattle.uimg_blob_reading.specs.declared.nodes.Blob.{Blob}
 use Rattle.uimg_base.specs.declared.spans.Span.{Span}
-use Rattle.uimg_blob.specs.declared.keys.Key.{Key}
-use Rattle.uimg_blob.specs.Blob.{tree}
-use Rattle.uimg_blob.specs.Tokens.{Property}
-use Rattle.uimg_blob.specs.Grammar.{Siblings, none, node}
-use Rattle.uimg_blob.specs.Roles.{Level, top, role_at, level_in, level_after}
-use Rattle.uimg_blob.specs.Rows.{Row, rows, table, size}
-use Rattle.uimg_blob.specs.Keys.{name_of}
-use Rattle.uimg_blob.specs.Indexed.{IsIndexed, IsRow, name_span, value_span, value_of, keeps}
-use Rattle.uimg_blob.specs.LookUps.{NodeOf, first}
-use Rattle.uimg_blob.specs.Spots.{Spot, spot_of, spots}
-use Rattle.uimg_blob.specs.Plain.{NamedOf}
-use Rattle.uimg_blob.proofs.PhaseLaws.{some_none, some_some, by_bool}
-use Rattle.uimg_blob.proofs.StandLaws.{row_of, row_stands, tree_stands}
+use Rattle.uimg_blob_reading.specs.declared.keys.Key.{Key}
+use Rattle.uimg_blob_reading.specs.Blob.{tree}
+use Rattle.uimg_blob_reading.specs.Tokens.{Property}
+use Rattle.uimg_blob_reading.specs.Grammar.{Siblings, none, node}
+use Rattle.uimg_blob_reading.specs.Roles.{Level, top, role_at, level_in, level_after}
+use Rattle.uimg_blob_reading.specs.Rows.{Row, rows, table, size}
+use Rattle.uimg_blob_reading.specs.Keys.{name_of}
+use Rattle.uimg_blob_reading.specs.Indexed.{IsIndexed, IsRow, name_span, value_span, value_of, keeps}
+use Rattle.uimg_blob_reading.specs.LookUps.{NodeOf, first}
+use Rattle.uimg_blob_reading.specs.Spots.{Spot, spot_of, spots}
+use Rattle.uimg_blob_reading.specs.Plain.{NamedOf}
+use Rattle.uimg_blob_reading.proofs.PhaseLaws.{some_none, some_some, by_bool}
+use Rattle.uimg_blob_reading.proofs.StandLaws.{row_of, row_stands, tree_stands}
 use Rattle.uimg_fit_base.specs.Files.{bytes_of, bytes_in, root_own}
 use Rattle.uimg_fit_base.specs.Lying.{NameLies, ValueLies, Lie}
 use Rattle.uimg_fit_reading.specs.Nodes.{IsRead, IsNode, TellsConfigurations}

@@ -2,8 +2,8 @@
 use Rattle.std.proofs.Common.{◌≡◌, ℕ, List, Bool, IsTrue, sym, subst}
 use Rattle.uimg_base.specs.Device.{Device, SameDevice}
 use Rattle.uimg_base.specs.Held.{Held}
-use Rattle.uimg_blob.specs.declared.nodes.Blob.{Blob}
-use Rattle.uimg_blob.specs.Grammar.{Siblings}
+use Rattle.uimg_blob_reading.specs.declared.nodes.Blob.{Blob}
+use Rattle.uimg_blob_reading.specs.Grammar.{Siblings}
 use Rattle.uimg_fit_reading.specs.Nodes.{IsRead, Opened}
 
 pub still : {d e : Device} {blob : Blob} {old new : Held} {t : Siblings} → SameDevice d e → new ≡ old → Opened d blob old t → Opened e blob new t

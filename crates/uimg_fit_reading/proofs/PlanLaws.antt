@@ -1,7 +1,7 @@
 -- What is to be done about a hash node gives its word.
 use Rattle.std.proofs.Common.{◌≡◌, ◌+◌, ◌-◌, ◌≤◌, ℕ, List, ◌++◌, length, take, replicate, Bool, true, if◌then◌else◌, ◌==◌, Option, Some, None, refl, ap, sym, ◌∙◌, subst, IfSome, arith}
 use Rattle.std.specs.Prelude.{Result, Ok, Err, IfOk, is_err}
-use Rattle.uimg_blob.proofs.PhaseLaws.{true_false}
+use Rattle.uimg_blob_reading.proofs.PhaseLaws.{true_false}
 use Rattle.std.specs.Str.{bytes_eq}
 use Rattle.std.proofs.lemmas.List.{take-append-le, take_all}
 use Rattle.uimg_sums.specs.declared.algo.Algo.{Algo}
@@ -10,7 +10,7 @@ use Rattle.uimg_sums.specs.AnySum.{padded_digest}
 use Rattle.uimg_sums.proofs.DigestSizes.{length-digest_by}
 use Rattle.uimg_texts.specs.Slices.{slice}
 use Rattle.uimg_base.proofs.Slices.{length-slice}
-use Rattle.uimg_blob.proofs.PhaseLaws.{by_bool}
+use Rattle.uimg_blob_reading.proofs.PhaseLaws.{by_bool}
 use Rattle.uimg_base.specs.declared.spans.Span.{Span}
 use Rattle.uimg_fit_reading.specs.declared.report.plans.Plan.{Plan}
 use Rattle.uimg_fit_reading.specs.declared.report.plans.Plan.TheVariants.{Compared}

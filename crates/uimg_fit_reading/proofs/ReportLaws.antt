@@ -6,12 +6,12 @@ use Rattle.std.proofs.lemmas.List.Sums.{sum_by-cons}
 use Rattle.uimg_base.specs.Outcome.{Outcome, unless_refused, Tells}
 use Rattle.uimg_base.specs.Sink.{Sink}
 use Rattle.uimg_base.specs.declared.status.Status.{Status}
-use Rattle.uimg_blob.specs.Blob.{tree}
-use Rattle.uimg_blob.specs.Counts.{index_cost, nodes_met, texts_met}
-use Rattle.uimg_blob.specs.Grammar.{Siblings}
-use Rattle.uimg_blob.specs.LookUps.{NodeOf, images}
-use Rattle.uimg_blob.specs.Reading.{Fault as BlobFaultAt}
-use Rattle.uimg_blob.specs.Spots.{Spot, spots}
+use Rattle.uimg_blob_reading.specs.Blob.{tree}
+use Rattle.uimg_blob_reading.specs.Counts.{index_cost, nodes_met, texts_met}
+use Rattle.uimg_blob_reading.specs.Grammar.{Siblings}
+use Rattle.uimg_blob_reading.specs.LookUps.{NodeOf, images}
+use Rattle.uimg_blob_reading.specs.Reading.{Fault as BlobFaultAt}
+use Rattle.uimg_blob_reading.specs.Spots.{Spot, spots}
 use Rattle.uimg_fit_base.specs.declared.fault.Fault.{Fault}
 use Rattle.uimg_fit_reading.specs.Allowances.{node_allowance, allowance}
 use Rattle.uimg_fit_base.specs.Faults.{end_of}

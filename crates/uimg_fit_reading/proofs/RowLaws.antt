@@ -10,14 +10,14 @@ use Rattle.uimg_base.specs.Device.{Device}
 use Rattle.uimg_base.specs.Sink.{Sink}
 use Rattle.uimg_base.specs.Writing.{Written}
 use Rattle.uimg_base.proofs.SinkLaws.{prefix_at}
-use Rattle.uimg_blob.specs.declared.keys.Key.{Key}
+use Rattle.uimg_blob_reading.specs.declared.keys.Key.{Key}
 use Rattle.uimg_base.specs.declared.spans.Span.{Span}
-use Rattle.uimg_blob.specs.Indexed.{value_span}
-use Rattle.uimg_blob.specs.Keys.{name_of}
-use Rattle.uimg_blob.specs.LookUps.{first}
-use Rattle.uimg_blob.specs.Plain.{NamedOf}
-use Rattle.uimg_blob.specs.Roles.{in_image, is_hash}
-use Rattle.uimg_blob.specs.Spots.{Spot}
+use Rattle.uimg_blob_reading.specs.Indexed.{value_span}
+use Rattle.uimg_blob_reading.specs.Keys.{name_of}
+use Rattle.uimg_blob_reading.specs.LookUps.{first}
+use Rattle.uimg_blob_reading.specs.Plain.{NamedOf}
+use Rattle.uimg_blob_reading.specs.Roles.{in_image, is_hash}
+use Rattle.uimg_blob_reading.specs.Spots.{Spot}
 use Rattle.uimg_fit_base.specs.Files.{bytes_of, bytes_in}
 use Rattle.uimg_fit_reading.specs.declared.listing.shows.Show.{Show}
 use Rattle.uimg_fit_reading.specs.declared.listing.shows.Show.TheVariants.{Name, Address}

@@ -5,12 +5,12 @@ use Rattle.std.specs.Option.{option_map, option_map_or}
 use Rattle.std.specs.Str.{bytes_eq}
 use Rattle.std.proofs.lemmas.List.Sums.{sum_by-cons}
 use Rattle.std.proofs.lemmas.Slice.Eq.{bytes_eq-Decides}
-use Rattle.uimg_blob.specs.Keys.{is_text}
-use Rattle.uimg_blob.specs.Roles.{is_hash}
-use Rattle.uimg_blob.specs.Plain.{NamedOf, NodesOf, no_node, a_node}
-use Rattle.uimg_blob.specs.LookUps.{NodeOf, listed, images, configurations, hashes}
-use Rattle.uimg_blob.specs.Spots.{Spot}
-use Rattle.uimg_blob.proofs.PhaseLaws.{some_none, some_some, by_bool, true_false}
+use Rattle.uimg_blob_reading.specs.Keys.{is_text}
+use Rattle.uimg_blob_reading.specs.Roles.{is_hash}
+use Rattle.uimg_blob_reading.specs.Plain.{NamedOf, NodesOf, no_node, a_node}
+use Rattle.uimg_blob_reading.specs.LookUps.{NodeOf, listed, images, configurations, hashes}
+use Rattle.uimg_blob_reading.specs.Spots.{Spot}
+use Rattle.uimg_blob_reading.proofs.PhaseLaws.{some_none, some_some, by_bool, true_false}
 use Rattle.uimg_fit_base.specs.Files.{root_own}
 use Rattle.uimg_fit_reading.specs.Allowances.{text_size, text_sizes, allowance, node_allowance}
 use Rattle.uimg_fit_reading.specs.Rows.{size_of}

@@ -4,15 +4,15 @@ use Rattle.std.specs.List.{sum_by}
 use Rattle.std.proofs.lemmas.List.Sums.{sum_by-cons}
 use Rattle.uimg_base.specs.Device.{Device}
 use Rattle.uimg_base.specs.Sink.{Sink}
-use Rattle.uimg_blob.specs.declared.nodes.Blob.{Blob}
-use Rattle.uimg_blob.specs.Grammar.{Siblings}
-use Rattle.uimg_blob.specs.Roles.{level_after}
-use Rattle.uimg_blob.specs.LookUps.{NodeOf}
-use Rattle.uimg_blob.specs.Spots.{Spot}
+use Rattle.uimg_blob_reading.specs.declared.nodes.Blob.{Blob}
+use Rattle.uimg_blob_reading.specs.Grammar.{Siblings}
+use Rattle.uimg_blob_reading.specs.Roles.{level_after}
+use Rattle.uimg_blob_reading.specs.LookUps.{NodeOf}
+use Rattle.uimg_blob_reading.specs.Spots.{Spot}
 use Rattle.uimg_fit_reading.specs.Allowances.{node_allowance}
 use Rattle.uimg_fit_reading.specs.Nodes.{IsRead}
-use Rattle.uimg_fit_reading.specs.declared.listing.listed_nodes.Kind.{Kind}
-use Rattle.uimg_fit_reading.specs.declared.listing.listed_nodes.Kind.TheVariants.{Image, Configuration}
+use Rattle.uimg_fit_reading.specs.declared.listing.listed_nodes.Listed.{Listed}
+use Rattle.uimg_fit_reading.specs.declared.listing.listed_nodes.Listed.TheVariants.{Image, Configuration}
 use Rattle.uimg_fit_reading.specs.Listing.{numbered}
 use Rattle.uimg_fit_reading.specs.NodeLines.{level_of}
 use Rattle.uimg_fit_reading.specs.Telling.{ListsBetween}
@@ -89,6 +89,6 @@ pub none_after : (o : Option ℕ) (count size : ℕ) → size ≤ count → IfSo
 none_after None count size le within = refl
 none_after (Some j) count size le within = absurd (omega (arith, le, within.0, within.1))
 
-pub same_level : (kind : Kind) (name : List ℕ) → level_after (level_of kind) name ≡ level_of kind
+pub same_level : (kind : Listed) (name : List ℕ) → level_after (level_of kind) name ≡ level_of kind
 same_level (Image naming time) name = refl
 same_level Configuration name = refl

@@ -1,5 +1,6 @@
 -- Reports on the hash nodes of an image: the digests that they are compared with, then their lines.
-use Rattle.std.specs.Prelude.{◌≡◌, ◌≤◌, ◌+◌, ◌*◌, ℕ, List, ◌++◌, length, codes, if◌then◌else◌, Bool, Result, IfOk, is_err}
+use Rattle.std.specs.Prelude.{◌≡◌, ◌≤◌, ◌+◌, ◌*◌, ℕ, List, ◌++◌, length, codes, if◌then◌else◌, Bool}
+use Rattle.std.specs.Prelude.{Result, IfOk, is_err}
 use Rattle.std.specs.List.{AllByRecursion, flat_map, sum_by}
 use Rattle.std.specs.Option.{option_map_or}
 use Rattle.uimg_base.specs.Device.{Device}
@@ -10,8 +11,8 @@ use Rattle.uimg_base.specs.Writing.{Written}
 use Rattle.uimg_base.specs.declared.spans.Span.{Span}
 use Rattle.uimg_base.specs.declared.ranges.MoveFault.{MoveFault}
 use Rattle.uimg_base.specs.declared.source.SourceFault.{SourceFault}
-use Rattle.uimg_blob.specs.LookUps.{NodeOf}
-use Rattle.uimg_blob.specs.Spots.{Spot}
+use Rattle.uimg_blob_reading.specs.LookUps.{NodeOf}
+use Rattle.uimg_blob_reading.specs.Spots.{Spot}
 use Rattle.uimg_fit_base.specs.declared.algo_sets.AlgoSet.{AlgoSet}
 use Rattle.uimg_fit_base.specs.declared.algo_sets.Digests.{Digests}
 use Rattle.uimg_fit_base.specs.declared.verdicts.Verdict.{Verdict}
@@ -33,54 +34,74 @@ abbrev pub AllCovered : AlgoSet → List (NodeOf Spot) → Type 0
 AllCovered set hs = AllByRecursion (λ h. IsCovered set (plan_of h)) hs
 
 -- The algorithms of the compared hash nodes were found; 32 bytes a node were requested at most.
-pub record FindsAlgosBetween (hs : List (NodeOf Spot)) (asked new : ℕ) (result : Result AlgoSet SourceFault) : Type 0 where
+pub record FindsAlgosBetween (hs : List (NodeOf Spot)) (asked new : ℕ)
+    (result : Result AlgoSet SourceFault) : Type 0 where
   pub algos : IfOk result (λ set. set ≡ with_all no_algos hs)
   pub paid : new ≤ asked + 32 * length hs
 
-abbrev pub FindsAlgos : {S : Type 0} → List (NodeOf Spot) → Result AlgoSet SourceFault → (S → Device) → Lent S → Type 0
-FindsAlgos hs result device source = FindsAlgosBetween hs (device source.entry.now).asked (device source.exit.now).asked result
+abbrev pub FindsAlgos : {S : Type 0} → List (NodeOf Spot) → Result AlgoSet SourceFault
+    → (S → Device) → Lent S → Type 0
+FindsAlgos hs result device source =
+    FindsAlgosBetween hs (device source.entry.now).asked (device source.exit.now).asked result
 
 -- The digests of a payload were found. It was requested at most once, and not if none is compared.
-pub record FindsDigestsBetween (message : List ℕ) (size : ℕ) (hs : List (NodeOf Spot)) (asked new : ℕ) (result : Result Digests SourceFault) : Type 0 where
+pub record FindsDigestsBetween (message : List ℕ) (size : ℕ) (hs : List (NodeOf Spot))
+    (asked new : ℕ) (result : Result Digests SourceFault) : Type 0 where
   pub digests : IfOk result (λ found. AreDigests found message)
   pub covered : IfOk result (λ found. AllCovered (set_of found) hs)
   pub paid : new ≤ asked + ((if are_compared hs then size else 0) + 32 * length hs)
 
-abbrev pub FindsDigests : {S : Type 0} → Span → List (NodeOf Spot) → Result Digests SourceFault → (S → Device) → Lent S → Type 0
+abbrev pub FindsDigests : {S : Type 0} → Span → List (NodeOf Spot) → Result Digests SourceFault
+    → (S → Device) → Lent S → Type 0
 FindsDigests payload hs result device source =
-    FindsDigestsBetween (in_span (device source.entry.now).bytes payload) payload.length hs (device source.entry.now).asked (device source.exit.now).asked result
+    FindsDigestsBetween (in_span (device source.entry.now).bytes payload) payload.length hs
+    (device source.entry.now).asked (device source.exit.now).asked result
 
 -- the line of a hash node with a word
 abbrev pub line_of : List ℕ → Verdict → NodeOf Spot → List ℕ
 line_of name word hash =
-    line (name ++ codes " " ++ hash.name ++ codes " " ++ option_map_or (λ n. n) (algo_of hash) (codes "-") ++ codes " " ++ word_text word)
+    line (name ++ codes " " ++ hash.name ++ codes " "
+    ++ option_map_or (λ n. n) (algo_of hash) (codes "-") ++ codes " " ++ word_text word)
 
 -- The line of a hash node was written; the result is its word.
-pub record PutsHashBetween (name message : List ℕ) (n : ℕ) (hash : NodeOf Spot) (asked new : ℕ) (result : Result Verdict MoveFault) (old now : Sink) : Type 0 where
+pub record PutsHashBetween (name message : List ℕ) (n : ℕ) (hash : NodeOf Spot) (asked new : ℕ)
+    (result : Result Verdict MoveFault) (old now : Sink) : Type 0 where
   pub word : IfOk result (λ word. word ≡ word_of message hash)
   pub written : Written (is_err result) old now (hash_line name message hash)
   pub paid : new ≤ asked + line_cost n hash
 
-abbrev pub PutsHash : {S : Type 0} → Span → List ℕ → NodeOf Spot → Result Verdict MoveFault → (S → Device) → Lent S → Lent Sink → Type 0
+abbrev pub PutsHash : {S : Type 0} → Span → List ℕ → NodeOf Spot → Result Verdict MoveFault
+    → (S → Device) → Lent S → Lent Sink → Type 0
 PutsHash image message hash result device source out =
-    PutsHashBetween (in_span (device source.entry.now).bytes image) message image.length hash (device source.entry.now).asked (device source.exit.now).asked result out.entry.now out.exit.now
+    PutsHashBetween (in_span (device source.entry.now).bytes image) message image.length hash
+    (device source.entry.now).asked (device source.exit.now).asked result out.entry.now
+    out.exit.now
 
 -- The lines of hash nodes were written; the result is whether all are right.
-pub record PutsHashesBetween (name message : List ℕ) (n : ℕ) (hs : List (NodeOf Spot)) (asked new : ℕ) (result : Result Bool MoveFault) (old now : Sink) : Type 0 where
+pub record PutsHashesBetween (name message : List ℕ) (n : ℕ) (hs : List (NodeOf Spot))
+    (asked new : ℕ) (result : Result Bool MoveFault) (old now : Sink) : Type 0 where
   pub right : IfOk result (λ right. right ≡ are_right message hs)
   pub written : Written (is_err result) old now (flat_map (hash_line name message) hs)
   pub paid : new ≤ asked + sum_by (line_cost n) hs
 
-abbrev pub PutsHashes : {S : Type 0} → Span → List ℕ → List (NodeOf Spot) → Result Bool MoveFault → (S → Device) → Lent S → Lent Sink → Type 0
+abbrev pub PutsHashes : {S : Type 0} → Span → List ℕ → List (NodeOf Spot) → Result Bool MoveFault
+    → (S → Device) → Lent S → Lent Sink → Type 0
 PutsHashes image message hs result device source out =
-    PutsHashesBetween (in_span (device source.entry.now).bytes image) message image.length hs (device source.entry.now).asked (device source.exit.now).asked result out.entry.now out.exit.now
+    PutsHashesBetween (in_span (device source.entry.now).bytes image) message image.length hs
+    (device source.entry.now).asked (device source.exit.now).asked result out.entry.now
+    out.exit.now
 
 -- All hash nodes were reported on, after at most one pass over the payload.
-pub record ReportsHashesBetween (name message : List ℕ) (size n : ℕ) (hs : List (NodeOf Spot)) (asked new : ℕ) (result : Result Bool MoveFault) (old now : Sink) : Type 0 where
+pub record ReportsHashesBetween (name message : List ℕ) (size n : ℕ) (hs : List (NodeOf Spot))
+    (asked new : ℕ) (result : Result Bool MoveFault) (old now : Sink) : Type 0 where
   pub right : IfOk result (λ right. right ≡ are_right message hs)
   pub written : Written (is_err result) old now (flat_map (hash_line name message) hs)
   pub paid : new ≤ asked + ((if are_compared hs then size else 0) + sum_by (hash_cost n) hs)
 
-abbrev pub ReportsHashes : {S : Type 0} → Span → Span → List (NodeOf Spot) → Result Bool MoveFault → (S → Device) → Lent S → Lent Sink → Type 0
+abbrev pub ReportsHashes : {S : Type 0} → Span → Span → List (NodeOf Spot) → Result Bool MoveFault
+    → (S → Device) → Lent S → Lent Sink → Type 0
 ReportsHashes image payload hs result device source out =
-    ReportsHashesBetween (in_span (device source.entry.now).bytes image) (in_span (device source.entry.now).bytes payload) payload.length image.length hs (device source.entry.now).asked (device source.exit.now).asked result out.entry.now out.exit.now
+    ReportsHashesBetween (in_span (device source.entry.now).bytes image)
+    (in_span (device source.entry.now).bytes payload) payload.length image.length hs
+    (device source.entry.now).asked (device source.exit.now).asked result out.entry.now
+    out.exit.now

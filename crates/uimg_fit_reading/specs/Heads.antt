@@ -11,10 +11,13 @@ abbrev pub span_size : Option Span → ℕ
 span_size value = option_map_or (λ s. s.length) value 0
 
 abbrev pub description_line : Option (List ℕ) → List ℕ
-description_line value = line (codes "FIT description: " ++ option_map_or text value (codes "unavailable"))
+description_line value =
+    line (codes "FIT description: " ++ option_map_or text value (codes "unavailable"))
 
 abbrev pub created_line : Option ℕ → List ℕ
-created_line time = line (codes "Created:         " ++ option_map_or time_text time (codes "unavailable"))
+created_line time =
+    line (codes "Created:         " ++ option_map_or time_text time (codes "unavailable"))
 
 abbrev pub default_line : Option (List ℕ) → List ℕ
-default_line value = option_map_or (λ v. line (codes " Default Configuration: '" ++ (text v ++ codes "'"))) value []
+default_line value =
+    option_map_or (λ v. line (codes " Default Configuration: '" ++ (text v ++ codes "'"))) value []

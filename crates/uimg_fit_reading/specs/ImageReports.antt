@@ -1,5 +1,6 @@
 -- Reports on images, one after the other.
-use Rattle.std.specs.Prelude.{◌≡◌, ◌≤◌, ◌+◌, ℕ, List, if◌then◌else◌, Bool, true, false, Result, Ok, Err, IfOk, is_err}
+use Rattle.std.specs.Prelude.{◌≡◌, ◌≤◌, ◌+◌, ℕ, List, if◌then◌else◌, Bool, true, false, Result, Ok}
+use Rattle.std.specs.Prelude.{Err, IfOk, is_err}
 use Rattle.std.specs.List.{sum_by}
 use Rattle.uimg_base.specs.Device.{Device}
 use Rattle.uimg_base.specs.Lent.{Lent}
@@ -10,8 +11,8 @@ use Rattle.uimg_base.specs.declared.spans.Span.{Span}
 use Rattle.uimg_base.specs.declared.ranges.MoveFault.{MoveFault}
 use Rattle.uimg_base.specs.declared.status.Status.{Status}
 use Rattle.uimg_base.specs.declared.status.Status.TheVariants.{Done, NotRight}
-use Rattle.uimg_blob.specs.LookUps.{NodeOf, hashes}
-use Rattle.uimg_blob.specs.Spots.{Spot}
+use Rattle.uimg_blob_reading.specs.LookUps.{NodeOf, hashes}
+use Rattle.uimg_blob_reading.specs.Spots.{Spot}
 use Rattle.uimg_fit_base.specs.declared.fault.Fault.{Fault}
 use Rattle.uimg_fit_reading.specs.Values.{in_span}
 use Rattle.uimg_fit_reading.specs.Allowances.{node_allowance}
@@ -27,21 +28,27 @@ status_of true = Done
 status_of false = NotRight
 
 -- an image whose payload was found was reported on; 12 bytes are left for finding the payload
-pub record ReportsFoundBetween (image : NodeOf Spot) (message : List ℕ) (size asked new : ℕ) (result : Result Bool MoveFault) (old now : Sink) : Type 0 where
+pub record ReportsFoundBetween (image : NodeOf Spot) (message : List ℕ) (size asked new : ℕ)
+    (result : Result Bool MoveFault) (old now : Sink) : Type 0 where
   pub right : IfOk result (λ right. right ≡ are_right message (hashes image))
   pub written : Written (is_err result) old now (hash_lines image.name message (hashes image))
-  pub paid : new + 12 ≤ asked + ((if are_compared (hashes image) then size else 0) + node_allowance image)
+  pub paid : new + 12 ≤ asked +
+      ((if are_compared (hashes image) then size else 0) + node_allowance image)
 
-abbrev pub ReportsFound : {S : Type 0} → NodeOf Spot → Span → Result Bool MoveFault → (S → Device) → Lent S → Lent Sink → Type 0
+abbrev pub ReportsFound : {S : Type 0} → NodeOf Spot → Span → Result Bool MoveFault → (S → Device)
+    → Lent S → Lent Sink → Type 0
 ReportsFound found payload result device source out =
-    ReportsFoundBetween found (in_span (device source.entry.now).bytes payload) payload.length (device source.entry.now).asked (device source.exit.now).asked result out.entry.now out.exit.now
+    ReportsFoundBetween found (in_span (device source.entry.now).bytes payload) payload.length
+    (device source.entry.now).asked (device source.exit.now).asked result out.entry.now
+    out.exit.now
 
 -- the most bytes requested for an image
 abbrev pub image_work : List ℕ → NodeOf Spot → ℕ
 image_work file image = hashed image (payload file image) + node_allowance image
 
 -- An image was reported on.
-pub record ImageDone (file : List ℕ) (image : NodeOf Spot) (asked new : ℕ) (right : Bool) (old now : Sink) : Type 0 where
+pub record ImageDone (file : List ℕ) (image : NodeOf Spot) (asked new : ℕ) (right : Bool)
+    (old now : Sink) : Type 0 where
   pub message : List ℕ
   pub is : payload file image ≡ Ok message
   pub all_right : right ≡ are_right message (hashes image)
@@ -49,21 +56,33 @@ pub record ImageDone (file : List ℕ) (image : NodeOf Spot) (asked new : ℕ) (
   pub paid : new ≤ asked + image_work file image
 
 -- The report ends at an image, whatever would come after it.
-pub record ImageCut (file : List ℕ) (image : NodeOf Spot) (asked new : ℕ) (fault : Fault) (old now : Sink) : Type 0 where
-  pub told : (rest : Outcome Fault) → Tells (end_of (Err fault)) (report_step image (payload file image) rest) old now
+pub record ImageCut (file : List ℕ) (image : NodeOf Spot) (asked new : ℕ) (fault : Fault)
+    (old now : Sink) : Type 0 where
+  pub told : (rest : Outcome Fault)
+      → Tells (end_of (Err fault)) (report_step image (payload file image) rest) old now
   pub paid : new ≤ asked + image_work file image
 
-abbrev pub ReportsImageBetween : List ℕ → NodeOf Spot → ℕ → ℕ → Result Bool Fault → Sink → Sink → Type 0
-ReportsImageBetween file image asked new (Ok right) old now = ImageDone file image asked new right old now
-ReportsImageBetween file image asked new (Err fault) old now = ImageCut file image asked new fault old now
+abbrev pub ReportsImageBetween : List ℕ → NodeOf Spot → ℕ → ℕ → Result Bool Fault → Sink → Sink
+    → Type 0
+ReportsImageBetween file image asked new (Ok right) old now =
+    ImageDone file image asked new right old now
+ReportsImageBetween file image asked new (Err fault) old now =
+    ImageCut file image asked new fault old now
 
-abbrev pub ReportsImage : {S : Type 0} → NodeOf Spot → Result Bool Fault → (S → Device) → Lent S → Lent Sink → Type 0
-ReportsImage image result device source out = ReportsImageBetween (device source.entry.now).bytes image (device source.entry.now).asked (device source.exit.now).asked result out.entry.now out.exit.now
+abbrev pub ReportsImage : {S : Type 0} → NodeOf Spot → Result Bool Fault → (S → Device) → Lent S
+    → Lent Sink → Type 0
+ReportsImage image result device source out =
+    ReportsImageBetween (device source.entry.now).bytes image (device source.entry.now).asked
+    (device source.exit.now).asked result out.entry.now out.exit.now
 
 -- Images were reported on.
-pub record ReportsImagesBetween (file : List ℕ) (found : List (NodeOf Spot)) (asked new : ℕ) (result : Result Status Fault) (old now : Sink) : Type 0 where
+pub record ReportsImagesBetween (file : List ℕ) (found : List (NodeOf Spot)) (asked new : ℕ)
+    (result : Result Status Fault) (old now : Sink) : Type 0 where
   pub told : Tells (end_of result) (report file found) old now
   pub paid : new ≤ asked + sum_by (image_work file) found
 
-abbrev pub ReportsImages : {S : Type 0} → List (NodeOf Spot) → Result Status Fault → (S → Device) → Lent S → Lent Sink → Type 0
-ReportsImages found result device source out = ReportsImagesBetween (device source.entry.now).bytes found (device source.entry.now).asked (device source.exit.now).asked result out.entry.now out.exit.now
+abbrev pub ReportsImages : {S : Type 0} → List (NodeOf Spot) → Result Status Fault → (S → Device)
+    → Lent S → Lent Sink → Type 0
+ReportsImages found result device source out =
+    ReportsImagesBetween (device source.entry.now).bytes found (device source.entry.now).asked
+    (device source.exit.now).asked result out.entry.now out.exit.now

@@ -1,10 +1,11 @@
 -- The listing of a FIT image.
-use Rattle.std.specs.Prelude.{ℕ, suc, List, [], ◌∷◌, ◌++◌, Option, Some, None, Result, Ok, Err, codes}
+use Rattle.std.specs.Prelude.{ℕ, suc, List, [], ◌∷◌, ◌++◌, Option, Some, None, Result, Ok, Err}
+use Rattle.std.specs.Prelude.{codes}
 use Rattle.std.specs.List.{flat_map}
 use Rattle.uimg_base.specs.Outcome.{Outcome, done, refused, told, after, unless_refused}
-use Rattle.uimg_blob.specs.Plain.{NamedOf, NodesOf}
-use Rattle.uimg_blob.specs.LookUps.{NodeOf, listed, images, configurations, hashes}
-use Rattle.uimg_blob.specs.Spots.{Spot}
+use Rattle.uimg_blob_reading.specs.Plain.{NamedOf, NodesOf}
+use Rattle.uimg_blob_reading.specs.LookUps.{NodeOf, listed, images, configurations, hashes}
+use Rattle.uimg_blob_reading.specs.Spots.{Spot}
 use Rattle.uimg_names.specs.declared.naming.Naming.{Naming}
 use Rattle.uimg_fit_base.specs.declared.fault.Fault.{Fault}
 use Rattle.uimg_fit_base.specs.declared.fault.Fault.TheVariants.{Fit}
@@ -14,7 +15,8 @@ use Rattle.uimg_fit_base.specs.Files.{tree_of, root_own, bytes_of, cell}
 use Rattle.uimg_base.specs.declared.spans.Span.{Span}
 use Rattle.uimg_fit_base.specs.Places.{place}
 use Rattle.uimg_fit_reading.specs.Heads.{description_line, created_line, default_line}
-use Rattle.uimg_fit_reading.specs.Rows.{image_rows, hash_rows, configuration_rows, rows_lines, no_facts, title}
+use Rattle.uimg_fit_reading.specs.Rows.{image_rows, hash_rows, configuration_rows, rows_lines}
+use Rattle.uimg_fit_reading.specs.Rows.{no_facts, title}
 
 -- the root's timestamp, if it has one
 abbrev pub time_of : List (NamedOf Spot) → Option ℕ
@@ -22,7 +24,8 @@ time_of root = cell root (codes "timestamp")
 
 -- the two head lines
 abbrev pub head_lines : List (NamedOf Spot) → List ℕ
-head_lines root = description_line (bytes_of root (codes "description")) ++ created_line (time_of root)
+head_lines root =
+    description_line (bytes_of root (codes "description")) ++ created_line (time_of root)
 
 -- the size of a payload, if its place is known
 abbrev pub size_in : Result Span FitFault → Option ℕ
@@ -36,14 +39,18 @@ hash_lines hash = rows_lines no_facts hash.own hash_rows
 -- the lines of an image, below its title
 abbrev pub image_fields : Naming → List ℕ → Option ℕ → NodeOf Spot → List ℕ
 image_fields naming file time image =
-    rows_lines (record { time = time; size = size_in (place file image) }) image.own (image_rows naming) ++ flat_map hash_lines (hashes image)
+    rows_lines (record { time = time; size = size_in (place file image) }) image.own
+    (image_rows naming)
+    ++ flat_map hash_lines (hashes image)
 
 abbrev pub image_lines : Naming → List ℕ → Option ℕ → ℕ → NodeOf Spot → List ℕ
-image_lines naming file time i image = title (codes " Image ") i image.name ++ image_fields naming file time image
+image_lines naming file time i image =
+    title (codes " Image ") i image.name ++ image_fields naming file time image
 
 abbrev pub configuration_lines : ℕ → NodeOf Spot → List ℕ
 configuration_lines i configuration =
-    title (codes " Configuration ") i configuration.name ++ rows_lines no_facts configuration.own configuration_rows
+    title (codes " Configuration ") i configuration.name
+    ++ rows_lines no_facts configuration.own configuration_rows
 
 -- the lines of nodes, numbered from i on
 unfoldable pub numbered : (ℕ → NodeOf Spot → List ℕ) → ℕ → List (NodeOf Spot) → List ℕ
@@ -53,14 +60,19 @@ numbered lines i (n ∷ ns) = lines i n ++ numbered lines (suc i) ns
 -- the default configuration, and the configurations
 abbrev pub configurations_lines : Option (NodeOf Spot) → List ℕ
 configurations_lines None = []
-configurations_lines (Some c) = default_line (bytes_of c.own (codes "default")) ++ numbered configuration_lines 0 (listed c.below)
+configurations_lines (Some c) =
+    default_line (bytes_of c.own (codes "default"))
+    ++ numbered configuration_lines 0 (listed c.below)
 
 -- the text after the head lines: images and configurations, or a refusal without a node `images`
 abbrev pub lists : Naming → List ℕ → NodesOf Spot → Option (List (NodeOf Spot)) → Outcome Fault
 lists naming file t (Some found) =
-    told (numbered (image_lines naming file (time_of (root_own t))) 0 found ++ configurations_lines (configurations t)) done
+    told (numbered (image_lines naming file (time_of (root_own t))) 0 found
+    ++ configurations_lines (configurations t)) done
 lists naming file t None = told [] (refused (Fit NoImages))
 
 -- the listing of a file, with the names of a set; a faulty blob has no line
 abbrev pub list_of : Naming → List ℕ → Outcome Fault
-list_of naming file = unless_refused (tree_of file) (λ t. after (head_lines (root_own t)) (lists naming file t (images t)))
+list_of naming file =
+    unless_refused (tree_of file)
+    (λ t. after (head_lines (root_own t)) (lists naming file t (images t)))

@@ -4,9 +4,9 @@ use Rattle.std.specs.List.{sum_by}
 use Rattle.uimg_base.specs.Device.{Device}
 use Rattle.uimg_base.specs.Sink.{Sink}
 use Rattle.uimg_base.specs.Outcome.{End, Outcome, Tells}
-use Rattle.uimg_blob.specs.Plain.{NodesOf}
-use Rattle.uimg_blob.specs.LookUps.{NodeOf, configurations}
-use Rattle.uimg_blob.specs.Spots.{Spot}
+use Rattle.uimg_blob_reading.specs.Plain.{NodesOf}
+use Rattle.uimg_blob_reading.specs.LookUps.{NodeOf, configurations}
+use Rattle.uimg_blob_reading.specs.Spots.{Spot}
 use Rattle.uimg_fit_base.specs.declared.fault.Fault.{Fault}
 use Rattle.uimg_fit_reading.specs.Allowances.{node_allowance}
 
@@ -18,9 +18,11 @@ configurations_allowance (Some c) = node_allowance c
 -- the most bytes requested for images and configurations
 abbrev pub body_allowance : NodesOf Spot → Option (List (NodeOf Spot)) → ℕ
 body_allowance t None = 0
-body_allowance t (Some found) = sum_by node_allowance found + configurations_allowance (configurations t)
+body_allowance t (Some found) =
+    sum_by node_allowance found + configurations_allowance (configurations t)
 
 -- At most `most` bytes more were requested, and an outcome was written.
-pub record TellsWithin (e : Option (End Fault)) (most : ℕ) (d f : Device) (s t : Sink) (o : Outcome Fault) : Type 0 where
+pub record TellsWithin (e : Option (End Fault)) (most : ℕ) (d f : Device) (s t : Sink)
+    (o : Outcome Fault) : Type 0 where
   pub asked : f.asked ≤ d.asked + most
   pub told : Tells e o s t

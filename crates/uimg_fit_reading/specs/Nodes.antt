@@ -1,21 +1,23 @@
 -- Nodes of an indexed tree, by their numbers.
-use Rattle.std.specs.Prelude.{◌≡◌, ◌≤◌, ◌<◌, ℕ, List, [], ◌∷◌, length, IfSome, true, false, ⊤, map, Option, Some, None, Result, Ok, Err, IsTrue}
+use Rattle.std.specs.Prelude.{◌≡◌, ◌≤◌, ◌<◌, ℕ, List, [], ◌∷◌, length, IfSome, true, false, ⊤, map}
+use Rattle.std.specs.Prelude.{Option, Some, None, Result, Ok, Err, IsTrue}
 use Rattle.std.specs.List.{slice_get, filter}
 use Rattle.uimg_texts.specs.Numbers.{be32}
 use Rattle.uimg_base.specs.Device.{Device}
 use Rattle.uimg_base.specs.Held.{Held}
-use Rattle.uimg_blob.specs.declared.nodes.Blob.{Blob}
-use Rattle.uimg_blob.specs.declared.keys.Key.TheVariants.{Default}
-use Rattle.uimg_blob.specs.Tokens.{Property}
-use Rattle.uimg_blob.specs.Grammar.{Siblings, node}
-use Rattle.uimg_blob.specs.Blob.{tree}
-use Rattle.uimg_blob.specs.Roles.{Level, in_images, in_image, in_configurations, is_hash, role_at, level_in}
-use Rattle.uimg_blob.specs.Rows.{Row, first_of, table}
-use Rattle.uimg_blob.specs.Standing.{Stand}
-use Rattle.uimg_blob.specs.Indexed.{IsIndexed, keeps}
-use Rattle.uimg_blob.specs.LookUps.{NodeOf, listed, images, configurations}
-use Rattle.uimg_blob.specs.Spots.{Spot, spot_of, spots}
-use Rattle.uimg_blob.specs.Faults.{refuses_memory}
+use Rattle.uimg_blob_reading.specs.declared.nodes.Blob.{Blob}
+use Rattle.uimg_blob_reading.specs.declared.keys.Key.TheVariants.{Default}
+use Rattle.uimg_blob_reading.specs.Tokens.{Property}
+use Rattle.uimg_blob_reading.specs.Grammar.{Siblings, node}
+use Rattle.uimg_blob_reading.specs.Blob.{tree}
+use Rattle.uimg_blob_reading.specs.Roles.{Level, in_images, in_image, in_configurations, is_hash}
+use Rattle.uimg_blob_reading.specs.Roles.{role_at, level_in}
+use Rattle.uimg_blob_reading.specs.Rows.{Row, first_of, table}
+use Rattle.uimg_blob_reading.specs.Standing.{Stand}
+use Rattle.uimg_blob_reading.specs.Indexed.{IsIndexed, keeps}
+use Rattle.uimg_blob_reading.specs.LookUps.{NodeOf, listed, images, configurations}
+use Rattle.uimg_blob_reading.specs.Spots.{Spot, spot_of, spots}
+use Rattle.uimg_blob_reading.specs.Faults.{refuses_memory}
 use Rattle.uimg_fit_base.specs.declared.fault.Fault.{Fault}
 use Rattle.uimg_fit_base.specs.declared.fault.Fault.TheVariants as of
 use Rattle.uimg_fit_base.specs.declared.fault.FitFault.{FitFault}
@@ -74,7 +76,8 @@ pub record HasTree (file : List ℕ) (blob : Blob) (es : List (List ℕ)) : Type
 -- what a result says of the tree of a file
 abbrev pub GivesTree : List ℕ → Result Blob Fault → List (List ℕ) → Type 0
 GivesTree file (Ok blob) es = HasTree file blob es
-GivesTree file (Err (of.Blob fault at)) es = refuses_memory fault ≡ false → tree file ≡ Err (fault, at)
+GivesTree file (Err (of.Blob fault at)) es =
+    refuses_memory fault ≡ false → tree file ≡ Err (fault, at)
 GivesTree file (Err (of.Fit fault)) es = ⊥
 GivesTree file (Err _) es = ⊤
 
@@ -90,7 +93,8 @@ pub record IsNode (t : Siblings) (level : Level) (number : ℕ) (found : NodeOf 
   pub is : found ≡ record { name = name; own = map spot_of own; below = spots below }
 
 -- These nodes follow one another at a level, from the node of a number on; none without a number.
-pub record AreFrom (t : Siblings) (level : Level) (first : Option ℕ) (found : List (NodeOf Spot)) : Type 0 where
+pub record AreFrom (t : Siblings) (level : Level) (first : Option ℕ) (found : List (NodeOf Spot))
+    : Type 0 where
   pub parent : Option ℕ
   pub number : ℕ
   pub siblings : Siblings
@@ -138,7 +142,8 @@ pub record HashesFrom (t : Siblings) (first : Option ℕ) (hs : List (NodeOf Spo
   pub are : hs ≡ filter (λ h. is_hash h.name) children
 
 -- The node of a number is this hash node, and these come after it.
-pub record HashAt (t : Siblings) (number : ℕ) (hash : NodeOf Spot) (more : List (NodeOf Spot)) : Type 0 where
+pub record HashAt (t : Siblings) (number : ℕ) (hash : NodeOf Spot) (more : List (NodeOf Spot))
+    : Type 0 where
   pub node : IsNode t in_image number hash
   pub named : is_hash hash.name ≡ true
   pub row : Row
@@ -173,44 +178,67 @@ TellsConfigurations t (Some number) = HasConfigurations t number
 
 -- Over an honest device whose tree was read: a fact about the node at a number of a level.
 abbrev pub OfNode : Device → Blob → Held → Level → ℕ → (NodeOf Spot → Type 0) → Type 0
-OfNode d blob room level number P = (t : Siblings) → Opened d blob room t → (found : NodeOf Spot) → IsNode t level number found → P found
+OfNode d blob room level number P =
+    (t : Siblings) → Opened d blob room t → (found : NodeOf Spot) → IsNode t level number found
+    → P found
 
 -- The same, at any level.
 abbrev pub OfAnyNode : Device → Blob → Held → ℕ → (Level → NodeOf Spot → Type 0) → Type 0
-OfAnyNode d blob room number P = (t : Siblings) → Opened d blob room t → (level : Level) (found : NodeOf Spot) → IsNode t level number found → P level found
+OfAnyNode d blob room number P =
+    (t : Siblings) → Opened d blob room t → (level : Level) (found : NodeOf Spot)
+    → IsNode t level number found → P level found
 
 -- The same for the nodes from a number of a level on.
-abbrev pub OfNodes : Device → Blob → Held → Level → Option ℕ → (List (NodeOf Spot) → Type 0) → Type 0
-OfNodes d blob room level first P = (t : Siblings) → Opened d blob room t → (found : List (NodeOf Spot)) → AreFrom t level first found → P found
+abbrev pub OfNodes : Device → Blob → Held → Level → Option ℕ → (List (NodeOf Spot) → Type 0)
+    → Type 0
+OfNodes d blob room level first P =
+    (t : Siblings) → Opened d blob room t → (found : List (NodeOf Spot))
+    → AreFrom t level first found → P found
 
 -- The same for the hash node at a number.
 abbrev pub OfHash : Device → Blob → Held → ℕ → (NodeOf Spot → Type 0) → Type 0
-OfHash d blob room number P = (t : Siblings) → Opened d blob room t → (found : NodeOf Spot) (more : List (NodeOf Spot)) → HashAt t number found more → P found
+OfHash d blob room number P =
+    (t : Siblings) → Opened d blob room t → (found : NodeOf Spot) (more : List (NodeOf Spot))
+    → HashAt t number found more → P found
 
 -- The same for the hash nodes from a number on.
 abbrev pub OfHashes : Device → Blob → Held → Option ℕ → (List (NodeOf Spot) → Type 0) → Type 0
-OfHashes d blob room first P = (t : Siblings) → Opened d blob room t → (hs : List (NodeOf Spot)) → HashesAt t first hs → P hs
+OfHashes d blob room first P =
+    (t : Siblings) → Opened d blob room t → (hs : List (NodeOf Spot)) → HashesAt t first hs → P hs
 
 -- In any file whose tree was read: a fact about the node at a number, at any level.
 abbrev pub AtNode : Blob → Held → ℕ → (List ℕ → Level → NodeOf Spot → Type 0) → Type 0
-AtNode blob room number P = (file : List ℕ) (t : Siblings) → IsRead file blob room.entries t → (level : Level) (found : NodeOf Spot) → IsNode t level number found → P file level found
+AtNode blob room number P =
+    (file : List ℕ) (t : Siblings) → IsRead file blob room.entries t
+    → (level : Level) (found : NodeOf Spot) → IsNode t level number found → P file level found
 
 -- The same, at one level.
 abbrev pub AtLevel : Blob → Held → Level → ℕ → (List ℕ → NodeOf Spot → Type 0) → Type 0
-AtLevel blob room level number P = (file : List ℕ) (t : Siblings) → IsRead file blob room.entries t → (found : NodeOf Spot) → IsNode t level number found → P file found
+AtLevel blob room level number P =
+    (file : List ℕ) (t : Siblings) → IsRead file blob room.entries t → (found : NodeOf Spot)
+    → IsNode t level number found → P file found
 
 -- The same in any tree that the entries index.
 abbrev pub InTree : Blob → Held → ℕ → (Siblings → Level → NodeOf Spot → Type 0) → Type 0
-InTree blob room number P = (t : Siblings) → IsIndexed t blob room.entries → (level : Level) (found : NodeOf Spot) → IsNode t level number found → P t level found
+InTree blob room number P =
+    (t : Siblings) → IsIndexed t blob room.entries → (level : Level) (found : NodeOf Spot)
+    → IsNode t level number found → P t level found
 
 -- In any file whose tree was read: a fact about the nodes from a number of a level on.
-abbrev pub FromNode : Blob → Held → Level → Option ℕ → (List ℕ → List (NodeOf Spot) → Type 0) → Type 0
-FromNode blob room level first P = (file : List ℕ) (t : Siblings) → IsRead file blob room.entries t → (found : List (NodeOf Spot)) → AreFrom t level first found → P file found
+abbrev pub FromNode : Blob → Held → Level → Option ℕ → (List ℕ → List (NodeOf Spot) → Type 0)
+    → Type 0
+FromNode blob room level first P =
+    (file : List ℕ) (t : Siblings) → IsRead file blob room.entries t → (found : List (NodeOf Spot))
+    → AreFrom t level first found → P file found
 
 -- The same for the hash nodes from a number on.
 abbrev pub FromHash : Blob → Held → Option ℕ → (List ℕ → List (NodeOf Spot) → Type 0) → Type 0
-FromHash blob room first P = (file : List ℕ) (t : Siblings) → IsRead file blob room.entries t → (hs : List (NodeOf Spot)) → HashesAt t first hs → P file hs
+FromHash blob room first P =
+    (file : List ℕ) (t : Siblings) → IsRead file blob room.entries t → (hs : List (NodeOf Spot))
+    → HashesAt t first hs → P file hs
 
 -- The same for nodes in any tree that the entries index.
 abbrev pub InTreeFrom : Blob → Held → Level → Option ℕ → (List (NodeOf Spot) → Type 0) → Type 0
-InTreeFrom blob room level first P = (t : Siblings) → IsIndexed t blob room.entries → (found : List (NodeOf Spot)) → AreFrom t level first found → P found
+InTreeFrom blob room level first P =
+    (t : Siblings) → IsIndexed t blob room.entries → (found : List (NodeOf Spot))
+    → AreFrom t level first found → P found

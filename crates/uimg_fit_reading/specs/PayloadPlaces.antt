@@ -1,11 +1,12 @@
 -- Where the payload of an image is, by the four properties that say it.
-use Rattle.std.specs.Prelude.{◌≡◌, ◌≤◌, ◌<◌, ◌+◌, ◌^◌, ℕ, List, codes, false, Option, Result, IfOk, IfSome, IfErr}
+use Rattle.std.specs.Prelude.{◌≡◌, ◌≤◌, ◌<◌, ◌+◌, ◌^◌, ℕ, List, codes, false, Option, Result, IfOk}
+use Rattle.std.specs.Prelude.{IfSome, IfErr}
 use Rattle.std.specs.Option.{option_map, option_and_then}
 use Rattle.uimg_texts.specs.Numbers.{up4}
 use Rattle.uimg_base.specs.declared.spans.Span.{Span}
-use Rattle.uimg_blob.specs.Indexed.{value_span}
-use Rattle.uimg_blob.specs.LookUps.{NodeOf, first}
-use Rattle.uimg_blob.specs.Spots.{Spot}
+use Rattle.uimg_blob_reading.specs.Indexed.{value_span}
+use Rattle.uimg_blob_reading.specs.LookUps.{NodeOf, first}
+use Rattle.uimg_blob_reading.specs.Spots.{Spot}
 use Rattle.uimg_fit_base.specs.declared.fault.FitFault.{FitFault}
 use Rattle.uimg_fit_base.specs.Faults.{of_making}
 use Rattle.uimg_fit_base.specs.Files.{bytes_of, bytes_in, number}
@@ -40,7 +41,8 @@ read_payload file facts = record {
 abbrev pub place_said : ℕ → PayloadSaid → Result Span FitFault
 place_said totalsize said =
     or_else (external 0 (option_and_then number said.position) (option_and_then number said.size))
-    (external (up4 totalsize) (option_and_then number said.offset) (option_and_then number said.size))
+    (external (up4 totalsize) (option_and_then number said.offset)
+    (option_and_then number said.size))
     (embedded said.embedded)
 
 -- A value, if it is present, ends within `size` bytes.

@@ -1,5 +1,6 @@
 -- The plan for a hash node, made before any payload is read.
-use Rattle.std.specs.Prelude.{◌≡◌, ⊤, ℕ, ◌+◌, ◌≤◌, List, [], ◌∷◌, ◌++◌, length, ◌==◌, Bool, true, false, if◌then◌else◌, Option, Some, None, IfSome, codes}
+use Rattle.std.specs.Prelude.{◌≡◌, ⊤, ℕ, ◌+◌, ◌≤◌, List, [], ◌∷◌, ◌++◌, length, ◌==◌, Bool, true}
+use Rattle.std.specs.Prelude.{false, if◌then◌else◌, Option, Some, None, IfSome, codes}
 use Rattle.std.specs.List.{list_any}
 use Rattle.std.specs.Option.{option_map, option_map_or}
 use Rattle.std.specs.Str.{bytes_eq}
@@ -9,11 +10,12 @@ use Rattle.uimg_texts.specs.Nul.{text}
 use Rattle.uimg_texts.specs.Slices.{slice}
 use Rattle.uimg_base.specs.Outcome.{line}
 use Rattle.uimg_base.specs.declared.spans.Span.{Span}
-use Rattle.uimg_blob.specs.LookUps.{NodeOf, first}
-use Rattle.uimg_blob.specs.Indexed.{value_span}
-use Rattle.uimg_blob.specs.Spots.{Spot}
+use Rattle.uimg_blob_reading.specs.LookUps.{NodeOf, first}
+use Rattle.uimg_blob_reading.specs.Indexed.{value_span}
+use Rattle.uimg_blob_reading.specs.Spots.{Spot}
 use Rattle.uimg_fit_reading.specs.declared.report.plans.Plan.{Plan}
-use Rattle.uimg_fit_reading.specs.declared.report.plans.Plan.TheVariants.{Malformed, Unsupported, Compared}
+use Rattle.uimg_fit_reading.specs.declared.report.plans.Plan.TheVariants.{Malformed, Unsupported}
+use Rattle.uimg_fit_reading.specs.declared.report.plans.Plan.TheVariants.{Compared}
 use Rattle.uimg_fit_base.specs.declared.algo_sets.AlgoSet.{AlgoSet}
 use Rattle.uimg_fit_base.specs.AlgoSets.{has, marked}
 use Rattle.uimg_fit_base.specs.declared.verdicts.Verdict.{Verdict}
@@ -93,7 +95,9 @@ pub record LineInside (size : ℕ) (line : HashLine) : Type 0 where
 
 -- the line of a hash node, from the spans of its parts
 abbrev pub names_text : List ℕ → HashLine → List ℕ
-names_text file l = (slice file l.image.place l.image.length ++ codes " ") ++ (slice file l.hash.place l.hash.length ++ codes " ")
+names_text file l =
+    (slice file l.image.place l.image.length ++ codes " ")
+    ++ (slice file l.hash.place l.hash.length ++ codes " ")
 
 abbrev pub end_text : List ℕ → HashLine → List ℕ
 end_text file l = algo_text file l.algo ++ line (codes " " ++ word_text l.word)
@@ -116,14 +120,16 @@ IsOf value (Compared algo span) = (value ≡ Some span) × (span.length ≡ dige
 abbrev pub EndsIn : ℕ → Plan → Type 0
 EndsIn size Malformed = ⊤
 EndsIn size Unsupported = ⊤
-EndsIn size (Compared algo span) = (span.place + span.length ≤ size) × (span.length ≡ digest_size algo)
+EndsIn size (Compared algo span) =
+    (span.place + span.length ≤ size) × (span.length ≡ digest_size algo)
 
 -- the word of a hash node, by its plan and its payload
 abbrev pub word_by : List ℕ → List ℕ → Plan → Verdict
 word_by file message Malformed = word.Malformed
 word_by file message Unsupported = word.Unsupported
 word_by file message (Compared algo span) =
-    if bytes_eq (slice file span.place span.length) (digest_by algo message) then word.Right else word.Wrong
+    if bytes_eq (slice file span.place span.length)
+    (digest_by algo message) then word.Right else word.Wrong
 
 -- the length of a hash node's `algo`, or 0 if it is missing
 abbrev pub algo_length : NodeOf Spot → ℕ

@@ -8,7 +8,7 @@ use Rattle.uimg_base.specs.Ranges.{ReadsAhead}
 use Rattle.uimg_base.specs.Sink.{Sink}
 use Rattle.uimg_base.specs.Using.{Uses, UsesAtMost}
 use Rattle.uimg_base.specs.declared.status.Status.{Status}
-use Rattle.uimg_blob.specs.Counts.{nodes_met}
+use Rattle.uimg_blob_reading.specs.Counts.{nodes_met}
 use Rattle.uimg_fit_base.specs.Faults.{is_read, is_put, is_out_of_memory, is_of_making, end_of}
 use Rattle.uimg_fit_base.specs.declared.fault.Fault.{Fault}
 
@@ -23,11 +23,14 @@ pub record TakesNodes (device : Device) (no_memory : Bool) (old new : Held) : Ty
 
 -- The source is unchanged, and of an honest one at most `work` of its bytes more were requested.
 abbrev pub UsesWithin : {S : Type 0} → (List ℕ → ℕ) → Bool → (S → Device) → Lent S → Type 0
-UsesWithin work failed device source = UsesAtMost (work (device source.entry.now).bytes) failed (device source.entry.now) (device source.exit.now)
+UsesWithin work failed device source =
+    UsesAtMost (work (device source.entry.now).bytes) failed (device source.entry.now)
+    (device source.exit.now)
 
 -- A call that only reads. Of an honest source it requests at most `most` bytes; it takes memory for
 -- the image's nodes alone.
-pub record InspectsBetween {X : Type 0} (most : ℕ) (result : Result X Fault) (d e : Device) (old new : Held) : Type 0 where
+pub record InspectsBetween {X : Type 0} (most : ℕ) (result : Result X Fault) (d e : Device)
+    (old new : Held) : Type 0 where
   -- the source is unchanged; `Read` is returned exactly if its failures rose
   pub uses : UsesAtMost most (is_read result) d e
   pub room : TakesNodes d (is_out_of_memory result) old new
@@ -37,12 +40,15 @@ pub record InspectsBetween {X : Type 0} (most : ℕ) (result : Result X Fault) (
   pub no_making : is_of_making result ≡ false
 
 -- the same with a measure of the source's bytes
-abbrev pub Inspects : {S X : Type 0} → (List ℕ → ℕ) → Result X Fault → (S → Device) → Lent S → Lent Held → Type 0
-Inspects work result device source room = InspectsBetween (work (device source.entry.now).bytes) result
+abbrev pub Inspects : {S X : Type 0} → (List ℕ → ℕ) → Result X Fault → (S → Device) → Lent S
+    → Lent Held → Type 0
+Inspects work result device source room =
+    InspectsBetween (work (device source.entry.now).bytes) result
     (device source.entry.now) (device source.exit.now) room.entry.now room.exit.now
 
 -- The same without a bound on the requested bytes.
-pub record ReadsAnyBetween {X : Type 0} (result : Result X Fault) (d e : Device) (old new : Held) : Type 0 where
+pub record ReadsAnyBetween {X : Type 0} (result : Result X Fault) (d e : Device) (old new : Held)
+    : Type 0 where
   pub uses : Uses (is_read result) d e
   pub room : TakesNodes d (is_out_of_memory result) old new
   pub no_put : is_put result ≡ false
@@ -54,7 +60,8 @@ ReadsAny result device source room = ReadsAnyBetween result
 
 -- A call that reads and writes. Of an honest source it requests at most `most` bytes; it takes
 -- memory for the image's nodes alone.
-pub record DeliversBetween {X : Type 0} (most : ℕ) (result : Result X Fault) (d e : Device) (old new : Held) (s t : Sink) : Type 0 where
+pub record DeliversBetween {X : Type 0} (most : ℕ) (result : Result X Fault) (d e : Device)
+    (old new : Held) (s t : Sink) : Type 0 where
   -- the source is unchanged; `Read` is returned exactly if its failures rose
   pub uses : UsesAtMost most (is_read result) d e
   pub room : TakesNodes d (is_out_of_memory result) old new
@@ -63,36 +70,46 @@ pub record DeliversBetween {X : Type 0} (most : ℕ) (result : Result X Fault) (
   -- B10 and F5 to F10 are never returned, over any source
   pub no_making : is_of_making result ≡ false
 
-abbrev pub Delivers : {S X : Type 0} → (List ℕ → ℕ) → Result X Fault → (S → Device) → Lent S → Lent Held → Lent Sink → Type 0
-Delivers work result device source room out = DeliversBetween (work (device source.entry.now).bytes) result
-    (device source.entry.now) (device source.exit.now) room.entry.now room.exit.now out.entry.now out.exit.now
+abbrev pub Delivers : {S X : Type 0} → (List ℕ → ℕ) → Result X Fault → (S → Device) → Lent S
+    → Lent Held → Lent Sink → Type 0
+Delivers work result device source room out =
+    DeliversBetween (work (device source.entry.now).bytes) result
+    (device source.entry.now) (device source.exit.now) room.entry.now room.exit.now out.entry.now
+    out.exit.now
 
 -- The same for a call that passes what it read to a taker; nothing is claimed of failed writes.
-pub record TakesOutBetween {X : Type 0} (most : ℕ) (result : Result X Fault) (d e : Device) (old new : Held) : Type 0 where
+pub record TakesOutBetween {X : Type 0} (most : ℕ) (result : Result X Fault) (d e : Device)
+    (old new : Held) : Type 0 where
   -- the source is unchanged; `Read` is returned exactly if its failures rose
   pub uses : UsesAtMost most (is_read result) d e
   pub room : TakesNodes d (is_out_of_memory result) old new
   -- B10 and F5 to F10 are never returned, over any source
   pub no_making : is_of_making result ≡ false
 
-abbrev pub TakesOut : {S X : Type 0} → (List ℕ → ℕ) → Result X Fault → (S → Device) → Lent S → Lent Held → Type 0
-TakesOut work result device source room = TakesOutBetween (work (device source.entry.now).bytes) result
+abbrev pub TakesOut : {S X : Type 0} → (List ℕ → ℕ) → Result X Fault → (S → Device) → Lent S
+    → Lent Held → Type 0
+TakesOut work result device source room =
+    TakesOutBetween (work (device source.entry.now).bytes) result
     (device source.entry.now) (device source.exit.now) room.entry.now room.exit.now
 
 -- Over an honest source the outcome of its bytes was written, to its end or up to a failed call.
-abbrev pub TellsOf : {S : Type 0} → (List ℕ → Outcome Fault) → Result Status Fault → (S → Device) → Lent S → Lent Sink → Type 0
+abbrev pub TellsOf : {S : Type 0} → (List ℕ → Outcome Fault) → Result Status Fault → (S → Device)
+    → Lent S → Lent Sink → Type 0
 TellsOf outcome result device source out = IsTrue (device source.entry.now).honest →
     Tells (end_of result) (outcome (device source.entry.now).bytes) out.entry.now out.exit.now
 
 -- Of an honest source at most `work` bytes, the written text and one window were requested.
-abbrev pub KeepsAhead : {S : Type 0} → (List ℕ → ℕ) → (List ℕ → Outcome Fault) → (S → Device) → Lent S → Lent Sink → Type 0
+abbrev pub KeepsAhead : {S : Type 0} → (List ℕ → ℕ) → (List ℕ → Outcome Fault) → (S → Device)
+    → Lent S → Lent Sink → Type 0
 KeepsAhead work outcome device source out = IsTrue (device source.entry.now).honest →
-    ReadsAhead (work (device source.entry.now).bytes) (device source.entry.now) (device source.exit.now) out.entry.now out.exit.now
+    ReadsAhead (work (device source.entry.now).bytes) (device source.entry.now)
+    (device source.exit.now) out.entry.now out.exit.now
     (outcome (device source.entry.now).bytes).text
 
 -- A call over bytes in memory: no read or write fails, and it takes memory for the image's nodes
 -- alone.
-pub record InMemoryBetween {X : Type 0} (file : List ℕ) (result : Result X Fault) (old new : Held) : Type 0 where
+pub record InMemoryBetween {X : Type 0} (file : List ℕ) (result : Result X Fault) (old new : Held)
+    : Type 0 where
   -- `OutOfMemory` of the blob is returned exactly if the refusals of the room rose
   pub refused : RisesIf (is_out_of_memory result) old.refused new.refused
   -- 8192 bytes, and 128 for each node that was met

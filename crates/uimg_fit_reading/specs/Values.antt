@@ -1,5 +1,6 @@
 -- How the values of properties are printed.
-use Rattle.std.specs.Prelude.{ℕ, zero, suc, min, ◌-◌, List, [], ◌∷◌, ◌++◌, length, drop, not, ◌==◌, if◌then◌else◌, codes}
+use Rattle.std.specs.Prelude.{ℕ, zero, suc, min, ◌-◌, List, [], ◌∷◌, ◌++◌, length, drop, not, ◌==◌}
+use Rattle.std.specs.Prelude.{if◌then◌else◌, codes}
 use Rattle.std.specs.List.{position_or_len}
 use Rattle.uimg_texts.specs.Slices.{slice}
 use Rattle.uimg_base.specs.declared.spans.Span.{Span}
@@ -11,7 +12,8 @@ in_span file span = slice file span.place span.length
 
 -- hexadecimal digits without leading zeros, but at least eight
 abbrev pub eight_or_more : List ℕ → List ℕ
-eight_or_more digits = drop (min (position_or_len (λ d. not (d == 48)) digits) (length digits - 8)) digits
+eight_or_more digits =
+    drop (min (position_or_len (λ d. not (d == 48)) digits) (length digits - 8)) digits
 
 -- an address of one cell or of two, or `unavailable`
 unfoldable pub address_text : List ℕ → List ℕ

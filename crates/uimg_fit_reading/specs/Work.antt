@@ -1,9 +1,9 @@
 -- The most bytes that a command requests.
 use Rattle.std.specs.Prelude.{ℕ, ◌+◌, ◌*◌, List, length, if◌then◌else◌, Result, Ok, Err}
 use Rattle.std.specs.List.{sum_by, list_any}
-use Rattle.uimg_blob.specs.LookUps.{NodeOf, hashes}
-use Rattle.uimg_blob.specs.Spots.{Spot}
-use Rattle.uimg_blob.specs.Counts.{nodes_met, properties_met, texts_met, nops_met}
+use Rattle.uimg_blob_reading.specs.LookUps.{NodeOf, hashes}
+use Rattle.uimg_blob_reading.specs.Spots.{Spot}
+use Rattle.uimg_blob_reading.specs.Counts.{nodes_met, properties_met, texts_met, nops_met}
 use Rattle.uimg_fit_base.specs.declared.fault.Fault.{Fault}
 use Rattle.uimg_fit_base.specs.declared.fault.FitFault.{FitFault}
 use Rattle.uimg_fit_base.specs.Files.{images_of}
@@ -14,7 +14,8 @@ use Rattle.uimg_fit_base.specs.Extraction.{extract_of}
 -- the most bytes requested of a payload: each once, however many hash nodes it has, and none if no
 -- hash node is compared
 abbrev pub hashed : NodeOf Spot → Result (List ℕ) FitFault → ℕ
-hashed image (Ok message) = if list_any (λ h. is_compared (word_of message h)) (hashes image) then length message else 0
+hashed image (Ok message) =
+    if list_any (λ h. is_compared (word_of message h)) (hashes image) then length message else 0
 hashed image (Err fault) = 0
 
 -- the same for all images of a file
@@ -25,7 +26,8 @@ all_hashed file (Err fault) = 0
 -- the most bytes requested beside payloads: `meta` without the four bytes that the caller may have
 -- read to choose the format
 abbrev pub own_meta : List ℕ → ℕ
-own_meta file = 60 + 1024 * (nodes_met file + properties_met file) + 4 * (texts_met file + nops_met file)
+own_meta file =
+    60 + 1024 * (nodes_met file + properties_met file) + 4 * (texts_met file + nops_met file)
 
 -- the most bytes that a listing requests
 abbrev pub list_work : List ℕ → ℕ

@@ -2,13 +2,13 @@
 
 ghost use Rattle.std.specs.Prelude.{◌<◌, length, IfOk, IfSome, ◌≡◌, false, IfErr};
 ghost use Rattle.uimg_fit_base.specs.Faults.{of_making};
-ghost use Rattle.uimg_blob.specs.Grammar.{Siblings};
-ghost use Rattle.uimg_blob.specs.Indexed.{IsIndexed};
+ghost use Rattle.uimg_blob_reading.specs.Grammar.{Siblings};
+ghost use Rattle.uimg_blob_reading.specs.Indexed.{IsIndexed};
 ghost use Rattle.uimg_fit_reading.specs.Nodes.{Indexed, TellsImages, TellsImage};
 
 use std::alloc::Allocator;
 use uimg_base::Room;
-use uimg_blob::Blob;
+use uimg_blob_reading::Blob;
 use uimg_fit_base::FitFault;
 
 /// Returns the number of the first image, if there is one, or `NoImages` without a node `images`.

@@ -1,10 +1,10 @@
 //! The listing of an image.
 
 ghost use Rattle.std.specs.Prelude.{◌≡◌, ◌++◌, List, Some, codes, length};
-ghost use Rattle.uimg_blob.specs.Grammar.{Siblings};
-ghost use Rattle.uimg_blob.specs.LookUps.{NodeOf, images, configurations};
-ghost use Rattle.uimg_blob.specs.Roles.{in_images};
-ghost use Rattle.uimg_blob.specs.Spots.{Spot, spots};
+ghost use Rattle.uimg_blob_reading.specs.Grammar.{Siblings};
+ghost use Rattle.uimg_blob_reading.specs.LookUps.{NodeOf, images, configurations};
+ghost use Rattle.uimg_blob_reading.specs.Roles.{in_images};
+ghost use Rattle.uimg_blob_reading.specs.Spots.{Spot, spots};
 ghost use Rattle.uimg_fit_base.specs.Faults.{end_of};
 ghost use Rattle.uimg_fit_base.specs.Files.{root_own, cell};
 ghost use Rattle.uimg_fit_reading.specs.Listing.{configurations_lines, image_lines, lists, list_of, numbered};
@@ -28,14 +28,14 @@ mod titles;
 
 use crate::images::first_image;
 use crate::listing::heads::{put_default, put_head};
-use crate::listing::listed_nodes::{Kind, put_listed_nodes};
+use crate::listing::listed_nodes::{Listed, put_listed_nodes};
 use crate::nodes::{child_of, configurations_of, root_value, value_of};
 use crate::places::cell;
 use crate::tree::read_tree;
 use std::alloc::Allocator;
 use std::io::Write;
 use uimg_base::{MoveFault, Out, Room, Source, Status};
-use uimg_blob::{Blob, Key};
+use uimg_blob_reading::{Blob, Key};
 use uimg_fit_base::Fault;
 use uimg_names::Naming;
 
@@ -57,7 +57,7 @@ fn put_configurations<S: Source, A: Allocator, W: Write>(
     };
     put_default(source, room, value_of(blob, room, node, Key::Default), out)?;
     let first = child_of(blob, room, node);
-    put_listed_nodes(source, blob, room, Kind::Configuration, first, out)
+    put_listed_nodes(source, blob, room, Listed::Configuration, first, out)
 }
 
 // Writes the lines of the images, from the first one on, and of the configurations.
@@ -78,7 +78,7 @@ fn put_body<S: Source, A: Allocator, W: Write>(
         (numbered (image_lines naming (S.device source.old).bytes time) 0 found
         ++ configurations_lines (configurations (spots t))) }
 {
-    put_listed_nodes(source, blob, room, Kind::Image(naming, time), first, out)?;
+    put_listed_nodes(source, blob, room, Listed::Image(naming, time), first, out)?;
     put_configurations(source, blob, room, out)
 }
 

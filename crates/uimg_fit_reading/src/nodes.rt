@@ -1,12 +1,12 @@
 //! Names and values of the nodes of an indexed blob, and its hash nodes.
 ghost use Rattle.std.specs.Prelude.{◌≡◌, ℕ, ◌+◌, ◌<◌, ◌≤◌, List, [], ◌∷◌, length, Some, IfSome, IsTrue};
 ghost use Rattle.std.specs.Option.{option_map};
-ghost use Rattle.uimg_blob.specs.Grammar.{Siblings};
-ghost use Rattle.uimg_blob.specs.Indexed.{IsIndexed, keeps, value_span};
-ghost use Rattle.uimg_blob.specs.Keys.{name_of};
-ghost use Rattle.uimg_blob.specs.LookUps.{NodeOf, first, hashes, listed};
-ghost use Rattle.uimg_blob.specs.Roles.{Level, role_at, level_in, level_after, top, in_images};
-ghost use Rattle.uimg_blob.specs.Spots.{Spot, spots};
+ghost use Rattle.uimg_blob_reading.specs.Grammar.{Siblings};
+ghost use Rattle.uimg_blob_reading.specs.Indexed.{IsIndexed, keeps, value_span};
+ghost use Rattle.uimg_blob_reading.specs.Keys.{name_of};
+ghost use Rattle.uimg_blob_reading.specs.LookUps.{NodeOf, first, hashes, listed};
+ghost use Rattle.uimg_blob_reading.specs.Roles.{Level, role_at, level_in, level_after, top, in_images};
+ghost use Rattle.uimg_blob_reading.specs.Spots.{Spot, spots};
 ghost use Rattle.uimg_fit_base.specs.Files.{bytes_of, bytes_in, root_own};
 ghost use Rattle.uimg_fit_reading.specs.Nodes.{Indexed, IsRead, IsNode, AtNode, InTree, AreFrom, HashesFrom, HashAt, HashesAt, TellsConfigurations, IsEntry, IsEntryOrNone, InAnyFile};
 ghost use Rattle.uimg_fit_reading.specs.Values.{in_span};
@@ -14,7 +14,7 @@ ghost use Rattle.uimg_fit_reading.specs.PayloadPlaces.{Ends};
 
 use std::alloc::Allocator;
 use uimg_base::{Room, Span};
-use uimg_blob::{Blob, Key};
+use uimg_blob_reading::{Blob, Key};
 
 /// Returns the span of a node's name, at most 255 bytes.
 pub fn name_of<A: Allocator>(blob: &Blob, room: &Room<A>, node: usize) -> Span

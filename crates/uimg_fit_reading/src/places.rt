@@ -2,10 +2,10 @@
 
 ghost use Rattle.std.specs.Prelude.{◌≡◌, false, ◌+◌, ◌<◌, ◌≤◌, ◌^◌, length, is_err, IfOk, IfSome, IsTrue, IfErr};
 ghost use Rattle.uimg_base.specs.Using.{Asks};
-ghost use Rattle.uimg_blob.specs.LookUps.{NodeOf};
-ghost use Rattle.uimg_blob.specs.Grammar.{Siblings};
-ghost use Rattle.uimg_blob.specs.Roles.{in_images};
-ghost use Rattle.uimg_blob.specs.Spots.{Spot};
+ghost use Rattle.uimg_blob_reading.specs.LookUps.{NodeOf};
+ghost use Rattle.uimg_blob_reading.specs.Grammar.{Siblings};
+ghost use Rattle.uimg_blob_reading.specs.Roles.{in_images};
+ghost use Rattle.uimg_blob_reading.specs.Spots.{Spot};
 ghost use Rattle.uimg_fit_base.specs.Faults.{is_read, of_making};
 ghost use Rattle.uimg_fit_base.specs.Files.{number_in};
 ghost use Rattle.uimg_fit_reading.specs.Nodes.{IsRead, IsNode, HasNode, AtLevel, InAnyFile};
@@ -15,8 +15,8 @@ ghost use Rattle.uimg_fit_reading.specs.PayloadPlaces.{place_said, payload_said,
 
 use crate::nodes::value_of;
 use std::alloc::Allocator;
-use uimg_base::{Room, Source, SourceFault, Span, number_at, up4};
-use uimg_blob::{Blob, Key};
+use uimg_base::{Room, Source, SourceFault, Span, be32_at, up4};
+use uimg_blob_reading::{Blob, Key};
 use uimg_fit_base::{Fault, FitFault};
 
 /// The properties of an image that say where its payload is.
@@ -65,7 +65,7 @@ pub(crate) fn cell<S: Source>(
     }
     let mut bytes = [0; 4];
     source.fill_at(span.place, &mut bytes)?;
-    Ok(Some(number_at(&bytes, 0)))
+    Ok(Some(be32_at(&bytes, 0)))
 }
 
 // Returns the span of a payload by the cells of its image and its value `data`, or `NoData`.

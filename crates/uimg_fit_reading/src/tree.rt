@@ -1,14 +1,14 @@
 //! Indexes the blob of an image.
 
 ghost use Rattle.std.specs.Prelude.{length, IfOk};
-ghost use Rattle.uimg_blob.specs.Counts.{index_cost};
+ghost use Rattle.uimg_blob_reading.specs.Counts.{index_cost};
 ghost use Rattle.uimg_fit_reading.specs.Nodes.{InFile, GivesTree};
 ghost use Rattle.uimg_fit_reading.specs.Puts.{IfHonest};
 ghost use Rattle.uimg_fit_reading.specs.Rooms.{Inspects};
 
 use std::alloc::Allocator;
 use uimg_base::{Room, Source};
-use uimg_blob::{Blob, index};
+use uimg_blob_reading::{Blob, index};
 use uimg_fit_base::Fault;
 
 /// Indexes the blob that a FIT image begins with. Returns the faults of the blob.

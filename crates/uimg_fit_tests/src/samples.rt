@@ -3,7 +3,7 @@
 ghost use Rattle.std.specs.Prelude.{◌<◌, ◌^◌};
 
 use std::alloc::{AllocError, Allocator};
-use uimg_blob::samples::Sample;
+use uimg_blob_reading::samples::Sample;
 
 // The offset of each property's name in the strings block that `finish` gives a sample.
 pub const DESCRIPTION: u32 = 0;

@@ -2,8 +2,8 @@
 use Rattle.std.proofs.Common.{ℕ, ◌≤◌, Option, Some, None, Vec, arith}
 use Rattle.std.proofs.lemmas.List.Elements.{All-weaker}
 use Rattle.uimg_base.specs.declared.spans.Span.{Span}
-use Rattle.uimg_blob.specs.declared.places.PropertyPlace.{PropertyPlace}
-use Rattle.uimg_blob.specs.Places.{EndsBy}
+use Rattle.uimg_blob_reading.specs.declared.places.PropertyPlace.{PropertyPlace}
+use Rattle.uimg_blob_reading.specs.Places.{EndsBy}
 use Rattle.uimg_fit_checking.specs.FullSurvey.{PlacesInside}
 use Rattle.uimg_fit_checking.specs.declared.surveying.facts.HashFacts.{HashFacts}
 use Rattle.uimg_fit_reading.specs.declared.places.PayloadFacts.{PayloadFacts}

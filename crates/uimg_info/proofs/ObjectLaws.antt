@@ -2,7 +2,7 @@
 use Rattle.std.proofs.Common.{ℕ, suc, ◌+◌, Bool, Option, Some, None, true, false, List, [], ◌∷◌, ◌++◌, map, nat_lt, codes, Result, Ok, Err}
 use Rattle.json.specs.Json.{Json}
 use Rattle.uimg_base.specs.declared.spans.Span.{Span}
-use Rattle.uimg_blob.specs.Plain.{NamedOf}
+use Rattle.uimg_blob_reading.specs.Plain.{NamedOf}
 use Rattle.uimg_fit_base.specs.declared.fault.FitFault.{FitFault}
 use Rattle.uimg_fit_checking.specs.Survey.{Said, ImageSaid, ConfigurationSaid}
 use Rattle.uimg_fit_reading.specs.PayloadPlaces.{place_said}

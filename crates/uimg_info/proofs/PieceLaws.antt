@@ -4,7 +4,7 @@ use Rattle.std.proofs.lemmas.List.{take_all}
 use Rattle.std.specs.List.{list_all}
 use Rattle.std.specs.Str.{is_utf8}
 use Rattle.uimg_texts.specs.Nul.{before_nul}
-use Rattle.uimg_blob.proofs.PhaseLaws.{some_none, some_some}
+use Rattle.uimg_blob_reading.proofs.PhaseLaws.{some_none, some_some}
 use Rattle.uimg_fit_reading.specs.Values.{pieces, onto}
 
 abbrev behind : ℕ → Option (List ℕ) → Option (List ℕ)

@@ -3,7 +3,7 @@ use Rattle.std.proofs.Common.{◌≡◌, ◌≤◌, ℕ, List, [], ◌∷◌, le
 use Rattle.std.proofs.Math.ListN.{length-map}
 use Rattle.std.proofs.Math.Nat.{suc-ne-zero}
 use Rattle.uimg_base.specs.declared.spans.Span.{Span}
-use Rattle.uimg_blob.specs.Plain.{NamedOf}
+use Rattle.uimg_blob_reading.specs.Plain.{NamedOf}
 use Rattle.uimg_fit_checking.specs.Survey.{ConfigurationSaid}
 use Rattle.uimg_info.specs.Fit.{configurations_json}
 

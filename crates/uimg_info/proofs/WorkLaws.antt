@@ -7,8 +7,8 @@ use Rattle.uimg_base.specs.Device.{Device}
 use Rattle.uimg_base.specs.Using.{Asks}
 use Rattle.uimg_base.specs.declared.spans.Span.{Span}
 use Rattle.uimg_base.proofs.Slices.{length-slice}
-use Rattle.uimg_blob.specs.declared.places.PropertyPlace.{PropertyPlace}
-use Rattle.uimg_blob.specs.Places.{read_place, EndsBy}
+use Rattle.uimg_blob_reading.specs.declared.places.PropertyPlace.{PropertyPlace}
+use Rattle.uimg_blob_reading.specs.Places.{read_place, EndsBy}
 use Rattle.uimg_fit_base.specs.Files.{bytes_in}
 use Rattle.uimg_fit_checking.specs.FullSurvey.{read_properties, PlacesInside, FullInside}
 use Rattle.uimg_fit_reading.specs.Heads.{span_size}

@@ -1,9 +1,10 @@
 -- The JSON object of a FIT image's facts.
-use Rattle.std.specs.Prelude.{ℕ, ◌+◌, List, [], ◌∷◌, ◌++◌, map, codes, nat_lt, Bool, true, false, length, Option, Some, None, Result, Ok, Err}
+use Rattle.std.specs.Prelude.{ℕ, ◌+◌, List, [], ◌∷◌, ◌++◌, map, codes, nat_lt, Bool, true, false}
+use Rattle.std.specs.Prelude.{length, Option, Some, None, Result, Ok, Err}
 use Rattle.json.specs.Json.{Json}
 use Rattle.uimg_base.specs.declared.spans.Span.{Span}
 use Rattle.uimg_base.specs.Results.{◌>>=◌}
-use Rattle.uimg_blob.specs.Plain.{NamedOf}
+use Rattle.uimg_blob_reading.specs.Plain.{NamedOf}
 use Rattle.uimg_fit_base.specs.declared.fault.Fault.{Fault}
 use Rattle.uimg_fit_base.specs.declared.fault.FitFault.{FitFault}
 use Rattle.uimg_fit_checking.specs.FullSurvey.{properties_of}
@@ -13,55 +14,55 @@ use Rattle.uimg_info.specs.declared.reservations.Reservation.{Reservation}
 use Rattle.uimg_info.specs.Reservations.{reservations_of, reservations_members}
 use Rattle.uimg_printing.specs.Members.{Member, object_of, array_of, string_member, number_member}
 use Rattle.uimg_info.specs.Members.{Fact, facts_members}
-use Rattle.uimg_info.specs.declared.kinds.Kind.TheVariants.{Text, Texts, Digest, Cell, Address}
+use Rattle.uimg_info.specs.declared.forms.Form.TheVariants.{Text, Texts, Digest, Cell, Address}
 
 -- the facts of a hash node
 abbrev pub hash_facts : HashSaid → List Fact
 hash_facts hash =
-    record { name = codes "name"; kind = Text; value = Some hash.name }
-    ∷ record { name = codes "algo"; kind = Text; value = hash.algo }
-    ∷ record { name = codes "value"; kind = Digest; value = hash.value }
+    record { name = codes "name"; form = Text; value = Some hash.name }
+    ∷ record { name = codes "algo"; form = Text; value = hash.algo }
+    ∷ record { name = codes "value"; form = Digest; value = hash.value }
     ∷ []
 
 -- the facts of an image, without its payload and its hash nodes
 abbrev pub image_facts : ImageSaid → List Fact
 image_facts image =
-    record { name = codes "name"; kind = Text; value = Some image.name }
-    ∷ record { name = codes "description"; kind = Text; value = image.description }
-    ∷ record { name = codes "type"; kind = Text; value = image.kind }
-    ∷ record { name = codes "arch"; kind = Text; value = image.arch }
-    ∷ record { name = codes "os"; kind = Text; value = image.os }
-    ∷ record { name = codes "compression"; kind = Text; value = image.compression }
-    ∷ record { name = codes "load"; kind = Address; value = image.load }
-    ∷ record { name = codes "entry"; kind = Address; value = image.entry }
+    record { name = codes "name"; form = Text; value = Some image.name }
+    ∷ record { name = codes "description"; form = Text; value = image.description }
+    ∷ record { name = codes "type"; form = Text; value = image.kind }
+    ∷ record { name = codes "arch"; form = Text; value = image.arch }
+    ∷ record { name = codes "os"; form = Text; value = image.os }
+    ∷ record { name = codes "compression"; form = Text; value = image.compression }
+    ∷ record { name = codes "load"; form = Address; value = image.load }
+    ∷ record { name = codes "entry"; form = Address; value = image.entry }
     ∷ []
 
 -- the facts of a configuration, without its child nodes
 abbrev pub configuration_facts : ConfigurationSaid → List Fact
 configuration_facts configuration =
-    record { name = codes "name"; kind = Text; value = Some configuration.name }
-    ∷ record { name = codes "description"; kind = Text; value = configuration.description }
-    ∷ record { name = codes "kernel"; kind = Text; value = configuration.kernel }
-    ∷ record { name = codes "ramdisk"; kind = Text; value = configuration.ramdisk }
-    ∷ record { name = codes "fdt"; kind = Texts; value = configuration.fdt }
-    ∷ record { name = codes "loadables"; kind = Texts; value = configuration.loadables }
-    ∷ record { name = codes "firmware"; kind = Text; value = configuration.firmware }
-    ∷ record { name = codes "fpga"; kind = Text; value = configuration.fpga }
-    ∷ record { name = codes "setup"; kind = Text; value = configuration.setup }
-    ∷ record { name = codes "standalone"; kind = Text; value = configuration.standalone }
-    ∷ record { name = codes "script"; kind = Text; value = configuration.script }
+    record { name = codes "name"; form = Text; value = Some configuration.name }
+    ∷ record { name = codes "description"; form = Text; value = configuration.description }
+    ∷ record { name = codes "kernel"; form = Text; value = configuration.kernel }
+    ∷ record { name = codes "ramdisk"; form = Text; value = configuration.ramdisk }
+    ∷ record { name = codes "fdt"; form = Texts; value = configuration.fdt }
+    ∷ record { name = codes "loadables"; form = Texts; value = configuration.loadables }
+    ∷ record { name = codes "firmware"; form = Text; value = configuration.firmware }
+    ∷ record { name = codes "fpga"; form = Text; value = configuration.fpga }
+    ∷ record { name = codes "setup"; form = Text; value = configuration.setup }
+    ∷ record { name = codes "standalone"; form = Text; value = configuration.standalone }
+    ∷ record { name = codes "script"; form = Text; value = configuration.script }
     ∷ []
 
 -- the members of a child node of a configuration, and of a property: its name
 abbrev pub node_facts : List ℕ → List Fact
-node_facts name = record { name = codes "name"; kind = Text; value = Some name } ∷ []
+node_facts name = record { name = codes "name"; form = Text; value = Some name } ∷ []
 
 -- the facts of the root, and the default configuration
 abbrev pub root_facts : Said → List Fact
 root_facts said =
-    record { name = codes "description"; kind = Text; value = said.description }
-    ∷ record { name = codes "timestamp"; kind = Cell; value = said.timestamp }
-    ∷ record { name = codes "default"; kind = Text; value = said.preferred }
+    record { name = codes "description"; form = Text; value = said.description }
+    ∷ record { name = codes "timestamp"; form = Cell; value = said.timestamp }
+    ∷ record { name = codes "default"; form = Text; value = said.preferred }
     ∷ []
 
 -- the same, and the reserved memory
@@ -70,7 +71,8 @@ root_members reserved said = facts_members (root_facts said) ++ reservations_mem
 
 -- a fault of a payload
 abbrev pub fault_members : List ℕ → List ℕ → List Member
-fault_members code message = string_member (codes "fault") code ++ string_member (codes "message") message
+fault_members code message =
+    string_member (codes "fault") code ++ string_member (codes "message") message
 
 -- where a payload is, in a file of `size` bytes, and the fault if it ends after the file
 abbrev pub outside : Bool → List Member
@@ -79,7 +81,9 @@ outside false = []
 
 abbrev pub span_members : ℕ → Span → List Member
 span_members size place =
-    number_member (codes "offset") place.place ++ (number_member (codes "data-size") place.length ++ outside (nat_lt size (place.place + place.length)))
+    number_member (codes "offset") place.place
+    ++ (number_member (codes "data-size") place.length
+    ++ outside (nat_lt size (place.place + place.length)))
 
 -- the same for an image, or that it has no payload
 abbrev pub place_members : ℕ → Result Span FitFault → List Member
@@ -94,7 +98,8 @@ node_json name = object_of (facts_members (node_facts name))
 
 -- a property: its name, and the length of its value
 abbrev pub property_members : NamedOf Span → List Member
-property_members property = facts_members (node_facts property.name) ++ number_member (codes "size") property.value.length
+property_members property =
+    facts_members (node_facts property.name) ++ number_member (codes "size") property.value.length
 
 abbrev pub property_json : NamedOf Span → Json
 property_json property = object_of (property_members property)
@@ -103,16 +108,19 @@ property_json property = object_of (property_members property)
 abbrev pub configuration_members : ConfigurationSaid → List (NamedOf Span) → List Member
 configuration_members configuration properties =
     facts_members (configuration_facts configuration)
-    ++ ((codes "nodes", array_of (map node_json configuration.nodes)) ∷ (codes "properties", array_of (map property_json properties)) ∷ [])
+    ++ ((codes "nodes", array_of (map node_json configuration.nodes))
+    ∷ (codes "properties", array_of (map property_json properties)) ∷ [])
 
 abbrev pub configuration_json : ConfigurationSaid → List (NamedOf Span) → Json
-configuration_json configuration properties = object_of (configuration_members configuration properties)
+configuration_json configuration properties =
+    object_of (configuration_members configuration properties)
 
 -- configurations, each with its properties
 abbrev pub configurations_json : List ConfigurationSaid → List (List (NamedOf Span)) → List Json
 configurations_json [] lists = []
 configurations_json (configuration ∷ configurations) [] = []
-configurations_json (configuration ∷ configurations) (properties ∷ lists) = configuration_json configuration properties ∷ configurations_json configurations lists
+configurations_json (configuration ∷ configurations) (properties ∷ lists) =
+    configuration_json configuration properties ∷ configurations_json configurations lists
 
 -- an image in a file of `size` bytes, whose blob has this total size
 abbrev pub image_members : ℕ → ℕ → ImageSaid → List Member
@@ -126,18 +134,22 @@ image_json size totalsize image = object_of (image_members size totalsize image)
 -- the first members of each image
 abbrev pub head_members : List ℕ → ℕ → ℕ → List Member
 head_members path size totalsize =
-    string_member (codes "path") path ++ (number_member (codes "status") 0 ++ (string_member (codes "format") (codes "fit")
+    string_member (codes "path") path
+    ++ (number_member (codes "status") 0 ++ (string_member (codes "format") (codes "fit")
     ++ (number_member (codes "size") size ++ number_member (codes "totalsize") totalsize)))
 
 -- the object of a file of `size` bytes at a path, with its facts and configurations' properties
-abbrev pub fit_members : List ℕ → ℕ → Option (List Reservation) → Said → List (List (NamedOf Span)) → List Member
+abbrev pub fit_members : List ℕ → ℕ → Option (List Reservation) → Said → List (List (NamedOf Span))
+    → List Member
 fit_members path size reserved said properties =
     head_members path size said.totalsize ++ (root_members reserved said
     ++ ((codes "images", array_of (map (image_json size said.totalsize) said.images))
     ∷ (codes "configurations", array_of (configurations_json said.configurations properties)) ∷ []))
 
-abbrev pub fit_json : List ℕ → ℕ → Option (List Reservation) → Said → List (List (NamedOf Span)) → Json
-fit_json path size reserved said properties = object_of (fit_members path size reserved said properties)
+abbrev pub fit_json : List ℕ → ℕ → Option (List Reservation) → Said → List (List (NamedOf Span))
+    → Json
+fit_json path size reserved said properties =
+    object_of (fit_members path size reserved said properties)
 
 -- the object of a file at a path, or the file's first fault
 abbrev pub info_of : List ℕ → List ℕ → Result Json Fault

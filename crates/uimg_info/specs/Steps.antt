@@ -1,5 +1,6 @@
 -- What the steps of writing an object do.
-use Rattle.std.specs.Prelude.{◌≡◌, ℕ, ⊤, List, false, Result, Ok, Err, OnOk, IfOk, IsTrue, Option, Some, map, Vec}
+use Rattle.std.specs.Prelude.{◌≡◌, ℕ, ⊤, List, false, Result, Ok, Err, OnOk, IfOk, IsTrue, Option}
+use Rattle.std.specs.Prelude.{Some, map, Vec}
 use Rattle.std.specs.Borrow.{Bor}
 use Rattle.json.specs.Json.{Json, document}
 use Rattle.json.specs.Print.{print}
@@ -11,24 +12,28 @@ use Rattle.uimg_base.specs.Device.{Device}
 use Rattle.uimg_base.specs.Lent.{Lent}
 use Rattle.uimg_base.specs.Using.{Asks}
 use Rattle.uimg_base.specs.declared.spans.Span.{Span}
-use Rattle.uimg_blob.specs.Faults.{refuses_memory}
+use Rattle.uimg_blob_reading.specs.Faults.{refuses_memory}
 use Rattle.uimg_fit_base.specs.Files.{bytes_in}
 use Rattle.uimg_fit_base.specs.declared.fault.Fault.TheVariants as of
 use Rattle.uimg_fit_checking.specs.SurveyParts.{IsOwn, is_unread}
 use Rattle.uimg_fit_reading.specs.PayloadPlaces.{Ends}
 use Rattle.uimg_fit_checking.specs.declared.surveying.fault.SurveyFault.{SurveyFault}
-use Rattle.uimg_fit_checking.specs.declared.surveying.fault.SurveyFault.TheVariants.{Stopped, OutOfMemory, Changed}
+use Rattle.uimg_fit_checking.specs.declared.surveying.fault.SurveyFault.TheVariants.{Stopped}
+use Rattle.uimg_fit_checking.specs.declared.surveying.fault.SurveyFault.TheVariants.{OutOfMemory}
+use Rattle.uimg_fit_checking.specs.declared.surveying.fault.SurveyFault.TheVariants.{Changed}
 use Rattle.uimg_info.specs.Fit.{info_of, fit_json}
 use Rattle.uimg_info.specs.Reservations.{reservations_of}
 use Rattle.uimg_fit_checking.specs.Survey.{read_survey}
 use Rattle.uimg_fit_checking.specs.FullSurvey.{read_properties}
 use Rattle.uimg_fit_checking.specs.declared.surveying.facts.FullSurvey.{FullSurvey}
 use Rattle.uimg_info.specs.Members.{Fact}
-use Rattle.uimg_info.specs.declared.kinds.Kind.{Kind}
+use Rattle.uimg_info.specs.declared.forms.Form.{Form}
 
 -- Over an honest source the result is as a fact says of its bytes.
-abbrev pub Says : {S X E : Type 0} → Result X E → (S → Device) → Lent S → (List ℕ → X → Type 0) → Type 0
-Says result device source Fact = IsTrue (device source.entry.now).honest → IfOk result (Fact (device source.entry.now).bytes)
+abbrev pub Says : {S X E : Type 0} → Result X E → (S → Device) → Lent S → (List ℕ → X → Type 0)
+    → Type 0
+Says result device source Fact =
+    IsTrue (device source.entry.now).honest → IfOk result (Fact (device source.entry.now).bytes)
 
 -- The text is that of an object.
 abbrev pub Prints : {Z : Type 0} → Json → Vec ℕ Z → Type 0
@@ -40,24 +45,27 @@ ReadsAs j text = document text.items ≡ Some j
 
 -- At most `most` bytes were requested, and a failure of the device was counted exactly if a read
 -- failed; over an honest device the tokens were appended, unless the step failed.
-pub record PutsBetween {X : Type 0} (most : ℕ) (result : Result X SurveyFault) (d e : Device) (old new : Written) (tokens : List Token) : Type 0 where
+pub record PutsBetween {X : Type 0} (most : ℕ) (result : Result X SurveyFault) (d e : Device)
+    (old new : Written) (tokens : List Token) : Type 0 where
   pub uses : Asks most (is_unread result) d e
   pub own : IsOwn result
   pub before : OnOk result (new.before ≡ old.before)
   pub told : IsTrue d.honest → Appends result old new tokens
 
 -- the same for tokens that depend on the source's bytes
-abbrev pub Puts : {S X : Type 0} → ℕ → Result X SurveyFault → (S → Device) → Lent S → Lent Written → (List ℕ → List Token) → Type 0
+abbrev pub Puts : {S X : Type 0} → ℕ → Result X SurveyFault → (S → Device) → Lent S → Lent Written
+    → (List ℕ → List Token) → Type 0
 Puts most result device source writer tokens = PutsBetween most result
-    (device source.entry.now) (device source.exit.now) writer.entry.now writer.exit.now (tokens (device source.entry.now).bytes)
+    (device source.entry.now) (device source.exit.now) writer.entry.now writer.exit.now
+    (tokens (device source.entry.now).bytes)
 
 -- Tokens were appended, unless memory was refused.
 abbrev pub Adds : {X E : Type 0} → Result X E → Lent Written → List Token → Type 0
 Adds result writer tokens = Appends result writer.entry.now writer.exit.now tokens
 
--- a row of the program: the name of a fact's member, the kind of its value, and the value's span
+-- a row of the program: the name of a fact's member, the form of its value, and the value's span
 abbrev pub Row : Type 0
-Row = Bor (List ℕ) × Kind × Option Span
+Row = Bor (List ℕ) × Form × Option Span
 
 -- Its value, if it is present, ends within a file of this size.
 abbrev pub RowInside : ℕ → Row → Type 0
@@ -65,12 +73,14 @@ RowInside size row = Ends size row.2
 
 -- the fact of a row, read in a file
 abbrev pub read_row : List ℕ → Row → Fact
-read_row file row = record { name = row.0.now; kind = row.1; value = bytes_in file row.2 }
+read_row file row = record { name = row.0.now; form = row.1; value = bytes_in file row.2 }
 
 -- The result is the text of the object of a file at a path, or its fault, unless a call failed.
 abbrev pub Informs : {X : Type 0} → (X → List ℕ) → List ℕ → List ℕ → Result X SurveyFault → Type 0
-Informs view path file (Ok text) = (j : Json) × (info_of path file ≡ Ok j) × (view text ≡ print (json_tokens j))
-Informs view path file (Err (Stopped (of.Blob fault at))) = refuses_memory fault ≡ false → info_of path file ≡ Err (of.Blob fault at)
+Informs view path file (Ok text) =
+    (j : Json) × (info_of path file ≡ Ok j) × (view text ≡ print (json_tokens j))
+Informs view path file (Err (Stopped (of.Blob fault at))) =
+    refuses_memory fault ≡ false → info_of path file ≡ Err (of.Blob fault at)
 Informs view path file (Err (Stopped (of.Fit fault))) = info_of path file ≡ Err (of.Fit fault)
 Informs view path file (Err (Stopped of.Read)) = ⊤
 Informs view path file (Err (Stopped of.Put)) = ⊥
@@ -80,4 +90,5 @@ Informs view path file (Err Changed) = ⊥
 -- the object of a survey's facts, read in a file of `size` bytes at a path
 abbrev pub read_json : List ℕ → ℕ → List ℕ → FullSurvey → Json
 read_json path size file full =
-    fit_json path size (reservations_of file full.survey.totalsize) (read_survey file full.survey) (map (read_properties file) full.properties.items)
+    fit_json path size (reservations_of file full.survey.totalsize) (read_survey file full.survey)
+    (map (read_properties file) full.properties.items)

@@ -4,9 +4,9 @@ use Rattle.std.specs.Prelude.{ℕ, ◌+◌, List, [], ◌∷◌, Option, Some, l
 use Rattle.std.specs.List.{sum_by}
 use Rattle.std.specs.Option.{option_map_or}
 use Rattle.uimg_base.specs.declared.spans.Span.{Span}
-use Rattle.uimg_blob.specs.Counts.{index_cost}
-use Rattle.uimg_blob.specs.Plain.{NamedOf}
-use Rattle.uimg_blob.specs.declared.places.PropertyPlace.{PropertyPlace}
+use Rattle.uimg_blob_reading.specs.Counts.{index_cost}
+use Rattle.uimg_blob_reading.specs.Plain.{NamedOf}
+use Rattle.uimg_blob_reading.specs.declared.places.PropertyPlace.{PropertyPlace}
 use Rattle.uimg_fit_base.specs.declared.fault.Fault.{Fault}
 use Rattle.uimg_fit_checking.specs.FullSurvey.{properties_of, properties_cost}
 use Rattle.uimg_fit_reading.specs.Heads.{span_size}
@@ -36,11 +36,13 @@ abbrev pub hash_said_size : HashSaid → ℕ
 hash_said_size hash = sum_by fact_size (hash_facts hash)
 
 abbrev pub image_said_size : ImageSaid → ℕ
-image_said_size image = sum_by fact_size (image_facts image) + (12 + sum_by hash_said_size image.hashes)
+image_said_size image =
+    sum_by fact_size (image_facts image) + (12 + sum_by hash_said_size image.hashes)
 
 abbrev pub configuration_said_size : ConfigurationSaid → ℕ
 configuration_said_size configuration =
-    sum_by fact_size (configuration_facts configuration) + sum_by (λ name. length name) configuration.nodes
+    sum_by fact_size (configuration_facts configuration)
+    + sum_by (λ name. length name) configuration.nodes
 
 abbrev pub said_size : Said → ℕ
 said_size said =
@@ -59,14 +61,17 @@ abbrev pub hash_size : HashFacts → ℕ
 hash_size hash = sizes (Some hash.name ∷ hash.algo ∷ hash.value ∷ [])
 
 abbrev pub image_rows_size : ImageFacts → ℕ
-image_rows_size i = sizes (Some i.name ∷ i.description ∷ i.kind ∷ i.arch ∷ i.os ∷ i.compression ∷ i.load ∷ i.entry ∷ [])
+image_rows_size i =
+    sizes (Some i.name ∷ i.description ∷ i.kind ∷ i.arch ∷ i.os ∷ i.compression ∷ i.load ∷ i.entry
+    ∷ [])
 
 unfoldable pub image_size : ImageFacts → ℕ
 image_size image = image_rows_size image + (12 + sum_by hash_size image.hashes.items)
 
 abbrev pub configuration_rows_size : ConfigurationFacts → ℕ
 configuration_rows_size c =
-    sizes (Some c.name ∷ c.description ∷ c.kernel ∷ c.ramdisk ∷ c.fdt ∷ c.loadables ∷ c.firmware ∷ c.fpga ∷ c.setup ∷ c.standalone ∷ c.script ∷ [])
+    sizes (Some c.name ∷ c.description ∷ c.kernel ∷ c.ramdisk ∷ c.fdt ∷ c.loadables ∷ c.firmware
+    ∷ c.fpga ∷ c.setup ∷ c.standalone ∷ c.script ∷ [])
 
 abbrev pub node_size : Span → ℕ
 node_size name = name.length
@@ -79,7 +84,9 @@ root_size survey = sizes (survey.description ∷ survey.timestamp ∷ survey.pre
 
 abbrev pub survey_size : Survey → ℕ
 survey_size survey =
-    root_size survey + (sum_by image_size survey.images.items + sum_by configuration_size survey.configurations.items)
+    root_size survey
+    + (sum_by image_size survey.images.items
+    + sum_by configuration_size survey.configurations.items)
 
 abbrev pub property_size : PropertyPlace → ℕ
 property_size place = place.name.length
@@ -97,4 +104,6 @@ size_if (Err fault) = 0
 
 -- the most bytes requested: the index, the configurations' properties and their names, each value
 abbrev pub info_work : List ℕ → ℕ
-info_work file = index_cost file + properties_cost file + sum_by names_size (properties_of file) + size_if (survey_of file)
+info_work file =
+    index_cost file + properties_cost file + sum_by names_size (properties_of file)
+    + size_if (survey_of file)

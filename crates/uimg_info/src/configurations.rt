@@ -3,7 +3,7 @@
 ghost use Rattle.std.specs.Prelude.{◌+◌, ◌<◌, length, map};
 ghost use Rattle.std.specs.List.{All, sum_by};
 ghost use Rattle.json.specs.Tree.{json_tokens};
-ghost use Rattle.uimg_blob.specs.Places.{read_place, EndsBy};
+ghost use Rattle.uimg_blob_reading.specs.Places.{read_place, EndsBy};
 ghost use Rattle.uimg_fit_checking.specs.FullSurvey.{read_properties, PlacesInside};
 ghost use Rattle.uimg_fit_checking.specs.Survey.{read_name, read_configuration};
 ghost use Rattle.uimg_fit_checking.specs.SurveyParts.{NameInside, ConfigurationInside};
@@ -14,11 +14,11 @@ ghost use Rattle.uimg_info.specs.Steps.{Puts};
 ghost use Rattle.uimg_info.specs.Work.{node_size, configuration_rows_size, configuration_size, property_size, list_size};
 
 use crate::facts::{put_object, put_rows};
-use crate::kinds::Kind::{Text, Texts};
+use crate::forms::Form::{Text, Texts};
 use json::Writer;
 use std::alloc::Global;
 use uimg_base::{Source, Span};
-use uimg_blob::PropertyPlace;
+use uimg_blob_reading::PropertyPlace;
 use uimg_fit_checking::{ConfigurationFacts, SurveyFault};
 use uimg_printing::put_number;
 

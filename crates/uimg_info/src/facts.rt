@@ -9,7 +9,7 @@ ghost use Rattle.uimg_info.specs.Members.{value_members, fact_members, facts_mem
 ghost use Rattle.uimg_info.specs.Steps.{Puts, RowInside, read_row};
 ghost use Rattle.uimg_info.specs.Work.{row_size};
 
-use crate::kinds::Kind;
+use crate::forms::Form;
 use crate::members::{put_length, put_value};
 use json::Writer;
 use std::alloc::Global;
@@ -19,8 +19,8 @@ use uimg_fit_checking::{SurveyFault, read_bytes};
 // The most bytes of a value that is printed.
 const MOST: u64 = 65536;
 
-/// A fact: the name of its member, the kind of its value, and the value's span, if it is present.
-pub(crate) type Row<'a> = (&'a str, Kind, Option<Span>);
+/// A fact: the name of its member, the form of its value, and the value's span, if it is present.
+pub(crate) type Row<'a> = (&'a str, Form, Option<Span>);
 
 // Writes a value that is present.
 #[tactic(auto, unfolding(crate::specs::Members::value_members))]
@@ -28,20 +28,20 @@ fn put_span<S: Source>(
     alloc: Global,
     source: &mut S,
     writer: &mut Writer,
-    kind: Kind,
+    form: Form,
     name: &str,
     span: Span,
 ) -> Result<(), SurveyFault>
     requires { span.place + span.length ≤ length (S.device source.old).bytes }
     ensures { Puts span.length result S.device source writer
-        (λ file. tokens_of (value_members kind name.now (slice file span.place span.length))) }
+        (λ file. tokens_of (value_members form name.now (slice file span.place span.length))) }
 {
     if span.length > MOST {
-        put_length(alloc, writer, kind, name, span.length)?;
+        put_length(alloc, writer, form, name, span.length)?;
         return Ok(());
     }
     let value = read_bytes(alloc, source, span)?;
-    put_value(alloc, writer, kind, name, value.as_slice())?;
+    put_value(alloc, writer, form, name, value.as_slice())?;
     Ok(())
 }
 
@@ -57,9 +57,9 @@ fn put_row<S: Source>(
     ensures { Puts (row_size row.now) result S.device source writer
         (λ file. tokens_of (fact_members (read_row file row.now))) }
 {
-    let (name, kind, value) = *row;
+    let (name, form, value) = *row;
     match value {
-        Some(span) => put_span(alloc, source, writer, kind, name, span),
+        Some(span) => put_span(alloc, source, writer, form, name, span),
         None => Ok(()),
     }
 }

@@ -17,7 +17,7 @@ ghost use Rattle.uimg_info.specs.Work.{hash_size, image_rows_size, image_size, r
 
 use crate::configurations::put_configurations;
 use crate::facts::{put_object, put_rows};
-use crate::kinds::Kind::{Address, Cell, Digest, Text};
+use crate::forms::Form::{Address, Cell, Digest, Text};
 use crate::reservations::put_reservations;
 use json::Writer;
 use std::alloc::{AllocError, Global};

@@ -12,7 +12,7 @@ ghost use Rattle.uimg_info.specs.Steps.{Adds, Prints, ReadsAs};
 
 use json::Writer;
 use std::alloc::{AllocError, Global};
-use uimg_base::{Span, before_nul, number_at};
+use uimg_base::{Span, be32_at, before_nul};
 use uimg_legacy::{Header, header_bytes};
 use uimg_names::{Field, Naming};
 use uimg_printing::{put_number, put_string, put_text};
@@ -37,7 +37,7 @@ fn put_crc(writer: &mut Writer, header: &Header) -> Result<(), AllocError>
     ensures { Adds result writer
         (tokens_of (number_member (codes "header-crc") (be32 (spelled header.now) 4))) }
 {
-    let crc = number_at(&header_bytes(header), 4);
+    let crc = be32_at(&header_bytes(header), 4);
     put_number(writer, "header-crc", crc as u64)
 }
 

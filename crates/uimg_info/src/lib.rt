@@ -4,7 +4,7 @@
 mod configurations;
 mod facts;
 mod fit;
-mod kinds;
+mod forms;
 mod legacy;
 mod members;
 mod reservations;

@@ -1,4 +1,4 @@
-//! Members of objects, by the kinds of properties' values.
+//! Members of objects, by the forms of properties' values.
 
 ghost use Rattle.std.specs.Prelude.{◌≡◌, ◌<◌, ◌++◌, [], ◌∷◌, length, map, Bool, true, false};
 ghost use Rattle.std.specs.List.{list_all};
@@ -10,7 +10,7 @@ ghost use Rattle.uimg_printing.specs.Members.{spelled, array_of, of_bytes, token
 ghost use Rattle.uimg_info.specs.Members.{texts_members, told_as, length_of, cell_number, address_number};
 ghost use Rattle.uimg_info.specs.Steps.{Adds};
 
-use crate::kinds::Kind;
+use crate::forms::Form;
 use base64::engine::general_purpose::STANDARD;
 use byteorder::{BigEndian, ByteOrder};
 use json::Writer;
@@ -115,7 +115,7 @@ fn put_digest(
     name: &str,
     value: &[u8],
 ) -> Result<(), AllocError>
-    ensures { Adds result writer (tokens_of (told_as Kind.Digest name.now value.now)) }
+    ensures { Adds result writer (tokens_of (told_as Form.Digest name.now value.now)) }
 {
     let digits = hex::encode(alloc, value)?;
     writer.key(name)?;
@@ -148,22 +148,22 @@ fn address_number(value: &[u8]) -> Option<u64>
     None
 }
 
-/// Writes a value as a member, by its kind.
+/// Writes a value as a member, by its form.
 pub(crate) fn put_value(
     alloc: Global,
     writer: &mut Writer,
-    kind: Kind,
+    form: Form,
     name: &str,
     value: &[u8],
 ) -> Result<(), AllocError>
-    ensures { Adds result writer (tokens_of (told_as kind name.now value.now)) }
+    ensures { Adds result writer (tokens_of (told_as form name.now value.now)) }
 {
-    match kind {
-        Kind::Text => put_text(alloc, writer, name, before_nul(value)),
-        Kind::Texts => put_texts(alloc, writer, name, value),
-        Kind::Digest => put_digest(alloc, writer, name, value),
-        Kind::Cell => put_number_if(writer, name, cell_number(value)),
-        Kind::Address => put_number_if(writer, name, address_number(value)),
+    match form {
+        Form::Text => put_text(alloc, writer, name, before_nul(value)),
+        Form::Texts => put_texts(alloc, writer, name, value),
+        Form::Digest => put_digest(alloc, writer, name, value),
+        Form::Cell => put_number_if(writer, name, cell_number(value)),
+        Form::Address => put_number_if(writer, name, address_number(value)),
     }
 }
 
@@ -171,13 +171,13 @@ pub(crate) fn put_value(
 pub(crate) fn put_length(
     alloc: Global,
     writer: &mut Writer,
-    kind: Kind,
+    form: Form,
     name: &str,
     length: u64,
 ) -> Result<(), AllocError>
-    ensures { Adds result writer (tokens_of (length_of kind name.now length)) }
+    ensures { Adds result writer (tokens_of (length_of form name.now length)) }
 {
-    if matches!(kind, Kind::Cell | Kind::Address) {
+    if matches!(form, Form::Cell | Form::Address) {
         return Ok(());
     }
     put_key(alloc, writer, name, "_length")?;

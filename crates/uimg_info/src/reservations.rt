@@ -13,7 +13,7 @@ ghost use Rattle.uimg_info.specs.Steps.{Puts, Adds, Says};
 use byteorder::{BigEndian, ByteOrder};
 use json::Writer;
 use std::alloc::{AllocError, Global};
-use uimg_base::{Source, SourceFault, Span, number_at};
+use uimg_base::{Source, SourceFault, Span, be32_at};
 use uimg_fit_base::Fault;
 use uimg_fit_checking::{SurveyFault, read_bytes};
 use uimg_printing::put_number;
@@ -83,7 +83,7 @@ fn place_of<S: Source>(source: &mut S) -> Result<u32, SourceFault>
 {
     let mut word = [0; 4];
     source.fill_at(16, &mut word)?;
-    Ok(number_at(&word, 0))
+    Ok(be32_at(&word, 0))
 }
 
 // Reads the entries of the block of a file whose blob has this total size.

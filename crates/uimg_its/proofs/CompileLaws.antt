@@ -1,10 +1,10 @@
 -- What is compiled is what is spelled.
 use Rattle.std.proofs.Common.{◌≡◌, List, Bool, true, false, IsTrue, Option, Some, None, sym, ap, subst, ◌∙◌}
 use Rattle.std.specs.Bool.{OnFalse}
-use Rattle.uimg_blob.specs.Plain.{Nodes}
-use Rattle.uimg_tree.specs.declared.tree.Node.{Node}
-use Rattle.uimg_tree.specs.Content.{in_full}
-use Rattle.uimg_tree.specs.Trees.{node_of}
+use Rattle.uimg_blob_reading.specs.Plain.{Nodes}
+use Rattle.uimg_blob_writing.specs.declared.tree.Node.{Node}
+use Rattle.uimg_blob_writing.specs.Content.{in_full}
+use Rattle.uimg_blob_writing.specs.Trees.{node_of}
 use Rattle.uimg_its.specs.Words.{Word}
 use Rattle.uimg_its.specs.Parts.{FileBytes, NodeParts, parts_of, single}
 use Rattle.uimg_its.specs.Reader.{source}

@@ -2,7 +2,7 @@
 use Rattle.std.proofs.Common.{Bool, false, subst, ◌∙◌}
 use Rattle.uimg_base.specs.Device.{RisesIf}
 use Rattle.uimg_base.specs.Named.{FileMap}
-use Rattle.uimg_tree.specs.UsingFiles.{UsesFiles}
+use Rattle.uimg_blob_writing.specs.UsingFiles.{UsesFiles}
 
 -- a call that refused no open, and then another
 pub files_then : {failed : Bool} {a b c : FileMap} → UsesFiles false a b → UsesFiles failed b c → UsesFiles failed a c

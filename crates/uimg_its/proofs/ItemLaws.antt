@@ -1,6 +1,6 @@
 -- Labels before a name have no effect.
 use Rattle.std.proofs.Common.{◌≡◌, List, [], ◌∷◌, Option, Some, None, Bool, true, false, length, nat_lt, refl, sym, ap, ◌∙◌}
-use Rattle.uimg_its.specs.declared.fault.Kind.{Kind}
+use Rattle.uimg_its.specs.declared.fault.FaultKind.{FaultKind}
 use Rattle.uimg_its.specs.declared.tokens.Mark.TheVariants.{Colon}
 use Rattle.uimg_its.specs.Words.{Word, name, mark, stray}
 use Rattle.uimg_its.specs.Options.{◌>>=◌}
@@ -36,5 +36,5 @@ label_passed ws after total e h = sym (ap (λ r. r >>= λ x. behind x.0 x.1) e) 
 pub item_found : (ws after : List Word) (i : Item) (total : Option (Item × List Word)) → labelled ws ≡ Some (Some i, after) → named ws ≡ total → total ≡ Some (i, after)
 item_found ws after i total e h = sym h ∙ named_step ws ∙ ap (λ r. r >>= λ x. behind x.0 x.1) e
 
-pub item_refused : (k : Kind) (ws : List Word) (total : Option (Item × List Word)) → Refuses k (labelled ws) → named ws ≡ total → Refuses k total
+pub item_refused : (k : FaultKind) (ws : List Word) (total : Option (Item × List Word)) → Refuses k (labelled ws) → named ws ≡ total → Refuses k total
 item_refused k ws total e h = refuses_on k (labelled ws) total (λ none. sym h ∙ named_step ws ∙ ap (λ r. r >>= λ x. behind x.0 x.1) none) e

@@ -2,7 +2,7 @@
 use Rattle.std.proofs.Common.{◌≡◌, ℕ, zero, suc, ◌<◌, ◌≤◌, ◌-◌, List, [], ◌∷◌, Bool, true, false, Option, Some, None, length, refl, sym, ap, arith}
 use Rattle.std.specs.Prelude.{cond}
 use Rattle.uimg_its.specs.declared.tokens.Mark.TheVariants.{BraceClose, Semicolon, Colon}
-use Rattle.uimg_blob.specs.Plain.{Named}
+use Rattle.uimg_blob_reading.specs.Plain.{Named}
 use Rattle.uimg_its.specs.Parts.{FileBytes, NodeParts, chain}
 use Rattle.uimg_its.specs.Words.{Word, name, mark}
 use Rattle.uimg_its.specs.Options.{◌>>=◌}

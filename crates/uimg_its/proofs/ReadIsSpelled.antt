@@ -4,7 +4,7 @@ use Rattle.std.specs.Prelude.{cond, nat_lt, codes}
 use Rattle.std.proofs.lemmas.Bool.{ltb-false}
 use Rattle.uimg_its.specs.declared.tokens.Mark.TheVariants.{Slash, BraceOpen, BraceClose, Semicolon, Equals, Colon}
 use Rattle.uimg_its.specs.Options.{◌>>=◌}
-use Rattle.uimg_blob.specs.Plain.{Named, no_node, a_node}
+use Rattle.uimg_blob_reading.specs.Plain.{Named, no_node, a_node}
 use Rattle.uimg_its.specs.Parts.{FileBytes, NodeParts, chain, single}
 use Rattle.uimg_its.specs.Words.{Word, name, directive, mark, stray}
 use Rattle.uimg_its.specs.Steps.{Reads, Step, all}

@@ -3,10 +3,10 @@ use Rattle.std.proofs.Common.{◌≡◌, ℕ, List, [], ◌∷◌, ◌++◌, Boo
 use Rattle.std.proofs.lemmas.List.{map-append}
 use Rattle.std.specs.List.{AllByRecursion}
 use Rattle.uimg_base.specs.Named.{FileMap, SameFiles}
-use Rattle.uimg_blob.specs.Plain.{NamedOf, Nodes, no_node, a_node, with_values}
-use Rattle.uimg_tree.specs.declared.tree.Node.{Node}
-use Rattle.uimg_tree.specs.Content.{Content, Unread, bytes, file, IsKept, AreKept, in_full, StandsAtData, FilesAtData}
-use Rattle.uimg_tree.specs.Trees.{siblings, node_of}
+use Rattle.uimg_blob_reading.specs.Plain.{NamedOf, Nodes, no_node, a_node, with_values}
+use Rattle.uimg_blob_writing.specs.declared.tree.Node.{Node}
+use Rattle.uimg_blob_writing.specs.Content.{Content, Unread, bytes, file, IsKept, AreKept, in_full, StandsAtData, FilesAtData}
+use Rattle.uimg_blob_writing.specs.Trees.{siblings, node_of}
 use Rattle.uimg_its.specs.Parts.{FileBytes, parts_of, all_parts_of, chain, single, props_in_full}
 use Rattle.uimg_its.specs.FileValues.{IsSound, AreSound, IsSoundTree, IsSoundNode, AreSoundNodes}
 

@@ -6,7 +6,7 @@ use Rattle.uimg_its.specs.declared.tokens.Mark.TheVariants.{Comma, BraceOpen, Br
 use Rattle.uimg_its.specs.declared.lists.Listed.{Listed}
 use Rattle.uimg_its.specs.declared.lists.Listed.TheVariants.{Cells, Bytes}
 use Rattle.uimg_its.specs.Options.{◌>>=◌}
-use Rattle.uimg_blob.specs.Plain.{Named, Nodes, no_node, a_node}
+use Rattle.uimg_blob_reading.specs.Plain.{Named, Nodes, no_node, a_node}
 use Rattle.uimg_its.specs.Parts.{FileBytes, NodeParts, chain}
 use Rattle.uimg_its.specs.Words.{Word, name, mark}
 use Rattle.uimg_its.specs.Steps.{Reads, Step, Steps, with_front, and_on, all}

@@ -2,7 +2,7 @@
 use Rattle.std.proofs.Common.{◌≡◌, ℕ, zero, suc, ◌<◌, List, [], ◌++◌, Bool, true, false, Option, Some, None, length, refl, sym, ap, ◌∙◌, arith, append_assoc}
 use Rattle.std.proofs.lemmas.List.{append-nil}
 use Rattle.std.specs.Bool.{OnFalse}
-use Rattle.uimg_its.specs.declared.fault.Kind.{Kind}
+use Rattle.uimg_its.specs.declared.fault.FaultKind.{FaultKind}
 use Rattle.uimg_its.specs.Words.{Word}
 use Rattle.uimg_its.specs.Answers.{Refuses, is_outside}
 use Rattle.uimg_its.specs.Steps.{Reads, Step, Steps, with_front, and_on, step_front, at_most, all}
@@ -61,14 +61,14 @@ any true p = tt
 any false p = p
 
 -- where there is nothing to read, any refusal is right
-pub refused : {X : Type 0} (k : Kind) (r : Option X) → r ≡ None → Refuses k r
+pub refused : {X : Type 0} (k : FaultKind) (r : Option X) → r ≡ None → Refuses k r
 refused k r e = any (is_outside k) e
 
-pub refuses_on : {X Y : Type 0} (k : Kind) (r : Option X) (total : Option Y) → (r ≡ None → total ≡ None) → Refuses k r → Refuses k total
+pub refuses_on : {X Y : Type 0} (k : FaultKind) (r : Option X) (total : Option Y) → (r ≡ None → total ≡ None) → Refuses k r → Refuses k total
 refuses_on k r total h e = on_false (is_outside k) h e
 
 -- a step is refused
-pub is_refused : {X : Type 0} (k : Kind) (step : Steps X) → Shrinks step → (front : List X) (ws : List Word) (total : Option (List X × List Word))
+pub is_refused : {X : Type 0} (k : FaultKind) (step : Steps X) → Shrinks step → (front : List X) (ws : List Word) (total : Option (List X × List Word))
     → Refuses k (step_front front (step ws)) → with_front front (all step ws) ≡ total → Refuses k total
 is_refused k step shrinks front ws total e h = refuses_on k (step_front front (step ws)) total (λ none. sym h ∙ turn step shrinks front ws ∙ ap (λ r. and_on r (all step)) none) e
 
@@ -85,7 +85,7 @@ is_end {X = X} step shrinks front ws after total e h =
     is_last step shrinks front (front ++ []) ws after total (ap (step_front front) e) h ∙ ap (λ (l : List X). (let x : List X × List Word = (l, after) in Some x)) (append-nil front)
 
 -- it is refused
-pub is_refused_at : {X : Type 0} (k : Kind) (step : Steps X) → Shrinks step → (front : List X) (ws : List Word) (total : Option (List X × List Word))
+pub is_refused_at : {X : Type 0} (k : FaultKind) (step : Steps X) → Shrinks step → (front : List X) (ws : List Word) (total : Option (List X × List Word))
     → Refuses k (step ws) → with_front front (all step ws) ≡ total → Refuses k total
 is_refused_at k step shrinks front ws total e h =
     is_refused k step shrinks front ws total (refuses_on k (step ws) (step_front front (step ws)) (λ nothing. ap (step_front front) nothing) e) h

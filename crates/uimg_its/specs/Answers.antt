@@ -1,15 +1,18 @@
 -- What a result says about the text that was read.
-use Rattle.std.specs.Prelude.{◌≡◌, Bool, true, false, IsTrue, Option, Some, None, Result, Ok, Err, ⊤}
+use Rattle.std.specs.Prelude.{◌≡◌, Bool, true, false, IsTrue, Option, Some, None, Result, Ok, Err}
+use Rattle.std.specs.Prelude.{⊤}
 use Rattle.std.specs.Bool.{OnFalse}
 use Rattle.uimg_base.specs.Lent.{Lent}
 use Rattle.uimg_base.specs.Named.{FileMap}
-use Rattle.uimg_tree.specs.UsingFiles.{UsesFiles}
-use Rattle.uimg_its.specs.declared.fault.Kind.{Kind}
-use Rattle.uimg_its.specs.declared.fault.Kind.TheVariants.{BadToken, BadSyntax, OutOfProfile, BadNumber, NoFile, ReadFailed, OutOfMemory}
+use Rattle.uimg_blob_writing.specs.UsingFiles.{UsesFiles}
+use Rattle.uimg_its.specs.declared.fault.FaultKind.{FaultKind}
+use Rattle.uimg_its.specs.declared.fault.FaultKind.TheVariants.{BadToken, BadSyntax, OutOfProfile}
+use Rattle.uimg_its.specs.declared.fault.FaultKind.TheVariants.{BadNumber, NoFile, ReadFailed}
+use Rattle.uimg_its.specs.declared.fault.FaultKind.TheVariants.{OutOfMemory}
 use Rattle.uimg_its.specs.declared.stop.Stop.{Stop}
 
 -- the reason is outside the text: a file or memory
-abbrev pub is_outside : Kind → Bool
+abbrev pub is_outside : FaultKind → Bool
 is_outside BadToken = false
 is_outside BadSyntax = false
 is_outside (OutOfProfile construct) = false
@@ -19,7 +22,7 @@ is_outside ReadFailed = true
 is_outside OutOfMemory = true
 
 -- the reason is a refused open
-abbrev pub tells_no_file : Kind → Bool
+abbrev pub tells_no_file : FaultKind → Bool
 tells_no_file BadToken = false
 tells_no_file BadSyntax = false
 tells_no_file (OutOfProfile construct) = false
@@ -34,7 +37,7 @@ is_no_file (Ok x) = false
 is_no_file (Err stop) = tells_no_file stop.kind
 
 -- the reason is a failed read of a file
-abbrev pub tells_unread : Kind → Bool
+abbrev pub tells_unread : FaultKind → Bool
 tells_unread BadToken = false
 tells_unread BadSyntax = false
 tells_unread (OutOfProfile construct) = false
@@ -49,7 +52,7 @@ is_unread (Ok x) = false
 is_unread (Err stop) = tells_unread stop.kind
 
 -- the reason is not in a file
-abbrev pub NotInFile : Kind → Type 0
+abbrev pub NotInFile : FaultKind → Type 0
 NotInFile kind = (tells_no_file kind ≡ false) × (tells_unread kind ≡ false)
 
 -- A refusal is never for a reason in a file.
@@ -58,7 +61,7 @@ NeverInFile result = (is_no_file result ≡ false) × (is_unread result ≡ fals
 
 -- A refusal for a reason in the text means that reading finds nothing; any other says nothing of
 -- it.
-abbrev pub Refuses : {Y : Type 0} → Kind → Option Y → Type 0
+abbrev pub Refuses : {Y : Type 0} → FaultKind → Option Y → Type 0
 Refuses kind read = OnFalse (is_outside kind) (read ≡ None)
 
 -- The returned value, as `view` shows it, is what reading gives.
@@ -72,7 +75,7 @@ IsOutside (Ok x) = ⊤
 IsOutside (Err stop) = is_outside stop.kind ≡ true
 
 -- The reason is in the text, so not in a file.
-pub record IsInText (kind : Kind) : Type 0 where
+pub record IsInText (kind : FaultKind) : Type 0 where
   pub in_text : is_outside kind ≡ false
   pub no_file : NotInFile kind
 
@@ -83,9 +86,11 @@ pub record OnlyMemory {X : Type 0} (result : Result X Stop) : Type 0 where
 
 -- Files were opened. They are unchanged, a refusal was counted if and only if an open was refused,
 -- and no read of steady sources failed.
-pub record OpensFilesBetween {X : Type 0} (never_fails : Bool) (result : Result X Stop) (old new : FileMap) : Type 0 where
+pub record OpensFilesBetween {X : Type 0} (never_fails : Bool) (result : Result X Stop)
+    (old new : FileMap) : Type 0 where
   pub files : UsesFiles (is_no_file result) old new
   pub steady : IsTrue never_fails → is_unread result ≡ false
 
 abbrev pub OpensFiles : {F X : Type 0} → Bool → (F → FileMap) → Result X Stop → Lent F → Type 0
-OpensFiles never_fails map result files = OpensFilesBetween never_fails result (map files.entry.now) (map files.exit.now)
+OpensFiles never_fails map result files =
+    OpensFilesBetween never_fails result (map files.entry.now) (map files.exit.now)

@@ -1,5 +1,6 @@
 -- Numbers as digits.
-use Rattle.std.specs.Prelude.{ℕ, ◌+◌, ◌*◌, ◌^◌, List, Option, Some, None, nat_lt, ◌&&◌, if◌then◌else◌}
+use Rattle.std.specs.Prelude.{ℕ, ◌+◌, ◌*◌, ◌^◌, List, Option, Some, None, nat_lt, ◌&&◌}
+use Rattle.std.specs.Prelude.{if◌then◌else◌}
 use Rattle.std.specs.List.{list_all}
 use Rattle.std.specs.Char.{is_digit, digit_value}
 use Rattle.std.specs.Str.Parse.{digits_value}
@@ -8,7 +9,8 @@ use Rattle.uimg_its.specs.Options.{◌>>=◌}
 -- The number with these digits in a base, highest first, if all are digits and it fits in 32 bits.
 unfoldable pub number : ℕ → List ℕ → Option ℕ
 number base ds =
-    if list_all (λ d. is_digit d base) ds && nat_lt (digits_value base ds) (2 ^ 32) then Some (digits_value base ds) else None
+    if list_all (λ d. is_digit d base) ds
+    && nat_lt (digits_value base ds) (2 ^ 32) then Some (digits_value base ds) else None
 
 -- a hexadecimal digit: 0 to 9, a to f, A to F
 abbrev pub hex_digit : ℕ → Option ℕ

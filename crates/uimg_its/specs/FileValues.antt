@@ -2,15 +2,16 @@
 use Rattle.std.specs.Prelude.{◌≡◌, ℕ, List, Bool, IsTrue, codes, ⊤}
 use Rattle.std.specs.List.{AllByRecursion}
 use Rattle.uimg_base.specs.Named.{FileMap}
-use Rattle.uimg_blob.specs.Plain.{NamedOf, no_node, a_node}
-use Rattle.uimg_tree.specs.declared.tree.Node.{Node}
-use Rattle.uimg_tree.specs.Content.{Content, Unread, bytes, file, IsKept}
+use Rattle.uimg_blob_reading.specs.Plain.{NamedOf, no_node, a_node}
+use Rattle.uimg_blob_writing.specs.declared.tree.Node.{Node}
+use Rattle.uimg_blob_writing.specs.Content.{Content, Unread, bytes, file, IsKept}
 use Rattle.uimg_its.specs.Parts.{FileBytes}
 
 -- Only the value of `data` is a file, and honest files have it, with the stored size.
 abbrev pub IsSound : Bool → FileBytes → List ℕ → Content → Type 0
 IsSound honest files n (bytes b) = ⊤
-IsSound honest files n (file name size) = (n ≡ codes "data") × (IsTrue honest → IsKept files (file name size))
+IsSound honest files n (file name size) =
+    (n ≡ codes "data") × (IsTrue honest → IsKept files (file name size))
 
 abbrev pub IsSoundIn : FileMap → List ℕ → Content → Type 0
 IsSoundIn map n c = IsSound map.honest map.bytes n c
@@ -22,7 +23,8 @@ AreSound map ps = AllByRecursion (λ p. IsSound map.honest map.bytes p.name p.va
 -- the same for all nodes
 abbrev pub IsSoundTree : FileMap → Unread → Type 0
 IsSoundTree map no_node = ⊤
-IsSoundTree map (a_node name own below after) = AreSound map own × IsSoundTree map below × IsSoundTree map after
+IsSoundTree map (a_node name own below after) =
+    AreSound map own × IsSoundTree map below × IsSoundTree map after
 
 -- the same for nodes of the code
 abbrev pub IsSoundNode : {A : Type 0} → FileMap → Node A → Type 0

@@ -1,7 +1,10 @@
 -- The grammar of image-tree source (Devicetree Specification, chapter 6, in this profile).
 use Rattle.std.specs.Prelude.{◌≡◌, ℕ, zero, suc, ◌≤◌, List, [], ◌∷◌, ◌++◌, length, Some, ⊤, codes}
-use Rattle.uimg_blob.specs.Plain.{Named, Nodes, no_node, a_node}
-use Rattle.uimg_its.specs.declared.tokens.Mark.TheVariants.{Slash, Comma, BraceOpen, BraceClose, Semicolon, Equals, Less, Greater, ParenOpen, ParenClose, BracketOpen, BracketClose, Colon}
+use Rattle.uimg_blob_reading.specs.Plain.{Named, Nodes, no_node, a_node}
+use Rattle.uimg_its.specs.declared.tokens.Mark.TheVariants.{Slash, Comma, BraceOpen, BraceClose}
+use Rattle.uimg_its.specs.declared.tokens.Mark.TheVariants.{Semicolon, Equals, Less, Greater}
+use Rattle.uimg_its.specs.declared.tokens.Mark.TheVariants.{ParenOpen, ParenClose, BracketOpen}
+use Rattle.uimg_its.specs.declared.tokens.Mark.TheVariants.{BracketClose, Colon}
 use Rattle.uimg_its.specs.declared.lists.Listed.{Listed}
 use Rattle.uimg_its.specs.declared.lists.Listed.TheVariants.{Cells, Bytes}
 use Rattle.uimg_its.specs.Words.{Word, name, directive, text, mark}
@@ -25,7 +28,8 @@ pub record Names (ws : List Word) (n : List ℕ) : Type 0 where
 abbrev pub AreElements : Listed → List Word → List ℕ → Type 0
 AreElements l [] v = v ≡ []
 AreElements l (name n ∷ ws) v =
-    (first others : List ℕ) × (element l n ≡ Some first) × AreElements l ws others × (v ≡ first ++ others)
+    (first others : List ℕ) × (element l n ≡ Some first) × AreElements l ws others
+    × (v ≡ first ++ others)
 AreElements l ws v = ⊥
 
 -- A value: < cells >, [ bytes ], a string and a NUL, or the bytes of the file in /incbin/ ( string
@@ -37,24 +41,28 @@ pub data IsValue (files : FileBytes) (ws : List Word) (v : List ℕ) : Type 0 wh
       → ws ≡ mark BracketOpen ∷ (inner ++ mark BracketClose ∷ []) → IsValue files ws v
   string : (s : List ℕ) → ws ≡ text s ∷ [] → v ≡ s ++ 0 ∷ [] → IsValue files ws v
   incbin : (n : List ℕ) → files n ≡ Some v
-      → ws ≡ directive (codes "incbin") ∷ mark ParenOpen ∷ text n ∷ mark ParenClose ∷ [] → IsValue files ws v
+      → ws ≡ directive (codes "incbin") ∷ mark ParenOpen ∷ text n ∷ mark ParenClose ∷ []
+      → IsValue files ws v
 
 -- Values separated by commas, appended in order.
 pub data AreValues (files : FileBytes) : List Word → List ℕ → Type 0 where
   one : {ws : List Word} {v : List ℕ} → IsValue files ws v → AreValues files ws v
-  more : {ws first rest : List Word} {v u w : List ℕ} → IsValue files first u → AreValues files rest w
+  more : {ws first rest : List Word} {v u w : List ℕ} → IsValue files first u
+      → AreValues files rest w
       → ws ≡ first ++ mark Comma ∷ rest → v ≡ u ++ w → AreValues files ws v
 
 -- A property: labels, name ; or labels, name = values ;
 pub data IsProperty (files : FileBytes) (ws : List Word) (p : Named) : Type 0 where
-  empty : (head : List Word) → Names head p.name → p.value ≡ [] → ws ≡ head ++ mark Semicolon ∷ [] → IsProperty files ws p
+  empty : (head : List Word) → Names head p.name → p.value ≡ [] → ws ≡ head ++ mark Semicolon ∷ []
+      → IsProperty files ws p
   assigned : (head values : List Word) → Names head p.name → AreValues files values p.value
       → ws ≡ head ++ mark Equals ∷ (values ++ mark Semicolon ∷ []) → IsProperty files ws p
 
 abbrev pub AreProperties : FileBytes → List Word → List Named → Type 0
 AreProperties files ws [] = ws ≡ []
 AreProperties files ws (p ∷ ps) =
-    (first rest : List Word) × IsProperty files first p × AreProperties files rest ps × (ws ≡ first ++ rest)
+    (first rest : List Word) × IsProperty files first p × AreProperties files rest ps
+    × (ws ≡ first ++ rest)
 
 -- A body, { properties children }, before further words.
 abbrev pub body : List Word → List Word → List Word → List Word
@@ -78,5 +86,6 @@ pub record Spells (words : List Word) (files : FileBytes) (t : Nodes) : Type 0 w
   pub below : List Word
   pub are_properties : AreProperties files own props
   pub are_children : AreNodes files 63 below children
-  pub whole : words ≡ directive (codes "dts-v1") ∷ mark Semicolon ∷ mark Slash ∷ body own below (mark Semicolon ∷ [])
+  pub whole : words ≡ directive (codes "dts-v1") ∷ mark Semicolon ∷ mark Slash ∷ body own below
+      (mark Semicolon ∷ [])
   pub root : t ≡ a_node [] props children no_node

@@ -1,9 +1,9 @@
 -- Nodes as parts, and files as bytes.
 use Rattle.std.specs.Prelude.{ℕ, Bool, true, false, List, [], ◌∷◌, map, Option, Some, None}
 use Rattle.uimg_its.specs.Words.{Word}
-use Rattle.uimg_blob.specs.Plain.{Named, NamedOf, Nodes, no_node, a_node, with_value}
-use Rattle.uimg_tree.specs.declared.tree.Node.{Node}
-use Rattle.uimg_tree.specs.Content.{Content, bytes_in, in_full}
+use Rattle.uimg_blob_reading.specs.Plain.{Named, NamedOf, Nodes, no_node, a_node, with_value}
+use Rattle.uimg_blob_writing.specs.declared.tree.Node.{Node}
+use Rattle.uimg_blob_writing.specs.Content.{Content, bytes_in, in_full}
 
 -- the bytes at each name
 abbrev pub FileBytes : Type 0
@@ -30,12 +30,19 @@ props_in_full files ps = map (with_value (bytes_in files)) ps
 
 -- the same for a node of the code
 abbrev pub parts_of : {A : Type 0} → FileBytes → Node A → NodeParts
-parts_of files n = record { name = n.name; props = props_in_full files n.props; children = in_full files n.children }
+parts_of files n =
+    record {
+      name = n.name;
+      props = props_in_full files n.props;
+      children = in_full files
+          n.children;
+    }
 
 abbrev pub all_parts_of : {A : Type 0} → FileBytes → List (Node A) → List NodeParts
 all_parts_of files ns = map (parts_of files) ns
 
 -- a step of reading children: a node, or the end of a body
-abbrev pub child_found : {A : Type 0} → FileBytes → Option (Node A) → List Word → Bool × List NodeParts × List Word
+abbrev pub child_found : {A : Type 0} → FileBytes → Option (Node A) → List Word
+    → Bool × List NodeParts × List Word
 child_found files None after = (true, [], after)
 child_found files (Some n) after = (false, parts_of files n ∷ [], after)

@@ -1,9 +1,13 @@
 -- Reading of words from left to right, as in the code. Proofs join it with `Grammar`.
-use Rattle.std.specs.Prelude.{ℕ, zero, suc, Bool, true, false, List, [], ◌∷◌, ◌++◌, length, Option, Some, None, nat_lt, if◌then◌else◌, codes}
+use Rattle.std.specs.Prelude.{ℕ, zero, suc, Bool, true, false, List, [], ◌∷◌, ◌++◌, length, Option}
+use Rattle.std.specs.Prelude.{Some, None, nat_lt, if◌then◌else◌, codes}
 use Rattle.std.specs.Str.{bytes_eq}
-use Rattle.uimg_blob.specs.Plain.{Named}
+use Rattle.uimg_blob_reading.specs.Plain.{Named}
 use Rattle.uimg_its.specs.declared.tokens.Mark.{Mark}
-use Rattle.uimg_its.specs.declared.tokens.Mark.TheVariants.{Slash, Comma, BraceOpen, BraceClose, Semicolon, Equals, Less, Greater, ParenOpen, ParenClose, BracketOpen, BracketClose, Colon}
+use Rattle.uimg_its.specs.declared.tokens.Mark.TheVariants.{Slash, Comma, BraceOpen, BraceClose}
+use Rattle.uimg_its.specs.declared.tokens.Mark.TheVariants.{Semicolon, Equals, Less, Greater}
+use Rattle.uimg_its.specs.declared.tokens.Mark.TheVariants.{ParenOpen, ParenClose, BracketOpen}
+use Rattle.uimg_its.specs.declared.tokens.Mark.TheVariants.{BracketClose, Colon}
 use Rattle.uimg_its.specs.declared.lists.Listed.{Listed}
 use Rattle.uimg_its.specs.declared.lists.Listed.TheVariants.{Cells, Bytes}
 use Rattle.uimg_its.specs.Words.{Word, name, directive, text, mark, stray}
@@ -81,7 +85,9 @@ labelled ws = do
 unfoldable pub named : Reads Item
 named (name n ∷ mark Colon ∷ ws) = named ws
 named (name n ∷ w ∷ ws) =
-    labelled (name n ∷ w ∷ ws) >>= λ x. elim x.0 as (λ _. Option (Item × List Word)) [ None ↦ None | Some i ↦ Some (i, x.1) ]
+    labelled (name n ∷ w ∷ ws)
+    >>= λ x. elim x.0 as (λ _. Option (Item × List Word))
+    [ None ↦ None | Some i ↦ Some (i, x.1) ]
 named ws = None
 
 -- an item of a body, or its end
@@ -102,7 +108,8 @@ unfoldable pub element_step : Listed → Steps ℕ
 element_step l ws = do
   w ← next ws
   e ← element_word l w.0
-  elim e as (λ _. Step ℕ) [ None ↦ Some (true, [], w.1) | Some n ↦ element l n >>= λ b. Some (false, b, w.1) ]
+  elim e as (λ _. Step ℕ)
+      [ None ↦ Some (true, [], w.1) | Some n ↦ element l n >>= λ b. Some (false, b, w.1) ]
 
 -- cells up to >, bytes up to ]
 abbrev pub listed : Listed → Reads (List ℕ)
@@ -187,7 +194,8 @@ child_step node ws = do
 -- a node with at most this many levels, its own included
 unfoldable pub node_within : ℕ → FileBytes → List ℕ → Reads NodeParts
 node_within zero files n ws = None
-node_within (suc levels) files n ws = inside files (all (child_step (node_within levels files))) n ws
+node_within (suc levels) files n ws =
+    inside files (all (child_step (node_within levels files))) n ws
 
 -- the children of a node, up to its closing brace
 abbrev pub children : ℕ → FileBytes → Reads (List NodeParts)

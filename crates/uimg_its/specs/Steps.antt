@@ -1,5 +1,6 @@
 -- Reading of several things, one step each.
-use Rattle.std.specs.Prelude.{ℕ, zero, suc, Bool, true, false, length, List, ◌++◌, Option, Some, None}
+use Rattle.std.specs.Prelude.{ℕ, zero, suc, Bool, true, false, length, List, ◌++◌, Option, Some}
+use Rattle.std.specs.Prelude.{None}
 use Rattle.uimg_its.specs.Options.{◌>>=◌}
 use Rattle.uimg_its.specs.Words.{Word}
 
@@ -8,7 +9,8 @@ abbrev pub Reads : Type 0 → Type 0
 Reads A = List Word → Option (A × List Word)
 
 -- what is read, appended to what was read before
-abbrev pub with_front : {X : Type 0} → List X → Option (List X × List Word) → Option (List X × List Word)
+abbrev pub with_front : {X : Type 0} → List X → Option (List X × List Word)
+    → Option (List X × List Word)
 with_front front read = read >>= λ x. Some (front ++ x.0, x.1)
 
 -- the same without the words after it

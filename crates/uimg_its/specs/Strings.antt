@@ -1,5 +1,6 @@
 -- Strings and their escapes (Devicetree Specification, section 6.3, with this profile's escapes).
-use Rattle.std.specs.Prelude.{ℕ, zero, suc, List, [], ◌∷◌, Option, Some, None, ◌&&◌, nat_le, ◌==◌, if◌then◌else◌}
+use Rattle.std.specs.Prelude.{ℕ, zero, suc, List, [], ◌∷◌, Option, Some, None, ◌&&◌, nat_le, ◌==◌}
+use Rattle.std.specs.Prelude.{if◌then◌else◌}
 use Rattle.std.specs.Option.{option_map}
 use Rattle.uimg_its.specs.Options.{◌>>=◌}
 use Rattle.uimg_its.specs.Digits.{hex_pair}
@@ -42,7 +43,8 @@ string_end k [] = None
 string_end (suc k) (b ∷ bs) = option_map suc (string_end k bs)
 string_end zero (b ∷ bs) =
     if b == 34 then Some 1
-    else elim (unit b bs) as (λ _. Option ℕ) [ None ↦ None | Some u ↦ option_map suc (string_end u.1 bs) ]
+    else elim (unit b bs) as (λ _. Option ℕ)
+    [ None ↦ None | Some u ↦ option_map suc (string_end u.1 bs) ]
 
 -- The bytes of that string, without the first k in the same way.
 unfoldable pub string_bytes : ℕ → List ℕ → List ℕ

@@ -1,10 +1,16 @@
 -- The words of a source text (Devicetree Specification, chapter 6, this profile).
-use Rattle.std.specs.Prelude.{ℕ, zero, suc, ◌+◌, List, [], ◌∷◌, take, Option, Some, None, Bool, ◌||◌, ◌&&◌, not, nat_le, nat_eq, slice_index, ◌==◌, if◌then◌else◌, codes}
+use Rattle.std.specs.Prelude.{ℕ, zero, suc, ◌+◌, List, [], ◌∷◌, take, Option, Some, None, Bool}
+use Rattle.std.specs.Prelude.{◌||◌, ◌&&◌, not, nat_le, nat_eq, slice_index, ◌==◌, if◌then◌else◌}
+use Rattle.std.specs.Prelude.{codes}
 use Rattle.std.specs.Option.{option_map}
 use Rattle.std.specs.List.{prefix_len, starts_with}
 use Rattle.std.specs.Char.{is_ascii_digit, is_ascii_alphabetic}
 use Rattle.uimg_its.specs.declared.tokens.Mark.{Mark}
-use Rattle.uimg_its.specs.declared.tokens.Mark.TheVariants.{Slash, Comma, BraceOpen, BraceClose, Semicolon, Equals, Less, Greater, ParenOpen, ParenClose, BracketOpen, BracketClose, Colon, Ampersand, Apostrophe}
+use Rattle.uimg_its.specs.declared.tokens.Mark.TheVariants.{Slash, Comma, BraceOpen, BraceClose}
+use Rattle.uimg_its.specs.declared.tokens.Mark.TheVariants.{Semicolon, Equals, Less, Greater}
+use Rattle.uimg_its.specs.declared.tokens.Mark.TheVariants.{ParenOpen, ParenClose, BracketOpen}
+use Rattle.uimg_its.specs.declared.tokens.Mark.TheVariants.{BracketClose, Colon, Ampersand}
+use Rattle.uimg_its.specs.declared.tokens.Mark.TheVariants.{Apostrophe}
 use Rattle.uimg_its.specs.Strings.{string_end, string_bytes}
 
 -- A name, a directive (without its slashes), a string (its bytes), a mark, or a stray byte.
@@ -23,7 +29,8 @@ is_blank b = b == 32 || (nat_le 9 b && nat_le b 13)
 abbrev pub is_name_byte : ℕ → Bool
 is_name_byte b =
     is_ascii_alphabetic b || is_ascii_digit b
-    || b == 44 || b == 46 || b == 95 || b == 43 || b == 42 || b == 35 || b == 63 || b == 64 || b == 45
+    || b == 44 || b == 46 || b == 95 || b == 43 || b == 42 || b == 35 || b == 63 || b == 64
+    || b == 45
 
 -- letters, digits and -
 abbrev pub is_directive_byte : ℕ → Bool
@@ -50,7 +57,8 @@ mark_of b =
 -- the length of a comment after its opening, up to the end of the first */
 unfoldable pub comment : List ℕ → Option ℕ
 comment [] = None
-comment (b ∷ bs) = if starts_with nat_eq (b ∷ bs) (codes "*/") then Some 2 else option_map suc (comment bs)
+comment (b ∷ bs) =
+    if starts_with nat_eq (b ∷ bs) (codes "*/") then Some 2 else option_map suc (comment bs)
 
 -- The start of a text, with its length in bytes less one: a gap or a word.
 pub data Piece : Type 0 where
@@ -71,7 +79,8 @@ comment_piece (Some n) = gap (1 + n)
 abbrev pub directive_piece : ℕ → List ℕ → Piece
 directive_piece zero bs = word (mark Slash) 0
 directive_piece (suc n) bs =
-    if slice_index bs (suc n) == 47 then word (directive (take (suc n) bs)) (n + 2) else word (mark Slash) 0
+    if slice_index bs (suc n) == 47 then word (directive (take (suc n) bs)) (n + 2) else word
+    (mark Slash) 0
 
 -- what begins with a slash before these bytes
 abbrev pub slash_piece : List ℕ → Piece
@@ -96,7 +105,8 @@ unfoldable pub piece : ℕ → List ℕ → Piece
 piece b bs =
     if is_blank b then gap 0
     else if b == 47 then slash_piece bs
-    else if is_name_byte b then word (name_word (b ∷ take (prefix_len is_name_byte bs) bs)) (prefix_len is_name_byte bs)
+    else if is_name_byte b then word (name_word (b ∷ take (prefix_len is_name_byte bs) bs))
+    (prefix_len is_name_byte bs)
     else if b == 34 then string_piece bs (string_end 0 bs)
     else mark_piece (mark_of b)
 

@@ -1,11 +1,11 @@
 //! The whole source text: `compile`.
 
 ghost use Rattle.std.specs.Prelude.{◌≡◌, ◌<◌, List, IfOk, IsTrue, false};
-ghost use Rattle.uimg_blob.specs.Plain.{Nodes};
-ghost use Rattle.uimg_tree.specs.Content.{AreKept, FilesAtData, in_full};
-ghost use Rattle.uimg_tree.specs.Trees.{node_of};
-ghost use Rattle.uimg_tree.specs.UsingFiles.{UsesFiles};
-ghost use Rattle.uimg_tree.specs.LentFiles.{IfHonest};
+ghost use Rattle.uimg_blob_reading.specs.Plain.{Nodes};
+ghost use Rattle.uimg_blob_writing.specs.Content.{AreKept, FilesAtData, in_full};
+ghost use Rattle.uimg_blob_writing.specs.Trees.{node_of};
+ghost use Rattle.uimg_blob_writing.specs.UsingFiles.{UsesFiles};
+ghost use Rattle.uimg_blob_writing.specs.LentFiles.{IfHonest};
 ghost use Rattle.uimg_its.specs.Words.{Word, words};
 ghost use Rattle.uimg_its.specs.Answers.{Gives, NeverInFile, IsInText, OpensFiles};
 ghost use Rattle.uimg_its.specs.Reading.{ReadsText};
@@ -16,7 +16,7 @@ ghost use Rattle.uimg_its.specs.Compiled.{Accepts, finds_no_file, fails_to_read}
 ghost use Rattle.uimg_its.specs.Reader.{version, is_version, alone, source};
 ghost use Rattle.uimg_its.specs.Grammar.{Spells};
 
-use crate::fault::{Construct, ItsFault, Kind};
+use crate::fault::{Construct, FaultKind, ItsFault};
 use crate::lexer::{expect, is_mark, need_word, next_word};
 use crate::lines::line_of;
 use crate::nodes::node;
@@ -24,7 +24,7 @@ use crate::stop::{Place, Stop, unexpected};
 use crate::tokens::{Mark, Token, Word as Found};
 use std::alloc::Allocator;
 use uimg_base::Files;
-use uimg_tree::{Node, Tree};
+use uimg_blob_writing::{Node, Tree};
 
 /// The most levels of nodes in a tree; the root is at the first.
 const MOST_LEVELS: u8 = 64;
@@ -57,7 +57,7 @@ fn second_root(token: Token<'_>, rest: &[u8]) -> Stop
 {
     if is_mark(Mark::Slash, token.word) && expect(Mark::BraceOpen, Place::Outside, rest).is_ok() {
         Stop {
-            kind: Kind::OutOfProfile(Construct::SecondRoot),
+            kind: FaultKind::OutOfProfile(Construct::SecondRoot),
             left: token.left,
         }
     } else {

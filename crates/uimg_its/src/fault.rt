@@ -37,7 +37,7 @@ pub enum Construct {
 
 /// Why a source text is not compiled.
 #[derive(Clone, Copy, Debug, PartialEq, Eq, Error)]
-pub enum Kind {
+pub enum FaultKind {
     /// A byte begins no word, or a comment or a string is not closed.
     #[error("I1 bad token")]
     BadToken,
@@ -67,7 +67,7 @@ pub enum Kind {
 #[error("{kind} at line {line}")]
 pub struct ItsFault {
     /// The reason.
-    pub kind: Kind,
+    pub kind: FaultKind,
     /// The line of the first byte of the word at which the text cannot continue, from 1. If the
     /// text ends too early, its last line; a newline at the end belongs to that line.
     pub line: u64,

@@ -4,11 +4,11 @@ ghost use Rattle.std.specs.Prelude.{◌≡◌, ◌++◌, OnOk, IfOk, true};
 ghost use Rattle.uimg_its.specs.Strings.{string_bytes};
 ghost use Rattle.uimg_its.specs.Answers.{is_outside, NotInFile, OnlyMemory};
 
-use crate::fault::Kind;
+use crate::fault::FaultKind;
 use crate::stop::Stop;
 use crate::strings::push_string;
 use std::alloc::Allocator;
-use uimg_tree::ByteList;
+use uimg_blob_writing::ByteList;
 
 /// Returns the fault of refused memory at a word.
 pub(crate) fn out_of_memory(left: usize) -> Stop
@@ -16,7 +16,7 @@ pub(crate) fn out_of_memory(left: usize) -> Stop
     ensures no_file { NotInFile result.kind }
 {
     Stop {
-        kind: Kind::OutOfMemory,
+        kind: FaultKind::OutOfMemory,
         left,
     }
 }

@@ -1,9 +1,9 @@
 //! The files that values name, read whole or kept as name and size.
 
 ghost use Rattle.std.specs.Prelude.{◌≡◌, ◌<◌, Some, IfOk, IsTrue, length, codes, false};
-ghost use Rattle.uimg_tree.specs.Content.{bytes_in};
-ghost use Rattle.uimg_tree.specs.Properties.{content};
-ghost use Rattle.uimg_tree.specs.LentFiles.{IfHonest};
+ghost use Rattle.uimg_blob_writing.specs.Content.{bytes_in};
+ghost use Rattle.uimg_blob_writing.specs.Properties.{content};
+ghost use Rattle.uimg_blob_writing.specs.LentFiles.{IfHonest};
 ghost use Rattle.uimg_its.specs.Strings.{string_bytes};
 ghost use Rattle.uimg_its.specs.Words.{words};
 ghost use Rattle.uimg_its.specs.Answers.{Gives, IsOutside, is_no_file, is_unread, IsInText, OpensFiles};
@@ -14,14 +14,14 @@ ghost use Rattle.uimg_its.specs.FileValues.{IsSoundIn};
 ghost use Rattle.uimg_its.specs.Seen.{word_of};
 ghost use Rattle.uimg_its.specs.declared.tokens.Mark.TheVariants.{ParenClose};
 
-use crate::fault::{Construct, Kind};
+use crate::fault::{Construct, FaultKind};
 use crate::growth::{append, append_string, out_of_memory};
 use crate::lexer::{expect, is_mark, need_word};
 use crate::stop::{Place, Stop, unexpected};
 use crate::tokens::{Mark, Token, Word};
 use std::alloc::Allocator;
 use uimg_base::{Files, MoveFault, Out, Source, WINDOW, copy_through};
-use uimg_tree::{ByteList, Value};
+use uimg_blob_writing::{ByteList, Value};
 
 // Reads all the bytes of a source.
 fn read_whole<S: Source, A: Allocator>(
@@ -36,7 +36,7 @@ fn read_whole<S: Source, A: Allocator>(
     ensures steady { IsTrue S.steady → is_unread result ≡ false }
 {
     let read_failed = Stop {
-        kind: Kind::ReadFailed,
+        kind: FaultKind::ReadFailed,
         left,
     };
     let Ok(size) = source.size() else {
@@ -66,7 +66,7 @@ fn read_file<F: Files, A: Allocator>(
     match files.open(name) {
         Ok(mut source) => read_whole(alloc, &mut source, left),
         Err(_) => Err(Stop {
-            kind: Kind::NoFile,
+            kind: FaultKind::NoFile,
             left,
         }),
     }
@@ -97,7 +97,7 @@ fn not_closed(token: Token<'_>) -> Stop
 {
     match token.word {
         Word::Mark(Mark::Comma) => Stop {
-            kind: Kind::OutOfProfile(Construct::IncbinRange),
+            kind: FaultKind::OutOfProfile(Construct::IncbinRange),
             left: token.left,
         },
         _ => unexpected(token, Place::Body),
@@ -201,7 +201,7 @@ pub(crate) fn kept<F: Files, A: Allocator>(
 {
     let Ok(mut source) = files.open(&name) else {
         return Err(Stop {
-            kind: Kind::NoFile,
+            kind: FaultKind::NoFile,
             left,
         });
     };
@@ -211,7 +211,7 @@ pub(crate) fn kept<F: Files, A: Allocator>(
             size,
         }),
         Err(_) => Err(Stop {
-            kind: Kind::ReadFailed,
+            kind: FaultKind::ReadFailed,
             left,
         }),
     }

@@ -7,7 +7,7 @@ ghost use Rattle.uimg_its.specs.Reading.{ReadsText, ReadsFront};
 ghost use Rattle.uimg_its.specs.Reader.{item_of, item_after, name_in, labelled, item, named};
 ghost use Rattle.uimg_its.specs.Seen.{word_of, item_is};
 
-use crate::fault::Kind;
+use crate::fault::FaultKind;
 use crate::lexer::{is_mark, need_word};
 use crate::stop::{Place, Stop, unexpected};
 use crate::tokens::{Mark, Token, Word};
@@ -52,7 +52,7 @@ fn long_name(left: usize) -> Stop
     ensures { IsInText result.kind }
 {
     Stop {
-        kind: Kind::BadSyntax,
+        kind: FaultKind::BadSyntax,
         left,
     }
 }

@@ -8,7 +8,7 @@ ghost use Rattle.uimg_its.specs.Reading.{ReadsFront, PassesMark};
 ghost use Rattle.uimg_its.specs.Reader.{next, is_mark, expect};
 
 use crate::bytes::after;
-use crate::fault::Kind;
+use crate::fault::FaultKind;
 use crate::pieces::{Piece, first_piece};
 use crate::stop::{Place, Stop, ends_early, unexpected};
 use crate::strings::string_fault;
@@ -20,7 +20,7 @@ fn stray(text: &[u8]) -> Stop
 {
     let kind = match text {
         [b'"', rest @ ..] => string_fault(rest),
-        _ => Kind::BadToken,
+        _ => FaultKind::BadToken,
     };
     Stop {
         kind,

@@ -24,6 +24,6 @@ mod tokens;
 mod values;
 
 pub use compiler::{compile, one_tree};
-pub use fault::{Construct, ItsFault, Kind};
+pub use fault::{Construct, FaultKind, ItsFault};
 pub use uimg_base::{Files, MemFiles};
-pub use uimg_tree::{ByteList, Node, Nodes, Prop, Props, Tree, Value};
+pub use uimg_blob_writing::{ByteList, Node, Nodes, Prop, Props, Tree, Value};

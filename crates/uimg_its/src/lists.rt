@@ -11,7 +11,7 @@ ghost use Rattle.uimg_its.specs.Reader.{element_word, element_step, listed};
 ghost use Rattle.uimg_its.specs.Seen.{word_of};
 ghost use Rattle.uimg_its.specs.declared.lists.Listed.TheVariants.{Cells, Bytes};
 
-use crate::fault::Kind;
+use crate::fault::FaultKind;
 use crate::growth::append;
 use crate::lexer::need_word;
 use crate::numbers::{cell, hex_pair};
@@ -45,7 +45,7 @@ fn bad_number(left: usize) -> Stop
     ensures { IsInText result.kind }
 {
     Stop {
-        kind: Kind::BadNumber,
+        kind: FaultKind::BadNumber,
         left,
     }
 }

@@ -2,14 +2,14 @@
 
 ghost use Rattle.std.specs.Prelude.{◌≡◌, ◌<◌, ◌≤◌, ◌++◌, ◌∷◌, [], IfSome, IfOk, OnOk, length};
 ghost use Rattle.uimg_base.specs.Named.{FileMap};
-ghost use Rattle.uimg_tree.specs.LentFiles.{IfHonest};
+ghost use Rattle.uimg_blob_writing.specs.LentFiles.{IfHonest};
 ghost use Rattle.uimg_its.specs.Words.{words};
 ghost use Rattle.uimg_its.specs.Answers.{Gives, IsInText, OnlyMemory, OpensFiles};
 ghost use Rattle.uimg_its.specs.Parts.{FileBytes, props_in_full, parts_of, all_parts_of, chain, child_found};
 ghost use Rattle.uimg_its.specs.FileValues.{AreSound, IsSoundNode, AreSoundNodes};
 ghost use Rattle.uimg_its.specs.Reader.{inside, child_step, children, node_within};
 
-use crate::fault::{Construct, Kind};
+use crate::fault::{Construct, FaultKind};
 use crate::growth::{copied, out_of_memory};
 use crate::items::{Item, read_item};
 use crate::lexer::expect;
@@ -18,7 +18,7 @@ use crate::stop::{Place, Stop, unexpected};
 use crate::tokens::Mark;
 use std::alloc::Allocator;
 use uimg_base::Files;
-use uimg_tree::{ByteList, Node, Nodes, Props};
+use uimg_blob_writing::{ByteList, Node, Nodes, Props};
 
 // Builds a node from its parts.
 fn node_of<A: Allocator>(name: ByteList<A>, props: Props<A>, children: Vec<Node<A>, A>) -> Node<A>
@@ -60,7 +60,7 @@ fn too_deep(left: usize) -> Stop
     ensures { IsInText result.kind }
 {
     Stop {
-        kind: Kind::OutOfProfile(Construct::Depth),
+        kind: FaultKind::OutOfProfile(Construct::Depth),
         left,
     }
 }

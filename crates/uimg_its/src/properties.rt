@@ -2,8 +2,8 @@
 
 ghost use Rattle.std.specs.Prelude.{◌≡◌, ◌<◌, ◌≤◌, ◌++◌, ◌∷◌, [], false, IfOk, OnOk, length, map};
 ghost use Rattle.uimg_base.specs.Named.{FileMap};
-ghost use Rattle.uimg_tree.specs.Properties.{property, content};
-ghost use Rattle.uimg_tree.specs.LentFiles.{IfHonest};
+ghost use Rattle.uimg_blob_writing.specs.Properties.{property, content};
+ghost use Rattle.uimg_blob_writing.specs.LentFiles.{IfHonest};
 ghost use Rattle.uimg_its.specs.Words.{words};
 ghost use Rattle.uimg_its.specs.Answers.{Gives, OnlyMemory, OpensFiles};
 ghost use Rattle.uimg_its.specs.Steps.{step_front};
@@ -17,7 +17,7 @@ use crate::stop::Stop;
 use crate::values::assigned;
 use std::alloc::Allocator;
 use uimg_base::Files;
-use uimg_tree::{ByteList, Prop, Props, Value};
+use uimg_blob_writing::{ByteList, Prop, Props, Value};
 
 // Adds a property.
 fn push_property<A: Allocator>(

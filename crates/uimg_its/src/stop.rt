@@ -1,15 +1,15 @@
 //! Why and where reading stopped: the fault of a word at its place.
 
 ghost use Rattle.uimg_its.specs.Answers.{IsInText};
-ghost use Rattle.uimg_its.specs.declared.fault.Kind.TheVariants as kinds;
+ghost use Rattle.uimg_its.specs.declared.fault.FaultKind.TheVariants as kinds;
 
-use crate::fault::{Construct, Kind};
+use crate::fault::{Construct, FaultKind};
 use crate::tokens::{Mark, Token, Word};
 
 /// Why reading stopped, and how many bytes of the text remain at the word where it did.
 #[derive(Clone, Copy, Debug)]
 pub(crate) struct Stop {
-    pub(crate) kind: Kind,
+    pub(crate) kind: FaultKind,
     pub(crate) left: usize,
 }
 
@@ -29,7 +29,7 @@ pub(crate) fn ends_early() -> Stop
     ensures { IsInText result.kind }
 {
     Stop {
-        kind: Kind::BadSyntax,
+        kind: FaultKind::BadSyntax,
         left: 0,
     }
 }
@@ -39,16 +39,16 @@ pub(crate) fn unexpected(token: Token<'_>, place: Place) -> Stop
     ensures { IsInText result.kind }
 {
     let kind = match token.word {
-        Word::Directive(_) => Kind::OutOfProfile(Construct::Directive),
-        Word::Mark(Mark::Ampersand) => Kind::OutOfProfile(Construct::Reference),
-        Word::Mark(Mark::Apostrophe) => Kind::OutOfProfile(Construct::CharacterLiteral),
+        Word::Directive(_) => FaultKind::OutOfProfile(Construct::Directive),
+        Word::Mark(Mark::Ampersand) => FaultKind::OutOfProfile(Construct::Reference),
+        Word::Mark(Mark::Apostrophe) => FaultKind::OutOfProfile(Construct::CharacterLiteral),
         Word::Mark(Mark::ParenOpen) if place == Place::Cells => {
-            Kind::OutOfProfile(Construct::Expression)
+            FaultKind::OutOfProfile(Construct::Expression)
         }
         Word::Name([b'#', ..]) if place == Place::Outside => {
-            Kind::OutOfProfile(Construct::Preprocessor)
+            FaultKind::OutOfProfile(Construct::Preprocessor)
         }
-        _ => Kind::BadSyntax,
+        _ => FaultKind::BadSyntax,
     };
     Stop {
         kind,

@@ -5,7 +5,7 @@ ghost use Rattle.uimg_its.specs.Strings.{unit, escape, zero_escape, hex_escape, 
 ghost use Rattle.uimg_its.specs.Answers.{IsInText};
 
 use crate::bytes::after;
-use crate::fault::{Construct, Kind};
+use crate::fault::{Construct, FaultKind};
 use crate::numbers::hex_pair;
 use std::alloc::{AllocError, Allocator};
 
@@ -77,17 +77,17 @@ pub(crate) fn string_length(text: &[u8]) -> Option<usize>
 }
 
 /// Returns why no string begins after a quote: it is not closed, or else it has a bad escape.
-pub(crate) fn string_fault(text: &[u8]) -> Kind
+pub(crate) fn string_fault(text: &[u8]) -> FaultKind
     ensures { IsInText result }
 {
     let mut escaped = false;
     for b in text {
         if !escaped && *b == b'"' {
-            return Kind::OutOfProfile(Construct::Escape);
+            return FaultKind::OutOfProfile(Construct::Escape);
         }
         escaped = !escaped && *b == b'\\';
     }
-    Kind::BadToken
+    FaultKind::BadToken
 }
 
 /// Appends the bytes of a string, given the text after its opening quote.

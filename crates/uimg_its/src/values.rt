@@ -1,9 +1,9 @@
 //! Values, some of which stay files.
 
 ghost use Rattle.std.specs.Prelude.{◌≡◌, ◌<◌, ◌≤◌, Some, IfSome, IfOk, length, codes, false};
-ghost use Rattle.uimg_tree.specs.Content.{bytes_in};
-ghost use Rattle.uimg_tree.specs.Properties.{content};
-ghost use Rattle.uimg_tree.specs.LentFiles.{IfHonest};
+ghost use Rattle.uimg_blob_writing.specs.Content.{bytes_in};
+ghost use Rattle.uimg_blob_writing.specs.Properties.{content};
+ghost use Rattle.uimg_blob_writing.specs.LentFiles.{IfHonest};
 ghost use Rattle.uimg_its.specs.Words.{words};
 ghost use Rattle.uimg_its.specs.Answers.{Gives, IsOutside, OpensFiles};
 ghost use Rattle.uimg_its.specs.Reading.{ReadsText};
@@ -20,7 +20,7 @@ use crate::stop::{Place, Stop, unexpected};
 use crate::tokens::{Mark, Token, Word};
 use std::alloc::Allocator;
 use uimg_base::Files;
-use uimg_tree::{ByteList, Value};
+use uimg_blob_writing::{ByteList, Value};
 
 // Returns whether a value is the last, from the word after it.
 fn ends(token: Token<'_>) -> Result<bool, Stop>

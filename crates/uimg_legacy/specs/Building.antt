@@ -1,5 +1,6 @@
 -- Legacy images that are built from parts.
-use Rattle.std.specs.Prelude.{ℕ, ◌-◌, List, [], ◌∷◌, ◌++◌, length, replicate, nat_lt, ◌==◌, ◌&&◌, if◌then◌else◌, Result, Ok, Err, Bool, true, false}
+use Rattle.std.specs.Prelude.{ℕ, ◌-◌, List, [], ◌∷◌, ◌++◌, length, replicate, nat_lt, ◌==◌, ◌&&◌}
+use Rattle.std.specs.Prelude.{if◌then◌else◌, Result, Ok, Err, Bool, true, false}
 use Rattle.std.specs.Int.{to_be_bytes, w32}
 use Rattle.std.specs.List.{flat_map, list_any}
 use Rattle.uimg_sums.specs.Crc.{crc}
@@ -71,4 +72,6 @@ data_to_build kind parts =
 
 -- building writes the image, or nothing if the parts are refused
 abbrev pub build_of : Options → List (List ℕ) → Outcome LegacyFault
-build_of options parts = unless_refused (data_to_build options.kind parts) (λ payload. told (legacy_image options payload) done)
+build_of options parts =
+    unless_refused (data_to_build options.kind parts)
+    (λ payload. told (legacy_image options payload) done)

@@ -10,7 +10,9 @@ use Rattle.uimg_legacy.specs.Building.{data_of, data_for, data_to_build, header_
 
 -- The result is the size of the data, or the fault of refused parts, unless a device failed.
 abbrev pub Measures : ℕ → List (List ℕ) → Result ℕ Fault → Type 0
-Measures kind parts (Ok size) = (data_to_build kind parts ≡ Ok (data_of (has_parts kind) parts)) × (size ≡ length (data_of (has_parts kind) parts))
+Measures kind parts (Ok size) =
+    (data_to_build kind parts ≡ Ok (data_of (has_parts kind) parts))
+    × (size ≡ length (data_of (has_parts kind) parts))
 Measures kind parts (Err (Legacy fault)) = data_to_build kind parts ≡ Err fault
 Measures kind parts (Err _) = ⊤
 

@@ -1,5 +1,6 @@
 -- Whether an image's checksums are right.
-use Rattle.std.specs.Prelude.{◌≡◌, List, ℕ, Result, Ok, Err, Bool, true, false, Option, Some, None, IfSome}
+use Rattle.std.specs.Prelude.{◌≡◌, List, ℕ, Result, Ok, Err, Bool, true, false, Option, Some, None}
+use Rattle.std.specs.Prelude.{IfSome}
 use Rattle.uimg_base.specs.Outcome.{End, done, not_right, refused}
 use Rattle.uimg_base.specs.Results.{◌>>=◌}
 use Rattle.uimg_legacy.specs.declared.fault.LegacyFault.{LegacyFault}

@@ -14,15 +14,19 @@ use Rattle.uimg_legacy.specs.Faults.{is_read, is_put, is_of_making, end_of}
 
 -- A fact about the result and the source's bytes, if the source is honest.
 abbrev pub OfHonest : {S X : Type 0} → (List ℕ → X → Type 0) → X → (S → Device) → Lent S → Type 0
-OfHonest fact result device source = IsTrue (device source.entry.now).honest → fact (device source.entry.now).bytes result
+OfHonest fact result device source =
+    IsTrue (device source.entry.now).honest → fact (device source.entry.now).bytes result
 
 -- The source is unchanged, and its failures rose exactly if a read failed. Of an honest source at
 -- most `work` of its bytes were requested.
 abbrev pub UsesWithin : {S : Type 0} → (List ℕ → ℕ) → Bool → (S → Device) → Lent S → Type 0
-UsesWithin work failed device source = UsesAtMost (work (device source.entry.now).bytes) failed (device source.entry.now) (device source.exit.now)
+UsesWithin work failed device source =
+    UsesAtMost (work (device source.entry.now).bytes) failed (device source.entry.now)
+    (device source.exit.now)
 
 -- A call that only reads. Of an honest device it requests at most `most` bytes.
-pub record InspectsBetween {X : Type 0} (most : ℕ) (result : Result X Fault) (old new : Device) (before after : Held) : Type 0 where
+pub record InspectsBetween {X : Type 0} (most : ℕ) (result : Result X Fault) (old new : Device)
+    (before after : Held) : Type 0 where
   -- the source is unchanged; `Read` is returned exactly if its failures rose
   pub uses : UsesAtMost most (is_read result) old new
   -- its entries are dropped; it took no memory and refused none
@@ -33,12 +37,15 @@ pub record InspectsBetween {X : Type 0} (most : ℕ) (result : Result X Fault) (
   pub no_making : is_of_making result ≡ false
 
 -- the same for a borrowed source and room, with a measure of the source's bytes
-abbrev pub Inspects : {S X : Type 0} → (List ℕ → ℕ) → Result X Fault → (S → Device) → Lent S → Lent Held → Type 0
-Inspects work result device source room = InspectsBetween (work (device source.entry.now).bytes) result
+abbrev pub Inspects : {S X : Type 0} → (List ℕ → ℕ) → Result X Fault → (S → Device) → Lent S
+    → Lent Held → Type 0
+Inspects work result device source room =
+    InspectsBetween (work (device source.entry.now).bytes) result
     (device source.entry.now) (device source.exit.now) room.entry.now room.exit.now
 
 -- A call that reads and writes. Of an honest device it requests at most `most` bytes.
-pub record DeliversBetween {X : Type 0} (most : ℕ) (result : Result X Fault) (old new : Device) (before after : Held) (from to : Sink) : Type 0 where
+pub record DeliversBetween {X : Type 0} (most : ℕ) (result : Result X Fault) (old new : Device)
+    (before after : Held) (from to : Sink) : Type 0 where
   -- the source is unchanged; `Read` is returned exactly if its failures rose
   pub uses : UsesAtMost most (is_read result) old new
   -- its entries are dropped; it took no memory and refused none
@@ -49,13 +56,17 @@ pub record DeliversBetween {X : Type 0} (most : ℕ) (result : Result X Fault) (
   pub no_making : is_of_making result ≡ false
 
 -- the same for a borrowed source, room and output
-abbrev pub Delivers : {S X : Type 0} → (List ℕ → ℕ) → Result X Fault → (S → Device) → Lent S → Lent Held → Lent Sink → Type 0
-Delivers work result device source room out = DeliversBetween (work (device source.entry.now).bytes) result
-    (device source.entry.now) (device source.exit.now) room.entry.now room.exit.now out.entry.now out.exit.now
+abbrev pub Delivers : {S X : Type 0} → (List ℕ → ℕ) → Result X Fault → (S → Device) → Lent S
+    → Lent Held → Lent Sink → Type 0
+Delivers work result device source room out =
+    DeliversBetween (work (device source.entry.now).bytes) result
+    (device source.entry.now) (device source.exit.now) room.entry.now room.exit.now out.entry.now
+    out.exit.now
 
 -- A call that reads and passes what it read to a taker. Of an honest device it requests at most
 -- `most` bytes.
-pub record TakesOutBetween {X : Type 0} (most : ℕ) (result : Result X Fault) (old new : Device) (before after : Held) : Type 0 where
+pub record TakesOutBetween {X : Type 0} (most : ℕ) (result : Result X Fault) (old new : Device)
+    (before after : Held) : Type 0 where
   -- the source is unchanged; `Read` is returned exactly if its failures rose
   pub uses : UsesAtMost most (is_read result) old new
   -- its entries are dropped; it took no memory and refused none
@@ -64,18 +75,23 @@ pub record TakesOutBetween {X : Type 0} (most : ℕ) (result : Result X Fault) (
   pub no_making : is_of_making result ≡ false
 
 -- the same for a borrowed source and room
-abbrev pub TakesOut : {S X : Type 0} → (List ℕ → ℕ) → Result X Fault → (S → Device) → Lent S → Lent Held → Type 0
-TakesOut work result device source room = TakesOutBetween (work (device source.entry.now).bytes) result
+abbrev pub TakesOut : {S X : Type 0} → (List ℕ → ℕ) → Result X Fault → (S → Device) → Lent S
+    → Lent Held → Type 0
+TakesOut work result device source room =
+    TakesOutBetween (work (device source.entry.now).bytes) result
     (device source.entry.now) (device source.exit.now) room.entry.now room.exit.now
 
 -- Over an honest source the end and the text are those of an outcome of its bytes; if a device
 -- failed, a prefix of the text was written.
-abbrev pub TellsOf : {S : Type 0} → (List ℕ → Outcome LegacyFault) → Result Status Fault → (S → Device) → Lent S → Lent Sink → Type 0
+abbrev pub TellsOf : {S : Type 0} → (List ℕ → Outcome LegacyFault) → Result Status Fault
+    → (S → Device) → Lent S → Lent Sink → Type 0
 TellsOf outcome result device source out = IsTrue (device source.entry.now).honest
     → Tells (end_of result) (outcome (device source.entry.now).bytes) out.entry.now out.exit.now
 
 -- Of an honest source at most `work` bytes, the written text and one window were requested.
-abbrev pub KeepsAhead : {S : Type 0} → (List ℕ → ℕ) → (List ℕ → Outcome LegacyFault) → (S → Device) → Lent S → Lent Sink → Type 0
+abbrev pub KeepsAhead : {S : Type 0} → (List ℕ → ℕ) → (List ℕ → Outcome LegacyFault) → (S → Device)
+    → Lent S → Lent Sink → Type 0
 KeepsAhead work outcome device source out = IsTrue (device source.entry.now).honest
-    → ReadsAhead (work (device source.entry.now).bytes) (device source.entry.now) (device source.exit.now) out.entry.now out.exit.now
+    → ReadsAhead (work (device source.entry.now).bytes) (device source.entry.now)
+    (device source.exit.now) out.entry.now out.exit.now
     (outcome (device source.entry.now).bytes).text

@@ -23,7 +23,8 @@ count_of image = do
 
 -- the result is the number of parts of an image with this header, or why its table is refused
 abbrev pub CountsIn : Header → List ℕ → Result ℕ Fault → Type 0
-CountsIn h image result = Gives (λ count. count) result (count_in_data (has_parts h.kind) (payload image h))
+CountsIn h image result =
+    Gives (λ count. count) result (count_in_data (has_parts h.kind) (payload image h))
 
 -- the same for an image whose header is read first
 abbrev pub CountsOf : List ℕ → Result ℕ Fault → Type 0

@@ -1,5 +1,6 @@
 -- What contracts see of several devices.
-use Rattle.std.specs.Prelude.{◌≡◌, ◌≢◌, ℕ, ◌<◌, List, length, map, slice_index_or, Bool, true, false, IsTrue, All}
+use Rattle.std.specs.Prelude.{◌≡◌, ◌≢◌, ℕ, ◌<◌, List, length, map, slice_index_or, Bool, true}
+use Rattle.std.specs.Prelude.{false, IsTrue, All}
 use Rattle.uimg_base.specs.Device.{Device, Rose}
 
 -- the bytes of each device

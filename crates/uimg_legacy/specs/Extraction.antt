@@ -1,5 +1,6 @@
 -- What an extraction writes.
-use Rattle.std.specs.Prelude.{ℕ, List, length, slice_index, nat_le, ◌==◌, if◌then◌else◌, Result, Ok, Err, Bool, true, false}
+use Rattle.std.specs.Prelude.{ℕ, List, length, slice_index, nat_le, ◌==◌, if◌then◌else◌, Result, Ok}
+use Rattle.std.specs.Prelude.{Err, Bool, true, false}
 use Rattle.uimg_texts.specs.Slices.{slice}
 use Rattle.uimg_base.specs.Outcome.{Outcome, done, told, unless_refused}
 use Rattle.uimg_base.specs.Results.{◌>>=◌}

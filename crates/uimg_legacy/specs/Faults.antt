@@ -1,5 +1,6 @@
 -- What the results of this crate mean.
-use Rattle.std.specs.Prelude.{◌≡◌, ℕ, List, Result, Ok, Err, Option, Some, None, ⊤, Bool, true, false}
+use Rattle.std.specs.Prelude.{◌≡◌, ℕ, List, Result, Ok, Err, Option, Some, None, ⊤, Bool, true}
+use Rattle.std.specs.Prelude.{false}
 use Rattle.uimg_base.specs.Outcome.{End, done, not_right, refused}
 use Rattle.uimg_base.specs.declared.status.Status.{Status}
 use Rattle.uimg_base.specs.declared.status.Status.TheVariants.{Done, NotRight}
@@ -56,7 +57,8 @@ Gives view (Err (Legacy fault)) r = r ≡ Err fault
 Gives view (Err _) r = ⊤
 
 -- the same for a definition over the bytes of an image
-abbrev pub GivesBy : {X : Type 0} → (List ℕ → Result X LegacyFault) → List ℕ → Result X Fault → Type 0
+abbrev pub GivesBy : {X : Type 0} → (List ℕ → Result X LegacyFault) → List ℕ → Result X Fault
+    → Type 0
 GivesBy definition image result = Gives (λ x. x) result (definition image)
 
 -- a failed copy is a failed read or a failed write

@@ -1,12 +1,14 @@
 -- The header of a legacy image (U-Boot's image.h, `struct legacy_img_hdr`).
-use Rattle.std.specs.Prelude.{ℕ, List, ◌∷◌, ◌++◌, length, take, drop, replicate, slice_index, nat_lt, ◌==◌, if◌then◌else◌, Result, Ok, Err, Bool, true, false}
+use Rattle.std.specs.Prelude.{ℕ, List, ◌∷◌, ◌++◌, length, take, drop, replicate, slice_index}
+use Rattle.std.specs.Prelude.{nat_lt, ◌==◌, if◌then◌else◌, Result, Ok, Err, Bool, true, false}
 use Rattle.std.specs.Int.{to_be_bytes, w32}
 use Rattle.uimg_base.specs.Results.{◌>>=◌}
 use Rattle.uimg_texts.specs.Slices.{slice}
 use Rattle.uimg_sums.specs.Crc.{crc}
 use Rattle.uimg_legacy.specs.declared.header.Header.{Header}
 use Rattle.uimg_legacy.specs.declared.fault.LegacyFault.{LegacyFault}
-use Rattle.uimg_legacy.specs.declared.fault.LegacyFault.TheVariants.{TooShort, BadMagic, BadHeaderCrc}
+use Rattle.uimg_legacy.specs.declared.fault.LegacyFault.TheVariants.{TooShort, BadMagic}
+use Rattle.uimg_legacy.specs.declared.fault.LegacyFault.TheVariants.{BadHeaderCrc}
 use Rattle.uimg_texts.specs.Numbers.{be32}
 
 -- the magic number

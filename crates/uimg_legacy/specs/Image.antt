@@ -1,5 +1,6 @@
 -- A legacy image: its header, and the data after it.
-use Rattle.std.specs.Prelude.{ℕ, ◌+◌, List, length, nat_lt, ◌==◌, if◌then◌else◌, Result, Ok, Err, Bool, true, false}
+use Rattle.std.specs.Prelude.{ℕ, ◌+◌, List, length, nat_lt, ◌==◌, if◌then◌else◌, Result, Ok, Err}
+use Rattle.std.specs.Prelude.{Bool, true, false}
 use Rattle.uimg_base.specs.Results.{◌>>=◌}
 use Rattle.uimg_texts.specs.Slices.{slice}
 use Rattle.uimg_sums.specs.Crc.{crc}

@@ -1,12 +1,14 @@
 -- The listing of a legacy image.
-use Rattle.std.specs.Prelude.{ℕ, zero, suc, List, [], ◌++◌, length, take, replicate, slice_index, codes, decimal, Bool, true, false}
+use Rattle.std.specs.Prelude.{ℕ, zero, suc, List, [], ◌++◌, length, take, replicate, slice_index}
+use Rattle.std.specs.Prelude.{codes, decimal, Bool, true, false}
 use Rattle.std.specs.Int.{to_be_bytes, w32}
 use Rattle.hex.specs.Hex.{encode_lower}
 use Rattle.uimg_base.specs.Outcome.{Outcome, done, refused, told, after, unless_refused, line}
 use Rattle.uimg_texts.specs.Nul.{text}
 use Rattle.uimg_texts.specs.Sizes.{size_text}
 use Rattle.uimg_texts.specs.Times.{time_text}
-use Rattle.uimg_names.specs.declared.field.Field.TheVariants.{Architecture, System, Kind, Compression}
+use Rattle.uimg_names.specs.declared.field.Field.TheVariants.{Architecture, System, Kind}
+use Rattle.uimg_names.specs.declared.field.Field.TheVariants.{Compression}
 use Rattle.uimg_names.specs.declared.naming.Naming.{Naming}
 use Rattle.uimg_names.specs.Naming.{code_text}
 use Rattle.uimg_legacy.specs.declared.header.Header.{Header}
@@ -52,7 +54,8 @@ entry_line h = labelled (codes "Entry Point:") (address_text h.ep)
 
 -- the six lines that each image has
 abbrev pub head_text : Naming → Header → List ℕ
-head_text naming h = name_line h ++ time_line h ++ type_line naming h ++ size_line h ++ load_line h ++ entry_line h
+head_text naming h =
+    name_line h ++ time_line h ++ type_line naming h ++ size_line h ++ load_line h ++ entry_line h
 
 -- the line of part i
 unfoldable pub part_line : ℕ → ℕ → List ℕ
@@ -67,11 +70,14 @@ part_step false text rest = after text rest
 unfoldable pub part_lines : List ℕ → List ℕ → ℕ → ℕ → Outcome LegacyFault
 part_lines payload table zero i = told [] done
 part_lines payload table (suc n) i =
-    part_step (is_outside payload table i) (part_line i (slice_index table i)) (part_lines payload table n (suc i))
+    part_step (is_outside payload table i) (part_line i (slice_index table i))
+    (part_lines payload table n (suc i))
 
 -- the line `Contents:` and the parts' lines, unless their table has no end
 abbrev pub contents : List ℕ → Outcome LegacyFault
-contents payload = unless_refused (part_sizes payload) (λ table. after (line (codes "Contents:")) (part_lines payload table (length table) 0))
+contents payload =
+    unless_refused (part_sizes payload)
+    (λ table. after (line (codes "Contents:")) (part_lines payload table (length table) 0))
 
 -- the lines of the first `count` parts of the data
 abbrev pub lines_of : List ℕ → ℕ → Outcome LegacyFault
@@ -84,4 +90,6 @@ tail_with false payload = told [] done
 
 -- the six lines of an image and the text after them; a refused image has no line
 abbrev pub list_of : Naming → List ℕ → Outcome LegacyFault
-list_of naming image = unless_refused (legacy image) (λ it. after (head_text naming it.header) (tail_with (has_parts it.header.kind) it.payload))
+list_of naming image =
+    unless_refused (legacy image)
+    (λ it. after (head_text naming it.header) (tail_with (has_parts it.header.kind) it.payload))

@@ -1,6 +1,7 @@
 -- What the steps do that read the parts of an image to be built. Contracts see the devices of the
 -- parts before and after a step.
-use Rattle.std.specs.Prelude.{◌≡◌, ℕ, ◌<◌, ◌≤◌, ◌^◌, List, [], ◌++◌, length, map, slice_index_or, ⊤, false, Result, OnOk, IfOk, is_err}
+use Rattle.std.specs.Prelude.{◌≡◌, ℕ, ◌<◌, ◌≤◌, ◌^◌, List, [], ◌++◌, length, map, slice_index_or, ⊤}
+use Rattle.std.specs.Prelude.{false, Result, OnOk, IfOk, is_err}
 use Rattle.std.specs.List.{All}
 use Rattle.uimg_base.specs.Lent.{Lent}
 use Rattle.uimg_base.specs.Device.{Device, RisesIf}
@@ -20,43 +21,58 @@ abbrev pub FitWords : List (List ℕ) → Type 0
 FitWords parts = All (λ part. length part < 2 ^ 32) parts
 
 -- A step that requests no byte. Its result is about the parts' bytes, honest or not.
-pub record LearnsBetween {X P : Type 0} (fact : List (List ℕ) → X → Type 0) (result : Result X SourceFault) (device : P → Device) (old new : List P) : Type 0 where
+pub record LearnsBetween {X P : Type 0} (fact : List (List ℕ) → X → Type 0)
+    (result : Result X SourceFault) (device : P → Device) (old new : List P) : Type 0 where
   pub uses : AsksNone (is_err result) (map device old) (map device new)
   pub answer : IfOk result (fact (bytes_of (map device old)))
 
 -- the same for borrowed parts
-abbrev pub Learns : {X P : Type 0} → (List (List ℕ) → X → Type 0) → Result X SourceFault → (P → Device) → Lent (List P) → Type 0
+abbrev pub Learns : {X P : Type 0} → (List (List ℕ) → X → Type 0) → Result X SourceFault
+    → (P → Device) → Lent (List P) → Type 0
 Learns fact result device parts = LearnsBetween fact result device parts.entry.now parts.exit.now
 
 -- A step that reads the parts. Over honest parts its result is about their bytes.
-pub record FindsBetween {X P : Type 0} (fact : List (List ℕ) → X → Type 0) (result : Result X SourceFault) (device : P → Device) (old new : List P) : Type 0 where
+pub record FindsBetween {X P : Type 0} (fact : List (List ℕ) → X → Type 0)
+    (result : Result X SourceFault) (device : P → Device) (old new : List P) : Type 0 where
   pub uses : UsesAll (is_err result) (map device old) (map device new)
   pub answer : AreHonest (map device old) → IfOk result (fact (bytes_of (map device old)))
 
 -- the same for borrowed parts
-abbrev pub Finds : {X P : Type 0} → (List (List ℕ) → X → Type 0) → Result X SourceFault → (P → Device) → Lent (List P) → Type 0
+abbrev pub Finds : {X P : Type 0} → (List (List ℕ) → X → Type 0) → Result X SourceFault
+    → (P → Device) → Lent (List P) → Type 0
 Finds fact result device parts = FindsBetween fact result device parts.entry.now parts.exit.now
 
 -- A step that feeds bytes of the parts to a sum: exactly `text` of them, if the devices are `sure`.
-pub record FeedsBetween {X P M : Type 0} (sure : List Device → Type 0) (holds : M → List ℕ → Type 0) (text : List (List ℕ) → List ℕ) (result : Result X SourceFault) (device : P → Device) (old new : List P) (before after : M) : Type 0 where
+pub record FeedsBetween {X P M : Type 0} (sure : List Device → Type 0) (holds : M → List ℕ → Type 0)
+    (text : List (List ℕ) → List ℕ) (result : Result X SourceFault) (device : P → Device)
+    (old new : List P) (before after : M) : Type 0 where
   pub uses : UsesAll (is_err result) (map device old) (map device new)
-  pub fed : sure (map device old) → OnOk result ((fed : List ℕ) → holds before fed → holds after (fed ++ text (bytes_of (map device old))))
+  pub fed : sure (map device old)
+      → OnOk result
+      ((fed : List ℕ) → holds before fed
+      → holds after (fed ++ text (bytes_of (map device old))))
 
 -- the same for borrowed parts and a borrowed sum
-abbrev pub Feeds : {X P M : Type 0} → (List Device → Type 0) → (M → List ℕ → Type 0) → (List (List ℕ) → List ℕ) → Result X SourceFault → (P → Device) → Lent (List P) → Lent M → Type 0
+abbrev pub Feeds : {X P M : Type 0} → (List Device → Type 0) → (M → List ℕ → Type 0)
+    → (List (List ℕ) → List ℕ) → Result X SourceFault → (P → Device) → Lent (List P) → Lent M
+    → Type 0
 Feeds sure holds text result device parts sum = FeedsBetween sure holds text result device
     parts.entry.now parts.exit.now sum.entry.now sum.exit.now
 
 -- A step that writes bytes of the parts and refuses nothing. If the devices are `sure`, it writes
 -- `text` of them, or a prefix of that if a device failed.
-pub record PutsBetween {X P : Type 0} (sure : List Device → Type 0) (text : List (List ℕ) → List ℕ) (result : Result X Fault) (device : P → Device) (old new : List P) (from to : Sink) : Type 0 where
+pub record PutsBetween {X P : Type 0} (sure : List Device → Type 0) (text : List (List ℕ) → List ℕ)
+    (result : Result X Fault) (device : P → Device) (old new : List P) (from to : Sink)
+    : Type 0 where
   pub uses : UsesAll (is_read result) (map device old) (map device new)
   pub faults : RisesIf (is_put result) from.faults to.faults
   pub accepted : is_refused result ≡ false
-  pub written : sure (map device old) → Written (is_err result) from to (text (bytes_of (map device old)))
+  pub written : sure (map device old)
+      → Written (is_err result) from to (text (bytes_of (map device old)))
 
 -- the same for borrowed parts and a borrowed output
-abbrev pub Puts : {X P : Type 0} → (List Device → Type 0) → (List (List ℕ) → List ℕ) → Result X Fault → (P → Device) → Lent (List P) → Lent Sink → Type 0
+abbrev pub Puts : {X P : Type 0} → (List Device → Type 0) → (List (List ℕ) → List ℕ)
+    → Result X Fault → (P → Device) → Lent (List P) → Lent Sink → Type 0
 Puts sure text result device parts out = PutsBetween sure text result device
     parts.entry.now parts.exit.now out.entry.now out.exit.now
 

@@ -1,5 +1,6 @@
 -- The parts of types multi and script: a table of sizes that ends with a zero word, then the parts.
-use Rattle.std.specs.Prelude.{ℕ, ◌+◌, ◌*◌, List, length, take, slice_index, sum_by, nat_lt, ◌==◌, ◌||◌, if◌then◌else◌, Result, Ok, Err, Bool}
+use Rattle.std.specs.Prelude.{ℕ, ◌+◌, ◌*◌, List, length, take, slice_index, sum_by, nat_lt, ◌==◌}
+use Rattle.std.specs.Prelude.{◌||◌, if◌then◌else◌, Result, Ok, Err, Bool}
 use Rattle.std.specs.List.{before_first, list_any}
 use Rattle.uimg_legacy.specs.declared.fault.LegacyFault.{LegacyFault}
 use Rattle.uimg_legacy.specs.declared.fault.LegacyFault.TheVariants.{NoTableEnd}
@@ -16,7 +17,8 @@ sizes payload = before_first (λ w. w == 0) (words payload)
 
 -- the sizes of the parts, if their table ends with a zero word
 unfoldable pub part_sizes : List ℕ → Result (List ℕ) LegacyFault
-part_sizes payload = if list_any (λ w. w == 0) (words payload) then Ok (sizes payload) else Err NoTableEnd
+part_sizes payload =
+    if list_any (λ w. w == 0) (words payload) then Ok (sizes payload) else Err NoTableEnd
 
 -- Part i starts after the table, its zero word and the earlier parts, each rounded up to 4 bytes.
 unfoldable pub start : List ℕ → ℕ → ℕ

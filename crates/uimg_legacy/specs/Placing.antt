@@ -1,5 +1,6 @@
 -- Where all parts of an image are in its file.
-use Rattle.std.specs.Prelude.{◌≡◌, ℕ, zero, suc, ◌+◌, ⊤, List, [], ◌∷◌, ◌++◌, length, slice_index, nat_lt, if◌then◌else◌, Result, Ok, Err, Bool, true, false, IsTrue}
+use Rattle.std.specs.Prelude.{◌≡◌, ℕ, zero, suc, ◌+◌, ⊤, List, [], ◌∷◌, ◌++◌, length, slice_index}
+use Rattle.std.specs.Prelude.{nat_lt, if◌then◌else◌, Result, Ok, Err, Bool, true, false, IsTrue}
 use Rattle.uimg_texts.specs.Slices.{slice}
 use Rattle.uimg_base.specs.Lent.{Lent}
 use Rattle.uimg_base.specs.Device.{Device}
@@ -24,14 +25,16 @@ before ps (Ok qs) = Ok (ps ++ qs)
 before ps (Err fault) = Err fault
 
 -- a span, unless its part ends after the data
-abbrev pub place_step : Bool → Span → Result (List Span) LegacyFault → Result (List Span) LegacyFault
+abbrev pub place_step : Bool → Span → Result (List Span) LegacyFault
+    → Result (List Span) LegacyFault
 place_step true p rest = Err PartOutside
 place_step false p rest = before (p ∷ []) rest
 
 -- the spans of n parts from part i on, unless one ends after the data
 unfoldable pub places : List ℕ → List ℕ → ℕ → ℕ → Result (List Span) LegacyFault
 places payload table zero i = Ok []
-places payload table (suc n) i = place_step (is_outside payload table i) (place_of table i) (places payload table n (i + 1))
+places payload table (suc n) i =
+    place_step (is_outside payload table i) (place_of table i) (places payload table n (i + 1))
 
 -- for a type with parts the spans of its table, for any other that of the data
 abbrev pub places_in : Bool → List ℕ → ℕ → Result (List Span) LegacyFault
@@ -42,7 +45,9 @@ places_in false payload size = Ok (record { place = 64; length = size } ∷ [])
 
 -- the spans for an image with this header, if it has all its data
 unfoldable pub places_of : List ℕ → Header → Result (List Span) LegacyFault
-places_of image h = if nat_lt (length image) (64 + h.size) then Err Truncated else places_in (has_parts h.kind) (payload image h) h.size
+places_of image h =
+    if nat_lt (length image) (64 + h.size) then Err Truncated else places_in (has_parts h.kind)
+    (payload image h) h.size
 
 -- the result is a failed read
 abbrev pub is_unread : {X : Type 0} → Result X PartsFault → Bool
@@ -50,7 +55,8 @@ is_unread (Err (Stopped of.Read)) = true
 is_unread _ = false
 
 -- The result is the spans or the fault of a definition, unless a read failed or memory was refused.
-abbrev pub GivesPlaces : {X : Type 0} → (X → List Span) → Result X PartsFault → Result (List Span) LegacyFault → Type 0
+abbrev pub GivesPlaces : {X : Type 0} → (X → List Span) → Result X PartsFault
+    → Result (List Span) LegacyFault → Type 0
 GivesPlaces view (Ok x) r = r ≡ Ok (view x)
 GivesPlaces view (Err (Stopped (of.Legacy fault))) r = r ≡ Err fault
 GivesPlaces view (Err (Stopped of.Read)) r = ⊤
@@ -58,7 +64,8 @@ GivesPlaces view (Err (Stopped of.Put)) r = ⊥
 GivesPlaces view (Err OutOfMemory) r = ⊤
 
 -- Over an honest source whose table has `count` sizes: the spans of its parts, or their fault.
-abbrev pub TellsPlaces : {S X : Type 0} → (X → List Span) → ℕ → ℕ → Result X PartsFault → (S → Device) → Lent S → Type 0
+abbrev pub TellsPlaces : {S X : Type 0} → (X → List Span) → ℕ → ℕ → Result X PartsFault
+    → (S → Device) → Lent S → Type 0
 TellsPlaces view size count result device source = IsTrue (device source.entry.now).honest
     → count ≡ length (sizes (slice (device source.entry.now).bytes 64 size))
     → GivesPlaces view result (places (slice (device source.entry.now).bytes 64 size)

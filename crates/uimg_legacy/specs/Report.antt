@@ -21,4 +21,6 @@ header_report false found = told (line (codes "header crc32 bad")) not_right
 
 -- the report on an image; one that is too short or has another magic number has no line
 abbrev pub verify_of : List ℕ → Outcome LegacyFault
-verify_of image = unless_refused (head image) (λ bytes. header_report (has_right_crc bytes) (has_right_data image (fields bytes)))
+verify_of image =
+    unless_refused (head image)
+    (λ bytes. header_report (has_right_crc bytes) (has_right_data image (fields bytes)))

@@ -7,7 +7,8 @@ use Rattle.uimg_legacy.specs.Parts.{sizes, part_sizes}
 
 -- The result is the number of sizes, or that the table has no end, unless a device failed.
 abbrev pub CountsSizes : List ℕ → Result ℕ Fault → Type 0
-CountsSizes payload (Ok n) = (part_sizes payload ≡ Ok (sizes payload)) × (n ≡ length (sizes payload))
+CountsSizes payload (Ok n) =
+    (part_sizes payload ≡ Ok (sizes payload)) × (n ≡ length (sizes payload))
 CountsSizes payload (Err (Legacy fault)) = part_sizes payload ≡ Err fault
 CountsSizes payload (Err _) = ⊤
 

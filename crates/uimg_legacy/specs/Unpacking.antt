@@ -1,5 +1,7 @@
 -- The parts of a legacy image, as they are unpacked.
-use Rattle.std.specs.Prelude.{◌≡◌, ⊤, ℕ, suc, ◌+◌, ◌*◌, List, [], ◌∷◌, ◌++◌, length, take, drop, nat_lt, ◌==◌, if◌then◌else◌, Option, Some, None, Result, Ok, Err, Bool, true, false, IsTrue}
+use Rattle.std.specs.Prelude.{◌≡◌, ⊤, ℕ, suc, ◌+◌, ◌*◌, List, [], ◌∷◌, ◌++◌, length, take, drop}
+use Rattle.std.specs.Prelude.{nat_lt, ◌==◌, if◌then◌else◌, Option, Some, None, Result, Ok, Err}
+use Rattle.std.specs.Prelude.{Bool, true, false, IsTrue}
 use Rattle.uimg_texts.specs.Numbers.{up4}
 use Rattle.uimg_base.specs.Lent.{Lent}
 use Rattle.uimg_base.specs.Device.{Device}
@@ -9,7 +11,8 @@ use Rattle.uimg_base.specs.Outcome.{done, told}
 use Rattle.uimg_base.specs.Results.{◌>>=◌}
 use Rattle.uimg_legacy.specs.declared.header.Header.{Header}
 use Rattle.uimg_legacy.specs.declared.fault.LegacyFault.{LegacyFault}
-use Rattle.uimg_legacy.specs.declared.fault.LegacyFault.TheVariants.{Truncated, PartOutside, NoSuchPart}
+use Rattle.uimg_legacy.specs.declared.fault.LegacyFault.TheVariants.{Truncated, PartOutside}
+use Rattle.uimg_legacy.specs.declared.fault.LegacyFault.TheVariants.{NoSuchPart}
 use Rattle.uimg_legacy.specs.declared.fault.Fault.{Fault}
 use Rattle.uimg_legacy.specs.declared.fault.Fault.TheVariants.{Legacy, Read, Put}
 use Rattle.uimg_legacy.specs.Header.{header as header_of}
@@ -62,11 +65,13 @@ part_if false number bytes = []
 -- the requested parts, numbered from `number` on
 unfoldable pub chosen : Option ℕ → ℕ → List (List ℕ) → List Part
 chosen only number [] = []
-chosen only number (bytes ∷ more) = part_if (is_asked only number) number bytes ++ chosen only (suc number) more
+chosen only number (bytes ∷ more) =
+    part_if (is_asked only number) number bytes ++ chosen only (suc number) more
 
 -- the data after the header, if the image has them
 unfoldable pub data_there : List ℕ → Header → Result (List ℕ) LegacyFault
-data_there image h = if nat_lt (length image) (64 + h.size) then Err Truncated else Ok (payload image h)
+data_there image h =
+    if nat_lt (length image) (64 + h.size) then Err Truncated else Ok (payload image h)
 
 -- the requested parts, if the data's CRC is that in the header
 abbrev pub kept_if : Bool → List Part → Option (List Part)
@@ -87,14 +92,16 @@ unpack_of only image = do
   unpacked only h bytes
 
 -- Parts of an image were kept, after those before.
-pub record Keeps (told : Result (Option (List Part)) LegacyFault) (old new : List Part) : Type 0 where
+pub record Keeps (told : Result (Option (List Part)) LegacyFault) (old new : List Part)
+    : Type 0 where
   pub parts : List Part
   pub is : told ≡ Ok (Some parts)
   pub kept : new ≡ old ++ parts
 
 -- What a result says of an image and of the kept parts. Nothing is kept if the image is refused,
 -- its data's CRC is wrong or a device failed.
-abbrev pub UnpacksBetween : Result Bool Fault → Result (Option (List Part)) LegacyFault → List Part → List Part → Type 0
+abbrev pub UnpacksBetween : Result Bool Fault → Result (Option (List Part)) LegacyFault → List Part
+    → List Part → Type 0
 UnpacksBetween (Ok true) told old new = Keeps told old new
 UnpacksBetween (Ok false) told old new = (told ≡ Ok None) × (new ≡ old)
 UnpacksBetween (Err (Legacy fault)) told old new = (told ≡ Err fault) × (new ≡ old)
@@ -102,9 +109,12 @@ UnpacksBetween (Err Read) told old new = new ≡ old
 UnpacksBetween (Err Put) told old new = new ≡ old
 
 -- the same for an honest source and an honest taker
-abbrev pub Unpacks : {S T : Type 0} → Option ℕ → Result Bool Fault → (S → Device) → Lent S → Bool → (T → List Part) → Lent T → Type 0
-Unpacks only result device source honest kept taker = IsTrue (device source.entry.now).honest → IsTrue honest
-    → UnpacksBetween result (unpack_of only (device source.entry.now).bytes) (kept taker.entry.now) (kept taker.exit.now)
+abbrev pub Unpacks : {S T : Type 0} → Option ℕ → Result Bool Fault → (S → Device) → Lent S → Bool
+    → (T → List Part) → Lent T → Type 0
+Unpacks only result device source honest kept taker =
+    IsTrue (device source.entry.now).honest → IsTrue honest
+    → UnpacksBetween result (unpack_of only (device source.entry.now).bytes) (kept taker.entry.now)
+    (kept taker.exit.now)
 
 -- What is kept, whatever the source returned: the parts of some image with right checksums.
 pub record KeepsSome (only : Option ℕ) (old new : List Part) : Type 0 where
@@ -131,8 +141,10 @@ KeepsRightBetween only (Ok false) old new = new ≡ old
 KeepsRightBetween only (Err fault) old new = new ≡ old
 
 -- the same for an honest taker
-abbrev pub KeepsRight : {T : Type 0} → Option ℕ → Result Bool Fault → Bool → (T → List Part) → Lent T → Type 0
-KeepsRight only result honest kept taker = IsTrue honest → KeepsRightBetween only result (kept taker.entry.now) (kept taker.exit.now)
+abbrev pub KeepsRight : {T : Type 0} → Option ℕ → Result Bool Fault → Bool → (T → List Part)
+    → Lent T → Type 0
+KeepsRight only result honest kept taker =
+    IsTrue honest → KeepsRightBetween only result (kept taker.entry.now) (kept taker.exit.now)
 
 -- Parts were kept, after those before, and each is what an extraction from its position writes.
 pub record KeepsExtracted (image : List ℕ) (old new : List Part) : Type 0 where
@@ -147,6 +159,9 @@ ExtractsBetween image (Ok false) old new = ⊤
 ExtractsBetween image (Err fault) old new = ⊤
 
 -- the same for an honest source and an honest taker
-abbrev pub Extracts : {S T : Type 0} → Result Bool Fault → (S → Device) → Lent S → Bool → (T → List Part) → Lent T → Type 0
-Extracts result device source honest kept taker = IsTrue (device source.entry.now).honest → IsTrue honest
-    → ExtractsBetween (device source.entry.now).bytes result (kept taker.entry.now) (kept taker.exit.now)
+abbrev pub Extracts : {S T : Type 0} → Result Bool Fault → (S → Device) → Lent S → Bool
+    → (T → List Part) → Lent T → Type 0
+Extracts result device source honest kept taker =
+    IsTrue (device source.entry.now).honest → IsTrue honest
+    → ExtractsBetween (device source.entry.now).bytes result (kept taker.entry.now)
+    (kept taker.exit.now)

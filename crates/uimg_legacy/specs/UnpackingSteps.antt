@@ -1,5 +1,7 @@
 -- What the steps of unpacking do, over any device.
-use Rattle.std.specs.Prelude.{◌≡◌, ◌≢◌, ⊤, ℕ, ◌+◌, ◌-◌, ◌*◌, ◌<◌, ◌≤◌, min, List, ◌++◌, length, take, sum_by, ◌==◌, Option, Bool, true, false, Result, Ok, Err, IsTrue, OnOk}
+use Rattle.std.specs.Prelude.{◌≡◌, ◌≢◌, ⊤, ℕ, ◌+◌, ◌-◌, ◌*◌, ◌<◌, ◌≤◌, min, List, ◌++◌, length}
+use Rattle.std.specs.Prelude.{take, sum_by, ◌==◌, Option, Bool, true, false, Result, Ok, Err}
+use Rattle.std.specs.Prelude.{IsTrue, OnOk}
 use Rattle.std.specs.List.{AllByRecursion}
 use Rattle.uimg_texts.specs.Slices.{slice}
 use Rattle.uimg_texts.specs.Numbers.{be32, up4}
@@ -25,16 +27,20 @@ use Rattle.uimg_legacy.specs.Work.{data_read, sizes_read_with}
 use Rattle.uimg_legacy.specs.Unpacking.{Part, part_if, is_asked, chosen, parts_by, parts_in}
 
 -- A step that takes parts. An honest taker keeps nothing new.
-pub record TakesBetween {X : Type 0} (used : Bool → Device → Device → Type 0) (result : Result X Fault) (old new : Device) (before after : Held) (honest : Bool) (from to : List Part) : Type 0 where
+pub record TakesBetween {X : Type 0} (used : Bool → Device → Device → Type 0)
+    (result : Result X Fault) (old new : Device) (before after : Held) (honest : Bool)
+    (from to : List Part) : Type 0 where
   pub uses : used (is_read result) old new
   pub room : after ≡ before
   pub no_making : is_of_making result ≡ false
   pub kept : IsTrue honest → to ≡ from
 
 -- the same for a borrowed source, room and taker
-abbrev pub Takes : {S T X : Type 0} → (Bool → Device → Device → Type 0) → Result X Fault → (S → Device) → Lent S → Lent Held → Bool → (T → List Part) → Lent T → Type 0
+abbrev pub Takes : {S T X : Type 0} → (Bool → Device → Device → Type 0) → Result X Fault
+    → (S → Device) → Lent S → Lent Held → Bool → (T → List Part) → Lent T → Type 0
 Takes used result device source room honest kept taker = TakesBetween used result
-    (device source.entry.now) (device source.exit.now) room.entry.now room.exit.now honest (kept taker.entry.now) (kept taker.exit.now)
+    (device source.entry.now) (device source.exit.now) room.entry.now room.exit.now honest
+    (kept taker.entry.now) (kept taker.exit.now)
 
 -- Some bytes were fed to a sum: those of a range of the device, if it is honest.
 pub record SumsPieceBetween (d : Device) (at len : ℕ) (old new : Crc) : Type 0 where
@@ -45,7 +51,8 @@ pub record SumsPieceBetween (d : Device) (at len : ℕ) (old new : Crc) : Type 0
 
 -- the same for a borrowed source and sum
 abbrev pub SumsPiece : {S : Type 0} → ℕ → ℕ → (S → Device) → Lent S → Lent Crc → Type 0
-SumsPiece at len device source sum = SumsPieceBetween (device source.entry.now) at len sum.entry.now sum.exit.now
+SumsPiece at len device source sum =
+    SumsPieceBetween (device source.entry.now) at len sum.entry.now sum.exit.now
 
 -- The same, and the bytes were appended to an output.
 pub record TakesPieceBetween (d : Device) (at len : ℕ) (old new : Crc) (s t : Sink) : Type 0 where
@@ -58,27 +65,36 @@ TakesPiece at len device source sum out = TakesPieceBetween (device source.entry
     sum.entry.now sum.exit.now out.entry.now out.exit.now
 
 -- Some bytes were fed to a sum, and held as a part if that is requested.
-pub record TakesPartBetween (asked honest : Bool) (number : ℕ) (d : Device) (at len : ℕ) (old new : Crc) (from to : List Part) : Type 0 where
+pub record TakesPartBetween (asked honest : Bool) (number : ℕ) (d : Device) (at len : ℕ)
+    (old new : Crc) (from to : List Part) : Type 0 where
   pub sums : SumsPieceBetween d at len old new
   pub held : IsTrue honest → to ≡ from ++ part_if asked number sums.piece
 
 -- the same unless a device failed
-abbrev pub TakesPart : {X S T : Type 0} → Bool → ℕ → ℕ → ℕ → Result X Fault → (S → Device) → Lent S → Lent Crc → Bool → (T → List Part) → Lent T → Type 0
-TakesPart asked number at len result device source sum honest held taker = OnOk result (TakesPartBetween asked honest number
-    (device source.entry.now) at len sum.entry.now sum.exit.now (held taker.entry.now) (held taker.exit.now))
+abbrev pub TakesPart : {X S T : Type 0} → Bool → ℕ → ℕ → ℕ → Result X Fault → (S → Device) → Lent S
+    → Lent Crc → Bool → (T → List Part) → Lent T → Type 0
+TakesPart asked number at len result device source sum honest held taker =
+    OnOk result (TakesPartBetween asked honest number
+    (device source.entry.now) at len sum.entry.now sum.exit.now (held taker.entry.now)
+    (held taker.exit.now))
 
 -- Some bytes were fed to a sum, and the first `len` of them held as a part if that is requested.
-pub record TakesPaddedBetween (asked honest : Bool) (number : ℕ) (d : Device) (at len all : ℕ) (old new : Crc) (from to : List Part) : Type 0 where
+pub record TakesPaddedBetween (asked honest : Bool) (number : ℕ) (d : Device) (at len all : ℕ)
+    (old new : Crc) (from to : List Part) : Type 0 where
   pub sums : SumsPieceBetween d at all old new
   pub held : IsTrue honest → to ≡ from ++ part_if asked number (take len sums.piece)
 
 -- the same unless a device failed
-abbrev pub TakesPadded : {X S T : Type 0} → Bool → ℕ → ℕ → ℕ → ℕ → Result X Fault → (S → Device) → Lent S → Lent Crc → Bool → (T → List Part) → Lent T → Type 0
-TakesPadded asked number at len all result device source sum honest held taker = OnOk result (TakesPaddedBetween asked honest number
-    (device source.entry.now) at len all sum.entry.now sum.exit.now (held taker.entry.now) (held taker.exit.now))
+abbrev pub TakesPadded : {X S T : Type 0} → Bool → ℕ → ℕ → ℕ → ℕ → Result X Fault → (S → Device)
+    → Lent S → Lent Crc → Bool → (T → List Part) → Lent T → Type 0
+TakesPadded asked number at len all result device source sum honest held taker =
+    OnOk result (TakesPaddedBetween asked honest number
+    (device source.entry.now) at len all sum.entry.now sum.exit.now (held taker.entry.now)
+    (held taker.exit.now))
 
 -- The next size was read, and its part taken with the bytes up to the next multiple of 4.
-pub record TakesNextBetween (only : Option ℕ) (honest : Bool) (number size : ℕ) (d : Device) (old new : Walk) (from to : List Part) : Type 0 where
+pub record TakesNextBetween (only : Option ℕ) (honest : Bool) (number size : ℕ) (d : Device)
+    (old new : Walk) (from to : List Part) : Type 0 where
   pub word : List ℕ
   pub long : length word ≡ 4
   pub some : be32 word 0 ≢ 0
@@ -86,17 +102,22 @@ pub record TakesNextBetween (only : Option ℕ) (honest : Bool) (number size : �
   pub place : new.at ≡ min (old.at + up4 (be32 word 0)) size
   pub sizes : (fed : List ℕ) → Holds old.sizes fed → Holds new.sizes (fed ++ word)
   pub read : IsTrue d.honest → word ≡ slice d.bytes (64 + 4 * number) 4
-  pub taken : TakesPaddedBetween (is_asked only number) honest number d (64 + old.at) (be32 word 0) (new.at - old.at) old.sum new.sum from to
+  pub taken : TakesPaddedBetween (is_asked only number) honest number d (64 + old.at) (be32 word 0)
+      (new.at - old.at) old.sum new.sum from to
 
 -- the same at `Ok`
-abbrev pub TakesNext : {X S T : Type 0} → Option ℕ → ℕ → ℕ → Result X Fault → (S → Device) → Lent S → Lent Walk → Bool → (T → List Part) → Lent T → Type 0
-TakesNext only number size result device source walk honest held taker = OnOk result (TakesNextBetween only honest number size
-    (device source.entry.now) walk.entry.now walk.exit.now (held taker.entry.now) (held taker.exit.now))
+abbrev pub TakesNext : {X S T : Type 0} → Option ℕ → ℕ → ℕ → Result X Fault → (S → Device) → Lent S
+    → Lent Walk → Bool → (T → List Part) → Lent T → Type 0
+TakesNext only number size result device source walk honest held taker =
+    OnOk result (TakesNextBetween only honest number size
+    (device source.entry.now) walk.entry.now walk.exit.now (held taker.entry.now)
+    (held taker.exit.now))
 
 -- At `Ok` at most the bytes that the walk passed, and `more`, were requested.
 abbrev pub Pays : {X S : Type 0} → ℕ → Result X Fault → (S → Device) → Lent S → Lent Walk → Type 0
 Pays more result device source walk = OnOk result
-    ((device source.exit.now).asked + walk.entry.now.at ≤ (device source.entry.now).asked + (more + walk.exit.now.at))
+    ((device source.exit.now).asked + walk.entry.now.at
+    ≤ (device source.entry.now).asked + (more + walk.exit.now.at))
 
 -- Why the next part is refused, if it is: it ends after the data, or its size, read again, is 0.
 abbrev pub RefusesNext : {X : Type 0} → ℕ → ℕ → ℕ → Result X Fault → Type 0
@@ -111,7 +132,8 @@ RefusesNumber number size at file result = RefusesNext at size (be32 file (64 + 
 
 -- The first `count` parts were taken: `table` is the bytes of their sizes as read, and `bytes`
 -- those that the parts were cut from.
-pub record Walked (only : Option ℕ) (honest : Bool) (count size : ℕ) (d : Device) (old new : Walk) (from to : List Part) : Type 0 where
+pub record Walked (only : Option ℕ) (honest : Bool) (count size : ℕ) (d : Device) (old new : Walk)
+    (from to : List Part) : Type 0 where
   pub table : List ℕ
   pub bytes : List ℕ
   pub parts : List (List ℕ)
@@ -128,9 +150,12 @@ pub record Walked (only : Option ℕ) (honest : Bool) (count size : ℕ) (d : De
   pub held : IsTrue honest → to ≡ from ++ chosen only 0 parts
 
 -- the same at `Ok`
-abbrev pub Walks : {X S T : Type 0} → Option ℕ → ℕ → ℕ → Result X Fault → (S → Device) → Lent S → Lent Walk → Bool → (T → List Part) → Lent T → Type 0
-Walks only count size result device source walk honest held taker = OnOk result (Walked only honest count size
-    (device source.entry.now) walk.entry.now walk.exit.now (held taker.entry.now) (held taker.exit.now))
+abbrev pub Walks : {X S T : Type 0} → Option ℕ → ℕ → ℕ → Result X Fault → (S → Device) → Lent S
+    → Lent Walk → Bool → (T → List Part) → Lent T → Type 0
+Walks only count size result device source walk honest held taker =
+    OnOk result (Walked only honest count size
+    (device source.entry.now) walk.entry.now walk.exit.now (held taker.entry.now)
+    (held taker.exit.now))
 
 -- A refusal of parts is that of a definition.
 abbrev pub RefusesBy : {X Y : Type 0} → Result Y LegacyFault → Result X Fault → Type 0
@@ -144,7 +169,8 @@ RefusesFrom count size at file result =
     → RefusesBy (parts_by (sizes (slice file 64 size)) (slice file (64 + at) (size - at))) result
 
 -- The parts of some data with the header's CRC are held: of the device's data, if it is honest.
-pub record HoldsParts (only : Option ℕ) (honest : Bool) (h : Header) (d : Device) (from to : List Part) : Type 0 where
+pub record HoldsParts (only : Option ℕ) (honest : Bool) (h : Header) (d : Device)
+    (from to : List Part) : Type 0 where
   pub bytes : List ℕ
   pub parts : List (List ℕ)
   pub long : length bytes ≡ h.size
@@ -160,32 +186,40 @@ pub record IsWrong (only : Option ℕ) (h : Header) (image : List ℕ) : Type 0 
   pub wrong : (crc (payload image h) == h.dcrc) ≡ false
 
 -- What a result says of the taken data: whether their CRC is right, or why they are refused.
-abbrev pub TakesDataBetween : Option ℕ → Bool → Header → Device → Result Bool Fault → List Part → List Part → Type 0
+abbrev pub TakesDataBetween : Option ℕ → Bool → Header → Device → Result Bool Fault → List Part
+    → List Part → Type 0
 TakesDataBetween only honest h d (Ok true) from to = HoldsParts only honest h d from to
 TakesDataBetween only honest h d (Ok false) from to = IsTrue d.honest → IsWrong only h d.bytes
-TakesDataBetween only honest h d (Err (Legacy fault)) from to = IsTrue d.honest → parts_in only (has_parts h.kind) (payload d.bytes h) ≡ Err fault
+TakesDataBetween only honest h d (Err (Legacy fault)) from to =
+    IsTrue d.honest → parts_in only (has_parts h.kind) (payload d.bytes h) ≡ Err fault
 TakesDataBetween only honest h d (Err Read) from to = ⊤
 TakesDataBetween only honest h d (Err Put) from to = ⊤
 
 -- the same for a borrowed source and taker
-abbrev pub TakesData : {S T : Type 0} → Option ℕ → Header → Result Bool Fault → (S → Device) → Lent S → Bool → (T → List Part) → Lent T → Type 0
-TakesData only h result device source honest held taker = TakesDataBetween only honest h (device source.entry.now) result
+abbrev pub TakesData : {S T : Type 0} → Option ℕ → Header → Result Bool Fault → (S → Device)
+    → Lent S → Bool → (T → List Part) → Lent T → Type 0
+TakesData only h result device source honest held taker =
+    TakesDataBetween only honest h (device source.entry.now) result
     (held taker.entry.now) (held taker.exit.now)
 
 -- The held parts were kept if the data's CRC is right; else, or if keeping failed, nothing was.
-abbrev pub SettlesBetween : {E : Type 0} → Bool → Result Bool E → List Part → List Part → List Part → Type 0
+abbrev pub SettlesBetween : {E : Type 0} → Bool → Result Bool E → List Part → List Part → List Part
+    → Type 0
 SettlesBetween true (Ok kept) held old new = (kept ≡ true) × (new ≡ old ++ held)
 SettlesBetween false (Ok kept) held old new = (kept ≡ false) × (new ≡ old)
 SettlesBetween right (Err fault) held old new = new ≡ old
 
 -- the same for an honest taker
-abbrev pub Settles : {E T : Type 0} → Bool → Result Bool E → Bool → (T → List Part) → (T → List Part) → Lent T → Type 0
+abbrev pub Settles : {E T : Type 0} → Bool → Result Bool E → Bool → (T → List Part)
+    → (T → List Part) → Lent T → Type 0
 Settles right result honest held kept taker = IsTrue honest
-    → SettlesBetween right result (held taker.entry.now) (kept taker.entry.now) (kept taker.exit.now)
+    → SettlesBetween right result (held taker.entry.now) (kept taker.entry.now)
+    (kept taker.exit.now)
 
 -- the most bytes requested after the header: the data, and the table of sizes twice
 abbrev pub unpack_reads : List ℕ → Result Header LegacyFault → ℕ
-unpack_reads image (Ok h) = data_read image h + 8 * (sizes_read_with (has_parts h.kind) (payload image h) + 1)
+unpack_reads image (Ok h) =
+    data_read image h + 8 * (sizes_read_with (has_parts h.kind) (payload image h) + 1)
 unpack_reads image (Err fault) = 0
 
 -- the most bytes requested of the data of a type with parts

@@ -9,7 +9,7 @@ ghost use Rattle.uimg_legacy.specs.Reading.{ReadsHead, IsSpelledIn};
 
 use crate::fault::{Fault, LegacyFault};
 use byteorder::{BigEndian, ByteOrder};
-use uimg_base::{Source, crc_of, number_at};
+use uimg_base::{Source, be32_at, crc_of};
 
 // The magic number of legacy images.
 const MAGIC: u32 = 0x2705_1956;
@@ -54,7 +54,7 @@ pub(crate) fn read_head<S: Source>(source: &mut S) -> Result<[u8; HEADER_LEN], F
     }
     let mut bytes = [0; HEADER_LEN];
     source.fill_at(0, &mut bytes)?;
-    if number_at(&bytes, 0) != MAGIC {
+    if be32_at(&bytes, 0) != MAGIC {
         return Err(Fault::Legacy(LegacyFault::BadMagic));
     }
     Ok(bytes)
@@ -67,7 +67,7 @@ pub(crate) fn has_right_crc(bytes: &[u8; HEADER_LEN]) -> bool
 {
     let mut cleared = *bytes;
     cleared[4..8].copy_from_slice(&[0; 4]);
-    number_at(bytes, 4) == crc_of(&cleared)
+    be32_at(bytes, 4) == crc_of(&cleared)
 }
 
 // Reads the fields at their offsets.
@@ -79,11 +79,11 @@ pub(crate) fn fields(bytes: &[u8; HEADER_LEN]) -> Header
     let mut name = [0; 32];
     name.copy_from_slice(&bytes[32..]);
     Header {
-        time: number_at(bytes, 8),
-        size: number_at(bytes, 12),
-        load: number_at(bytes, 16),
-        ep: number_at(bytes, 20),
-        dcrc: number_at(bytes, 24),
+        time: be32_at(bytes, 8),
+        size: be32_at(bytes, 12),
+        load: be32_at(bytes, 16),
+        ep: be32_at(bytes, 20),
+        dcrc: be32_at(bytes, 24),
         os: bytes[28],
         arch: bytes[29],
         kind: bytes[30],

@@ -12,7 +12,7 @@ use crate::fault::{Fault, LegacyFault};
 use crate::header::Header;
 use crate::table::{count_window, sum_first};
 use std::alloc::Allocator;
-use uimg_base::{MULTI, Room, SCRIPT, Source, SourceFault, Span, number_at};
+use uimg_base::{MULTI, Room, SCRIPT, Source, SourceFault, Span, be32_at};
 
 /// Returns whether an image of this type has parts: multi (4) and script (6) do.
 #[tactic(auto, unfolding(crate::specs::Parts::has_parts))]
@@ -31,7 +31,7 @@ pub(crate) fn size_at<S: Source>(source: &mut S, i: u32) -> Result<u32, SourceFa
 {
     let mut word = [0; 4];
     source.fill_at(64 + 4 * i as u64, &mut word)?;
-    Ok(number_at(&word, 0))
+    Ok(be32_at(&word, 0))
 }
 
 // Counts the sizes before the zero word that ends the table. A window has at most one word more

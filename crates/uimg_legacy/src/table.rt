@@ -7,7 +7,7 @@ ghost use Rattle.uimg_legacy.specs.Parts.{sizes};
 ghost use Rattle.uimg_legacy.specs.Reading.{ReadsWords, sizes_from, rounded_from};
 
 use std::alloc::Allocator;
-use uimg_base::{Room, Source, SourceFault, number_at, up4};
+use uimg_base::{Room, Source, SourceFault, be32_at, up4};
 
 // Counts the words of the bytes before the first zero word.
 pub(crate) fn leading_sizes(bytes: &[u8]) -> usize
@@ -16,7 +16,7 @@ pub(crate) fn leading_sizes(bytes: &[u8]) -> usize
 {
     let count = bytes.len() / 4;
     for i in 0..count {
-        if number_at(bytes, 4 * i) == 0 {
+        if be32_at(bytes, 4 * i) == 0 {
             return i;
         }
     }
@@ -47,7 +47,7 @@ fn rounded_sum(bytes: &[u8]) -> u64
 {
     let mut sum = 0;
     for i in 0..bytes.len() / 4 {
-        let size = number_at(bytes, 4 * i) as u64;
+        let size = be32_at(bytes, 4 * i) as u64;
         let rounded = up4(size);
         sum += rounded;
     }

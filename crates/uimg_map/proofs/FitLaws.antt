@@ -4,7 +4,7 @@ use Rattle.std.proofs.lemmas.List.{drop_more}
 use Rattle.std.proofs.Math.ListN.{drop_of_length-le}
 use Rattle.uimg_base.specs.Device.{Device, RisesIf}
 use Rattle.uimg_base.specs.Using.{Asks, UsesAtMost}
-use Rattle.uimg_blob.specs.Counts.{index_cost}
+use Rattle.uimg_blob_reading.specs.Counts.{index_cost}
 use Rattle.uimg_fit_checking.specs.declared.surveying.facts.ImageFacts.{ImageFacts}
 use Rattle.uimg_fit_checking.specs.declared.surveying.facts.Survey.{Survey}
 use Rattle.uimg_fit_checking.specs.declared.surveying.fault.SurveyFault.{SurveyFault}
@@ -16,8 +16,8 @@ use Rattle.uimg_map.specs.Contents.{Grows, Gathers}
 use Rattle.uimg_map.specs.Faults.{is_read, stops}
 use Rattle.uimg_map.specs.FitContents.{blocks_named, blocks_told, image_told, images_told, survey_told}
 use Rattle.uimg_map.specs.Work.{images_in}
-use Rattle.uimg_map.specs.declared.numbers.BlobNumbers.{BlobNumbers}
-use Rattle.uimg_map.specs.Numbers.{numbers_in}
+use Rattle.uimg_map.specs.declared.fdt_header.FdtHeader.{FdtHeader}
+use Rattle.uimg_map.specs.FdtHeader.{fdt_header_of}
 use Rattle.uimg_map.specs.Reservations.{EndsBlock, block_end}
 use Rattle.uimg_map.proofs.ContentsLaws.{grows_none, grows_then, reads_then, reads_and_grows, gathers_as, at_most}
 use Rattle.uimg_map.proofs.ReservationsLaws.{end_is}
@@ -51,14 +51,14 @@ module _ {X : Type 0} {r : Result X MapFault} {d e : Device} {a b : Contents} wh
 
 -- the numbers of a header, the end of its reservation block, and the blocks
 module _ {X : Type 0} {x : X} {d e f : Device} {a b : Contents} where
-  pub blocks_then : (n : BlobNumbers) (end : Option ℕ) → Asks 40 false d e → Asks (length e.bytes) false e f → (IsTrue d.honest → Some n ≡ numbers_in d.bytes)
-      → (IsTrue e.honest → EndsBlock e.bytes n.reservations end) → a.size ≡ length d.bytes
-      → ((file : List ℕ) → Grows file (blocks_named n end a.size) a b) → Gathers (λ file. 40 + length file) (λ file. blocks_told file (numbers_in file)) (Ok x) d f a b
+  pub blocks_then : (n : FdtHeader) (end : Option ℕ) → Asks 40 false d e → Asks (length e.bytes) false e f → (IsTrue d.honest → Some n ≡ fdt_header_of d.bytes)
+      → (IsTrue e.honest → EndsBlock e.bytes n.off_mem_rsvmap end) → a.size ≡ length d.bytes
+      → ((file : List ℕ) → Grows file (blocks_named n end a.size) a b) → Gathers (λ file. 40 + length file) (λ file. blocks_told file (fdt_header_of file)) (Ok x) d f a b
   blocks_then n end p q are ends is grows =
-      let named_at : IsTrue d.honest → blocks_named n end a.size ≡ blocks_told d.bytes (numbers_in d.bytes) = λ h.
-      let there : EndsBlock d.bytes n.reservations end = subst (λ (file : List ℕ). EndsBlock file n.reservations end) p.same.bytes (ends (subst IsTrue (sym p.same.honest) h)) in
-      ap (λ (k : Option ℕ). blocks_named n k a.size) (end_is d.bytes n.reservations end there)
-      ∙ ap (λ (k : ℕ). blocks_named n (block_end d.bytes n.reservations) k) is
-      ∙ ap (λ (found : Option BlobNumbers). blocks_told d.bytes found) (are h) in
+      let named_at : IsTrue d.honest → blocks_named n end a.size ≡ blocks_told d.bytes (fdt_header_of d.bytes) = λ h.
+      let there : EndsBlock d.bytes n.off_mem_rsvmap end = subst (λ (file : List ℕ). EndsBlock file n.off_mem_rsvmap end) p.same.bytes (ends (subst IsTrue (sym p.same.honest) h)) in
+      ap (λ (k : Option ℕ). blocks_named n k a.size) (end_is d.bytes n.off_mem_rsvmap end there)
+      ∙ ap (λ (k : ℕ). blocks_named n (block_end d.bytes n.off_mem_rsvmap) k) is
+      ∙ ap (λ (found : Option FdtHeader). blocks_told d.bytes found) (are h) in
       gathers_as (λ h. le_refl _) named_at
       (reads_then (λ _. 40) (at_most p) (reads_and_grows {v = λ file. length file} {n = λ _. blocks_named n end a.size} (at_most q) grows))

@@ -20,4 +20,5 @@ pub record Arranges (size : ℕ) (things : List Thing) (rows : List Row) : Type 
   pub count : length rows ≤ 2 * length things + 1
   -- each byte of the file is in a row; a row without a thing has bytes of the file in no thing
   pub covered : (i : ℕ) → i < size → list_any (has i) rows ≡ true
-  pub free : (i : ℕ) → list_any (has_free i) rows ≡ true → (i < size) × (list_any (contains i) things ≡ false)
+  pub free : (i : ℕ) → list_any (has_free i) rows ≡ true
+      → (i < size) × (list_any (contains i) things ≡ false)

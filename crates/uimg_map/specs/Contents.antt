@@ -1,5 +1,6 @@
 -- How contents grow by what is found in a file.
-use Rattle.std.specs.Prelude.{◌≡◌, ℕ, ◌+◌, List, [], ◌∷◌, ◌++◌, length, map, Result, OnOk, IfErr, IsTrue}
+use Rattle.std.specs.Prelude.{◌≡◌, ℕ, ◌+◌, List, [], ◌∷◌, ◌++◌, length, map, Result, OnOk, IfErr}
+use Rattle.std.specs.Prelude.{IsTrue}
 use Rattle.uimg_base.specs.Device.{Device}
 use Rattle.uimg_base.specs.Using.{UsesAtMost}
 use Rattle.uimg_map.specs.declared.contents.Contents.{Contents}
@@ -12,24 +13,28 @@ use Rattle.uimg_map.specs.Found.{Found, Told, read_label, first_of}
 -- things in their order, numbered from `number` on
 abbrev pub numbered : ℕ → List Found → List Thing
 numbered number [] = []
-numbered number (f ∷ fs) = record { place = f.place; end = f.end; number = number } ∷ numbered (number + 1) fs
+numbered number (f ∷ fs) =
+    record { place = f.place; end = f.end; number = number } ∷ numbered (number + 1) fs
 
 -- Contents grew by what is found in a file: things with their labels' numbers, and a first fault.
 pub record Grows (file : List ℕ) (more : Told) (old new : Contents) : Type 0 where
   pub size : new.size ≡ old.size
   pub things : new.things.items ≡ old.things.items ++ numbered (length old.labels.items) more.found
-  pub labels : map (read_label file) new.labels.items ≡ map (read_label file) old.labels.items ++ map (λ f. f.what) more.found
+  pub labels : map (read_label file) new.labels.items ≡ map
+      (read_label file) old.labels.items ++ map (λ f. f.what) more.found
   pub first : new.fault ≡ first_of old.fault more.fault
 
 -- Contents grew so, for any file, unless memory was refused.
-pub record Adds {X : Type 0} (told : List ℕ → Told) (result : Result X MapFault) (old new : Contents) : Type 0 where
+pub record Adds {X : Type 0} (told : List ℕ → Told) (result : Result X MapFault)
+    (old new : Contents) : Type 0 where
   pub size : new.size ≡ old.size
   pub grows : OnOk result ((file : List ℕ) → Grows file (told file) old new)
   pub memory : IfErr result (λ fault. fault ≡ OutOfMemory)
 
 -- Of an honest device at most `work` bytes were requested, and contents grew by what is found in
 -- its bytes, unless a read failed or memory was refused.
-pub record Gathers {X : Type 0} (work : List ℕ → ℕ) (told : List ℕ → Told) (result : Result X MapFault) (old new : Device) (before after : Contents) : Type 0 where
+pub record Gathers {X : Type 0} (work : List ℕ → ℕ) (told : List ℕ → Told)
+    (result : Result X MapFault) (old new : Device) (before after : Contents) : Type 0 where
   pub uses : UsesAtMost (work old.bytes) (is_read result) old new
   pub size : after.size ≡ before.size
   pub grows : IsTrue old.honest → OnOk result (Grows old.bytes (told old.bytes) before after)

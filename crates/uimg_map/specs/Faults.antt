@@ -1,6 +1,6 @@
 -- Why an image has no map.
 use Rattle.std.specs.Prelude.{Result, Err, Bool, true, false}
-use Rattle.uimg_blob.specs.Faults.{refuses_memory}
+use Rattle.uimg_blob_reading.specs.Faults.{refuses_memory}
 use Rattle.uimg_fit_base.specs.declared.fault.Fault.TheVariants as fit
 use Rattle.uimg_map.specs.declared.fault.MapFault.{MapFault}
 use Rattle.uimg_map.specs.declared.fault.MapFault.TheVariants.{Fit, Read, OutOfMemory}

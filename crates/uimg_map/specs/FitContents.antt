@@ -1,5 +1,6 @@
 -- FIT files (Devicetree Specification, section 5.1; Flattened Image Tree format, "External data").
-use Rattle.std.specs.Prelude.{ℕ, ◌+◌, List, [], ◌∷◌, length, ◌==◌, ◌&&◌, if◌then◌else◌, Bool, false, Option, Some, None, Result, Ok, Err}
+use Rattle.std.specs.Prelude.{ℕ, ◌+◌, List, [], ◌∷◌, length, ◌==◌, ◌&&◌, if◌then◌else◌, Bool, false}
+use Rattle.std.specs.Prelude.{Option, Some, None, Result, Ok, Err}
 use Rattle.uimg_base.specs.declared.spans.Span.{Span}
 use Rattle.uimg_fit_base.specs.declared.fault.Fault.{Fault}
 use Rattle.uimg_fit_base.specs.declared.fault.Fault.TheVariants as of
@@ -8,11 +9,13 @@ use Rattle.uimg_fit_base.specs.declared.fault.FitFault.TheVariants.{DataOutside}
 use Rattle.uimg_fit_checking.specs.Survey.{ImageSaid, Said, survey_of}
 use Rattle.uimg_fit_reading.specs.PayloadPlaces.{place_said}
 use Rattle.uimg_map.specs.declared.fault.MapFault.TheVariants.{Fit}
-use Rattle.uimg_map.specs.declared.numbers.BlobNumbers.{BlobNumbers}
+use Rattle.uimg_map.specs.declared.fdt_header.FdtHeader.{FdtHeader}
 use Rattle.uimg_map.specs.declared.thing.Thing.{Thing}
 use Rattle.uimg_map.specs.Blocks.{blocks_of}
-use Rattle.uimg_map.specs.Found.{What, the_header, the_reservations, the_structure, the_strings, payload_of, embedded_of, Found, Told, joined, nothing, thing, refused, refused_at, refused_behind}
-use Rattle.uimg_map.specs.Numbers.{numbers_in}
+use Rattle.uimg_map.specs.Found.{What, the_header, the_reservations, the_structure, the_strings}
+use Rattle.uimg_map.specs.Found.{payload_of, embedded_of, Found, Told, joined, nothing, thing}
+use Rattle.uimg_map.specs.Found.{refused, refused_at, refused_behind}
+use Rattle.uimg_map.specs.FdtHeader.{fdt_header_of}
 use Rattle.uimg_map.specs.Reservations.{block_end}
 
 -- things with what they are
@@ -21,16 +24,18 @@ named (w ∷ ws) (t ∷ ts) = record { what = w; place = t.place; end = t.end } 
 named _ _ = []
 
 -- the header of a blob, and the three blocks by its numbers
-abbrev pub blocks_named : BlobNumbers → Option ℕ → ℕ → Told
+abbrev pub blocks_named : FdtHeader → Option ℕ → ℕ → Told
 blocks_named n end size = record {
-  found = named (the_header ∷ the_reservations ∷ the_structure ∷ the_strings ∷ []) (blocks_of n end size);
+  found =
+      named (the_header ∷ the_reservations ∷ the_structure ∷ the_strings ∷ [])
+      (blocks_of n end size);
   fault = None;
 }
 
 -- the same for a file, if it has a header
-abbrev pub blocks_told : List ℕ → Option BlobNumbers → Told
+abbrev pub blocks_told : List ℕ → Option FdtHeader → Told
 blocks_told file None = nothing
-blocks_told file (Some n) = blocks_named n (block_end file n.reservations) (length file)
+blocks_told file (Some n) = blocks_named n (block_end file n.off_mem_rsvmap) (length file)
 
 -- whether a payload at this span is the value of `data`
 unfoldable pub is_value : Option Span → Span → Bool
@@ -39,7 +44,8 @@ is_value None span = false
 
 -- the payload of an image, from its span; a payload that ends after the file is a fault too
 abbrev pub what_payload : ImageSaid → Span → What
-what_payload image span = if is_value image.payload.embedded span then embedded_of image.name else payload_of image.name
+what_payload image span =
+    if is_value image.payload.embedded span then embedded_of image.name else payload_of image.name
 
 abbrev pub payload_told : ℕ → ImageSaid → Result Span FitFault → Told
 payload_told size image (Ok span) = joined
@@ -53,7 +59,8 @@ image_told size totalsize image = payload_told size image (place_said totalsize 
 
 abbrev pub images_told : ℕ → ℕ → List ImageSaid → Told
 images_told size totalsize [] = nothing
-images_told size totalsize (image ∷ images) = joined (image_told size totalsize image) (images_told size totalsize images)
+images_told size totalsize (image ∷ images) =
+    joined (image_told size totalsize image) (images_told size totalsize images)
 
 -- the payloads of a file with these facts, or its fault: a fault of the blob has an offset
 abbrev pub survey_told : ℕ → Result Said Fault → Told
@@ -63,4 +70,5 @@ survey_told size (Err fault) = refused (Fit fault)
 
 -- the header and the blocks, then the payloads
 unfoldable pub fit_contents : List ℕ → Told
-fit_contents file = joined (blocks_told file (numbers_in file)) (survey_told (length file) (survey_of file))
+fit_contents file =
+    joined (blocks_told file (fdt_header_of file)) (survey_told (length file) (survey_of file))

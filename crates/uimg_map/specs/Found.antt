@@ -59,7 +59,8 @@ nothing = record { found = []; fault = None }
 
 -- one thing
 abbrev pub thing : What → ℕ → ℕ → Told
-thing what place end = record { found = record { what = what; place = place; end = end } ∷ []; fault = None }
+thing what place end =
+    record { found = record { what = what; place = place; end = end } ∷ []; fault = None }
 
 -- a fault without an offset
 abbrev pub refused : MapFault → Told

@@ -1,16 +1,19 @@
 -- What is found in the file of a legacy image (U-Boot's image.h).
-use Rattle.std.specs.Prelude.{ℕ, ◌+◌, ◌*◌, List, [], ◌∷◌, length, nat_lt, if◌then◌else◌, Bool, true, false, Result, Ok, Err}
+use Rattle.std.specs.Prelude.{ℕ, ◌+◌, ◌*◌, List, [], ◌∷◌, length, nat_lt, if◌then◌else◌, Bool, true}
+use Rattle.std.specs.Prelude.{false, Result, Ok, Err}
 use Rattle.uimg_texts.specs.Numbers.{up4}
 use Rattle.uimg_legacy.specs.declared.header.Header.{Header}
 use Rattle.uimg_legacy.specs.declared.fault.Fault.TheVariants as of
 use Rattle.uimg_legacy.specs.declared.fault.LegacyFault.{LegacyFault}
-use Rattle.uimg_legacy.specs.declared.fault.LegacyFault.TheVariants.{BadHeaderCrc, Truncated, PartOutside}
+use Rattle.uimg_legacy.specs.declared.fault.LegacyFault.TheVariants.{BadHeaderCrc, Truncated}
+use Rattle.uimg_legacy.specs.declared.fault.LegacyFault.TheVariants.{PartOutside}
 use Rattle.uimg_legacy.specs.Header.{header}
 use Rattle.uimg_legacy.specs.Image.{payload}
 use Rattle.uimg_legacy.specs.Parts.{has_parts, part_sizes}
 use Rattle.uimg_map.specs.declared.fault.MapFault.{MapFault}
 use Rattle.uimg_map.specs.declared.fault.MapFault.TheVariants.{Legacy}
-use Rattle.uimg_map.specs.Found.{the_header, the_table, the_data, part_at, the_padding, Told, joined, nothing, thing, refused_at, refused_behind}
+use Rattle.uimg_map.specs.Found.{the_header, the_table, the_data, part_at, the_padding, Told}
+use Rattle.uimg_map.specs.Found.{joined, nothing, thing, refused_at, refused_behind}
 
 -- the fault of a legacy image
 abbrev pub legacy_fault : LegacyFault → MapFault
@@ -31,17 +34,21 @@ refused_header fault = refused_with (is_bad_crc fault) fault
 
 -- the header of `count` bytes of data in a file of `size`; data that end after it are a fault
 abbrev pub header_told : ℕ → ℕ → Told
-header_told size count = joined (thing the_header 0 64) (refused_behind size (64 + count) (legacy_fault Truncated))
+header_told size count =
+    joined (thing the_header 0 64) (refused_behind size (64 + count) (legacy_fault Truncated))
 
 -- the bytes from the end of a part up to the next one, if there are any and it is not the last
 abbrev pub padding_told : ℕ → Bool → Told
 padding_told stop true = nothing
-padding_told stop false = if nat_lt stop (up4 stop) then thing the_padding stop (up4 stop) else nothing
+padding_told stop false =
+    if nat_lt stop (up4 stop) then thing the_padding stop (up4 stop) else nothing
 
 -- a part and the padding after it; a part that ends after the data is a fault
 abbrev pub part_told : Bool → ℕ → ℕ → ℕ → Bool → Told
-part_told true at number size last = joined (thing (part_at number) at (at + size)) (refused_at at (legacy_fault PartOutside))
-part_told false at number size last = joined (thing (part_at number) at (at + size)) (padding_told (at + size) last)
+part_told true at number size last =
+    joined (thing (part_at number) at (at + size)) (refused_at at (legacy_fault PartOutside))
+part_told false at number size last =
+    joined (thing (part_at number) at (at + size)) (padding_told (at + size) last)
 
 -- whether no more sizes follow
 abbrev pub is_end : List ℕ → Bool
@@ -54,7 +61,8 @@ unfoldable pub parts_told : ℕ → ℕ → ℕ → List ℕ → Told
 parts_told end at number [] = nothing
 parts_told end at number (size ∷ sizes) = joined
     (part_told (nat_lt end (at + size)) at number size (is_end sizes))
-    (if nat_lt end (at + size) then nothing else parts_told end (up4 (at + size)) (number + 1) sizes)
+    (if nat_lt end (at + size) then nothing else parts_told end (up4 (at + size)) (number + 1)
+    sizes)
 
 -- The table of sizes with its zero word, and the parts. A table without an end takes all the data,
 -- and is a fault unless the data are truncated.
@@ -75,7 +83,8 @@ data_told file h true = table_told (length file) h.size (part_sizes (payload fil
 data_told file h false = thing the_data 64 (64 + h.size)
 
 abbrev pub legacy_told : List ℕ → Result Header LegacyFault → Told
-legacy_told file (Ok h) = joined (header_told (length file) h.size) (data_told file h (has_parts h.kind))
+legacy_told file (Ok h) =
+    joined (header_told (length file) h.size) (data_told file h (has_parts h.kind))
 legacy_told file (Err fault) = refused_header fault
 
 -- the header, then the data

@@ -3,7 +3,7 @@ pub mod Order
 pub mod Cover
 pub mod Arranging
 pub mod Bars
-pub mod Numbers
+pub mod FdtHeader
 pub mod Reservations
 pub mod Blocks
 pub mod Faults

@@ -1,5 +1,6 @@
 -- The memory reservation block of a devicetree blob (Devicetree Specification, section 5.3).
-use Rattle.std.specs.Prelude.{◌≡◌, ◌≤◌, ◌<◌, ℕ, zero, suc, ◌+◌, ◌-◌, ◌*◌, ◌/◌, List, length, replicate, if◌then◌else◌, Option, Some, None, Bool, true, false}
+use Rattle.std.specs.Prelude.{◌≡◌, ◌≤◌, ◌<◌, ℕ, zero, suc, ◌+◌, ◌-◌, ◌*◌, ◌/◌, List, length}
+use Rattle.std.specs.Prelude.{replicate, if◌then◌else◌, Option, Some, None, Bool, true, false}
 use Rattle.std.specs.Str.{bytes_eq}
 use Rattle.uimg_texts.specs.Slices.{slice}
 
@@ -27,7 +28,8 @@ EndsBlock file place None = (count : ℕ) → place + 16 * count ≤ length file
 -- Where a block ends: after the first entry of zeros, among `count` entries from an offset on.
 unfoldable pub end_among : ℕ → List ℕ → ℕ → Option ℕ
 end_among zero file at = None
-end_among (suc count) file at = if zeros (slice file at 16) then Some (at + 16) else end_among count file (at + 16)
+end_among (suc count) file at =
+    if zeros (slice file at 16) then Some (at + 16) else end_among count file (at + 16)
 
 -- The same among all entries that the file has from an offset on.
 unfoldable pub block_end : List ℕ → ℕ → Option ℕ

@@ -1,6 +1,7 @@
 -- The most bytes that a map requests.
-use Rattle.std.specs.Prelude.{ℕ, ◌+◌, ◌*◌, List, length, if◌then◌else◌, Bool, true, false, Result, Ok, Err}
-use Rattle.uimg_blob.specs.Counts.{index_cost}
+use Rattle.std.specs.Prelude.{ℕ, ◌+◌, ◌*◌, List, length, if◌then◌else◌, Bool, true, false, Result}
+use Rattle.std.specs.Prelude.{Ok, Err}
+use Rattle.uimg_blob_reading.specs.Counts.{index_cost}
 use Rattle.uimg_fit_base.specs.declared.fault.Fault.{Fault}
 use Rattle.uimg_fit_checking.specs.Survey.{Said, survey_of}
 use Rattle.uimg_legacy.specs.declared.header.Header.{Header}

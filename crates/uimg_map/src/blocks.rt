@@ -3,7 +3,7 @@
 ghost use Rattle.std.specs.Prelude.{◌≡◌, ◌+◌};
 ghost use Rattle.uimg_map.specs.Blocks.{blocks_of};
 
-use crate::numbers::{BLOB_HEADER_LEN, BlobNumbers};
+use crate::fdt_header::{BLOB_HEADER_LEN, FdtHeader};
 use crate::thing::Thing;
 
 /// The length of an entry of a memory reservation block.
@@ -23,10 +23,10 @@ fn block(place: u32, size: u32, number: usize) -> Thing
 /// Returns the header of a blob, its memory reservation block, its structure block and its strings
 /// block, numbered from 0 to 3, by the numbers of the header, in a file of `size` bytes. A
 /// reservation block without an end in the file is taken to end with an entry after the file's end.
-pub fn blocks_of(numbers: &BlobNumbers, reservations_end: Option<u64>, size: u64) -> [Thing; 4]
-    ensures { result ≡ blocks_of numbers.now reservations_end size }
+pub fn blocks_of(header: &FdtHeader, reservations_end: Option<u64>, size: u64) -> [Thing; 4]
+    ensures { result ≡ blocks_of header.now reservations_end size }
 {
-    let place = numbers.reservations as u64;
+    let place = header.off_mem_rsvmap as u64;
     let behind = u64::max(place, size).saturating_add(ENTRY_LEN);
     [
         block(0, BLOB_HEADER_LEN as u32, 0),
@@ -35,7 +35,7 @@ pub fn blocks_of(numbers: &BlobNumbers, reservations_end: Option<u64>, size: u64
             end: reservations_end.unwrap_or(behind),
             number: 1,
         },
-        block(numbers.structure, numbers.structure_size, 2),
-        block(numbers.strings, numbers.strings_size, 3),
+        block(header.off_dt_struct, header.size_dt_struct, 2),
+        block(header.off_dt_strings, header.size_dt_strings, 3),
     ]
 }

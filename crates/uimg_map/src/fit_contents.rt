@@ -1,8 +1,8 @@
 //! What is in the file of a FIT image.
 
 ghost use Rattle.std.specs.Prelude.{◌≡◌, ◌≤◌, ◌<◌, ◌+◌, ◌*◌, ◌^◌, length, map, ℕ, List, Ok, Err, IfErr, IsTrue, OnOk};
-ghost use Rattle.uimg_blob.specs.Counts.{index_cost};
-ghost use Rattle.uimg_blob.specs.Faults.{refuses_memory};
+ghost use Rattle.uimg_blob_reading.specs.Counts.{index_cost};
+ghost use Rattle.uimg_blob_reading.specs.Faults.{refuses_memory};
 ghost use Rattle.uimg_fit_checking.specs.Survey.{read_image, survey_of};
 ghost use Rattle.uimg_fit_checking.specs.declared.surveying.facts.Survey.{Survey};
 ghost use Rattle.uimg_fit_checking.specs.SurveyParts.{ImageInside, SurveyInside, is_unread, Surveys};
@@ -10,17 +10,17 @@ ghost use Rattle.uimg_map.specs.Contents.{Grows, Adds, Gathers};
 ghost use Rattle.uimg_map.specs.Faults.{is_read, stops};
 ghost use Rattle.uimg_map.specs.FitContents.{blocks_told, is_value, what_payload, payload_told, image_told, images_told, survey_told, fit_contents};
 ghost use Rattle.uimg_map.specs.Found.{read_label};
-ghost use Rattle.uimg_map.specs.Numbers.{numbers_in};
+ghost use Rattle.uimg_map.specs.FdtHeader.{fdt_header_of};
 ghost use Rattle.uimg_map.specs.Work.{images_in, fit_work};
 
 use crate::blocks::blocks_of;
 use crate::contents::{Contents, Label};
 use crate::fault::MapFault;
-use crate::numbers::read_numbers;
+use crate::fdt_header::read_fdt_header;
 use crate::reservations::end_of_reservations;
 use std::alloc::Global;
 use uimg_base::{Room, Source, Span};
-use uimg_blob::BlobFault;
+use uimg_blob_reading::BlobFault;
 use uimg_fit_base::{Fault, FitFault};
 use uimg_fit_checking::{ImageFacts, Survey, SurveyFault, survey};
 use uimg_fit_reading::{PayloadFacts, find_payload};
@@ -44,14 +44,14 @@ pub(crate) fn add_fit<S: Source>(
 // Adds the header and the blocks of a blob, if it has a header.
 fn add_blocks<S: Source>(source: &mut S, contents: &mut Contents) -> Result<(), MapFault>
     requires { contents.old.size ≡ length (S.device source.old).bytes }
-    ensures { Gathers (λ file. 40 + length file) (λ file. blocks_told file (numbers_in file)) result
+    ensures { Gathers (λ file. 40 + length file) (λ file. blocks_told file (fdt_header_of file)) result
         (S.device source.old) (S.device source.new) contents.old contents.new }
 {
-    let Some(numbers) = read_numbers(source)? else {
+    let Some(header) = read_fdt_header(source)? else {
         return Ok(());
     };
-    let end = end_of_reservations(source, numbers.reservations)?;
-    let [header, reservations, structure, strings] = blocks_of(&numbers, end, contents.size);
+    let end = end_of_reservations(source, header.off_mem_rsvmap)?;
+    let [header, reservations, structure, strings] = blocks_of(&header, end, contents.size);
     contents.add(header.place, header.end, Label::Header)?;
     contents.add(reservations.place, reservations.end, Label::Reservations)?;
     contents.add(structure.place, structure.end, Label::Structure)?;

@@ -12,7 +12,7 @@ ghost use Rattle.uimg_texts.specs.Slices.{slice};
 
 use crate::contents::{Contents, Label};
 use crate::fault::MapFault;
-use uimg_base::{Source, SourceFault, number_at, up4};
+use uimg_base::{Source, SourceFault, be32_at, up4};
 use uimg_legacy::{Fault, HEADER_LEN, Header, LegacyFault, has_parts, read_header};
 
 /// Adds what is in the file of a legacy image: the header and the data, for the types multi and
@@ -174,7 +174,7 @@ fn size_at<S: Source>(source: &mut S, number: u32) -> Result<Option<u32>, Source
     }
     let mut word = [0; 4];
     source.fill_at(at, &mut word)?;
-    Ok(Some(number_at(&word, 0)))
+    Ok(Some(be32_at(&word, 0)))
 }
 
 // Adds the `count` parts of a table of `size` bytes of data, up to the first that ends after the

@@ -15,8 +15,8 @@ use crate::legacy_contents::add_legacy;
 use crate::row::Row;
 use crate::thing::Thing;
 use std::alloc::Global;
-use uimg_base::{Source, SourceFault, number_at};
-use uimg_blob::BLOB_MAGIC;
+use uimg_base::{Source, SourceFault, be32_at};
+use uimg_blob_reading::BLOB_MAGIC;
 
 /// The map of an image's file.
 #[derive(Drop)]
@@ -132,5 +132,5 @@ fn begins_as_blob<S: Source>(source: &mut S) -> Result<bool, SourceFault>
     }
     let mut magic = [0; 4];
     source.fill_at(0, &mut magic)?;
-    Ok(number_at(&magic, 0) == BLOB_MAGIC)
+    Ok(be32_at(&magic, 0) == BLOB_MAGIC)
 }

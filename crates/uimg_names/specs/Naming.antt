@@ -2,9 +2,11 @@
 use Rattle.std.specs.Prelude.{ℕ, List, Option, codes, find}
 use Rattle.std.specs.Option.{option_map, option_map_or}
 use Rattle.std.specs.Str.{str_eq_ignore_ascii_case}
-use Rattle.uimg_texts.specs.Names.{Row, code_of, printed, os_table, arch_table, kind_table, comp_table}
+use Rattle.uimg_texts.specs.Names.{Row, code_of, printed, os_table, arch_table, kind_table}
+use Rattle.uimg_texts.specs.Names.{comp_table}
 use Rattle.uimg_names.specs.declared.field.Field.{Field}
-use Rattle.uimg_names.specs.declared.field.Field.TheVariants.{Architecture, System, Kind, Compression}
+use Rattle.uimg_names.specs.declared.field.Field.TheVariants.{Architecture, System, Kind}
+use Rattle.uimg_names.specs.declared.field.Field.TheVariants.{Compression}
 use Rattle.uimg_names.specs.declared.naming.Naming.{Naming}
 use Rattle.uimg_names.specs.declared.naming.Naming.TheVariants.{Profile, All}
 use Rattle.uimg_names.specs.AllNames.{all_architectures, all_systems, all_types, all_compressions}
@@ -32,7 +34,8 @@ unknown Compression = codes "Unknown Compression"
 
 -- the code in the first row with this name, ignoring case
 abbrev pub code_in_any_case : List Row → List ℕ → Option ℕ
-code_in_any_case table name = option_map (λ r. r.code) (find (λ r. str_eq_ignore_ascii_case r.short name) table)
+code_in_any_case table name =
+    option_map (λ r. r.code) (find (λ r. str_eq_ignore_ascii_case r.short name) table)
 
 -- the printed name of a code
 unfoldable pub code_text : Naming → Field → ℕ → List ℕ
@@ -46,4 +49,5 @@ code_named All field name = code_in_any_case (all_rows field) name
 
 -- the printed name of the code of a name
 unfoldable pub name_text : Naming → Field → List ℕ → List ℕ
-name_text naming field name = option_map_or (code_text naming field) (code_named naming field name) (unknown field)
+name_text naming field name =
+    option_map_or (code_text naming field) (code_named naming field name) (unknown field)

@@ -4,10 +4,10 @@ use std::io::ErrorKind;
 use std::rt::Files;
 use std::{fs, io};
 use uimg_base::{Out, Room, Source};
-use uimg_blob::index;
+use uimg_blob_reading::index;
+use uimg_blob_writing::{measure, write_tree};
 use uimg_engine::DiskFiles;
 use uimg_its::compile;
-use uimg_tree::{measure, write_tree};
 
 // Writes the blob of a source to standard output. The files that it names lie in its folder.
 pub(crate) fn compile_source<R: Files + Print + AllocGlobal>(rt: &R, path: &str) -> io::Result<()> {

@@ -2,6 +2,9 @@
 use Rattle.std.specs.Prelude.{ℕ, List, Option, ◌<◌, ◌^◌, SomeIff}
 use Rattle.std.specs.Str.Parse.{IsNumeral, digits_value}
 
--- The number that one or more digits of a base write; none for any other text, and where 32 bits don't have it.
+-- The number that one or more digits of a base write; none for any other text, and where 32 bits
+-- don't have it.
 abbrev pub IsNumberOf : ℕ → List ℕ → Option ℕ → Type 0
-IsNumberOf base text result = SomeIff result (IsNumeral base text × (digits_value base text < 2 ^ 32)) (digits_value base text)
+IsNumberOf base text result =
+    SomeIff result (IsNumeral base text × (digits_value base text < 2 ^ 32))
+    (digits_value base text)

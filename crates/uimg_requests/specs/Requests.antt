@@ -7,10 +7,12 @@ use Rattle.uimg_requests.specs.declared.make_command.MakeCommand.TheVariants.{Pa
 
 -- a legacy image with these fields, of the files of these names
 abbrev pub AsksParts : MakeCommand → Options → List (List ℕ) → Type 0
-AsksParts (Parts options files) fields names = (options ≡ fields) × (map (λ name. name.items) files.items ≡ names)
+AsksParts (Parts options files) fields names =
+    (options ≡ fields) × (map (λ name. name.items) files.items ≡ names)
 AsksParts (Tree source placement) fields names = ⊥
 
 -- a FIT image with its payloads at this place, of the source whose name in this folder is this path
 abbrev pub AsksSource : MakeCommand → List ℕ → List ℕ → Placement → Type 0
 AsksSource (Parts options files) folder path place = ⊥
-AsksSource (Tree source placement) folder path place = (folder ++ source.items ≡ path) × (placement ≡ place)
+AsksSource (Tree source placement) folder path place =
+    (folder ++ source.items ≡ path) × (placement ≡ place)

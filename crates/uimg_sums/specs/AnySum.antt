@@ -8,7 +8,8 @@ use Rattle.uimg_sums.specs.CrcSteps.{register_of}
 use Rattle.uimg_sums.specs.declared.algo.Algo.{Algo}
 use Rattle.uimg_sums.specs.declared.algo.Algo.TheVariants as algos
 use Rattle.uimg_sums.specs.declared.any_sum.AnySum.{AnySum}
-use Rattle.uimg_sums.specs.declared.any_sum.AnySum.TheVariants.{Crc32, Md5, Sha1, Sha256, Sha384, Sha512}
+use Rattle.uimg_sums.specs.declared.any_sum.AnySum.TheVariants.{Crc32, Md5, Sha1, Sha256, Sha384}
+use Rattle.uimg_sums.specs.declared.any_sum.AnySum.TheVariants.{Sha512}
 
 -- the algorithm of a sum
 abbrev pub algo_of : AnySum → Algo

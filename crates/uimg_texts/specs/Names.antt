@@ -19,7 +19,8 @@ code_of table name = option_map (λ r. r.code) (find (λ r. bytes_eq name r.shor
 
 -- the printed name in the first row with this code, or `unknown` if no row has it
 abbrev pub printed : List Row → List ℕ → ℕ → List ℕ
-printed table unknown code = option_map_or (λ r. r.printed) (find (λ r. code == r.code) table) unknown
+printed table unknown code =
+    option_map_or (λ r. r.printed) (find (λ r. code == r.code) table) unknown
 
 -- IH_OS_
 abbrev pub os_table : List Row

@@ -5,7 +5,9 @@ use Rattle.std.specs.Prelude.{ℕ, zero, suc, List, [], ◌∷◌, Option, Some,
 unfoldable pub before_nul : List ℕ → Option (List ℕ)
 before_nul [] = None
 before_nul (zero ∷ bytes) = Some []
-before_nul (suc b ∷ bytes) = elim (before_nul bytes) as (λ _. Option (List ℕ)) [ None ↦ None | Some name ↦ Some (suc b ∷ name) ]
+before_nul (suc b ∷ bytes) =
+    elim (before_nul bytes) as (λ _. Option (List ℕ))
+    [ None ↦ None | Some name ↦ Some (suc b ∷ name) ]
 
 -- the bytes before the first NUL, or all bytes if there is none
 unfoldable pub text : List ℕ → List ℕ

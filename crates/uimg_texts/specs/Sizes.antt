@@ -1,5 +1,6 @@
 -- Sizes in bytes as texts, rounded half to even (IEEE 754, section 4.3.1).
-use Rattle.std.specs.Prelude.{ℕ, zero, suc, ◌+◌, ◌-◌, ◌*◌, ◌/◌, ◌%◌, Bool, true, false, ◌&&◌, ◌||◌, ◌==◌, nat_lt, List, ◌++◌, codes, decimal}
+use Rattle.std.specs.Prelude.{ℕ, zero, suc, ◌+◌, ◌-◌, ◌*◌, ◌/◌, ◌%◌, Bool, true, false, ◌&&◌, ◌||◌}
+use Rattle.std.specs.Prelude.{◌==◌, nat_lt, List, ◌++◌, codes, decimal}
 use Rattle.uimg_texts.specs.Digits.{two_digits}
 
 -- the absolute difference of two numbers

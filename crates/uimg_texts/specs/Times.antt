@@ -1,18 +1,22 @@
 -- Times in seconds since 1 January 1970, 00:00:00 UTC as texts.
-use Rattle.std.specs.Prelude.{ℕ, ◌+◌, ◌-◌, ◌/◌, ◌%◌, nat_lt, if◌then◌else◌, List, [], ◌∷◌, ◌++◌, slice_index_or, codes}
+use Rattle.std.specs.Prelude.{ℕ, ◌+◌, ◌-◌, ◌/◌, ◌%◌, nat_lt, if◌then◌else◌, List, [], ◌∷◌, ◌++◌}
+use Rattle.std.specs.Prelude.{slice_index_or, codes}
 use Rattle.uimg_texts.specs.Digits.{two_digits}
 use Rattle.uimg_texts.specs.Calendar.{civil_date, weekday}
 
 -- 0 is Sunday
 abbrev pub weekday_name : ℕ → List ℕ
 weekday_name w =
-    slice_index_or (codes "Sun" ∷ codes "Mon" ∷ codes "Tue" ∷ codes "Wed" ∷ codes "Thu" ∷ codes "Fri" ∷ codes "Sat" ∷ []) w []
+    slice_index_or (codes "Sun" ∷ codes "Mon" ∷ codes "Tue" ∷ codes "Wed" ∷ codes "Thu"
+    ∷ codes "Fri" ∷ codes "Sat" ∷ []) w []
 
 -- 1 is January
 abbrev pub month_name : ℕ → List ℕ
 month_name m =
-    slice_index_or (codes "Jan" ∷ codes "Feb" ∷ codes "Mar" ∷ codes "Apr" ∷ codes "May" ∷ codes "Jun"
-    ∷ codes "Jul" ∷ codes "Aug" ∷ codes "Sep" ∷ codes "Oct" ∷ codes "Nov" ∷ codes "Dec" ∷ []) (m - 1) []
+    slice_index_or
+    (codes "Jan" ∷ codes "Feb" ∷ codes "Mar" ∷ codes "Apr" ∷ codes "May" ∷ codes "Jun"
+    ∷ codes "Jul" ∷ codes "Aug" ∷ codes "Sep" ∷ codes "Oct" ∷ codes "Nov" ∷ codes "Dec"
+    ∷ []) (m - 1) []
 
 -- a day of the month in two places, with a leading space below 10
 abbrev pub day_text : ℕ → List ℕ
@@ -38,4 +42,5 @@ moment_text year month day weekday hour minute second =
 unfoldable pub time_text : ℕ → List ℕ
 time_text s =
     let date = civil_date (s / 86400) in
-    moment_text date.year date.month date.day (weekday (s / 86400)) (s % 86400 / 3600) (s % 3600 / 60) (s % 60)
+    moment_text date.year date.month date.day (weekday (s / 86400)) (s % 86400 / 3600)
+    (s % 3600 / 60) (s % 60)

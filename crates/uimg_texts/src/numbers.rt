@@ -7,7 +7,7 @@ use byteorder::{BigEndian, ByteOrder};
 
 /// Reads a big-endian number of four bytes at an offset.
 #[tactic(auto, unfolding(crate::specs::Numbers::be32))]
-pub fn number_at(bytes: &[u8], offset: usize) -> u32
+pub fn be32_at(bytes: &[u8], offset: usize) -> u32
     requires { offset + 4 ≤ length bytes.now }
     ensures { result ≡ be32 bytes.now offset }
 {

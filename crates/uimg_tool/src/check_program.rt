@@ -9,9 +9,9 @@ use std::rt::Files;
 use std::{fs, io};
 use uimg_base::{FileSource, Room, Source};
 use uimg_checks::{Answer, Checked, Missing, check, find_missing, line_text, object_text};
+use uimg_cli::CheckRequest;
 use uimg_engine::Fault;
 use uimg_fit_checking::{ConfigurationFacts, Finding, SurveyFault, survey};
-use uimg_words::CheckRequest;
 
 /// The path of standard input as a file.
 const STANDARD_INPUT: &str = "/dev/stdin";

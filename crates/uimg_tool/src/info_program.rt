@@ -8,11 +8,11 @@ use std::io::{ErrorKind, Write};
 use std::rt::Files;
 use uimg_base::{FileSource, Room, Source};
 use uimg_checks::object_text;
+use uimg_cli::InfoRequest;
 use uimg_engine::{Fault, Form, is_fit};
 use uimg_fit_checking::SurveyFault;
 use uimg_info::{fit_text, legacy_text};
 use uimg_legacy::{PartsFault, locate_parts, read_header};
-use uimg_words::InfoRequest;
 
 /// Writes the facts of the requested image as a line on `out`, or why there are none. Returns the
 /// status. Refused memory and a line that cannot be written are reported by a line on `err`.

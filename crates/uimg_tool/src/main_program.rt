@@ -13,12 +13,12 @@ use std::io::{BufWriter, Write};
 use std::rt::Files;
 use thiserror::Error;
 use uimg_base::{FileSource, Out, Room, Status};
-use uimg_blob::BlobFault;
+use uimg_blob_reading::BlobFault;
+use uimg_cli::{Asked, Request, WordsFault, read_words};
 use uimg_engine::{Fault, is_same_file, run_by};
 use uimg_fit_base::FitFault;
-use uimg_its::Kind;
+use uimg_its::FaultKind;
 use uimg_requests::RunRequest;
-use uimg_words::{Asked, Request, WordsFault, read_words};
 
 /// All is done.
 pub(crate) const DONE: u8 = 0;
@@ -146,9 +146,9 @@ fn status_of_fit(fault: FitFault) -> u8 {
     }
 }
 
-fn status_of_source(kind: Kind) -> u8 {
+fn status_of_source(kind: FaultKind) -> u8 {
     match kind {
-        Kind::NoFile | Kind::ReadFailed | Kind::OutOfMemory => FAILED,
+        FaultKind::NoFile | FaultKind::ReadFailed | FaultKind::OutOfMemory => FAILED,
         _ => REFUSED,
     }
 }

@@ -7,9 +7,9 @@ use std::fs;
 use std::io::{BufWriter, Write};
 use std::rt::Files;
 use uimg_base::{FileSource, Source};
+use uimg_cli::MapRequest;
 use uimg_engine::{Fault, is_same_file};
 use uimg_map::{Map, MapFault, MapStop, map_of, put_lines, put_picture};
-use uimg_words::MapRequest;
 
 /// Writes the map of the requested image: lines on `out`, or a picture as a file that gets its name
 /// when it is complete. Returns the status. A fault is reported by a line on `err`; a refused image

@@ -12,11 +12,11 @@ use std::io::Write;
 use std::rt::Files;
 use std::{fs, io};
 use uimg_base::Status;
+use uimg_cli::Request;
 use uimg_compat::{OldFault, OldRequest, Show, read_dumpimage, read_mkimage, title_of};
 use uimg_engine::Fault;
 use uimg_names::Field;
 use uimg_requests::{MakeRequest, RunRequest, VERSION};
-use uimg_words::Request;
 
 /// Carries out the words of a command line, the program's name first, as this tool of U-Boot
 /// 2023.01 takes them, and returns the exit status. An image is written to a new file and gets its

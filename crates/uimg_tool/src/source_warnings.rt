@@ -4,11 +4,11 @@ use std::alloc::Global;
 use std::io::Write;
 use std::rt::Files;
 use uimg_base::{Files as _, Out, Source, WINDOW, copy_through};
+use uimg_blob_writing::Tree;
 use uimg_compat::warn;
 use uimg_engine::DiskFiles;
 use uimg_its::compile;
 use uimg_requests::{MakeCommand, MakeRequest};
-use uimg_tree::Tree;
 
 /// Warns about the source of a request. A source that cannot be read or compiled has no warnings,
 /// as making the image reports its fault; nor has an image of parts.

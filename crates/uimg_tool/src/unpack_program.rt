@@ -5,10 +5,10 @@ use crate::main_program::{DONE, FAILED, REFUSED, RequestFault, WRONG_LINE, statu
 use std::io::{BufWriter, Write};
 use std::rt::Files;
 use uimg_base::{FileSource, Source};
+use uimg_cli::UnpackRequest;
 use uimg_engine::{Fault, Form, is_fit};
 use uimg_printing::Printed;
 use uimg_unpacking::{Ended, FileId, Folder, PartsEnded, Trouble, Unpacking, unpack, unpack_parts};
-use uimg_words::UnpackRequest;
 
 /// Unpacks the requested image, with a line for each payload or part on `out`. The first four bytes
 /// decide its format. Returns the status. A fault is reported by a line on `err`.

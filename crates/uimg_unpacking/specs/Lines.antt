@@ -1,5 +1,6 @@
 -- The lines of unpacked payloads and parts.
-use Rattle.std.specs.Prelude.{ℕ, List, [], ◌++◌, take, codes, decimal, true, if◌then◌else◌, Option, Some, None}
+use Rattle.std.specs.Prelude.{ℕ, List, [], ◌++◌, take, codes, decimal, true, if◌then◌else◌, Option}
+use Rattle.std.specs.Prelude.{Some, None}
 use Rattle.std.specs.Int.{to_be_bytes, w32}
 use Rattle.std.specs.List.{flat_map}
 use Rattle.std.specs.Str.{bytes_eq}
@@ -36,7 +37,9 @@ as_text name file = if bytes_eq name file then [] else codes " as " ++ file
 -- the strongest algorithm that vouches for a payload, and the digest by it
 abbrev pub vouched_text : Option Vouched → List ℕ
 vouched_text None = codes ", unhashed"
-vouched_text (Some v) = codes ", " ++ algo_name v.algo ++ codes " " ++ flat_map digits_of (take (digest_size v.algo) v.digest)
+vouched_text (Some v) =
+    codes ", " ++ algo_name v.algo ++ codes " "
+    ++ flat_map digits_of (take (digest_size v.algo) v.digest)
 
 -- the bytes of a checksum, big-endian
 unfoldable pub crc_bytes : ℕ → List ℕ
@@ -44,17 +47,20 @@ crc_bytes dcrc = to_be_bytes w32 dcrc
 
 -- the lines of a kept payload, of a refused one, and of a part
 abbrev pub kept_line : List ℕ → List ℕ → ℕ → Option Vouched → List ℕ
-kept_line name file size vouched = printed true name ++ codes ": " ++ bytes_text size ++ as_text name file ++ vouched_text vouched
+kept_line name file size vouched =
+    printed true name ++ codes ": " ++ bytes_text size ++ as_text name file ++ vouched_text vouched
 
 abbrev pub refusal_text : List ℕ → Refusal → List ℕ
-refusal_text name (Wrong hash word) = printed true name ++ codes ": " ++ word_text word ++ codes " " ++ printed true (bytes_of hash)
+refusal_text name (Wrong hash word) =
+    printed true name ++ codes ": " ++ word_text word ++ codes " " ++ printed true (bytes_of hash)
 refusal_text name Weak = printed true name ++ codes ": weak"
 
 abbrev pub crc_text : ℕ → List ℕ
 crc_text dcrc = codes ", data crc32 " ++ flat_map digits_of (crc_bytes dcrc)
 
 abbrev pub part_line : ℕ → ℕ → ℕ → List ℕ
-part_line number size dcrc = codes "image-" ++ decimal number ++ codes ": " ++ bytes_text size ++ crc_text dcrc
+part_line number size dcrc =
+    codes "image-" ++ decimal number ++ codes ": " ++ bytes_text size ++ crc_text dcrc
 
 abbrev pub line_of : Line → List ℕ
 line_of (Kept name file size vouched) = kept_line (bytes_of name.now) file.now size vouched

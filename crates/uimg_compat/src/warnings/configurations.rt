@@ -9,7 +9,7 @@ use std::alloc::{AllocError, Global};
 use std::collections::BTreeSet;
 use std::io::Write;
 use uimg_base::before_nul;
-use uimg_tree::Node;
+use uimg_blob_writing::Node;
 
 /// The properties of a configuration whose values are names of images.
 const REFERENCES: [&str; 6] = ["kernel", "ramdisk", "fdt", "loadables", "firmware", "fpga"];

@@ -6,7 +6,7 @@ use crate::warnings::warning::Warning;
 use std::alloc::{AllocError, Global};
 use std::collections::BTreeSet;
 use std::io::Write;
-use uimg_tree::Node;
+use uimg_blob_writing::Node;
 
 /// Warns about names that two child nodes of a node have, or two of its properties. Fails if memory
 /// for the names is refused.

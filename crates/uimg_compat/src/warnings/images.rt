@@ -8,8 +8,8 @@ use crate::warnings::warning::Warning;
 use std::alloc::{AllocError, Global};
 use std::io::Write;
 use uimg_base::before_nul;
+use uimg_blob_writing::{Node, Prop};
 use uimg_names::{Field, Naming};
-use uimg_tree::{Node, Prop};
 
 /// The properties of an image whose values are names of codes.
 const NAMED: [(&str, Field); 4] = [

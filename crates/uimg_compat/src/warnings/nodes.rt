@@ -1,7 +1,7 @@
 //! Look-ups in a node.
 
 use std::alloc::Global;
-use uimg_tree::{Node, Value};
+use uimg_blob_writing::{Node, Value};
 
 /// Returns the first child node of a name.
 pub(crate) fn child_of<'a>(node: &'a Node<Global>, name: &[u8]) -> Option<&'a Node<Global>> {

@@ -9,7 +9,7 @@ use crate::warnings::teller::Teller;
 use crate::warnings::warning::Warning;
 use std::alloc::{AllocError, Global};
 use std::io::Write;
-use uimg_tree::{Node, Tree};
+use uimg_blob_writing::{Node, Tree};
 
 /// Warns about the tree of a source, a line for each of the first 20 warnings, then the number of
 /// further ones: a description that the root, an image or a configuration lacks, and the root's

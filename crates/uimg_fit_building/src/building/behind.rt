@@ -2,8 +2,8 @@
 
 ghost use Rattle.std.specs.Prelude.{◌≡◌, ◌≤◌, ◌^◌, map, false, Ok, Err};
 ghost use Rattle.std.specs.List.{flat_map};
-ghost use Rattle.uimg_tree.specs.Pieces.{WritesPieces};
-ghost use Rattle.uimg_tree.specs.Trees.{node_of};
+ghost use Rattle.uimg_blob_writing.specs.Pieces.{WritesPieces};
+ghost use Rattle.uimg_blob_writing.specs.Trees.{node_of};
 ghost use Rattle.uimg_fit_building.specs.Behind.{entry, payload_pieces, images_in, padded_sizes, behind_pieces, end_fault, fault_in};
 ghost use Rattle.uimg_fit_base.specs.Placements.{align_of};
 ghost use Rattle.uimg_fit_building.specs.Refusing.{is_low};
@@ -13,8 +13,8 @@ use crate::payloads::{images_of, payload_of};
 use std::alloc::Allocator;
 use std::io::Write;
 use uimg_base::{Files, Out, Source, WINDOW};
+use uimg_blob_writing::{Node, Tree, TreeFault, put_aligned, put_zeros};
 use uimg_fit_base::{AlignedPlacement, FitFault};
-use uimg_tree::{Node, Tree, TreeFault, put_aligned, put_zeros};
 
 // The most bytes of a file.
 const LARGEST: u64 = 0xffff_ffff;

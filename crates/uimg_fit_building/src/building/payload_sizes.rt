@@ -6,7 +6,7 @@ ghost use Rattle.uimg_fit_building.specs.UnreadTrees.{padded_size_of};
 
 use crate::payloads::payload_of;
 use std::alloc::Allocator;
-use uimg_tree::{Node, Props, aligned, value_size};
+use uimg_blob_writing::{Node, Props, aligned, value_size};
 
 // Sizes are counted up to 2^36, which is too large for a file: so no sum of them wraps.
 const MOST: u64 = 0x10_0000_0000;

@@ -1,7 +1,7 @@
 //! A copy of the tree in which each payload has its place in cells.
 
 ghost use Rattle.std.specs.Prelude.{◌≡◌, ◌++◌, IfOk, OnOk, codes};
-ghost use Rattle.uimg_tree.specs.Trees.{node_of};
+ghost use Rattle.uimg_blob_writing.specs.Trees.{node_of};
 ghost use Rattle.uimg_fit_building.specs.Filling.{in_first, with_images};
 ghost use Rattle.uimg_fit_building.specs.Placing.{cell, cells, placed_image, with_placed};
 ghost use Rattle.uimg_fit_building.specs.UnreadTrees.{unread_own, unread_from};
@@ -9,7 +9,7 @@ ghost use Rattle.uimg_fit_building.specs.UnreadTrees.{unread_own, unread_from};
 use crate::building::payload_sizes::{CELL, padded_size_in_cell};
 use crate::payloads::{is_data, is_images};
 use std::alloc::{AllocError, Allocator};
-use uimg_tree::{
+use uimg_blob_writing::{
     Node, Nodes, Prop, Props, Tree, Value, copy_bytes, copy_node, copy_nodes, copy_properties,
     copy_property, value_size,
 };

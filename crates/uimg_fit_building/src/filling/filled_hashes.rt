@@ -3,9 +3,9 @@
 ghost use Rattle.std.specs.Prelude.{◌≡◌, ℕ, List, map, true, IsOkUnless, IfOk};
 ghost use Rattle.std.specs.List.{filter};
 ghost use Rattle.uimg_sums.specs.Algorithms.{digest_by};
-ghost use Rattle.uimg_blob.specs.Roles.{is_hash};
-ghost use Rattle.uimg_tree.specs.Content.{bytes};
-ghost use Rattle.uimg_tree.specs.Properties.{content};
+ghost use Rattle.uimg_blob_reading.specs.Roles.{is_hash};
+ghost use Rattle.uimg_blob_writing.specs.Content.{bytes};
+ghost use Rattle.uimg_blob_writing.specs.Properties.{content};
 ghost use Rattle.uimg_fit_building.specs.Filling.{algo_by};
 ghost use Rattle.uimg_fit_building.specs.Behind.{entry};
 ghost use Rattle.uimg_fit_building.specs.DigestBytes.{zeroed};
@@ -18,8 +18,8 @@ use crate::setting::{copied, first_value, with_value};
 use std::alloc::Allocator;
 use std::mem;
 use uimg_base::{Algo, before_nul};
+use uimg_blob_writing::{ByteList, Node, Props, Value};
 use uimg_fit_base::{AlgoSet, Digests, FitFault};
-use uimg_tree::{ByteList, Node, Props, Value};
 
 // Whether a child of an image is a hash node.
 fn is_hash(name: &[u8]) -> bool

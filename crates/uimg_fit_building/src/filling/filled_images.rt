@@ -2,12 +2,12 @@
 
 ghost use Rattle.std.specs.Prelude.{◌≡◌, ◌≢◌, ℕ, List, [], map, Some, IsTrue, OnOk};
 ghost use Rattle.std.specs.List.{filter};
-ghost use Rattle.uimg_blob.specs.LookUps.{listed};
-ghost use Rattle.uimg_blob.specs.Roles.{is_hash};
-ghost use Rattle.uimg_tree.specs.Content.{IsKept};
-ghost use Rattle.uimg_tree.specs.Properties.{content};
-ghost use Rattle.uimg_tree.specs.Trees.{siblings};
-ghost use Rattle.uimg_tree.specs.LentFiles.{IfHonest};
+ghost use Rattle.uimg_blob_reading.specs.LookUps.{listed};
+ghost use Rattle.uimg_blob_reading.specs.Roles.{is_hash};
+ghost use Rattle.uimg_blob_writing.specs.Content.{IsKept};
+ghost use Rattle.uimg_blob_writing.specs.Properties.{content};
+ghost use Rattle.uimg_blob_writing.specs.Trees.{siblings};
+ghost use Rattle.uimg_blob_writing.specs.LentFiles.{IfHonest};
 ghost use Rattle.uimg_fit_building.specs.FillAnswers.{OpensKept};
 ghost use Rattle.uimg_fit_building.specs.Behind.{entry};
 ghost use Rattle.uimg_fit_building.specs.Filling.{each};
@@ -24,8 +24,8 @@ use crate::setting::without_external;
 use std::alloc::Allocator;
 use std::mem;
 use uimg_base::Files;
+use uimg_blob_writing::{Node, Nodes, Props, Value};
 use uimg_fit_base::FitFault;
-use uimg_tree::{Node, Nodes, Props, Value};
 
 // Sets the digests of a payload in the hash nodes among the children of an image.
 fn fill_hashes<F: Files, A: Allocator + Copy>(

@@ -2,9 +2,9 @@
 
 ghost use Rattle.std.specs.Prelude.{◌≡◌, length, IsTrue, IsOkUnless, IfOk, OnOk};
 ghost use Rattle.uimg_base.specs.Device.{RisesIf};
-ghost use Rattle.uimg_tree.specs.Content.{bytes_in, file};
-ghost use Rattle.uimg_tree.specs.Properties.{content};
-ghost use Rattle.uimg_tree.specs.LentFiles.{IfHonest};
+ghost use Rattle.uimg_blob_writing.specs.Content.{bytes_in, file};
+ghost use Rattle.uimg_blob_writing.specs.Properties.{content};
+ghost use Rattle.uimg_blob_writing.specs.LentFiles.{IfHonest};
 ghost use Rattle.uimg_fit_building.specs.FillAnswers.{fails_to_read};
 ghost use Rattle.uimg_fit_building.specs.PayloadSteps.{ReadsPayload, Feeds};
 ghost use Rattle.uimg_fit_base.specs.AlgoSets.{set_of, AreDigests};
@@ -12,8 +12,8 @@ ghost use Rattle.uimg_fit_base.specs.declared.fault.FitFault.TheVariants.{ReadFa
 
 use std::alloc::Allocator;
 use uimg_base::{Bundle, Files, Source, WINDOW};
+use uimg_blob_writing::Value;
 use uimg_fit_base::{AlgoSet, Digests, FitFault, feed_through};
-use uimg_tree::Value;
 
 // Feeds a source that has so many bytes; one of another size is a failed read.
 fn feed_source<S: Source>(bundle: &mut Bundle, source: &mut S, size: u64) -> Result<(), FitFault>

@@ -2,11 +2,11 @@
 
 ghost use Rattle.std.specs.Prelude.{◌≡◌, ◌+◌, ◌<◌, ◌≤◌, List, length};
 ghost use Rattle.std.specs.Option.{option_map};
-ghost use Rattle.uimg_blob.specs.Grammar.{Siblings};
-ghost use Rattle.uimg_blob.specs.Indexed.{IsIndexed};
-ghost use Rattle.uimg_blob.specs.LookUps.{NodeOf};
-ghost use Rattle.uimg_blob.specs.Roles.{in_images};
-ghost use Rattle.uimg_blob.specs.Spots.{Spot};
+ghost use Rattle.uimg_blob_reading.specs.Grammar.{Siblings};
+ghost use Rattle.uimg_blob_reading.specs.Indexed.{IsIndexed};
+ghost use Rattle.uimg_blob_reading.specs.LookUps.{NodeOf};
+ghost use Rattle.uimg_blob_reading.specs.Roles.{in_images};
+ghost use Rattle.uimg_blob_reading.specs.Spots.{Spot};
 ghost use Rattle.uimg_fit_checking.specs.Checks.{EndsInside, told_of, hash_count, unhashed_in, unhashed_of, all_right};
 ghost use Rattle.uimg_fit_reading.specs.Nodes.{HashesAt, IsEntryOrNone, InAnyFile, FromNode, InTreeFrom};
 ghost use Rattle.uimg_fit_reading.specs.Values.{in_span};
@@ -16,7 +16,7 @@ use crate::checking::Finding;
 use crate::counting::count_from;
 use std::alloc::Allocator;
 use uimg_base::{Algo, Room, Span};
-use uimg_blob::Blob;
+use uimg_blob_reading::Blob;
 use uimg_fit_reading::nodes::{first_hash, name_of, next_hash, next_of};
 
 // Adds the number of hash nodes from one on to a count; there are no more of them than entries.

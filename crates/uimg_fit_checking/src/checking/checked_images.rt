@@ -1,7 +1,7 @@
 //! Checks images one after the other, up to the first finding.
 
 ghost use Rattle.std.specs.Prelude.{length, IfOk, IfSome};
-ghost use Rattle.uimg_blob.specs.Roles.{in_images};
+ghost use Rattle.uimg_blob_reading.specs.Roles.{in_images};
 ghost use Rattle.uimg_fit_checking.specs.Checks.{EndsInside};
 ghost use Rattle.uimg_fit_checking.specs.CheckParts.{StaysInside, ChecksImage, ChecksImages};
 ghost use Rattle.uimg_fit_reading.specs.Nodes.{OfNode, OfNodes, HasNode, HasNodes};
@@ -11,7 +11,7 @@ use crate::checking::Finding;
 use crate::checking::checked_payloads::{Checked, check_payload};
 use std::alloc::Allocator;
 use uimg_base::{Algo, Room, Source};
-use uimg_blob::Blob;
+use uimg_blob_reading::Blob;
 use uimg_fit_base::Fault;
 use uimg_fit_reading::nodes::next_of;
 use uimg_fit_reading::payload_place;

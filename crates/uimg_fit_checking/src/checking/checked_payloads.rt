@@ -2,7 +2,7 @@
 
 ghost use Rattle.std.specs.Prelude.{◌≡◌, ◌+◌, ◌≤◌, length, is_err, IfOk, if◌then◌else◌};
 ghost use Rattle.uimg_base.specs.Using.{Uses};
-ghost use Rattle.uimg_blob.specs.Roles.{in_images};
+ghost use Rattle.uimg_blob_reading.specs.Roles.{in_images};
 ghost use Rattle.uimg_fit_base.specs.AlgoSets.{is_empty};
 ghost use Rattle.uimg_fit_checking.specs.CheckParts.{StaysInside, ChecksPayload};
 ghost use Rattle.uimg_fit_reading.specs.Nodes.{OfNode, HasNode};
@@ -12,7 +12,7 @@ use crate::vouching::lacks;
 use crate::wrong_hashes::first_wrong;
 use std::alloc::Allocator;
 use uimg_base::{Algo, Room, Source, SourceFault, Span};
-use uimg_blob::Blob;
+use uimg_blob_reading::Blob;
 use uimg_fit_base::AlgoSet;
 use uimg_fit_reading::nodes::{first_hash, name_of};
 use uimg_fit_reading::{compared_algos, payload_digests};

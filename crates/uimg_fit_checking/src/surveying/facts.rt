@@ -1,7 +1,7 @@
 //! The facts of a FIT image, as spans in its file.
 
 use uimg_base::Span;
-use uimg_blob::PropertyPlace;
+use uimg_blob_reading::PropertyPlace;
 use uimg_fit_reading::PayloadFacts;
 
 /// The facts of a hash node.

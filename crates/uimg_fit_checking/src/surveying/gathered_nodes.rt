@@ -1,8 +1,8 @@
 //! Collects the facts of images, hash nodes and configurations from the nodes of an indexed blob.
 
 ghost use Rattle.std.specs.Prelude.{◌≡◌, ◌<◌, length, IfOk, true};
-ghost use Rattle.uimg_blob.specs.LookUps.{hashes};
-ghost use Rattle.uimg_blob.specs.Roles.{in_image, in_images, in_configurations, elsewhere, is_hash};
+ghost use Rattle.uimg_blob_reading.specs.LookUps.{hashes};
+ghost use Rattle.uimg_blob_reading.specs.Roles.{in_image, in_images, in_configurations, elsewhere, is_hash};
 ghost use Rattle.uimg_fit_reading.specs.Nodes.{AtLevel, IsEntry, IsEntryOrNone, InAnyFile, FromNode, FromHash};
 ghost use Rattle.uimg_fit_checking.specs.Survey.{hash_said, image_said, configuration_said, node_name, read_name, read_hash, read_image, read_configuration, Say};
 ghost use Rattle.uimg_fit_checking.specs.SurveyParts.{NameInside, HashInside, ImageInside, ConfigurationInside, AllInside};
@@ -10,7 +10,7 @@ ghost use Rattle.uimg_fit_checking.specs.SurveyParts.{NameInside, HashInside, Im
 use crate::surveying::facts::{ConfigurationFacts, HashFacts, ImageFacts};
 use std::alloc::{AllocError, Allocator, Global};
 use uimg_base::{Room, Span};
-use uimg_blob::{Blob, Key};
+use uimg_blob_reading::{Blob, Key};
 use uimg_fit_reading::nodes::{child_of, first_hash, name_of, next_hash, next_of, value_of};
 use uimg_fit_reading::payload_facts;
 

@@ -2,10 +2,10 @@
 
 ghost use Rattle.std.specs.Prelude.{◌<◌, length, map, IfOk};
 ghost use Rattle.std.specs.List.{All};
-ghost use Rattle.uimg_blob.specs.Grammar.{Siblings};
-ghost use Rattle.uimg_blob.specs.LookUps.{configurations};
-ghost use Rattle.uimg_blob.specs.Roles.{in_configurations};
-ghost use Rattle.uimg_blob.specs.Spots.{spots};
+ghost use Rattle.uimg_blob_reading.specs.Grammar.{Siblings};
+ghost use Rattle.uimg_blob_reading.specs.LookUps.{configurations};
+ghost use Rattle.uimg_blob_reading.specs.Roles.{in_configurations};
+ghost use Rattle.uimg_blob_reading.specs.Spots.{spots};
 ghost use Rattle.uimg_fit_reading.specs.Nodes.{Indexed, Opened, OfNode, OfNodes, IsEntryOrNone};
 ghost use Rattle.uimg_fit_checking.specs.FullSurvey.{properties_said, properties_in, PlacesInside, TellsProperties, TellsLists};
 ghost use Rattle.uimg_fit_checking.specs.SurveyParts.{LeavesSurvey};
@@ -13,7 +13,7 @@ ghost use Rattle.uimg_fit_checking.specs.SurveyParts.{LeavesSurvey};
 use crate::surveying::fault::SurveyFault;
 use std::alloc::{Allocator, Global};
 use uimg_base::{Room, Source};
-use uimg_blob::{Blob, PropertiesFault, PropertyPlace, properties_of};
+use uimg_blob_reading::{Blob, PropertiesFault, PropertyPlace, properties_of};
 use uimg_fit_base::Fault;
 use uimg_fit_reading::nodes::{child_of, configurations_of, next_of};
 

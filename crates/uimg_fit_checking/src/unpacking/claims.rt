@@ -3,7 +3,7 @@
 
 ghost use Rattle.std.specs.Prelude.{◌≡◌, IsTrue};
 ghost use Rattle.std.specs.Option.{option_map};
-ghost use Rattle.uimg_blob.specs.Roles.{in_images};
+ghost use Rattle.uimg_blob_reading.specs.Roles.{in_images};
 ghost use Rattle.uimg_fit_reading.specs.Nodes.{OfNode, OfNodes, HasNode, HasNodes};
 ghost use Rattle.uimg_fit_checking.specs.Unpacking.{bytes_of, is_asked};
 ghost use Rattle.uimg_fit_checking.specs.UnpackingParts.{LeavesImage, ClaimsImage, ClaimsImages};
@@ -12,7 +12,7 @@ use crate::unpacking::node_names::{NodeName, read_name};
 use crate::unpacking::taker::Taker;
 use std::alloc::Allocator;
 use uimg_base::{Room, Source};
-use uimg_blob::Blob;
+use uimg_blob_reading::Blob;
 use uimg_fit_base::Fault;
 use uimg_fit_reading::nodes::{name_of, next_of};
 use uimg_fit_reading::payload_place;

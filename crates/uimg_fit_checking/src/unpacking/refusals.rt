@@ -2,8 +2,8 @@
 
 ghost use Rattle.std.specs.Prelude.{◌≡◌, ◌≤◌, ◌+◌, ℕ, List, length, is_err, IfOk, IsTrue};
 ghost use Rattle.uimg_base.specs.Using.{Asks, Uses};
-ghost use Rattle.uimg_blob.specs.LookUps.{hashes};
-ghost use Rattle.uimg_blob.specs.Roles.{in_images};
+ghost use Rattle.uimg_blob_reading.specs.LookUps.{hashes};
+ghost use Rattle.uimg_blob_reading.specs.Roles.{in_images};
 ghost use Rattle.uimg_fit_base.specs.AlgoSets.{set_of, no_algos, AreDigests};
 ghost use Rattle.uimg_fit_reading.specs.Nodes.{OfNode, HasNode};
 ghost use Rattle.uimg_fit_reading.specs.Plans.{with_all};
@@ -17,7 +17,7 @@ use crate::vouching::lacks;
 use crate::wrong_hashes::{WrongHash, first_wrong};
 use std::alloc::Allocator;
 use uimg_base::{Algo, Room, Source, SourceFault};
-use uimg_blob::Blob;
+use uimg_blob_reading::Blob;
 use uimg_fit_base::{AlgoSet, Digests};
 use uimg_fit_reading::nodes::first_hash;
 

@@ -25,7 +25,7 @@ use crate::puts::{put, put_line};
 use std::alloc::Allocator;
 use std::io::Write;
 use uimg_base::{MoveFault, Out, Room, Source, Span, size_text, time_text};
-use uimg_blob::{Blob, put_text};
+use uimg_blob_reading::{Blob, put_text};
 
 // Writes a line of a label and the text of a value.
 pub(crate) fn put_text_line<S: Source, A: Allocator, W: Write>(

@@ -13,7 +13,7 @@ use crate::puts::{put, put_line};
 use std::alloc::Allocator;
 use std::io::Write;
 use uimg_base::{MoveFault, Out, Room, Source, Span, time_text};
-use uimg_blob::put_text;
+use uimg_blob_reading::put_text;
 
 // Writes the line of the image's description.
 fn put_description<S: Source, A: Allocator, W: Write>(

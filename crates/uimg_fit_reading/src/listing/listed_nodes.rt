@@ -1,8 +1,8 @@
 //! The lines of images and configurations.
 ghost use Rattle.std.specs.Prelude.{◌≡◌, ◌<◌, ◌+◌, ◌*◌, ◌^◌, ◌++◌, codes, true, IfOk};
 ghost use Rattle.std.specs.List.{flat_map, sum_by};
-ghost use Rattle.uimg_blob.specs.LookUps.{hashes};
-ghost use Rattle.uimg_blob.specs.Roles.{in_images, in_image, in_configurations, is_hash};
+ghost use Rattle.uimg_blob_reading.specs.LookUps.{hashes};
+ghost use Rattle.uimg_blob_reading.specs.Roles.{in_images, in_image, in_configurations, is_hash};
 ghost use Rattle.uimg_fit_reading.specs.Allowances.{text_sizes, node_allowance};
 ghost use Rattle.uimg_fit_reading.specs.Listing.{hash_lines, numbered, size_in};
 ghost use Rattle.uimg_fit_reading.specs.NodeLines.{level_of, node_lines};
@@ -19,13 +19,13 @@ use crate::places::find_place;
 use std::alloc::Allocator;
 use std::io::Write;
 use uimg_base::{MoveFault, Out, Room, Source, Span};
-use uimg_blob::Blob;
+use uimg_blob_reading::Blob;
 use uimg_fit_base::FitFault;
 use uimg_names::Naming;
 
 /// The kind of a listed node.
 #[derive(Clone, Copy)]
-pub(crate) enum Kind {
+pub(crate) enum Listed {
     /// An image, with a set of names and the root's time, if it has one.
     Image(Naming, Option<u32>),
     /// A configuration.
@@ -121,7 +121,7 @@ fn put_image<S: Source, A: Allocator, W: Write>(
     ensures leaves { Leaves result S.device source room out }
     ensures told { OfNode (S.device source.old) blob.now room.old in_images image
         (λ found. Lists (node_allowance found) result S.device source out
-        (node_lines (S.device source.old).bytes (Kind.Image naming time) number found)) }
+        (node_lines (S.device source.old).bytes (Listed.Image naming time) number found)) }
 {
     match find_place(source, blob, room, image) {
         Ok(place) => {
@@ -146,7 +146,7 @@ fn put_configuration<S: Source, A: Allocator, W: Write>(
     ensures leaves { Leaves result S.device source room out }
     ensures told { OfNode (S.device source.old) blob.now room.old in_configurations configuration
         (λ found. Lists (node_allowance found) result S.device source out
-        (node_lines (S.device source.old).bytes Kind.Configuration number found)) }
+        (node_lines (S.device source.old).bytes Listed.Configuration number found)) }
 {
     put_node(
         source,
@@ -166,7 +166,7 @@ fn put_listed<S: Source, A: Allocator, W: Write>(
     source: &mut S,
     blob: &Blob,
     room: &mut Room<A>,
-    kind: Kind,
+    kind: Listed,
     number: usize,
     node: usize,
     out: &mut Out<W>,
@@ -178,10 +178,10 @@ fn put_listed<S: Source, A: Allocator, W: Write>(
         (node_lines (S.device source.old).bytes kind number found)) }
 {
     match kind {
-        Kind::Image(naming, time) => {
+        Listed::Image(naming, time) => {
             put_image(source, blob, room, naming, time, number, node, out)
         }
-        Kind::Configuration => put_configuration(source, blob, room, number, node, out),
+        Listed::Configuration => put_configuration(source, blob, room, number, node, out),
     }
 }
 
@@ -190,7 +190,7 @@ pub(crate) fn put_listed_nodes<S: Source, A: Allocator, W: Write>(
     source: &mut S,
     blob: &Blob,
     room: &mut Room<A>,
-    kind: Kind,
+    kind: Listed,
     first: Option<usize>,
     out: &mut Out<W>,
 ) -> Result<(), MoveFault>

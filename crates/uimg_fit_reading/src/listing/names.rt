@@ -10,7 +10,7 @@ ghost use Rattle.uimg_fit_reading.specs.Values.{in_span};
 use crate::puts::put_line;
 use std::io::Write;
 use uimg_base::{MoveFault, Out, Source, SourceFault, Span};
-use uimg_blob::short_text;
+use uimg_blob_reading::short_text;
 use uimg_names::{Field, Naming};
 
 // Returns the printed name of the code that a value's text names.

@@ -5,7 +5,7 @@ ghost use Rattle.uimg_fit_reading.specs.Rows.{image_rows};
 
 use crate::listing::shows::Show;
 use crate::listing::shows::Show::{Address, Hexadecimal, List, Name, Text};
-use uimg_blob::Key;
+use uimg_blob_reading::Key;
 use uimg_names::{Field, Naming};
 
 /// A line of a listing, with a label that is padded with blanks.

@@ -15,7 +15,7 @@ use itoa::Buffer;
 use std::alloc::Allocator;
 use std::io::Write;
 use uimg_base::{MoveFault, Out, Room, Source, Span};
-use uimg_blob::Blob;
+use uimg_blob_reading::Blob;
 
 // Writes what comes before a node's name.
 fn put_number<W: Write>(out: &mut Out<W>, before: &[u8], number: usize) -> Result<(), MoveFault>

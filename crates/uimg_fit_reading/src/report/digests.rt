@@ -11,7 +11,7 @@ use crate::nodes::next_hash;
 use crate::report::plans::{Plan, plan_at};
 use std::alloc::Allocator;
 use uimg_base::{Room, Source, SourceFault, Span};
-use uimg_blob::Blob;
+use uimg_blob_reading::Blob;
 use uimg_fit_base::{AlgoSet, Digests, feed_through};
 
 // Adds the algorithm of a plan that compares to a set.

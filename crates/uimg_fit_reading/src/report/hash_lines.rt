@@ -11,7 +11,7 @@ use crate::puts::{put, put_line, put_span};
 use std::alloc::Allocator;
 use std::io::Write;
 use uimg_base::{MoveFault, Out, Room, Source, Span};
-use uimg_blob::put_text;
+use uimg_blob_reading::put_text;
 use uimg_fit_base::{Verdict, word_text};
 
 /// The parts of a hash node's line: the spans of the image's name, of its own and of its

@@ -11,7 +11,7 @@ use crate::report::judging::put_hash;
 use std::alloc::Allocator;
 use std::io::Write;
 use uimg_base::{MoveFault, Out, Room, Source, Span};
-use uimg_blob::Blob;
+use uimg_blob_reading::Blob;
 use uimg_fit_base::{Digests, is_right};
 
 // Writes a line for each hash node from one on, by these digests. Returns whether all are right.

@@ -1,6 +1,6 @@
 //! Reports on images, one after the other.
 ghost use Rattle.std.specs.Prelude.{◌≡◌, ◌+◌, ◌≤◌, length};
-ghost use Rattle.uimg_blob.specs.Roles.{in_images};
+ghost use Rattle.uimg_blob_reading.specs.Roles.{in_images};
 ghost use Rattle.uimg_fit_reading.specs.ImageReports.{ReportsFound, ReportsImage, ReportsImages, status_of};
 ghost use Rattle.uimg_fit_reading.specs.Nodes.{OfNode, OfNodes, HasNode, HasNodes};
 ghost use Rattle.uimg_fit_reading.specs.Puts.{Leaves, LeavesOrRefuses};
@@ -12,7 +12,7 @@ use crate::report::hash_reports::report_hashes;
 use std::alloc::Allocator;
 use std::io::Write;
 use uimg_base::{MoveFault, Out, Room, Source, Span, Status};
-use uimg_blob::Blob;
+use uimg_blob_reading::Blob;
 use uimg_fit_base::Fault;
 
 // Reports on an image whose payload was found. Returns whether all its hash nodes are right.

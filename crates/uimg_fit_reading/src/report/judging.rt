@@ -16,7 +16,7 @@ use crate::report::plans::{judged, plan_at};
 use std::alloc::Allocator;
 use std::io::Write;
 use uimg_base::{MoveFault, Out, Room, Source, SourceFault, Span};
-use uimg_blob::{Blob, Key};
+use uimg_blob_reading::{Blob, Key};
 use uimg_fit_base::{Digests, Verdict};
 
 /// Returns the word of a hash node, by the digests of its payload. Requests at most 96 bytes.

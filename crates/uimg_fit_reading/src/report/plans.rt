@@ -13,7 +13,7 @@ ghost use Rattle.uimg_fit_reading.specs.PayloadPlaces.{Ends};
 use crate::nodes::value_of;
 use std::alloc::Allocator;
 use uimg_base::{Algo, Room, Source, SourceFault, Span};
-use uimg_blob::{Blob, Key, short_text};
+use uimg_blob_reading::{Blob, Key, short_text};
 use uimg_fit_base::{Digests, Verdict};
 
 /// The plan for a hash node, made before any payload is read.

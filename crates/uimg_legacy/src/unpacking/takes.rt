@@ -11,7 +11,7 @@ use crate::fault::{Fault, LegacyFault};
 use crate::unpacking::copies::{sum_range, take_range};
 use crate::unpacking::part_taker::PartTaker;
 use std::alloc::Allocator;
-use uimg_base::{Crc, Out, Room, Source, Summer, number_at, up4};
+use uimg_base::{Crc, Out, Room, Source, Summer, be32_at, up4};
 
 // How far parts were taken.
 #[derive(Drop)]
@@ -123,7 +123,7 @@ fn take_next<S: Source, A: Allocator, T: PartTaker>(
 {
     let mut word = [0; 4];
     source.fill_at(64 + 4 * number as u64, &mut word)?;
-    let len = number_at(&word, 0) as u64;
+    let len = be32_at(&word, 0) as u64;
     if len == 0 {
         return Err(Fault::Legacy(LegacyFault::BadDataCrc));
     }

@@ -6,9 +6,9 @@ use std::io::Write;
 use std::test::Fail;
 use uimg_base::{Files, MemFiles, MemSource, MoveFault, Out, Room, Source, SourceFault, Span};
 use uimg_blob::samples::Sample;
-use uimg_blob::{Blob, BlobFault, IndexFault, Key, index, put_text, short_text};
-use uimg_tree::{
-    ByteList, Layout, Node, Nodes, Prop, Props, Tree, TreeFault, Value, measure, write_tree,
+use uimg_blob::{
+    Blob, BlobFault, ByteList, IndexFault, Key, Layout, Node, Nodes, Prop, Props, Tree, TreeFault,
+    Value, index, measure, put_text, short_text, write_tree,
 };
 
 // Blobs.

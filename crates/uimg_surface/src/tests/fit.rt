@@ -5,9 +5,9 @@ use super::samples::{FILES, SOURCE};
 use std::alloc::{Allocator, Global};
 use std::io::Write;
 use uimg_base::{Files, MemFiles, MemSource, Out, Room, Source, Status};
+use uimg_blob::Tree;
 use uimg_fit::{Fault, FitFault, Placement, build, extract, fill, list, verify};
 use uimg_its::compile;
-use uimg_tree::Tree;
 
 fn listed<S: Source, A: Allocator, W: Write>(
     source: &mut S,

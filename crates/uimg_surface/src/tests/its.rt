@@ -3,8 +3,8 @@
 use super::samples::{FILES, SOURCE};
 use std::alloc::Allocator;
 use uimg_base::MemFiles;
-use uimg_its::{Files, ItsFault, Kind, compile};
-use uimg_tree::Tree;
+use uimg_blob::Tree;
+use uimg_its::{FaultKind, Files, ItsFault, compile};
 
 fn compiled<F: Files, A: Allocator + Copy>(
     alloc: A,
@@ -24,15 +24,15 @@ fn sources(rt: HostRuntime) {
 }
 
 // The number of a kind of fault.
-fn number(kind: Kind) -> u8 {
+fn number(kind: FaultKind) -> u8 {
     match kind {
-        Kind::BadToken => 1,
-        Kind::BadSyntax => 2,
-        Kind::OutOfProfile(_name) => 3,
-        Kind::BadNumber => 4,
-        Kind::NoFile => 5,
-        Kind::ReadFailed => 6,
-        Kind::OutOfMemory => 7,
+        FaultKind::BadToken => 1,
+        FaultKind::BadSyntax => 2,
+        FaultKind::OutOfProfile(_name) => 3,
+        FaultKind::BadNumber => 4,
+        FaultKind::NoFile => 5,
+        FaultKind::ReadFailed => 6,
+        FaultKind::OutOfMemory => 7,
     }
 }
 

@@ -9,7 +9,7 @@ use std::test::Fail;
 use uimg_base::Status;
 use uimg_engine::Fault;
 use uimg_fit_base::FitFault;
-use uimg_its::Kind;
+use uimg_its::FaultKind;
 
 const NO_FUSE: Fuses = Fuses {
     from: u64::MAX,
@@ -51,7 +51,7 @@ fn growths_for_parts(rt: HostRuntime) -> Result<(), Fail> {
 fn step_of(fault: Fault) -> u8 {
     match fault {
         Fault::OutOfMemory => 0,
-        Fault::Its(fault) if fault.kind == Kind::OutOfMemory => 1,
+        Fault::Its(fault) if fault.kind == FaultKind::OutOfMemory => 1,
         Fault::Fit(FitFault::OutOfMemory) => 2,
         _ => 9,
     }

@@ -2,7 +2,7 @@
 //! property with its name's offset in the strings block and its value, and `1000*` before a word
 //! repeats it.
 use std::alloc::Global;
-use uimg_blob::samples::Sample;
+use uimg_blob_reading::samples::Sample;
 use uimg_fit_tests::samples::finish;
 
 /// Nodes without names, nested.

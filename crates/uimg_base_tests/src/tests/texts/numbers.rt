@@ -2,7 +2,7 @@
 
 use std::alloc::{AllocError, Global};
 use uimg_base::{
-    FuseWriter, Out, PutFault, before_nul, first_nul, number_at, size_text, time_text, up4,
+    FuseWriter, Out, PutFault, be32_at, before_nul, first_nul, size_text, time_text, up4,
 };
 
 // The output of GNU `date -u -d @SECONDS '+%a %b %e %H:%M:%S %Y'`.
@@ -97,5 +97,5 @@ fn sizes_are_rounded_up(rt: HostRuntime) {
     for (size, rounded) in &ROUNDED {
         assert_eq!(rt; up4(*size), *rounded);
     }
-    assert_eq!(rt; number_at(&[9, 0x27, 0x05, 0x19, 0x56, 9], 1), 0x2705_1956);
+    assert_eq!(rt; be32_at(&[9, 0x27, 0x05, 0x19, 0x56, 9], 1), 0x2705_1956);
 }

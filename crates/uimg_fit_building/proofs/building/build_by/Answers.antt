@@ -1,6 +1,6 @@
 use Rattle.std.proofs.Common.{map}
-use Rattle.uimg_blob.specs.Plain.{with_value, with_values}
-use Rattle.uimg_tree.specs.Content.{bytes_in}
+use Rattle.uimg_blob_reading.specs.Plain.{with_value, with_values}
+use Rattle.uimg_blob_writing.specs.Content.{bytes_in}
 use Rattle.uimg_fit_building.proofs.BuildLaws.{on-built}
 use Rattle.uimg_fit_building.proofs.building.build_by.Goals as goal
 

@@ -1,7 +1,7 @@
 use Rattle.std.proofs.Common.{◌≡◌, ◌≤◌, ℕ, Some, None, Result, Ok, Err, ap, sym, subst, ◌∙◌, arith}
-use Rattle.uimg_tree.specs.Content.{Unread}
-use Rattle.uimg_tree.specs.Layouts.{Plan, totalsize}
-use Rattle.uimg_tree.specs.Trees.{node_of}
+use Rattle.uimg_blob_writing.specs.Content.{Unread}
+use Rattle.uimg_blob_writing.specs.Layouts.{Plan, totalsize}
+use Rattle.uimg_blob_writing.specs.Trees.{node_of}
 use Rattle.uimg_fit_base.specs.declared.fault.Fault.{Fault}
 use Rattle.uimg_fit_base.specs.declared.fault.Fault.TheVariants.{Fit}
 use Rattle.uimg_fit_base.specs.Placements.{align_of}

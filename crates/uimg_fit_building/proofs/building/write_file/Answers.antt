@@ -3,11 +3,11 @@ use Rattle.std.specs.Bool.{OnFalse}
 use Rattle.std.specs.List.{AllByRecursion}
 use Rattle.uimg_base.specs.Sink.{Sink}
 use Rattle.uimg_base.specs.Writing.{Written}
-use Rattle.uimg_blob.specs.Plain.{Nodes}
-use Rattle.uimg_tree.specs.Content.{Unread, AreKept, IsKept, in_full}
-use Rattle.uimg_tree.specs.Encoding.{encode_by}
-use Rattle.uimg_tree.specs.Layouts.{Plan, plan_of, totalsize}
-use Rattle.uimg_tree.specs.Trees.{node_of}
+use Rattle.uimg_blob_reading.specs.Plain.{Nodes}
+use Rattle.uimg_blob_writing.specs.Content.{Unread, AreKept, IsKept, in_full}
+use Rattle.uimg_blob_writing.specs.Encoding.{encode_by}
+use Rattle.uimg_blob_writing.specs.Layouts.{Plan, plan_of, totalsize}
+use Rattle.uimg_blob_writing.specs.Trees.{node_of}
 use Rattle.uimg_fit_base.specs.Placements.{align_of}
 use Rattle.uimg_fit_building.specs.Behind.{behind_pieces}
 use Rattle.uimg_fit_building.specs.Building.{placed_blob, behind}

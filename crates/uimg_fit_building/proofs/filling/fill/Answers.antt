@@ -2,13 +2,13 @@ use Rattle.std.proofs.Common.{◌≡◌, ◌∙◌, List, length, ap, sym, subst
 use Rattle.std.specs.List.{AllByRecursion}
 use Rattle.std.specs.Option.{IfSome, IsSomeAnd}
 use Rattle.std.specs.Bool.{⊤}
-use Rattle.uimg_blob.specs.LookUps.{images}
-use Rattle.uimg_blob.specs.Plain.{NamedOf, no_node, a_node}
-use Rattle.uimg_tree.specs.Content.{Content, Unread, bytes}
-use Rattle.uimg_tree.specs.Encoding.{word}
-use Rattle.uimg_tree.specs.Trees.{siblings, node_of}
-use Rattle.uimg_tree.specs.declared.tree.Node.{Node}
-use Rattle.uimg_tree.specs.declared.tree.Tree.{Tree}
+use Rattle.uimg_blob_reading.specs.LookUps.{images}
+use Rattle.uimg_blob_reading.specs.Plain.{NamedOf, no_node, a_node}
+use Rattle.uimg_blob_writing.specs.Content.{Content, Unread, bytes}
+use Rattle.uimg_blob_writing.specs.Encoding.{word}
+use Rattle.uimg_blob_writing.specs.Trees.{siblings, node_of}
+use Rattle.uimg_blob_writing.specs.declared.tree.Node.{Node}
+use Rattle.uimg_blob_writing.specs.declared.tree.Tree.{Tree}
 use Rattle.uimg_fit_building.specs.FillAnswers.{opens_no_file, fails_to_read, FillsAnswer}
 use Rattle.uimg_fit_building.specs.FillOrder.{IsPassed, FillsInOrder}
 use Rattle.uimg_fit_building.specs.ImageFillings.{IsKeptImage, images_among, FillsBelow, fault_among, filled_over}

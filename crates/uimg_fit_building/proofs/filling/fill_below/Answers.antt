@@ -1,10 +1,10 @@
 use Rattle.std.proofs.Common.{rules, ◌≡◌, ◌∙◌, ◌<◌, ◌≤◌, ℕ, List, Option, Some, length, get_or, set, ap, sym, subst, arith}
 use Rattle.std.specs.List.{AllByRecursion}
 use Rattle.std.specs.Bool.{⊤}
-use Rattle.uimg_blob.specs.LookUps.{NodeOf, listed}
-use Rattle.uimg_tree.specs.Content.{Content}
-use Rattle.uimg_tree.specs.Trees.{siblings}
-use Rattle.uimg_tree.specs.declared.tree.Node.{Node}
+use Rattle.uimg_blob_reading.specs.LookUps.{NodeOf, listed}
+use Rattle.uimg_blob_writing.specs.Content.{Content}
+use Rattle.uimg_blob_writing.specs.Trees.{siblings}
+use Rattle.uimg_blob_writing.specs.declared.tree.Node.{Node}
 use Rattle.uimg_fit_building.specs.FillOrder.{FillsInOrder}
 use Rattle.uimg_fit_building.specs.Filling.{each}
 use Rattle.uimg_fit_building.specs.ImageFillings.{filled_over, IsKeptImage, FillsParent, FillsBelow}

@@ -1,6 +1,6 @@
 use Rattle.std.proofs.Common.{◌≡◌, map, drop}
-use Rattle.uimg_blob.specs.LookUps.{first}
-use Rattle.uimg_tree.specs.Properties.{property}
+use Rattle.uimg_blob_reading.specs.LookUps.{first}
+use Rattle.uimg_blob_writing.specs.Properties.{property}
 use Rattle.uimg_fit_building.proofs.setting.first_value.Given as goal
 
 -- no property before the index has the name

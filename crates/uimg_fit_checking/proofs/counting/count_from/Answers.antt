@@ -1,5 +1,5 @@
 use Rattle.std.proofs.Common.{rules, ◌≡◌, ◌<◌, ℕ, Option, None, IfSome, sym, subst}
-use Rattle.uimg_blob.specs.Roles.{in_images}
+use Rattle.uimg_blob_reading.specs.Roles.{in_images}
 use Rattle.uimg_fit_checking.proofs.CountingLaws.{LeftCounted, none_counted, one_counted, all_counted, past_counted}
 use Rattle.uimg_fit_checking.proofs.counting.count_from.Goals as goal
 

@@ -1,5 +1,5 @@
 use Rattle.std.proofs.Common.{rules, ◌≡◌, ℕ, Option, None, true, false, sym, ◌∙◌, subst}
-use Rattle.uimg_blob.specs.Roles.{in_images}
+use Rattle.uimg_blob_reading.specs.Roles.{in_images}
 use Rattle.uimg_fit_checking.proofs.NamedLaws.{LeftNamed, all_named, is_the_named, passes_named, none_named}
 use Rattle.uimg_fit_checking.proofs.named.image_named.Goals as goal
 

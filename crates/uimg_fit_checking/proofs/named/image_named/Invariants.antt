@@ -1,6 +1,6 @@
 use Rattle.std.proofs.Common.{◌-◌, ◌<◌, length, IfSome}
 use Rattle.std.specs.Option.{option_map_or}
-use Rattle.uimg_blob.specs.Grammar.{Siblings}
+use Rattle.uimg_blob_reading.specs.Grammar.{Siblings}
 use Rattle.uimg_fit_reading.specs.Nodes.{IsRead}
 use Rattle.uimg_fit_checking.proofs.NamedLaws.{LeftNamed}
 use Rattle.uimg_fit_checking.proofs.named.image_named.Given as goal

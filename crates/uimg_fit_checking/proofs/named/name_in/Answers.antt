@@ -1,5 +1,5 @@
 use Rattle.uimg_texts.specs.Slices.{slice}
-use Rattle.uimg_blob.specs.Roles.{in_images}
+use Rattle.uimg_blob_reading.specs.Roles.{in_images}
 use Rattle.uimg_fit_checking.proofs.NamedLaws.{gives_name}
 use Rattle.uimg_fit_checking.proofs.named.name_in.Goals as goal
 

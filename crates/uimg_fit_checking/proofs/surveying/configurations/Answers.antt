@@ -1,6 +1,6 @@
 use Rattle.std.proofs.Common.{sym, ap, ◌∙◌, subst}
-use Rattle.uimg_blob.specs.LookUps.{listed}
-use Rattle.uimg_blob.specs.Roles.{Level}
+use Rattle.uimg_blob_reading.specs.LookUps.{listed}
+use Rattle.uimg_blob_reading.specs.Roles.{Level}
 use Rattle.uimg_fit_reading.specs.Nodes.{AreFrom}
 use Rattle.uimg_fit_checking.specs.Survey.{preferred_in, configurations_in}
 use Rattle.uimg_fit_checking.proofs.surveying.configurations.Goals as goal

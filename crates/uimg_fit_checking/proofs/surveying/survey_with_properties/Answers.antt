@@ -1,6 +1,6 @@
 use Rattle.std.proofs.Common.{ℕ, Err, Vec, Global, false, sym, subst}
 use Rattle.std.specs.List.{All}
-use Rattle.uimg_blob.specs.declared.places.PropertyPlace.{PropertyPlace}
+use Rattle.uimg_blob_reading.specs.declared.places.PropertyPlace.{PropertyPlace}
 use Rattle.uimg_fit_checking.specs.FullSurvey.{PlacesInside}
 use Rattle.uimg_fit_checking.specs.SurveyParts.{is_unread}
 use Rattle.uimg_fit_checking.proofs.FullSurveyLaws.{all_asked, uses_more}

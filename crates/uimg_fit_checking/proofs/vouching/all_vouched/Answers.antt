@@ -1,6 +1,6 @@
 use Rattle.std.proofs.Common.{rules, ◌≡◌, ◌∙◌, ℕ, Option, None, true, false, refl, sym, ap, subst}
-use Rattle.uimg_blob.specs.LookUps.{hashes}
-use Rattle.uimg_blob.specs.Roles.{in_images}
+use Rattle.uimg_blob_reading.specs.LookUps.{hashes}
+use Rattle.uimg_blob_reading.specs.Roles.{in_images}
 use Rattle.uimg_fit_base.specs.declared.algo_sets.AlgoSet.{AlgoSet}
 use Rattle.uimg_fit_checking.specs.Vouching.{has_from}
 use Rattle.uimg_fit_reading.proofs.OpenedLaws.{still}

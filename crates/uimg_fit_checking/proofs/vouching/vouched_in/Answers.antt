@@ -1,5 +1,5 @@
 use Rattle.std.proofs.Common.{rules, ◌≡◌, ◌∙◌, ℕ, List, Option, None, is_none, false, Ok, Bool, sym, ap, subst}
-use Rattle.uimg_blob.specs.Roles.{in_images}
+use Rattle.uimg_blob_reading.specs.Roles.{in_images}
 use Rattle.uimg_fit_reading.specs.Nodes.{Opened, IsRead, AreFrom}
 use Rattle.uimg_fit_checking.proofs.VouchingLaws.{vouched_is, none_vouched, some_vouched}
 use Rattle.uimg_fit_checking.proofs.vouching.vouched_in.Goals as goal

@@ -2,8 +2,8 @@ use Rattle.std.proofs.Common.{ℕ, List, Option, Some, None, refl, sym, subst}
 use Rattle.std.proofs.lemmas.Result.{err_from_is_err_and}
 use Rattle.uimg_base.specs.Outcome.{End, done}
 use Rattle.uimg_base.specs.Sink.{AppendsAll, AppendsPrefix}
-use Rattle.uimg_blob.specs.LookUps.{NodeOf, images}
-use Rattle.uimg_blob.specs.Spots.{Spot, spots}
+use Rattle.uimg_blob_reading.specs.LookUps.{NodeOf, images}
+use Rattle.uimg_blob_reading.specs.Spots.{Spot, spots}
 use Rattle.uimg_fit_base.specs.declared.fault.Fault.{Fault}
 use Rattle.uimg_fit_reading.specs.Listing.{lists}
 use Rattle.uimg_fit_reading.specs.ListingParts.{body_allowance, TellsWithin}

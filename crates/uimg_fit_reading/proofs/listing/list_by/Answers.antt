@@ -6,8 +6,8 @@ use Rattle.uimg_base.specs.Outcome.{End, Outcome, Tells}
 use Rattle.uimg_base.specs.Sink.{AppendsAll, AppendsPrefix}
 use Rattle.uimg_base.proofs.SinkLaws.{prefix_first}
 use Rattle.uimg_base.proofs.OutcomeLaws.{Tells-after}
-use Rattle.uimg_blob.specs.LookUps.{images}
-use Rattle.uimg_blob.specs.Spots.{spots}
+use Rattle.uimg_blob_reading.specs.LookUps.{images}
+use Rattle.uimg_blob_reading.specs.Spots.{spots}
 use Rattle.uimg_fit_base.specs.declared.fault.Fault.{Fault}
 use Rattle.uimg_fit_base.specs.Faults.{end_of}
 use Rattle.uimg_fit_base.specs.Files.{number, bytes_in, number_in, root_own}

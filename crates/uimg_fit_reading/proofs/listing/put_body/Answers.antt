@@ -1,7 +1,7 @@
 use Rattle.std.proofs.Common.{is_err}
 use Rattle.std.specs.List.{sum_by}
-use Rattle.uimg_blob.specs.LookUps.{configurations}
-use Rattle.uimg_blob.specs.Spots.{spots}
+use Rattle.uimg_blob_reading.specs.LookUps.{configurations}
+use Rattle.uimg_blob_reading.specs.Spots.{spots}
 use Rattle.uimg_fit_reading.specs.Allowances.{node_allowance}
 use Rattle.uimg_fit_reading.specs.Listing.{configurations_lines, image_lines, numbered}
 use Rattle.uimg_fit_reading.specs.ListingParts.{configurations_allowance}

@@ -1,9 +1,9 @@
 use Rattle.std.proofs.Common.{◌+◌, ◌*◌, ℕ, List, Option, true, false, refl, is_err, codes, sym, subst, arith}
 use Rattle.std.specs.List.{sum_by}
 use Rattle.uimg_base.specs.Writing.{Written}
-use Rattle.uimg_blob.specs.LookUps.{NodeOf, listed}
-use Rattle.uimg_blob.specs.Roles.{Level}
-use Rattle.uimg_blob.specs.Spots.{Spot}
+use Rattle.uimg_blob_reading.specs.LookUps.{NodeOf, listed}
+use Rattle.uimg_blob_reading.specs.Roles.{Level}
+use Rattle.uimg_blob_reading.specs.Spots.{Spot}
 use Rattle.uimg_fit_reading.specs.Allowances.{text_sizes, node_allowance}
 use Rattle.uimg_fit_base.specs.Files.{bytes_of}
 use Rattle.uimg_fit_reading.specs.Heads.{default_line}

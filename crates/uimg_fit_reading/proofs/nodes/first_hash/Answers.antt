@@ -1,4 +1,4 @@
-use Rattle.uimg_blob.specs.LookUps.{hashes}
+use Rattle.uimg_blob_reading.specs.LookUps.{hashes}
 use Rattle.uimg_fit_reading.proofs.HashLaws.{children_are}
 use Rattle.uimg_fit_reading.proofs.nodes.first_hash.Goals as goal
 

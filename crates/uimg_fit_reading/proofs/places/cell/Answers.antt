@@ -21,6 +21,6 @@ returns-clause-number g c = λ honest.
     let inside : span.place + span.length ≤ length file = search rules in
     let four : span.length ≡ 4 = search rules in
     let read : c.fill_at.new.to ≡ slice file span.place span.length = c.in_ok-fill_at.ensures.bytes honest ∙ ap (slice file span.place) (sym four) in
-    ap Some (c.number_at.ensures ∙ ap (λ (b : List ℕ). be32 b 0) read)
+    ap Some (c.be32_at.ensures ∙ ap (λ (b : List ℕ). be32 b 0) read)
     ∙ sym (number_of_four (slice file span.place span.length) (length-slice file span.place span.length inside ∙ four))
     ∙ ap (number_in file) (sym c.in-Some.is)

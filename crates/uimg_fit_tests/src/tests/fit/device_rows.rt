@@ -5,9 +5,9 @@ use linked_list_allocator::LocalHeap;
 use std::alloc::{AllocError, Global};
 use std::test::Fail;
 use uimg_base::{Files, FuseFiles, FuseWriter, MemFiles, Out};
+use uimg_blob_writing::Tree;
 use uimg_fit::{Fault, FitFault, build, fill};
 use uimg_its::compile;
-use uimg_tree::Tree;
 
 const ABC: [(&[u8], &[u8]); 1] = [(b"abc.bin", b"abc")];
 

@@ -6,7 +6,7 @@ use crate::samples::{
     put_payload, set_cell,
 };
 use std::alloc::{AllocError, Global};
-use uimg_blob::samples::Sample;
+use uimg_blob_reading::samples::Sample;
 
 // Returns the demo with addresses of two cells; `short` gives the second three bytes.
 fn two_cells(alloc: Global, short: bool) -> Result<Vec<u8>, AllocError> {

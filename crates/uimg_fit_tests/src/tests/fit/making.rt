@@ -1,9 +1,9 @@
 //! Images that are made from sources.
 use std::alloc::{AllocError, Global};
 use uimg_base::{Files, MemFiles, Out};
+use uimg_blob_writing::Tree;
 use uimg_fit::{Fault, Placement, build, build_by, fill};
 use uimg_its::compile;
-use uimg_tree::Tree;
 
 /// The source of the case four-hash-fit, which is `examples/kernel.its`.
 pub(super) const FOUR_HASH: &str = "/dts-v1/;

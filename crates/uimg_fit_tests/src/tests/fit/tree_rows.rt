@@ -4,9 +4,9 @@ use super::making::{built, told};
 use std::alloc::{AllocError, Global};
 use std::test::Fail;
 use uimg_base::MemFiles;
-use uimg_blob::BlobFault;
+use uimg_blob_reading::BlobFault;
+use uimg_blob_writing::{ByteList, Node, Nodes, Prop, Props, Tree, Value};
 use uimg_fit::{Fault, FitFault};
-use uimg_tree::{ByteList, Node, Nodes, Prop, Props, Tree, Value};
 
 // Returns a node with a property, if any, and some children.
 fn node(

@@ -7,7 +7,7 @@ use linked_list_allocator::LocalHeap;
 use std::alloc::{AllocError, Global};
 use std::test::Fail;
 use uimg_base::{FuseSource, MemSource, Room, Source};
-use uimg_blob::{BlobFault, IndexFault, index};
+use uimg_blob_reading::{BlobFault, IndexFault, index};
 
 // Returns the result over a source that lets `calls` calls through: `.` if the blob is indexed, the
 // number of entries left if a read failed and was counted, `?` for anything else.

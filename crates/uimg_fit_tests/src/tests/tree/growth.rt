@@ -4,7 +4,7 @@ use linked_list_allocator::LocalHeap;
 use std::alloc::Global;
 use std::test::Fail;
 use uimg_base::MemFiles;
-use uimg_its::{ItsFault, Kind, compile};
+use uimg_its::{FaultKind, ItsFault, compile};
 
 const ALL_VALUES: &str = "/dts-v1/; / {
 \ta = <1 2 3>, [00 11], \"text\", /incbin/(\"a\");
@@ -28,7 +28,7 @@ fn line_of_want(alloc: Global, text: &str, bytes: usize) -> Option<u64> {
     };
     match compile(&heap, text.as_bytes(), &mut MemFiles::new(&NAMED)) {
         Ok(_) => None,
-        Err(fault) if fault.kind == Kind::OutOfMemory => Some(fault.line),
+        Err(fault) if fault.kind == FaultKind::OutOfMemory => Some(fault.line),
         Err(_) => Some(0),
     }
 }
@@ -54,7 +54,7 @@ fn growth_fails(rt: HostRuntime) {
 fn the_line_of_a_refused_growth(rt: HostRuntime) -> Result<(), Fail> {
     assert_eq!(rt; line_of_want(rt.alloc(), LONG_TEXT, 48), Some(4));
     let fault = ItsFault {
-        kind: Kind::OutOfMemory,
+        kind: FaultKind::OutOfMemory,
         line: 4,
     };
     let line = format!(in rt.alloc(); "{fault}")?;

@@ -5,7 +5,7 @@ use std::alloc::{AllocError, Global};
 use std::process::Abort;
 use std::test::Fail;
 use uimg_base::{MemSource, Room, Source};
-use uimg_blob::{Blob, IndexFault, index};
+use uimg_blob_reading::{Blob, IndexFault, index};
 
 // Returns the result for a blob in words.
 fn told(

@@ -3,8 +3,8 @@ use super::tree_rows::nodes_in;
 use std::alloc::{AllocError, Global};
 use std::test::Fail;
 use uimg_base::{MemSource, Room, Source};
-use uimg_blob::index;
-use uimg_blob::samples::Sample;
+use uimg_blob_reading::index;
+use uimg_blob_reading::samples::Sample;
 
 // Returns `levels` nodes with empty names, one inside the other.
 fn nested(alloc: Global, levels: u32) -> Result<Vec<u8>, AllocError> {

@@ -1,7 +1,7 @@
 //! Blobs: those that rows name, those that rows spell, and edits of both.
 use super::bytes::{plain, unhex};
 use std::alloc::{AllocError, Global};
-use uimg_blob::samples::Sample;
+use uimg_blob_reading::samples::Sample;
 
 // dtc's output for `/ { lab: v = "a", <1 0x2>, [00 ff]; e; };`.
 const MIXED: &str = "

@@ -8,8 +8,8 @@ use super::trees::{node, prop, root_in_file};
 use linked_list_allocator::LocalHeap;
 use std::alloc::{AllocError, Global};
 use std::test::Fail;
-use uimg_blob::BlobFault;
-use uimg_tree::{
+use uimg_blob_reading::BlobFault;
+use uimg_blob_writing::{
     ByteList, Node, Nodes, Prop, Props, Tree, Value, WORD_ALIGNMENT, measure, measure_by,
 };
 

@@ -6,7 +6,7 @@ use super::made::{made, shown};
 use std::alloc::{AllocError, Global};
 use std::test::Fail;
 use uimg_base::{MemSource, Room, Span};
-use uimg_blob::{Blob, Key, index};
+use uimg_blob_reading::{Blob, Key, index};
 
 // The keys, in the order of the documentation, with the names of their properties.
 const KEYS: [(&str, Key); 24] = [

@@ -6,7 +6,7 @@ use super::made::made;
 use std::alloc::{AllocError, Global};
 use std::test::Fail;
 use uimg_base::{FuseSource, MemSource, Room, Source, Span};
-use uimg_blob::{Blob, PropertiesFault, PropertyPlace, index, properties_of};
+use uimg_blob_reading::{Blob, PropertiesFault, PropertyPlace, index, properties_of};
 
 // Returns the text at a span of some bytes.
 fn text_at(bytes: &[u8], span: Span) -> &str {

@@ -6,8 +6,8 @@ use super::sources::{NAMED, source, tree_of};
 use std::alloc::{AllocError, Global};
 use std::test::Fail;
 use uimg_base::{Files, FuseFiles, MemFiles};
+use uimg_blob_writing::{Node, Prop, Tree, Value};
 use uimg_its::compile;
-use uimg_tree::{Node, Prop, Tree, Value};
 
 // The value of the root's only property, and its bytes.
 const VALUE_ROWS: [(&str, &str); 14] = [

@@ -1,8 +1,8 @@
 //! Sources that several rows name, and what they compile to.
 use std::alloc::Global;
 use uimg_base::{MemFiles, Out};
+use uimg_blob_writing::{Tree, WORD_ALIGNMENT, measure_by, write_tree};
 use uimg_its::compile;
-use uimg_tree::{Tree, WORD_ALIGNMENT, measure_by, write_tree};
 
 /// The files of the tests.
 pub(super) const NAMED: [(&[u8], &[u8]); 2] = [(b"a", b"abc"), (b"abc.bin", b"abc")];

@@ -8,7 +8,7 @@ use std::test::Fail;
 use uimg_base::{
     FuseSource, FuseWriter, MemSource, MoveFault, Out, Room, Source, SourceFault, Span,
 };
-use uimg_blob::{put_text, short_text};
+use uimg_blob_reading::{put_text, short_text};
 
 // Returns what is written of a text, if it is written.
 fn written(alloc: Global, bytes: &[u8], at: Span) -> Option<Vec<u8>>

@@ -4,8 +4,8 @@ use super::sources::{NAMED, blob_of, tree_of};
 use std::alloc::Global;
 use std::test::Fail;
 use uimg_base::{MemSource, Room};
-use uimg_blob::index;
-use uimg_tree::{Tree, copy_node};
+use uimg_blob_reading::index;
+use uimg_blob_writing::{Tree, copy_node};
 
 // A source, the size of its blob, the number of nodes, and how it ends: the name of a blob, or
 // hexadecimal digits. Names are in the strings block once, in the order of first use.

@@ -1,6 +1,6 @@
 //! Trees that no source spells.
 use std::alloc::{AllocError, Global};
-use uimg_tree::{ByteList, Node, Nodes, Prop, Props, Tree, Value};
+use uimg_blob_writing::{ByteList, Node, Nodes, Prop, Props, Tree, Value};
 
 /// Returns a property whose value is bytes.
 pub(super) fn prop(alloc: Global, name: &[u8], value: &[u8]) -> Result<Prop<Global>, AllocError> {

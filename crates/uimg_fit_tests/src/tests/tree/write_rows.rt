@@ -6,11 +6,11 @@ use super::trees::in_file;
 use std::alloc::{AllocError, Global};
 use std::test::Fail;
 use uimg_base::{Files, FuseFiles, FuseWriter, MemFiles, Out, WINDOW};
-use uimg_its::compile;
-use uimg_tree::{
+use uimg_blob_writing::{
     ByteList, Tree, TreeFault, Value, WORD_ALIGNMENT, copy_value, measure, put_aligned, value_size,
     write_tree,
 };
+use uimg_its::compile;
 
 // Returns a result in words, and how many bytes were written.
 fn told(

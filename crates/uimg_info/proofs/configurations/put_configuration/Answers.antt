@@ -2,7 +2,7 @@ use Rattle.std.proofs.Common.{◌≡◌, ◌+◌, List, [], ℕ, map, ap, sym, �
 use Rattle.std.specs.List.{sum_by}
 use Rattle.json.specs.Tree.{json_tokens}
 use Rattle.uimg_base.specs.declared.spans.Span.{Span}
-use Rattle.uimg_blob.specs.Places.{read_place}
+use Rattle.uimg_blob_reading.specs.Places.{read_place}
 use Rattle.uimg_fit_checking.specs.Survey.{read_name, read_configuration}
 use Rattle.uimg_printing.specs.Members.{array_of}
 use Rattle.uimg_printing.proofs.StepLaws.{one, after, appended_as, object_appended, tokens_two}

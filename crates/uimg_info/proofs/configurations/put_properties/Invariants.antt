@@ -2,7 +2,7 @@ use Rattle.std.proofs.Common.{◌≡◌, ◌≤◌, ◌+◌, ◌++◌, take, dro
 use Rattle.json.specs.Tree.{json_tokens, items_tokens}
 use Rattle.uimg_base.specs.Device.{SameDevice}
 use Rattle.std.specs.List.{sum_by}
-use Rattle.uimg_blob.specs.Places.{read_place}
+use Rattle.uimg_blob_reading.specs.Places.{read_place}
 use Rattle.uimg_info.specs.Fit.{property_json}
 use Rattle.uimg_printing.specs.Members.{items_of, array_of}
 use Rattle.uimg_info.specs.Work.{property_size}

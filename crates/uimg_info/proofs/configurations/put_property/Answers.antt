@@ -1,5 +1,5 @@
 use Rattle.std.proofs.Common.{codes, sym, ◌∙◌, arith}
-use Rattle.uimg_blob.specs.Places.{read_place}
+use Rattle.uimg_blob_reading.specs.Places.{read_place}
 use Rattle.uimg_printing.specs.Members.{number_member}
 use Rattle.uimg_printing.proofs.StepLaws.{one, after, appended_as, object_appended, tokens_append}
 use Rattle.uimg_info.specs.Fit.{node_facts, property_members}

@@ -1,6 +1,6 @@
 use Rattle.std.proofs.Common.{◌≡◌, List, ℕ, map, ap, sym, ◌∙◌, subst, IsTrue, codes, Vec, Global, arith, rules}
 use Rattle.json.specs.Tree.{json_tokens}
-use Rattle.uimg_blob.specs.declared.places.PropertyPlace.{PropertyPlace}
+use Rattle.uimg_blob_reading.specs.declared.places.PropertyPlace.{PropertyPlace}
 use Rattle.uimg_fit_checking.specs.FullSurvey.{read_properties}
 use Rattle.uimg_fit_checking.specs.Survey.{read_image, read_configuration, read_survey}
 use Rattle.uimg_fit_checking.specs.declared.surveying.facts.ImageFacts.{ImageFacts}

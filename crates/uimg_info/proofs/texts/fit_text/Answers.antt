@@ -3,7 +3,7 @@ use Rattle.std.specs.List.{sum_by}
 use Rattle.json.specs.Print.{print}
 use Rattle.json.specs.Tree.{json_tokens}
 use Rattle.uimg_base.specs.declared.spans.Span.{Span}
-use Rattle.uimg_blob.specs.Plain.{NamedOf}
+use Rattle.uimg_blob_reading.specs.Plain.{NamedOf}
 use Rattle.uimg_fit_checking.specs.FullSurvey.{read_properties, properties_of}
 use Rattle.uimg_base.specs.Results.{◌>>=◌}
 use Rattle.uimg_fit_base.specs.declared.fault.Fault.{Fault}

@@ -1,4 +1,4 @@
-use Rattle.uimg_tree.specs.Trees.{node_of}
+use Rattle.uimg_blob_writing.specs.Trees.{node_of}
 use Rattle.uimg_its.specs.Words.{words}
 use Rattle.uimg_its.specs.Answers.{is_outside}
 use Rattle.uimg_its.proofs.SoundLaws.{files_at_data, are_kept}

@@ -1,5 +1,5 @@
 use Rattle.std.proofs.Common.{◌≡◌, ◌≤◌, ◌*◌, ◌+◌, length, IsTrue, false}
-use Rattle.uimg_tree.specs.UsingFiles.{UsesFiles}
+use Rattle.uimg_blob_writing.specs.UsingFiles.{UsesFiles}
 use Rattle.uimg_its.specs.Words.{words}
 use Rattle.uimg_its.specs.Steps.{with_front}
 use Rattle.uimg_its.specs.Parts.{all_parts_of}

@@ -1,5 +1,5 @@
 use Rattle.std.proofs.Common.{ap}
-use Rattle.uimg_blob.specs.Plain.{Nodes}
+use Rattle.uimg_blob_reading.specs.Plain.{Nodes}
 use Rattle.uimg_its.specs.Parts.{NodeParts, props_in_full}
 use Rattle.uimg_its.proofs.SoundLaws.{in_full_siblings, siblings_sound}
 use Rattle.uimg_its.proofs.nodes.node_of.Goals as goal

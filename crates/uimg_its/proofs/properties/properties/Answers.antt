@@ -1,6 +1,6 @@
 use Rattle.std.proofs.Common.{rules, map, arith, IsTrue}
 use Rattle.std.proofs.lemmas.Result.{err_from_is_err_and}
-use Rattle.uimg_tree.specs.Properties.{property}
+use Rattle.uimg_blob_writing.specs.Properties.{property}
 use Rattle.uimg_its.specs.Words.{words}
 use Rattle.uimg_its.specs.Parts.{props_in_full}
 use Rattle.uimg_its.specs.Reader.{property_step}

@@ -1,6 +1,6 @@
 use Rattle.std.proofs.Common.{◌≡◌, ◌≤◌, length, map, IsTrue, false}
-use Rattle.uimg_tree.specs.Properties.{property}
-use Rattle.uimg_tree.specs.UsingFiles.{UsesFiles}
+use Rattle.uimg_blob_writing.specs.Properties.{property}
+use Rattle.uimg_blob_writing.specs.UsingFiles.{UsesFiles}
 use Rattle.uimg_its.specs.Words.{words}
 use Rattle.uimg_its.specs.Steps.{with_front}
 use Rattle.uimg_its.specs.Parts.{props_in_full}

@@ -1,6 +1,6 @@
 use Rattle.std.proofs.Common.{◌≡◌, ℕ, List, ◌++◌, Some, ap, subst, ◌∙◌}
-use Rattle.uimg_tree.specs.Content.{bytes_in}
-use Rattle.uimg_tree.specs.Properties.{content}
+use Rattle.uimg_blob_writing.specs.Content.{bytes_in}
+use Rattle.uimg_blob_writing.specs.Properties.{content}
 use Rattle.uimg_its.specs.Strings.{string_bytes}
 use Rattle.uimg_its.specs.Words.{words}
 use Rattle.uimg_its.proofs.LoneFile.{lone_value}

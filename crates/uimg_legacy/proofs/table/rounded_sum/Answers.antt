@@ -11,8 +11,8 @@ loop-i-preserved c =
     let bytes = c.args.bytes.now in
     let i = c.loop-i.i in
     let few = length-words bytes in
-    let word = c.up4-rounded.ensures ∙ ap up4 (c.number_at-size.ensures ∙ sym (words-at bytes i (omega arith))) in
-    (omega (arith, up4_bound c.number_at-size.result), omega (arith, word, sum_more (words bytes) i (omega (arith, few.1)), c.loop-i.invariant.1))
+    let word = c.up4-rounded.ensures ∙ ap up4 (c.be32_at-size.ensures ∙ sym (words-at bytes i (omega arith))) in
+    (omega (arith, up4_bound c.be32_at-size.result), omega (arith, word, sum_more (words bytes) i (omega (arith, few.1)), c.loop-i.invariant.1))
 
 pub returns-clause-sum : goal.returns-clause-sum
 returns-clause-sum c =

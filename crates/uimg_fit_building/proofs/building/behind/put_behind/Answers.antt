@@ -1,10 +1,10 @@
 use Rattle.std.proofs.Common.{List, sym, subst}
 use Rattle.std.specs.List.{flat_map}
-use Rattle.uimg_blob.specs.LookUps.{NodeOf}
-use Rattle.uimg_tree.specs.Content.{Content}
-use Rattle.uimg_tree.specs.Pieces.{WritesPieces}
-use Rattle.uimg_tree.specs.Trees.{node_of}
-use Rattle.uimg_tree.proofs.WritesLaws.{◌▶◌, all-put}
+use Rattle.uimg_blob_reading.specs.LookUps.{NodeOf}
+use Rattle.uimg_blob_writing.specs.Content.{Content}
+use Rattle.uimg_blob_writing.specs.Pieces.{WritesPieces}
+use Rattle.uimg_blob_writing.specs.Trees.{node_of}
+use Rattle.uimg_blob_writing.proofs.WritesLaws.{◌▶◌, all-put}
 use Rattle.uimg_fit_base.specs.declared.placement.AlignedPlacement.{AlignedPlacement}
 use Rattle.uimg_fit_building.specs.Behind.{payload_pieces, behind_pieces}
 use Rattle.uimg_fit_building.proofs.building.behind.put_behind.Goals as goal

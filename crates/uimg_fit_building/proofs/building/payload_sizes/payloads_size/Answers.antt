@@ -1,7 +1,7 @@
 use Rattle.std.proofs.Common.{◌≡◌, ◌∷◌, ◌+◌, ◌∙◌, ℕ, List, [], ap, sym, drop, map, refl, arith}
 use Rattle.std.proofs.lemmas.List.{drop_more}
 use Rattle.std.proofs.Math.ListN.{drop_of_length-le}
-use Rattle.uimg_tree.specs.declared.tree.Node.{Node}
+use Rattle.uimg_blob_writing.specs.declared.tree.Node.{Node}
 use Rattle.uimg_fit_building.specs.Behind.{entry, padded_sizes}
 use Rattle.uimg_fit_building.specs.UnreadTrees.{padded_size_of}
 use Rattle.uimg_fit_building.proofs.building.payload_sizes.payloads_size.Goals as goal

@@ -1,10 +1,10 @@
 use Rattle.std.proofs.Common.{◌≡◌, ◌∷◌, ◌+◌, ◌∙◌, List, ap, sym, drop, map}
 use Rattle.std.proofs.lemmas.List.{drop_more}
 use Rattle.std.proofs.Math.ListN.{drop_of_length-le}
-use Rattle.uimg_blob.specs.Plain.{NamedOf}
-use Rattle.uimg_tree.specs.declared.props.Prop.{Prop}
-use Rattle.uimg_tree.specs.Content.{Content}
-use Rattle.uimg_tree.specs.Properties.{property}
+use Rattle.uimg_blob_reading.specs.Plain.{NamedOf}
+use Rattle.uimg_blob_writing.specs.declared.props.Prop.{Prop}
+use Rattle.uimg_blob_writing.specs.Content.{Content}
+use Rattle.uimg_blob_writing.specs.Properties.{property}
 use Rattle.uimg_fit_building.specs.Placing.{is_data, cells}
 use Rattle.uimg_fit_building.specs.UnreadTrees.{unread_own}
 use Rattle.uimg_fit_building.proofs.PlacingLaws.{behind-goes, before-goes, first-goes, no-more, own-placed}

@@ -1,6 +1,6 @@
 use Rattle.std.proofs.Common.{◌≡◌, map, drop}
 use Rattle.std.specs.List.{filter}
-use Rattle.uimg_blob.specs.Roles.{is_hash}
+use Rattle.uimg_blob_reading.specs.Roles.{is_hash}
 use Rattle.uimg_fit_building.specs.Behind.{entry}
 use Rattle.uimg_fit_base.specs.AlgoSets.{no_algos}
 use Rattle.uimg_fit_building.specs.PayloadSums.{all_marked}

@@ -1,5 +1,5 @@
 use Rattle.std.proofs.Common.{rules, ◌∙◌, ap, sym}
-use Rattle.uimg_blob.specs.Roles.{is_hash}
+use Rattle.uimg_blob_reading.specs.Roles.{is_hash}
 use Rattle.uimg_fit_building.specs.Behind.{entry}
 use Rattle.uimg_fit_building.proofs.FilledHashLaws.{on-ok}
 use Rattle.uimg_fit_building.proofs.DigestBytesLaws.{child-zeroed}

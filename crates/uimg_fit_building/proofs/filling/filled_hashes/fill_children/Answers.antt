@@ -1,7 +1,7 @@
 use Rattle.std.proofs.Common.{rules, ◌≡◌, ◌<◌, length, get_or, arith, ap, subst, sym, true, ◌∙◌}
 use Rattle.std.proofs.Math.ListN.{length-set}
-use Rattle.uimg_blob.specs.Roles.{is_hash}
-use Rattle.uimg_tree.specs.declared.tree.Node.{Node}
+use Rattle.uimg_blob_reading.specs.Roles.{is_hash}
+use Rattle.uimg_blob_writing.specs.declared.tree.Node.{Node}
 use Rattle.uimg_fit_building.specs.Behind.{entry}
 use Rattle.uimg_fit_building.specs.ImageFillings.{hashed_in}
 use Rattle.uimg_fit_base.specs.AlgoSets.{set_of}

@@ -1,6 +1,6 @@
 use Rattle.std.proofs.Common.{◌≡◌, ℕ, List, length, map, drop}
 use Rattle.std.specs.List.{filter, AllByRecursion}
-use Rattle.uimg_blob.specs.Roles.{is_hash}
+use Rattle.uimg_blob_reading.specs.Roles.{is_hash}
 use Rattle.uimg_fit_building.specs.Behind.{entry}
 use Rattle.uimg_fit_building.specs.ImageFillings.{hashed_in}
 use Rattle.uimg_fit_base.specs.AlgoSets.{set_of, AreDigests}

@@ -1,13 +1,13 @@
 use Rattle.std.proofs.Common.{◌∙◌, refl, sym, ap, subst, map, Option, Some}
 use Rattle.std.specs.List.{filter, AllByRecursion}
-use Rattle.uimg_blob.specs.Roles.{is_hash}
+use Rattle.uimg_blob_reading.specs.Roles.{is_hash}
 use Rattle.uimg_fit_building.specs.Behind.{entry}
 use Rattle.uimg_fit_building.specs.PayloadSums.{IsCovered}
 use Rattle.std.specs.Bool.{⊤}
 use Rattle.uimg_fit_base.specs.declared.algo_sets.AlgoSet.{AlgoSet}
-use Rattle.uimg_tree.specs.Content.{bytes_in}
-use Rattle.uimg_tree.specs.Properties.{content}
-use Rattle.uimg_tree.specs.Trees.{siblings}
+use Rattle.uimg_blob_writing.specs.Content.{bytes_in}
+use Rattle.uimg_blob_writing.specs.Properties.{content}
+use Rattle.uimg_blob_writing.specs.Trees.{siblings}
 use Rattle.uimg_fit_building.specs.Filling.{each}
 use Rattle.uimg_fit_building.specs.DigestBytes.{zeroed_child}
 use Rattle.uimg_fit_building.proofs.FillOrderLaws.{always}

@@ -1,13 +1,13 @@
 use Rattle.std.proofs.Common.{◌≡◌, ◌≢◌, ◌∙◌, sym, subst, ap, List, [], length, OnOk, arith}
 use Rattle.std.specs.List.{filter}
 use Rattle.std.specs.Bool.{⊤}
-use Rattle.uimg_blob.specs.Plain.{NamedOf}
-use Rattle.uimg_blob.specs.LookUps.{listed}
-use Rattle.uimg_blob.specs.Roles.{is_hash}
-use Rattle.uimg_tree.specs.Content.{Content, Unread, IsKept}
-use Rattle.uimg_tree.specs.Properties.{content}
-use Rattle.uimg_tree.specs.Trees.{siblings}
-use Rattle.uimg_tree.specs.declared.tree.Node.{Node}
+use Rattle.uimg_blob_reading.specs.Plain.{NamedOf}
+use Rattle.uimg_blob_reading.specs.LookUps.{listed}
+use Rattle.uimg_blob_reading.specs.Roles.{is_hash}
+use Rattle.uimg_blob_writing.specs.Content.{Content, Unread, IsKept}
+use Rattle.uimg_blob_writing.specs.Properties.{content}
+use Rattle.uimg_blob_writing.specs.Trees.{siblings}
+use Rattle.uimg_blob_writing.specs.declared.tree.Node.{Node}
 use Rattle.uimg_fit_building.specs.Filling.{without_external, each}
 use Rattle.uimg_fit_building.specs.Behind.{entry}
 use Rattle.uimg_fit_building.specs.ImageFillings.{hashed_in, filled_over, FillsHashes, FillsImage}

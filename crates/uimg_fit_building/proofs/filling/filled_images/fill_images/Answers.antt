@@ -1,7 +1,7 @@
 use Rattle.std.proofs.Common.{rules, ◌≡◌, ◌<◌, ◌∙◌, ℕ, List, Bool, false, Option, Some, None, Err, length, map, set, get_or, arith, ap, refl, subst, sym, IsTrue}
 use Rattle.std.proofs.Math.ListN.{length-set}
 use Rattle.std.specs.Bool.{⊤}
-use Rattle.uimg_tree.specs.declared.tree.Node.{Node}
+use Rattle.uimg_blob_writing.specs.declared.tree.Node.{Node}
 use Rattle.uimg_fit_building.specs.Behind.{entry}
 use Rattle.uimg_fit_building.specs.FillAnswers.{opens_no_file, fails_to_read}
 use Rattle.uimg_fit_building.specs.FillOrder.{IsPassed, IsRefused, FillsInOrder}

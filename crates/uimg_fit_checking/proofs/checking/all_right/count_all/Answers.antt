@@ -1,6 +1,6 @@
 use Rattle.std.proofs.Common.{rules, ℕ, Option, length, subst}
-use Rattle.uimg_blob.specs.LookUps.{hashes}
-use Rattle.uimg_blob.specs.Roles.{in_images}
+use Rattle.uimg_blob_reading.specs.LookUps.{hashes}
+use Rattle.uimg_blob_reading.specs.Roles.{in_images}
 use Rattle.uimg_fit_checking.proofs.CheckCountLaws.{LeftSummed, none_summed, one_summed, all_summed}
 use Rattle.uimg_fit_checking.proofs.checking.all_right.count_all.Goals as goal
 

@@ -1,5 +1,5 @@
 use Rattle.std.proofs.Common.{rules, ◌∙◌, ℕ, Option, not, ap, subst}
-use Rattle.uimg_blob.specs.Roles.{in_images}
+use Rattle.uimg_blob_reading.specs.Roles.{in_images}
 use Rattle.uimg_fit_checking.proofs.CheckCountLaws.{LeftHashed, all_hashed, next_hashed, is_unhashed, none_unhashed}
 use Rattle.uimg_fit_checking.proofs.checking.all_right.first_unhashed.Goals as goal
 

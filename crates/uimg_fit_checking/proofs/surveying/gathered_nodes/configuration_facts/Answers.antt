@@ -1,6 +1,6 @@
 use Rattle.std.proofs.Common.{refl}
-use Rattle.uimg_blob.specs.LookUps.{listed}
-use Rattle.uimg_blob.specs.Roles.{in_configurations}
+use Rattle.uimg_blob_reading.specs.LookUps.{listed}
+use Rattle.uimg_blob_reading.specs.Roles.{in_configurations}
 use Rattle.uimg_fit_checking.proofs.surveying.gathered_nodes.configuration_facts.Goals as goal
 
 pub returns-clause-said : goal.returns-clause-said

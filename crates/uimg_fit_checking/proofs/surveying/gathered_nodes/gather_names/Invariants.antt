@@ -2,10 +2,10 @@ use Rattle.std.proofs.Common.{◌-◌, ◌<◌, ℕ, List, length, IfSome}
 use Rattle.std.specs.List.{All}
 use Rattle.std.specs.Option.{option_map_or}
 use Rattle.uimg_base.specs.declared.spans.Span.{Span}
-use Rattle.uimg_blob.specs.Grammar.{Siblings}
-use Rattle.uimg_blob.specs.LookUps.{NodeOf}
-use Rattle.uimg_blob.specs.Roles.{elsewhere}
-use Rattle.uimg_blob.specs.Spots.{Spot}
+use Rattle.uimg_blob_reading.specs.Grammar.{Siblings}
+use Rattle.uimg_blob_reading.specs.LookUps.{NodeOf}
+use Rattle.uimg_blob_reading.specs.Roles.{elsewhere}
+use Rattle.uimg_blob_reading.specs.Spots.{Spot}
 use Rattle.uimg_fit_reading.specs.Nodes.{InFile, IsRead, AreFrom}
 use Rattle.uimg_fit_checking.specs.Survey.{node_name, read_name}
 use Rattle.uimg_fit_checking.specs.SurveyParts.{NameInside}

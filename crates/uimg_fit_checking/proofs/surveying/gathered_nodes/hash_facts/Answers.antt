@@ -1,5 +1,5 @@
 use Rattle.std.proofs.Common.{refl}
-use Rattle.uimg_blob.specs.Roles.{in_image}
+use Rattle.uimg_blob_reading.specs.Roles.{in_image}
 use Rattle.uimg_fit_reading.proofs.CompareLaws.{keeps_algo, keeps_value}
 use Rattle.uimg_fit_checking.proofs.surveying.gathered_nodes.hash_facts.Goals as goal
 

@@ -1,8 +1,8 @@
 use Rattle.std.proofs.Common.{sym, ap, subst, List}
 use Rattle.uimg_base.specs.declared.spans.Span.{Span}
-use Rattle.uimg_blob.specs.LookUps.{listed}
-use Rattle.uimg_blob.specs.Plain.{NamedOf}
-use Rattle.uimg_blob.specs.Roles.{Level}
+use Rattle.uimg_blob_reading.specs.LookUps.{listed}
+use Rattle.uimg_blob_reading.specs.Plain.{NamedOf}
+use Rattle.uimg_blob_reading.specs.Roles.{Level}
 use Rattle.uimg_fit_checking.specs.FullSurvey.{properties_in, TellsLists}
 use Rattle.uimg_fit_reading.specs.Nodes.{AreFrom}
 use Rattle.uimg_fit_checking.proofs.surveying.listed_properties.configuration_properties.Goals as goal

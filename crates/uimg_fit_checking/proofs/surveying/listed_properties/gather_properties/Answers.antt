@@ -2,11 +2,11 @@ use Rattle.std.proofs.Common.{rules, ◌≡◌, ◌++◌, ◌∷◌, ℕ, List, 
 use Rattle.std.specs.List.{All}
 use Rattle.std.proofs.lemmas.List.Elements.{All-push}
 use Rattle.uimg_base.specs.Held.{Held}
-use Rattle.uimg_blob.specs.declared.places.PropertyPlace.{PropertyPlace}
-use Rattle.uimg_blob.specs.Indexed.{IsIndexed}
-use Rattle.uimg_blob.specs.LookUps.{NodeOf}
-use Rattle.uimg_blob.specs.Roles.{in_configurations}
-use Rattle.uimg_blob.specs.Spots.{Spot}
+use Rattle.uimg_blob_reading.specs.declared.places.PropertyPlace.{PropertyPlace}
+use Rattle.uimg_blob_reading.specs.Indexed.{IsIndexed}
+use Rattle.uimg_blob_reading.specs.LookUps.{NodeOf}
+use Rattle.uimg_blob_reading.specs.Roles.{in_configurations}
+use Rattle.uimg_blob_reading.specs.Spots.{Spot}
 use Rattle.uimg_fit_checking.specs.FullSurvey.{PlacesInside, properties_said, read_properties}
 use Rattle.uimg_fit_reading.specs.Nodes.{AreFrom}
 use Rattle.uimg_fit_reading.proofs.ImageLaws.{front, none_left}

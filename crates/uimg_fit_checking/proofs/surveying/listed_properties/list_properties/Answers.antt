@@ -1,7 +1,7 @@
 use Rattle.std.proofs.Common.{Ok, Err, Global, subst}
-use Rattle.uimg_blob.specs.declared.properties.PropertiesFault.{PropertiesFault}
-use Rattle.uimg_blob.specs.declared.properties.PropertiesFault.TheVariants.{Read, OutOfMemory, Changed}
-use Rattle.uimg_blob.specs.Properties.{places_of, OfRowRead, TellsPlaces}
+use Rattle.uimg_blob_reading.specs.declared.properties.PropertiesFault.{PropertiesFault}
+use Rattle.uimg_blob_reading.specs.declared.properties.PropertiesFault.TheVariants.{Read, OutOfMemory, Changed}
+use Rattle.uimg_blob_reading.specs.Properties.{places_of, OfRowRead, TellsPlaces}
 use Rattle.uimg_fit_checking.proofs.FullSurveyLaws.{list_told}
 use Rattle.uimg_fit_checking.proofs.surveying.listed_properties.list_properties.Goals as goal
 

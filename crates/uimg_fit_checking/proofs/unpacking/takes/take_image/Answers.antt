@@ -2,7 +2,7 @@ use Rattle.std.proofs.Common.{rules, ◌≡◌, ◌≤◌, ◌+◌, ◌∙◌, �
 use Rattle.std.specs.Prelude.{Ok, Err}
 use Rattle.std.specs.Option.{option_map}
 use Rattle.uimg_texts.specs.Slices.{slice}
-use Rattle.uimg_blob.specs.Roles.{in_images}
+use Rattle.uimg_blob_reading.specs.Roles.{in_images}
 use Rattle.uimg_fit_base.specs.Places.{TellsPlace}
 use Rattle.uimg_fit_checking.specs.Unpacking.{is_asked, bytes_of}
 use Rattle.uimg_fit_reading.proofs.OpenedLaws.{still}

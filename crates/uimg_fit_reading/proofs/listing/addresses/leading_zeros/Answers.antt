@@ -1,7 +1,7 @@
 use Rattle.std.proofs.Common.{◌≡◌, ◌≢◌, ◌==◌, ℕ, true, not, length, ap, sym, arith}
 use Rattle.std.proofs.lemmas.Bool.{eqb-true}
 use Rattle.std.proofs.lemmas.List.Sums.{position_or_len_is}
-use Rattle.uimg_blob.proofs.PhaseLaws.{by_bool}
+use Rattle.uimg_blob_reading.proofs.PhaseLaws.{by_bool}
 use Rattle.uimg_fit_reading.proofs.listing.addresses.leading_zeros.Goals as goal
 
 other : (d : ℕ) → d ≢ 48 → not (d == 48) ≡ true

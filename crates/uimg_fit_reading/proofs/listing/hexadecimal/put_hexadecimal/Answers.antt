@@ -5,7 +5,7 @@ use Rattle.uimg_base.specs.Sink.{AppendsAll}
 use Rattle.uimg_base.specs.Writing.{Written}
 use Rattle.uimg_base.proofs.SinkLaws.{Appends-none, all_then}
 use Rattle.uimg_base.proofs.Slices.{slice-add}
-use Rattle.uimg_blob.proofs.TextLaws.{written_all}
+use Rattle.uimg_blob_reading.proofs.TextLaws.{written_all}
 use Rattle.uimg_fit_reading.proofs.PutLaws.{three_parts, stopped}
 use Rattle.uimg_fit_reading.proofs.ShowLaws.{encode_append}
 use Rattle.uimg_fit_reading.proofs.PassedLaws.{failed_of}

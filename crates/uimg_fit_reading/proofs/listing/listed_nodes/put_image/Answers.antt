@@ -2,7 +2,7 @@ use Rattle.std.proofs.Common.{◌++◌, ℕ, Option, refl, is_err, ap, subst, �
 use Rattle.std.specs.List.{flat_map}
 use Rattle.uimg_base.specs.Writing.{Written}
 use Rattle.uimg_fit_reading.specs.Listing.{size_in}
-use Rattle.uimg_blob.specs.LookUps.{hashes}
+use Rattle.uimg_blob_reading.specs.LookUps.{hashes}
 use Rattle.uimg_fit_reading.specs.Listing.{hash_lines}
 use Rattle.uimg_fit_reading.specs.Rows.{image_rows, rows_lines, title}
 use Rattle.uimg_fit_reading.proofs.OpenedLaws.{still}

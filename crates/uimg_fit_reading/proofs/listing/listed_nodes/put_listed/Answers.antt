@@ -1,5 +1,5 @@
 use Rattle.std.proofs.Common.{is_err, sym, subst}
-use Rattle.uimg_fit_reading.specs.declared.listing.listed_nodes.Kind.{Kind}
+use Rattle.uimg_fit_reading.specs.declared.listing.listed_nodes.Listed.{Listed}
 use Rattle.uimg_fit_reading.specs.Allowances.{node_allowance}
 use Rattle.uimg_fit_reading.specs.Nodes.{IsNode}
 use Rattle.uimg_fit_reading.specs.NodeLines.{level_of, node_lines}
@@ -9,11 +9,11 @@ use Rattle.uimg_fit_reading.proofs.listing.listed_nodes.put_listed.Goals as goal
 pub returns-in-Image-clause-told : goal.returns-in-Image-clause-told
 returns-in-Image-clause-told g c = λ t o found n.
     let d = g.S.Source.device c.args.source.now in
-    subst (λ (k : Kind). ListsBetween (is_err c.put_image.result) (node_allowance found) d (g.S.Source.device c.put_image.new.source) c.args.out.now c.put_image.new.out (node_lines d.bytes k c.args.number found))
-    (sym c.in-Image.is) (c.put_image.ensures.told t o found (subst (λ (k : Kind). IsNode t (level_of k) c.args.node found) c.in-Image.is n))
+    subst (λ (k : Listed). ListsBetween (is_err c.put_image.result) (node_allowance found) d (g.S.Source.device c.put_image.new.source) c.args.out.now c.put_image.new.out (node_lines d.bytes k c.args.number found))
+    (sym c.in-Image.is) (c.put_image.ensures.told t o found (subst (λ (k : Listed). IsNode t (level_of k) c.args.node found) c.in-Image.is n))
 
 pub returns-in-Configuration-clause-told : goal.returns-in-Configuration-clause-told
 returns-in-Configuration-clause-told g c = λ t o found n.
     let d = g.S.Source.device c.args.source.now in
-    subst (λ (k : Kind). ListsBetween (is_err c.put_configuration.result) (node_allowance found) d (g.S.Source.device c.put_configuration.new.source) c.args.out.now c.put_configuration.new.out (node_lines d.bytes k c.args.number found))
-    (sym c.in-Configuration.is) (c.put_configuration.ensures.told t o found (subst (λ (k : Kind). IsNode t (level_of k) c.args.node found) c.in-Configuration.is n))
+    subst (λ (k : Listed). ListsBetween (is_err c.put_configuration.result) (node_allowance found) d (g.S.Source.device c.put_configuration.new.source) c.args.out.now c.put_configuration.new.out (node_lines d.bytes k c.args.number found))
+    (sym c.in-Configuration.is) (c.put_configuration.ensures.told t o found (subst (λ (k : Listed). IsNode t (level_of k) c.args.node found) c.in-Configuration.is n))

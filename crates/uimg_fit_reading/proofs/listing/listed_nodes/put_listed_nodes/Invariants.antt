@@ -1,8 +1,8 @@
 use Rattle.std.proofs.Common.{◌≡◌, ◌≤◌, ◌<◌, List, length, IfSome}
 use Rattle.uimg_base.specs.Device.{SameDevice}
-use Rattle.uimg_blob.specs.Grammar.{Siblings}
-use Rattle.uimg_blob.specs.LookUps.{NodeOf}
-use Rattle.uimg_blob.specs.Spots.{Spot}
+use Rattle.uimg_blob_reading.specs.Grammar.{Siblings}
+use Rattle.uimg_blob_reading.specs.LookUps.{NodeOf}
+use Rattle.uimg_blob_reading.specs.Spots.{Spot}
 use Rattle.uimg_fit_reading.specs.Listing.{numbered}
 use Rattle.uimg_fit_reading.specs.NodeLines.{level_of, node_lines}
 use Rattle.uimg_fit_reading.specs.Nodes.{Opened, AreFrom}

@@ -4,7 +4,7 @@ use Rattle.uimg_base.specs.Sink.{AppendsAll}
 use Rattle.uimg_base.specs.Writing.{Written}
 use Rattle.uimg_base.proofs.SinkLaws.{Appends-none, all_then}
 use Rattle.uimg_base.proofs.Slices.{slice-add}
-use Rattle.uimg_blob.proofs.TextLaws.{written_all}
+use Rattle.uimg_blob_reading.proofs.TextLaws.{written_all}
 use Rattle.uimg_fit_reading.specs.declared.listing.lists.Line.{Line}
 use Rattle.uimg_fit_reading.specs.declared.listing.lists.Line.TheVariants.{First}
 use Rattle.uimg_fit_reading.specs.Lists.{emitted, line_after}

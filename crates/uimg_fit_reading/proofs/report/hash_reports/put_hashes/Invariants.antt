@@ -2,9 +2,9 @@ use Rattle.std.proofs.Common.{◌≡◌, ◌-◌, ◌<◌, ℕ, List, length, If
 use Rattle.std.specs.Option.{option_map_or}
 use Rattle.uimg_texts.specs.Slices.{slice}
 use Rattle.uimg_base.specs.Device.{SameDevice}
-use Rattle.uimg_blob.specs.Grammar.{Siblings}
-use Rattle.uimg_blob.specs.LookUps.{NodeOf}
-use Rattle.uimg_blob.specs.Spots.{Spot}
+use Rattle.uimg_blob_reading.specs.Grammar.{Siblings}
+use Rattle.uimg_blob_reading.specs.LookUps.{NodeOf}
+use Rattle.uimg_blob_reading.specs.Spots.{Spot}
 use Rattle.uimg_fit_base.specs.AlgoSets.{set_of, AreDigests}
 use Rattle.uimg_fit_reading.specs.HashReports.{AllCovered}
 use Rattle.uimg_fit_reading.specs.Nodes.{Opened, HashesAt}

@@ -1,9 +1,9 @@
 use Rattle.std.proofs.Common.{rules, refl, ◌∙◌, ◌≡◌, ℕ, List, Option, Some, subst, sym}
 use Rattle.std.specs.Prelude.{Result, Err}
 use Rattle.uimg_base.specs.declared.status.Status.{Status}
-use Rattle.uimg_blob.specs.LookUps.{NodeOf}
-use Rattle.uimg_blob.specs.Roles.{in_images}
-use Rattle.uimg_blob.specs.Spots.{Spot}
+use Rattle.uimg_blob_reading.specs.LookUps.{NodeOf}
+use Rattle.uimg_blob_reading.specs.Roles.{in_images}
+use Rattle.uimg_blob_reading.specs.Spots.{Spot}
 use Rattle.uimg_fit_base.specs.declared.fault.Fault.{Fault}
 use Rattle.uimg_fit_reading.specs.ImageReports.{ImageDone, ImageCut, ReportsImagesBetween}
 use Rattle.uimg_fit_reading.specs.Nodes.{AreFrom}

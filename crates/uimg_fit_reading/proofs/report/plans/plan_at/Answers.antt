@@ -3,7 +3,7 @@ use Rattle.std.specs.Prelude.{◌≡◌, List, ℕ, Option, IfOk, length}
 use Rattle.std.specs.Option.{option_map}
 use Rattle.uimg_texts.specs.Nul.{text}
 use Rattle.uimg_base.specs.declared.spans.Span.{Span}
-use Rattle.uimg_blob.specs.Roles.{in_image}
+use Rattle.uimg_blob_reading.specs.Roles.{in_image}
 use Rattle.uimg_fit_reading.specs.declared.report.plans.Plan.{Plan}
 use Rattle.uimg_fit_base.specs.Files.{bytes_in}
 use Rattle.uimg_fit_reading.specs.Plans.{plan_by_name, plan_of, text_in, word_by}

@@ -4,12 +4,12 @@ use Rattle.uimg_legacy.proofs.unpacking.takes.take_next.Goals as goal
 
 pub returns-then-len-eq0-clause-refused : goal.returns-then-len-eq0-clause-refused
 returns-then-len-eq0-clause-refused g c = λ honest.
-    sym (word_at _ _ _ (c.in_ok-fill_at.ensures.bytes honest)) ∙ sym c.number_at-len.ensures ∙ c.if-len-eq0.true
+    sym (word_at _ _ _ (c.in_ok-fill_at.ensures.bytes honest)) ∙ sym c.be32_at-len.ensures ∙ c.if-len-eq0.true
 
 pub returns-then-len-left-clause-refused : goal.returns-then-len-left-clause-refused
 returns-then-len-left-clause-refused g c = λ honest.
     let word = word_at (g.S.Source.device c.args.source.now).bytes c.fill_at.new.to (64 + 4 * c.args.number) (c.in_ok-fill_at.ensures.bytes honest) in
-    omega (arith, word, c.number_at-len.ensures, c.if-len-left.true, c.requires.place)
+    omega (arith, word, c.be32_at-len.ensures, c.if-len-left.true, c.requires.place)
 
 pub returns-clause-taken : goal.returns-clause-taken
 returns-clause-taken g c =
@@ -17,10 +17,10 @@ returns-clause-taken g c =
     record {
       word = to;
       long = search rules;
-      some = λ e. c.if-len-eq0.false (c.number_at-len.ensures ∙ e);
-      fits = omega (arith, c.number_at-len.ensures, c.if-len-left.false, c.requires.place);
-      place = omega (arith, c.number_at-len.ensures, c.up4.ensures, c.min-all.ensures, c.requires.place);
+      some = λ e. c.if-len-eq0.false (c.be32_at-len.ensures ∙ e);
+      fits = omega (arith, c.be32_at-len.ensures, c.if-len-left.false, c.requires.place);
+      place = omega (arith, c.be32_at-len.ensures, c.up4.ensures, c.min-all.ensures, c.requires.place);
       sizes = c.feed.ensures;
       read = λ honest. c.in_ok-fill_at.ensures.bytes honest;
-      taken = padded_as _ _ g.T.PartTaker.honest c.args.number _ _ _ _ _ _ _ _ _ _ _ c.fill_at.ensures.same c.is_asked-asked.ensures c.number_at-len.ensures (omega arith) c.in_ok-take_padded.ensures.taken;
+      taken = padded_as _ _ g.T.PartTaker.honest c.args.number _ _ _ _ _ _ _ _ _ _ _ c.fill_at.ensures.same c.is_asked-asked.ensures c.be32_at-len.ensures (omega arith) c.in_ok-take_padded.ensures.taken;
     }

@@ -1,7 +1,0 @@
--- The result of reading, or the first fault with its offset from the start of the file.
-use Rattle.std.specs.Prelude.{ℕ}
-use Rattle.uimg_blob.specs.declared.fault.BlobFault.{BlobFault}
-
--- a fault and its offset
-abbrev pub Fault : Type 0
-Fault = BlobFault × ℕ

@@ -1,0 +1,235 @@
+-- The first node of a role is the root's first child of a name.
+use Rattle.std.proofs.Common.{◌≡◌, ◌+◌, ℕ, suc, List, [], ◌∷◌, ◌++◌, length, Option, Some, None, Bool, true, false, ◌||◌, if◌then◌else◌, refl, ap, sym, ◌∙◌, arith}
+use Rattle.std.specs.Option.{option_or}
+use Rattle.std.specs.Prelude.{not, codes}
+use Rattle.std.proofs.lemmas.Slice.Eq.{bytes_eq-Decides}
+use Rattle.uimg_blob_reading.specs.declared.roles.Role.{Role}
+use Rattle.uimg_blob_reading.specs.declared.roles.Role.TheVariants.{Root, Hash, Other}
+use Rattle.uimg_blob_reading.specs.Grammar.{Siblings, none, node}
+use Rattle.uimg_blob_reading.specs.Rows.{size, number_named, child_number}
+use Rattle.uimg_blob_reading.specs.Roles.{Level, top, in_root, in_images, in_image, in_configurations, elsewhere, role_at, root_child, level_in, level_after, is_images, is_configurations, is_hash, is_images_role, is_configurations_role}
+use Rattle.uimg_blob_reading.specs.Walk.{Open, opened, as_node}
+use Rattle.uimg_blob_reading.specs.Kept.{Kept, kept, kept_of, number_of_role}
+use Rattle.uimg_blob_reading.proofs.SoFarLaws.{length_kept}
+use Rattle.uimg_blob_reading.proofs.PhaseLaws.{true_false, by_bool}
+use Rattle.uimg_blob_reading.proofs.NoteLaws.{first_or, hash_images, hash_configurations}
+
+number_append : (is_it : Role → Bool) (j : ℕ) (a b : List Kept) → number_of_role is_it j (a ++ b) ≡ option_or (number_of_role is_it j a) (number_of_role is_it (j + length a) b)
+number_append is_it j [] b = let e : j ≡ j + 0 = omega arith in ap (λ (n : ℕ). number_of_role is_it n b) e
+number_append is_it j (k ∷ a) b =
+    let e : j + 1 + length a ≡ j + suc (length a) = omega arith in
+    first_or (is_it k.role) j (number_of_role is_it (j + 1) a) (number_of_role is_it (j + 1) (a ++ b)) (number_of_role is_it (j + suc (length a)) b)
+    (number_append is_it (j + 1) a b ∙ ap (λ (n : ℕ). option_or (number_of_role is_it (j + 1) a) (number_of_role is_it n b)) e)
+
+-- A role, and the levels where none has it.
+pub record Rare (is_it : Role → Bool) (gives : Level → Bool) : Type 0 where
+  pub here : (level : Level) (name : List ℕ) → gives level ≡ false → is_it (role_at level name) ≡ false
+  pub below : (level : Level) (name : List ℕ) → gives level ≡ false → gives (level_in (role_at level name)) ≡ false
+  pub past : (level : Level) (name : List ℕ) → gives level ≡ false → gives (level_after level name) ≡ false
+
+none_below : (is_it : Role → Bool) (gives : Level → Bool) → Rare is_it gives → (level : Level) (parent : Option ℕ) (i j : ℕ) (t : Siblings) → gives level ≡ false
+    → number_of_role is_it j (kept level parent i t) ≡ None
+unfolding kept
+none_below is_it gives rare level parent i j none h = refl
+none_below is_it gives rare level parent i j (node at name own below after) h =
+    let under : List Kept = kept (level_in (role_at level name)) (Some i) (i + 1) below in
+    let more : List Kept = kept (level_after level name) parent (i + (1 + size below)) after in
+    ap (λ (b : Bool). if b then Some j else number_of_role is_it (j + 1) (under ++ more)) (rare.here level name h)
+    ∙ number_append is_it (j + 1) under more
+    ∙ ap (λ (o : Option ℕ). option_or o (number_of_role is_it (j + 1 + length under) more))
+    (none_below is_it gives rare (level_in (role_at level name)) (Some i) (i + 1) (j + 1) below (rare.below level name h))
+    ∙ none_below is_it gives rare (level_after level name) parent (i + (1 + size below)) (j + 1 + length under) after (rare.past level name h)
+
+-- Where the first node of a role may stand: among the root's children, at that of a name.
+pub record FirstOf (is_it : Role → Bool) (gives : Level → Bool) (named : List ℕ → Bool) (level : Bool → Level) : Type 0 where
+  pub rare : Rare is_it gives
+  pub is : (other : Bool) (name : List ℕ) → named name ≡ true → is_it (role_at (level other) name) ≡ true
+  pub differs : (other : Bool) (name : List ℕ) → named name ≡ false → is_it (role_at (level other) name) ≡ false
+  pub past : (other : Bool) (name : List ℕ) → named name ≡ false → (more : Bool) × (level_after (level other) name ≡ level more)
+  pub under : (other : Bool) (name : List ℕ) → gives (level_in (role_at (level other) name)) ≡ false
+
+first_is : (is_it : Role → Bool) (gives : Level → Bool) (named : List ℕ → Bool) (level : Bool → Level) → FirstOf is_it gives named level
+    → (other : Bool) (parent : Option ℕ) (i : ℕ) (t : Siblings) → number_of_role is_it i (kept (level other) parent i t) ≡ number_named named i t
+unfolding kept number_named
+first_is is_it gives named level f other parent i none = refl
+first_is is_it gives named level f other parent i (node at name own below after) =
+    let under : List Kept = kept (level_in (role_at (level other) name)) (Some i) (i + 1) below in
+    let more : List Kept = kept (level_after (level other) name) parent (i + (1 + size below)) after in
+    by_bool (named name)
+    (λ yes_named. ap (λ (b : Bool). if b then Some i else number_of_role is_it (i + 1) (under ++ more)) (f.is other name yes_named)
+    ∙ sym (ap (λ (b : Bool). if b then Some i else number_named named (i + (1 + size below)) after) yes_named))
+    (λ not_named.
+    let next = f.past other name not_named in
+    let place : i + 1 + length under ≡ i + (1 + size below) = omega (arith, length_kept (level_in (role_at (level other) name)) (Some i) (i + 1) below) in
+    ap (λ (b : Bool). if b then Some i else number_of_role is_it (i + 1) (under ++ more)) (f.differs other name not_named)
+    ∙ number_append is_it (i + 1) under more
+    ∙ ap (λ (o : Option ℕ). option_or o (number_of_role is_it (i + 1 + length under) more))
+    (none_below is_it gives f.rare (level_in (role_at (level other) name)) (Some i) (i + 1) (i + 1) below (f.under other name))
+    ∙ ap (λ (n : ℕ). number_of_role is_it n more) place
+    ∙ ap (λ (l : Level). number_of_role is_it (i + (1 + size below)) (kept l parent (i + (1 + size below)) after)) next.1
+    ∙ first_is is_it gives named level f next.0 parent (i + (1 + size below)) after
+    ∙ sym (ap (λ (b : Bool). if b then Some i else number_named named (i + (1 + size below)) after) not_named))
+
+root_first : (is_it : Role → Bool) (gives : Level → Bool) (named : List ℕ → Bool) (level : Bool → Level) → FirstOf is_it gives named level
+    → is_it Root ≡ false → level false ≡ in_root false false → (o : Open) → number_of_role is_it 0 (kept_of (as_node o)) ≡ child_number named (as_node o)
+unfolding kept
+root_first is_it gives named level f apart start (opened at name own below) =
+    let under : List Kept = kept (in_root false false) (Some 0) 1 below in
+    ap (λ (b : Bool). if b then Some 0 else number_of_role is_it 1 (under ++ [])) apart
+    ∙ number_append is_it 1 under []
+    ∙ or_nothing (number_of_role is_it 1 under)
+    ∙ ap (λ (l : Level). number_of_role is_it 1 (kept l (Some 0) 1 below)) (sym start)
+    ∙ first_is is_it gives named level f false (Some 0) 1 below
+  where
+    or_nothing : (x : Option ℕ) → option_or x None ≡ x
+    or_nothing None = refl
+    or_nothing (Some i) = refl
+
+-- the root alone, and its children before the first of the name
+abbrev gives_images : Level → Bool
+gives_images top = true
+gives_images (in_root had_images had_configurations) = not had_images
+gives_images in_images = false
+gives_images in_image = false
+gives_images in_configurations = false
+gives_images elsewhere = false
+
+abbrev gives_configurations : Level → Bool
+gives_configurations top = true
+gives_configurations (in_root had_images had_configurations) = not had_configurations
+gives_configurations in_images = false
+gives_configurations in_image = false
+gives_configurations in_configurations = false
+gives_configurations elsewhere = false
+
+root_other_images : (hi hc a b : Bool) → not hi ≡ false → is_images_role (root_child hi hc a b) ≡ false
+root_other_images true hc true b h = refl
+root_other_images false hc true b h = absurd (true_false h)
+root_other_images hi true false true h = refl
+root_other_images hi false false true h = refl
+root_other_images hi hc false false h = refl
+
+root_other_configurations : (hi hc a b : Bool) → not hc ≡ false → is_configurations_role (root_child hi hc a b) ≡ false
+root_other_configurations true hc true b h = refl
+root_other_configurations false hc true b h = refl
+root_other_configurations hi true false true h = refl
+root_other_configurations hi false false true h = absurd (true_false h)
+root_other_configurations hi hc false false h = refl
+
+in_child_images : (hi hc a b : Bool) → gives_images (level_in (root_child hi hc a b)) ≡ false
+in_child_images true hc true b = refl
+in_child_images false hc true b = refl
+in_child_images hi true false true = refl
+in_child_images hi false false true = refl
+in_child_images hi hc false false = refl
+
+in_child_configurations : (hi hc a b : Bool) → gives_configurations (level_in (root_child hi hc a b)) ≡ false
+in_child_configurations true hc true b = refl
+in_child_configurations false hc true b = refl
+in_child_configurations hi true false true = refl
+in_child_configurations hi false false true = refl
+in_child_configurations hi hc false false = refl
+
+hash_in_images : (b : Bool) → gives_images (level_in (if b then Hash else Other)) ≡ false
+hash_in_images true = refl
+hash_in_images false = refl
+
+hash_in_configurations : (b : Bool) → gives_configurations (level_in (if b then Hash else Other)) ≡ false
+hash_in_configurations true = refl
+hash_in_configurations false = refl
+
+still_had : (a b : Bool) → not a ≡ false → not (a || b) ≡ false
+still_had true b h = h
+still_had false b h = absurd (true_false h)
+
+images_here : (level : Level) (name : List ℕ) → gives_images level ≡ false → is_images_role (role_at level name) ≡ false
+images_here top name h = absurd (true_false h)
+images_here (in_root hi hc) name h = root_other_images hi hc (is_images name) (is_configurations name) h
+images_here in_images name h = refl
+images_here in_image name h = hash_images (is_hash name)
+images_here in_configurations name h = refl
+images_here elsewhere name h = refl
+
+images_below : (level : Level) (name : List ℕ) → gives_images level ≡ false → gives_images (level_in (role_at level name)) ≡ false
+images_below top name h = absurd (true_false h)
+images_below (in_root hi hc) name h = in_child_images hi hc (is_images name) (is_configurations name)
+images_below in_images name h = refl
+images_below in_image name h = hash_in_images (is_hash name)
+images_below in_configurations name h = refl
+images_below elsewhere name h = refl
+
+images_past : (level : Level) (name : List ℕ) → gives_images level ≡ false → gives_images (level_after level name) ≡ false
+images_past top name h = absurd (true_false h)
+images_past (in_root hi hc) name h = still_had hi (is_images name) h
+images_past in_images name h = refl
+images_past in_image name h = refl
+images_past in_configurations name h = refl
+images_past elsewhere name h = refl
+
+configurations_here : (level : Level) (name : List ℕ) → gives_configurations level ≡ false → is_configurations_role (role_at level name) ≡ false
+configurations_here top name h = absurd (true_false h)
+configurations_here (in_root hi hc) name h = root_other_configurations hi hc (is_images name) (is_configurations name) h
+configurations_here in_images name h = refl
+configurations_here in_image name h = hash_configurations (is_hash name)
+configurations_here in_configurations name h = refl
+configurations_here elsewhere name h = refl
+
+configurations_below : (level : Level) (name : List ℕ) → gives_configurations level ≡ false → gives_configurations (level_in (role_at level name)) ≡ false
+configurations_below top name h = absurd (true_false h)
+configurations_below (in_root hi hc) name h = in_child_configurations hi hc (is_images name) (is_configurations name)
+configurations_below in_images name h = refl
+configurations_below in_image name h = hash_in_configurations (is_hash name)
+configurations_below in_configurations name h = refl
+configurations_below elsewhere name h = refl
+
+configurations_past : (level : Level) (name : List ℕ) → gives_configurations level ≡ false → gives_configurations (level_after level name) ≡ false
+configurations_past top name h = absurd (true_false h)
+configurations_past (in_root hi hc) name h = still_had hc (is_configurations name) h
+configurations_past in_images name h = refl
+configurations_past in_image name h = refl
+configurations_past in_configurations name h = refl
+configurations_past elsewhere name h = refl
+
+named_images : (hc a b : Bool) → a ≡ true → is_images_role (root_child false hc a b) ≡ true
+named_images hc true b h = refl
+named_images hc false b h = absurd (true_false (sym h))
+
+other_images : (hc a b : Bool) → a ≡ false → is_images_role (root_child false hc a b) ≡ false
+other_images hc true b h = absurd (true_false h)
+other_images true false true h = refl
+other_images false false true h = refl
+other_images hc false false h = refl
+
+named_configurations : (hi a b : Bool) → a ≡ false → b ≡ true → is_configurations_role (root_child hi false a b) ≡ true
+named_configurations hi true b h is = absurd (true_false h)
+named_configurations hi false true h is = refl
+named_configurations hi false false h is = absurd (true_false (sym is))
+
+other_configurations : (hi a b : Bool) → b ≡ false → is_configurations_role (root_child hi false a b) ≡ false
+other_configurations true true b h = refl
+other_configurations false true b h = refl
+other_configurations hi false true h = absurd (true_false h)
+other_configurations hi false false h = refl
+
+configurations_not : (name : List ℕ) → is_configurations name ≡ true → is_images name ≡ false
+configurations_not name h = ap is_images ((bytes_eq-Decides name (codes "configurations")).0 h)
+
+-- the node `images`
+pub images_number : (o : Open) → number_of_role is_images_role 0 (kept_of (as_node o)) ≡ child_number is_images (as_node o)
+images_number o = root_first is_images_role gives_images is_images (λ other. in_root false other) (record {
+  rare = record { here = images_here; below = images_below; past = images_past };
+  is = λ other name h. named_images other (is_images name) (is_configurations name) h;
+  differs = λ other name h. other_images other (is_images name) (is_configurations name) h;
+  past = λ other name h. (other || is_configurations name, ap (λ (b : Bool). in_root (false || b) (other || is_configurations name)) h);
+  under = λ other name. in_child_images false other (is_images name) (is_configurations name);
+}) refl refl o
+
+-- the node `configurations`
+pub configurations_number : (o : Open) → number_of_role is_configurations_role 0 (kept_of (as_node o)) ≡ child_number is_configurations (as_node o)
+configurations_number o = root_first is_configurations_role gives_configurations is_configurations (λ other. in_root other false) (record {
+  rare = record { here = configurations_here; below = configurations_below; past = configurations_past };
+  is = λ other name h. named_configurations other (is_images name) (is_configurations name) (configurations_not name h) h;
+  differs = λ other name h. other_configurations other (is_images name) (is_configurations name) h;
+  past = λ other name h. (other || is_images name, ap (λ (b : Bool). in_root (other || is_images name) (false || b)) h);
+  under = λ other name. in_child_configurations other false (is_images name) (is_configurations name);
+}) refl refl o

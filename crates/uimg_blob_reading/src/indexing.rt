@@ -1,0 +1,109 @@
+//! The pass over the tokens that gives each node an entry.
+
+ghost use Rattle.std.specs.Prelude.{◌≡◌, [], ◌+◌, ◌*◌, ◌^◌, ◌<◌, ◌≤◌, max, length, IfOk, IsTrue, false};
+ghost use Rattle.uimg_base.specs.Device.{RisesIf};
+ghost use Rattle.uimg_base.specs.Using.{Uses};
+ghost use Rattle.uimg_texts.specs.Numbers.{be32};
+ghost use Rattle.uimg_blob_reading.specs.Counts.{index_cost, nodes_met};
+ghost use Rattle.uimg_blob_reading.specs.Extents.{IsInside};
+ghost use Rattle.uimg_blob_reading.specs.Faults.{is_read, is_out_of_memory, is_of_making};
+ghost use Rattle.uimg_blob_reading.specs.Indexed.{Finds, AsksWithin, KeepsWithin, TakesWithin, IndexesTree, LeavesPrefix, LeavesSoFar};
+ghost use Rattle.uimg_blob_reading.specs.Acting.{Suits, TakesStep, GoesOver};
+
+use crate::extent::{Extent, read_extent};
+use crate::fault::IndexFault;
+use crate::nodes::Blob;
+use crate::states::{State, act, is_done};
+use crate::tokens::read_token;
+use std::alloc::Allocator;
+use uimg_base::{Room, Source};
+
+// Reads a token and acts on it. Returns `None` if it ends the tree.
+fn step<S: Source, A: Allocator>(
+    source: &mut S,
+    room: &mut Room<A>,
+    extent: Extent,
+    state: State,
+) -> Result<Option<State>, IndexFault>
+    requires inside { IsInside extent (length (S.device source.old).bytes) }
+    requires place { state.at < 2 ^ 40 }
+    requires suits { Suits state room.old.entries }
+    ensures { TakesStep extent state result (S.device source.old) (S.device source.new)
+        room.old room.new }
+{
+    let token = read_token(source, room, extent, state.at)?;
+    if is_done(room, state, token) {
+        return Ok(None);
+    }
+    let next = act(room, state, token)?;
+    Ok(Some(next))
+}
+
+// Reads the tokens of the structure block up to the last, or up to the first fault.
+fn pass<S: Source, A: Allocator>(
+    source: &mut S,
+    room: &mut Room<A>,
+    extent: Extent,
+) -> Result<State, IndexFault>
+    requires inside { IsInside extent (length (S.device source.old).bytes) }
+    requires empty { room.old.entries ≡ [] }
+    ensures { GoesOver extent result (S.device source.old) (S.device source.new) room.old room.new }
+{
+    let mut state = State {
+        at: extent.structure,
+        current: None,
+        images: None,
+        configurations: None,
+    };
+    while let Some(next) = step(source, room, extent, state)? {
+        state = next;
+    }
+    Ok(state)
+}
+
+/// Indexes the devicetree blob of a source (Devicetree Specification, chapter 5). Clears the room,
+/// then adds one entry for each node, in reading order.
+///
+/// Returns the first fault in byte order, with its offset from the start of the file: of the header
+/// (`TooShort`, `BadMagic`, `BadVersion`, `BlockOutside`), then of the tokens (`BadToken`,
+/// `Truncated`, `BadNodeName`, `BadNesting`, `BadPropertyName`). Returns `OutOfMemory` if and only
+/// if the room refused to grow, with the offset of the node that got no entry. Returns `Read` if
+/// and only if a read failed. Never returns `TooLarge`, a fault of building.
+///
+/// At `Ok` each name and value ends inside the blob, and the blob inside the source, whatever the
+/// source returns. Over an honest source, blob and entries are those of the file's tree, and the
+/// blob has the size in its header. After a refusal over an honest source, the entries are those of
+/// the nodes met before it, each with what was met of it; after a refused header there are none. At
+/// which token a read failed is only tested.
+///
+/// No value is read. Of an honest source it requests at most 44 bytes, 264 for each node met, 268
+/// for each property and 4 for each NOP. The room takes memory for at most these nodes, and over
+/// any source at most 8320 bytes and 16 for each byte of the source.
+pub fn index<S: Source, A: Allocator>(
+    source: &mut S,
+    room: &mut Room<A>,
+) -> Result<Blob, IndexFault>
+    ensures uses { Uses (is_read result) (S.device source.old) (S.device source.new) }
+    ensures refused { RisesIf (is_out_of_memory result) room.old.refused room.new.refused }
+    ensures asked { AsksWithin index_cost (S.device source.old) (S.device source.new) }
+    ensures nodes { KeepsWithin nodes_met (S.device source.old) room.new }
+    ensures peak { TakesWithin nodes_met (S.device source.old) room.old room.new }
+    ensures most { room.new.peak ≤ max room.old.peak
+        (8320 + 16 * length (S.device source.old).bytes) }
+    ensures prefix { LeavesPrefix (S.device source.old) result room.new.entries }
+    ensures so_far { LeavesSoFar (S.device source.old) result room.new.entries }
+    ensures no_making { is_of_making result ≡ false }
+    ensures found { IfOk result (λ blob. Finds (S.device source.old) blob room.new.entries) }
+    ensures indexes { IndexesTree (S.device source.old) result room.new.entries }
+    ensures totalsize { IsTrue (S.device source.old).honest →
+        IfOk result (λ blob. blob.totalsize ≡ be32 (S.device source.old).bytes 4) }
+{
+    room.clear();
+    let extent = read_extent(source)?;
+    let state = pass(source, room, extent)?;
+    Ok(Blob {
+        totalsize: extent.totalsize as u32,
+        images: state.images,
+        configurations: state.configurations,
+    })
+}

@@ -1,0 +1,33 @@
+//! Flattened devicetree blobs: the header, the tokens of the structure block, the index of nodes.
+//!
+//! The index is made in one pass. Lemmas prove that this pass follows the grammar
+//! (`proofs/WalkLaws.antt`), what it costs (`CostLaws`), that a node's properties are those after
+//! its name (`OwnLaws`), and that the first node of the role `images` or `configurations` is the
+//! root's first child of that name (`NumberedLaws`). `Examples` has worked blobs.
+#![tactic(auto)]
+
+mod entries;
+mod extent;
+mod fault;
+mod indexing;
+mod keys;
+mod labels;
+mod nodes;
+mod places;
+mod properties;
+mod reads;
+mod roles;
+pub mod samples;
+mod slots;
+mod states;
+mod texts;
+mod tokens;
+
+pub use extent::BLOB_MAGIC;
+pub use fault::{BlobFault, IndexFault};
+pub use indexing::index;
+pub use keys::Key;
+pub use nodes::Blob;
+pub use places::PropertyPlace;
+pub use properties::{PropertiesFault, properties_of};
+pub use texts::{put_text, short_text};

@@ -1,0 +1,123 @@
+-- The pieces of a tree are its blob.
+use Rattle.std.proofs.Common.{◌≡◌, ◌+◌, ◌++◌, ℕ, List, [], ◌∷◌, length, map, replicate, Option, refl, ap, sym, ◌∙◌, append_assoc, append-nil, length-append, arith}
+use Rattle.std.specs.List.{flat_map, AllByRecursion}
+use Rattle.uimg_blob_reading.specs.Plain.{NamedOf, no_node, a_node, with_value, with_values, AllValues}
+use Rattle.uimg_blob_writing.specs.Content.{Content, Unread, bytes, size_of, bytes_in, in_full, IsKept, AreKept}
+use Rattle.uimg_blob_writing.specs.Alignment.{padding_by}
+use Rattle.uimg_blob_writing.specs.Encoding.{word, padded, header, strings, blob_size, blob, encode_by, ended, names_of, name_offset, property_bytes, nodes_bytes}
+use Rattle.uimg_blob_writing.specs.Layouts.{nodes_size, plan_of}
+use Rattle.uimg_blob_writing.specs.Pieces.{padding, begin_bytes, head_bytes, property_pieces, nodes_pieces, blob_pieces}
+use Rattle.uimg_blob_writing.proofs.SizeLaws.{kept-size, length-nodes, names_of-values}
+use Rattle.uimg_blob_writing.proofs.WritesLaws.{all-first, all-second, all-both, flat_map-both}
+
+-- a fact that is true of bytes is one of all values where it is one of all pieces
+module _ (P : Content → Type 0) (of-bytes : (b : List ℕ) → P (bytes b)) (names : List (List ℕ)) where
+  own-pieces : (own : List (NamedOf Content)) → AllByRecursion (λ p. P p.value) own → AllByRecursion P (flat_map (property_pieces names) own)
+  unfolding property_pieces
+  own-pieces [] h = tt
+  own-pieces (p ∷ own) h = (of-bytes _, (h.0, (of-bytes _, own-pieces own h.1)))
+
+  own-values : (own : List (NamedOf Content)) → AllByRecursion P (flat_map (property_pieces names) own) → AllByRecursion (λ p. P p.value) own
+  unfolding property_pieces
+  own-values [] h = tt
+  own-values (p ∷ own) h = (h.1.0, own-values own h.1.1.1)
+
+  all-pieces : (t : Unread) → AllValues P t → AllByRecursion P (nodes_pieces names t)
+  unfolding nodes_pieces
+  all-pieces no_node h = tt
+  all-pieces (a_node name own below after) h = (
+    of-bytes _,
+    all-both P (flat_map (property_pieces names) own) _ (own-pieces own h.0)
+        (all-both P (nodes_pieces names below) _ (all-pieces below h.1) (of-bytes _, all-pieces after h.2)),
+  )
+
+  all-values : (t : Unread) → AllByRecursion P (nodes_pieces names t) → AllValues P t
+  unfolding nodes_pieces
+  all-values no_node h = tt
+  all-values (a_node name own below after) h =
+      let own_pieces = flat_map (property_pieces names) own in
+      let below_pieces = nodes_pieces names below in
+      let end : List Content = bytes (word 2) ∷ nodes_pieces names after in
+      let rest = all-second P own_pieces (below_pieces ++ end) h.1 in
+      (own-values own (all-first P own_pieces (below_pieces ++ end) h.1), all-values below (all-first P below_pieces end rest), all-values after (all-second P below_pieces end rest).1)
+
+module _ (P : Content → Type 0) (of-bytes : (b : List ℕ) → P (bytes b)) (align : ℕ) (t : Unread) where
+  pub blob-holds : AllValues P t → AllByRecursion P (blob_pieces (plan_of align t) t)
+  unfolding blob_pieces
+  blob-holds h = (of-bytes _, all-both P (nodes_pieces (names_of t) t) _ (all-pieces P of-bytes (names_of t) t h) (of-bytes _, (of-bytes _, (of-bytes _, tt))))
+
+  pub blob-held : AllByRecursion P (blob_pieces (plan_of align t) t) → AllValues P t
+  unfolding blob_pieces
+  blob-held h = all-values P of-bytes (names_of t) t (all-first P (nodes_pieces (names_of t) t) _ h.1)
+
+module _ (files : List ℕ → Option (List ℕ)) where
+  abbrev joined : List Content → List ℕ
+  joined pieces = flat_map (bytes_in files) pieces
+
+  own-bytes : (names : List (List ℕ)) (own : List (NamedOf Content)) → AllByRecursion (λ p. IsKept files p.value) own
+      → joined (flat_map (property_pieces names) own) ≡ flat_map (property_bytes names) (map (with_value (bytes_in files)) own)
+  unfolding property_pieces property_bytes
+  own-bytes names [] kept = refl
+  own-bytes names (p ∷ own) kept =
+      let value = bytes_in files p.value in
+      let offset = name_offset names p.name in
+      let sized : ℕ → List ℕ = λ n. head_bytes n offset ++ (value ++ (padding n ++ flat_map (property_bytes names) (map (with_value (bytes_in files)) own))) in
+      let rest = own-bytes names own kept.1 in
+      ap (λ (w : List ℕ). head_bytes (size_of p.value) offset ++ (value ++ (padding (size_of p.value) ++ w))) rest
+      ∙ ap sized (sym (kept-size files p.value kept.0))
+      ∙ ap (λ (w : List ℕ). head_bytes (length value) offset ++ w) (sym (append_assoc value (padding (length value)) (flat_map (property_bytes names) (map (with_value (bytes_in files)) own))))
+
+  right : (a c d e f g : List ℕ) → a ++ c ++ d ++ e ++ f ++ g ≡ a ++ (c ++ (d ++ (e ++ (f ++ g))))
+  right a c d e f g = simp append_assoc
+
+  pub nodes-joined : (names : List (List ℕ)) (t : Unread) → AreKept files t → joined (nodes_pieces names t) ≡ nodes_bytes names (in_full files t)
+  unfolding nodes_pieces nodes_bytes with_values
+  nodes-joined names no_node kept = refl
+  nodes-joined names (a_node name own below after) kept =
+      let own_pieces = flat_map (property_pieces names) own in
+      let below_pieces = nodes_pieces names below in
+      let end : List Content = bytes (word 2) ∷ nodes_pieces names after in
+      let own_bytes = flat_map (property_bytes names) (map (with_value (bytes_in files)) own) in
+      let below_bytes = nodes_bytes names (in_full files below) in
+      let after_bytes = nodes_bytes names (in_full files after) in
+      let rest : joined (own_pieces ++ (below_pieces ++ end)) ≡ own_bytes ++ (below_bytes ++ (word 2 ++ after_bytes)) =
+      flat_map-both (bytes_in files) own_pieces (below_pieces ++ end)
+      ∙ ap (λ (w : List ℕ). w ++ joined (below_pieces ++ end)) (own-bytes names own kept.0)
+      ∙ ap (λ (w : List ℕ). own_bytes ++ w) (flat_map-both (bytes_in files) below_pieces end
+      ∙ ap (λ (w : List ℕ). w ++ (word 2 ++ joined (nodes_pieces names after))) (nodes-joined names below kept.1)
+      ∙ ap (λ (w : List ℕ). below_bytes ++ (word 2 ++ w)) (nodes-joined names after kept.2)) in
+      ap (λ (w : List ℕ). begin_bytes name ++ w) rest
+      ∙ sym (right (word 1) (padded (ended name)) own_bytes below_bytes (word 2) after_bytes)
+
+  -- the pieces of a blob
+  blob-whole : (align : ℕ) (nodes strings : List ℕ) (size strings_size : ℕ) → length nodes + 4 ≡ size → length strings ≡ strings_size →
+      (header (blob_size align size strings_size) size strings_size ++ replicate 16 0) ++ nodes ++ word 9 ++ strings ++ padding_by align (56 + size + strings_size) ≡ blob align (nodes ++ word 9) strings
+  unfolding blob
+  blob-whole align nodes strings size strings_size e f =
+      let header_by : ℕ → ℕ → List ℕ = λ a b. header (blob_size align a b) a b in
+      let s = nodes ++ word 9 in
+      let len : size ≡ length s = omega (arith, length-append nodes (word 9)) in
+      let front = header_by (length s) (length strings) ++ replicate 16 0 in
+      let n : 56 + size + strings_size ≡ length (front ++ s ++ strings) = omega (arith, len, length-append s strings) in
+      ap (λ (k : ℕ). (header_by size strings_size ++ replicate 16 0) ++ nodes ++ word 9 ++ strings ++ padding_by align k) n
+      ∙ ap (λ (k : ℕ). (header_by k strings_size ++ replicate 16 0) ++ nodes ++ word 9 ++ strings ++ padding_by align (length (front ++ s ++ strings))) len
+      ∙ ap (λ (k : ℕ). (header_by (length s) k ++ replicate 16 0) ++ nodes ++ word 9 ++ strings ++ padding_by align (length (front ++ s ++ strings))) (sym f)
+      ∙ ap (λ (w : List ℕ). w ++ strings ++ padding_by align (length (front ++ s ++ strings))) (append_assoc front nodes (word 9))
+
+  nest : (a b c d e : List ℕ) → a ++ (b ++ (c ++ (d ++ (e ++ [])))) ≡ a ++ b ++ c ++ d ++ e
+  nest a b c d e = simp (append_assoc, append-nil)
+
+  pub blob-joined : (align : ℕ) (t : Unread) → AreKept files t → joined (blob_pieces (plan_of align t) t) ≡ encode_by align (in_full files t)
+  unfolding blob_pieces
+  blob-joined align t kept =
+      let names = names_of t in
+      let u = in_full files t in
+      let nodes = nodes_bytes names u in
+      let size = nodes_size t + 4 in
+      let begin = header (blob_size align size (length (strings names))) size (length (strings names)) ++ replicate 16 0 in
+      let end : List Content = bytes (word 9) ∷ bytes (strings names) ∷ bytes (padding_by align (56 + size + length (strings names))) ∷ [] in
+      let sized : length nodes + 4 ≡ size = ap (λ (n : ℕ). n + 4) (length-nodes files names t kept) in
+      ap (λ (w : List ℕ). begin ++ w) (flat_map-both (bytes_in files) (nodes_pieces names t) end ∙ ap (λ (w : List ℕ). w ++ joined end) (nodes-joined names t kept))
+      ∙ nest begin nodes (word 9) (strings names) (padding_by align (56 + size + length (strings names)))
+      ∙ blob-whole align nodes (strings names) size (length (strings names)) sized refl
+      ∙ ap (λ (ns : List (List ℕ)). blob align (nodes_bytes ns u ++ word 9) (strings ns)) (sym (names_of-values (bytes_in files) t))

@@ -1,0 +1,57 @@
+-- Trees whose files are not read yet.
+use Rattle.std.specs.Prelude.{◌≡◌, ℕ, suc, ◌+◌, List, [], length, Option, Some, unwrap_or, ⊤, codes}
+use Rattle.std.specs.List.{AllByRecursion}
+use Rattle.uimg_blob_reading.specs.Plain.{NodesOf, Nodes, no_node, a_node, with_values, AllValues}
+
+-- The value of a property: bytes, or the bytes of a file with this name and size.
+pub data Content : Type 0 where
+  bytes : List ℕ → Content
+  file : List ℕ → ℕ → Content
+
+-- nodes whose files are not read
+abbrev pub Unread : Type 0
+Unread = NodesOf Content
+
+-- the bytes of a value, for these bytes of files
+abbrev pub bytes_in : (List ℕ → Option (List ℕ)) → Content → List ℕ
+bytes_in files (bytes b) = b
+bytes_in files (file name size) = unwrap_or (files name) []
+
+-- the nodes with each file replaced by its bytes
+abbrev pub in_full : (List ℕ → Option (List ℕ)) → Unread → Nodes
+in_full files t = with_values (bytes_in files) t
+
+-- the size of a value in bytes
+abbrev pub size_of : Content → ℕ
+size_of (bytes b) = length b
+size_of (file name size) = size
+
+-- If the value is a file, it exists and has the stored size.
+abbrev pub IsKept : (List ℕ → Option (List ℕ)) → Content → Type 0
+IsKept files (bytes b) = ⊤
+IsKept files (file name size) = (b : List ℕ) × (files name ≡ Some b) × (length b ≡ size)
+
+-- All files of the nodes exist and have their stored sizes.
+abbrev pub AreKept : (List ℕ → Option (List ℕ)) → Unread → Type 0
+AreKept files t = AllValues (IsKept files) t
+
+-- The value is bytes, not a file.
+abbrev pub IsBytes : Content → Type 0
+IsBytes (bytes b) = ⊤
+IsBytes (file name size) = ⊥
+
+-- A file is the value of `data` only.
+abbrev pub StandsAtData : List ℕ → Content → Type 0
+StandsAtData n (bytes b) = ⊤
+StandsAtData n (file name size) = n ≡ codes "data"
+
+-- In all nodes, only properties named `data` are files.
+abbrev pub FilesAtData : Unread → Type 0
+FilesAtData no_node = ⊤
+FilesAtData (a_node name own below after) =
+    AllByRecursion (λ p. StandsAtData p.name p.value) own × FilesAtData below × FilesAtData after
+
+-- the measure of nodes: two for each node, descendants included
+abbrev pub count : {V : Type 0} → NodesOf V → ℕ
+count no_node = 0
+count (a_node name own below after) = suc (suc (count below + count after))

@@ -1,0 +1,76 @@
+//! The size of a tree's blob.
+
+ghost use Rattle.std.specs.Prelude.{◌≡◌, ◌≢◌, ℕ, List, [], length, Option, Err, OnOk, IfOk};
+ghost use Rattle.uimg_blob_reading.specs.Plain.{AreNamed};
+ghost use Rattle.uimg_blob_writing.specs.Content.{in_full, AreKept};
+ghost use Rattle.uimg_blob_reading.specs.declared.fault.BlobFault.TheVariants.{OutOfMemory};
+ghost use Rattle.uimg_blob_writing.specs.Encoding.{names_of, encode_by};
+ghost use Rattle.uimg_blob_writing.specs.Layouts.{totalsize};
+ghost use Rattle.uimg_blob_writing.specs.Measured.{measured, Measures};
+ghost use Rattle.uimg_blob_writing.specs.Trees.{node_of};
+
+use crate::alignment::{WORD_ALIGNMENT, aligned};
+use crate::checking::check_names;
+use crate::layout::{Layout, STRUCTURE_OFFSET};
+use crate::names::add_all_names;
+use crate::nodes::ThisNode;
+use crate::sizes::{node_size, strings_size};
+use crate::tree::Tree;
+use std::alloc::Allocator;
+use uimg_blob_reading::BlobFault;
+
+// The greatest size of a blob in bytes.
+const LARGEST: u128 = 0xffff_ffff;
+
+/// Measures the blob of a tree: the names of its properties, each once in the order of first use,
+/// and the sizes of its blocks. The blob's end is rounded up to a multiple of 4.
+///
+/// `BadNodeName` or `BadPropertyName` comes for the first name, in the order of writing, that has
+/// more than 255 bytes or a NUL; then `TooLarge` where the blob has more than 4294967295 bytes, each
+/// file counted by the size that the tree keeps of it. `OutOfMemory` comes only where memory for the
+/// names was refused: the one memory that is taken, and none for a tree without properties.
+///
+/// The time grows with the properties times the distinct names. The depth of its calls is that of
+/// the tree.
+pub fn measure<'a, A: Allocator>(alloc: A, tree: &'a Tree<A>) -> Result<Layout<'a, A>, BlobFault>
+    ensures measured { Measures result (measured 4 (node_of tree.now.root)) }
+    ensures memory { result ≡ Err OutOfMemory → names_of (node_of tree.now.root) ≢ [] }
+    ensures named { OnOk result (AreNamed (node_of tree.now.root)) }
+    ensures sized { IfOk result (λ layout. (files : List ℕ → Option (List ℕ)) →
+        AreKept files (node_of tree.now.root) →
+        length (encode_by 4 (in_full files (node_of tree.now.root))) ≡ totalsize layout) }
+{
+    measure_by(alloc, tree, WORD_ALIGNMENT)
+}
+
+/// Measures the blob of a tree as `measure` does, its end rounded up by an alignment, of which four is
+/// the least.
+pub fn measure_by<'a, A: Allocator>(
+    alloc: A,
+    tree: &'a Tree<A>,
+    align: u32,
+) -> Result<Layout<'a, A>, BlobFault>
+    ensures measured { Measures result (measured align (node_of tree.now.root)) }
+    ensures memory { result ≡ Err OutOfMemory → names_of (node_of tree.now.root) ≢ [] }
+    ensures named { OnOk result (AreNamed (node_of tree.now.root)) }
+    ensures sized { IfOk result (λ layout. (files : List ℕ → Option (List ℕ)) →
+        AreKept files (node_of tree.now.root) →
+        length (encode_by align (in_full files (node_of tree.now.root))) ≡ totalsize layout) }
+{
+    check_names(ThisNode { node: &tree.root })?;
+    let mut names = Vec::new(alloc);
+    if add_all_names(&mut names, ThisNode { node: &tree.root }).is_err() {
+        return Err(BlobFault::OutOfMemory);
+    }
+    let structure = node_size(ThisNode { node: &tree.root }) + 4;
+    let strings = strings_size(names.as_slice());
+    if aligned(STRUCTURE_OFFSET as u64 + structure + strings, align) > LARGEST {
+        return Err(BlobFault::TooLarge);
+    }
+    Ok(Layout {
+        names,
+        structure_size: structure as u32,
+        strings_size: strings as u32,
+        align,
+    })
+}

@@ -1,0 +1,152 @@
+//! Writing of a tree's blob.
+
+ghost use Rattle.std.specs.Prelude.{◌≡◌, ◌<◌, ◌^◌, ◌++◌, length, replicate, IsTrue, OnOk, is_err, false};
+ghost use Rattle.uimg_base.specs.Device.{RisesIf};
+ghost use Rattle.uimg_base.specs.Writing.{Writes, Written};
+ghost use Rattle.uimg_blob_reading.specs.Plain.{AllValues, AreNamed};
+ghost use Rattle.uimg_blob_writing.specs.Content.{in_full, AreKept, IsBytes};
+ghost use Rattle.uimg_blob_writing.specs.Encoding.{ended, header, strings, encode_by};
+ghost use Rattle.uimg_blob_writing.specs.Faults.{is_put, is_no_file, is_read};
+ghost use Rattle.uimg_blob_writing.specs.Layouts.{plan_of, totalsize};
+ghost use Rattle.uimg_blob_writing.specs.Names.{texts};
+ghost use Rattle.uimg_blob_writing.specs.Pieces.{blob_pieces, WritesPieces};
+ghost use Rattle.uimg_blob_writing.specs.ReadsBack.{ReadsBack};
+ghost use Rattle.uimg_blob_writing.specs.Trees.{node_of};
+ghost use Rattle.uimg_blob_writing.specs.UsingFiles.{UsesFiles};
+
+use crate::alignment::put_gap;
+use crate::fault::TreeFault;
+use crate::layout::{Layout, STRUCTURE_OFFSET};
+use crate::nodes::{ThisNode, put_node};
+use crate::tokens::put_end;
+use crate::tree::Tree;
+use std::alloc::Allocator;
+use std::io::Write;
+use uimg_base::{Files, Out, PutFault, WINDOW};
+use uimg_blob_reading::BLOB_MAGIC;
+
+// The fields of the header (Devicetree Specification, section 5.2).
+const RESERVATION_OFFSET: u32 = 40;
+
+const VERSION: u32 = 17;
+
+const LAST_COMPATIBLE: u32 = 16;
+
+const BOOT_CPU: u32 = 0;
+
+// The reservation block: the pair of zeros that ends it.
+const RESERVATION: [u8; 16] = [0; 16];
+
+// Writes the header and the reservation block.
+fn put_header<W: Write, A: Allocator>(layout: &Layout<A>, out: &mut Out<W>) -> Result<(), PutFault>
+    ensures { Writes (is_err result) out.old out.new
+        (header (totalsize layout.now) layout.now.structure (length (strings layout.now.names))
+        ++ replicate 16 0) }
+{
+    let reservation = RESERVATION;
+    let structure = layout.structure_size;
+    let strings = layout.strings_size;
+    out.put_pieces(&[
+        &BLOB_MAGIC.to_be_bytes(),
+        &layout.totalsize().to_be_bytes(),
+        &STRUCTURE_OFFSET.to_be_bytes(),
+        &(STRUCTURE_OFFSET + structure).to_be_bytes(),
+        &RESERVATION_OFFSET.to_be_bytes(),
+        &VERSION.to_be_bytes(),
+        &LAST_COMPATIBLE.to_be_bytes(),
+        &BOOT_CPU.to_be_bytes(),
+        &strings.to_be_bytes(),
+        &structure.to_be_bytes(),
+        &reservation,
+    ])
+}
+
+// Writes a name and its NUL.
+fn put_name<W: Write>(name: &[u8], out: &mut Out<W>) -> Result<(), PutFault>
+    ensures { Writes (is_err result) out.old out.new (ended name.now) }
+{
+    out.put_pieces(&[name, &[0]])
+}
+
+// Writes the strings block.
+fn put_strings<W: Write>(names: &[&[u8]], out: &mut Out<W>) -> Result<(), PutFault>
+    ensures { Writes (is_err result) out.old out.new (strings (texts names.now)) }
+{
+    for name in names {
+        put_name(name, out)?;
+    }
+    Ok(())
+}
+
+// Writes the blob of a tree, piece by piece.
+fn put_blob<F: Files, W: Write, A: Allocator>(
+    tree: &Tree<A>,
+    layout: &Layout<A>,
+    files: &mut F,
+    out: &mut Out<W>,
+) -> Result<(), TreeFault>
+    requires { layout.now ≡ plan_of layout.now.align (node_of tree.now.root) }
+    ensures fits { totalsize layout.now < 2 ^ 32 }
+    ensures writes { WritesPieces F.Opened.steady result (F.map files.old) (F.map files.new)
+        out.old out.new
+        (blob_pieces layout.now (node_of tree.now.root)) }
+{
+    let mut window = [0; WINDOW];
+    let names = layout.names.as_slice();
+    put_header(layout, out)?;
+    put_node(
+        ThisNode { node: &tree.root },
+        names,
+        files,
+        &mut window,
+        out,
+    )?;
+    put_end(out)?;
+    put_strings(names, out)?;
+    put_gap(layout.end(), layout.align, out)?;
+    Ok(())
+}
+
+/// Writes the blob of a tree (Devicetree Specification, chapter 5): the header, an empty
+/// reservation block, the nodes and properties in order, the names of the properties, each once,
+/// and zeros up to the end of the blob.
+///
+/// The layout must be the one that `measure` made of this tree. A file is opened when its value is
+/// written, and copied through a window of 8192 bytes; it is never held in memory as a whole. If
+/// its size is not the one that the tree stores, that counts as a failed read, before any of its
+/// bytes is written.
+///
+/// Returns `Put` if and only if a write failed, `NoFile` if and only if an open was refused, and
+/// `Read` if a read of a file failed or its size differs. A tree without files is refused only by a
+/// failed write. No read fails over honest files of the stored sizes that are opened as steady
+/// sources (those in memory). Over honest files of the stored sizes the bytes of `encode_by` were
+/// written, or at a fault a prefix of them. A file that begins with these bytes reads back as the
+/// tree.
+///
+/// Takes no memory. Its calls nest as deep as the tree.
+pub fn write_tree<F: Files, W: Write, A: Allocator>(
+    tree: &Tree<A>,
+    layout: &Layout<A>,
+    files: &mut F,
+    out: &mut Out<W>,
+) -> Result<(), TreeFault>
+    requires { layout.now ≡ plan_of layout.now.align (node_of tree.now.root) }
+    ensures files { UsesFiles (is_no_file result) (F.map files.old) (F.map files.new) }
+    ensures faults { RisesIf (is_put result) out.old.faults out.new.faults }
+    ensures found { IsTrue (F.map files.old).complete →
+        AreKept (F.map files.old).bytes (node_of tree.now.root) → is_no_file result ≡ false }
+    ensures steady { IsTrue F.Opened.steady → IsTrue (F.map files.old).honest →
+        AreKept (F.map files.old).bytes (node_of tree.now.root) → is_read result ≡ false }
+    ensures in_memory { AllValues IsBytes (node_of tree.now.root) → is_err result ≡ is_put result }
+    ensures kept { IsTrue (F.map files.old).honest →
+        OnOk result (AreKept (F.map files.old).bytes (node_of tree.now.root)) }
+    ensures written { IsTrue (F.map files.old).honest →
+        AreKept (F.map files.old).bytes (node_of tree.now.root) →
+        Written (is_err result) out.old out.new
+        (encode_by layout.now.align (in_full (F.map files.old).bytes (node_of tree.now.root))) }
+    ensures reads_back { AreKept (F.map files.old).bytes (node_of tree.now.root) →
+        AreNamed (node_of tree.now.root) →
+        ReadsBack layout.now.align (in_full (F.map files.old).bytes (node_of tree.now.root)) }
+{
+    put_blob(tree, layout, files, out)
+}

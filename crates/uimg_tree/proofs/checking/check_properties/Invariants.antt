@@ -1,8 +1,0 @@
-use Rattle.std.proofs.Common.{◌≡◌, map, drop}
-use Rattle.uimg_tree.specs.Properties.{property}
-use Rattle.uimg_tree.specs.Measured.{bad_property}
-use Rattle.uimg_tree.proofs.checking.check_properties.Given as goal
-
--- the first bad name stands at the index or later
-abbrev pub invariant-loop-prop : goal.invariant-loop-prop
-invariant-loop-prop g l = bad_property (map property (drop l.prop-index l.prop-items)) ≡ bad_property (map property l.prop-items)
