@@ -6,7 +6,8 @@
    the image's bytes, or UIMG_NO_MEMORY. Only tested: that UIMG_NO_MEMORY comes only if memory was refused, the
    lines of faults, and the memory calls in C (library/).
 
-   No call checks signatures. Right hashes say that the image is undamaged, and not who made it.
+   No call checks signatures or the hash nodes of configurations. Right hashes say that the image is undamaged, and not
+   who made it.
 
    The library is compiled for x86-64-v2 (SSE4.2) and uses the SSE registers.
 
@@ -28,7 +29,7 @@ extern "C" {
 
 /* The status of a call, like the exit status of the program. */
 enum uimg_status {
-    UIMG_DONE = 0,      /* success; of a verification: every hash of the image is right */
+    UIMG_DONE = 0,      /* success; of a verification: every hash that the image has is right */
     UIMG_NOT_RIGHT = 1, /* a checksum is wrong or, if fault is not 0, the image is refused */
     UIMG_NO_MEMORY = 3  /* memory was refused: nothing is known of the image, and no text was written */
 };
@@ -72,8 +73,9 @@ typedef struct uimg_count {
 uint32_t uimg_list(const uint8_t *image, size_t image_size, uint8_t *text, size_t text_size, uimg_report *report);
 
 /* Verifies an image's checksums, like `uimg verify`: a line each for the header and the data of a legacy image, or for
-   each hash node of each image of a FIT. Returns report->status: 0 if and only if each line ends with ok or, for an
-   image without hash nodes, with unhashed. That includes a FIT without images: use uimg_check to ask for more. */
+   each hash node of each image of a FIT. Returns report->status: 0 if and only if the image is not refused and each
+   line ends with ok or, for an image without hash nodes, with unhashed. That includes a FIT without images: use
+   uimg_check to require more. */
 uint32_t uimg_verify(const uint8_t *image, size_t image_size, uint8_t *text, size_t text_size, uimg_report *report);
 
 /* The weakest algorithm that a check accepts, in order of strength. CRC-32, MD5 and SHA-1 detect damage, but not
@@ -99,7 +101,8 @@ uint32_t uimg_check(const uint8_t *image, size_t image_size, uint32_t need, uimg
 uint32_t uimg_payload_at(const uint8_t *image, size_t image_size, uint32_t position, uimg_payload *payload);
 
 /* Locates the payload of the first image with a name in a FIT; the name is not terminated by NUL. Returns
-   payload->status. The fault is F4 if no image has the name, and B2 for a legacy image, whose parts have no names. */
+   payload->status. The fault is F4 if no image has the name, and B2 for a legacy image, whose parts have no names. The
+   structure block is read once, so this is quick with many images, too. */
 uint32_t uimg_payload_named(const uint8_t *image, size_t image_size, const uint8_t *name, size_t name_size,
                             uimg_payload *payload);
 

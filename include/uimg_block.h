@@ -9,12 +9,13 @@
 extern "C" {
 #endif
 
-/* Gives the library a block for all its memory; what it took before is forgotten. Before this is called no call has
-   memory. A call needs some 128 bytes for each node of a FIT image, and for a text up to twice its size; a verification
-   or listing of an ordinary image takes 8 KiB. The calls of uimg.h, and this, are made by one thread at a time. */
+/* Gives the library a block of `size` bytes for all its memory; a block that was given before is no longer used. Until
+   the first call no memory can be allocated. A call of uimg.h needs some 128 bytes for each node of a FIT image, and up
+   to twice the length of a text; verifying or listing an ordinary image takes 8 KiB. Only one thread at a time may call
+   this and the functions of uimg.h. */
 void uimg_use_block(void *start, size_t size);
 
-/* How many bytes of the block were in use at most since it was given. */
+/* Returns the most bytes of the block that were in use at once since it was given. */
 size_t uimg_block_most(void);
 
 #ifdef __cplusplus
