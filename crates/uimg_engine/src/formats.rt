@@ -23,7 +23,7 @@ fn begins_as_blob<S: Source>(source: &mut S) -> Result<bool, SourceFault>
     Ok(be32_at(&magic, 0) == BLOB_MAGIC)
 }
 
-/// Returns whether a file is read as a FIT image: that is its form, or the form is a guess and the file
+/// Returns whether a file is read as a FIT image: that is its form, or its form is a guess and it
 /// begins as a blob does. Returns `SourceFault` exactly if a read failed.
 pub fn is_fit<S: Source>(form: Form, source: &mut S) -> Result<bool, SourceFault>
     ensures uses { Asks 4 (is_err result) (S.device source.old) (S.device source.new) }
