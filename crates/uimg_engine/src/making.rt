@@ -22,8 +22,8 @@ use uimg_names::Naming;
 use uimg_requests::{MakeCommand, Manner};
 
 /// Builds the image of a command at a time, in seconds since 1970, and appends it to `image`. If
-/// the payloads of a FIT image are after the blob, its end and each payload's are rounded up to a
-/// multiple of `align`.
+/// the payloads of a FIT image are after the blob, its end and each payload's are rounded up to
+/// `align` (`uimg_blob_writing::aligned`).
 ///
 /// For a legacy image the files of the command are opened in order. Over honest files the image of
 /// their bytes is appended and reads back: its checksums are right, and each part is found in it.
@@ -166,7 +166,7 @@ pub fn make<F: Files, H: Shelf, W: Write, A: Allocator + Copy, B: Allocator>(
 }
 
 /// Makes an image as `make` does, in a manner: at its time, listed with its names, and with the end
-/// of a FIT image's blob and of each payload after it rounded up to a multiple of its alignment.
+/// of a FIT image's blob and of each payload after it rounded up to its alignment.
 pub fn make_by<F: Files, H: Shelf, W: Write, A: Allocator + Copy, B: Allocator>(
     alloc: A,
     command: &MakeCommand,

@@ -32,7 +32,7 @@ impl Placement {
 
 /// Where the payloads of a FIT image to be built go, and with which alignment.
 ///
-/// After the blob, its end and each payload's are rounded up to a multiple of the alignment, as by
+/// After the blob, its end and each payload's are rounded up to the alignment, as by
 /// `uimg_blob_writing::aligned`.
 #[derive(Clone, Copy)]
 pub enum AlignedPlacement {

@@ -185,7 +185,7 @@ pub fn build<F: Files, W: Write, A: Allocator + Copy>(
 }
 
 /// Builds the FIT image of a tree as `build` does, with the blob's end and each payload's rounded
-/// up to a multiple of the placement's alignment.
+/// up to the placement's alignment.
 pub fn build_by<F: Files, W: Write, A: Allocator + Copy>(
     alloc: A,
     tree: &Tree<A>,
