@@ -68,7 +68,7 @@ pub(crate) fn run_by_format<S: Source, A: Allocator, W: Write>(
     }
 }
 
-/// Carries out a command on an image: writes its listing, with the names of the profile, its
+/// Carries out a command on an image: writes its listing (with the names of the profile), its
 /// verification report, one part of a legacy image or one payload of a FIT image to `out`. Returns
 /// the status.
 ///

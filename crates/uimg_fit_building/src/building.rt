@@ -151,9 +151,9 @@ fn place_and_build<F: Files, W: Write, A: Allocator + Copy>(
 /// size is another than the tree keeps; over honest files of the kept sizes a prefix of the image
 /// was written then. Over honest files, at `Ok`, each file has the size that the tree keeps.
 ///
-/// A file is opened once for each value that it is, when that is written, and read through a window
-/// of 8192 bytes. The image of a filled tree verifies, and each payload is found in it. Calls nest
-/// as deep as the tree.
+/// A file is opened once for each value stored in it, when the value is written, and read through a
+/// window of 8192 bytes. The image of a filled tree verifies, and each payload is found in it.
+/// Calls nest as deep as the tree.
 pub fn build<F: Files, W: Write, A: Allocator + Copy>(
     alloc: A,
     tree: &Tree<A>,
