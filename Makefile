@@ -1,5 +1,4 @@
-# uimg: `make help` lists the targets. bin/uimg is built again only if a source of a crate below it is
-# newer.
+# uimg: `make help` lists the targets. bin/uimg is built again only if a source below it is newer.
 RT ?= rt
 PREFIX ?= /usr/local
 IMAGE ?= examples/abc-kernel.img
@@ -18,15 +17,15 @@ bin/uimg: $(shell scripts/sources.sh uimg)
 bin/uimg_peers: $(shell scripts/sources.sh uimg_peers)
 	@scripts/build.sh uimg_peers
 
-## make demo     lists an image, or IMAGE=path, within two minutes; then proves the program and lists it again
+## make demo     lists an image (IMAGE=path) within two minutes; then proves the program, and lists it
 demo:
 	@scripts/demo.sh $(IMAGE)
 
-## make try ARGS="dumpimage -l examples/abc-kernel.img"   runs the program unproved, with run-time checks
+## make try ARGS="verify examples/kernel.itb"   runs the program unproved, with run-time checks
 try:
 	@scripts/try.sh $(ARGS)
 
-## make check CRATE=uimg_its   proves a changed crate and runs its tests; without CRATE, all changed libraries
+## make check CRATE=uimg_its   proves a changed crate and runs its tests; without CRATE, all of them
 check:
 	@scripts/needs.sh rt python3
 	@python3 scripts/check.py $(CRATE)
@@ -36,41 +35,41 @@ test:
 	@scripts/needs.sh rt python3
 	@python3 scripts/test.py
 
-## make gate     all that a change has to pass: make test, proofs from nothing, wrong bodies, examples again
+## make gate     what a change has to pass: make test, proofs from nothing, wrong bodies, examples
 gate:
 	@scripts/needs.sh rt python3
 	@python3 scripts/gate.py
 
-## make wrong-bodies CRATE=uimg_its   tries all wrong bodies of a crate, or of all: the prover has to refuse them
+## make wrong-bodies CRATE=uimg_its   tries all wrong bodies, which the prover has to refuse
 wrong-bodies:
 	@scripts/needs.sh rt python3
 	@python3 scripts/lots.py $(CRATE)
 
-## make definitions   counts the lines of the definitions behind the two theorems, for docs/DEFINITIONS.md
+## make definitions   counts the definitions behind the two theorems, for docs/DEFINITIONS.md
 definitions:
 	@scripts/needs.sh python3
 	@python3 scripts/definitions.py
 
-## make contracts CRATE=uimg_its   lists the public functions of a crate with their clauses; without CRATE,
+## make contracts CRATE=uimg_its   lists a crate's public functions with their clauses; without it,
 ##               how much of each crate is under a contract
 contracts:
 	@scripts/needs.sh python3
 	@python3 scripts/contracts.py $(CRATE)
 
-## make lib      proves the library for C, and builds libuimg.a, libuimg_block.a and libuimg.so in lib/
+## make lib      proves the library for C, and builds libuimg.a, libuimg_block.a, libuimg.so in lib/
 lib: lib/libuimg.a
 	@echo "lib/ is up to date"
 
 lib/libuimg.a: $(shell scripts/sources.sh uimg_c) $(wildcard library/* include/*)
 	@scripts/lib.sh
 
-## make lib-test tests the library from C, C++, Python and Go, with valgrind if installed, against the program
+## make lib-test tests the library from C, C++, Python and Go against the program, and with valgrind
 lib-test: lib/libuimg.a bin/uimg
 	@scripts/needs.sh python3 cc
 	@python3 scripts/lib_test.py bin/uimg lib
 
-## make json-test   checks the output of `uimg check --json` and `uimg info` by the schemas of docs/JSON.md,
-##               with python3-jsonschema
+## make json-test   checks `uimg check --json` and `uimg info` by the schemas of docs/JSON.md, with
+##               python3-jsonschema
 json-test: bin/uimg
 	@scripts/needs.sh python3
 	@python3 scripts/json_test.py bin/uimg
@@ -80,8 +79,8 @@ farm-test: bin/uimg
 	@scripts/needs.sh python3
 	@python3 scripts/farm_test.py bin/uimg
 
-## make install  installs the program, its manual pages and completions below PREFIX (/usr/local), with
-##               OLD_NAMES=1 also as mkimage and dumpimage; and the library, if make lib built it
+## make install  installs the program, its manual pages and completions below PREFIX (/usr/local),
+##               with OLD_NAMES=1 also as mkimage and dumpimage; and the library, if it was built
 install: bin/uimg
 	install -D -m 755 bin/uimg $(DESTDIR)$(PREFIX)/bin/uimg
 	for name in uimg-mkimage uimg-dumpimage $(if $(OLD_NAMES),mkimage dumpimage); do \
@@ -98,7 +97,7 @@ install: bin/uimg
 deb: bin/uimg lib/libuimg.a
 	@scripts/deb.sh
 
-## make peers    compares the program with the real mkimage, dumpimage and dtc, if they are installed
+## make peers    compares the program with the real mkimage, dumpimage and dtc, if installed
 peers: bin/uimg bin/uimg_peers
 	@scripts/needs.sh python3
 	python3 peers/peers.py bin/uimg bin/uimg_peers

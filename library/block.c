@@ -1,5 +1,5 @@
-/* block.c: the three memory calls of libuimg, over one block that the caller gives, for programs without
-   malloc. It serves one thread at a time. */
+/* block.c: the three memory calls of libuimg, over one block that the caller gives, for programs
+   without malloc. It serves one thread at a time. */
 #include <stddef.h>
 #include <stdint.h>
 #include <string.h>

@@ -17,7 +17,8 @@ static struct memory answer(void *start)
     return start ? (struct memory){1, start} : (struct memory){0, &nowhere};
 }
 
-/* For 0 bytes it takes as many as the alignment. The library requests alignments of at most 16, which malloc gives. */
+/* For 0 bytes it takes as many as the alignment. The library requests alignments of at most 16,
+   which malloc gives. */
 struct memory rattle_alloc(size_t size, size_t alignment)
 {
     return answer(malloc(size ? size : alignment));

@@ -1,5 +1,5 @@
-/* report.c: prints all results of the library for images, a few lines for each file, for comparisons and valgrind.
-   report [-b BYTES] FILE..: with -b over a block of this size, if it is linked with libuimg_block.a. */
+/* report.c: prints all results of the library for images, for comparisons and valgrind.
+   report [-b BYTES] FILE..: with -b over a block of this size, if linked with libuimg_block.a. */
 #include <uimg.h>
 #ifdef OVER_A_BLOCK
 #include <uimg_block.h>
@@ -36,8 +36,8 @@ static void *exactly(size_t size)
     return memory;
 }
 
-/* Unless memory was refused, a call took at least its window of 8192 bytes, and at most 128 bytes more and 16 for each
-   byte of the image. */
+/* Unless memory was refused, a call took at least its window of 8192 bytes, and at most 128 bytes
+   more and 16 for each byte of the image. */
 static void look_at_peak(uint32_t status, uint64_t peak, size_t size)
 {
     if (status != UIMG_NO_MEMORY && (peak < 8192 || peak > 8320 + 16 * (uint64_t)size))

@@ -1,6 +1,6 @@
 #!/bin/sh
-# scripts/build.sh PROGRAM: proves the crates below a program, side by side, and the program, compiles
-# it, and leaves it as bin/PROGRAM.
+# scripts/build.sh PROGRAM: proves the crates below a program, side by side, and the program,
+# compiles it, and leaves it as bin/PROGRAM.
 program=$1
 scripts/needs.sh rt python3 || exit 1
 # bin/PROGRAM gets the time of the second file, so an edit during the build counts as newer.

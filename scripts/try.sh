@@ -1,7 +1,7 @@
 #!/bin/sh
 # scripts/try.sh WORD..: runs the program on these words before anything is proved, compiled with
-# run-time checks. It runs in a scratch folder with copies of the files that words name, so a file that
-# it makes is lost. Its status is the program's.
+# run-time checks. It runs in a scratch folder with copies of the files that words name, so a file
+# that it makes is lost. Its status is the program's.
 log=$PWD/out/try.log
 mkdir -p out || exit 1
 scripts/needs.sh rt python3 || exit 1

@@ -25,7 +25,7 @@ static void tell(uint32_t fault, uint64_t place)
     fputc('\n', stderr);
 }
 
-/* Verifies an image. Returns the status; unless all checksums are right, the report goes to standard error. */
+/* Verifies an image and returns the status; unless that is 0, the report goes to standard error. */
 static uint32_t verify(const uint8_t *image, size_t size)
 {
     uint8_t text[4096] = {0};

@@ -1,13 +1,15 @@
 #!/bin/sh
-# check-farm.sh LIST FOLDER [OPTION..]: checks the images whose paths are the lines of LIST, with GNU parallel on all
-# processors, and collects the output of `uimg check --json` in FOLDER/results.jsonl, in the order of LIST.
+# check-farm.sh LIST FOLDER [OPTION..]: checks the images whose paths are the lines of LIST, with
+# GNU parallel on all processors, and collects the output of `uimg check --json` in
+# FOLDER/results.jsonl, in the order of LIST.
 #
-# An interrupted run resumes when it is started again with the same LIST and FOLDER: finished batches are not repeated,
-# except those in which an image failed. OPTIONs go to parallel: --jobs 2, or --sshlogin one,two if each host has the
-# images, FOLDER and the program under the same paths as this one.
+# An interrupted run resumes when it is started again with the same LIST and FOLDER: finished
+# batches are not repeated, except those in which an image failed. OPTIONs go to parallel: --jobs 2,
+# or --sshlogin one,two if each host has the images, FOLDER and the program under the same paths as
+# this one.
 #
-# Environment: UIMG, the program (uimg); NEED, an algorithm for --need; BATCH, how many images one process checks
-# (500). The status is the greatest of all images, or 3 if batches are not finished.
+# Environment: UIMG, the program (uimg); NEED, an algorithm for --need; BATCH, how many images one
+# process checks (500). The status is the greatest of all images, or 3 if batches are not finished.
 set -u
 test $# -ge 2 || { sed -n '2,/^set/s/^# \{0,1\}//p' "$0" >&2; exit 2; }
 list=$1 folder=$2 farm=$(dirname "$0")
@@ -30,9 +32,9 @@ quoted() {
     printf "'%s'" "$(printf %s "$1" | sed "s/'/'\\\\''/g")"
 }
 
-# A job checks a batch. Its output has a name of its own until it is complete, since a job of an earlier run may still
-# be at the same batch. A status of 1 is a result: only 3, of an image that failed or of the job itself, is a failure,
-# after which the next run repeats the batch.
+# A job checks a batch. Its output has a name of its own until it is complete, since a job of an
+# earlier run may still be at the same batch. A status of 1 is a result: only 3, of an image that
+# failed or of the job itself, is a failure, after which the next run repeats the batch.
 cat > "$folder/job.new" << END
 cd $(quoted "$PWD") && farm=$(quoted "$folder") && part="\$farm/parts/\$1.\$(uname -n).\$\$" || exit 3
 test ! -f "\$farm/lines/\$1" || exit 0

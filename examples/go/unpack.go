@@ -1,5 +1,6 @@
-// unpack.go verifies an image, and writes the payload at a position to standard output, like examples/c/unpack.c.
-// CGO_LDFLAGS names the library, if the linker does not find it: go run unpack.go kernel.itb 0 > payload
+// unpack.go verifies an image, and writes the payload at a position to standard output, like
+// examples/c/unpack.c: go run unpack.go kernel.itb 0 > payload. CGO_LDFLAGS names the library, if the
+// linker does not find it.
 package main
 
 /*
@@ -40,7 +41,7 @@ func tell(fault C.uint32_t, place C.uint64_t) {
 	fmt.Fprintln(os.Stderr)
 }
 
-// verify verifies an image and returns the status; unless all checksums are right, the report goes to standard error.
+// verify verifies an image and returns the status; unless that is 0, it prints the report to stderr.
 func verify(image []byte) int {
 	text := make([]byte, 4096)
 	var report C.uimg_report

@@ -47,7 +47,7 @@ pub record RefusesText (files : List ℕ → Option (List ℕ)) (source : List �
   -- of I5, I6 and I7 nothing is claimed
   pub none : OnFalse (is_outside kind) ((t : Nodes) → Spells (words text) files t → ⊥)
 
--- The spelled tree, filled at a time, is another tree.
+-- A tree is the spelled one, filled at a time.
 pub record FillsTree (files : List ℕ → Option (List ℕ)) (source : List ℕ) (time : ℕ) (u : Nodes)
     : Type 0 where
   pub tree : Nodes

@@ -14,7 +14,7 @@ use Rattle.uimg_fit_base.specs.declared.placement.AlignedPlacement.TheVariants.{
 use Rattle.uimg_fit_building.specs.Refusing.{is_low}
 use Rattle.uimg_fit_building.specs.UnreadTrees.{padded_size_of}
 
--- a node without those that follow it
+-- a node in memory, as a `NodeOf`
 abbrev pub entry : {A : Type 0} → Node A → NodeOf Content
 entry n = record { name = n.name; own = n.props; below = n.children }
 

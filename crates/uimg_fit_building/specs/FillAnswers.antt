@@ -46,7 +46,7 @@ node_in_full files image = record {
   below = with_values (bytes_in files) image.below;
 }
 
--- A tree is filled as another: none of its files is read into it or replaced.
+-- A tree is filled, giving another: no file is read into it or replaced.
 pub record Fills (files : List ℕ → Option (List ℕ)) (time : ℕ) (t u : Unread) : Type 0 where
   -- no file is read into the tree
   pub source : u ≡ filled_unread files time t

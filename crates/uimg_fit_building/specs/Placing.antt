@@ -14,7 +14,7 @@ unfoldable pub at_first : {X : Type 0} → (X → Bool) → (X → List X) → L
 at_first test f [] = []
 at_first test f (x ∷ xs) = if test x then f x ++ xs else x ∷ at_first test f xs
 
--- the rest of such a list, when that element was met already or not
+-- the rest of a list: unchanged if such an element was met already, else treated the same
 abbrev pub left_of : {X : Type 0} → (X → Bool) → (X → List X) → Bool → List X → List X
 left_of test f true xs = xs
 left_of test f false xs = at_first test f xs

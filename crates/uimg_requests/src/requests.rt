@@ -60,8 +60,8 @@ pub struct MakeRequest<'a> {
 }
 
 impl<'a> MakeRequest<'a> {
-    /// Requests a legacy image from the files in the word of -d, listed with the names of the
-    /// profile. Memory for the files' names may be refused.
+    /// Returns the request for a legacy image from the files in the word of -d, listed with the
+    /// names of the profile. Memory for the files' names may be refused.
     #[tactic(auto, using(crate::proofs::NameLaws::names_fit))]
     pub fn of_parts(
         alloc: Global,
@@ -95,10 +95,10 @@ impl<'a> MakeRequest<'a> {
         })
     }
 
-    /// Requests a FIT image from the source at a path, with files in the source's folder, listed
-    /// with the names of the profile, and with payloads padded to multiples of 4. Memory for its
-    /// name may be refused. Folder and name together are the path; tests show that the folder ends
-    /// at the last slash.
+    /// Returns the request for a FIT image from the source at a path, with files in the source's
+    /// folder, listed with the names of the profile, and with payloads padded to multiples of 4.
+    /// Memory for its name may be refused. Folder and name together are the path; tests show that
+    /// the folder ends at the last slash.
     pub fn of_source(
         alloc: Global,
         path: &'a str,
@@ -119,7 +119,7 @@ impl<'a> MakeRequest<'a> {
         MakeRequest::of_name(alloc, path, folder, name, placement, time, outfile)
     }
 
-    /// Requests the same, but with files in the current folder, wherever the source is.
+    /// Returns the same request, but with files in the current folder, wherever the source is.
     pub fn of_source_here(
         alloc: Global,
         path: &'a str,
@@ -140,7 +140,7 @@ impl<'a> MakeRequest<'a> {
         MakeRequest::of_name(alloc, path, "", path, placement, time, outfile)
     }
 
-    // Requests a FIT image from the source at a path, which has a name in a folder.
+    // Returns the request for a FIT image from the source at a path, which has a name in a folder.
     fn of_name(
         alloc: Global,
         path: &'a str,

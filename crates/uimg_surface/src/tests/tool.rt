@@ -48,17 +48,17 @@ fn disk_files<'a, R: rt::Files + AllocGlobal>(rt: &'a R, folder: &'a str) -> Dis
     DiskFiles::new(rt, folder)
 }
 
-// Requests a legacy image of one file.
+// Returns the command that makes a legacy image of one file.
 fn of_parts(options: Options, files: Vec<Vec<u8>>) -> MakeCommand {
     MakeCommand::Parts { options, files }
 }
 
-// Requests a FIT image of a source.
+// Returns the command that makes a FIT image of a source.
 fn of_source(source: Vec<u8>, placement: Placement) -> MakeCommand {
     MakeCommand::Tree { source, placement }
 }
 
-// Returns one of the two requests, by its letter.
+// Returns one of the two commands, by its letter.
 fn making(alloc: Global, letter: char) -> Result<MakeCommand, AllocError> {
     if letter == 'f' {
         return Ok(of_source(Vec::from_slice(alloc, b"k.its")?, Placement::At(1024)));
