@@ -17,7 +17,7 @@ bin/uimg: $(shell scripts/sources.sh uimg)
 bin/uimg_peers: $(shell scripts/sources.sh uimg_peers)
 	@scripts/build.sh uimg_peers
 
-## make demo     lists an image (IMAGE=path) within two minutes, proves the program, and lists it again
+## make demo     lists an image (IMAGE=path) in two minutes, proves the program, and lists it again
 demo:
 	@scripts/demo.sh $(IMAGE)
 
@@ -25,7 +25,7 @@ demo:
 try:
 	@scripts/try.sh $(ARGS)
 
-## make check CRATE=uimg_its   proves a changed crate and runs its tests; without it, all that changed
+## make check CRATE=uimg_its   proves a changed crate and runs its tests; without it, all changed
 check:
 	@scripts/needs.sh rt python3
 	@python3 scripts/check.py $(CRATE)
