@@ -1,5 +1,4 @@
-# uimg: `make help` lists the targets. bin/uimg is built again only where a source of a crate that it stands on
-# is newer.
+# uimg: `make help` lists the targets. bin/uimg is built again only if a source below it is newer.
 RT ?= rt
 PREFIX ?= /usr/local
 IMAGE ?= examples/abc-kernel.img
@@ -8,7 +7,7 @@ export RT
 .PHONY: all demo try check test gate wrong-bodies definitions contracts lib lib-test json-test farm-test install deb peers bench clean help
 .NOTPARALLEL:
 
-## make          proves what the program stands on, and builds bin/uimg
+## make          proves the program and all crates below it, and builds bin/uimg
 all: bin/uimg
 	@echo "bin/uimg is up to date"
 
@@ -18,69 +17,70 @@ bin/uimg: $(shell scripts/sources.sh uimg)
 bin/uimg_peers: $(shell scripts/sources.sh uimg_peers)
 	@scripts/build.sh uimg_peers
 
-## make demo     lists a real image, or IMAGE=path, within two minutes; then proves the program, and lists it again
+## make demo     lists an image (IMAGE=path) in two minutes, proves the program, and lists it again
 demo:
 	@scripts/demo.sh $(IMAGE)
 
-## make try ARGS="dumpimage -l examples/abc-kernel.img"   runs the program before it is proved, with run-time checks
+## make try ARGS="verify examples/kernel.itb"   runs the program unproved, with run-time checks
 try:
 	@scripts/try.sh $(ARGS)
 
-## make check CRATE=uimg_its   proves a crate after a change, and runs its tests; without CRATE, all libraries that changed
+## make check CRATE=uimg_its   proves a changed crate and runs its tests; without it, all changed
 check:
 	@scripts/needs.sh rt python3
 	@python3 scripts/check.py $(CRATE)
 
-## make test     compiles the program and the tests with checks while they run, and runs all of them and the examples; it proves nothing
+## make test     runs all tests and examples, compiled with run-time checks; proves nothing
 test:
 	@scripts/needs.sh rt python3
 	@python3 scripts/test.py
 
-## make gate     all that a change has to pass: make test, then each crate from nothing, wrong bodies, and the examples again
+## make gate     what a change has to pass: make test, proofs from nothing, wrong bodies, examples
 gate:
 	@scripts/needs.sh rt python3
 	@python3 scripts/gate.py
 
-## make wrong-bodies CRATE=uimg_its   tries all wrong bodies of a crate, or of each: the prover has to refuse them
+## make wrong-bodies CRATE=uimg_its   tries all wrong bodies, which the prover has to refuse
 wrong-bodies:
 	@scripts/needs.sh rt python3
 	@python3 scripts/lots.py $(CRATE)
 
-## make definitions   counts the lines of the definitions that the two theorems need, and writes the counts into docs/DEFINITIONS.md
+## make definitions   counts the definitions behind the two theorems, for docs/DEFINITIONS.md
 definitions:
 	@scripts/needs.sh python3
 	@python3 scripts/definitions.py
 
-## make contracts CRATE=uimg_its   lists the public functions of a crate with their clauses; without CRATE, how much of
-##               each crate is under a contract
+## make contracts CRATE=uimg_its   lists a crate's public functions with their clauses; without it,
+##               how much of each crate is under a contract
 contracts:
 	@scripts/needs.sh python3
 	@python3 scripts/contracts.py $(CRATE)
 
-## make lib      proves the library for C, and leaves libuimg.a, libuimg_block.a and libuimg.so in lib/
+## make lib      proves the library for C, and builds libuimg.a, libuimg_block.a, libuimg.so in lib/
 lib: lib/libuimg.a
 	@echo "lib/ is up to date"
 
 lib/libuimg.a: $(shell scripts/sources.sh uimg_c) $(wildcard library/* include/*)
 	@scripts/lib.sh
 
-## make lib-test tests the library as C, C++, Python and Go call it, with valgrind where it is there, beside the program
+## make lib-test tests the library from C, C++, Python and Go against the program, and with valgrind
 lib-test: lib/libuimg.a bin/uimg
 	@scripts/needs.sh python3 cc
 	@python3 scripts/lib_test.py bin/uimg lib
 
-## make json-test   holds what `uimg check --json` and `uimg info` write of many images to the schemas of docs/JSON.md, with python3-jsonschema
+## make json-test   checks `uimg check --json` and `uimg info` by the schemas of docs/JSON.md, with
+##               python3-jsonschema
 json-test: bin/uimg
 	@scripts/needs.sh python3
 	@python3 scripts/json_test.py bin/uimg
 
-## make farm-test   kills examples/farm in the middle and lets it go on, with GNU parallel
+## make farm-test   kills examples/farm in the middle and resumes it, with GNU parallel
 farm-test: bin/uimg
 	@scripts/needs.sh python3
 	@python3 scripts/farm_test.py bin/uimg
 
-## make install  puts the program, its manual pages and completions below PREFIX, which is /usr/local, and with
-##               OLD_NAMES=1 the names mkimage and dumpimage too; the library too, if make lib built it
+## make install  installs the program, its manual pages and completions below PREFIX (/usr/local),
+##               with OLD_NAMES=1 also as mkimage and dumpimage; and the library, if it was built
 install: bin/uimg
 	install -D -m 755 bin/uimg $(DESTDIR)$(PREFIX)/bin/uimg
 	for name in uimg-mkimage uimg-dumpimage $(if $(OLD_NAMES),mkimage dumpimage); do \
@@ -93,16 +93,17 @@ install: bin/uimg
 	install -D -m 644 completions/uimg.fish $(DESTDIR)$(PREFIX)/share/fish/vendor_completions.d/uimg.fish
 	test ! -f lib/libuimg.a || scripts/install_lib.sh "$(DESTDIR)" "$(PREFIX)"
 
-## make deb      packs both, with documents and examples, as Debian packages
+## make deb      packs both, with documents and examples, as Debian packages in out/
 deb: bin/uimg lib/libuimg.a
 	@scripts/deb.sh
 
-## make peers    compares it with the real mkimage, dumpimage and dtc, where they are installed
+## make peers    compares the program with the real mkimage, dumpimage and dtc, if installed
 peers: bin/uimg bin/uimg_peers
 	@scripts/needs.sh python3
 	python3 peers/peers.py bin/uimg bin/uimg_peers
 
-## make bench    times the program beside dumpimage, mkimage, cat and cp; with python3-matplotlib it draws bench/chart.svg
+## make bench    times the program beside dumpimage, mkimage, cat and cp; draws bench/chart.svg
+##               with python3-matplotlib
 bench: bin/uimg
 	@scripts/needs.sh python3
 	@mkdir -p out

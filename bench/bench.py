@@ -1,12 +1,13 @@
 #!/usr/bin/env python3
-"""Times uimg over a large legacy image and over FIT images.
+"""Times uimg on a large legacy image and on FIT images.
 
-The commands of one kind run several times in turn over the same file. It prints a table: the best and
-the median seconds, the best MB/s (millions of bytes of payload a second), the peak memory, and the ratio
-of the best time to that of the last row of the same kind. Tools that are not installed are left out.
+The commands of one kind run several times in turn on the same file. It prints a table: the best and
+the median seconds, the best MB/s (millions of bytes of payload a second), the peak memory, and the
+ratio of the best time to that of the last row of the same kind. Tools that are not installed are
+left out.
 
-The files are in the folder that BENCH_DIR names, or else in /dev/shm if it exists: on a disk the noise
-of the writes hides everything else.
+The files are in the folder that BENCH_DIR names, or else in /dev/shm if it exists: on a disk the
+noise of the writes would hide everything else.
 """
 
 import itertools
@@ -70,7 +71,7 @@ def seconds(command, output):
 
 
 def peak_memory(command, output):
-    """The peak resident memory of a command in KiB, by a run of its own."""
+    """The peak resident memory of a command in KiB, in a run of its own."""
     peak = 0
     with open(output, "wb") as out:
         child = subprocess.Popen(command, stdout=out)
@@ -84,7 +85,7 @@ def peak_memory(command, output):
 
 
 def measure_in_turn(rows):
-    """The wall times of each row's command, which run in turn, and its peak memory."""
+    """The wall times of each row's command, which take turns, and its peak memory."""
     times = [[] for _ in rows]
     for _ in range(RUNS):
         for row, spent in zip(rows, times):
@@ -105,7 +106,7 @@ def make_image(payload, image):
 
 
 def legacy_rows(uimg, folder):
-    """What is timed of a legacy image: its kind, its name, the command, and where its output goes."""
+    """The timings for a legacy image: kind, name, command, and where its output goes."""
     file, image = os.path.join(folder, "payload.bin"), os.path.join(folder, "payload.img")
     text, copy = os.path.join(folder, "text"), os.path.join(folder, "copy.bin")
     make_file(file)
@@ -130,7 +131,7 @@ def legacy_rows(uimg, folder):
 
 
 def fit_rows(uimg, folder):
-    """What is timed of FIT images: the same, and how many bytes the payload has."""
+    """The timings for FIT images: the same, and the number of bytes of the payload."""
     nodes, inside, outside = (os.path.join(folder, f"{name}.itb") for name in ("n", "i", "o"))
     part, big = os.path.join(folder, "part.bin"), os.path.join(folder, "payload.bin")
     text, copy = os.path.join(folder, "text"), os.path.join(folder, "copy.bin")
@@ -157,7 +158,7 @@ def fit_rows(uimg, folder):
 
 
 def check_rows(uimg, folder):
-    """What is timed of many small FIT images: the same."""
+    """The timings for many small FIT images: the same."""
     names, text = os.path.join(folder, "names"), os.path.join(folder, "text")
     data = bytes(100)
     image = fits.fit([fits.image("kernel", fits.prop("data", data), [("crc32", zlib.crc32(data).to_bytes(4, "big"))])])
@@ -174,7 +175,7 @@ def check_rows(uimg, folder):
 
 
 def build_rows(uimg, folder):
-    """What is timed of the building of FIT images from source: the same."""
+    """The timings for building FIT images from source: the same."""
     part, big = os.path.join(folder, "part.bin"), os.path.join(folder, "payload.bin")
     four = [fits.source_image(0, fits.included(part), ["crc32", "md5", "sha1", "sha256"])]
     one = [fits.source_image(0, fits.included(big), ["sha256"])]
@@ -197,7 +198,7 @@ def build_rows(uimg, folder):
 
 
 def unpack_rows(uimg, folder):
-    """What is timed of an image that is unpacked: the same."""
+    """The timings for unpacking an image: the same."""
     source, image, text = (os.path.join(folder, name) for name in ("unpacked.its", "unpacked.itb", "text"))
     fits.write_source(source, [fits.source_image(0, fits.included(os.path.join(folder, "payload.bin")), ["sha256"])])
     subprocess.run([uimg, "mkimage", "-E", "-f", source, image], stdout=subprocess.DEVNULL, check=True)
@@ -210,7 +211,8 @@ def unpack_rows(uimg, folder):
 
 
 def shape_rows(uimg, folder):
-    """What is timed of files that are made to cost much, each beside an ordinary one of the same length."""
+    """The timings for files that are made to cost much, each beside an ordinary one of the same
+    length."""
     text, copy = os.path.join(folder, "text"), os.path.join(folder, "copy.bin")
     words = {"list": ["dumpimage", "-l"], "verify": ["verify"], "check": ["check"], "extract": ["dumpimage", "-o", copy]}
     for number, (command, kind, *files) in enumerate(shapes.shapes()):
@@ -221,7 +223,7 @@ def shape_rows(uimg, folder):
 
 
 def bench_folder():
-    """A folder for the files, which goes away at the end."""
+    """A folder for the files, which is removed at the end."""
     memory = "/dev/shm" if os.path.isdir("/dev/shm") else None
     return tempfile.TemporaryDirectory(dir=os.environ.get("BENCH_DIR", memory))
 

@@ -1,6 +1,6 @@
 #!/usr/bin/env python3
-"""chart.py TABLE SVG: draws rows of a table that bench.py printed, time and peak memory of uimg beside those of
-mkimage and dumpimage. It needs python3-matplotlib of Debian."""
+"""chart.py TABLE SVG: draws rows of a table that bench.py printed: time and peak memory of uimg
+beside those of mkimage and dumpimage. It needs Debian's python3-matplotlib."""
 import re
 import sys
 
@@ -9,7 +9,7 @@ import matplotlib
 matplotlib.use("svg")
 import matplotlib.pyplot as plt
 
-# What is drawn, and what it is called.
+# The rows that are drawn, and their names.
 ROWS = {
     "list": "list a legacy image",
     "extract": "extract its payload",
@@ -21,7 +21,7 @@ ROWS = {
 
 
 def read(path):
-    """Returns the best seconds and the peak KiB by the row's name and by who did it."""
+    """Returns the best seconds and the peak KiB, by the row's name and the tool."""
     rows = {}
     with open(path, encoding="utf-8") as file:
         for line in file:

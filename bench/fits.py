@@ -31,7 +31,7 @@ def node(name, *parts):
 
 
 def blob(root):
-    """The header, an empty reservation block, the structure block and the strings."""
+    """A blob: the header, an empty reservation block, the structure block and the strings."""
     structure = root + struct.pack(">I", 9)
     strings_at = 56 + len(structure)
     total = (strings_at + len(STRINGS) + 3) // 4 * 4
@@ -41,7 +41,7 @@ def blob(root):
 
 
 def image(name, payload, hashes):
-    """An image whose payload stands at these properties."""
+    """An image whose payload is given by these properties."""
     fields = [text("description", "bench"), payload, text("type", "kernel"), text("arch", "arm64")]
     fields += [text("os", "linux"), text("compression", "none")]
     fields += [prop("load", struct.pack(">I", 0x80000)), prop("entry", struct.pack(">I", 0x80000))]
@@ -69,7 +69,8 @@ def four_hashes(data):
 
 
 def write_nodes(path):
-    """20005 nodes: 10000 images with a hash node each, two configurations, and the three above them."""
+    """20005 nodes: 10000 images with a hash node each, two configurations, and the three above
+    them."""
     hashes = [("crc32", struct.pack(">I", zlib.crc32(b"abc")))]
     images = [image(f"kernel-{number}", prop("data", b"abc"), hashes) for number in range(10000)]
     with open(path, "wb") as file:
@@ -83,7 +84,7 @@ def write_inside(path, data):
 
 
 def write_outside(path, data, count):
-    """One image with so many copies of the data behind the blob, and no hash node."""
+    """One image with a number of copies of the data after the blob, and no hash node."""
     size = struct.pack(">I", len(data) * count)
     payload = prop("data-offset", bytes(4)) + prop("data-size", size)
     with open(path, "wb") as file:
@@ -101,7 +102,7 @@ def source(images):
 
 
 def source_image(number, data, algos, notes=0):
-    """Source of one image, with a hash node for each algorithm and so many other nodes."""
+    """Source of one image, with a hash node for each algorithm and a number of other nodes."""
     nodes = [f'hash-{i} {{ algo = "{algo}"; }};' for i, algo in enumerate(algos)]
     nodes += [f'note-{i} {{ description = "n"; }};' for i in range(notes)]
     fields = ['type = "kernel";', 'arch = "arm64";', 'os = "linux";', 'compression = "none";']
@@ -119,7 +120,7 @@ def write_source(path, images):
 
 
 def write_small_files(folder, count, size):
-    """Files of so many bytes each, and source of an image of each, with its sha256."""
+    """Files of a size, and source of an image of each, with its sha256."""
     images = []
     for number in range(count):
         path = os.path.join(folder, f"small-{number}.bin")

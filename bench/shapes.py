@@ -16,13 +16,13 @@ def write(path, parts):
 
 
 def outside(data, hashes):
-    """A FIT with one image, whose payload stands behind the blob, and these hash nodes."""
+    """A FIT with one image, whose payload is after the blob, and these hash nodes."""
     payload = fits.prop("data-offset", bytes(4)) + fits.prop("data-size", struct.pack(">I", len(data)))
     return [fits.fit([fits.image("kernel", payload, hashes)]), data]
 
 
 def ordinary(size):
-    """An ordinary FIT of so many bytes: images with a payload of 100 bytes and a hash node each."""
+    """An ordinary FIT of a size: images with a payload of 100 bytes and a hash node each."""
     data = bytes(100)
     hashes = [("crc32", struct.pack(">I", zlib.crc32(data)))]
     images = [fits.image("kernel-00000", fits.prop("data", data), hashes)]
@@ -36,7 +36,7 @@ def of_size(parts):
 
 
 def many_hashes(count):
-    """So many hash nodes over one payload, and one over as much."""
+    """A number of hash nodes over one payload, and one hash node over as many bytes."""
     data = bytes(PAYLOAD)
     crc = ("crc32", struct.pack(">I", zlib.crc32(data)))
     hostile = outside(data, [crc] * count)
@@ -45,7 +45,7 @@ def many_hashes(count):
 
 
 def overlapping(count):
-    """So many images with one payload, and one image over as much."""
+    """A number of images with one payload, and one image with as many bytes."""
     data = bytes(PAYLOAD)
     hashes = [("crc32", struct.pack(">I", zlib.crc32(data)))]
     payload = fits.prop("data-offset", bytes(4)) + fits.prop("data-size", struct.pack(">I", len(data)))
@@ -72,7 +72,7 @@ def deep_nodes(count):
 
 
 def long_texts(count, size):
-    """A configuration with a list of so many texts, each of so many bytes."""
+    """A configuration with a list of texts, by their number and their size in bytes."""
     fields = [fits.text("description", "c"), fits.prop("loadables", (b"n" * size + b"\0") * count)]
     configurations = fits.node("configurations", fits.node("conf", *fields))
     return [fits.blob(fits.node("", fits.node("images"), configurations))]
@@ -87,13 +87,14 @@ def legacy(kind, data):
 
 
 def many_parts(count):
-    """A multi image of so many parts of four bytes, and a kernel as long."""
+    """A multi image of a number of parts of four bytes, and a kernel of the same length."""
     data = struct.pack(">I", 4) * count + bytes(4) + bytes(4 * count)
     return legacy(4, data), legacy(2, data)
 
 
 def shapes():
-    """Of each shape the command that it is for, its file and an ordinary one as long, in parts."""
+    """For each shape the command that it is for, its file and an ordinary one of the same
+    length, in parts."""
     yield "verify", "800 hash nodes", *many_hashes(800)
     yield "list", "800 hash nodes", *many_hashes(800)
     yield "check", "100 images in one", *overlapping(100)

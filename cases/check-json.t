@@ -1,9 +1,9 @@
-Many images are checked, an object of JSON for each
-===================================================
+Checks of many images, an object of JSON for each
+=================================================
 
   $ files="$TESTDIR/files"
 
-`cell FILE AT BYTE..` puts bytes into a file at a place:
+`cell FILE AT BYTE..` sets bytes of a file at an offset:
 
   $ cell() {
   >     to=$1 at=$2; shift 2
@@ -60,7 +60,7 @@ FIT images:
   {"path":"k.itb","status":1,"verdict":"empty","format":"fit"}
   [1]
 
-With --strict an image that is right has a count of the nodes of its configurations, which are not checked, and no other answer has:
+With --strict the object of a right image has a count of its configurations' nodes, which are not checked; no other has:
 
   $ fit2() {
   >     images='a { data = "abc"; hash-1 { algo = "crc32"; }; };'
@@ -82,7 +82,7 @@ With --strict an image that is right has a count of the nodes of its configurati
   {"path":"k.itb","status":1,"verdict":"weak","format":"fit","image":"a"}
   [1]
 
-A fault of the blob has its place. The version stands at 20, and the first token, behind the header of 40 bytes and an empty list of reservations of 16, at 56; 5 is no token:
+A fault of the blob has its offset. The version is at 20, and the first token, after the header of 40 bytes and an empty reservation block of 16, at 56; 5 is no token:
 
   $ fit 'a { data = "abc"; };' && cp k.itb version.itb && cell version.itb 23 16
   $ uimg check version.itb
@@ -96,7 +96,7 @@ A fault of the blob has its place. The version stands at 20, and the first token
   {"path":"k.itb","status":1,"verdict":"refused","format":"fit","fault":"B5","message":"B5 bad token at 56","offset":56}
   [1]
 
-Payloads that overlap, of two images with the same 4000 bytes behind the tree:
+Payloads that overlap, of two images with the same 4000 bytes after the tree:
 
   $ head -c 4000 /dev/zero > zeros
   $ fit 'a { data = /incbin/("zeros"); hash-1 { algo = "crc32"; }; }; b { data = /incbin/("zeros"); hash-1 { algo = "crc32"; }; };'
@@ -111,7 +111,7 @@ Payloads that overlap, of two images with the same 4000 bytes behind the tree:
   {"path":"shared.itb","status":1,"verdict":"overlapping","format":"fit","image":"b"}
   [1]
 
-Names: quotes, backslashes and control characters are escaped as RFC 8259 has it, and all else that is UTF-8 stands as it is. A name that is not UTF-8 has U+FFFD in place of what is not, and beside it its bytes by base64:
+Names: quotes, backslashes and control characters are escaped by RFC 8259, and all other UTF-8 is unchanged. A name that is not UTF-8 has U+FFFD in place of what is not, and its bytes in base64 beside it:
 
   $ fit 'kernel { data = "abcd"; hash-2 { algo = "crc32"; }; };'
   $ at=$(grep -abo abcd k.itb | cut -d: -f 1) && cell k.itb $at 65
@@ -164,7 +164,7 @@ Lines that cannot be written, and that nobody reads:
   $ cat said
   status 3
 
-An object is made in memory before it is written; where there is too little for one of a path of 20 MB, the check ends before its line:
+An object is made in memory before it is written; without enough for one with a path of 20 MB, the check ends before its line:
 
   $ { echo kernel.img; head -c 20000000 /dev/zero | tr '\0' x; echo; echo kernel.img; } > long
   $ (ulimit -v 61440; uimg check --json --files-from long)
@@ -172,7 +172,7 @@ An object is made in memory before it is written; where there is too little for 
   uimg: out of memory
   [3]
 
-Wrong lines:
+Wrong command lines:
 
   $ uimg check --json
   uimg: no image

@@ -1,9 +1,9 @@
-Many images are checked, a line for each
-========================================
+Checks of many images, a line for each
+======================================
 
   $ files="$TESTDIR/files"
 
-`cell FILE AT BYTE..` puts bytes into a file at a place:
+`cell FILE AT BYTE..` sets bytes of a file at an offset:
 
   $ cell() {
   >     to=$1 at=$2; shift 2
@@ -35,7 +35,7 @@ Legacy images have two checksums:
   kernel.img: ok 2 checksums
   [1]
 
-FIT images are told by their first hash that is not right:
+The line of a FIT image reports its first hash that is not right:
 
   $ for name in four-hash-fit one-bad-hash sha3-node no-data no-images; do cp "$files/$name.itb" .; done
   $ uimg check four-hash-fit.itb one-bad-hash.itb sha3-node.itb no-data.itb no-images.itb
@@ -61,7 +61,7 @@ Words and counts:
   k.itb: empty
   [1]
 
-An image without a hash node is told, and is not wrong unless an algorithm is needed:
+An image without a hash node is reported, and is not wrong unless an algorithm is needed:
 
   $ fit 'a { data = "abc"; hash-1 { algo = "sha256"; }; }; b { data = "de"; }; c { data = "f"; };'
   $ uimg check k.itb
@@ -70,7 +70,7 @@ An image without a hash node is told, and is not wrong unless an algorithm is ne
   k.itb: weak b
   [1]
 
-The needed algorithm, and each that is stronger, will do:
+The needed algorithm, or a stronger one, is enough:
 
   $ fit 'a { data = "abc"; hash-1 { algo = "crc32"; }; hash-2 { algo = "sha256"; }; }; b { data = "de"; hash-1 { algo = "sha512"; }; };'
   $ for algo in crc32 md5 sha1 sha256 sha384 sha512; do uimg check --need $algo k.itb kernel.img; done
@@ -88,7 +88,7 @@ The needed algorithm, and each that is stronger, will do:
   kernel.img: weak crc32
   [1]
 
-What is wrong comes before what is weak, of one image, and the first image before the others:
+In one image a wrong hash comes before a weak one, and the first image before the others:
 
   $ fit 'a { data = "abc"; hash-1 { algo = "crc32"; }; }; b { data = "defg"; hash-1 { algo = "sha256"; }; };'
   $ at=$(grep -abo defg k.itb | cut -d: -f 1) && cell k.itb $at 68
@@ -99,7 +99,7 @@ What is wrong comes before what is weak, of one image, and the first image befor
   k.itb: weak a
   [1]
 
-Payloads that overlap are not hashed for more bytes than the file has. Two images with the same 4000 bytes behind the tree:
+Payloads that overlap are not hashed for more bytes than the file has. Two images with the same 4000 bytes after the tree:
 
   $ head -c 4000 /dev/zero > zeros
   $ fit 'a { data = /incbin/("zeros"); hash-1 { algo = "crc32"; }; }; b { data = /incbin/("zeros"); hash-1 { algo = "crc32"; }; };'
@@ -147,7 +147,7 @@ A name does not end its line, and hides nothing in it:
   $ cp kernel.img "$(printf 'a: ok\nb')" && uimg check "$(printf 'a: ok\nb')"
   a: ok\x0ab: ok 2 checksums
 
-A file that cannot be read does not keep the others from being checked, and its status is the greatest:
+A file that cannot be read does not stop the check of the others; the status is the greatest:
 
   $ mkdir folder && mkfifo pipe && cp kernel.img "last one.img"
   $ uimg check none.img data.img folder pipe "last one.img" ''
@@ -159,7 +159,7 @@ A file that cannot be read does not keep the others from being checked, and its 
   : failed cannot read
   [3]
 
-Paths from a file, a line each, after those of the command line; empty lines are none:
+Paths from a file, a line each, after those of the command line; empty lines are ignored:
 
   $ printf 'data.img\n\nlast one.img' > names
   $ uimg check --files-from names kernel.img
@@ -192,7 +192,7 @@ Lines that cannot be written, and that nobody reads:
   $ cat said
   status 3
 
-Wrong lines:
+Wrong command lines:
 
   $ uimg check
   uimg: no image
@@ -203,7 +203,7 @@ Wrong lines:
   $ uimg check -0 kernel.img
   kernel.img: ok 2 checksums
 
-With --strict an image needs a hash, and what configurations name has to be there: the default first, then each configuration's
+With --strict an image needs a hash, and the names in configurations need a node: the default first, then each configuration's
 kernel, ramdisk, fdt, loadables, firmware, fpga, setup, standalone and script:
 
   $ fit2() {
@@ -262,7 +262,7 @@ kernel, ramdisk, fdt, loadables, firmware, fpga, setup, standalone and script:
   k.itb: missing c script gone
   {"path":"k.itb","status":1,"verdict":"missing","format":"fit","configuration":"c","property":"script","name":"gone"}
 
-They are looked at in this order, whatever order they stand in, and other properties are not looked at:
+They are checked in this order, whatever their order in the image, and other properties are not checked:
 
   $ told() { missing "c { script = \"s\"; standalone = \"a\"; setup = \"e\"; fpga = \"p\"; firmware = \"f\"; loadables = $1; };" | sed -n 2p; }
   $ told '"l"'; told '"kernel"'
@@ -277,7 +277,7 @@ They are looked at in this order, whatever order they stand in, and other proper
   $ fit2 'c { kernel = "kernel"; compatible = "gone"; uboot = "gone"; scripts = "gone"; firm = "gone"; };' && uimg check --strict k.itb
   k.itb: ok 2 payloads, 2 hashes
 
-Hash nodes and signatures of configurations are not checked, and --strict counts them where the image is right. Nodes below these
+Hash nodes and signatures of configurations are not checked; --strict counts them if the image is right. Nodes below these
 are not counted, nor are those of images:
 
   $ signature='signature-1 { algo = "sha256,rsa2048"; key-name-hint = "dev"; };'
@@ -296,7 +296,7 @@ are not counted, nor are those of images:
   $ fit "a { data = \"abc\"; hash-1 { algo = \"crc32\"; }; $signature };" && uimg check --strict k.itb
   k.itb: ok 1 payload, 1 hash
 
-A value that is empty names nothing; an image without a hash is weak, and one without images is empty:
+An empty value names nothing; an image without a hash is weak, and a FIT image without images is empty:
 
   $ fit2 'default = []; c { kernel = []; };' && uimg check --strict k.itb
   k.itb: ok 2 payloads, 2 hashes

@@ -5,7 +5,7 @@ Names and codes
   $ SOURCE_DATE_EPOCH=0
   $ export SOURCE_DATE_EPOCH
 
-`made OPTION NAME AT` shows the code in the header at a place, and what is listed:
+`made OPTION NAME AT` prints the code in the header at an offset, and its listing:
 
   $ made() {
   >     uimg mkimage $1 $2 -d abc.bin k.img > listing || return
@@ -64,7 +64,7 @@ Compressions:
   lz4 5 PowerPC Linux Kernel Image (lz4 compressed)
   zstd 6 PowerPC Linux Kernel Image (zstd compressed)
 
-The notes of the help have just these names: it takes each of them, and they are as many.
+The notes of the help have exactly these names: each is accepted, and their number is the same.
 
   $ notes() { uimg mkimage --help | sed -n "/^  <$1> /,/^  <$2>\|^\$/p" | grep -v "^  <$2>" | sed 's/<[a-z]*>//; s/(not for -d)//'; }
   $ for arch in $(notes arch os); do uimg mkimage -A $arch -d abc.bin k.img > /dev/null && echo $arch; done | wc -l
@@ -81,7 +81,7 @@ The notes of the help have just these names: it takes each of them, and they are
   $ echo $(uimg dumpimage --help | sed -n '/^  <type>/,/^$/p' | sed 's/<type>//')
   standalone kernel ramdisk multi firmware script filesystem flat_dt kernel_noload
 
-Codes outside of the tables are listed as unknown. The checksum of this header is zlib's:
+Codes outside the tables are listed as unknown. The checksum of this header is zlib's:
 
   $ printf '\047\005\031\126\246\340\136\077\0\0\0\0\0\0\0\0\0\0\0\0\0\0\0\0\0\0\0\0\377\377\377\377' > unknown.img
   $ head -c 32 /dev/zero >> unknown.img

@@ -3,7 +3,7 @@ Parts of legacy images
 
   $ files="$TESTDIR/files"
 
-`part POSITION IMAGE` extracts, and shows the outfile in brackets:
+`part POSITION IMAGE` extracts, and prints the outfile in brackets:
 
   $ part() {
   >     uimg dumpimage -p "$1" -o out "$files/$2"
@@ -11,7 +11,7 @@ Parts of legacy images
   >     rm -f out
   > }
 
-single-positions: the outfile of a refused part is there, and empty.
+single-positions: the outfile of a refused part exists, and is empty.
 
   $ part 0 abc-kernel.img
   0 [abc]
@@ -21,7 +21,7 @@ single-positions: the outfile of a refused part is there, and empty.
   uimg: L8 no such part
   1 []
 
-Position 0 where none is given, and by the type:
+Position 0 if none is given, and with the type:
 
   $ uimg dumpimage -o out "$files/abc-kernel.img" && cat out
   abc (no-eol)
@@ -83,7 +83,7 @@ Other data are refused before the first byte:
   uimg: L5 bad data CRC
   []
 
-An outfile that was there is emptied:
+An existing outfile is emptied:
 
   $ echo before > out
   $ uimg dumpimage -p 1 -o out "$files/abc-kernel.img"

@@ -32,7 +32,7 @@ Images that cannot be opened:
   $ test -e new
   [1]
 
-A pipe does not tell its size:
+A pipe has no known size:
 
   $ mkfifo pipe
   $ exec 4<> pipe
@@ -40,7 +40,7 @@ A pipe does not tell its size:
   uimg: cannot read pipe
   [3]
 
-An empty image of mkimage -l is refused as any:
+mkimage -l refuses an empty image like any other command:
 
   $ : > empty
   $ uimg mkimage -l empty
@@ -59,7 +59,7 @@ Outfiles of an extraction that cannot be written:
   uimg: write failed
   [3]
 
-A file that is read is not written, by whatever path; nothing is touched:
+A file that is read is not written, whatever its path; nothing is changed:
 
   $ cp "$files/abc-kernel.img" own.img
   $ uimg dumpimage -o own.img own.img
@@ -106,7 +106,7 @@ A file that is read is not written, by whatever path; nothing is touched:
   abcabc (no-eol)
   $ rm own.img link.img hard.img part.bin own.its link.bin hard.bin
 
-A file that has fewer bytes than its size, as those of sysfs have:
+A file with fewer bytes than its size, like those of sysfs:
 
   $ uimg verify /sys/devices/system/cpu/online
   uimg: read failed
@@ -140,7 +140,7 @@ Standard output that cannot be written, and standard error that cannot:
   header crc32 ok
   data crc32 ok
 
-Files of -d that cannot be read: the path is as the line gives it, and no outfile is created.
+Files of -d that cannot be read: the path is printed as in the command line, and no outfile is created.
 
   $ uimg mkimage -d none.bin k.img
   uimg: cannot read none.bin
@@ -169,7 +169,7 @@ Files of -d that cannot be read: the path is as the line gives it, and no outfil
   $ test -e k.img
   [1]
 
-Sources that cannot be read, whatever the options without effect are:
+Sources that cannot be read, with any options without effect:
 
   $ for path in none.its ./none.its no/folder/none.its /none.its '' . no/; do
   >     uimg mkimage -f "$path" -A x -T flat_dt -e x k.itb || echo $?
@@ -191,7 +191,7 @@ Sources that cannot be read, whatever the options without effect are:
   $ test -e k.itb
   [1]
 
-Files of a source are looked for in its folder, unless their names begin with a slash:
+File names in a source are relative to its folder, unless they begin with a slash:
 
   $ mkdir folder
   $ printf abc > folder/name
@@ -238,7 +238,7 @@ Images that cannot be written:
   uimg: write failed
   3
 
-An outfile that does not keep the image is told:
+An outfile that does not keep the image is reported:
 
   $ uimg mkimage -f sources/s.its /dev/null
   uimg: L1 too short

@@ -189,7 +189,7 @@ Helps
   $ uimg --version
   uimg 0.1.0
 
-No words are a wrong line: the help goes to standard error.
+Without words the command line is wrong: the help goes to standard error.
 
   $ uimg > out
   Makes, lists, verifies and unpacks U-Boot images

@@ -1,9 +1,9 @@
-The facts of an image are told, an object of JSON on one line
-=============================================================
+The facts of an image, an object of JSON on one line
+====================================================
 
   $ files="$TESTDIR/files"
 
-`cell FILE AT BYTE..` puts bytes into a file at a place:
+`cell FILE AT BYTE..` sets bytes of a file at an offset:
 
   $ cell() {
   >     to=$1 at=$2; shift 2
@@ -17,7 +17,7 @@ The facts of an image are told, an object of JSON on one line
   >     SOURCE_DATE_EPOCH=1700000000 uimg mkimage -f k.its "$@" k.itb > /dev/null
   > }
 
-A FIT image with two images and a configuration. Addresses have one cell or two; what is missing is left out. A string has its NUL, so the first payload has four bytes.
+A FIT image with two images and a configuration. Addresses have one cell or two; missing facts are left out. A string has its NUL, so the first payload has four bytes.
 
   $ fit 'images {
   >     kernel { description = "k"; data = "abc"; type = "kernel"; arch = "arm64"; os = "linux"; compression = "none";
@@ -35,7 +35,7 @@ A FIT image with two images and a configuration. Addresses have one cell or two;
   $ printf 'abc\0' | md5sum
   147a664a2ca9410911e61986d3f0d52a  -
 
-Payloads behind the blob, and from a position on:
+Payloads after the blob, and from a position on:
 
   $ fit 'images { a { data = "abc"; }; b { data = "defgh"; }; };' -E
   $ uimg info k.itb
@@ -57,7 +57,7 @@ No payload, and one that ends after the file; an extraction would refuse them:
   cut.itb: refused F3 data outside
   [1]
 
-Hashes are told and not compared:
+Hashes are printed and not compared:
 
   $ fit 'images { a { data = "abcd"; hash-1 { algo = "crc32"; }; }; };'
   $ at=$(grep -abo abcd k.itb | cut -d: -f 1) && cell k.itb $at 65
@@ -66,7 +66,7 @@ Hashes are told and not compared:
   k.itb: bad a hash-1
   [1]
 
-Texts: up to the first NUL, with what RFC 8259 wants escaped. A text that is not UTF-8 has U+FFFD in place of what is not, and beside it its bytes by base64; a list that has such a text has beside it a list of the bytes of all its texts:
+Texts: up to the first NUL, escaped by RFC 8259. A text that is not UTF-8 has U+FFFD in place of what is not, and its bytes in base64 beside it; a list with such a text has a list of the bytes of all its texts beside it:
 
   $ printf 'say "no" \\ \n\t\033/\177\0more\0' > text
   $ fit 'images { k { data = "a"; description = /incbin/("text"); type = [00]; arch = [61 e4 ff]; os; }; };
@@ -87,7 +87,7 @@ A name that is not UTF-8, or has control characters:
   $ uimg info bytes.itb
   {"path":"bytes.itb","status":0,"format":"fit","size":180,"totalsize":180,"description":"d","timestamp":1700000000,"reservations":[],"images":[{"name":"k\xef\xbf\xbd\xef\xbf\xbd\xef\xbf\xbdn\\t","name_base64":"a+T//m4J","offset":132,"data-size":2,"hashes":[]}],"configurations":[]} (esc)
 
-Configurations may name images by nine properties, and the nodes below them, their hashes and signatures, are told by name. Memory that the blob reserves is told up to the entry of zeros; here the block is moved to a payload that has two entries, then so that the blob ends before the list does:
+Configurations may name images in nine properties, and the nodes below them, their hashes and signatures, are printed by name. The blob's memory reservations are printed up to the entry of zeros; here the block is moved to a payload with two entries, then so that the blob ends before the list:
 
   $ fit 'images { a { data = <0 0x1000 0 0x200 0x1 0x80000000 0xffffffff 0xffffffff 0 0 0 0>; }; };
   > configurations { c { firmware = "a"; fpga = "b"; setup = "s"; standalone = "t"; script = "u", "v"; other = "x";
@@ -103,7 +103,7 @@ Configurations may name images by nine properties, and the nodes below them, the
   0
   [1]
 
-Numbers that have another length than they should are left out, and of twins the first counts:
+Numbers of a wrong length are left out, and of properties with the same name the first counts:
 
   $ fit 'timestamp = <1 2>; images { a { data = "a"; load = [01]; entry = <1 2 3>; }; };'
   $ uimg info k.itb
@@ -111,7 +111,7 @@ Numbers that have another length than they should are left out, and of twins the
   $ uimg info "$files/two-cell-addresses.itb" | sed "s|$files/||"
   {"path":"two-cell-addresses.itb","status":0,"format":"fit","size":768,"totalsize":768,"description":"demo","timestamp":0,"default":"conf","reservations":[],"images":[{"name":"kernel","description":"k","type":"kernel","arch":"arm64","os":"linux","compression":"none","load":6442450944,"entry":524288,"offset":168,"data-size":3,"hashes":[{"name":"hash-1","algo":"crc32","value":"352441c2"},{"name":"hash-2","algo":"md5","value":"900150983cd24fb0d6963f7d28e17f72"},{"name":"hash-3","algo":"sha1","value":"a9993e364706816aba3e25717850c26c9cd0d89d"},{"name":"hash-4","algo":"sha256","value":"ba7816bf8f01cfea414140de5dae2223b00361a396177a9cb410ff61f20015ad"}]}],"configurations":[{"name":"conf","description":"c","kernel":"kernel","nodes":[],"properties":[{"name":"description","size":2},{"name":"kernel","size":7}]}]}
 
-Of a configuration all properties are told, those without a meaning too, in the order of the file and twins each by itself, with how many bytes their values have; a name is spelled as any other:
+Of a configuration all properties are printed, also those without a meaning, in the order of the file and repeated ones one by one, with the lengths of their values in bytes; a name is spelled like any other:
 
   $ fit 'images { k { data = "a"; }; };
   > configurations { c { compatible = "a,b", "c"; kernel = "k"; own,flag; lengths = <1 2>; kernel = "other"; hash-1 { algo = "sha1"; }; }; d { }; };'
@@ -124,7 +124,7 @@ Of a configuration all properties are told, those without a meaning too, in the 
   $ uimg info named.itb | grep -ao '"properties":[^}]*}' | head -n 1
   "properties":[{"name":"c\xef\xbf\xbdmpatibl\\n","name_base64":"Y+RtcGF0aWJsCg==","size":6} (esc)
 
-A value of more than 65536 bytes is told by its length alone, and one of 65536 is told:
+A value of more than 65536 bytes is printed as its length alone, one of 65536 in full:
 
   $ head -c 65536 /dev/zero | tr '\0' x > most && cp most more && echo >> more
   $ fit 'images { a { data = "a"; description = /incbin/("most"); type = /incbin/("more"); load = /incbin/("more"); hash-1 { algo = "crc32"; }; }; };
@@ -132,7 +132,7 @@ A value of more than 65536 bytes is told by its length alone, and one of 65536 i
   $ uimg info k.itb | python3 -c 'import sys; sys.stdout.write(sys.stdin.read().replace("x" * 65536, "(65536 times x)"))'
   {"path":"k.itb","status":0,"format":"fit","size":328052,"totalsize":328052,"description":"d","timestamp":1700000000,"reservations":[],"images":[{"name":"a","description":"(65536 times x)","type_length":65537,"offset":128,"data-size":2,"hashes":[{"name":"hash-1","algo":"crc32","value":"3d3f4819"}]}],"configurations":[{"name":"c","fdt_length":65537,"loadables":["(65536 times x)"],"nodes":[],"properties":[{"name":"fdt","size":65537},{"name":"loadables","size":65536}]}]}
 
-Refused images have the line of a check, and its status:
+Refused images have the line and the status of a check:
 
   $ cp k.itb version.itb && cell version.itb 23 16
   $ uimg info version.itb
@@ -147,7 +147,7 @@ Refused images have the line of a check, and its status:
   $ uimg info "$files/no-images.itb" | sed "s|$files/||"
   {"path":"no-images.itb","status":1,"verdict":"refused","format":"fit","fault":"F1","message":"F1 no images"}
 
-Legacy images, of one part, of several and of a script; a name and codes that are not known:
+Legacy images, of one part, of several and of a script; an unknown name and unknown codes:
 
   $ cp "$files/abc-kernel.img" kernel.img && uimg info kernel.img
   {"path":"kernel.img","status":0,"format":"legacy","size":67,"name":"01234567890123456789012345678901","time":1700000000,"load":524288,"entry":524288,"header-crc":4193337822,"data-crc":891568578,"os":"Linux","os-code":5,"arch":"AArch64","arch-code":22,"type":"Kernel Image","type-code":2,"compression":"uncompressed","compression-code":0,"data-size":3,"parts":[{"offset":64,"size":3}]}
@@ -177,7 +177,7 @@ Legacy images, of one part, of several and of a script; a name and codes that ar
   $ uimg info codes.img
   {"path":"codes.img","status":0,"format":"legacy","size":67,"name":"k\xef\xbf\xbd\xef\xbf\xbd\\u001b","name_base64":"a+T/Gw==","time":1700000000,"load":524288,"entry":524288,"header-crc":2078800056,"data-crc":891568578,"os":"Unknown OS","os-code":255,"arch":"Unknown Architecture","arch-code":254,"type":"Unknown Image","type-code":253,"compression":"Unknown Compression","compression-code":252,"data-size":3,"parts":[{"offset":64,"size":3}]} (esc)
 
-The checksum of the data is told and not compared, and that of the header has to be right:
+The checksum of the data is printed and not compared; that of the header has to be right:
 
   $ cp kernel.img data.img && printf b | dd of=data.img bs=1 seek=64 conv=notrunc status=none
   $ uimg info data.img | tail -c 60 && uimg check data.img
@@ -198,7 +198,7 @@ The checksum of the data is told and not compared, and that of the header has to
   {"path":"part-outside.img","status":1,"verdict":"refused","format":"legacy","fault":"L7","message":"L7 part outside"}
   [1]
 
-A directory, a missing file, a pipe, which nobody writes to, and an empty file; a path is escaped as a text is:
+A directory, a missing file, a pipe that nobody writes to, and an empty file; a path is escaped like a text:
 
   $ mkdir folder && uimg info folder
   {"path":"folder","status":3,"verdict":"failed","message":"cannot read"}
@@ -224,7 +224,7 @@ A line that cannot be written, and one that nobody reads:
   $ cat said
   status 3
 
-Wrong lines:
+Wrong command lines:
 
   $ uimg info
   error: the following required arguments were not provided:

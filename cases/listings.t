@@ -3,7 +3,7 @@ Listings of legacy images
 
   $ files="$TESTDIR/files"
 
-abc-kernel, and by its type; where a listing is asked for no other value is checked:
+abc-kernel, and with its type; if a listing is requested no other value is checked:
 
   $ uimg dumpimage -l "$files/abc-kernel.img"
   Image Name:   01234567890123456789012345678901
@@ -34,7 +34,7 @@ abc-kernel, and by its type; where a listing is asked for no other value is chec
   Load Address: 00080000
   Entry Point:  00080000
 
-Any type but flat_dt asks for a legacy image, whatever type the header has:
+Any type but flat_dt requests a legacy image, whatever type the header has:
 
   $ uimg dumpimage -l -T script "$files/abc-kernel.img" | head -n 1
   Image Name:   01234567890123456789012345678901
@@ -57,7 +57,7 @@ A listing goes to standard output alone:
 
   $ uimg dumpimage -l "$files/abc-kernel.img" > /dev/null
 
-Bytes behind the data are accepted:
+Bytes after the data are accepted:
 
   $ { cat "$files/abc-kernel.img"; echo more; } > longer.img
   $ uimg dumpimage -l longer.img
@@ -123,7 +123,7 @@ A fault goes to standard error alone:
   uimg: L5 bad data CRC
   [1]
 
-no-table-end is refused behind the six lines:
+no-table-end is refused after the six lines:
 
   $ uimg dumpimage -l "$files/no-table-end.img"
   Image Name:   
@@ -135,7 +135,7 @@ no-table-end is refused behind the six lines:
   uimg: L6 no table end
   [1]
 
-part-outside is refused before the line of the part; the text stands before the fault:
+part-outside is refused before the line of the part; the text comes before the fault:
 
   $ uimg dumpimage -l "$files/part-outside.img"
   Image Name:   
@@ -162,7 +162,7 @@ A line for each of 200 parts:
   $ seq 0 199 | sed 's/.*/   Image &: 1 Bytes = 0.00 KiB = 0.00 MiB/' > wanted
   $ tail -n +8 many | cmp - wanted
 
-No part is lost of 300, and a part's number is taken whole:
+No part of 300 is lost, and a part's number is printed in full:
 
   $ word=x$(printf '%0299d' 0 | sed 's/0/:x/g')
   $ uimg mkimage -T multi -d "$word" many.img | tail -n 1

@@ -1,7 +1,7 @@
 Long sources
 ============
 
-A source of more than 4 MiB, and a payload of 32 MiB inside of the blob:
+A source of more than 4 MiB, and a payload of 32 MiB inside the blob:
 
   $ head -c 33554432 /dev/zero > zeros
   $ { echo '/dts-v1/; / { images { k { data = /incbin/("zeros"); hash { algo = "crc32"; }; }; }; };'; yes '/* nothing */' | head -c 4300000; } > long.its

@@ -1,5 +1,5 @@
-FIT images are made
-===================
+Making of FIT images
+====================
 
   $ files="$TESTDIR/files"
   $ printf abc > abc.bin
@@ -273,7 +273,7 @@ sha384, by sha384sum:
   $ uimg mkimage -f sha384.its sha384.itb | grep -c "Hash value:   $(sha384sum abc.bin | cut -d ' ' -f 1)"
   1
 
-Payloads of lengths about a window's, and written in each way, come back from under each placement. The source
+Payloads of about a window's length, written in each way, come back with each placement. The source
 and its files are in another folder:
 
   $ mkdir payloads
@@ -347,7 +347,7 @@ and its files are in another folder:
   $ uimg mkimage -f payloads/all.its -E all.itb > listing && unpacks
   $ uimg mkimage -f payloads/all.its -E -p 10000 all.itb > listing && unpacks
 
-mixed-values is no FIT image, and what it compiles to is the same as dtc's: its values stand in an image's data.
+mixed-values is no FIT image, but it compiles to the same blob as with dtc: its values are in an image's data.
 
   $ cat > mixed.its <<'EOF'
   > /dts-v1/;

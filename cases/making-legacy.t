@@ -1,5 +1,5 @@
-Legacy images are made
-======================
+Making of legacy images
+=======================
 
   $ files="$TESTDIR/files"
   $ printf abc > abc.bin
@@ -99,7 +99,7 @@ empty-parts: an empty part of a script is refused before the outfile is created,
   $ od -An -v -tx1 -j 24 -N 4 k.img
    00 00 00 00
 
-too-large-parts: a file of 4294967296 bytes, and two parts whose table and bytes are as many. No byte of them
+too-large-parts: a file of 4294967296 bytes, and two parts whose table and bytes are as long. No byte of them
 is read, and no outfile is created:
 
   $ truncate -s 4294967296 large
@@ -115,7 +115,7 @@ is read, and no outfile is created:
   [1]
   $ rm large
 
-Many long files, about a window's length and of several windows, are made into an image, verified and unpacked:
+Many long files, of about a window's length and of several windows, are made into an image, verified and unpacked:
 
   $ seq 1 10000 | head -c 40000 > numbers
   $ for length in 8191 8192 8193 1 20000 40000; do head -c $length numbers > n$length; done
@@ -144,7 +144,7 @@ Defaults: without options the header has ppc, linux, kernel, gzip, addresses of 
    00 00 00 00 00 00 00 00 00 00 00 00 00 00 00 00
    00 00 00 00 00 00 00 00 61 62 63
 
-Codes by their names:
+Codes by name:
 
   $ uimg mkimage -A riscv -O u-boot -T firmware -C lzma -n 'a name' -d abc.bin c.img
   Image Name:   a name
@@ -163,7 +163,7 @@ A name keeps its blanks, at both ends too:
   $ od -An -v -tx1 -j 32 -N 11 n.img
    20 20 61 20 20 6e 61 6d 65 20 00
 
-Names that begin with a dash stand right behind their option, or behind a `=` there:
+Names that begin with a dash follow their option directly, or after a `=`:
 
   $ for option in -n-x -n=-x -n-- -n==x; do
   >     uimg mkimage $option -d abc.bin n.img | head -n 1
@@ -211,7 +211,7 @@ Times: SOURCE_DATE_EPOCH in decimal digits.
   Created:      Sun Feb  7 06:28:15 2106
    ff ff ff ff
 
-Where it is not set the clock gives the time, in UTC:
+If it is not set the clock gives the time, in UTC:
 
   $ (
   >     unset SOURCE_DATE_EPOCH
@@ -231,7 +231,7 @@ Options without effect: the placement of a FIT's data has none with -d, and its 
   $ uimg mkimage -E -p x -d abc.bin same.img > /dev/null
   $ cmp plain.img same.img
 
-Names with colons: the word of -d is cut for multi and script alone.
+Names with colons: the word of -d is cut only for multi and script.
 
   $ printf abc > colon:a
   $ printf x > colon
@@ -244,7 +244,7 @@ Names with colons: the word of -d is cut for multi and script alone.
   81
   81
 
-An old outfile is replaced, and what it had beyond the image is gone:
+An existing outfile is replaced, and its bytes beyond the image are gone:
 
   $ head -c 100 numbers > old.img
   $ uimg mkimage -d abc.bin old.img > /dev/null

@@ -1,13 +1,13 @@
-What lies where in the file of an image
-=======================================
+The contents of an image's file
+===============================
 
   $ files="$TESTDIR/files" examples="$TESTDIR/../examples"
 
-`patch FILE AT BYTES` puts bytes at an offset of a file:
+`patch FILE AT BYTES` sets bytes at an offset of a file:
 
   $ patch() { printf "$3" | dd of="$1" bs=1 seek="$(($2))" conv=notrunc status=none; }
 
-A payload that is the value of a property stands in the structure block:
+A payload that is the value of a property is in the structure block:
 
   $ uimg map "$examples/kernel.itb"
   00000000-00000028        40 #............................... header
@@ -17,7 +17,7 @@ A payload that is the value of a property stands in the structure block:
   00000290-000002f8       104 ............###................. strings
   000002f8-00000660       872 ..............################## rest
 
-Behind the blob, from its end on or by its position in the file. One that has no bytes has its row:
+After the blob, from its end on or by its position in the file. An empty payload has its row:
 
   $ uimg map "$files/external-fit.itb"
   00000000-00000028        40 ##.............................. header
@@ -36,7 +36,7 @@ Behind the blob, from its end on or by its position in the file. One that has no
   0000031c-0000031c         0 ................................ payload of kernel
   0000031c-00000320         4 ...............................# rest
 
-What begins before something else has ended says so. An image of a hostile place covers the header, and two images share
+A row that begins before another has ended says so. An image at a hostile offset covers the header, and two images share
 their payload:
 
   $ uimg map "$files/position-first.itb"
@@ -99,7 +99,7 @@ A file that was cut short, in the structure block and in the payload:
   uimg: F3 data outside
   [1]
 
-A refused blob has what its header tells, and the place of the fault:
+A refused blob has the facts of its header, and the offset of the fault:
 
   $ cp "$files/external-fit.itb" bad.itb && patch bad.itb 20 "\0\0\0\20" && uimg map bad.itb
   00000000-00000028        40 ##.............................. header
@@ -125,7 +125,7 @@ A refused blob has what its header tells, and the place of the fault:
   uimg: B1 too short at 0
   [1]
 
-A reservation block that no entry of zeros ends before the file does:
+A reservation block without an entry of zeros before the end of the file:
 
   $ cp "$files/external-fit.itb" open.itb && patch open.itb 16 "\0\0\3\24" && uimg map open.itb
   00000000-00000028        40 ##.............................. header
@@ -167,7 +167,7 @@ Legacy images, of parts and of one piece of data:
   00000058-0000005d         5 ............................###. part 2
   0000005d-00000062         5 ..............................## rest
 
-A part that ends behind the data, a table without an end, and data that end behind the file:
+A part that ends after the data, a table without an end, and data that end after the file:
 
   $ uimg map "$files/part-outside.img"
   00000000-00000040        64 ##########################...... header
@@ -204,7 +204,7 @@ A part that ends behind the data, a table without an end, and data that end behi
   uimg: L4 truncated
   [1]
 
-A header that is refused, and what is no image:
+A refused header, and a file that is no image:
 
   $ cp "$files/three-part-multi.img" bad.img && patch bad.img 32 x && uimg map bad.img
   00000000-00000040        64 #######################......... header
@@ -227,7 +227,7 @@ A header that is refused, and what is no image:
   uimg: L1 too short
   [1]
 
-A picture in place of the lines, one text and one bar a row, as XML:
+A picture in place of the lines, one text and one bar for each row, as XML:
 
   $ cat > look.py << 'END'
   > import sys, xml.dom.minidom
@@ -255,7 +255,7 @@ A picture in place of the lines, one text and one bar a row, as XML:
   ls: cannot access '*uimg-new*': No such file or directory
   7
 
-It replaces what is there when it is whole, through a link too, and is never the image:
+It replaces an existing file when it is complete, also through a link, and is never the image:
 
   $ cp name.itb image.itb && ln -s image.itb link && echo old > old.svg && ln -s old.svg link.svg
   $ uimg map --svg image.itb image.itb

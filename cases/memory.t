@@ -1,18 +1,18 @@
-Memory that is refused
-======================
+Refused memory
+==============
 
-The program may have so many KiB in all, its own code among them; each fault ends with status 3.
+The program may have this many KiB in all, with its own code; each fault exits with status 3.
 
   $ within() { (ulimit -v $1; shift; uimg "$@"); }
 
-The text of an image source has no place:
+No memory for the text of an image source:
 
   $ truncate -s 64M large.its
   $ within 40000 mkimage -f large.its none.itb
   uimg: out of memory
   [3]
 
-The table of a blob's 200000 nodes has no place; the offset is that of a node:
+No memory for the table of a blob's 200000 nodes; the offset is that of a node:
 
   $ repeat() { head -c $1 /dev/zero | sed "s/\x00/$2/g"; }
   $ {
@@ -39,7 +39,7 @@ The table of a blob's 200000 nodes has no place; the offset is that of a node:
   uimg: F1 no images
   [1]
 
-The tree of a source of 50000 images has no place, and with a little more the values of its hashes have none:
+No memory for the tree of a source of 50000 images, and with a little more none for the values of its hashes:
 
   $ {
   >     echo '/dts-v1/;'

@@ -1,8 +1,8 @@
 The program by the names of mkimage and dumpimage
 =================================================
 
-What is expected here is what mkimage and dumpimage 2023.01 make, print and accept, but for the statuses and the lines of
-faults, which are uimg's own.
+The expected results are those that mkimage and dumpimage 2023.01 make, print and accept, except for the statuses and the
+error lines, which are uimg's own.
 
   $ export SOURCE_DATE_EPOCH=1700000000
   $ for name in mkimage dumpimage uimg-mkimage uimg-dumpimage; do ln -s "$(command -v uimg)" $name; done
@@ -10,7 +10,7 @@ faults, which are uimg's own.
   $ printf 'hello world\n' > d
   $ cp "$TESTDIR/../examples/kernel.its" "$TESTDIR/../examples/abc.bin" .
 
-The name is what stands behind the last slash:
+The name is what follows the last slash:
 
   $ mkimage -V && dumpimage -V && uimg-mkimage -V && ./uimg-dumpimage --
   mkimage version 2023.01 (uimg 0.1.0)
@@ -21,7 +21,7 @@ The name is what stands behind the last slash:
   $ uimg --version
   uimg 0.1.0
 
-An image by each way to write its options, which is the one that uimg makes:
+An image with each way to write its options, the same as uimg makes:
 
   $ uimg mkimage -A arm -a 1000 -n name -d d wanted
   Image Name:   name
@@ -68,7 +68,7 @@ Names and codes that the profile leaves out:
   Image Type:   PowerPC Invalid OS Script (gzip compressed)
   Image Type:   PowerPC Unknown OS Script (gzip compressed)
 
-Addresses at their ends, an image without data, and an image of several parts:
+Addresses at their limits, an image without data, and an image of several parts:
 
   $ address() { rm -f out; mkimage -q -A arm -a "$1" -d d out && od -An -tx1 -j16 -N8 out; }
   $ address ''
@@ -93,7 +93,7 @@ Addresses at their ends, an image without data, and an image of several parts:
      Image 0: 12 Bytes = 0.01 KiB = 0.00 MiB
      Image 1: 3 Bytes = 0.00 KiB = 0.00 MiB
 
-An image that is run in its place has its header where the file begins with 64 bytes 0xff:
+An image that runs in place has its header where the file begins with 64 bytes 0xff:
 
   $ room() { printf '%64s' '' | tr ' ' '\377'; }
   $ { room; cat d; } > xip && { room; room; } > rooms && room > room
@@ -126,7 +126,7 @@ An image that is run in its place has its header where the file begins with 64 b
   [2]
   $ cmp own xip && cmp out kept && mkimage -q -x -s -A arm -a ffffffd0 -d d out && cmp out kept && rm out* kept own
 
-SOURCE_DATE_EPOCH is the number that its text begins with:
+SOURCE_DATE_EPOCH is the number at the beginning of its text:
 
   $ time_of() { rm -f out; SOURCE_DATE_EPOCH=$1 mkimage -q -A arm -d d out && od -An -tx1 -j8 -N4 out; }
   $ time_of ''
@@ -155,8 +155,8 @@ FIT images:
   $ mkimage -q -f kernel.its -E -p 1000 out && dumpimage -p0 -o part out && cmp part abc.bin
   $ dumpimage -T flat_dt -o part out && cmp part abc.bin && dumpimage -lT FLAT_DT inside | cmp - listing
 
-FIT images whose tree and payloads take what -B has them rounded up to, by how many bytes they have and where the tree says
-that it ends; without -E, and by 4 or 0, it has no effect:
+FIT images whose tree and payloads are rounded up by -B: the file's size and the tree's totalsize.
+Without -E, and with 4 or 0, it has no effect:
 
   $ cat > two.its <<'END'
   > /dts-v1/;
@@ -200,7 +200,7 @@ that it ends; without -E, and by 4 or 0, it has no effect:
   $ ends -B 100000200
   2048 00 00 04 00
 
-The source that mkimage makes itself, by a file and by the image that is made of it:
+The source that mkimage makes itself, as a file and as the image made from it:
 
   $ printf tree > my.board.dtb && printf ram > ram
   $ cat > auto.its <<'END'
@@ -286,7 +286,7 @@ Listing and unpacking:
   dumpimage: cannot read nothing: No such file or directory (os error 2)
   [3]
 
-What is asked for in vain:
+Requests that fail:
 
   $ mkimage -A amd64 -d d out
   mkimage: -A: unknown architecture 'amd64', which is near to 'arm64'; see mkimage -A list
@@ -390,7 +390,7 @@ The names:
   26
   \tor1k             OpenRISC 1000 (esc)
 
-The outfile gets its name when it is whole, by a link too, and what stood there stays where none is made:
+The outfile gets its name when it is complete, also through a link, and an existing one stays if none is made:
 
   $ printf before > out && mkimage -A arm -T multi -d d:/dev/null out
   mkimage: out: L9 empty part

@@ -1,9 +1,9 @@
-What is installed beside the program
-====================================
+What is installed with the program
+==================================
 
   $ top="$TESTDIR/.."
 
-The completions have the commands, options and short names that the helps print:
+The completions have the commands, options and short names of the helps:
 
   $ "$top/scripts/completions.py" "$(command -v uimg)" --check
   $ complete_at() { bash -c '. "$0"; COMP_WORDS=("$@"); COMP_CWORD=$(($# - 1)); _uimg 2> /dev/null; echo "${COMPREPLY[@]}"' "$top/completions/uimg.bash" "$@"; }
@@ -16,7 +16,7 @@ The completions have the commands, options and short names that the helps print:
   $ complete_at uimg verify -
   -h
 
-The manual page and the package are of the program's version:
+The manual page and the package have the program's version:
 
   $ version=$(uimg --version)
   $ head -n 1 "$top/docs/uimg.1" | cut -d '"' -f 2 | sed "s/^$version$/the same/"
@@ -24,7 +24,7 @@ The manual page and the package are of the program's version:
   $ head -n 1 "$top/debian/changelog" | sed "s/^uimg (${version#uimg }) .*/the same/"
   the same
 
-The manual pages of the names that builds can be given are of that version too, and tell each option of mkimage's help:
+The manual pages of the old names have that version too, and describe each option of mkimage's help:
 
   $ for name in mkimage dumpimage; do head -n 1 "$top/docs/uimg-$name.1" | cut -d '"' -f 2 | sed "s/^$version$/the same/"; done
   the same

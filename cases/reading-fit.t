@@ -1,16 +1,16 @@
-FIT images are listed, reported on and unpacked
+Listings, reports and extractions of FIT images
 ===============================================
 
   $ files="$TESTDIR/files"
 
-`cell FILE AT BYTE..` puts bytes into a file at a place:
+`cell FILE AT BYTE..` sets bytes of a file at an offset:
 
   $ cell() {
   >     to=$1 at=$2; shift 2
   >     printf "$(printf '\\%03o' "$@")" | dd of=$to bs=1 seek=$at conv=notrunc status=none
   > }
 
-`payload POSITION IMAGE` extracts, and shows the outfile in brackets:
+`payload POSITION IMAGE` extracts, and prints the outfile in brackets:
 
   $ payload() {
   >     uimg dumpimage -p "$1" -o out "$2"
@@ -215,7 +215,7 @@ changed-five-hash:
   kernel hash-5 sha512 bad
   [1]
 
-payload-outside: the listing is done, and nothing is reported on or extracted.
+payload-outside: the listing is complete, and nothing is reported on or extracted.
 
   $ cp "$files/external-fit.itb" outside.itb
   $ cell outside.itb 184 0 0 0 5
@@ -228,7 +228,7 @@ payload-outside: the listing is done, and nothing is reported on or extracted.
   uimg: F3 data outside
   1 []
 
-Of two faults the one of the blob comes first:
+Of two faults the blob's comes first:
 
   $ cell outside.itb 116 0 0 0 7
   $ uimg verify outside.itb
@@ -287,7 +287,7 @@ sha3-node:
   b hash-1 sha3 unsupported
   [1]
 
-Of two nodes of equal names the first counts as `images`, and all images are reported on:
+Of two nodes with the same name the first counts as `images`, and all images are reported on:
 
   $ uimg verify "$files/equal-names.itb"
   a - none unhashed
@@ -313,7 +313,7 @@ The words of hash nodes: a missing name comes first, then an unknown one, then a
   a hash crc32 bad
   [1]
 
-Lists of texts are cut after each NUL, and a text need not end in one:
+Lists of texts are cut after each NUL, and a text may end without one:
 
   $ uimg dumpimage -l "$files/lists-and-texts.itb"
   FIT description: no NUL
@@ -330,7 +330,7 @@ Lists of texts are cut after each NUL, and a text need not end in one:
                   
                   b
 
-data-position: the payload is the first that is there whole of data-position, data-offset and data.
+data-position: the payload is the first that is complete of data-position, data-offset and data.
 
   $ uimg dumpimage -o out "$files/position-first.itb" && od -An -tx1 out
    d0 0d fe ed
@@ -373,7 +373,7 @@ cut-files:
   uimg: B1 too short at 0
   [1]
 
-Bytes behind the image are accepted:
+Bytes after the image are accepted:
 
   $ { cat "$files/four-hash-fit.itb"; echo more; } > longer.itb
   $ uimg verify longer.itb

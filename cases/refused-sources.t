@@ -1,12 +1,12 @@
-Image sources that are refused
-==============================
+Refused image sources
+=====================
 
   $ printf abc > abc.bin
   $ printf abc > a
   $ SOURCE_DATE_EPOCH=0
   $ export SOURCE_DATE_EPOCH
 
-`refused TEXT` makes an image of a source, and tells where there is an outfile then:
+`refused TEXT` makes an image of a source, and says if an outfile exists then:
 
   $ refused() {
   >     printf '%s' "$1" > r.its
@@ -40,7 +40,7 @@ An open string, and a byte that begins no word:
   uimg: I1 bad token at line 2
   [1]
 
-What is out of the profile:
+Constructs outside the profile:
 
   $ refused '/dts-v1/;
   > // sample
@@ -112,7 +112,7 @@ Numbers:
   uimg: I4 bad number at line 1
   [1]
 
-Files: one that is not there, a folder, and a name that is not UTF-8.
+Files: one that does not exist, a folder, and a name that is not UTF-8.
 
   $ refused '/dts-v1/;
   > / { images { a {
@@ -135,7 +135,7 @@ Files: one that is not there, a folder, and a name that is not UTF-8.
   uimg: I5 no file at line 1
   [3]
 
-Trees: no images, an image without data, a hash node without an algorithm, and one that is not known.
+Trees: no images, an image without data, a hash node without an algorithm, and one with an unknown algorithm.
 
   $ refused '/dts-v1/; / { };'
   uimg: F1 no images
@@ -168,8 +168,8 @@ The file would have more than 4294967295 bytes:
   $ test -e large.itb
   [1]
 
-A file whose size is not the number of its bytes, as those of sysfs are, is answered as a failed read: by `compile`
-where it stands among other values, else where it is hashed, or else where it is written.
+A file whose size is not the number of its bytes, like those of sysfs, counts as a failed read: in `compile`
+if it is among other values, else when it is hashed, else when it is written.
 
   $ test -r /sys/devices/system/cpu/online
   $ refused '/dts-v1/; / { v = /incbin/("/sys/devices/system/cpu/online"), [00]; };'
@@ -185,8 +185,8 @@ where it stands among other values, else where it is hashed, or else where it is
   $ head -c 4 sys.itb | od -An -tx1
    d0 0d fe ed
 
-files-that-fail: a file that can be opened while the image is not begun, and not beside it, since three streams and the
-image are all that may be open. What was written of the image is left:
+files-that-fail: a file can be opened before the image is begun, and not beside it, since only the three streams and the
+image may be open. What was written of the image is left:
 
   $ cat > two.its <<'EOF'
   > /dts-v1/;

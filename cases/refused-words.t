@@ -1,7 +1,7 @@
-Command lines that are wrong
-============================
+Wrong command lines
+===================
 
-The program's own checks: each is one line, before any file is opened, on standard error alone.
+The program's own checks: each prints one line, before any file is opened, to standard error alone.
 
   $ uimg dumpimage none.img
   uimg: no -l or -o
@@ -15,7 +15,7 @@ The program's own checks: each is one line, before any file is opened, on standa
   uimg: no -l or -o
   [2]
 
-`all LINE..` runs the program with each word set for @ in a line, and counts what it says and the status:
+`all LINE..` runs the program with each word in place of @ in a line, and counts its messages and the status:
 
   $ all() {
   >     line=$1; shift
@@ -135,7 +135,7 @@ Wrong times:
   $ test -e none.img
   [1]
 
-With -l other options have no effect, and none of them is checked:
+With -l other options have no effect and are not checked:
 
   $ SOURCE_DATE_EPOCH=x uimg mkimage -l -A x -O x -T flat_dt -C x -a x -e x -n x -d none.bin -f none.its -E -p x "$TESTDIR/files/abc-kernel.img"
   Image Name:   01234567890123456789012345678901
@@ -152,7 +152,7 @@ A word that is not UTF-8:
   uimg: a word of the command line is not UTF-8
   [2]
 
-What the library of command lines answers:
+The messages of the library for command lines:
 
   $ first() { uimg "$@" > out 2> err; echo "$? $(wc -c < out) $(head -n 1 err)"; }
   $ first frob none.img -l
@@ -184,7 +184,7 @@ What the library of command lines answers:
   $ first mkimage -x -d a none.img
   2 0 error: unexpected argument '-x' found
 
-The tip to put such a word behind a `--` is left out: a word there is the image, and never the value of an option.
+The tip to put such a word after a `--` is left out: a word there is the image, never the value of an option.
 
   $ uimg mkimage -n -x -d none.bin none.img
   error: unexpected argument '-x' found

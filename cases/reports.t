@@ -40,7 +40,7 @@ Other data:
   $ uimg verify data.img > /dev/null
   [1]
 
-What is no image is refused, with no text:
+A file that is no image is refused, without text:
 
   $ head -c 63 "$files/abc-kernel.img" > short.img
   $ uimg verify short.img
@@ -51,7 +51,7 @@ What is no image is refused, with no text:
   uimg: L2 bad magic
   [1]
 
-size-too-large is refused behind the line of the header:
+size-too-large is refused after the line of the header:
 
   $ uimg verify "$files/size-too-large.img"
   header crc32 ok

@@ -5,7 +5,7 @@ Sources and images of some size
   $ export SOURCE_DATE_EPOCH
   $ repeat() { yes "$2" | head -n "$1" | tr -d '\n'; }
 
-A source's files are looked for in its folder, also above it:
+File names in a source are relative to its folder, also above it:
 
   $ mkdir -p a/b && printf near > a/b/payload.bin && printf above > a/payload.bin && printf here > payload.bin
   $ cat > a/b/k.its <<'END'
@@ -21,7 +21,7 @@ A source's files are looked for in its folder, also above it:
   above
   nearabove
 
-The format that -T names is the one that is read:
+An image is read in the format of -T:
 
   $ uimg dumpimage -T kernel -o out k.itb
   uimg: L2 bad magic
@@ -57,7 +57,7 @@ A source of more than 64 KiB, of 300 images; the last has 20 hash nodes and a de
   $ uimg dumpimage -p 298 -o out large.itb && od -An -c out | tr -d ' '
   298\0
 
-A part by a path of 405 bytes, a source by a name of 244, and an address with many zeros before it:
+A part with a path of 405 bytes, a source with a name of 244, and an address with many leading zeros:
 
   $ repeat 240 s > name && source=$(cat name).its
   $ mkdir -p "$(repeat 200 d)/$(repeat 200 e)" && cp abc.bin "$(repeat 200 d)/$(repeat 200 e)/abc"
@@ -87,7 +87,7 @@ A part by a path of 405 bytes, a source by a name of 244, and an address with ma
   uimg: I3 out of profile: depth at line 2
   [1]
 
-2000 images outside of the blob, and an image of 1500 hash nodes:
+2000 images outside the blob, and an image of 1500 hash nodes:
 
   $ { echo '/dts-v1/; / { images {'
   >   for i in $(seq 0 1999); do echo "i$i { data = \"$i\"; hash { algo = \"crc32\"; }; };"; done
@@ -103,7 +103,7 @@ A part by a path of 405 bytes, a source by a name of 244, and an address with ma
   $ uimg verify hashed.itb | grep -c 'md5 ok$'
   1500
 
-A file of the source that cannot be read to its end is told as one (those of sysfs have fewer bytes than their size):
+A file of the source that cannot be read to its end is reported as one (those of sysfs have fewer bytes than their size):
 
   $ echo '/dts-v1/; / { images { k { data = "x", /incbin/("/sys/kernel/mm/transparent_hugepage/enabled"); }; }; };' > short.its
   $ if test -r /sys/kernel/mm/transparent_hugepage/enabled; then uimg mkimage -f short.its none.itb 2>&1; echo "status $?"; else echo 'uimg: I6 read failed at line 1'; echo 'status 3'; fi

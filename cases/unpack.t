@@ -1,13 +1,13 @@
-The payloads of an image are put in a folder
-============================================
+Payloads of an image, written to a folder
+=========================================
 
 Of a FIT image
 --------------
 
   $ files="$TESTDIR/files"
 
-`fit IMAGES` makes a FIT image k.itb with these images, and `patch FILE TEXT NEW` puts bytes in place of others, where they
-stand for the first time:
+`fit IMAGES` makes a FIT image k.itb with these images, and `patch FILE TEXT NEW` replaces bytes by others, where they
+occur first:
 
   $ fit() {
   >     echo "/dts-v1/; / { description = \"d\"; images { $1 }; };" > k.its
@@ -17,7 +17,7 @@ stand for the first time:
   >     printf '%s' "$3" | dd of="$1" bs=1 seek="$(grep -abo "$2" "$1" | head -n 1 | cut -d: -f1)" conv=notrunc status=none
   > }
 
-Each payload becomes a file, with its size and what vouches for it: the strongest algorithm that its image's hashes use, and
+Each payload becomes a file; its line has its size and what vouches for it: the strongest algorithm of its image's hashes, and
 the digest (of `abc`: FIPS 180-2, B.1):
 
   $ fit 'kernel { data = [61 62 63]; hash-1 { algo = "crc32"; }; hash-2 { algo = "sha256"; }; }; ramdisk { data = [64 65 66 67]; };'
@@ -29,7 +29,7 @@ the digest (of `abc`: FIPS 180-2, B.1):
   ramdisk
   abcdefg
 
-Nothing is written where one of the files is there:
+Nothing is written if one of the files exists:
 
   $ rm out/kernel && echo old > out/ramdisk && uimg unpack -C out k.itb
   uimg: out/ramdisk is there already, and only a file is replaced, by --force
@@ -48,7 +48,7 @@ Nothing is written where one of the files is there:
   ramdisk: 4 bytes, unhashed
   defg
 
-One alone, and one that there is not:
+A single one, and one that does not exist:
 
   $ rm -r out && mkdir out && uimg unpack --only ramdisk -C out k.itb && ls -A out
   ramdisk: 4 bytes, unhashed
@@ -60,7 +60,7 @@ One alone, and one that there is not:
   uimg: F4 no such image
   [1]
 
-A payload whose hash is not right is no file, and the next one follows; with --force a file of before is none any more:
+A payload whose hash is not right is not written, and the next one is; with --force an existing file is removed:
 
   $ rm -r out && mkdir out && fit 'a { data = [61 62 63]; hash-1 { algo = "crc32"; }; hash-2 { algo = "sha1"; }; }; b { data = [78 79 7a]; hash { algo = "md5"; }; };'
   $ cp k.itb changed.itb && patch changed.itb abc abd && uimg unpack -C out changed.itb
@@ -75,7 +75,7 @@ A payload whose hash is not right is no file, and the next one follows; with --f
   $ ls -A out
   b
 
-What a hash node lacks is told as verify tells it:
+A hash node with something missing is reported as by verify:
 
   $ rm -r out && mkdir out && cp "$files/sha3-node.itb" . && uimg unpack -C out sha3-node.itb > lines
   [1]
@@ -89,7 +89,7 @@ What a hash node lacks is told as verify tells it:
   [1]
   $ ls -A out
 
-A strength that is needed:
+A needed strength:
 
   $ rm -r out && mkdir out && fit 'a { data = [61 62 63]; hash-1 { algo = "sha1"; }; }; b { data = [61 62 63]; hash-1 { algo = "sha512"; }; }; c { data = [61 62 63]; };'
   $ uimg unpack --need-hash sha256 -C out k.itb > lines
@@ -107,7 +107,7 @@ A strength that is needed:
   uimg: no image has a hash, as there is none
   [1]
 
-Names that are no names of files, and names that stand twice, also in other letters:
+Names that are no file names, and repeated names, also in another case:
 
   $ rm -r out && mkdir out && fit 'a,b { data = [31]; }; c { data = [32]; }; C { data = [33]; }; image-2 { data = [34]; };'
   $ uimg unpack -C out k.itb
@@ -182,7 +182,7 @@ Refusals come before anything is written:
   $ uimg unpack 2>&1 | head -n 1
   error: the following required arguments were not provided:
 
-Payloads that have more bytes together than the file overlap, and none is written. Two images with the same 4000 bytes behind
+Payloads that have more bytes together than the file overlap, and none is written. Two images with the same 4000 bytes after
 the tree (4000 is the size of the first, the offset of the second, which becomes that of the first, and its size):
 
   $ head -c 4000 /dev/zero > zeros
@@ -204,7 +204,7 @@ the tree (4000 is the size of the first, the offset of the second, which becomes
   $ uimg unpack --only b -C out shared.itb
   b: 4000 bytes, crc32 3a8b93be
 
-The image is not written over, by whatever name, nor is a folder:
+The image is not overwritten, under any name, nor is a folder:
 
   $ rm -r out && mkdir out && fit 'k.itb { data = [61 62 63]; };' && cp k.itb before.itb && uimg unpack --force k.itb
   uimg: ./k.itb would be written while it is read
@@ -219,7 +219,7 @@ The image is not written over, by whatever name, nor is a folder:
   uimg: out/c is there already, and only a file is replaced, by --force
   [3]
 
-Nobody reads the lines, and no place for them:
+Nobody reads the lines, and there is no space for them:
 
   $ rm -r out && mkdir out && fit 'a { data = [61 62 63]; };' && (sleep 0.1; uimg unpack -C out k.itb; echo $? > status) | true; sleep 0.5; cat status
   3
@@ -232,7 +232,7 @@ Nobody reads the lines, and no place for them:
 Of a legacy image
 -----------------
 
-Its parts, or its data where it has no parts, with the checksum of the data (0x352441c2, of `abc`):
+Its parts, or its data if it has no parts, with the checksum of the data (0x352441c2, of `abc`):
 
   $ rm -r out && mkdir out && cp "$files/abc-kernel.img" "$files/three-part-multi.img" "$files/no-table-end.img" "$files/part-outside.img" .
   $ uimg unpack -C out abc-kernel.img && ls -A out && cat out/image-0 && echo
@@ -257,11 +257,11 @@ Its parts, or its data where it has no parts, with the checksum of the data (0x3
   image-0: 0 bytes, data crc32 00000000
   0
 
-What dumpimage gives of each position is the same:
+dumpimage extracts the same at each position:
 
   $ rm out/* && uimg unpack -C out three-part-multi.img > lines && for part in 0 1 2; do uimg dumpimage -p $part -o part three-part-multi.img && cmp part out/image-$part; done
 
-One alone, and one that there is not:
+A single one, and one that does not exist:
 
   $ rm out/* && uimg unpack --only image-1 -C out three-part-multi.img && ls -A out && cat out/image-1 && echo
   image-1: 4 bytes, data crc32 9350b6ea
@@ -280,7 +280,7 @@ One alone, and one that there is not:
   $ ls -A out
   image-1
 
-A strength that is needed:
+A needed strength:
 
   $ rm out/* && uimg unpack --need-hash sha256 -C out three-part-multi.img
   three-part-multi.img: weak crc32
@@ -291,7 +291,7 @@ A strength that is needed:
   uimg: L2 bad magic
   [1]
 
-Nothing is written where one of the files is there:
+Nothing is written if one of the files exists:
 
   $ rm out/* && echo old > out/image-2 && uimg unpack -C out three-part-multi.img
   uimg: out/image-2 is there already, and only a file is replaced, by --force
@@ -307,7 +307,7 @@ Nothing is written where one of the files is there:
   $ ls -A out
   image-1
 
-Nor is the image written over:
+Nor is the image overwritten:
 
   $ rm -r out && mkdir out && cp three-part-multi.img out/image-1 && uimg unpack --force -C out out/image-1
   uimg: out/image-1 would be written while it is read
@@ -315,8 +315,8 @@ Nor is the image written over:
   $ cmp three-part-multi.img out/image-1 && ls -A out
   image-1
 
-Data that are changed are no files, and with --force files of before are none any more; so for each byte of them: of the table,
-of a part and of what stands between parts:
+Changed data are not written, and with --force existing files are removed; so for each byte of them: of the table,
+of a part and of the padding between parts:
 
   $ rm out/* && cp three-part-multi.img changed.img && patch changed.img defg defh && uimg unpack -C out changed.img
   uimg: L5 bad data CRC
@@ -337,7 +337,7 @@ of a part and of what stands between parts:
    12 uimg: L7 part outside
   $ ls -A out
 
-Refusals of the header and of the table, and a cut image, leave none either:
+Refusals of the header and of the table, and a cut image, leave no file either:
 
   $ for name in no-table-end part-outside; do uimg unpack -C out $name.img; done
   uimg: L6 no table end
@@ -357,13 +357,13 @@ Refusals of the header and of the table, and a cut image, leave none either:
   uimg: cannot write none/image-0
   [3]
 
-Bytes behind the data are no part of them:
+Bytes after the data belong to no part:
 
   $ cat three-part-multi.img boot.cmd > longer.img && uimg unpack --only image-2 -C out longer.img && cat out/image-2 && echo
   image-2: 5 bytes, data crc32 9350b6ea
   hijkl
 
-Files that stand where those without their names would are left; no more than a hundred places are tried:
+Existing files with the temporary names are left alone; at most a hundred names are tried:
 
   $ rm out/* && mkdir out/.uimg-new1 && echo old > out/.uimg-new2 && uimg unpack -C out abc-kernel.img && ls -A out | LC_ALL=C sort
   image-0: 3 bytes, data crc32 352441c2
@@ -374,7 +374,7 @@ Files that stand where those without their names would are left; no more than a 
   uimg: cannot write out/image-0
   [3]
 
-A write that fails leaves no file, nor a line that nobody reads a folder:
+A failed write leaves no file, and a line that nobody reads leaves no folder:
 
   $ rm -r out && mkdir out && head -c 3000000 /dev/zero > zeros && uimg mkimage -A arm -T kernel -C none -d zeros large.img > listing
   $ (ulimit -f 1000; trap '' XFSZ; uimg unpack -C out large.img)
@@ -390,7 +390,7 @@ A write that fails leaves no file, nor a line that nobody reads a folder:
   $ ls -A out
   image-0
 
-More sizes than the window has, read again a window at a time:
+More sizes than fit into the window, read again a window at a time:
 
   $ rm -r out && mkdir out && python3 - <<'END'
   > import struct, zlib

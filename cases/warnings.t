@@ -1,15 +1,15 @@
-What mkimage warns of where an image is made of a source
-========================================================
+Warnings of mkimage when an image is made from a source
+=======================================================
 
-By the old names alone, a line each, and the image is made all the same. mkimage 2023.01 refuses a source whose root has no
-description, or with a name that stands twice; of the rest it says nothing.
+Only under the old names, a line each, and the image is made all the same. mkimage 2023.01 refuses a source whose root has no
+description, or with a repeated name; on the rest it is silent.
 
   $ export SOURCE_DATE_EPOCH=1700000000
   $ for name in mkimage uimg-mkimage; do ln -s "$(command -v uimg)" $name; done
   $ PATH=$PWD:$PATH
   $ cp "$TESTDIR/../examples/kernel.its" "$TESTDIR/../examples/abc.bin" .
 
-`warned IMAGES CONFIGURATIONS` makes an image of a source that has all else, and shows what it warns of:
+`warned IMAGES CONFIGURATIONS` makes an image of a source that has all else, and prints its warnings:
 
   $ warned() {
   >     printf '/dts-v1/; / { description = "d"; #address-cells = <1>; images { %s };\n' "$1" > w.its
@@ -19,7 +19,7 @@ description, or with a name that stands twice; of the rest it says nothing.
   $ image='description = "i"; type = "kernel"; arch = "arm"; os = "linux"; compression = "none"; data = "i";'
   $ configuration='description = "c"; kernel = "a";'
 
-A source that lacks nothing gives no warning, nor does what image.h has in capital letters:
+A complete source gives no warning, nor do names of image.h in capital letters:
 
   $ mkimage -q -f kernel.its out
   $ warned "a { $image };" "default = \"c\"; c { $configuration };"
@@ -37,13 +37,13 @@ The root:
   mkimage: warning: /: it has no description
   mkimage: warning: /: it has no #address-cells
 
-As `uimg` it is made without a word, and so is what mkimage makes the source of itself, whose RAM disk has no description:
+As `uimg` it is made without a warning, and so is mkimage's own source, whose RAM disk has no description:
 
   $ uimg mkimage -f root.its out > listing && cmp quiet out && uimg mkimage -f root.its out | cmp - listing
   $ mkimage -q -f auto -d abc.bin -i abc.bin auto && uimg dumpimage -l auto | grep -c '^  Description:'
   1
 
-A description that an image or a configuration lacks:
+A missing description of an image or a configuration:
 
   $ warned "a { type = \"kernel\"; data = \"i\"; }; b { data = \"i\"; };" 'c { kernel = "a"; };'
   mkimage: warning: /images/a: it has no description
@@ -64,7 +64,7 @@ A name in a configuration that no image has, each of its texts, and a default th
   $ echo '/dts-v1/; / { description = "d"; #address-cells = <1>; images { a { description = "i"; data = "i"; }; };' > w.its
   $ echo 'other { c { kernel = "b"; }; }; };' >> w.its && mkimage -q -f w.its out
 
-A name of a code that image.h has not:
+A name of a code that is not in image.h:
 
   $ warned 'a { description = "i"; type = "kernle"; arch = "amd64"; os = "android"; compression = "zip"; data = "i"; };' ''
   mkimage: warning: /images/a: unknown image type "kernle"
@@ -75,7 +75,7 @@ A name of a code that image.h has not:
   mkimage: warning: /images/a: unknown image type ""
   mkimage: warning: /images/a: unknown architecture ""
 
-Two nodes, or two properties, with one name:
+Two nodes, or two properties, with the same name:
 
   $ warned "a { $image }; a { $image os = \"linux\"; hash { algo = \"crc32\"; algo = \"md5\"; }; hash { algo = \"md5\"; }; };" ''
   mkimage: warning: /images: two nodes have the name "a"
@@ -93,7 +93,7 @@ Two nodes, or two properties, with one name:
   mkimage: warning: /: two nodes have the name "images"
   mkimage: warning: /: two properties have the name "#address-cells"
 
-What is no letter of ASCII stands by its number:
+Bytes outside printable ASCII become `\xNN`:
 
   $ warned "a { $image };" 'c { description = "c"; kernel = "\x1b[31m\"\\ö\x7f"; };'
   mkimage: warning: /configurations/c: kernel names no image: "\x1b[31m\x22\x5c\xc3\xb6\x7f"
@@ -110,7 +110,7 @@ Twenty have a line, and the rest are counted:
   $ warned "$(for i in $(seq 5000); do echo "a { data = \"i\"; };"; done)" "$(for i in $(seq 5000); do echo "c { fdt = \"b\"; };"; done)" 2>&1 | tail -n 1
   mkimage: warning: 24978 more
 
-A source that is refused is told by its fault alone, and of an image of parts nothing is warned:
+A refused source gets its fault alone, and for an image of parts there is no warning:
 
   $ echo '/dts-v1/; / { images { a { type = "x"; }; }' > w.its && mkimage -q -f w.its out
   mkimage: w.its: I2 bad syntax at line 1

@@ -1,14 +1,14 @@
 Hash nodes and windows of FIT images
 ====================================
 
-`cell FILE AT BYTE..` puts bytes into a file at a place:
+`cell FILE AT BYTE..` sets bytes of a file at an offset:
 
   $ cell() {
   >     to=$1 at=$2; shift 2
   >     printf "$(printf '\\%03o' "$@")" | dd of=$to bs=1 seek=$at conv=notrunc status=none
   > }
 
-nine-crc-nodes, and as well eight and seventeen hash nodes, whose payload is read once:
+nine-crc-nodes, and also eight and seventeen hash nodes, whose payload is read once:
 
   $ head -c 20000 /dev/zero > zeros
   $ hashes() { for number in $(seq $1); do echo 'hash { algo = "crc32"; };'; done; }

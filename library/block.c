@@ -1,4 +1,4 @@
-/* block.c: the three calls by which libuimg takes memory, over one block that the caller gives: for programs
+/* block.c: the three memory calls of libuimg, over one block that the caller gives, for programs
    without malloc. It serves one thread at a time. */
 #include <stddef.h>
 #include <stdint.h>
@@ -6,7 +6,7 @@
 
 #include <uimg_block.h>
 
-/* What a call answers: whether there was memory, and where. */
+/* The result of a call: whether there was memory, and where. */
 struct memory {
     uint8_t is_there;
     void *start;
@@ -14,11 +14,11 @@ struct memory {
 
 enum { UNIT = 16 };
 
-/* A piece of the block begins with its size, in a unit of its own. Pieces stand one behind the other. */
+/* A piece of the block begins with its size, in a unit of its own. Pieces follow one another. */
 static uint8_t *block;
 static size_t given, taken, most;
 
-/* A place that nothing is written to, for an answer without memory. */
+/* An address that nothing is written to, for a result without memory. */
 static max_align_t nowhere;
 
 void uimg_use_block(void *start, size_t size)

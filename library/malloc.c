@@ -1,15 +1,15 @@
-/* malloc.c: the three calls by which libuimg takes memory, over malloc. */
+/* malloc.c: the three memory calls of libuimg, over malloc. */
 #include <stddef.h>
 #include <stdint.h>
 #include <stdlib.h>
 
-/* What a call answers: whether there was memory, and where. */
+/* The result of a call: whether there was memory, and where. */
 struct memory {
     uint8_t is_there;
     void *start;
 };
 
-/* A place that nothing is written to, for an answer without memory. */
+/* An address that nothing is written to, for a result without memory. */
 static max_align_t nowhere;
 
 static struct memory answer(void *start)
@@ -17,7 +17,8 @@ static struct memory answer(void *start)
     return start ? (struct memory){1, start} : (struct memory){0, &nowhere};
 }
 
-/* For 0 bytes as many as the alignment are taken. The library asks for alignments of at most 16, which malloc gives. */
+/* For 0 bytes it takes as many as the alignment. The library requests alignments of at most 16,
+   which malloc gives. */
 struct memory rattle_alloc(size_t size, size_t alignment)
 {
     return answer(malloc(size ? size : alignment));

@@ -1,5 +1,5 @@
-/* report.c: all that the library tells of images, a few lines for each file: for comparisons, and for valgrind.
-   report [-b BYTES] FILE..: with -b over a block of so many bytes, where it is linked with libuimg_block.a. */
+/* report.c: prints all results of the library for images, for comparisons and valgrind.
+   report [-b BYTES] FILE..: with -b over a block of this size, if linked with libuimg_block.a. */
 #include <uimg.h>
 #ifdef OVER_A_BLOCK
 #include <uimg_block.h>
@@ -15,7 +15,7 @@ typedef uint32_t command(const uint8_t *, size_t, uint8_t *, size_t, uimg_report
 
 static size_t block_size = 1 << 20;
 
-/* Before each call over a block the block is given anew. */
+/* Gives the block anew before each call over a block. */
 static void prepare(void)
 {
 #ifdef OVER_A_BLOCK
@@ -25,7 +25,7 @@ static void prepare(void)
 #endif
 }
 
-/* Memory of just so many bytes, so that a byte too far is seen. */
+/* Returns memory of exactly this size, so valgrind finds an access beyond it. */
 static void *exactly(size_t size)
 {
     void *memory = malloc(size ? size : 1);
@@ -36,8 +36,8 @@ static void *exactly(size_t size)
     return memory;
 }
 
-/* Where memory was not refused, a call took at least its window, and at most 16 bytes more for each of the image's and
-   for one node. */
+/* Unless memory was refused, a call took at least its window of 8192 bytes, and at most 128 bytes
+   more and 16 for each byte of the image. */
 static void look_at_peak(uint32_t status, uint64_t peak, size_t size)
 {
     if (status != UIMG_NO_MEMORY && (peak < 8192 || peak > 8320 + 16 * (uint64_t)size))

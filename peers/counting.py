@@ -1,11 +1,11 @@
-"""What the comparisons share: commands, and counts of what was compared."""
+"""What the comparisons share: commands, and counts of compared things."""
 
 import os
 import subprocess
 
 
 def output(command):
-    """The status and standard output of a command, in UTC."""
+    """The status and standard output of a command, run in UTC."""
     done = subprocess.run(command, env=dict(os.environ, TZ="UTC"), capture_output=True)
     return done.returncode, done.stdout
 

@@ -1,14 +1,15 @@
-"""FIT images of many shapes, made from a seed, which the real mkimage builds.
+"""FIT images of many shapes, made from a seed, for the real mkimage to build.
 
-`fits(seed, count)` gives so many `Fit`s: what goes into one, whose `source()` is its image-tree
-source. `build(folder, fit, placement)` has the real mkimage make it, with its payloads inside (no
-words), behind the tree (`-E`) or at a position (`-E -p`). `report(fit)` is the report that each
-image has to get, and `report(fit, changed)` the one after a byte of a payload was changed.
+`fits(seed, count)` gives `count` `Fit`s: the contents of a FIT image, whose `source()` is its
+image-tree source. `build(folder, fit, placement)` has the real mkimage make it, with its payloads
+inside (no words), after the tree (`-E`) or at a position (`-E -p`). `report(fit)` is the report
+that each image has to get, and `report(fit, changed)` the one after a byte of a payload was
+changed.
 
-`sections(text)` are the lines of a listing, image by image, and `differs(own, real)` says what is
-not the same in two of them, but for `OWN_LINES` and lines that end with `MISSING`. dumpimage lists
-the default configuration only where the configurations stand right behind the images (it asks the
-node behind these for it): `listed(fit, sections)` leaves it out where it does.
+`sections(text)` are the lines of a listing, by image, and `differs(own, real)` gives the
+differences of two of them, except for `OWN_LINES` and lines that end with `MISSING`. dumpimage
+lists the default configuration only if the configurations directly follow the images (it looks for
+it in the node after these); otherwise `listed(fit, sections)` leaves it out.
 """
 
 import os
@@ -23,15 +24,15 @@ COMPRESSIONS = ["none", "gzip", "bzip2", "lzma", "lzo", "lz4", "zstd"]
 ADDRESSES = ["<0>", "<0x80000>", "<0xffffffff>", "<0 0x80000>", "<1 0x80000000>", "<0xffffffff 0>"]
 SIZES = [32, 33, 35, 100, 8191, 8192, 8193, 20000, 100000]
 
-# What uimg lists of each image that has it, and dumpimage of some types of images alone.
+# What uimg lists of each image that has it, and dumpimage only for some types of images.
 OWN_LINES = (b"  Architecture", b"  OS", b"  Load Address", b"  Entry Point")
 
-# What dumpimage prints of a property that is missing; uimg leaves the line out.
+# What dumpimage prints of a missing property; uimg leaves the line out.
 MISSING = (b" unavailable", b" Unknown OS")
 
 
 class Image:
-    """One image: its name, its payload, its properties and the algorithms of its hash nodes."""
+    """An image: its name, its payload, its properties and the algorithms of its hash nodes."""
 
     def __init__(self, name, pick):
         self.name = name
@@ -60,7 +61,7 @@ class Image:
 
 
 class Fit:
-    """What goes into one FIT image."""
+    """The contents of a FIT image."""
 
     def __init__(self, pick):
         names = ["kernel", "fdt-1", "fdt@2", "ramdisk,a", "fw_1", "script+x"]
@@ -94,7 +95,7 @@ class Fit:
 
 
 def fits(seed, count):
-    """So many of them, always the same for a seed."""
+    """A number of them, always the same for a seed."""
     pick = random.Random(seed)
     return [Fit(pick) for _ in range(count)]
 
@@ -113,7 +114,7 @@ def build(folder, fit, placement):
 
 
 def report(fit, changed=None):
-    """The status of a verification, and its report, where the payload of one image was changed."""
+    """The status of a verification and its report, after the payload of one image was changed."""
     lines = []
     for image in fit.images:
         word = "bad" if image is changed else "ok"
@@ -141,7 +142,7 @@ def listed(fit, cut):
 
 
 def differs(own, real):
-    """What is not the same in two sections: the lines of one that the other has to have."""
+    """The differences of two sections: the lines of one that the other has to have."""
     lacks = [line for line in real if line not in own and not line.endswith(MISSING)]
     more = [line for line in own if line not in real and not line.startswith(OWN_LINES)]
     both = [line for line in own if line in real] == [line for line in real if line in own]

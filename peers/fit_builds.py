@@ -1,10 +1,9 @@
 """FIT images that uimg and the real mkimage build from the same sources.
 
-Of each the trees are compared, with properties and nodes sorted by dtc (mkimage puts the cells of a
-payload behind the blob elsewhere, and its own properties last or first). Of what uimg built the real
-mkimage and dumpimage print the same listing as of mkimage's, dumpimage unpacks each payload to the
-bytes that went in, fdtget reads each hash's value, which is that of the digest tools, and uimg
-verifies it.
+The trees are compared, with properties and nodes sorted by dtc (mkimage puts the cells of a payload
+after the blob elsewhere, and its own properties last or first). Of uimg's image the real mkimage
+and dumpimage print the same listing as of mkimage's, dumpimage unpacks each payload to its original
+bytes, fdtget reads each hash's value, which is that of the digest tools, and uimg verifies it.
 """
 
 import os
@@ -19,7 +18,7 @@ TIME = "1700000000"
 
 
 def made(tool, folder, placement, image):
-    """What a mkimage answers and prints, making an image of the source in a folder."""
+    """The status and output of a mkimage that makes an image of the source in a folder."""
     environment = dict(os.environ, SOURCE_DATE_EPOCH=TIME, TZ="UTC")
     command = [*tool, *placement, "-f", "fit.its", image]
     done = subprocess.run(command, cwd=folder, env=environment, capture_output=True)
@@ -27,7 +26,7 @@ def made(tool, folder, placement, image):
 
 
 def tree(image):
-    """The tree of an image as dtc reads it, its nodes and properties sorted by their names."""
+    """The tree of an image as dtc reads it, with nodes and properties sorted by name."""
     return output(["dtc", "-q", "-s", "-I", "dtb", "-O", "dts", image])
 
 
@@ -55,7 +54,7 @@ def compare_hashes(count, folder, own, case, given):
 
 
 def compare_unpacked(count, folder, own, case, given):
-    """The payloads of what uimg built, as the real dumpimage unpacks them."""
+    """The payloads of uimg's image, as the real dumpimage unpacks them."""
     out = os.path.join(folder, "payload")
     for position, image in enumerate(given.images):
         words = ["dumpimage", "-T", "flat_dt", "-p", str(position), "-o", out, own]
@@ -67,14 +66,15 @@ def compare_unpacked(count, folder, own, case, given):
 
 
 def loses_a_size(image, placement, given):
-    """Whether an image lacks a data-size, which mkimage 2023.01 leaves out where its blob has no room."""
+    """Whether an image lacks a data-size, which mkimage 2023.01 leaves out if its blob has no
+    room."""
     words = ["fdtget", "-t", "x", image]
     sizes = [output([*words, f"/images/{one.name}", "data-size"])[0] for one in given.images]
     return placement != [] and any(sizes)
 
 
 def compare_build(count, uimg, folder, placement, case, given):
-    """One image that both build. One whose size mkimage lost is no peer."""
+    """One image that both build. One whose size mkimage lost is not compared."""
     real = fit.build(folder, given, placement)
     own = os.path.join(folder, "own.itb")
     count.images += len(given.images)

@@ -1,13 +1,13 @@
 """Image-tree sources of many shapes, made from a seed, for a comparison with the real dtc.
 
 `sources(seed, count)` gives pairs (name, text): sources that dtc and uimg both compile. `refused()`
-gives pairs (name, text) of sources that at least one of them refuses; `OUR_OWN` names those of them
-that dtc compiles and uimg refuses, and `DTC_OWN` those that uimg compiles and dtc refuses, each with
-its reason. `blob(folder, text)` is the blob that dtc makes of a source, or None where it refuses;
-`tree(folder, blob)` is what dtc reads in one. The files that `/incbin/` names are written by
-`files(folder)`.
+gives pairs (name, text) of sources that at least one of them refuses; `OUR_OWN` names those that
+dtc compiles and uimg refuses, and `DTC_OWN` those that uimg compiles and dtc refuses, each with the
+reason. `blob(folder, text)` is the blob that dtc makes of a source, or None if it refuses;
+`tree(folder, blob)` is what dtc reads in a blob. `files(folder)` writes the files that `/incbin/`
+names.
 
-Run by itself it shows that dtc does with each source what is said of it here.
+Run by itself it shows that dtc treats each source as claimed here.
 """
 
 import os
@@ -109,23 +109,23 @@ class Source:
 
 
 def deep(levels):
-    """A source of so many levels."""
+    """A source with a number of levels."""
     return "/dts-v1/; / {" + " a {" * (levels - 1) + " };" * levels + "\n"
 
 
 def wide(nodes):
-    """A source of so many nodes at the second level."""
+    """A source with a number of nodes at the second level."""
     return "/dts-v1/; / {" + "".join(f" n{i} {{ }};" for i in range(nodes)) + " };\n"
 
 
 def sources(seed, count):
-    """So many sources that dtc compiles, and some of fixed shapes."""
+    """A number of sources that dtc compiles, and some of fixed shapes."""
     shapes = [("deep", deep(64)), ("wide", wide(300)), ("empty", "/dts-v1/;/{};")]
     return shapes + [(f"seed {seed + n}", Source(seed + n).text()) for n in range(count)]
 
 
 def examples():
-    """The sources that stand in this repository, with the files that they name beside them."""
+    """The sources in this repository, with the files that they name beside them."""
     folder = os.path.join(os.path.dirname(os.path.abspath(__file__)), "..", "examples")
     names = sorted(name for name in os.listdir(folder) if name.endswith(".its"))
     return [(name, open(os.path.join(folder, name)).read()) for name in names]
@@ -169,7 +169,7 @@ REFUSED = {
     "65 levels": deep(65),
 }
 
-# What dtc compiles of these, and why uimg refuses it.
+# Which of these dtc compiles, and why uimg refuses it.
 OUR_OWN = {
     "expression": "expressions are out of the profile",
     "character": "character literals are out of the profile",
@@ -188,7 +188,7 @@ OUR_OWN = {
     "65 levels": "at most 64 levels are in the profile",
 }
 
-# What dtc refuses of these, and why uimg compiles it.
+# Which of these dtc refuses, and why uimg compiles it.
 DTC_OWN = {
     "blank before a colon": "a label is a name word and a colon, as other words are",
     "at sign in a property": "names of properties and nodes have the same characters",
@@ -210,14 +210,14 @@ def files(folder):
 
 
 def blob(folder, text):
-    """The blob that dtc makes of a source, or None where it refuses the source."""
+    """The blob that dtc makes of a source, or None if it refuses the source."""
     command = ["dtc", "-q", "-I", "dts", "-O", "dtb", "-"]
     done = subprocess.run(command, input=text.encode(), capture_output=True, cwd=folder)
     return done.stdout if done.returncode == 0 else None
 
 
 def tree(folder, content):
-    """What dtc reads in a blob, as source, or None where it refuses the blob."""
+    """What dtc reads in a blob, as source, or None if it refuses the blob."""
     command = ["dtc", "-q", "-I", "dtb", "-O", "dts", "-"]
     done = subprocess.run(command, input=content, capture_output=True, cwd=folder)
     return done.stdout if done.returncode == 0 else None

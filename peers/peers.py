@@ -1,17 +1,19 @@
 #!/usr/bin/env python3
-"""Compares uimg with the real mkimage and dumpimage, where u-boot-tools is installed.
+"""Compares uimg with the real mkimage and dumpimage, if u-boot-tools is installed.
 
-It makes legacy images of every type with the real mkimage, and shows that uimg lists their fields
-alike, verifies them, and unpacks them to the bytes that went in. Then it builds images of every
-type, architecture, operating system and compression with both, and shows that they are the same
-byte for byte, and that the real tools accept them. Where dtc is installed too it makes FIT images with the real
-mkimage, which needs it, and shows that uimg lists them alike, finds every hash right, unpacks their
-payloads, and finds the hashes wrong of a payload that was changed; it builds the same FIT images from
-their sources with both, and shows that the trees are the same, that every hash is that of the digest
-tools, and that the real tools list and unpack what uimg built; and it compares the compiling of
-image-tree source with dtc; and it runs command lines of mkimage and dumpimage under both
-by their names. It prints tables of what was compared, and every difference; it installs
-nothing.
+It makes legacy images of every type with the real mkimage, and shows that uimg lists the same
+fields, verifies them, and unpacks them to the original bytes. Then it builds images of every type,
+architecture, operating system and compression with both, and shows that they are the same byte for
+byte, and that the real tools accept them.
+
+If dtc is installed too, it makes FIT images with the real mkimage, which needs it, and shows that
+uimg lists the same facts, finds every hash right, unpacks their payloads, and finds the hashes of a
+changed payload wrong. It builds the same FIT images from their sources with both, and shows that
+the trees are the same, that every hash is that of the digest tools, and that the real tools list
+and unpack uimg's images. It compares the compiling of image-tree source with dtc, and runs command
+lines of mkimage and dumpimage with both, under their names.
+
+It prints tables of what was compared, and every difference; it installs nothing.
 """
 
 import itertools
@@ -56,7 +58,7 @@ CODES = [
 
 
 def write_parts(folder, parts):
-    """Writes parts to files of their own, and gives the word of -d."""
+    """Writes parts to files of their own, and returns the word of -d."""
     paths = []
     for number, part in enumerate(parts):
         path = os.path.join(folder, f"part{number}")
@@ -77,7 +79,7 @@ def real_image(folder, image, kind, code, name, time, addresses, parts):
 
 
 def listing(text):
-    """The lines of a listing that both tools have: mkimage's `Offset` lines are left out."""
+    """The lines of a listing that both tools print: mkimage's `Offset` lines are left out."""
     return [line for line in text.split(b"\n") if b"Offset = " not in line]
 
 
@@ -97,7 +99,7 @@ def compare(count, uimg, folder, kind, code, name, time, addresses, parts):
         status, _ = output([uimg, *words])
         with open(payload, "rb") as file:
             count.expect(f"part {position} of {case}", (status, file.read()), (0, part))
-        # The real dumpimage wants a type, and takes a script for a single file.
+        # The real dumpimage needs a type, and takes a script for a single file.
         if kind != "script":
             os.remove(payload)
             status, _ = output(["dumpimage", "-T", kind, *words[1:]])
@@ -107,7 +109,7 @@ def compare(count, uimg, folder, kind, code, name, time, addresses, parts):
 
 
 def built(tool, words, time):
-    """What a mkimage answers and prints, and the image that it made."""
+    """The status and output of a mkimage, and the image that it made."""
     environment = dict(os.environ, SOURCE_DATE_EPOCH=time, TZ="UTC")
     done = subprocess.run([*tool, *words], env=environment, capture_output=True)
     with open(words[-1], "rb") as file:
@@ -118,7 +120,7 @@ def without_addresses(answer):
     """The same without load address, entry point and header CRC.
 
     For a TEE the real mkimage takes both addresses from the OP-TEE header that it expects at the
-    front of the file, whether it is one or not, and -a and -e have no effect.
+    front of the file, even if there is none, and ignores -a and -e.
     """
     status, lines, image = answer
     lines = [line for line in lines if not line.startswith((b"Load Address", b"Entry Point"))]
@@ -143,7 +145,7 @@ def compare_built(count, uimg, folder, kind, codes, words, time):
 
 
 def compare_builds(uimg, kind):
-    """Every architecture, operating system and compression; the other options go round."""
+    """Every architecture, operating system and compression; the other options take turns."""
     count = Count()
     names, times, entries = (itertools.cycle(values) for values in (NAMES, TIMES, ENTRIES))
     counts = itertools.cycle([1, 2, 3, 6, 5]) if kind in PARTS else itertools.cycle([1])
@@ -158,7 +160,7 @@ def compare_builds(uimg, kind):
 
 
 def compare_reading(uimg, kind):
-    """Images that the real mkimage made, listed, verified and unpacked."""
+    """Images that the real mkimage made: listed, verified and unpacked."""
     count = Count()
     parts = [b"abc"] if kind in SINGLE else [b"abc", b"defg", b"hijkl" * 2000]
     with tempfile.TemporaryDirectory() as folder:
@@ -168,7 +170,7 @@ def compare_reading(uimg, kind):
 
 
 def own_blob(own, folder, text):
-    """The blob that uimg makes of a source, or None where it refuses the source."""
+    """The blob that uimg makes of a source, or None if it refuses the source."""
     source = os.path.join(folder, "source.its")
     with open(source, "w") as file:
         file.write(text)
@@ -191,7 +193,7 @@ def compare_source(count, own, folder, name, text):
 
 
 def compare_sources(own):
-    """Sources that both compile, and sources that one of both refuses."""
+    """Sources that both compile, and sources that one or both refuse."""
     same, refused = Count(), Count()
     with tempfile.TemporaryDirectory() as folder:
         its.files(folder)
@@ -206,7 +208,7 @@ def compare_sources(own):
 
 
 def print_sources(own):
-    """The table of the sources. It gives the differences."""
+    """Prints the table of the sources. Returns the differences."""
     if shutil.which("dtc") is None:
         print("\npeers: dtc is not installed (Debian: device-tree-compiler); no source was compared")
         return []
@@ -229,7 +231,7 @@ def compare_listing(count, uimg, path, case, given):
 
 
 def compare_payloads(count, uimg, folder, path, case, images):
-    """Each payload as uimg and dumpimage unpack it, and the bytes that went in."""
+    """Each payload as uimg and dumpimage unpack it, and the original bytes."""
     for position, image in enumerate(images):
         for tool in ([uimg, "dumpimage"], ["dumpimage"]):
             out = os.path.join(folder, "payload")
@@ -241,7 +243,7 @@ def compare_payloads(count, uimg, folder, path, case, images):
 
 
 def compare_changed(count, uimg, folder, path, case, given):
-    """The report on a FIT in which one byte of one payload is another."""
+    """The report on a FIT with one changed byte in one payload."""
     with open(path, "rb") as file:
         whole = file.read()
     changed = os.path.join(folder, "changed.itb")
@@ -254,7 +256,8 @@ def compare_changed(count, uimg, folder, path, case, given):
 
 
 def compare_fits(uimg, placement):
-    """FIT images that the real mkimage made: listed, verified, unpacked, and verified when changed."""
+    """FIT images that the real mkimage made: listed, verified, unpacked, and verified after a
+    change."""
     count = Count()
     with tempfile.TemporaryDirectory() as folder:
         for number, given in enumerate(fit.fits(7, 60)):
@@ -269,7 +272,7 @@ def compare_fits(uimg, placement):
 
 
 def print_fits(uimg):
-    """The tables of the FIT images. It gives the differences."""
+    """Prints the tables of the FIT images. Returns the differences."""
     if shutil.which("dtc") is None:
         print("\npeers: dtc is not installed (Debian: device-tree-compiler); no FIT was compared")
         return []
@@ -285,7 +288,7 @@ def print_fits(uimg):
 
 
 def print_lines(uimg):
-    """The table of command lines by the old names."""
+    """Prints the table of command lines with the old names."""
     count, known = old_names.compare(uimg)
     print("\n| Command lines by the old names | Differences | Otherwise, for a reason that is told |")
     print("|---|---|---|")

@@ -1,9 +1,9 @@
 #!/bin/sh
-# scripts/build.sh PROGRAM: proves the crates that a program stands on, side by side, and the program, compiles it, and
-# leaves it as bin/PROGRAM.
+# scripts/build.sh PROGRAM: proves the crates below a program, side by side, and the program,
+# compiles it, and leaves it as bin/PROGRAM.
 program=$1
 scripts/needs.sh rt python3 || exit 1
-# bin/PROGRAM gets the time of the second file, so that an edit during the build counts as newer.
+# bin/PROGRAM gets the time of the second file, so an edit during the build counts as newer.
 mkdir -p bin out && : > "out/$program.begun" || exit 1
 echo "This proves the $(scripts/crates.sh "$program" | wc -l) crates of $program, and builds bin/$program: some 20 minutes on 4 cores the"
 echo "first time, less from then on. An interrupted run goes on from what is proved."

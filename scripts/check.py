@@ -1,8 +1,10 @@
 #!/usr/bin/env python3
-"""check.py [CRATE]: proves the crates below a crate where they are not proved, then the crate over its kept work in
-crates/CRATE/out/incremental, and beside that runs its tests, compiled with checks while they run. The first check of a
-crate takes as long as its proof, with a job for each processor; from then on only what changed is checked. Without a
-crate it proves each crate of the program that changed, or that stands on one that did."""
+"""check.py [CRATE]: proves a crate and what changed below it, and runs its tests beside that,
+compiled with run-time checks.
+
+What was checked of the crate is kept in crates/CRATE/out/incremental. The first check of a crate
+takes as long as its proof, with a job for each processor; later ones check only what changed.
+Without CRATE it proves each crate of the program that changed, or that uses one that did."""
 import os
 import subprocess
 import sys
@@ -15,8 +17,8 @@ import test
 
 
 def tests_of(crates, name):
-    """Returns the crate with the tests of a crate: itself, or of those that stand on it the one that stands on the fewest.
-    That is not uimg_surface, whose tests are of names and signatures."""
+    """Returns the crate with the tests of a crate: itself, or of those that use it the one with
+    the fewest crates below. uimg_surface does not count: its tests are of names and signatures."""
     if test.has_tests(f"crates/{name}"):
         return name
     found = [it for it in crates.by_name if it.endswith("_tests") and name in crates.below(it)]
@@ -24,7 +26,7 @@ def tests_of(crates, name):
 
 
 def is_proved(crates, name):
-    """Checks the crate, and prints what became of it."""
+    """Checks the crate, and prints the result."""
     kept, begun = f"crates/{name}/out/incremental", time.monotonic()
     jobs = 1 if os.path.isdir(kept) else kit.processors()
     os.makedirs(kept, exist_ok=True)
@@ -51,7 +53,7 @@ class Tests:
         self.answer = test.tests_of(self.name)
 
     def pass_all(self):
-        """Prints what became of them. Returns whether they pass."""
+        """Prints their results. Returns whether they pass."""
         if self.name:
             self.thread.join()
             print("\n".join(self.answer[2]), f"({kit.in_words(time.monotonic() - self.begun)})")

@@ -1,7 +1,7 @@
 #!/usr/bin/env python3
-"""completions.py PROGRAM [--check]: writes completions/uimg.bash, _uimg (zsh) and uimg.fish from what the helps
-of PROGRAM print: its commands, their options, and the short names that options take. With --check it writes
-nothing, and its status is 1 where a file has another text than it would be given."""
+"""completions.py PROGRAM [--check]: writes completions/uimg.bash, _uimg (zsh) and uimg.fish from
+the helps of PROGRAM: its commands, their options, and the short names that options take. With
+--check it writes nothing, and exits with status 1 if a file would change."""
 import os
 import re
 import subprocess
@@ -15,7 +15,7 @@ def help_of(program, *words):
 
 
 def options(text):
-    """Returns each option of a help with what it takes, if it takes something, and its meaning."""
+    """Returns each option of a help with its argument, if it takes one, and its meaning."""
     rows = re.findall(r"^ +(-\w|(?=--))(?:, )?(--[\w-]+)?(?: <(\w+)>)? {2,}(.*)$", text, re.M)
     return [(short or long, takes, meaning.split(" [")[0]) for short, long, takes, meaning in rows]
 

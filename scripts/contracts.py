@@ -1,14 +1,18 @@
 #!/usr/bin/env python3
-"""contracts.py [CRATE]: how much of the code is under a contract; with a crate, the contracts of its public functions.
+"""contracts.py [CRATE]: how much of the code is under a contract; with a crate, the contracts of
+its public functions.
 
-Without CRATE it prints a row for each crate of crates.txt but those of tests, and a total: its functions, those with a
-contract, the lines of all bodies, and the lines of the bodies under a contract. A function has a contract if it has a
-`requires` or an `ensures` clause, or if its trait's method has one. Traits of the kit are not read: of them an impl
-counts that gives a ghost member which the trait's clauses cite, as `output`. A line of a body is a line of code from
-`fn` to the closing brace; clauses, comments, `use` lines, blank lines and samples for tests do not count.
+Without CRATE it prints a row for each crate of crates.txt except those of tests, and a total: its
+functions, those with a contract, the lines of all bodies, and the lines of the bodies under a
+contract. A function has a contract if it has a `requires` or an `ensures` clause, or if its trait's
+method has one. Traits of the kit are not read: an impl of one has a contract if it gives a ghost
+member that the trait's clauses cite, as `output`. The lines of a body are the lines of code from
+`fn` to the closing brace, without clauses, comments, `use` lines, blank lines and samples for
+tests.
 
-With CRATE it lists each public function and each method of a public trait: its place, its doc comment and its clauses,
-and below a clause that is a record of specs/ the fields of that record."""
+With CRATE it lists each public function and each method of a public trait: its file and line,
+its doc comment and its clauses, and below a clause that is a record of specs/ the fields of that
+record."""
 import glob
 import os
 import re
@@ -26,7 +30,7 @@ IMPORT = re.compile(r"use Rattle\.(\w+)\.specs\.([\w.]+)\.\{([^}]*)\}")
 
 
 class Block:
-    """What functions stand in: nothing, a trait, or an impl, maybe of a trait."""
+    """What functions are in: nothing, a trait, or an impl, which may be of a trait."""
 
     def __init__(self, header):
         own, of = TRAIT.match(header).groups() if TRAIT.match(header) else (None, None)
@@ -36,7 +40,7 @@ class Block:
 
 
 class Function:
-    """A function: its doc comment, its clauses, and how many lines of code it has."""
+    """A function: its doc comment, its clauses, and the number of its lines of code."""
 
     def __init__(self, path, lines, at, block):
         line = lines[at]
@@ -89,13 +93,14 @@ def functions_of(crate):
 
 
 def imports_of(text):
-    """Returns where the names are defined that a file takes from specs/."""
+    """Returns where the names are defined that a file imports from specs/."""
     found = [(name.strip(), f"{it[1]}.{it[2]}") for it in IMPORT.finditer(text) for name in it[3].split(",")]
     return {name: (module, name) for name, module in found}
 
 
 def definitions():
-    """Returns the definitions of specs/: of a record its fields, of another its text and what its file imports."""
+    """Returns the definitions of specs/: the fields of a record, or the text of another
+    definition and what its file imports."""
     found = {}
     for path in glob.glob("crates/*/specs/**/*.antt", recursive=True):
         text, module = read(path), re.sub(r"^crates/|specs/|\.antt$", "", path).replace("/", ".")
@@ -112,7 +117,7 @@ def definitions():
 
 
 def fields_of(text, imports, module, known):
-    """Returns the fields of the record that a text is, by its own name or by another definition."""
+    """Returns the fields of the record that a text names, directly or by another definition."""
     names = re.findall(r"\b[A-Z]\w*", "" if "×" in text else text.rpartition(" → ")[2])
     place = next((it for it in (imports.get(it, (module, it)) for it in names) if it in known), None)
     fields, other, others = known.get(place, ([], "", {}))
@@ -120,7 +125,7 @@ def fields_of(text, imports, module, known):
 
 
 def print_table(crates):
-    # A crate that gives others' calls under its name has no function.
+    # A crate that only re-exports calls has no function.
     found = {crate: its for crate in crates if (its := list(functions_of(crate)))}
     every = [it for own in found.values() for it in own]
     declared = {(it.block.trait, it.name): bool(it.clauses) for it in every if it.block.declares}

@@ -1,6 +1,6 @@
 #!/bin/sh
-# scripts/crates.sh PROGRAM: the crates of crates.txt that the program stands on, each after those
-# that it uses itself, and the program last.
+# scripts/crates.sh PROGRAM: prints the crates of crates.txt below a program, each after those that
+# it uses itself, and the program last.
 exec awk -v program="$1" '
     function visit(crate,    words, count, i) {
         if (!(crate in uses) || seen[crate]++) return

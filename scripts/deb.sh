@@ -1,6 +1,6 @@
 #!/bin/sh
-# scripts/deb.sh: packs bin/uimg, its manual pages, completions, documents and examples, and the library in lib/, as Debian
-# packages, which it leaves in out/, and looks at them with lintian.
+# scripts/deb.sh: packs bin/uimg with its manual pages, completions, documents and examples, and the
+# library in lib/, as Debian packages in out/, and checks them with lintian.
 scripts/needs.sh dpkg-buildpackage dh lintian || exit 1
 room=$(mktemp -d) || exit 1
 trap 'rm -rf "$room"' EXIT

@@ -1,17 +1,18 @@
 #!/usr/bin/env python3
-"""definitions.py: counts what has to be read to know what the two theorems say, and writes the counts into
+"""definitions.py: counts the definitions behind the two theorems, and writes the counts into
 docs/DEFINITIONS.md.
 
-A theorem is the contract of a function. Its definitions are those that its clauses name, those that these name, and so
-on. A definition counts with the comment above it; imports and blank lines do not. A local variable that has the name of
-a definition counts it too, so a count may be a little too high."""
+A theorem is the contract of a function. Its definitions are those that its clauses name, those
+that these name, and so on. A definition counts with the comment above it; imports and blank
+lines do not. A local variable with the name of a definition makes it count too, so a count may
+be a little too high."""
 import glob
 import re
 
 THEOREMS = {"reading": ("uimg_engine", "engine", "run"), "making": ("uimg_engine", "making", "make")}
 TEXT = "docs/DEFINITIONS.md"
 USE = re.compile(r"^(?:ghost )?use Rattle\.([\w.]+?)(?:\.\{(.*)\})?(?: as (\w+))?;?$", re.M)
-# The first line of a definition, and what it is called.
+# The first line of a definition, and its name.
 HEAD = re.compile(r"(?:abbrev |unfoldable )?(?:pub )?(?:record |data |(?=\S+ : ))(\S+)")
 NAME = re.compile(r"[A-Za-z_][\w']*(?:\.[A-Za-z_][\w']*)?|◌[^\s(){}]*◌|>>=|\bdo\b")
 
@@ -94,7 +95,8 @@ class Definitions:
                 yield found.by_name[name or tail]
 
     def of_contract(self, crate, module, function):
-        """Returns the definitions of a function's contract, in the order in which they were found."""
+        """Returns the definitions of a function's contract, in the order in which they were
+        found."""
         with open(f"crates/{crate}/src/{module}.rt", encoding="utf-8") as file:
             text = file.read()
         signature = re.search(rf"^pub fn {function}\b.*?^{{", text, re.M | re.S)[0]
@@ -109,8 +111,8 @@ class Definitions:
 
 
 def files_in(cell):
-    """Returns the files that a cell of the text names. A name without a folder is in the folder of the one before it,
-    or in the crates that stand after `of`."""
+    """Returns the files that a cell of the text names. A name without a folder is in the folder
+    of the one before it, or in the crates after `of`."""
     names, _, crates = cell.partition(" of ")
     folder, found = "", []
     for it in re.findall(r"`([\w/.]+\.antt)`", names):

@@ -1,6 +1,6 @@
 #!/bin/sh
-# scripts/demo.sh IMAGE: lists an image, at first by a build that is checked while it runs, where bin/uimg is
-# not there yet, and then by the one that is proved.
+# scripts/demo.sh IMAGE: lists an image, first with a build that has run-time checks, if bin/uimg
+# does not exist yet, then with the proved program.
 image=$1
 test -f "$image" || { echo "uimg: cannot read $image" >&2; exit 3; }
 if test ! -x bin/uimg; then

@@ -1,10 +1,11 @@
 #!/usr/bin/env python3
-"""farm_test.py PROGRAM: examples/farm is killed in the middle, and goes on with nothing lost or done twice.
+"""farm_test.py PROGRAM: kills examples/farm in the middle, and checks that it resumes with nothing
+lost or done twice.
 
-It checks 2000 FIT images in batches of 5, kills parallel and all when some are done, and starts it again: the results
-have to be those of one process, and those that were there must not be written again. Then an image that was missing
-appears, and another list is given. It needs GNU parallel, and says so where there is none. The last line is
-'N passed, M failed'."""
+It checks 2000 FIT images in batches of 5, kills parallel and all when some are done, and starts
+it again: the results have to be those of one process, and existing ones must not be written
+again. Then a missing image appears, and another list is given. It needs GNU parallel, and
+reports if it is missing. The last line is 'N passed, M failed'."""
 import os
 import shutil
 import signal
@@ -24,12 +25,12 @@ IMAGES = 2000
 BATCH = 5
 # How many batches are done before it is killed.
 DONE = 40
-# For how many seconds it may work up to there.
+# How many seconds it may take until then.
 PATIENCE = 60
 
 
 def image(number):
-    """A FIT image, of which every hundredth is not right."""
+    """A FIT image; every hundredth has a wrong hash."""
     data = number.to_bytes(4, "big")
     value = bytes(4) if number % 100 == 7 else zlib.crc32(data).to_bytes(4, "big")
     return fits.fit([fits.image("kernel", fits.prop("data", data), [("crc32", value)])])
@@ -41,7 +42,7 @@ def write(path, data):
 
 
 class Farm:
-    """A work of the farm in a folder."""
+    """One work of the farm, in a folder."""
 
     def __init__(self, program, names, folder):
         self.command = [FARM, names, folder, "--jobs", "2"]
@@ -49,22 +50,22 @@ class Farm:
         self.folder = folder
 
     def run(self):
-        """Its status, where it comes to its end."""
+        """Runs it to its end. Returns its status."""
         return subprocess.run(self.command, env=self.environment, stdout=subprocess.DEVNULL, stderr=subprocess.DEVNULL).returncode
 
     def run_and_kill(self):
-        """Ends it, parallel and all, when some batches are done."""
+        """Kills it, parallel and all, when some batches are done."""
         farm = subprocess.Popen(self.command, env=self.environment, stdout=subprocess.DEVNULL, stderr=subprocess.DEVNULL, start_new_session=True)
         until = time.time() + PATIENCE
         while len(self.done()) < DONE and farm.poll() is None and time.time() < until:
             time.sleep(0.02)
         os.killpg(farm.pid, signal.SIGKILL)
         farm.wait()
-        # the jobs that it leaves behind come to their end
+        # the jobs that it leaves behind end by themselves
         time.sleep(1)
 
     def done(self):
-        """The files of the batches that are done, by which a file that was written again is known."""
+        """The files of finished batches; a file that was written again has another time."""
         lines = os.path.join(self.folder, "lines")
         names = os.listdir(lines) if os.path.isdir(lines) else []
         return {name: os.stat(os.path.join(lines, name)).st_ino for name in names}
@@ -79,7 +80,7 @@ def one_process(program, names):
 
 
 def cases(program, folder):
-    """Each case, and whether it is right."""
+    """Each case, and whether it passed."""
     paths = [os.path.join(folder, f"{number}.itb") for number in range(IMAGES)]
     for number, path in enumerate(paths):
         write(path, image(number))

@@ -1,32 +1,32 @@
-"""functions.py: where the functions of a crate stand, by its sources, which `rt fmt` laid out.
+"""functions.py: finds the functions of a crate in its sources, as laid out by `rt fmt`.
 
-A function is known by its path below the crate, as the prover prints it: `room::Room::add`, or, where a type
-implements a trait, `source::MemSourceSource::size`. Whoever reads sources by lines misses some; of those that have no
-path here (those of an impl that names more than its own parameters, as `From<Fault>`) and those that a derive writes
-nothing is said."""
+A function is known by its path below the crate, as the prover prints it: `room::Room::add`, or,
+if a type implements a trait, `source::MemSourceSource::size`. Code that reads sources line by
+line misses some. Functions without a path here (of an impl that names more than its own
+parameters, as `From<Fault>`) and those that a derive writes are left out."""
 import glob
 import os
 import re
 
-# A function at the beginning of a line, or inside of an impl or a trait.
+# A function at the beginning of a line, or in an impl or a trait.
 FUNCTION = re.compile(r'( {4})?(?:pub(?:\([a-z]+\))? )?(?:const |unsafe |extern "C" )*fn (\w+)')
 # The first line of an impl or a trait, and of other items.
 BLOCK = re.compile(r"(?:pub(?:\([a-z]+\))? )?(?:unsafe )?(impl|trait)\b")
 ITEM = re.compile(r"(?:pub(?:\([a-z]+\))? )?(?:const|static|struct|enum|mod|use|type|ghost|macro_rules!)\b")
-# What the header of an impl has before its brace.
+# The header of an impl, before its brace.
 HEADER = re.compile(r"(?:unsafe )?impl(?:<(.*?)>)? (?:([\w:]+)(?:<([^<>]*)>)? for )?([\w:]+)(?:<([^<>]*)>)?(?: where .*)?")
 
 
 class Function:
-    """A function, from the place where it begins to the next item. Without a path it is one that the prover names
-    otherwise, and with no name that place is in no function."""
+    """A function, from its beginning to the next item. Without a path the prover names it
+    otherwise; without a name this text is in no function."""
 
     def __init__(self, begin, path, name, is_in_cycle):
         self.begin, self.path, self.name, self.is_in_cycle = begin, path, name, is_in_cycle
 
 
 def owner_of(header):
-    """Returns what the prover calls an impl, or None where it names more than its own parameters."""
+    """Returns the prover's name of an impl, or None if it names more than its own parameters."""
     text = re.sub(r"\s+", " ", header.partition("{")[0]).strip()
     # Bounds of the parameters may have brackets of their own.
     text = re.sub(r"(?<=\w): [^<>,]*(?:<[^<>]*>)?", "", text)
@@ -41,7 +41,7 @@ def owner_of(header):
 
 
 def functions_in(file, module):
-    """Yields the functions of a file of a module, and what stands between them."""
+    """Yields the functions of a file of a module, and the text between them."""
     begin, owner, header, is_in_cycle = 0, None, None, False
     for line in file:
         if header is not None and "{" not in header:
@@ -65,7 +65,7 @@ def functions_in(file, module):
 
 
 def functions_of_text(text, name):
-    """Returns the functions of the text of a file, which has a name below the crate's folder."""
+    """Returns the functions of a file's text; the name is the file's below the crate's folder."""
     module = name[len("src/") : -len(".rt")].split("/")
     found = list(functions_in(text.splitlines(True), [] if module == ["lib"] else module))
     for it, end in zip(found, [*(after.begin for after in found[1:]), len(text)]):
@@ -85,7 +85,7 @@ def functions_of(folder):
 
 
 def function_at(functions, text, place):
-    """Returns the function in whose body a place of a file's text stands, or None."""
+    """Returns the function whose body has an offset of a file's text, or None."""
     before = [it for it in functions if it.begin <= place]
     if place < 0 or not before or not before[-1].name:
         return None

@@ -1,17 +1,18 @@
 #!/usr/bin/env python3
-"""gate.py: the gate. It runs the tests, of which none needs a proof (test.py). Then `rt ci` proves every crate but those
-of tests from nothing; beside it the sentinels, some of the wrong bodies (scripts/sentinels.txt), are tried, those of a
-crate once the crates below it are proved. The command lines are played again, against the program that `rt ci` built,
-and where there is a C compiler, the library for C is linked and tested, which counts as one. Its last line,
-'N passed, M failed', counts all, and its status is 0 where nothing failed.
+"""gate.py: the gate. It runs the tests, which need no proof (test.py). Then `rt ci` proves every
+crate except those of tests from nothing; beside it the sentinels (scripts/sentinels.txt), some of
+the wrong bodies, are tried, those of a crate once the crates below it are proved. The command lines
+are played again with the program that `rt ci` built, and with a C compiler the library for C is
+linked and tested, which counts as one. The last line, 'N passed, M failed', counts all; the status
+is 0 if nothing failed.
 
-It works on a copy of the tree, without the crates of tests and the wrong bodies: `rt ci` would prove each test function
-too, and try each wrong body by a check of the whole crate, where wrong_bodies.py proves just the functions that they
-stand in, several at once.
+It works on a copy of the tree without the crates of tests and the wrong bodies. `rt ci` would prove
+each test function too, and try each wrong body with a check of the whole crate; wrong_bodies.py
+proves only the functions that have one, several at once.
 
-`rt ci` works side by side by an estimate of memory that is three times what a proof takes. Unless RT_JOBS is
-set, it is set to the number of processors that may be used, fewer where there is too little memory. As many wrong
-bodies are tried beside it, with what it leaves of the processors."""
+`rt ci` decides how many proofs run at once by an estimate of three times the memory of a proof.
+Unless RT_JOBS is set, it is set to the number of processors that may be used, or fewer if memory
+is short. As many wrong bodies are tried beside it, with the processors that it leaves idle."""
 import glob
 import os
 import re
@@ -26,14 +27,14 @@ import kit
 import lots
 import test
 
-# What the dearest proof takes, in bytes, with what is to spare.
+# What the largest proof takes, in bytes, with some to spare.
 MEMORY = 4_000_000_000
 SENTINELS = "scripts/sentinels.txt"
 PROGRAM = "crates/uimg/out/uimg"
-# What is built is not copied, and the wrong bodies go to a folder of their own.
+# Built files are not copied, and the wrong bodies go to a folder of their own.
 LEFT_OUT = shutil.ignore_patterns(".git", "out", "bin", "lib", "__pycache__", "must-fail")
 ASIDE = "wrong-bodies"
-# A line that tells the end of a proof.
+# A line that reports the end of a proof.
 STEP = re.compile(r"rt: \w+(: its tests are)? (NOT )?(PROVED|proved)")
 
 
@@ -64,8 +65,8 @@ def sentinels():
 
 
 def counted(words, environment, told=None):
-    """Runs a command, printing what it prints but for its count, and telling each line. Returns how many passed and
-    failed."""
+    """Runs a command, prints its output except its count, and passes on each line. Returns how
+    many passed and failed."""
     passed, failed, begun = 0, 1, time.monotonic()
     with subprocess.Popen(words, env=environment, stdout=subprocess.PIPE, text=True, errors="replace") as running:
         for line in running.stdout:
@@ -85,15 +86,15 @@ def counted(words, environment, told=None):
 
 
 class Library(threading.Thread):
-    """The archive of the library for C, compiled over the libraries that `rt ci` left, linked, and tested beside the
-    program."""
+    """The archive of the library for C, compiled over the libraries of `rt ci`, linked, and
+    tested beside the program."""
 
     def __init__(self):
         super().__init__()
         self.is_right, self.said = False, "there is no C compiler, so it was neither linked nor tested"
 
     def run(self):
-        """Carries out the steps, up to the first that fails."""
+        """Runs the steps, up to the first that fails."""
         os.makedirs("out", exist_ok=True)
         (compile_it,) = kit.Crates().compilation("uimg_c", os.path.abspath("out"))
         steps = (
@@ -109,7 +110,7 @@ class Library(threading.Thread):
 
 
 def gate():
-    """Carries it out in the folder that it is in. Returns how many passed and failed."""
+    """Runs the gate in the current folder. Returns how many passed and failed."""
     environment = {"RT_JOBS": lanes(), **os.environ}
     at_once, kept = int(environment["RT_JOBS"]), os.path.abspath("kept")
     print(f"the gate works on {at_once} crates at a time", flush=True)

@@ -1,5 +1,6 @@
 #!/bin/sh
-# scripts/install_lib.sh ROOT PREFIX: puts the library of lib/, its headers and its pkg-config file below ROOT and PREFIX.
+# scripts/install_lib.sh ROOT PREFIX: installs the library of lib/, its headers and its pkg-config
+# file below ROOT and PREFIX.
 to=$1$2
 version=$(sed -n 's/^pub const VERSION.*"\(.*\)".*/\1/p' crates/uimg_requests/src/version.rt)
 install -d "$to/lib/pkgconfig" "$to/include" &&
@@ -7,5 +8,5 @@ install -d "$to/lib/pkgconfig" "$to/include" &&
     install -m 644 lib/libuimg.a lib/libuimg_block.a lib/libuimg.so.0 "$to/lib" &&
     ln -sf libuimg.so.0 "$to/lib/libuimg.so" &&
     sed "s#@PREFIX@#$2#; s#@LIBDIR@#$2/lib#; s#@VERSION@#$version#" library/libuimg.pc.in > "$to/lib/pkgconfig/libuimg.pc" || exit 1
-# Programs find the shared library once the linker's cache has it.
+# Programs find the shared library after the linker's cache is updated.
 test -n "$1" || test "$(id -u)" != 0 || ldconfig

@@ -1,11 +1,13 @@
 #!/usr/bin/env python3
-"""json_test.py PROGRAM: what `PROGRAM check --json` and `PROGRAM info` write, held to the schemas of docs/JSON.md.
+"""json_test.py PROGRAM: holds the output of `PROGRAM check --json` and `PROGRAM info` to the
+schemas of docs/JSON.md.
 
-It checks all files of examples/ and cases/files/, FIT images of a fixed seed, whole and damaged, and some whose names
-are hostile. Each line has to be JSON without a control character and without a member that comes twice, to be valid
-by the schema, and to tell the path and just the line of text of the same image, or of `info` just what a reader of
-device trees in here finds in it (and of a refused image what a check tells). It needs jsonschema, and says so where
-no Python here has it. The last line is 'N passed, M failed'."""
+It checks all files of examples/ and cases/files/, FIT images of a fixed seed, whole and damaged,
+and some with hostile names. Each line has to be JSON without a control character and without a
+repeated member, has to be valid by the schema, and has to have the path and the line of text of
+the same image; for `info`, what a reader of device trees in this file finds in it (of a refused
+image, the line of a check). It needs jsonschema, and reports if no Python here has it. The last
+line is 'N passed, M failed'."""
 import base64
 import glob
 import hashlib
@@ -37,7 +39,7 @@ PATHS = [b'a"b', b"new\nline", b"back\\slash", b"\xff\xfe", b"\xe2\x80\xa8sep", 
 
 
 def schemas_of(path):
-    """The schemas that stand in a document."""
+    """The schemas in a document."""
     with open(path) as file:
         return [json.loads(text) for text in re.findall(r"^```json\n(.*?)^```$", file.read(), re.M | re.S)]
 
@@ -47,7 +49,7 @@ def digest(algo, data):
 
 
 def fit_of(pick):
-    """A FIT image with some images and hash nodes, of which some are not right."""
+    """A FIT image with some images and hash nodes, some of which are wrong."""
     images = []
     for number in range(pick.choice([0, 1, 1, 2, 5])):
         data = pick.randbytes(pick.choice([0, 1, 33, 5000]))
@@ -61,7 +63,7 @@ def fit_of(pick):
 
 
 def damaged(image, pick):
-    """The image as it is, cut, or with a byte that is another one."""
+    """The image unchanged, cut, or with one other byte."""
     choice = pick.random()
     if choice < 0.5:
         return image
@@ -78,15 +80,16 @@ def with_names(image, hash_name):
 
 
 def shared():
-    """A FIT image of two images with the same bytes behind the blob."""
+    """A FIT image of two images with the same bytes after the blob."""
     data = bytes(5000)
     place = fits.prop("data-offset", bytes(4)) + fits.prop("data-size", len(data).to_bytes(4, "big"))
     return fits.fit([fits.image(name, place, [("crc32", digest("crc32", data))]) for name in ("one", "two")]) + data
 
 
 def with_configurations(pick):
-    """A FIT image whose hash is right, with configurations that have nodes and further properties, some of them twice or
-    by a name that is not UTF-8, and of which some name no image."""
+    """A FIT image whose hash is right, with configurations that have nodes and further
+    properties, some of them twice or with a name that is not UTF-8, and some of which name no
+    image."""
     images = [fits.image("kernel", fits.prop("data", b"abc"), [("crc32", digest("crc32", b"abc"))])]
     below = []
     for number in range(pick.choice([0, 1, 2, 5])):
@@ -123,14 +126,14 @@ def listed():
 
 
 def check(program, paths, *options):
-    """The status of a check of these paths, its lines, and what it says on standard error."""
+    """Checks these paths. Returns the status, the lines, and standard error."""
     command = [program, "check", "-0", "--files-from", "-", *options]
     end = subprocess.run(command, input=b"".join(path + b"\0" for path in paths), capture_output=True)
     return end.returncode, end.stdout, end.stderr
 
 
 def spelled(name):
-    """A name as a line of text has it."""
+    """A name as it is printed in a line of text."""
     hidden = re.compile("[\0-\x1f\\\\\x7f-\x9f\u2028-\u202e\u200b-\u200f]")
     escaped = lambda text: "".join(f"\\x{byte:02x}" for byte in text)
     try:
@@ -140,7 +143,7 @@ def spelled(name):
 
 
 def bytes_of(told, key):
-    """The bytes of a name, which its text has to stand for."""
+    """The bytes of a name, which its text has to represent."""
     if f"{key}_base64" not in told:
         return told[key].encode()
     name = base64.b64decode(told[f"{key}_base64"], validate=True)
@@ -182,7 +185,7 @@ def unchecked_of(path):
 
 
 def judge(line, text, path, validator, options):
-    """Raises an error where a line is not what it has to be beside the line of text."""
+    """Raises an error if a line does not agree with the line of text."""
     assert not re.search(rb"[\0-\x1f]", line), "it has a control character"
     told = json.loads(line.decode(), object_pairs_hook=once)
     validator.validate(told)
@@ -199,7 +202,8 @@ def judge(line, text, path, validator, options):
 
 
 def try_all(program, paths, validator, options):
-    """Checks all paths once as JSON and once as text. It gives the number of failures, and what was told."""
+    """Checks all paths once as JSON and once as text. Returns the number of failures, and the
+    messages."""
     status, lines, said = check(program, paths, "--json", *options)
     text_status, texts, text_said = check(program, paths, *options)
     lines, texts, failures, all_told = lines.split(b"\n"), texts.split(b"\n"), 0, []
@@ -220,7 +224,8 @@ def try_all(program, paths, validator, options):
 
 
 class Tree:
-    """The nodes of a blob, each a name, its properties by their names, its children, and all its properties in their order."""
+    """The nodes of a blob: each has a name, its properties by name, its children, and all its
+    properties in order."""
 
     def __init__(self, image):
         self.image = image
@@ -250,7 +255,7 @@ class Tree:
 
 
 class Facts:
-    """What a FIT image says, as `info` has to tell it."""
+    """The facts of a FIT image, as `info` has to print them."""
 
     def __init__(self, path, image):
         tree = Tree(image)
@@ -266,7 +271,8 @@ class Facts:
         self.told["configurations"] = [self.configuration(node) for node in configurations[2]]
 
     def reservations(self):
-        """The entries of the block up to one of zeros, if it has one within the blob and 65,536 bytes."""
+        """The entries of the block up to one of zeros, if it has one within the blob and 65,536
+        bytes."""
         at = int.from_bytes(self.image[16:20], "big")
         block, entries = self.image[at : min(at + 65536, self.total)], []
         for start in range(0, len(block) - 15, 16):
@@ -360,7 +366,7 @@ class Facts:
 
 
 def legacy_facts(path, image):
-    """What a legacy image says, but for what a listing calls its codes."""
+    """The facts of a legacy image, except for the listing's names of its codes."""
     _, head, time, size, load, entry, data, os_code, arch, kind, comp, name = struct.unpack(">7I4B32s", image[:64])
     told = {"path": path.decode(), "status": 0, "format": "legacy", "size": len(image), "time": time, "load": load, "entry": entry}
     told.update({"header-crc": head, "data-crc": data, "os-code": os_code, "arch-code": arch, "type-code": kind})
@@ -375,7 +381,7 @@ def legacy_facts(path, image):
 
 
 def judge_facts(program, path, validator):
-    """Raises an error where the line of `info` of an image is not what it has to be."""
+    """Raises an error if the line of `info` of an image is wrong."""
     end = subprocess.run([program, "info", "--json", path], capture_output=True)
     plain = subprocess.run([program, "info", path], capture_output=True)
     assert (end.stdout, end.returncode) == (plain.stdout, plain.returncode), "--json makes a difference"
@@ -404,7 +410,8 @@ def judge_facts(program, path, validator):
 
 
 def try_facts(program, paths, validator):
-    """Holds `info` of each of these paths to the schema. It gives the number of failures, and what was told."""
+    """Holds `info` of each of these paths to the schema. Returns the number of failures, and the
+    messages."""
     failures, told = 0, []
     for path in paths:
         try:

@@ -1,5 +1,5 @@
 #!/bin/sh
-# scripts/lib.sh: proves the library for C and what it stands on, and leaves it in lib/.
+# scripts/lib.sh: proves the library for C and the crates below it, and leaves it in lib/.
 scripts/needs.sh rt python3 cc ld objcopy ar || exit 1
 mkdir -p lib out && : > out/lib.begun || exit 1
 echo "This proves the $(scripts/crates.sh uimg_c | wc -l) crates of libuimg: some 20 minutes on 4 cores the first time. An interrupted"

@@ -1,7 +1,8 @@
 #!/usr/bin/env python3
-"""lib_test.py PROGRAM FOLDER: tests libuimg in FOLDER, as callers in C and Python use it, beside the program. What it
-compares: symbols and headers; the example programs; listings, reports and payloads of the example images and of
-1000 broken ones; the library over a block; and, where they are there, valgrind and Go. The last line counts."""
+"""lib_test.py PROGRAM FOLDER: tests libuimg in FOLDER, as callers in C and Python use it,
+against the program. It compares symbols and headers; the example programs; listings, reports and
+payloads of the example images and of 1000 broken ones; the library over a block; and, if they
+are installed, valgrind and Go. The last line counts."""
 import array
 import ctypes
 import os
@@ -28,7 +29,7 @@ passed, failed = 0, []
 
 
 def case(name, is_right, told=""):
-    """Counts a case, and tells one that is not right."""
+    """Counts a case, and reports one that fails."""
     global passed
     if is_right:
         passed += 1
@@ -74,7 +75,7 @@ def check_headers():
 
 
 def broken_images(count):
-    """Returns bytes of images: the examples, and such that are cut or have a few bits that are flipped."""
+    """Returns bytes of images: the examples, and some that are cut or have a few flipped bits."""
     chance = random.Random(1)
     whole = [open(f"examples/{it}", "rb").read() for it in IMAGES]
     images = [*whole, b"", b"\xd0\x0d\xfe\xed"]
@@ -90,7 +91,7 @@ def broken_images(count):
 
 
 def by_program(*words):
-    """Returns what the program answers: status, output, and the fault's line."""
+    """Returns the program's result: status, output, and the fault's line."""
     told = ran(PROGRAM, *words)
     return told.returncode, told.stdout, told.stderr.decode().removeprefix("uimg: ").rstrip("\n")
 
@@ -111,7 +112,7 @@ def payload(image, position):
 
 
 def front(image, room):
-    """Returns the front of a listing that fits into a room, and how long the whole is."""
+    """Returns as much of a listing as fits into a buffer, and the length of all of it."""
     pointer, size, _keep = uimg._passed(image)
     text, report = (ctypes.c_uint8 * room)(), uimg._Report()
     uimg._library.uimg_list(pointer, size, text, room, ctypes.byref(report))
@@ -157,7 +158,7 @@ def check_names():
 
 
 def told(call):
-    """Returns what a call gives, or None with the line of its refusal."""
+    """Returns the result of a call, or None with the line of its refusal."""
     try:
         return call(), ""
     except uimg.Refused as refused:
@@ -165,7 +166,8 @@ def told(call):
 
 
 def check_counts():
-    """The counts of images and parts, and the most memory that a call took: 8192 bytes, and 128 for each node."""
+    """The counts of images and parts, and the peak memory of a call: 8192 bytes, and 128 for
+    each node."""
     parts = [(open(f"examples/{it}", "rb").read(), count) for it, count in (("abc-kernel.img", 1), ("three-part.img", 3))]
     for image, count in [*parts, (made(ONE % ""), 0), (open("examples/kernel.itb", "rb").read(), 1)]:
         case(f"a count of {count}", uimg.count(image) == count)
@@ -177,8 +179,8 @@ def check_counts():
 
 
 def count_by_positions(lines):
-    """Returns what a count has to be by the faults at the first positions: a number, the line of a refusal, or None
-    where the count is beyond them."""
+    """Returns the right result of a count, from the faults at the first positions: a number, the
+    line of a refusal, or None if the count is beyond them."""
     for position, line in enumerate(lines):
         if line in ("L8 no such part", "F4 no such image"):
             return position
@@ -191,7 +193,7 @@ STRENGTHS = ("crc32", "md5", "sha1", "sha256", "sha384", "sha512")
 
 
 def is_vouched(image, need):
-    """Returns whether a check has to end well, by the report: its lines have the algorithms."""
+    """Returns whether a check has to succeed, by the report, whose lines have the algorithms."""
     report = uimg.verify(image)
     if report.status != uimg.DONE or not image.startswith(b"\xd0\x0d\xfe\xed"):
         return report.status == uimg.DONE and need == "crc32"
@@ -212,7 +214,8 @@ def made(source):
 
 
 def check_checks(images):
-    """A check ends well where the report does and each image has a hash of the strength; the images are of each kind."""
+    """A check succeeds if the report does and each image has a hash of the strength, on images
+    of each kind."""
     sources = [ONE % "", ONE % IMAGE % (1, ""), ONE % (IMAGE % (1, HASHED % "sha256") + IMAGE % (2, ""))]
     sources += [ONE % (IMAGE % (1, HASHED % "sha512") + IMAGE % (2, HASHED % algo)) for algo in STRENGTHS]
     of_each = [made(it) for it in sources]
@@ -225,20 +228,21 @@ def check_checks(images):
 
 
 def check_faults():
-    """Each fault has the line that the manual page has."""
+    """Each fault has the line of the manual page."""
     page = open("docs/uimg.1", encoding="utf-8").read().replace("\\-", "-")
     for letter, count in (("L", 10), ("B", 11), ("F", 10)):
         for number in range(count + 2):
             line = uimg._text(uimg._library.uimg_fault_line, ord(letter) * 256 + number)
             is_one = 1 <= number <= count
-            # (B10 is of making alone, where the program tells it otherwise)
+            # (B10 comes only from making, where the program prints it otherwise)
             is_known = line in page or line == "B10 too large"
             case(f"line of {letter}{number}", is_known and line.startswith(f"{letter}{number} ") if is_one else not line, line)
     case("no fault", uimg._text(uimg._library.uimg_fault_line, 0) == "")
 
 
 def check_example(*words):
-    """An example program unpacks, refuses, and tells a wrong line and a write that fails by its status."""
+    """An example program unpacks and refuses, and reports a wrong command line and a failed
+    write by its status."""
     image = "examples/kernel.itb"
     told = ran(*words, image, "0")
     case(f"{words[-1]} unpacks", (told.returncode, told.stdout) == (0, b"abc"), str(told))
@@ -285,7 +289,7 @@ def check_programs(files):
     case("the same over a block", ran(block, *files).stdout == wanted.stdout)
     for size in (0, 10, 64, 512, 2048):
         told = ran(block, "-b", str(size), *files)
-        # Where the block does not do, the status is 3, and no text is written.
+        # If the block is too small or missing, the status is 3, and no text is written.
         pairs = list(zip(statuses(told), statuses(wanted)))
         is_right = all(one in (other, ("3", "3 0 0 0 0")) for one, other in pairs)
         case(f"a block of {size}", told.returncode == 0 and len(pairs) == len(statuses(wanted)) and is_right)

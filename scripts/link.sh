@@ -1,6 +1,6 @@
 #!/bin/sh
-# scripts/link.sh ARCHIVE FOLDER: links the archive that Rattle made of uimg_c with the memory calls, and leaves libuimg.a,
-# libuimg_block.a and libuimg.so.0, of which each gives nothing but the calls of its headers.
+# scripts/link.sh ARCHIVE FOLDER: links Rattle's archive of uimg_c with the memory calls to
+# libuimg.a, libuimg_block.a and libuimg.so.0 in FOLDER. Each exports only the calls of its headers.
 archive=$(realpath "$1") folder=$2
 work=$(mktemp -d) || exit 1
 trap 'rm -rf "$work"' EXIT

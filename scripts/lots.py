@@ -1,9 +1,10 @@
 #!/usr/bin/env python3
-"""lots.py [CRATE..]: tries all wrong bodies of these crates, or of all, side by side, and whether the functions that they
-stand in are proved without them. The crates below are proved first, where they are not.
+"""lots.py [CRATE..]: tries all wrong bodies of these crates, or of all, side by side, and whether
+their functions are proved without them. Crates below that are not proved are proved first.
 
-A crate's wrong bodies are tried in lots: the first lot keeps what was checked of the crate's statements and lemmas, and
-the others take that over. Its last line is 'N passed, M failed', and its status 0 where nothing failed."""
+A crate's wrong bodies are tried in lots: the first lot keeps what was checked of the crate's
+statements and lemmas, and the others reuse it. The last line is 'N passed, M failed', and the
+status 0 if nothing failed."""
 import concurrent.futures
 import glob
 import re
@@ -16,21 +17,21 @@ import time
 import kit
 import prove
 
-# How many wrong bodies are in a lot at most.
+# The most wrong bodies in a lot.
 LOT = 12
 # A crate was proved, in this run or by an earlier one on this machine over the same files.
 PROVED = re.compile(r"rt: (\w+) (?:proved|is kept: .*)\n")
 
 
 class Lot:
-    """Some wrong bodies of a crate, which one process tries."""
+    """Some wrong bodies of a crate, tried by one process."""
 
     def __init__(self, name, files, kept, is_first=False, is_right=False):
         self.name, self.files, self.kept, self.is_first, self.is_right = name, files, kept, is_first, is_right
         self.seconds, self.said = 0, ""
 
     def try_all(self):
-        """Tries them. What the first lot checked of the crate's statements is taken over by the others."""
+        """Tries them. The others reuse what the first lot checked of the crate's statements."""
         words = ["nice", sys.executable, "scripts/wrong_bodies.py", *["--right"] * self.is_right]
         words += ["--kept", f"{self.kept}/{self.name}", self.name, *self.files]
         begun = time.monotonic()
@@ -38,7 +39,7 @@ class Lot:
         self.seconds, self.said = time.monotonic() - begun, ran.stdout
 
     def end(self):
-        """Prints what became of them. Returns how many passed and failed."""
+        """Prints the results. Returns how many passed and failed."""
         lines = self.said.rstrip("\n").split("\n")
         count = re.fullmatch(r"(\d+) passed, (\d+) failed", lines[-1])
         print("\n".join(lines[:-1] if count else lines), flush=True)
@@ -47,10 +48,11 @@ class Lot:
 
 
 class WrongBodies:
-    """The wrong bodies of crates, in lots: of a crate the first alone, and then its others side by side."""
+    """The wrong bodies of crates, in lots: of a crate the first alone, then the others side by
+    side."""
 
     def __init__(self, at_once, files, kept, with_right=False):
-        """Files has those of each crate, and kept is a folder for what the lots share."""
+        """Files has those of each crate; kept is a folder for what the lots share."""
         self.pool, self.waiting, self.tried = concurrent.futures.ThreadPoolExecutor(at_once), [], []
         self.crates, self.lock = kit.Crates(), threading.Lock()
         self.proved, self.left, self.later = set(), {}, {}
@@ -61,7 +63,7 @@ class WrongBodies:
         self.begin_ready()
 
     def begin(self, line):
-        """Begins with those of crates that wait for no other where a line tells that one is proved."""
+        """Begins those of crates that wait for no other when a line reports that one is proved."""
         found = PROVED.fullmatch(line)
         if found:
             self.add_proved([found[1]])
@@ -83,12 +85,13 @@ class WrongBodies:
             self.tried += [self.pool.submit(self.try_dearest) for _ in lots]
 
     def cost(self, lot):
-        """How long a lot takes beside another: each check loads the crates below. What comes after it counts too."""
+        """How long a lot takes, relative to another: each check loads the crates below. What
+        comes after it counts too."""
         after = self.later[lot.name] if lot.is_first else []
         return sum(len(it.files) for it in [lot, *after]) * (1 + len(self.crates.below(lot.name)))
 
     def try_dearest(self):
-        """Tries the lot that waits and takes the longest, so that none is left alone at the end."""
+        """Tries the waiting lot that takes the longest, so none is left alone at the end."""
         with self.lock:
             lot = max(self.waiting, key=self.cost)
             self.waiting.remove(lot)
@@ -98,8 +101,8 @@ class WrongBodies:
         return lot
 
     def end(self):
-        """Prints what became of them. Returns how many passed and failed: what was not tried, since a crate below its
-        own is not proved, failed."""
+        """Prints the results. Returns how many passed and failed; a lot that was not tried,
+        since a crate below its own is not proved, failed."""
         passed = failed = 0
         # A first lot adds the others of its crate before it ends.
         for it in self.tried:

@@ -1,5 +1,5 @@
 #!/bin/sh
-# scripts/needs.sh COMMAND..: says what to install for the first command that is not there.
+# scripts/needs.sh COMMAND..: says what to install for the first command that is missing.
 for command; do
     case $command in
         rt) what="the Rattle kit: put its bin folder, which has rt, on the PATH" command=${RT:-rt} ;;

@@ -4,25 +4,25 @@
 A FILE is one of these:
 
   *.t    a transcript in the format of cram: a line that begins with two blanks and '$ ' is a command,
-         one with two blanks and '> ' goes on with it, and the lines below that begin with two blanks
-         are what it prints, standard output and standard error as they come, and '[N]' where its
-         status N is not 0. '(esc)', '(re)', '(glob)' and '(no-eol)' at the end of a line are cram's.
-         All other lines are prose.
+         one with two blanks and '> ' continues it, and the lines below that begin with two blanks are
+         its output, standard output and standard error in order, and '[N]' if its status N is not 0.
+         '(esc)', '(re)', '(glob)' and '(no-eol)' at the end of a line are cram's. All other lines are
+         prose.
   *.1    a manual page: the blocks between '.nf' and '.fi' in which a line begins with '$ '.
   other  a text as README.md: the blocks that are fenced or indented by four blanks, in which a line
-         begins with '$ '. Below a command stands what it prints, up to the next command or the end of
-         the block; a line '[..]' stands for any lines that were left out.
+         begins with '$ '. The output of a command follows it, up to the next command or the end of the
+         block; a line '[..]' replaces any lines.
 
-A block of a text or of a manual page that shows no output at all is judged by its statuses: each has
-to be 0. Commands that begin with make, git, apt, apt-get, sudo or rt are not played.
+A block of a text or of a manual page that shows no output is judged by its statuses: each has to be 0.
+Commands that begin with make, git, apt, apt-get, sudo or rt are not played.
 
 Each file is played by one sh in an empty folder of its own, with PATH beginning with the folder of
 PROGRAM, and TESTDIR the folder of the file. For a text, the folder has bin/uimg, which is the program,
 and a copy of examples/; for a manual page, it has the files of examples/ themselves.
-With --tried, PROGRAM is a build with checks while it runs, which takes more memory and stack, and opens more
-files: a command that sets a limit on these by ulimit, or calls a function that does, is not played, nor are those
-after it up to the next line of prose, and a line names them.
-The last line of the output is 'N passed, M failed', a command being one case.
+With --tried, PROGRAM is a build with run-time checks, which takes more memory and stack, and opens
+more files. A command that limits these with ulimit, or calls a function that does, is not played, nor
+are those after it up to the next line of prose; a line names them.
+The last line of the output is 'N passed, M failed', where each command is a case.
 """
 import concurrent.futures
 import difflib
@@ -37,22 +37,22 @@ import sys
 import tempfile
 import time
 
-# How long a command may take, in seconds: with checks while it runs, beside other work, one takes more than a minute.
+# The most seconds for a command: with run-time checks, beside other work, one takes over a minute.
 LIMIT = 300
 
 NOT_PLAYED = {"make", "git", "apt", "apt-get", "sudo", "rt"}
 
 
 class Case:
-    """A command, the line it stands at, and the lines that it has to print."""
+    """A command, its line, and the lines that it has to print."""
 
     def __init__(self, line, command):
         self.line = line
         self.command = command
         self.wanted = []
-        # the paragraph that it stands in, and whether a limit is set there, by it or before it
+        # its paragraph, and whether a limit is set there, by it or before it
         self.paragraph, self.is_limited = 0, False
-        # whether the status is what is judged, whether it is shown, and whether '[..]' has a meaning
+        # whether only the status is judged, whether it is shown, and whether '[..]' has a meaning
         self.by_status = False
         self.shows_status = True
         self.leaves_out = False
@@ -77,8 +77,8 @@ def transcript(lines):
 
 
 def mark_limits(cases):
-    """Marks the cases that set a limit by ulimit, or call a function of the same file that does, and those after one in
-    its paragraph."""
+    """Marks the cases that set a limit with ulimit, or call a function of the same file that
+    does, and those after one in its paragraph."""
     limiters, limited = ["ulimit"], None
     for case in cases:
         defined = re.match(r"(\w+)\(\) *\{", case.command)
@@ -117,13 +117,13 @@ def manual_blocks(lines):
 
 
 def is_played(command):
-    """Whether the first word behind the settings of variables is not one of those left out."""
+    """Whether the first word after the settings of variables is not one of NOT_PLAYED."""
     words = [word for word in command.split() if not re.match(r"\w+=", word)]
     return bool(words) and words[0] not in NOT_PLAYED
 
 
 def block_cases(block):
-    """The cases of a block: all lines in front of the first command are prose."""
+    """The cases of a block: all lines before the first command are prose."""
     cases = []
     for number, line in block:
         if line.startswith("$ "):
@@ -137,7 +137,8 @@ def block_cases(block):
 
 
 def escaped(line):
-    """A line of the output as text, in cram's form where a byte of it is not printed as it is."""
+    """A line of the output as text, in cram's form if it has a byte that is not printed as it
+    is."""
     if not re.search(rb"[\x00-\x09\x0b-\x1f\x7f-\xff]", line):
         return line.decode()
     names = {7: "\\a", 8: "\\b", 9: "\\t", 11: "\\v", 12: "\\f", 13: "\\r", 92: "\\\\"}
@@ -148,7 +149,7 @@ def escaped(line):
 
 
 def printed(output, status):
-    """The lines of an output and a status, as they stand in a transcript."""
+    """The lines of an output and a status, as in a transcript."""
     lines = output.split(b"\n")
     last = lines.pop()
     texts = [escaped(line) for line in lines]
@@ -164,7 +165,7 @@ def unescaped(text):
 
 
 def is_line(wanted, got):
-    """Whether a line that was printed is the one that was wanted."""
+    """Whether a printed line is the wanted one."""
     if wanted == got:
         return True
     if wanted.endswith(" (re)"):
@@ -178,7 +179,7 @@ def is_line(wanted, got):
 
 
 def is_all(wanted, got):
-    """Whether these lines were printed; '[..]' among them stands for any."""
+    """Whether these lines were printed; '[..]' among them matches any lines."""
     if not wanted:
         return not got
     if wanted[0].strip() == "[..]":
@@ -196,10 +197,10 @@ def is_right(case, output, status):
 
 
 def difference(path, case, output, status):
-    """A case that went wrong, with its place and its lines: '-' was wanted and '+' was printed."""
+    """A failed case, with its file and line: '-' was wanted and '+' was printed."""
     got = printed(output, status)
     wanted = list(case.wanted)
-    # a line that a pattern stands for is no difference
+    # a line that matches a pattern is no difference
     for at in range(min(len(wanted), len(got))):
         if is_line(wanted[at], got[at]):
             wanted[at] = got[at]
@@ -211,7 +212,8 @@ def difference(path, case, output, status):
 
 
 def output_behind(shell, mark, before):
-    """What the shell prints up to a mark, the status behind that, and what was read beyond it."""
+    """What the shell prints up to a mark, the status after the mark, and what was read beyond
+    it."""
     until = time.monotonic() + LIMIT
     read = before
     while True:
@@ -228,7 +230,7 @@ def output_behind(shell, mark, before):
 
 
 def end(shell, at_once):
-    """Ends a shell and what it left running, which is a group of processes of its own."""
+    """Ends a shell and what it left running, which is a process group of its own."""
     if not at_once:
         shell.wait()
     try:
@@ -240,7 +242,7 @@ def end(shell, at_once):
 
 
 def prepare(room, path, program):
-    """Puts the files into the folder that a text or a manual page is played in."""
+    """Puts the files into the folder in which a text or a manual page is played."""
     examples = os.path.join(os.path.dirname(os.path.abspath(__file__)), "..", "examples")
     if path.endswith(".1"):
         shutil.copytree(examples, room, dirs_exist_ok=True)
@@ -260,7 +262,7 @@ def environment(path, program):
 
 
 def play_all(path, program, cases, room):
-    """Plays the cases in a folder. It gives what went wrong."""
+    """Plays the cases in a folder. Returns the differences."""
     mark = "played %d %f" % (os.getpid(), time.time())
     script = os.path.join(room, "..", "script")
     with open(script, "w", encoding="utf-8") as file:
@@ -286,7 +288,8 @@ def play_all(path, program, cases, room):
 
 
 def play(path, program, is_tried):
-    """Plays a file. It gives the number of its cases, what went wrong, and where those stand that were not played."""
+    """Plays a file. Returns the number of its cases, the differences, and the lines of cases
+    that were not played."""
     with open(path, encoding="utf-8") as file:
         lines = file.read().split("\n")
     if path.endswith(".t"):

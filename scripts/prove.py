@@ -1,14 +1,14 @@
 #!/usr/bin/env python3
-"""prove.py [-q] CRATE..: proves the crates that these stand on and these, side by side, each once those below it are
-proved. A program and a library for C are compiled then. What is proved already is passed by, and an interrupted run
-goes on with the crates that it had not ended.
+"""prove.py [-q] CRATE..: proves these crates and those below them, side by side, each once those
+below it are proved; then compiles a program or a library for C. What is proved already is skipped,
+and an interrupted run resumes with the crates that it had not finished.
 
-A crate is proved from nothing, by one job but for those of JOBS, and its library holds what the crates above may cite.
-What is made is in crates/CRATE/out: rlib, the program or the archive, and the file `proved`, which has the sum of all
-that the proof rests on.
+A crate is proved from nothing, with one job except for those of JOBS, and its library holds what
+the crates above may cite. The results are in crates/CRATE/out: rlib, the program or the archive,
+and the file `proved` with the sum of all that the proof depends on.
 
-On a terminal one line tells how far it is; elsewhere, or with -q, each crate has its line. The log of a crate is
-out/CRATE.log. The status is 0 where all are proved."""
+On a terminal one line shows the progress; elsewhere, or with -q, each crate has its line. The
+log of a crate is out/CRATE.log. The status is 0 if all are proved."""
 import os
 import re
 import shutil
@@ -20,17 +20,17 @@ import time
 
 import kit
 
-# What a job takes at most, in bytes, as it was measured.
+# The most memory of a job, in bytes, as measured.
 MEMORY = 2_500_000_000
-# Each job is a copy of all that a check reads, so a crate has one, but for processors that would have nothing to do:
-# these go to crates that gain by them, up to so many jobs. Measured on four virtual processors, in seconds of the clock
-# (of processors): uimg_base by three jobs 93 (228), by one 179 (181), beside other work; uimg_blob_reading 73 (200), by one 161;
-# uimg_tool 179 (471), by one 349.
+# A job is a copy of all that a check reads, so a crate has one. Idle processors go to crates that
+# gain by more, up to these numbers. Measured on four virtual processors, in seconds of the clock
+# (of processors): uimg_base with three jobs 93 (228), with one 179 (181), beside other work;
+# uimg_blob_reading 73 (200), with one 161; uimg_tool 179 (471), with one 349.
 JOBS = {"uimg_base": 3, "uimg_blob_reading": 3, "uimg_tool": 3}
 
 
 class Proof:
-    """The proof of a crate, which a thread carries out."""
+    """The proof of a crate, run by a thread."""
 
     def __init__(self, crates, name, stamp, jobs):
         self.crates, self.crate, self.stamp = crates, crates.by_name[name], stamp
@@ -51,7 +51,7 @@ class Proof:
                 file.write(self.stamp)
 
     def steps(self):
-        """Yields the commands by which it is proved, and compiled where the crates above do not take its library."""
+        """Yields the commands that prove it, and compile it if no crate above uses its library."""
         if self.crate.makes_library():
             os.makedirs(os.path.dirname(self.crate.rlib))
             yield [*self.crates.command(self.name, "build", self.jobs), "--statements", "-o", self.crate.rlib]
@@ -76,7 +76,7 @@ class Proof:
 
 
 class Screen:
-    """The line that is redrawn on a terminal, and the lines that stay."""
+    """The line that is redrawn on a terminal, and the lines that remain."""
 
     def __init__(self, quiet):
         self.draws = sys.stdout.isatty() and not quiet
@@ -99,7 +99,7 @@ def first_error(log):
 
 
 class Run:
-    """The proofs of all crates that are wanted."""
+    """The proofs of all requested crates."""
 
     def __init__(self, crates, names, screen):
         self.crates, self.screen, self.stamps = crates, screen, {}
@@ -112,7 +112,7 @@ class Run:
         self.chain = {it: sum(it in crates.below(other) for other in self.wanted) for it in self.wanted}
 
     def is_kept(self, name):
-        """Returns whether a crate is proved, and all that its proof rests on is unchanged."""
+        """Returns whether a crate is proved, and all that its proof depends on is unchanged."""
         path = f"{self.crates.by_name[name].folder}/out/proved"
         if not os.path.isfile(path):
             return False
@@ -120,8 +120,9 @@ class Run:
             return file.read() == self.crates.stamp(name, self.stamps)
 
     def begin_ready(self, at_once):
-        """Begins with the crates that wait for no other, the longest chain first. What is left of the processors when
-        each of them has one goes to those that gain by it, and one job more, since what is beside it ends first."""
+        """Begins the crates that wait for no other, the longest chain first. Processors left
+        over after each has one go to those that gain by them, and one job more, since other
+        proofs end first."""
         busy = self.proved + [it.name for it in self.running]
         ready = [it for it in self.wanted if it not in busy and all(dep in self.proved for dep in self.crates.own_uses(it))]
         ready.sort(key=lambda it: -self.chain[it])
@@ -174,7 +175,7 @@ def prove(names, quiet):
 
 
 def interrupted(number, frame):
-    """A job that is ended from outside ends its proofs, as one that is interrupted does."""
+    """Stops the proofs when the job is ended from outside, as an interrupt does."""
     raise KeyboardInterrupt
 
 

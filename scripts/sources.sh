@@ -1,6 +1,6 @@
 #!/bin/sh
-# scripts/sources.sh PROGRAM: the files that a program is made from, and their folders, by which
-# make sees that a file went away.
+# scripts/sources.sh PROGRAM: prints the files that a program is made from, and their folders, which
+# tell make of removed files.
 echo crates.txt
 for crate in $(scripts/crates.sh "$1"); do
     for part in src specs proofs; do

@@ -1,10 +1,11 @@
 #!/usr/bin/env python3
-"""test.py: the tests, of which none needs a proof. The crates of tests are compiled with checks while they run, and run,
-side by side (`rt try --test`). So is the program, against which the command lines of cases/, README.md, docs/GUIDE.md,
-docs/JSON.md and the manual page are played; those that set limits which its checks break are named, and left to the proved program.
+"""test.py: the tests, which need no proof. The crates of tests are compiled with run-time checks,
+and run, side by side (`rt try --test`). So is the program, against which the command lines of
+cases/, README.md, docs/GUIDE.md, docs/JSON.md and the manual page are played; those that set limits
+which its checks exceed are named, and left to the proved program.
 
-A line for each crate of tests and for the command lines, with what failed; then that nothing was proved, and last
-'N passed, M failed'. The status is 0 where nothing failed."""
+It prints a line for each crate of tests and for the command lines, with what failed; then that
+nothing was proved, and last 'N passed, M failed'. The status is 0 if nothing failed."""
 import concurrent.futures
 import glob
 import os
@@ -28,14 +29,15 @@ def run(words, folder="."):
 
 
 def counted(lines, pattern):
-    """Returns how many passed and failed by the last line of a form, or that one failed where none has it."""
+    """Returns how many passed and failed by the last line of a form, or one failure if there is
+    none."""
     found = [it for it in (re.search(pattern, line) for line in lines) if it]
     return (int(found[-1][1]), int(found[-1][2])) if found else (0, 1)
 
 
 def tests_of(name):
     """Runs the tests of a crate. Returns how many passed and failed, and the lines to print."""
-    # With checks, beside other work, some tests take more than the minute that is the kit's limit.
+    # With checks, beside other work, some tests take longer than the kit's limit of a minute.
     status, lines = run(["env", "RT_SECONDS=300", kit.RT, "try", "--test"], f"crates/{name}")
     passed, failed = counted(lines, r"^test result: \w+\. (\d+) passed; (\d+) failed")
     if status and not failed:
@@ -56,10 +58,10 @@ def command_lines():
 
 
 def test():
-    """Carries it out, and prints what became of each part. Returns how many passed and failed."""
+    """Runs all tests, and prints the result of each part. Returns how many passed and failed."""
     crates, begun, passed, failed = kit.Crates(), time.monotonic(), 0, 0
     names = [it for it in crates.by_name if has_tests(f"crates/{it}")]
-    # What stands on the most crates takes the longest.
+    # The crate with the most crates below takes the longest.
     names.sort(key=lambda it: -len(crates.below(it)))
     with concurrent.futures.ThreadPoolExecutor(kit.processors()) as pool:
         parts = [pool.submit(command_lines), *(pool.submit(tests_of, it) for it in names)]

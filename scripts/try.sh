@@ -1,7 +1,7 @@
 #!/bin/sh
-# scripts/try.sh WORD..: runs the program on these words before anything is proved, compiled with checks
-# while it runs. It runs in a scratch folder with copies of the files that words name, so a file that it
-# makes is lost. Its status is the program's own.
+# scripts/try.sh WORD..: runs the program on these words before anything is proved, compiled with
+# run-time checks. It runs in a scratch folder with copies of the files that words name, so a file
+# that it makes is lost. Its status is the program's.
 log=$PWD/out/try.log
 mkdir -p out || exit 1
 scripts/needs.sh rt python3 || exit 1
@@ -10,7 +10,7 @@ for word; do
     test ! -f "$word" || set -- "$@" --data "$word=$PWD/$word"
 done
 files=$(($# - count))
-# the options of rt come first, then the words
+# options of rt come first, then the words
 words="" options="" at=0
 quote() { printf "'%s' " "$(printf %s "$1" | sed "s/'/'\\\\''/g")"; }
 for word; do

@@ -1,23 +1,25 @@
 #!/usr/bin/env python3
-"""wrong_bodies.py [--right] [--kept KEPT] CRATE [FILE..]: tries the wrong bodies of a crate, which are these files, or
-else crates/CRATE/must-fail/*.edit. The prover has to refuse each. It works over the libraries that `rt ci` or `make`
-left in crates/*/out/rlib, and only those of the crates below have to be there. What was checked of the crate's
-statements and lemmas is kept in KEPT, where that is not there, or else taken over from it.
+"""wrong_bodies.py [--right] [--kept KEPT] CRATE [FILE..]: tries the wrong bodies of a crate, which
+are these files, or else crates/CRATE/must-fail/*.edit. The prover has to refuse each. It works over
+the libraries that `rt ci` or `make` left in crates/*/out/rlib; only those of the crates below are
+needed. What was checked of the crate's statements and lemmas is kept in KEPT, or reused if KEPT
+exists.
 
-A function is proved by its own body and by the contracts of those that it calls. So only the functions in which wrong
-bodies stand are proved, several in one check, each with one wrong body; of each other function of the crate its
-contract is taken as it is, by a hole in place of its proof (`--allow-holes`). A wrong body is refused where its own
-function is refused: where an answer of its own does not hold, or a goal of its own is found by no search. One that is
-not proved only since it calls one that is refused is tried again in a later round. Where a check refuses a function in
-which no wrong body stands, or a lemma, it counts for nothing, and each half is tried by itself, down to one alone. One
-that stands in no body, as in a row of a table, may change what other functions are proved by: it is tried alone, over
-all functions of its file, and where these are proved over the whole crate.
+A function is proved from its own body and the contracts of those that it calls. So only the
+functions with wrong bodies are proved, several in one check, each with one wrong body; for each
+other function of the crate its contract is assumed, by a hole in place of its proof
+(`--allow-holes`). A wrong body is refused if its own function is: if an answer of its own does not
+hold, or no search finds a goal of its own. One that fails only since it calls a refused function is
+tried again in a later round. If a check refuses a function without a wrong body, or a lemma, it
+counts for nothing, and each half is tried by itself, down to a single one. A wrong body outside of
+functions, as in a row of a table, may change what other functions are proved from: it is tried
+alone, over all functions of its file, and if these are proved, over the whole crate.
 
-With --right the wrong bodies stay out, in one check: each of their functions has to be proved then, which shows that a
-refusal comes from the wrong body and not from how it is tried.
+With --right the wrong bodies are left out, in one check: each of their functions has to be proved
+then, which shows that a refusal comes from the wrong body and not from how it is tried.
 
-A line for each wrong body, `refused`, `NOT REFUSED` or `BAD EDIT`, or for each right one, and last 'N passed, M
-failed'."""
+It prints a line for each wrong body, `refused`, `NOT REFUSED` or `BAD EDIT`, or for each right
+one, and last 'N passed, M failed'."""
 import argparse
 import contextlib
 import glob
@@ -32,7 +34,7 @@ import tempfile
 import functions
 import kit
 
-# The files of a proof, in whose place a hole stands.
+# The files of a proof that a hole replaces.
 ANSWERS = ("Invariants.antt", "Answers.antt", "Proof.antt")
 HOLE = """use Rattle.{crate}.proofs.{module}.Statement.{{statement}}
 
@@ -40,26 +42,28 @@ module _ {{M : Type 1}} where
   pub {name}_spec : statement M
   {name}_spec = ?
 """
-# What a check says of a function: that it is proved, but for what holes stand for; that no search proves a goal of its
-# own, or that a measure or an invariant lacks; or that its contract cannot be read.
+# What a check says of a function: that it is proved, except for holes; that no search proves a goal
+# of its own, or that a measure or an invariant is missing; or that its contract cannot be read.
 SAID = re.compile(r"fn (\S+): (.*)")
 PROVED = re.compile(r"proved|no holes|depends on a hole in .*")
 UNFOUND = re.compile(r"no proof: expected .* in (?:\./)?proofs/\S+\.antt.*")
 UNSTATED = re.compile(r"no proof: antt did not admit its contract.*")
 # An error in a proof: in the answers of a function, or in lemmas that several may cite.
 ERROR = re.compile(r"(?:\./)?proofs/(\S+?)(?:/(?:Answers|Invariants|Proof))?\.antt:\d+:\d+: error")
-# An error by a name alone: a proof names what the wrong body took away, so that it says nothing of the contract.
+# An error for a name alone: a proof names what the wrong body removed, so it says nothing of the
+# contract.
 BY_NAME = "BAD EDIT: its answers only name what is not there"
-# What is said of a goal that no search proves.
+# The message for a goal that no search proves.
 OPEN = "`search` did not prove"
 NAMED = re.compile(r".*: error: .*(has no `|has no field|is not in scope|was not admitted|were not admitted)")
-# What the prover says of a text that it cannot read.
+# The prover's messages for a text that it cannot read.
 UNREAD = re.compile(r"(?:\./)?(?:src|specs)/\S+:\d+:\d+: error")
 ENDED = re.compile(r"only=\d+ (holes|proved)=\d+|holes=\d+|logic=(not-)?proved\b.*")
 
 
 class Edit:
-    """A wrong body: the texts that it changes in one file of the crate, and the functions that they stand in."""
+    """A wrong body: the texts that it changes in one file of the crate, and the functions that
+    have them."""
 
     def __init__(self, path, folder, known):
         self.name, self.pairs, self.file = os.path.basename(path), [], ""
@@ -84,7 +88,8 @@ class Edit:
         self.places = {it.path for it in (known[self.file] if self.is_wide else found) if it.path}
 
     def apply(self, text):
-        """Returns the text with the wrong body in it, or None where one of its texts is not there just once."""
+        """Returns the text with the wrong body in it, or None if one of its texts does not occur
+        exactly once."""
         for old, new in self.pairs:
             if text.count(old) != 1:
                 return None
@@ -106,8 +111,9 @@ class Trials:
             os.mkdir(self.kept)
 
     def copy(self, texts, proved, bare):
-        """Makes a copy of the crate with these texts in place of its own, holes for all functions but those that
-        are to be proved, where these are told, and no answers for those that are to be bare. Returns its folder."""
+        """Makes a copy of the crate with these texts in place of its own, with holes for all
+        functions except those to be proved, if these are given, and without answers for those to
+        be bare. Returns its folder."""
         crate = tempfile.mkdtemp(dir=self.room)
         for part in kit.PARTS:
             if os.path.isdir(f"{self.folder}/{part}"):
@@ -132,8 +138,9 @@ class Trials:
             file.write(HOLE.format(crate=self.name, module=function.path.replace("::", "."), name=function.name))
 
     def check(self, texts, proved, bare=()):
-        """Checks a copy of the crate, of which only some functions are to be proved, or all where none is told, some
-        without their answers. Returns the lines that the check prints, or None where it comes to no verdict."""
+        """Checks a copy of the crate. Only the given functions are to be proved, or all if none
+        is given, some without their answers. Returns the lines that the check prints, or None if
+        it reaches no verdict."""
         crate = self.copy(texts, proved, bare)
         words = [*self.words, "--incremental", self.kept, "--allow-holes"]
         for it in sorted(proved):
@@ -154,8 +161,9 @@ class Trials:
         return lines if ran.returncode in (0, 1) and ENDED.fullmatch(lines[-1]) and is_read else None
 
     def refusals(self, edits, proved, bare=()):
-        """Checks the crate with these wrong bodies. Returns what it says of each function that is refused for its own
-        sake, by its path, with the lemmas that are refused, or None where there is no verdict."""
+        """Checks the crate with these wrong bodies. Returns what it says of each function that
+        is refused for its own sake, by its path, with the refused lemmas, or None without a
+        verdict."""
         texts = {}
         for edit in edits:
             texts[edit.file] = edit.apply(texts.get(edit.file) or self.text_of(edit))
@@ -163,14 +171,14 @@ class Trials:
         return None if lines is None else refused_in(lines, self.name)
 
     def text_of(self, edit):
-        """Returns the right text of the file that a wrong body stands in."""
+        """Returns the right text of a wrong body's file."""
         with open(f"{self.folder}/{edit.file}", encoding="utf-8") as file:
             return file.read()
 
 
 def refused_in(lines, name):
-    """Returns what the lines of a check say of each function that is refused for its own sake, and not only since it
-    calls one that is, by its path; a lemma that is refused stands for itself."""
+    """Returns what the lines of a check say of each function that is refused for its own sake,
+    not only since it calls a refused one, by its path; a refused lemma is listed by itself."""
     errors = {found[1].replace("/", "::"): it for it in lines for found in [ERROR.match(it)] if found}
     own_errors = [it for it in lines if ERROR.match(it)]
     refused, told = {}, set()
@@ -187,19 +195,20 @@ def refused_in(lines, name):
 
 
 def proved_in(lines, name):
-    """Returns the functions that the lines of a check say are proved, by their paths."""
+    """Returns the paths of the functions that the lines of a check say are proved."""
     said = [found.groups() for it in lines or [] for found in [SAID.fullmatch(it)] if found]
     return {path.removeprefix(f"{name}::") for path, why in said if PROVED.fullmatch(why)}
 
 
 def function_of(path, name):
-    """Returns the function that a path tells of: of a closure the one that it stands in."""
+    """Returns the function of a path: for a closure the one that contains it."""
     found = re.match(rf"{name}\+\+([\w+]+?)\+(?:FnMut|FnOnce|Fn)::", path)
     return found[1].replace("++", "::") if found else path.replace("fn::", "").partition("+")[0]
 
 
 def next_group(left, trials):
-    """Returns the wrong bodies of a round, of which no two stand in one function; one that stands in no body is alone."""
+    """Returns the wrong bodies of a round, no two of them in one function; one outside of
+    functions is alone."""
     if left[0].is_wide:
         return left[:1]
     group, taken, texts = [], set(), {}
@@ -213,7 +222,7 @@ def next_group(left, trials):
 
 
 def try_alone(trials, edit):
-    """Returns whether a wrong body is refused where no other is there, and why."""
+    """Returns whether a wrong body is refused alone, and why."""
     refused = trials.refusals([edit], edit.places)
     if edit.is_wide and not refused:
         refused = trials.refusals([edit], set())
@@ -226,16 +235,16 @@ def try_alone(trials, edit):
 
 
 def try_bare(trials, edit, before):
-    """Returns whether a wrong body is refused without the answers of its functions, since a search leaves a goal open,
-    and why, or else what was said with the answers."""
+    """Returns whether a wrong body is refused without the answers of its functions, since a
+    search leaves a goal open, and why; else what was said with the answers."""
     refused = trials.refusals([edit], edit.places, edit.places) or {}
     own = [why for place, why in refused.items() if place in edit.places and OPEN in why]
     return (True, own[0]) if own else (False, before)
 
 
 def try_group(trials, group):
-    """Yields each wrong body of a group with whether it is refused, and why; those of which a round tells nothing are
-    tried again."""
+    """Yields each wrong body of a group with whether it is refused, and why; those that a round
+    does not decide are tried again."""
     if len(group) == 1:
         yield group[0], try_alone(trials, group[0])
         return
@@ -280,7 +289,7 @@ def main(given):
 
 
 def wrong(trials, edits):
-    """Yields for each wrong body whether it is refused, and a line that tells it."""
+    """Yields for each wrong body whether it is refused, and a line about it."""
     found = dict(try_all(trials, edits))
     for edit in edits:
         is_refused, why = found[edit]
@@ -288,8 +297,8 @@ def wrong(trials, edits):
 
 
 def right(trials, edits):
-    """Yields for each function in which a wrong body stands whether it is proved without it, and a line that tells
-    it."""
+    """Yields for each function with a wrong body whether it is proved without it, and a line
+    about it."""
     places = {place for edit in edits for place in edit.places}
     proved = proved_in(trials.check({}, places), trials.name)
     for place in sorted(places):

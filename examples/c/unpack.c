@@ -3,8 +3,8 @@
        cc -o unpack unpack.c -luimg          (or libuimg.a in place of -luimg)
        ./unpack kernel.itb 0 > payload
 
-   The exit status is that of the program uimg: 0 done, 1 refused or not right, 2 a wrong command line, 3 a file, a
-   write or memory failed. */
+   The exit status is like that of the program uimg: 0 done, 1 refused or not right, 2 a wrong command line, 3 a
+   failed file, write or memory. */
 #include <uimg.h>
 
 #include <fcntl.h>
@@ -13,7 +13,7 @@
 #include <sys/stat.h>
 #include <unistd.h>
 
-/* Tells why an image is refused, as the program does. */
+/* Prints why an image is refused, as the program does. */
 static void tell(uint32_t fault, uint64_t place)
 {
     uint8_t line[64] = {0};
@@ -25,7 +25,7 @@ static void tell(uint32_t fault, uint64_t place)
     fputc('\n', stderr);
 }
 
-/* Whether each checksum of an image is right; where not, its report goes to standard error. */
+/* Verifies an image and returns the status; unless that is 0, the report goes to standard error. */
 static uint32_t verify(const uint8_t *image, size_t size)
 {
     uint8_t text[4096] = {0};
@@ -60,7 +60,7 @@ static uint32_t unpack(const uint8_t *image, size_t size, uint32_t position)
     return UIMG_DONE;
 }
 
-/* Whether a word is a position: digits alone, of a number of 32 bits. */
+/* Returns whether a word is a position: digits alone, of a number of 32 bits. */
 static int read_position(const char *word, uint32_t *position)
 {
     unsigned long long number = 0;
@@ -84,7 +84,7 @@ int main(int count, char **words)
     int file;
     uint32_t position;
     void *image;
-    /* A file of no bytes cannot be mapped. */
+    /* An empty file cannot be mapped. */
     static const uint8_t nothing[1];
 
     if (count != 3 || !read_position(words[2], &position)) {

@@ -1,13 +1,15 @@
 #!/bin/sh
-# check-farm.sh LIST FOLDER [OPTION..]: checks the images whose paths LIST has, a line each, by GNU parallel on all
-# processors, and gathers what `uimg check --json` tells of them in FOLDER/results.jsonl, in the order of LIST.
+# check-farm.sh LIST FOLDER [OPTION..]: checks the images whose paths are the lines of LIST, with
+# GNU parallel on all processors, and collects the output of `uimg check --json` in
+# FOLDER/results.jsonl, in the order of LIST.
 #
-# A run that ended too early goes on when it is started again with the same LIST and FOLDER: what is done is not done
-# again, but for batches in which an image failed. OPTIONs go to parallel: --jobs 2, or --sshlogin one,two, where each
-# host has the images, FOLDER and the program under the same paths as this one.
+# An interrupted run resumes when it is started again with the same LIST and FOLDER: finished
+# batches are not repeated, except those in which an image failed. OPTIONs go to parallel: --jobs 2,
+# or --sshlogin one,two if each host has the images, FOLDER and the program under the same paths as
+# this one.
 #
-# Of the environment: UIMG, the program, which is uimg; NEED, an algorithm for --need; BATCH, how many images are
-# checked by one process, which is 500. The status is the greatest of all images, or 3 where batches are not done.
+# Environment: UIMG, the program (uimg); NEED, an algorithm for --need; BATCH, how many images one
+# process checks (500). The status is the greatest of all images, or 3 if batches are not finished.
 set -u
 test $# -ge 2 || { sed -n '2,/^set/s/^# \{0,1\}//p' "$0" >&2; exit 2; }
 list=$1 folder=$2 farm=$(dirname "$0")
@@ -30,9 +32,9 @@ quoted() {
     printf "'%s'" "$(printf %s "$1" | sed "s/'/'\\\\''/g")"
 }
 
-# A job checks a batch. What it writes has a name of its own until it is whole, since a job that an earlier run left
-# behind may still be at the same batch. A status of 1 is an answer: only 3, of an image that failed or of the job
-# itself, is a failure, after which the next run does the batch again.
+# A job checks a batch. Its output has a name of its own until it is complete, since a job of an
+# earlier run may still be at the same batch. A status of 1 is a result: only 3, of an image that
+# failed or of the job itself, is a failure, after which the next run repeats the batch.
 cat > "$folder/job.new" << END
 cd $(quoted "$PWD") && farm=$(quoted "$folder") && part="\$farm/parts/\$1.\$(uname -n).\$\$" || exit 3
 test ! -f "\$farm/lines/\$1" || exit 0
@@ -43,7 +45,7 @@ test "\$(wc -l < "\$part")" = "\$(LC_ALL=C grep -c . "\$farm/batches/\$1")" || e
 mv -f "\$part" "\$farm/\$to/\$1" && test \$to = lines || exit 3
 END
 
-# Batches are cut once. Another list, or other settings, would make another work of the same folder.
+# Batches are cut once. Another list, or other settings, need another folder.
 if test -d "$folder/batches"; then
     cmp -s "$list" "$folder/list" || say "$folder is of another list"
     cmp -s "$folder/job.new" "$folder/job" || say "$folder is of another program, folder or NEED: $folder/job"
@@ -54,10 +56,10 @@ else
     mv -f "$folder/job.new" "$folder/job" && mv "$folder/batches.new" "$folder/batches" || exit 2
 fi
 
-# A batch has a job where none of the log ended well.
+# A batch gets a job unless the log has one that succeeded.
 ls "$folder/batches" | parallel --joblog "$folder/joblog" --resume-failed --quote "$@" sh "$folder/job" "{}"
 
-# The results, in the order of the list.
+# Collects the results in the order of the list.
 for batch in $(ls "$folder/batches"); do
     cat "$folder/lines/$batch" 2> /dev/null || cat "$folder/failed/$batch" 2> /dev/null || echo "$batch" >&3
 done > "$folder/results.new" 3> "$folder/undone"

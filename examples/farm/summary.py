@@ -1,9 +1,9 @@
 #!/usr/bin/env python3
-"""summary.py FOLDER: what a farm found, from FOLDER/results.jsonl and FOLDER/joblog.
+"""summary.py FOLDER: summarizes what a farm found, from FOLDER/results.jsonl and FOLDER/joblog.
 
-It prints how many images have each verdict, those whose verdict is not ok, a line each, and how many images were
-checked a second, over the time in which jobs ran: by all of them together, and by one. The status is the greatest of
-all images."""
+It prints how many images have each verdict, a line for each whose verdict is not ok, and how
+many images were checked a second, over the time in which jobs ran: by all together, and by one.
+The status is the greatest of all images."""
 import collections
 import json
 import os
@@ -11,20 +11,20 @@ import sys
 
 
 def results(folder):
-    """What is told of each image. Lines end with newlines alone."""
+    """The results of each image. Lines end with newlines alone."""
     with open(os.path.join(folder, "results.jsonl"), encoding="utf-8", newline="\n") as file:
         return [json.loads(line) for line in file]
 
 
 def jobs(folder):
-    """When each job began and how long it ran, in seconds."""
+    """The beginning of each job and its duration, in seconds."""
     with open(os.path.join(folder, "joblog"), encoding="utf-8", newline="\n") as file:
         rows = [line.split("\t") for line in file][1:]
     return [(float(row[2]), float(row[3])) for row in rows]
 
 
 def busy(spans):
-    """For how long at least one job ran, so that the time between two runs does not count."""
+    """For how long at least one job ran, without the time between two runs."""
     total, until = 0.0, 0.0
     for begun, took in sorted(spans):
         total += max(0.0, begun + took - max(begun, until))

@@ -1,5 +1,6 @@
-// unpack.go does what examples/c/unpack.c does: it verifies an image, and writes the payload at a position to standard
-// output. CGO_LDFLAGS names the library, if it is not where the linker looks: go run unpack.go kernel.itb 0 > payload
+// unpack.go verifies an image, and writes the payload at a position to standard output, like
+// examples/c/unpack.c: go run unpack.go kernel.itb 0 > payload. CGO_LDFLAGS names the library, if the
+// linker does not find it.
 package main
 
 /*
@@ -21,7 +22,7 @@ const (
 	failed    = 3
 )
 
-// pointer is a pointer to the first of some bytes, and never null.
+// pointer returns a pointer to the first of some bytes, never null.
 func pointer(bytes []byte) *C.uint8_t {
 	if len(bytes) == 0 {
 		return (*C.uint8_t)(unsafe.Pointer(new(byte)))
@@ -29,7 +30,7 @@ func pointer(bytes []byte) *C.uint8_t {
 	return (*C.uint8_t)(unsafe.Pointer(&bytes[0]))
 }
 
-// tell says why an image is refused, as the program does.
+// tell prints why an image is refused, as the program does.
 func tell(fault C.uint32_t, place C.uint64_t) {
 	line := make([]byte, 64)
 	length := C.uimg_fault_line(fault, pointer(line), C.size_t(len(line)))
@@ -40,7 +41,7 @@ func tell(fault C.uint32_t, place C.uint64_t) {
 	fmt.Fprintln(os.Stderr)
 }
 
-// verify answers whether each checksum of an image is right; where not, its report goes to standard error.
+// verify verifies an image and returns the status; unless that is 0, it prints the report to stderr.
 func verify(image []byte) int {
 	text := make([]byte, 4096)
 	var report C.uimg_report

@@ -1,4 +1,4 @@
-"""Images for U-Boot in memory, by libuimg: listed, verified, and their payloads found.
+"""Lists and verifies U-Boot images in memory and locates payloads, with libuimg.
 
     import mmap, uimg
     with open("kernel.itb", "rb") as file:
@@ -6,8 +6,9 @@
     if uimg.check(image, "sha256").status == uimg.DONE:
         payload = uimg.payload(image, "kernel")
 
-An image is bytes, or anything else with a contiguous buffer. As a program it does what examples/c/unpack.c does:
-`python3 uimg.py kernel.itb 0 > payload`. LIBUIMG names another library than libuimg.so.0."""
+An image is bytes, or anything else with a contiguous buffer. As a program it does the same as
+examples/c/unpack.c: `python3 uimg.py kernel.itb 0 > payload`. LIBUIMG names a library to use in place
+of libuimg.so.0."""
 import ctypes
 import mmap
 import os
@@ -67,8 +68,8 @@ _library.uimg_version.restype = _size
 
 
 class Report(NamedTuple):
-    """What a listing or a verification found: a status, the line of the fault or "", the text, and the most bytes that
-    the table of a FIT image's nodes took, with a window of 8192 bytes."""
+    """The result of a listing or a verification: a status, the line of the fault or "", the
+    text, and the peak bytes of the table of a FIT image's nodes, with a window of 8192 bytes."""
 
     status: int
     fault: str
@@ -77,7 +78,8 @@ class Report(NamedTuple):
 
 
 class Refused(Exception):
-    """A payload was not found: the line of the fault is its text, and status is 1, or 3 for want of memory."""
+    """A payload was not found: the line of the fault is its text, and status is 1, or 3 if
+    memory was refused."""
 
     def __init__(self, status, line):
         super().__init__(line)
@@ -85,14 +87,14 @@ class Refused(Exception):
 
 
 def _passed(image):
-    """Returns a pointer to an image's bytes, how many there are, and what keeps them."""
+    """Returns a pointer to an image's bytes, their number, and what keeps them."""
     view = memoryview(image).cast("B")
     if not len(view):
         return (ctypes.c_uint8 * 1)(), 0, None
     if not view.readonly:
         array = (ctypes.c_uint8 * len(view)).from_buffer(view)
         return ctypes.cast(array, _bytes), len(view), array
-    # ctypes lends no read-only buffer: the Python buffer call gives its address.
+    # ctypes accepts no read-only buffer: the Python buffer call gives its address.
     lent = _Buffer()
     ctypes.pythonapi.PyObject_GetBuffer(ctypes.py_object(view), ctypes.byref(lent), 0)
     return ctypes.cast(lent.buf, _bytes), len(view), _Lent(lent)
@@ -115,7 +117,7 @@ class _Buffer(ctypes.Structure):
 
 
 class _Lent:
-    """A buffer that is given back when nothing needs it any more."""
+    """A buffer that is released when nothing needs it any more."""
 
     def __init__(self, lent):
         self.lent = lent
@@ -125,13 +127,13 @@ class _Lent:
 
 
 def _text(call, *words):
-    """Returns what a call puts to the front of a text."""
+    """Returns the text that a call writes."""
     text = (ctypes.c_uint8 * 64)()
     return bytes(text[: call(*words, text, len(text))]).decode()
 
 
 def _line(found):
-    """Returns the line of a fault, as the program prints it behind `uimg: `; "" for none."""
+    """Returns the line of a fault, as the program prints it after `uimg: `; "" for none."""
     line = _text(_library.uimg_fault_line, found.fault)
     return f"{line} at {found.place}" if found.fault >> 8 == ord("B") else line
 
@@ -153,13 +155,15 @@ def listing(image):
 
 
 def verify(image):
-    """Verifies an image, as `uimg verify`. The status is DONE only where each line ends with ok or unhashed."""
+    """Verifies an image, as `uimg verify`. The status is DONE only if each line ends with ok or
+    unhashed."""
     return _report(_library.uimg_verify, image)
 
 
 def check(image, need="sha256"):
-    """Checks an image strictly: as verify, but DONE only where there is an image, and each has a hash node that is compared
-    by this algorithm or a stronger one, of crc32, md5, sha1, sha256, sha384 and sha512. There is no text."""
+    """Checks an image strictly: as verify, but DONE only if there is an image, and each has a
+    hash node that is compared by this algorithm or a stronger one, of crc32, md5, sha1, sha256,
+    sha384 and sha512. There is no text."""
     pointer, size, _keep = _passed(image)
     report = _Report()
     _library.uimg_check(pointer, size, _STRENGTHS.index(need) + 1, ctypes.byref(report))
@@ -167,8 +171,8 @@ def check(image, need="sha256"):
 
 
 def place(image, which=0):
-    """Returns where a payload begins in the image, and its size: that at a position, counted from 0, or, of a FIT
-    image, that of the first image of a name. Raises Refused."""
+    """Returns the offset of a payload in the image, and its size: of the payload at a position,
+    counted from 0, or, in a FIT image, of the first image with a name. Raises Refused."""
     pointer, size, _keep = _passed(image)
     found = _Payload()
     if isinstance(which, int):
@@ -188,7 +192,8 @@ def _done(found):
 
 
 def count(image):
-    """Returns how many images a FIT image has, or how many parts a legacy image. Raises Refused."""
+    """Returns the number of images in a FIT image, or of parts in a legacy image. Raises
+    Refused."""
     pointer, size, _keep = _passed(image)
     found = _Count()
     _library.uimg_payload_count(pointer, size, ctypes.byref(found))
@@ -206,7 +211,7 @@ def name(image, position):
 
 
 def payload(image, which=0):
-    """Returns the bytes of a payload, which is told as for place. Raises Refused."""
+    """Returns the bytes of a payload, given as for place. Raises Refused."""
     start, size = place(image, which)
     return bytes(memoryview(image).cast("B")[start : start + size])
 
@@ -216,7 +221,8 @@ def version():
 
 
 def _mapped(path):
-    """Returns a file's bytes, mapped. A file of no bytes cannot be mapped, and of a pipe the size is not known."""
+    """Returns a file's bytes, mapped. An empty file cannot be mapped, and a pipe has no known
+    size."""
     with open(path, "rb") as file:
         about = os.fstat(file.fileno())
         if not stat.S_ISREG(about.st_mode):
@@ -251,7 +257,7 @@ def main(words):
         return _unpack(words[1], int(words[2]))
     except OSError as fault:
         print(f"uimg.py: {fault}", file=sys.stderr)
-        # What could not be written is not tried again at the end.
+        # Output that could not be written is not tried again at the end.
         sys.stdout = None
         return FAILED
 

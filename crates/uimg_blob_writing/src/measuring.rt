@@ -22,16 +22,15 @@ use uimg_blob_reading::BlobFault;
 // The greatest size of a blob in bytes.
 const LARGEST: u128 = 0xffff_ffff;
 
-/// Measures the blob of a tree: the names of its properties, each once in the order of first use,
-/// and the sizes of its blocks. The blob's end is rounded up to a multiple of 4.
+/// Measures the blob of a tree: finds the names of its properties, each once in the order of first
+/// use, and the sizes of its blocks. The blob's end is rounded up to a multiple of 4.
 ///
-/// `BadNodeName` or `BadPropertyName` comes for the first name, in the order of writing, that has
-/// more than 255 bytes or a NUL; then `TooLarge` where the blob has more than 4294967295 bytes, each
-/// file counted by the size that the tree keeps of it. `OutOfMemory` comes only where memory for the
-/// names was refused: the one memory that is taken, and none for a tree without properties.
+/// Returns `BadNodeName` or `BadPropertyName` for the first name, in the order of writing, with
+/// more than 255 bytes or a NUL; then `TooLarge` if the blob has more than 4294967295 bytes, with
+/// each file counted by its stored size. Returns `OutOfMemory` only if memory for the names was
+/// refused; no other memory is taken, and none for a tree without properties.
 ///
-/// The time grows with the properties times the distinct names. The depth of its calls is that of
-/// the tree.
+/// The time grows with the properties times the distinct names. Calls nest as deep as the tree.
 pub fn measure<'a, A: Allocator>(alloc: A, tree: &'a Tree<A>) -> Result<Layout<'a, A>, BlobFault>
     ensures measured { Measures result (measured 4 (node_of tree.now.root)) }
     ensures memory { result ≡ Err OutOfMemory → names_of (node_of tree.now.root) ≢ [] }
@@ -43,8 +42,7 @@ pub fn measure<'a, A: Allocator>(alloc: A, tree: &'a Tree<A>) -> Result<Layout<'
     measure_by(alloc, tree, WORD_ALIGNMENT)
 }
 
-/// Measures the blob of a tree as `measure` does, its end rounded up by an alignment, of which four is
-/// the least.
+/// Measures the blob of a tree as `measure` does, with its end rounded up to an alignment.
 pub fn measure_by<'a, A: Allocator>(
     alloc: A,
     tree: &'a Tree<A>,

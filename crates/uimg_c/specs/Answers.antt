@@ -59,12 +59,12 @@ pub record Checks (need : ℕ) (image : List ℕ) (report : UimgReport) : Type 0
       (record { status = report.status; fault = report.fault; place = report.place })
   pub no_text : (report.needed ≡ 0) × (report.written ≡ 0)
 
--- the most bytes that the table of an image's nodes takes, with a window of 8192 bytes: 128 for
--- each node of a FIT image
+-- the most bytes that the table of an image's nodes takes: a window of 8192 bytes, and 128 for each
+-- node of a FIT image
 abbrev pub table_most : Form → List ℕ → ℕ
 table_most form image = held_bytes (nodes_in (is_fit form image) image)
 
--- the numbers for a count, or for the fault that refuses it
+-- the numbers of a count, or of its fault
 abbrev pub code_of_count : Result ℕ Fault → Option Code
 code_of_count (Ok count) = code_of_answer (Ok Done)
 code_of_count (Err fault) = code_of_fault fault

@@ -25,7 +25,7 @@ use crate::running::report_on;
 use std::alloc::Global;
 use uimg_requests::{Action, Command, Form, VERSION};
 
-/// Lists an image: the listing of `uimg dumpimage -l` is put to the front of `text`.
+/// Lists an image: writes the listing of `uimg dumpimage -l` to `text`.
 #[unsafe(no_mangle)]
 pub extern "C" fn uimg_list(
     alloc: Global,

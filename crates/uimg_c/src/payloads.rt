@@ -18,7 +18,7 @@ use uimg_engine::{Fault, locate_in_memory};
 use uimg_fit_checking::{locate_name, locate_named};
 use uimg_requests::Form;
 
-// What is told of a payload that was not found, for which so much memory was taken.
+// Returns the payload for a fault; `peak` is the memory that was taken.
 fn unfound(fault: Fault, peak: u64) -> UimgPayload
     ensures code { result.status ≢ 3 → code_of_fault fault ≡ Some (record {
       status = result.status;

@@ -34,8 +34,8 @@ stricter says done = end_by says
 stricter says not_right = not_right
 stricter says (refused fault) = refused fault
 
--- A verification ends well, and each image of a FIT, of which there is one at least, has a hash
--- node of a certain strength.
+-- A verification ends well, and a FIT image has images, each with a hash node of the needed
+-- strength.
 abbrev pub check_of : Algo → List ℕ → End Fault
 check_of need file =
     stricter (vouched (is_fit form.Guess file) need file)

@@ -26,12 +26,12 @@ abbrev pub work_in : Bool → List ℕ → ℕ
 work_in true file = fit.check_work file
 work_in false file = legacy.verify_work file
 
--- the most bytes that a check asks for: the four that tell the format, the metadata, and no more
--- bytes of payloads than the file has
+-- the most bytes that a check requests: the four of the format, the metadata, and of all payloads
+-- together at most the file's length
 abbrev pub check_work : List ℕ → ℕ
 check_work file = 4 + work_in (is_fit form.Guess file) file
 
--- each place that is told ends in a file of so many bytes
+-- each span of a finding ends within a file of this size
 abbrev pub EndsInside : ℕ → Checked → Type 0
 EndsInside size (checked.Fit finding) = fit.EndsInside size finding
 EndsInside size _ = ⊤
@@ -87,11 +87,11 @@ TellsCheckIn fit need file result =
     is_read result ≡ false → is_no_memory result ≡ false
     → check_of fit need file ≡ told_at file result
 
--- .. of a file that is read as its first bytes tell
+-- the same for a file whose first bytes decide the format
 abbrev pub TellsCheck : Option Algo → List ℕ → Result Checked Fault → Type 0
 TellsCheck need file result = TellsCheckIn (is_fit form.Guess file) need file result
 
--- What the check of an image of a format did at any exit.
+-- What the check of an image of a format does, at any exit.
 pub record ChecksInBetween (fit : Bool) (need : Option Algo) (result : Result Checked Fault)
     (d e : Device) (old new : Held) : Type 0 where
   pub uses : UsesAtMost (work_in fit d.bytes) (is_read result) d e

@@ -12,7 +12,7 @@ use uimg_engine::{Fault, is_fit, run_in_memory};
 use uimg_names::Naming;
 use uimg_requests::{Action, Command, Form};
 
-// Whether checksums by CRC-32 are strong enough.
+// Returns whether CRC-32 is strong enough.
 fn is_crc32(need: Algo) -> bool
     ensures { result ≡ is_crc32 need }
 {

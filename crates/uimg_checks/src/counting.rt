@@ -11,7 +11,7 @@ use uimg_base::{MemSource, Room};
 use uimg_engine::{Fault, is_fit};
 use uimg_requests::Form;
 
-// How many parts a legacy image has.
+// Counts the parts of a legacy image.
 fn count_parts<A: Allocator>(image: &[u8], room: &mut Room<A>) -> Result<usize, Fault>
     ensures told { TellsCount (count_of false image.now) result }
     ensures no_put { is_put result ≡ false }
@@ -22,13 +22,13 @@ fn count_parts<A: Allocator>(image: &[u8], room: &mut Room<A>) -> Result<usize, 
     Ok(count as usize)
 }
 
-/// How many parts a legacy image has, or how many images a FIT image: at the positions from 0 to one
-/// less, an extraction finds a part or a payload, or tells why that one cannot be had.
+/// Counts the parts of a legacy image, or the images of a FIT image: at each position below this
+/// number an extraction finds a part or a payload, or returns why it cannot be had.
 ///
-/// The answer is that count, or the fault by which the image is refused, unless the memory for the table
-/// of a FIT image's nodes was refused: then it is `OutOfMemory` of the blob, which a legacy image never
-/// gives. `Fault::Read` and `Fault::Put` never come, nor do the faults that only `make` answers. The room
-/// takes at most 128 bytes for each node of a FIT image that is met, and for a legacy image none.
+/// Returns the fault by which the image is refused, or `OutOfMemory` of the blob if memory for the
+/// table of a FIT image's nodes was refused; never `Fault::Read`, `Fault::Put` or a fault of
+/// making. The room takes at most 128 bytes for each node of a FIT image, and none for a legacy
+/// image.
 pub fn count_in_memory<A: Allocator>(image: &[u8], room: &mut Room<A>) -> Result<usize, Fault>
     ensures told { TellsCount (count_of (is_fit form.Guess image.now) image.now) result }
     ensures no_put { is_put result ≡ false }

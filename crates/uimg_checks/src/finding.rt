@@ -11,7 +11,7 @@ use uimg_engine::{Fault, is_fit};
 use uimg_fit_checking::Finding;
 use uimg_requests::Form;
 
-/// What is found of an image.
+/// The finding about an image.
 #[derive(Clone, Copy, Debug, PartialEq, Eq)]
 pub enum Checked {
     /// The finding about a FIT image.

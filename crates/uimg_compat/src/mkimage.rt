@@ -283,7 +283,7 @@ impl<'a> Settings<'a> {
         })
     }
 
-    // Where the payloads stand.
+    // Returns where the payloads go.
     fn placement(&self) -> Placement {
         match (self.is_external, self.position) {
             (false, _) => Placement::Inside,
@@ -292,7 +292,7 @@ impl<'a> Settings<'a> {
         }
     }
 
-    // How a FIT image is made at a time.
+    // Returns how a FIT image is made at a time.
     fn manner(&self, time: u32) -> Result<Manner, OldFault<'a>> {
         Ok(Manner {
             time,
@@ -301,8 +301,8 @@ impl<'a> Settings<'a> {
         })
     }
 
-    // The alignment of payloads behind the tree, at which those that read the image find them. It is not
-    // looked at where they stand in the tree.
+    // Returns the alignment of payloads after the tree, at which readers of the image find them. It
+    // is ignored if they are in the tree.
     fn align(&self) -> Result<u32, OldFault<'a>> {
         if !self.is_external {
             return Ok(WORD_ALIGNMENT);

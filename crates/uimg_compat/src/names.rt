@@ -7,7 +7,7 @@ use uimg_base::FLAT_DT;
 use uimg_names::{Field, Naming};
 use uimg_requests::Form;
 
-/// The type of a kernel that runs where it stands (`IH_TYPE_KERNEL_NOLOAD`).
+/// The type of a kernel that runs in place (`IH_TYPE_KERNEL_NOLOAD`).
 const KERNEL_NOLOAD: u8 = 14;
 
 /// The type of firmware for HABv4: a legacy image and more.
@@ -92,8 +92,8 @@ pub(crate) fn check_made(kind: u8, name: &str) -> Result<(), OldFault<'_>> {
     Err(OldFault::OtherImages(name))
 }
 
-/// The format of the images of a type, by its name. The type `invalid` is as none. A type of other
-/// images is refused.
+/// Returns the format of the images of a type, by its name. The type `invalid` counts as none. A
+/// type of other images is refused.
 pub(crate) fn format_of(kind: Option<u8>, name: &str) -> Result<Form, OldFault<'_>> {
     match kind {
         None | Some(0) => Ok(Form::Guess),

@@ -5,7 +5,7 @@ use uimg_fit_base::Placement;
 use uimg_names::Field;
 use uimg_requests::{MakeRequest, Manner, RunRequest};
 
-/// What the words of a command line ask for.
+/// What the words of a command line request.
 #[derive(Drop)]
 pub enum OldRequest<'a> {
     /// A command on an image, whose listing may be suppressed.

@@ -26,28 +26,27 @@ use Rattle.uimg_engine.specs.Headline.{outcome_in, outcome_of, Takes}
 use Rattle.uimg_engine.specs.Making.{timed, OpensNames, Lacks, BuildsNames, MakesAnswer}
 use Rattle.uimg_engine.specs.MakingTrees.{BuildsSource, MakesSource, HoldsSource}
 
--- the files answer their bytes
+-- the files are honest
 abbrev pub HonestFiles : {F : Type 0} → (F → FileMap) → Lent F → Type 0
 HonestFiles view files = IsTrue (view files.entry.now).honest
 
--- what files in memory are, by their names
+-- files in memory, by their names
 abbrev pub bytes_among : List (Bor (List ℕ) × Bor (List ℕ)) → List ℕ → Option (List ℕ)
 bytes_among files = λ name. bytes_named name files
 
--- Files have the sizes that a command keeps of them: those of a tree do where the files are honest,
--- and parts keep none.
+-- Files have the sizes that a command keeps: those of a tree if the files are honest; parts keep
+-- none.
 abbrev pub KeepsSizes : MakeCommand → FileMap → Type 0
 KeepsSizes (Parts options files) map = ⊤
 KeepsSizes (Tree source placement) map = IsTrue map.honest
 
--- a source whose open was refused has no bytes; of other faults this says nothing
+-- at `NoFile` the source has no bytes; of other faults nothing is claimed
 abbrev pub LacksSource : (List ℕ → Option (List ℕ)) → List ℕ → Fault → Type 0
 LacksSource files source (NoFile i) = files source ≡ None
 LacksSource files source _ = ⊤
 
--- The files are what they were, a refusal was counted exactly where the answer is that the source
--- or a file of it could not be opened, and complete files refuse only a source that has no bytes,
--- and no payload where they are honest.
+-- The files are unchanged. A refusal was counted exactly if the source or a file of it could not be
+-- opened. Complete files refuse only a source without bytes, and no payload if they are honest.
 pub record OpensSource {X : Type 0} (source : List ℕ) (result : Result X Fault) (old new : FileMap)
     : Type 0 where
   pub same : SameFiles old new
@@ -60,13 +59,13 @@ pub record OpensSource {X : Type 0} (source : List ℕ) (result : Result X Fault
   -- no F9 over complete and honest files
   pub found : IsTrue old.complete → IsTrue old.honest → is_no_payload result ≡ false
 
--- what a building or a making did to the files
+-- what building or making does to the files
 abbrev pub OpensToBuild : {X : Type 0} → MakeCommand → Result X Fault → FileMap → FileMap → Type 0
 OpensToBuild (Parts options files) result old new =
     OpensNames (map (λ name. name.items) files.items) result old new
 OpensToBuild (Tree source placement) result old new = OpensSource source.items result old new
 
--- what the answer of a building at a time, by an alignment, says of the files, and of what was
+-- what the result of building at a time, with an alignment, says of the files and of what was
 -- appended
 abbrev pub BuildsCommand : {X : Type 0} → MakeCommand → ℕ → ℕ → (List ℕ → Option (List ℕ))
     → Result X Fault → Sink → Sink → Type 0
@@ -75,7 +74,7 @@ BuildsCommand (Parts options names) time align files result s t =
 BuildsCommand (Tree source placement) time align files result s t =
     BuildsSource files source.items time (aligned_by placement align) result s t
 
--- what the answer of a making at a time, by an alignment, says of the files, and of what was listed
+-- what the result of making at a time, with an alignment, says of the files and of the listing
 abbrev pub MakesCommandBetween : {K : Type 0} → (K → Device) → Naming → MakeCommand → ℕ → ℕ
     → (List ℕ → Option (List ℕ)) → Result K Fault → Sink → Sink → Type 0
 MakesCommandBetween device naming (Parts options names) time align files result s t =
@@ -89,8 +88,8 @@ abbrev pub MakesCommand : {K : Type 0} → (K → Device) → Naming → MakeCom
 MakesCommand device naming command time align files result out =
     MakesCommandBetween device naming command time align files result out.entry.now out.exit.now
 
--- Files that are complete and honest lack what a fault says: a name, or the source. They lack no
--- payload.
+-- What a fault says over complete and honest files: which name, or the source, has no bytes. No
+-- payload lacks its file.
 abbrev pub LacksPayload : (List ℕ → Option (List ℕ)) → List ℕ → Fault → Type 0
 LacksPayload files source (Fit fault) = refuses_payload fault ≡ false
 LacksPayload files source fault = LacksSource files source fault
@@ -100,16 +99,15 @@ LacksFile (Parts options names) files fault =
     Lacks files (map (λ name. name.items) names.items) fault
 LacksFile (Tree source placement) files fault = LacksPayload files source.items fault
 
--- What a making from a source that is refused did to a room: where a fault comes that no listing
--- gives, it cleared the room and did nothing else. A refusal was counted exactly where the memory
--- for the nodes was refused, if the files are honest.
+-- What the making from a source does to a room if it is refused. A fault of making only clears it.
+-- If the files are honest, a refusal was counted exactly if memory for the nodes was refused.
 pub record LeavesRefused (honest of_making no_memory : Bool) (old new : Held) : Type 0 where
   pub cleared : IsTrue of_making → new ≡ record old { entries = [] }
   -- `OutOfMemory` of the blob is returned exactly if the refusals of the room rose
   pub refused : IsTrue honest → RisesIf no_memory old.refused new.refused
 
--- What a making that lists a FIT image did to a room: it took memory for the nodes of what is kept,
--- or it is refused.
+-- What the making of a FIT image does to a room: it took memory for the nodes of what is kept, or
+-- the making is refused.
 abbrev pub TakesKept : {K : Type 0} → (K → Device) → Bool → Result K Fault → (old new : Held)
     → Type 0
 TakesKept device honest (Ok kept) old new = TakesNodes (device kept) false old new
@@ -129,8 +127,8 @@ abbrev pub LeavesRoom : {K : Type 0} → (K → Device) → Bool → MakeCommand
 LeavesRoom device honest command result room =
     LeavesRoomBetween device honest command result room.entry.now room.exit.now
 
--- What a making did to a room, whatever its answer: to list parts takes no memory, and to list a
--- FIT image that for its nodes.
+-- What making does to a room, at any exit: a listing of parts takes no memory, a listing of a FIT
+-- image takes memory for its nodes.
 abbrev pub HoldsCommandBetween : MakeCommand → ℕ → ℕ → (List ℕ → Option (List ℕ)) → (old new : Held)
     → Type 0
 HoldsCommandBetween (Parts options names) time align files old new =
@@ -142,19 +140,19 @@ abbrev pub HoldsCommand : MakeCommand → ℕ → ℕ → (List ℕ → Option (
 HoldsCommand command time align files room =
     HoldsCommandBetween command time align files room.entry.now room.exit.now
 
--- the listing of an image that was made, by a set of names
+-- the listing of an image that was made, with the names of a set
 abbrev pub listing_of : Naming → MakeCommand → List ℕ → Outcome Fault
 listing_of naming (Parts options files) file = outcome_in naming false Action.List file
 listing_of naming (Tree source placement) file =
     outcome_of naming (record { action = Action.List; form = Form.Guess }) file
 
--- what that listing did to a room
+-- what that listing does to a room
 abbrev pub TakesListing : MakeCommand → Device → Bool → (old new : Held) → Type 0
 TakesListing (Parts options files) kept no_memory old new = Takes false kept no_memory old new
 TakesListing (Tree source placement) kept no_memory old new = TakesNodes kept no_memory old new
 
--- What the listing of what was kept did at any exit: the source is what it was, and each failure
--- was counted exactly where one is answered; no fault of a making is.
+-- What the listing of what was kept does at any exit: the source is unchanged, and each failure was
+-- counted exactly if it is returned; no fault of making is.
 pub record ListsBetween (naming : Naming) (command : MakeCommand) (result : Result Status Fault)
     (d e : Device) (old new : Held) (s t : Sink) : Type 0 where
   pub uses : Uses (is_read result) d e
@@ -169,8 +167,7 @@ Lists naming command result device source room out = ListsBetween naming command
     (device source.entry.now) (device source.exit.now) room.entry.now room.exit.now out.entry.now
     out.exit.now
 
--- Exactly the listing of what is kept was appended, and nothing in it is refused, if it answers its
--- bytes.
+-- If what is kept is honest, exactly its listing was appended, with no fault.
 abbrev pub ListsKept : {K : Type 0} → (K → Device) → Naming → MakeCommand → Lent Sink → K → Type 0
 ListsKept device naming command out kept = IsTrue (device kept).honest → (status : Status)
     × Tells (end_of (Ok status)) (listing_of naming command (device kept).bytes) out.entry.now

@@ -1,5 +1,5 @@
--- What a command on an image has to write, how it has to end, how much it may ask for, and what
--- memory it may take.
+-- What a command on an image has to write, how it has to end, how many bytes it may request, and
+-- what memory it may take.
 use Rattle.std.specs.Prelude.{◌≡◌, ◌↔◌, ℕ, ◌+◌, ◌-◌, ◌^◌, ◌<◌, ◌≤◌, max, List, [], length, nat_lt}
 use Rattle.std.specs.Prelude.{◌==◌, if◌then◌else◌, Result, Some, ⊤, Bool, true, false, IsTrue}
 use Rattle.uimg_base.specs.Device.{Device, RisesIf}
@@ -39,14 +39,14 @@ use Rattle.uimg_engine.specs.Faults.{is_of_making}
 unfoldable pub begins_as_blob : List ℕ → Bool
 begins_as_blob file = if nat_lt (length file) 4 then false else be32 file 0 == 0xd00dfeed
 
--- The file is read as a FIT image: that is asked for, or its first bytes tell it. Any other file is
--- read as a legacy image.
+-- The file is read as a FIT image: that is the given format, or the format is to be guessed and the
+-- file begins as a blob. Any other file is read as a legacy image.
 abbrev pub is_fit : Form → List ℕ → Bool
 is_fit form.Guess file = begins_as_blob file
 is_fit form.Legacy file = false
 is_fit form.Fit file = true
 
--- an outcome whose fault is told in another way
+-- an outcome, with its fault turned into one of the command
 abbrev pub end_as : {F : Type 0} → (F → Fault) → End F → End Fault
 end_as name done = done
 end_as name not_right = not_right
@@ -55,14 +55,14 @@ end_as name (refused fault) = refused (name fault)
 abbrev pub outcome_as : {F : Type 0} → (F → Fault) → Outcome F → Outcome Fault
 outcome_as name o = record { text = o.text; end = end_as name o.end }
 
--- the outcome of an action on a legacy image: its listing by a set of names, its report, or its
--- part at a position
+-- the outcome of an action on a legacy image: its listing with the names of a set, its report, or
+-- its part at a position
 abbrev pub legacy_outcome : Naming → Action → List ℕ → Outcome LegacyFault
 legacy_outcome naming action.List file = legacy_listing.list_of naming file
 legacy_outcome naming action.Verify file = legacy_report.verify_of file
 legacy_outcome naming (action.Extract position) file = legacy_extraction.extract_of file position
 
--- the outcome of an action on a FIT image: its listing by a set of names, its report, or the
+-- the outcome of an action on a FIT image: its listing with the names of a set, its report, or the
 -- payload of its image at a position
 abbrev pub fit_outcome : Naming → Action → List ℕ → Outcome FitEngineFault
 fit_outcome naming action.List file = fit_listing.list_of naming file
@@ -74,11 +74,11 @@ abbrev pub outcome_in : Naming → Bool → Action → List ℕ → Outcome Faul
 outcome_in naming true action file = outcome_as of_fit (fit_outcome naming action file)
 outcome_in naming false action file = outcome_as Legacy (legacy_outcome naming action file)
 
--- the outcome of a command on a file, a listing by a set of names
+-- the outcome of a command on a file, a listing with the names of a set
 abbrev pub outcome_of : Naming → Command → List ℕ → Outcome Fault
 outcome_of naming command file = outcome_in naming (is_fit command.form file) command.action file
 
--- the most bytes that the engine of a format asks for
+-- the most bytes that the engine of a format requests
 abbrev pub work_in : Bool → Action → List ℕ → ℕ
 work_in true action.List file = fit.list_work file
 work_in true action.Verify file = fit.verify_work file
@@ -87,19 +87,18 @@ work_in false action.List file = legacy.list_work file
 work_in false action.Verify file = legacy.verify_work file
 work_in false (action.Extract position) file = legacy.extract_work file position
 
--- The most bytes that a command asks for, a listing by whatever names: the four that tell the
--- format, and what the format's engine asks for. Beside payloads that is `64 + 1024 * (nodes +
--- properties) + 4 * (bytes of texts + NOPs)` for a FIT image, each counted as it is met, and `64 +
--- 16 * (sizes + 1)` for a legacy image.
+-- The most bytes that a command requests, a listing with any names: the four of the magic number,
+-- and those of the format's engine. Without payloads that is `64 + 1024 * (nodes + properties) + 4
+-- * (bytes of texts + NOPs)` for a FIT image, each counted as it is met, and `64 + 16 * (sizes +
+-- 1)` for a legacy image.
 abbrev pub work : Command → List ℕ → ℕ
 work command file = 4 + work_in (is_fit command.form file) command.action file
 
--- the most bytes that a listing asks for
+-- the most bytes that a listing requests
 abbrev pub listing_work : Form → List ℕ → ℕ
 listing_work form file = work (record { action = action.List; form = form }) file
 
--- how many entries a command's table has at most: one for each node of a FIT image, none for a
--- legacy image
+-- the most entries of a command's table: one for each node of a FIT image, none for a legacy image
 abbrev pub nodes_in : Bool → List ℕ → ℕ
 nodes_in true file = nodes_met file
 nodes_in false file = 0
@@ -107,8 +106,8 @@ nodes_in false file = 0
 abbrev pub nodes_of : Command → List ℕ → ℕ
 nodes_of command file = nodes_in (is_fit command.form file) file
 
--- An extraction asked for at most its work without the payload, the bytes that it wrote, and a
--- window of 8192 more. Of other actions this says nothing.
+-- An extraction requested at most its work without the payload, the bytes that it wrote, and a
+-- window of 8192 more. Of other actions nothing is claimed.
 abbrev pub ExtractsAheadBetween : ℕ → Action → Outcome Fault → (old new : Device) → Sink → Sink
     → Type 0
 ExtractsAheadBetween most action.List o old new s t = ⊤
@@ -123,16 +122,15 @@ ExtractsAhead naming command device source out = ExtractsAheadBetween
     (outcome_of naming command (device source.entry.now).bytes)
     (device source.entry.now) (device source.exit.now) out.entry.now out.exit.now
 
--- An extraction that is refused has written nothing. Of other actions and answers this says
--- nothing.
+-- A refused extraction wrote nothing. Of other actions and results nothing is claimed.
 abbrev pub KeepsOutput : Action → Bool → (old new : Sink) → Type 0
 KeepsOutput action.List is_refused old new = ⊤
 KeepsOutput action.Verify is_refused old new = ⊤
 KeepsOutput (action.Extract position) true old new = new ≡ old
 KeepsOutput (action.Extract position) false old new = ⊤
 
--- An extraction that is refused has written nothing to a text that was empty. Of other actions and
--- answers this says nothing.
+-- A refused extraction left a text that was empty empty. Of other actions and results nothing is
+-- claimed.
 abbrev pub WritesNone : Action → Bool → List ℕ → Type 0
 WritesNone action.List is_refused text = ⊤
 WritesNone action.Verify is_refused text = ⊤
@@ -143,11 +141,11 @@ WritesNone (action.Extract position) false text = ⊤
 abbrev pub Stays : ℕ → ℕ → Type 0
 Stays old new = (old < 2 ^ 64 - 1) × (new ≡ old)
 
--- a fact holds exactly where a counter rose, if that was below its greatest value
+-- a fact holds exactly if a counter rose, provided that it was below its greatest value
 abbrev pub ExactlyIfRose : Type 0 → ℕ → ℕ → Type 0
 ExactlyIfRose fact old new = old < 2 ^ 64 - 1 → fact ↔ (old < new)
 
--- the source answers its bytes
+-- the source is honest
 abbrev pub HonestSource : {S : Type 0} → (S → Device) → Lent S → Type 0
 HonestSource device source = IsTrue (device source.entry.now).honest
 
@@ -160,17 +158,17 @@ NoReadFails device source =
 abbrev pub NoWriteFails : Lent Sink → Type 0
 NoWriteFails out = Stays out.entry.now.faults out.exit.now.faults
 
--- at most so many bytes more were asked for, by the bytes of the source
+-- at most a number of bytes more were requested, which depends on the bytes of the source
 abbrev pub AsksAtMost : {S : Type 0} → (List ℕ → ℕ) → (S → Device) → Lent S → Type 0
 AsksAtMost most device source =
     (device source.exit.now).asked
     ≤ (device source.entry.now).asked + most (device source.entry.now).bytes
 
--- the room never held more than it did before, or so many bytes
+-- the room never held more than before, or than a number of bytes
 abbrev pub PeaksAtMost : ℕ → Lent Held → Type 0
 PeaksAtMost most room = room.exit.now.peak ≤ max room.entry.now.peak most
 
--- the room has its entries dropped, and is otherwise as it was
+-- the entries of the room were dropped, and all else in it is unchanged
 abbrev pub OnlyClears : Lent Held → Type 0
 OnlyClears room = room.exit.now ≡ record room.entry.now { entries = [] }
 
@@ -184,8 +182,8 @@ GrowthsSucceed command device source room =
     GrowthsSucceedBetween (is_fit command.form (device source.entry.now).bytes)
     room.entry.now room.exit.now
 
--- The file is surely read as a legacy image: that is asked for, or the bytes of an honest source
--- tell it.
+-- The file is certainly read as a legacy image: that is the given format, or the format is to be
+-- guessed and the bytes of an honest source do not begin as a blob.
 abbrev pub IsLegacy : Form → Device → Type 0
 IsLegacy form.Guess source = IsTrue source.honest × (begins_as_blob source.bytes ≡ false)
 IsLegacy form.Legacy source = ⊤
@@ -196,24 +194,24 @@ abbrev pub Takes : Bool → Device → Bool → (old new : Held) → Type 0
 Takes true source no_memory old new = TakesNodes source no_memory old new
 Takes false source no_memory old new = (new ≡ record old { entries = [] }) × (no_memory ≡ false)
 
--- What the engine of a format did at any exit: what it asked for and took, what it wrote of the
+-- What the engine of a format does at any exit: what it requested and took, what it wrote of the
 -- outcome, and which failures it counted.
 pub record CarriesOutBetween (naming : Naming) (fit : Bool) (what : Action)
     (result : Result Status Fault) (d e : Device) (old new : Held) (s t : Sink) : Type 0 where
   -- the source is unchanged; `Read` is returned exactly if its failures rose
   pub uses : UsesAtMost (work_in fit what d.bytes) (is_read result) d e
   pub room : Takes fit d (is_no_memory result) old new
-  -- of an extraction
+  -- the bytes that an extraction requested
   pub ahead : IsTrue d.honest
       → ExtractsAheadBetween (work_in fit action.List d.bytes) what
       (outcome_in naming fit what d.bytes) d e s t
-  -- an extraction that is refused wrote nothing, over any source
+  -- a refused extraction wrote nothing, over any source
   pub untouched : KeepsOutput what (is_refused result) s t
   -- `Put` is returned exactly if the faults of the output rose
   pub faults : RisesIf (is_put result) s.faults t.faults
-  -- a fault that only a making has is never returned
+  -- a fault of making is never returned
   pub not_making : is_of_making result ≡ false
-  -- the outcome at its end, or a prefix of its text where a call failed
+  -- the outcome with its end, or a prefix of its text if a call failed
   pub told : IsTrue d.honest → Tells (end_of result) (outcome_in naming fit what d.bytes) s t
 
 abbrev pub CarriesOut : {S : Type 0} → Naming → Bool → Action → Result Status Fault → (S → Device)
@@ -222,7 +220,7 @@ CarriesOut naming fit what result device source room out = CarriesOutBetween nam
     (device source.entry.now) (device source.exit.now) room.entry.now room.exit.now out.entry.now
     out.exit.now
 
--- The same of a command, whose format it names or the file's first bytes tell.
+-- The same for a command, whose format is given or guessed.
 pub record RunsBetween (naming : Naming) (command : Command) (result : Result Status Fault)
     (d e : Device) (old new : Held) (s t : Sink) : Type 0 where
   pub uses : UsesAtMost (work command d.bytes) (is_read result) d e
@@ -242,53 +240,53 @@ Runs naming command result device source room out = RunsBetween naming command r
     (device source.entry.now) (device source.exit.now) room.entry.now room.exit.now out.entry.now
     out.exit.now
 
--- the answer is the outcome's end, and exactly its text was appended
+-- the result means the outcome's end, and exactly its text was appended
 abbrev pub MeetsBetween : Result Status Fault → Outcome Fault → Sink → Sink → Type 0
 MeetsBetween result o s t = (end_of result ≡ Some o.end) × AppendsAll s t o.text
 
--- .. this outcome of the bytes of the source
+-- the same for the outcome of the source's bytes
 abbrev pub Meets : {S : Type 0} → (List ℕ → Outcome Fault) → Result Status Fault → (S → Device)
     → Lent S → Lent Sink → Type 0
 Meets outcome result device source out =
     MeetsBetween result (outcome (device source.entry.now).bytes) out.entry.now out.exit.now
 
--- a prefix of the text of this outcome of the bytes of the source was appended
+-- a prefix of the text of this outcome of the source's bytes was appended
 abbrev pub WritesPrefix : {S : Type 0} → (List ℕ → Outcome Fault) → (S → Device) → Lent S
     → Lent Sink → Type 0
 WritesPrefix outcome device source out =
     AppendsPrefix out.entry.now out.exit.now (outcome (device source.entry.now).bytes).text
 
--- What a call that only reads an image did, whatever it answers: it asked for at most so many
--- bytes, and took memory for the nodes of a FIT image alone, and none for a legacy image. Neither a
--- failed write nor a fault of a making is answered.
+-- What a call that only reads an image does, at any exit: it requested at most a number of bytes,
+-- and took memory for the nodes of a FIT image alone. It returns neither a failed write nor a fault
+-- of making.
 pub record OnlyReadsBetween {X : Type 0} (form : Form) (most : ℕ) (result : Result X Fault)
     (d e : Device) (old new : Held) : Type 0 where
   -- the source is unchanged; `Read` is returned exactly if its failures rose
   pub uses : UsesAtMost most (is_read result) d e
   -- `OutOfMemory` of the blob is returned exactly if the refusals of the room rose
   pub room : TakesNodes d (is_no_memory result) old new
-  -- none is taken for a legacy image
+  -- no memory is taken for a legacy image
   pub legacy : IsLegacy form d → Takes false d (is_no_memory result) old new
   -- `Put` is never returned
   pub no_put : is_put result ≡ false
-  -- a fault that only a making has is never returned
+  -- a fault of making is never returned
   pub not_making : is_of_making result ≡ false
 
--- .. as many bytes as this work of the source's
+-- the same, with the number of bytes as a function of the source's
 abbrev pub OnlyReads : {S X : Type 0} → Form → (List ℕ → ℕ) → Result X Fault → (S → Device) → Lent S
     → Lent Held → Type 0
 OnlyReads form work result device source room =
     OnlyReadsBetween form (work (device source.entry.now).bytes) result
     (device source.entry.now) (device source.exit.now) room.entry.now room.exit.now
 
--- What a call on the bytes of an image in memory did: no more memory was taken than for its nodes,
--- and a refusal was counted exactly where memory was refused. Neither a failed read nor a fault of
--- a making is answered.
+-- What a call on the bytes of an image in memory does: it took memory for its nodes alone, and a
+-- refusal was counted exactly if memory was refused. It returns neither a failed read nor a fault
+-- of making.
 pub record InMemoryBetween {X : Type 0} (nodes : ℕ) (result : Result X Fault) (old new : Held)
     : Type 0 where
   -- `Read` is never returned
   pub no_read : is_read result ≡ false
-  -- a fault that only a making has is never returned
+  -- a fault of making is never returned
   pub not_making : is_of_making result ≡ false
   -- `OutOfMemory` of the blob is returned exactly if the refusals of the room rose
   pub no_memory : RisesIf (is_no_memory result) old.refused new.refused
@@ -303,8 +301,8 @@ InMemory form file result room =
 abbrev pub TakesNone : {X : Type 0} → Result X Fault → Lent Held → Type 0
 TakesNone result room = OnlyClears room × (is_no_memory result ≡ false)
 
--- An answer and a text are those of an outcome, unless memory was refused, that for the text or
--- that for a table of nodes.
+-- Result and text are those of an outcome, unless memory for the text or for a table of nodes was
+-- refused.
 abbrev pub GivesOutcome : Outcome Fault → Result Status Fault → List ℕ → Type 0
 GivesOutcome o result text =
     is_put result ≡ false → is_no_memory result ≡ false

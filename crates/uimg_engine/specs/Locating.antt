@@ -1,4 +1,4 @@
--- Where a part of a legacy image, or the payload of a FIT image's image, stands.
+-- The span of a part of a legacy image, or of the payload of a FIT image's image.
 use Rattle.std.specs.Prelude.{◌≡◌, ℕ, ◌+◌, ◌≤◌, List, length, Result, Ok, Err, Option, Some, Bool}
 use Rattle.std.specs.Prelude.{false, IsTrue, IfOk, IfSome}
 use Rattle.uimg_texts.specs.Slices.{slice}
@@ -15,30 +15,30 @@ use Rattle.uimg_engine.specs.declared.fault.Fault.{Fault}
 use Rattle.uimg_engine.specs.Faults.{is_read, is_put, is_no_memory, is_of_making, end_of}
 use Rattle.uimg_engine.specs.Headline.{outcome_in, outcome_of, work_in, Takes}
 
--- the end of an extraction that an answer tells, where no device failed and no memory was refused
+-- the end of an extraction that a result means, unless a device failed or memory was refused
 abbrev pub ends : Result Span Fault → Option (End Fault)
 ends (Ok span) = Some done
 ends (Err fault) = end_of (Err fault)
 
--- An extraction with this outcome writes just the bytes at the span that is answered, or it ends by
--- just the fault that is.
+-- An extraction with this outcome writes just the bytes of the returned span, or ends with the
+-- returned fault.
 pub record TellsSpan (file : List ℕ) (o : Outcome Fault) (result : Result Span Fault) : Type 0 where
   -- its end, unless a read failed or memory was refused
   pub end : IfSome (ends result) (λ e. o.end ≡ e)
   -- just the bytes that the extraction writes
   pub text : IfOk result (λ span. o.text ≡ slice file span.place span.length)
 
--- .. the extraction from a position, which names nothing
+-- the same for the extraction from a position, which prints no names
 abbrev pub FindsSpan : Form → ℕ → List ℕ → Result Span Fault → Type 0
 FindsSpan form position file result =
     TellsSpan file
     (outcome_of Profile (record { action = action.Extract position; form = form }) file) result
 
--- a span ends in the file
+-- a span ends inside the file
 abbrev pub StandsIn : List ℕ → Span → Type 0
 StandsIn file span = span.place + span.length ≤ length file
 
--- What the engine of a format did at any exit: it asked for no more than for a listing, and wrote
+-- What the engine of a format does at any exit: it requested no more than a listing, and wrote
 -- nothing.
 pub record LocatesBetween (fit : Bool) (position : ℕ) (result : Result Span Fault) (d e : Device)
     (old new : Held) : Type 0 where

@@ -32,7 +32,7 @@ texts names = map (λ name. name.items) names
 abbrev pub HaveParts : (List ℕ → Option (List ℕ)) → List (List ℕ) → List (List ℕ) → Type 0
 HaveParts files names parts = map files names ≡ map Some parts
 
--- There is a name of number i, and the names before it have bytes.
+-- A name of number i exists, and the names before it have bytes.
 pub record Misses (files : List ℕ → Option (List ℕ)) (names : List (List ℕ)) (i : ℕ) : Type 0 where
   pub within : i < length names
   pub before : All (λ name. IsSome (files name)) (take i names)
@@ -44,35 +44,34 @@ pub record Refuses (options : Options) (files : List ℕ → Option (List ℕ)) 
   pub have : HaveParts files names parts
   pub refused : data_to_build options.kind parts ≡ Err fault
 
--- The names have parts that an image is built from.
+-- The names have parts that an image can be built from.
 pub record Accepts (options : Options) (files : List ℕ → Option (List ℕ)) (names : List (List ℕ))
     : Type 0 where
   pub parts : List (List ℕ)
   pub have : HaveParts files names parts
   pub accepted : data_to_build options.kind parts ≡ Ok (data_of (has_parts options.kind) parts)
 
--- The image of parts was appended, and reads back as such.
+-- The image of parts was appended, and reads back.
 pub record BuildsImage (options : Options) (parts : List (List ℕ)) (s t : Sink) : Type 0 where
   pub accepted : data_to_build options.kind parts ≡ Ok (data_of (has_parts options.kind) parts)
   pub written : AppendsAll s t (legacy_built options parts)
   pub reads_back : ReadsBack (legacy_built options parts) parts
 
--- What is kept is the image of parts, and reads back as such.
+-- The image of parts is kept, and reads back.
 pub record KeepsImage (options : Options) (parts : List (List ℕ)) (kept : Device) : Type 0 where
   pub accepted : data_to_build options.kind parts ≡ Ok (data_of (has_parts options.kind) parts)
   pub bytes : kept.bytes ≡ legacy_built options parts
   pub honest : IsTrue kept.honest
   pub reads_back : ReadsBack (legacy_built options parts) parts
 
--- What is kept is the image of the names' parts, and reads back as such.
+-- The image of the names' parts is kept, and reads back.
 pub record Keeps (options : Options) (files : List ℕ → Option (List ℕ)) (names : List (List ℕ))
     (kept : Device) : Type 0 where
   pub parts : List (List ℕ)
   pub have : HaveParts files names parts
   pub image : KeepsImage options parts kept
 
--- The image of the names' parts is kept, its whole listing was appended, and the listing is not
--- refused.
+-- The image of the names' parts is kept, and its whole listing was appended, with no fault.
 pub record Makes (naming : Naming) (options : Options) (files : List ℕ → Option (List ℕ))
     (names : List (List ℕ)) (kept : Device) (s t : Sink) : Type 0 where
   -- the source that is kept is honest, and has the bytes of `legacy_built`
@@ -88,22 +87,21 @@ pub record Breaks (naming : Naming) (options : Options) (files : List ℕ → Op
   pub have : HaveParts files names parts
   pub prefix : AppendsPrefix s t (list_of naming (legacy_built options parts)).text
 
--- why the files of the names are not opened
+-- why not all files of the names were opened
 abbrev pub StopsOpening : (List ℕ → Option (List ℕ)) → List (List ℕ) → Fault → Type 0
 StopsOpening files names (NoFile i) = Misses files names i
 StopsOpening files names OutOfMemory = ⊤
 StopsOpening files names _ = ⊥
 
--- An answer is the opened files, honest sources of the names' bytes, or why they are not all
--- opened.
+-- The result is the opened files, honest sources of the names' bytes, or why not all were opened.
 abbrev pub OpensAnswer : {V : Type 0} → (V → List Device) → (List ℕ → Option (List ℕ))
     → List (List ℕ) → Result V Fault → Type 0
 OpensAnswer devices files names (Ok opened) =
     HaveParts files names (bytes_of (devices opened)) × AreHonest (devices opened)
 OpensAnswer devices files names (Err fault) = StopsOpening files names fault
 
--- What the answer of a building says of the parts, and of what was appended: the image, or why not;
--- where a read or a write failed, a prefix of it.
+-- What the result of building says of the parts and of what was appended: the image, or why not;
+-- after a failed read or write, a prefix of it.
 abbrev pub BuildsParts : {X : Type 0} → Options → List (List ℕ) → Result X Fault → Sink → Sink
     → Type 0
 BuildsParts options parts (Ok x) s t = BuildsImage options parts s t
@@ -114,21 +112,21 @@ BuildsParts options parts (Err Put) s t =
     × AppendsPrefix s t (build_of options parts).text
 BuildsParts options parts (Err _) s t = ⊥
 
--- The names have parts, of which the answer of a building says what it says.
+-- The names have parts, and the result of building says this of them.
 pub record BuildsThese {X : Type 0} (options : Options) (files : List ℕ → Option (List ℕ))
     (names : List (List ℕ)) (result : Result X Fault) (s t : Sink) : Type 0 where
   pub parts : List (List ℕ)
   pub have : HaveParts files names parts
   pub builds : BuildsParts options parts result s t
 
--- What the answer of a building says of the files of the names, and of what was appended.
+-- What the result of building says of the files of the names, and of what was appended.
 abbrev pub BuildsNames : {X : Type 0} → Options → (List ℕ → Option (List ℕ)) → List (List ℕ)
     → Result X Fault → Sink → Sink → Type 0
 BuildsNames options files names (Err (NoFile i)) s t = Misses files names i
 BuildsNames options files names (Err OutOfMemory) s t = ⊤
 BuildsNames options files names result s t = BuildsThese options files names result s t
 
--- what the fault of a making says of what was appended
+-- what a fault of making a legacy image says of its files and of what was appended
 abbrev pub StopsMaking : Naming → Options → (List ℕ → Option (List ℕ)) → List (List ℕ) → Fault
     → Sink → Sink → Type 0
 StopsMaking naming options files names (Legacy fault) s t =
@@ -143,7 +141,7 @@ StopsMaking naming options files names (NoFile i) s t = Misses files names i × 
 StopsMaking naming options files names Keep s t = Accepts options files names × (t ≡ s)
 StopsMaking naming options files names OutOfMemory s t = t ≡ s
 
--- An answer is the kept image with its listing appended, or the fault of a making.
+-- The result is the kept image, with its listing appended, or a fault of making it.
 abbrev pub MakesAnswer : {K : Type 0} → (K → Device) → Naming → Options → (List ℕ → Option (List ℕ))
     → List (List ℕ) → Result K Fault → Sink → Sink → Type 0
 MakesAnswer device naming options files names (Ok kept) s t =
@@ -151,13 +149,13 @@ MakesAnswer device naming options files names (Ok kept) s t =
 MakesAnswer device naming options files names (Err fault) s t =
     StopsMaking naming options files names fault s t
 
--- a name whose open was refused has no bytes; of other faults this says nothing
+-- at `NoFile` the name has no bytes; of other faults nothing is claimed
 abbrev pub Lacks : (List ℕ → Option (List ℕ)) → List (List ℕ) → Fault → Type 0
 Lacks files names (NoFile i) = files (slice_index_or names i []) ≡ None
 Lacks files names _ = ⊤
 
--- The files are what they were, a refusal was counted exactly where the answer is that a file could
--- not be opened, and complete files refuse only a name that has no bytes.
+-- The files are unchanged. A refusal was counted exactly if a file could not be opened. Complete
+-- files refuse only a name without bytes.
 pub record OpensNames {X : Type 0} (names : List (List ℕ)) (result : Result X Fault)
     (old new : FileMap) : Type 0 where
   pub same : SameFiles old new
@@ -166,9 +164,8 @@ pub record OpensNames {X : Type 0} (names : List (List ℕ)) (result : Result X 
   -- `NoFile` only for a name without bytes
   pub missing : IsTrue old.complete → IfErr result (Lacks old.bytes names)
 
--- What the building of an image did to its output: after an answer that comes before the first byte
--- it is as it was, and a failed write was counted exactly where one is answered. Nothing is kept
--- yet.
+-- What the building of an image does to its output: a fault that comes before the first byte left
+-- it unchanged, and a failed write was counted exactly if one is returned. Nothing is kept yet.
 pub record WritesImageBetween {X : Type 0} (result : Result X Fault) (old new : Sink) : Type 0 where
   -- a refusal of files, parts, source, tree or memory, but not F9, wrote nothing
   pub untouched : IsTrue (is_before_building result) → new ≡ old
@@ -180,7 +177,7 @@ pub record WritesImageBetween {X : Type 0} (result : Result X Fault) (old new : 
 abbrev pub WritesImage : {X : Type 0} → Result X Fault → Lent Sink → Type 0
 WritesImage result image = WritesImageBetween result image.entry.now image.exit.now
 
--- A shelf has just the bytes of what it kept, which answers them.
+-- The bytes of the shelf are just those of what it kept, which is honest.
 abbrev pub KeepsBytes : {K : Type 0} → (K → Device) → Option (List ℕ) → K → Type 0
 KeepsBytes device contents kept =
     (contents ≡ Some (device kept).bytes) × IsTrue (device kept).honest

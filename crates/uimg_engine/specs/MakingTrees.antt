@@ -39,7 +39,7 @@ pub record SpellsTree (files : List ℕ → Option (List ℕ)) (source : List �
   pub have : files source ≡ Some text
   pub spelled : Spells (words text) files t
 
--- The source has a text, and where it is refused for a reason in the text, its words spell no tree.
+-- The source has a text. If the reason of the refusal is in the text, its words spell no tree.
 pub record RefusesText (files : List ℕ → Option (List ℕ)) (source : List ℕ) (kind : FaultKind)
     : Type 0 where
   pub text : List ℕ
@@ -47,28 +47,28 @@ pub record RefusesText (files : List ℕ → Option (List ℕ)) (source : List �
   -- of I5, I6 and I7 nothing is claimed
   pub none : OnFalse (is_outside kind) ((t : Nodes) → Spells (words text) files t → ⊥)
 
--- The tree that is spelled is another one when it is filled at a time.
+-- A tree is the spelled one, filled at a time.
 pub record FillsTree (files : List ℕ → Option (List ℕ)) (source : List ℕ) (time : ℕ) (u : Nodes)
     : Type 0 where
   pub tree : Nodes
   pub spelled : SpellsTree files source tree
   pub filled : fill_of time tree ≡ Ok u
 
--- The tree that is spelled is not filled: a fault of filling says why.
+-- The spelled tree is not filled; a fault of filling says why.
 pub record Unfilled (files : List ℕ → Option (List ℕ)) (source : List ℕ) (time : ℕ)
     (fault : FitFault) : Type 0 where
   pub tree : Unread
   pub spelled : SpellsTree files source (in_full files tree)
   pub stops : FillsAnswer {X = Unread} (λ t. t) files time tree (Err fault)
 
--- What is filled is the tree that is spelled, filled; its files are those of the source.
+-- The spelled tree is filled, and its files are those of the source.
 pub record FillsSource (files : List ℕ → Option (List ℕ)) (source : List ℕ) (time : ℕ) (u : Unread)
     : Type 0 where
   pub fills : FillsTree files source time (in_full files u)
   pub is_filled : IsFilled (in_full files u)
   pub kept : AreKept files u
 
--- What the answer of a building says of the filled tree.
+-- What the result of building says of the filled tree.
 pub record BuildsFilled {X : Type 0} (files : List ℕ → Option (List ℕ)) (source : List ℕ) (time : ℕ)
     (placement : AlignedPlacement) (result : Result X FitEngineFault) (s t : Sink) : Type 0 where
   pub tree : Nodes
@@ -81,7 +81,7 @@ pub record AcceptsTree (files : List ℕ → Option (List ℕ)) (source : List �
   pub fills : FillsTree files source time tree
   pub accepted : CanBuild tree placement
 
--- The image of the filled tree was appended, and reads back as such.
+-- The image of the filled tree was appended, and reads back.
 pub record BuildsTree (files : List ℕ → Option (List ℕ)) (source : List ℕ) (time : ℕ)
     (placement : AlignedPlacement) (s t : Sink) : Type 0 where
   pub tree : Nodes
@@ -89,8 +89,8 @@ pub record BuildsTree (files : List ℕ → Option (List ℕ)) (source : List �
   pub written : AppendsAll s t (built tree placement)
   pub reads_back : ReadsBack (built tree placement) tree
 
--- Why an image is refused for its images: the tree isn't filled, or what is filled isn't built (of
--- which the fault alone says why, and nothing was appended).
+-- Why an image is refused for its images: the tree was not filled, and nothing was appended; or the
+-- filled tree was not built.
 pub data StopsAtImages (files : List ℕ → Option (List ℕ)) (source : List ℕ) (time : ℕ)
     (placement : AlignedPlacement) (fault : FitFault) (s t : Sink) : Type 0 where
   unfilled : Unfilled files source time fault → t ≡ s
@@ -98,15 +98,15 @@ pub data StopsAtImages (files : List ℕ → Option (List ℕ)) (source : List �
   unbuilt : BuildsFilled {X = ⊤} files source time placement (Err (fit.Fit fault)) s t
       → StopsAtImages files source time placement fault s t
 
--- Why a read failed in a building: the text isn't read, and nothing was appended, or a file isn't
--- while the image is written.
+-- Why a read failed in building: the text was not read, and nothing was appended; or a file was not
+-- read while the image was written.
 pub data StopsAtRead (files : List ℕ → Option (List ℕ)) (source : List ℕ) (time : ℕ)
     (placement : AlignedPlacement) (s t : Sink) : Type 0 where
   before : IsSome (files source) → t ≡ s → StopsAtRead files source time placement s t
   unwritten : BuildsFilled {X = ⊤} files source time placement (Err fit.Read) s t
       → StopsAtRead files source time placement s t
 
--- What an answer says of the bytes of the source, if it is there: all of them, or why not.
+-- What the result says of the bytes of the source, if it exists: all of them, or why not.
 abbrev pub ReadsText : {X : Type 0} → (X → List ℕ) → Option (List ℕ) → Result X Fault → Type 0
 ReadsText view bytes (Ok x) = bytes ≡ Some (view x)
 ReadsText view bytes (Err Read) = IsSome bytes
@@ -114,7 +114,7 @@ ReadsText view bytes (Err (NoFile i)) = i ≡ 0
 ReadsText view bytes (Err OutOfMemory) = ⊤
 ReadsText view bytes (Err _) = ⊥
 
--- What an answer says of the source: the filled tree, or why there is none.
+-- What the result says of the source: the filled tree, or why there is none.
 abbrev pub ReadsTree : {X : Type 0} → (X → Unread) → (List ℕ → Option (List ℕ)) → List ℕ → ℕ
     → Result X Fault → Type 0
 ReadsTree view files source time (Ok x) = FillsSource files source time (view x)
@@ -125,8 +125,8 @@ ReadsTree view files source time (Err (NoFile i)) = i ≡ 0
 ReadsTree view files source time (Err OutOfMemory) = ⊤
 ReadsTree view files source time (Err _) = ⊥
 
--- What the answer of a building says of the source, and of what was appended: the image, or why
--- not; where an open, a read or a write failed, a prefix of it.
+-- What the result of building says of the source and of what was appended: the image, or why not;
+-- after a failed open, read or write, a prefix of it.
 abbrev pub BuildsSource : {X : Type 0} → (List ℕ → Option (List ℕ)) → List ℕ → ℕ → AlignedPlacement
     → Result X Fault → Sink → Sink → Type 0
 BuildsSource files source time placement (Ok x) s t = BuildsTree files source time placement s t
@@ -144,8 +144,8 @@ BuildsSource files source time placement (Err (NoFile i)) s t = i ≡ 0
 BuildsSource files source time placement (Err Keep) s t = ⊥
 BuildsSource files source time placement (Err OutOfMemory) s t = ⊤
 
--- What is kept is the image of the filled tree, reads back as such, and is told as a FIT image by
--- its first bytes; its listing ends well.
+-- The image of the filled tree is kept, and reads back. Its first bytes mark it as a FIT image, and
+-- its listing ends without a fault.
 pub record KeepsTree (files : List ℕ → Option (List ℕ)) (source : List ℕ) (time : ℕ)
     (placement : AlignedPlacement) (kept : Device) : Type 0 where
   pub tree : Nodes
@@ -165,15 +165,15 @@ pub record MakesTree (naming : Naming) (files : List ℕ → Option (List ℕ)) 
   -- exactly its listing was appended
   pub listed : AppendsAll s t (list_of naming (built keeps.tree placement)).text
 
--- A prefix of the listing of the image of the filled tree was appended.
+-- A prefix of the listing of the filled tree's image was appended.
 pub record BreaksTree (naming : Naming) (files : List ℕ → Option (List ℕ)) (source : List ℕ)
     (time : ℕ) (placement : AlignedPlacement) (s t : Sink) : Type 0 where
   pub tree : Nodes
   pub accepts : AcceptsTree files source time placement tree
   pub prefix : AppendsPrefix s t (list_of naming (built tree placement)).text
 
--- Why a blob is refused: a name of the filled tree is bad, or memory for the table of the nodes was
--- refused in the listing.
+-- Why a blob is refused: a name of the filled tree is bad, or the listing was refused memory for
+-- the table of nodes.
 pub data StopsAtBlob (naming : Naming) (files : List ℕ → Option (List ℕ)) (source : List ℕ)
     (time : ℕ) (placement : AlignedPlacement) (fault : BlobFault) (at : ℕ) (s t : Sink)
     : Type 0 where
@@ -182,15 +182,15 @@ pub data StopsAtBlob (naming : Naming) (files : List ℕ → Option (List ℕ)) 
   no_table : IsTrue (refuses_memory fault) → BreaksTree naming files source time placement s t
       → StopsAtBlob naming files source time placement fault at s t
 
--- Why a read failed in a making: the text isn't read, and nothing was listed, or a file, or what
--- was kept in the listing.
+-- Why a read failed in making: the text was not read, and nothing was listed; or a read of a file,
+-- or of what was kept, failed.
 pub data StopsReading (naming : Naming) (files : List ℕ → Option (List ℕ)) (source : List ℕ)
     (time : ℕ) (placement : AlignedPlacement) (s t : Sink) : Type 0 where
   unread : IsSome (files source) → t ≡ s → StopsReading naming files source time placement s t
   unlisted : BreaksTree naming files source time placement s t
       → StopsReading naming files source time placement s t
 
--- what the fault of a making says of the source, and of what was listed
+-- what a fault of making a FIT image says of the source, and of the listing
 abbrev pub StopsSource : Naming → (List ℕ → Option (List ℕ)) → List ℕ → ℕ → AlignedPlacement → Fault
     → Sink → Sink → Type 0
 StopsSource naming files source time placement (Legacy fault) s t = ⊥
@@ -209,7 +209,7 @@ StopsSource naming files source time placement Keep s t =
     ((tree : Nodes) × AcceptsTree files source time placement tree) × (t ≡ s)
 StopsSource naming files source time placement OutOfMemory s t = t ≡ s
 
--- An answer is the kept image with its listing appended, or the fault of a making.
+-- The result is the kept image, with its listing appended, or a fault of making it.
 abbrev pub MakesSource : {K : Type 0} → (K → Device) → Naming → (List ℕ → Option (List ℕ)) → List ℕ
     → ℕ → AlignedPlacement → Result K Fault → Sink → Sink → Type 0
 MakesSource device naming files source time placement (Ok kept) s t =
@@ -217,15 +217,15 @@ MakesSource device naming files source time placement (Ok kept) s t =
 MakesSource device naming files source time placement (Err fault) s t =
     StopsSource naming files source time placement fault s t
 
--- A room took no more memory than for the nodes of the image of the filled tree.
+-- The room took memory for no more than the nodes of the filled tree's image.
 pub record HoldsNodes (files : List ℕ → Option (List ℕ)) (source : List ℕ) (time : ℕ)
     (placement : AlignedPlacement) (old new : Held) : Type 0 where
   pub tree : Nodes
   pub accepts : AcceptsTree files source time placement tree
   pub peak : new.peak ≤ max old.peak (held_bytes (nodes_met (built tree placement)))
 
--- What the making of an image did to a room, whatever its answer: it cleared it and did nothing
--- else, or it took memory for the nodes of an image that can be built.
+-- What the making of an image does to a room, at any exit: it only cleared it, or it took memory
+-- for the nodes of an image that can be built.
 pub data HoldsSource (files : List ℕ → Option (List ℕ)) (source : List ℕ) (time : ℕ)
     (placement : AlignedPlacement) (old new : Held) : Type 0 where
   only_cleared : new ≡ record old { entries = [] } → HoldsSource files source time placement old new

@@ -12,8 +12,8 @@ use uimg_base::{FileSource, Files, Source, SourceFault};
 
 /// The files of a folder, opened by their paths.
 ///
-/// A name that begins with `/` is a path of its own, any other name is looked for in the folder.
-/// No contract says what a file has, so the files are not claimed to be honest. A file may be left
+/// A name that begins with `/` is a path of its own; any other name is a path in the folder. No
+/// contract says what a file has, so the files are not claimed to be honest. One file may be left
 /// out: one that is written while the others are read.
 #[derive(Drop)]
 pub struct DiskFiles<'a, R: rt::Files + AllocGlobal> {
@@ -25,7 +25,7 @@ pub struct DiskFiles<'a, R: rt::Files + AllocGlobal> {
 }
 
 impl<'a, R: rt::Files + AllocGlobal> DiskFiles<'a, R> {
-    /// The files of a folder, of which no open was refused yet. An empty text is the current
+    /// Returns the files of a folder, with no refused open yet. An empty text is the current
     /// folder.
     pub fn new(rt: &'a R, folder: &'a str) -> DiskFiles<'a, R>
         ensures { (⟦<DiskFiles<'a, R> as Files>⟧.map result).refusals ≡ 0 }
@@ -39,7 +39,7 @@ impl<'a, R: rt::Files + AllocGlobal> DiskFiles<'a, R> {
         }
     }
 
-    /// The same, but for the file that a path leads to, whose open is refused.
+    /// Returns the files of a folder without the file at a path, whose open is refused.
     pub fn without(rt: &'a R, folder: &'a str, path: &'a str) -> DiskFiles<'a, R>
         ensures { (⟦<DiskFiles<'a, R> as Files>⟧.map result).refusals ≡ 0 }
     {
@@ -49,7 +49,7 @@ impl<'a, R: rt::Files + AllocGlobal> DiskFiles<'a, R> {
         }
     }
 
-    /// Whether the open of the file that is left out was asked for, and refused.
+    /// Returns whether the file that is left out was requested, and so refused.
     pub fn has_met_left_out(&self) -> bool {
         self.has_met_left_out
     }
@@ -67,8 +67,8 @@ impl<'a, R: rt::Files + AllocGlobal> Files for DiskFiles<'a, R> {
 
     /// Opens the file of this name.
     ///
-    /// `SourceFault` comes where the name is not UTF-8, where the memory for the path is refused,
-    /// where the file is the one that is left out, and as from `FileSource::open`.
+    /// Returns `SourceFault` if the name is not UTF-8, if memory for the path was refused, if the
+    /// file is the one that is left out, or if `FileSource::open` does.
     fn open(&mut self, name: &[u8]) -> Result<FileSource<R::File>, SourceFault> {
         let opened = match path_in(self.rt.alloc(), self.folder, name) {
             Ok(path) => open_other(
@@ -104,7 +104,7 @@ fn open_other<R: rt::Files + AllocGlobal>(
     FileSource::open(rt, path)
 }
 
-// The path of a name in a folder: the name itself where it begins with `/`.
+// Returns the path of a name in a folder: the name itself if it begins with `/`.
 fn path_in<A: Allocator>(alloc: A, folder: &str, name: &[u8]) -> Result<PathBuf<A>, SourceFault>
     ensures { IfOk result (λ path. path_buf_bytes path ≡ path_join folder.now name.now) }
 {

@@ -1,4 +1,4 @@
-//! A command on an image, by the engine of its format.
+//! Commands on an image, carried out by the engine of its format.
 
 ghost use Rattle.std.specs.Prelude.{◌≡◌, ◌+◌, ◌*◌, true, false, length, Err};
 ghost use Rattle.uimg_base.specs.Device.{SameDevice};
@@ -14,7 +14,7 @@ use uimg_base::{Out, Room, Source, Status};
 use uimg_names::Naming;
 use uimg_requests::{Action, Command};
 
-// The action by the engine of legacy images.
+// Carries out an action on a legacy image.
 pub(crate) fn run_legacy<S: Source, A: Allocator, W: Write>(
     naming: Naming,
     action: Action,
@@ -32,7 +32,7 @@ pub(crate) fn run_legacy<S: Source, A: Allocator, W: Write>(
     Ok(status)
 }
 
-// The action by the engine of FIT images.
+// Carries out an action on a FIT image.
 fn run_fit<S: Source, A: Allocator, W: Write>(
     naming: Naming,
     action: Action,
@@ -50,7 +50,7 @@ fn run_fit<S: Source, A: Allocator, W: Write>(
     Ok(status)
 }
 
-// The command by the engine of the format that the file is read as.
+// Carries out a command with the engine of the format that the file is read in.
 pub(crate) fn run_by_format<S: Source, A: Allocator, W: Write>(
     naming: Naming,
     command: &Command,
@@ -68,18 +68,18 @@ pub(crate) fn run_by_format<S: Source, A: Allocator, W: Write>(
     }
 }
 
-/// Carries out a command on an image: writes its listing, by the names of the profile, its verification
-/// report, one part of a legacy image or one payload of a FIT image to `out`, and answers the status.
+/// Carries out a command on an image: writes its listing (with the names of the profile), its
+/// verification report, one part of a legacy image or one payload of a FIT image to `out`. Returns
+/// the status.
 ///
-/// Over an honest source, one that answers its bytes, a room that grows where a FIT image needs it,
-/// and a writer that takes what it is given, exactly the outcome of the command is written and
-/// answered: all its text, its status or its first fault. `Fault::Read` comes exactly where a read
-/// failed, `Fault::Put` exactly where a write did, and `OutOfMemory` of the blob exactly where the
-/// room refused to grow, which only a FIT image asks of it; over an honest source what was written
-/// then is a prefix of that text. At every exit an honest source was asked for at most `work` bytes,
-/// and the room has taken no more memory than 128 bytes for each node of a FIT image that was met;
-/// for a legacy image it has taken none. An extraction that is refused has written nothing. The
-/// faults that only `make` answers never come.
+/// Over an honest source, if no read, write or growth of the room failed, exactly the outcome of
+/// the command is written and returned: all its text, and its status or its first fault. Returns
+/// `Fault::Read` exactly if a read failed, `Fault::Put` exactly if a write failed, and
+/// `OutOfMemory` of the blob exactly if the room refused to grow, which only a FIT image needs;
+/// over an honest source a prefix of the text was written then. At every exit at most `work` bytes
+/// of an honest source were requested, and the room took at most 128 bytes for each node of a FIT
+/// image that was met, and none for a legacy image. A refused extraction writes nothing. A fault of
+/// making is never returned.
 pub fn run<S: Source, A: Allocator, W: Write>(
     command: &Command,
     source: &mut S,
@@ -110,7 +110,7 @@ pub fn run<S: Source, A: Allocator, W: Write>(
     run_by(Naming::Profile, command, source, room, out)
 }
 
-/// Carries out a command on an image as `run` does, a listing by a set of names.
+/// Carries out a command on an image as `run` does, a listing with the names of a set.
 pub fn run_by<S: Source, A: Allocator, W: Write>(
     naming: Naming,
     command: &Command,

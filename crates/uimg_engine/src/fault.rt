@@ -9,23 +9,23 @@ use uimg_its::ItsFault;
 use uimg_legacy::LegacyFault;
 
 /// Why a command on an image, or the making of one, stopped. Its text is the line that the program
-/// prints after `uimg: `, but for `NoFile` and `Keep`, where the program prints the path.
+/// prints after `uimg: `, except for `NoFile` and `Keep`, where the program prints the path.
 #[derive(Clone, Copy, Debug, PartialEq, Eq, Error)]
 pub enum Fault {
-    /// The legacy image, or the parts that one is made from, are refused.
+    /// The legacy image, or the parts to make one from, are refused.
     #[error("{0}")]
     Legacy(LegacyFault),
 
-    /// The blob of the FIT image is refused, or the memory for the table of its nodes was; the offset
-    /// is counted from the file's start. A name of the tree that one is made from is refused at 0.
+    /// The blob of the FIT image is refused, or memory for its table of nodes; the offset counts
+    /// from the file's start. A bad name of a tree to be built is at offset 0.
     #[error("{0} at {1}")]
     Blob(BlobFault, u64),
 
-    /// The FIT image, or the tree that one is made from, is refused.
+    /// The FIT image, or the tree to make one from, is refused.
     #[error("{0}")]
     Fit(FitFault),
 
-    /// The image source is not compiled. Only `make` answers it.
+    /// The image source is not compiled. A fault of making.
     #[error("{0}")]
     Its(ItsFault),
 
@@ -37,17 +37,17 @@ pub enum Fault {
     #[error("write failed")]
     Put,
 
-    /// The file of this number, counted from 0, could not be opened; an image source is number 0. Only
-    /// `make` answers it.
+    /// The file of this number, counted from 0, could not be opened; an image source is number 0. A
+    /// fault of making.
     #[error("cannot read file {0}")]
     NoFile(u64),
 
-    /// What was written could not be read. Only `make` answers it.
+    /// What was written could not be reopened. A fault of making.
     #[error("cannot read what was written")]
     Keep,
 
-    /// The memory for the opened files, or for the text of the image source, was refused. Only `make`
-    /// answers it.
+    /// Memory for the opened files, or for the text of the image source, was refused. A fault of
+    /// making.
     #[error("out of memory")]
     OutOfMemory,
 }

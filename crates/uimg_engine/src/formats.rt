@@ -1,4 +1,4 @@
-//! Which format a file is read as.
+//! The format that a file is read in.
 
 ghost use Rattle.std.specs.Prelude.{◌≡◌, false, IfOk, is_err};
 ghost use Rattle.uimg_base.specs.Using.{Asks};
@@ -8,7 +8,7 @@ use uimg_base::{Source, SourceFault, be32_at};
 use uimg_blob_reading::BLOB_MAGIC;
 use uimg_requests::Form;
 
-// Whether a file begins as a blob does.
+// Returns whether a file begins as a blob does.
 #[tactic(auto, unfolding(crate::specs::Headline::begins_as_blob, uimg_texts::specs::Numbers::be32))]
 fn begins_as_blob<S: Source>(source: &mut S) -> Result<bool, SourceFault>
     ensures uses { Asks 4 (is_err result) (S.device source.old) (S.device source.new) }
@@ -23,8 +23,8 @@ fn begins_as_blob<S: Source>(source: &mut S) -> Result<bool, SourceFault>
     Ok(be32_at(&magic, 0) == BLOB_MAGIC)
 }
 
-/// Whether a file is read as a FIT image: where that is asked for, or its first four bytes tell it, which
-/// are those of a blob. `SourceFault` comes exactly where a read failed.
+/// Returns whether a file is read as a FIT image: that is its form, or its form is a guess and it
+/// begins as a blob does. Returns `SourceFault` exactly if a read failed.
 pub fn is_fit<S: Source>(form: Form, source: &mut S) -> Result<bool, SourceFault>
     ensures uses { Asks 4 (is_err result) (S.device source.old) (S.device source.new) }
     ensures asked_for { form ≡ Form.Legacy → IfOk result (λ fit. fit ≡ false) }

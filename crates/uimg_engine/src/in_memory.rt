@@ -1,4 +1,4 @@
-//! `run_by`, `locate` and `make_by` over memory alone, where nothing but memory can fail.
+//! `run_by`, `locate` and `make_by` over images and files in memory.
 ghost use Rattle.std.specs.Prelude.{◌≡◌, true, false, IsTrue, IfOk, IfErr};
 ghost use Rattle.std.specs.Io.{StartsWith};
 ghost use Rattle.uimg_engine.specs.Faults.{LosesNothing, is_put, is_refused, is_of_making, is_keep};
@@ -17,15 +17,14 @@ use uimg_base::{MemFiles, MemKept, MemShelf, MemSource, Out, Room, Source, Span,
 use uimg_names::Naming;
 use uimg_requests::{Command, Form, MakeCommand, Manner};
 
-/// Carries out a command on the bytes of an image, a listing by a set of names: the answer of `run_by`,
-/// and all that was written.
+/// Carries out a command on the bytes of an image, a listing with the names of a set. Returns the
+/// result of `run_by`, and all that was written.
 ///
-/// The answer and the text are exactly the outcome of the command, unless memory was refused: it is
-/// `Fault::Put` where that for the text was, and `OutOfMemory` of the blob exactly where that for the
-/// table of a FIT image's nodes was, which a legacy image does not have. What was written then is a
-/// prefix of that text. `Fault::Read` never comes, nor do the faults that only `make` answers. An
-/// extraction that is refused has written nothing. The room takes at most 128 bytes for each node of a
-/// FIT image that is met, and for a legacy image none.
+/// Result and text are exactly the outcome of the command, unless memory was refused. Then the
+/// result is `Fault::Put` for the text, or `OutOfMemory` of the blob for the table of a FIT image's
+/// nodes (a legacy image has none), and a prefix of the text was written. `Fault::Read` and the
+/// faults of making are never returned. A refused extraction writes nothing. The room takes at most
+/// 128 bytes for each node of a FIT image that is met, and none for a legacy image.
 pub fn run_in_memory<A: Allocator, B: Allocator>(
     alloc: B,
     naming: Naming,
@@ -45,13 +44,12 @@ pub fn run_in_memory<A: Allocator, B: Allocator>(
     (end, out.into_inner())
 }
 
-/// Where the part or the payload at a position stands in the bytes of an image: the answer of `locate`.
+/// Finds the part or the payload at a position in the bytes of an image, as `locate` does.
 ///
-/// It is that place, or the fault by which an extraction from there is refused, unless the memory for
-/// the table of a FIT image's nodes was refused: then it is `OutOfMemory` of the blob, which a legacy
-/// image never gives. `Fault::Read` and `Fault::Put` never come, nor do the faults that only `make`
-/// answers. The room takes at most 128 bytes for each node of a FIT image that is met, and for a legacy
-/// image none.
+/// Returns its span, or the fault of an extraction from there; or `OutOfMemory` of the blob if
+/// memory for the table of a FIT image's nodes was refused. `Fault::Read`, `Fault::Put` and the
+/// faults of making are never returned. The room takes at most 128 bytes for each node of a FIT
+/// image that is met, and none for a legacy image.
 pub fn locate_in_memory<A: Allocator>(
     form: Form,
     position: u32,
@@ -68,20 +66,19 @@ pub fn locate_in_memory<A: Allocator>(
     locate(form, position, &mut source, room)
 }
 
-/// Makes an image in a manner from files in memory, pairs of a name and its bytes, and gives it as a
-/// source: what `make_by` does over these.
+/// Makes an image from files in memory, pairs of a name and its bytes, as `make_by` does. Returns
+/// the image as a source.
 ///
-/// It is the image of the files' bytes, which reads back, and exactly its listing was written.
-/// `Fault::NoFile` comes only for a name that no file has. Neither `Fault::Read` nor `Fault::Keep`
-/// ever comes, and neither `ReadFailed` of `Its` nor `ReadFailed` or `NoFile` of `Fit`.
-/// `Fault::OutOfMemory` comes where the memory for the opened files or for the text was refused,
-/// `OutOfMemory` of `Its`, `Fit` and `Blob` where that for the tree, or for the table of the
-/// image's nodes, was, and `Fault::Put` where a write of the listing failed, or the memory for the
-/// image was refused: where no write failed, nothing was listed then, as at each fault that no listing
-/// gives.
+/// It is the image of the files' bytes and reads back, and exactly its listing was written. Returns
+/// `Fault::NoFile` only for a name without a file; `Fault::OutOfMemory` if memory for the opened
+/// files or for the text was refused; `OutOfMemory` of `Its`, `Fit` and `Blob` if memory for the
+/// tree, or for the table of the image's nodes, was; and `Fault::Put` if a write of the listing
+/// failed, or memory for the image was refused. If no write failed then, or at a fault of making,
+/// nothing was listed. `Fault::Read`, `Fault::Keep`, `ReadFailed` of `Its`, and `ReadFailed` and
+/// `NoFile` of `Fit` are never returned.
 ///
 /// The room takes memory for the listing alone: none for a legacy image, and at most 128 bytes for
-/// each node of the FIT image. After a fault that no listing gives its entries are dropped and no more.
+/// each node of the FIT image. A fault of making only clears it.
 pub fn make_in_memory<W: Write, A: Allocator + Copy, B: Allocator, H: Allocator>(
     alloc: A,
     command: &MakeCommand,

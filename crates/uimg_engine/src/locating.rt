@@ -1,4 +1,4 @@
-//! Where a part or a payload stands in an image, by the engine of its format.
+//! The span of a part or a payload in an image, found by the engine of its format.
 
 ghost use Rattle.std.specs.Prelude.{false, true, IfOk};
 ghost use Rattle.uimg_engine.specs.Headline.{listing_work, HonestSource, OnlyReads};
@@ -10,7 +10,7 @@ use std::alloc::Allocator;
 use uimg_base::{Room, Source, Span};
 use uimg_requests::Form;
 
-// Where the part of a legacy image at a position stands.
+// Finds the part of a legacy image at a position.
 fn locate_part<S: Source, A: Allocator>(
     position: u32,
     source: &mut S,
@@ -22,7 +22,7 @@ fn locate_part<S: Source, A: Allocator>(
     Ok(span)
 }
 
-// Where the payload of the FIT image's image at a position stands.
+// Finds the payload of the FIT image's image at a position.
 fn locate_payload<S: Source, A: Allocator>(
     position: u32,
     source: &mut S,
@@ -34,14 +34,14 @@ fn locate_payload<S: Source, A: Allocator>(
     Ok(span)
 }
 
-/// Where the part of a legacy image at a position, or the payload of a FIT image's image, stands in the
-/// file, counted from 0: just the bytes that an extraction from there writes.
+/// Finds the bytes that an extraction writes: the part of a legacy image, or the payload of a FIT
+/// image's image, at a position, counted from 0. Returns their span in the file.
 ///
-/// Over an honest source the answer is that place, or the fault by which that extraction is refused;
-/// nothing is asked for beyond what a listing asks, so none of a FIT image's payload. Over any source
-/// that place ends inside the file. `Fault::Read` comes exactly where a read failed, `OutOfMemory` of
-/// the blob exactly where the room refused to grow, which a legacy image never asks of it. `Fault::Put`
-/// never comes, nor do the faults that only `make` answers.
+/// Over an honest source, returns this span, or the fault of that extraction; no more is requested
+/// than for a listing, so no byte of a FIT image's payload. Over any source the span ends inside
+/// the file. Returns `Fault::Read` exactly if a read failed, and `OutOfMemory` of the blob exactly
+/// if the room refused to grow, which only a FIT image needs. `Fault::Put` and the faults of making
+/// are never returned.
 pub fn locate<S: Source, A: Allocator>(
     form: Form,
     position: u32,

@@ -21,25 +21,24 @@ use uimg_legacy::Options;
 use uimg_names::Naming;
 use uimg_requests::{MakeCommand, Manner};
 
-/// Builds the image of a command at a time, in seconds since 1970, and appends it to `image`. Where
-/// the payloads of a FIT image stand after the blob, its end and each payload's are rounded up by an
-/// alignment.
+/// Builds the image of a command at a time, in seconds since 1970, and appends it to `image`. If
+/// the payloads of a FIT image are after the blob, its end and each payload's are rounded up to
+/// `align` (`uimg_blob_writing::aligned`).
 ///
-/// A legacy image: the files of the command are opened in order. Over honest files what is appended is
-/// the image of their bytes, and it reads back: its checksums are right, and each part is found in it.
-/// A FIT image: the source is opened and read, compiled, filled at the time and built. Over honest
-/// files what is appended is the image of the filled tree that the source spells, and it reads back:
-/// its hashes are right, and each payload is found in it.
+/// For a legacy image the files of the command are opened in order. Over honest files the image of
+/// their bytes is appended and reads back: its checksums are right, and each part is found in it.
+/// For a FIT image the source is read, compiled, filled at the time and built. Over honest files
+/// the image of the filled tree that the source spells is appended and reads back: its hashes are
+/// right, and each payload is found in it.
 ///
-/// The first refusal in the order of the work is answered. `Fault::OutOfMemory`, the memory for the
-/// opened files or for the text; `Fault::NoFile`, a file or the source could not be opened;
-/// `Fault::Legacy`, the parts are refused, as `uimg_legacy::build` says; `Fault::Its`, `Fault::Fit` and
-/// `Fault::Blob`, the source or its tree are, as `uimg_its::compile`, `uimg_fit::fill` and
-/// `uimg_fit::build` say. All these come before the first byte, but for a payload's file that cannot be
-/// opened. Then, and at `Fault::Read` and `Fault::Put`, which come where a read or a write failed, a
-/// prefix of the image was appended over honest files. Where what the files open is steady, no read
-/// fails: `Fault::Read` and `ReadFailed` of `Its` never come, of a source over honest files, and
-/// `ReadFailed` of `Fit` never comes over honest ones.
+/// Returns the first fault: `Fault::OutOfMemory` if memory for the opened files or for the text was
+/// refused; `Fault::NoFile` if a file or the source could not be opened; `Fault::Legacy` as
+/// `uimg_legacy::build` does; `Fault::Its`, `Fault::Fit` and `Fault::Blob` as `uimg_its::compile`,
+/// `uimg_fit::fill` and `uimg_fit::build` do. All these come before the first byte, except `NoFile`
+/// of `Fit`. Over honest files a prefix of the image was appended at `NoFile` of `Fit`, and at
+/// `Fault::Read` and `Fault::Put`, which mean that a read or a write failed. If what the files open
+/// is steady, `Fault::Read` and `ReadFailed` of `Its` are never returned (of a source: over honest
+/// files), nor `ReadFailed` of `Fit` over honest files.
 pub fn build_image<F: Files, W: Write, A: Allocator + Copy>(
     alloc: A,
     command: &MakeCommand,
@@ -73,7 +72,7 @@ pub fn build_image<F: Files, W: Write, A: Allocator + Copy>(
     }
 }
 
-// The shelf, once all that was written to it is written out.
+// Returns the shelf after all that was written to it is flushed.
 fn write_out<H: Shelf>(image: Out<H>) -> Result<H, Fault>
     ensures written { IfOk result (λ shelf. Keeps image.contents (H.contents shelf)) }
     ensures fault { IfErr result (λ fault. fault ≡ Fault.Put) }
@@ -85,7 +84,7 @@ fn write_out<H: Shelf>(image: Out<H>) -> Result<H, Fault>
     }
 }
 
-// Keeps what was written to a shelf.
+// Reopens what was written to a shelf.
 fn keep<H: Shelf>(shelf: H) -> Result<H::Kept, Fault>
     ensures kept { IsTrue H.honest → IfOk result (KeepsBytes H.Kept.device (H.contents shelf)) }
     ensures fault { IfErr result (λ fault. fault ≡ Fault.Keep) }
@@ -98,38 +97,38 @@ fn keep<H: Shelf>(shelf: H) -> Result<H::Kept, Fault>
     }
 }
 
-/// Makes an image at a time, in seconds since 1970: it builds the image of the command on the shelf,
-/// keeps it, and writes the listing of what was kept to `out`, by the names of the profile. It gives
-/// what was kept. Where the payloads of a FIT image stand after the blob, its end and each payload's
-/// are rounded up to a multiple of 4.
+/// Makes an image at a time, in seconds since 1970: builds the image of the command on the shelf,
+/// reopens it, and writes its listing to `out`, with the names of the profile. Returns what was
+/// kept. If the payloads of a FIT image are after the blob, its end and each payload's are rounded
+/// up to a multiple of 4.
 ///
-/// Over honest files and an honest, empty shelf, what was kept is the image that `build_image` tells,
-/// which reads back, and exactly its listing was written. Refusals come in the order of the work: those
-/// of `build_image`, and `Fault::Keep`, what was written could not be read. With these nothing is
-/// listed. `Fault::Read` and `Fault::Put` come where a read or a write failed, of the files, the shelf
-/// or the listing, and `OutOfMemory` of the blob where the memory for the table of a FIT image's nodes
-/// was refused; over honest ones a prefix of the listing was written then. Where a shelf keeps other
-/// bytes than were written, `Fault::Legacy`, `Fault::Blob` and `Fault::Fit` may also be what the listing
-/// says of them, after some of its lines, but none of the faults that only `build_image` answers.
+/// Over honest files and an honest, empty shelf, the image of `build_image` was kept, which reads
+/// back, and exactly its listing was written. Returns the first fault: one of `build_image`, or
+/// `Fault::Keep` if what was written could not be reopened; nothing is listed then. Returns
+/// `Fault::Read` or `Fault::Put` if a read or a write of the files, the shelf or the listing
+/// failed, and `OutOfMemory` of the blob if memory for the table of a FIT image's nodes was
+/// refused; over honest files and shelf a prefix of the listing was written then. If a shelf keeps
+/// other bytes than were written, `Fault::Legacy`, `Fault::Blob` and `Fault::Fit` may also come
+/// from its listing, after some lines, but they are no faults of making.
 ///
-/// Where what the files open and what the shelf keeps are steady, `Fault::Read` and `ReadFailed` of
-/// `Its` never come, of a source over honest files, and `ReadFailed` of `Fit` never comes over honest
-/// files. Over a steady shelf `Fault::Keep` never comes. Whatever the files and the shelf, at `Ok` no
-/// read of what was kept has failed, and, if that answers its bytes, exactly its listing was written
-/// and nothing in it is refused.
+/// If what the files open and what the shelf keeps are steady, `Fault::Read` and `ReadFailed` of
+/// `Its` are never returned (of a source: over honest files), nor `ReadFailed` of `Fit` over honest
+/// files. Over a steady shelf `Fault::Keep` is never returned. Over any files and shelf, at `Ok` no
+/// read of what was kept failed, and if that is honest, exactly its listing was written, with no
+/// fault.
 ///
-/// The room takes memory for the listing alone: none for a legacy image, and over honest files and an
-/// honest, empty shelf at most 128 bytes for each node of the FIT image. After a fault that no listing
-/// gives its entries are dropped and no more.
+/// The room takes memory for the listing alone: none for a legacy image, and over honest files and
+/// an honest, empty shelf at most 128 bytes for each node of the FIT image. A fault of making only
+/// clears it.
 ///
-/// Over honest files and an honest, empty shelf a fault means (`StopsMaking` of `specs/Making.antt`,
-/// `StopsSource` of `specs/MakingTrees.antt`): `Legacy`, the names have bytes, and these are refused
-/// with it; `NoFile(i)` of parts, there is a name of number i and the names before it have bytes;
-/// `Keep` and `Put`, the parts are accepted, or the filled tree can be built; `Read`, the names have
-/// bytes, or the source has, or the filled tree can be built; `Its`, the source has a text, whose words
-/// spell no tree unless it is I5, I6 or I7; `Fit` and `Blob`, the words spell a tree that filling or
-/// building refuses with it, or memory for the table of nodes was refused. `OutOfMemory`, and `NoFile`
-/// of a source, say nothing of the files.
+/// Over honest files and an honest, empty shelf a fault means the following (`StopsMaking` of
+/// `specs/Making.antt`, `StopsSource` of `specs/MakingTrees.antt`). `Legacy`: the names have bytes,
+/// which are refused with it. `NoFile(i)` of parts: a name of number i exists, and the names before
+/// it have bytes. `Keep` and `Put`: the parts are accepted, or the filled tree can be built.
+/// `Read`: the names have bytes, or the source has, or the filled tree can be built. `Its`: the
+/// source has a text, whose words spell no tree unless it is I5, I6 or I7. `Fit` and `Blob`: the
+/// words spell a tree that filling or building refuses with it, or memory for the table of nodes
+/// was refused. `OutOfMemory`, and `NoFile` of a source, say nothing of the files.
 pub fn make<F: Files, H: Shelf, W: Write, A: Allocator + Copy, B: Allocator>(
     alloc: A,
     command: &MakeCommand,
@@ -166,8 +165,8 @@ pub fn make<F: Files, H: Shelf, W: Write, A: Allocator + Copy, B: Allocator>(
     make_by(alloc, command, manner, files, shelf, room, out)
 }
 
-/// Makes an image as `make` does, in a manner: at its time, listed by its names, and the end of a FIT
-/// image's blob and of each payload after it rounded up by its alignment.
+/// Makes an image as `make` does, in a manner: at its time, listed with its names, and with the end
+/// of a FIT image's blob and of each payload after it rounded up to its alignment.
 pub fn make_by<F: Files, H: Shelf, W: Write, A: Allocator + Copy, B: Allocator>(
     alloc: A,
     command: &MakeCommand,

@@ -9,8 +9,8 @@ use uimg_base::{Out, Room, Source, Status};
 use uimg_names::Naming;
 use uimg_requests::{Action, Command, Form, MakeCommand};
 
-/// Writes the listing of what was kept, by a set of names: of a legacy image, or of the format that
-/// its first bytes tell.
+/// Writes the listing of what was kept, with the names of a set: of a legacy image, or of the
+/// format of its first bytes.
 pub(crate) fn list_kept<S: Source, A: Allocator, W: Write>(
     naming: Naming,
     command: &MakeCommand,

@@ -1,4 +1,4 @@
-//! Legacy images, made from files.
+//! Legacy images that are made from files.
 ghost use Rattle.std.specs.Prelude.{◌≡◌, ◌≢◌, false, length, map, IsTrue, IfOk};
 ghost use Rattle.uimg_legacy.specs.Parts.{has_parts};
 ghost use Rattle.uimg_legacy.specs.Devices.{bytes_of, AreHonest};
@@ -13,7 +13,7 @@ use std::io::Write;
 use uimg_base::{Files, Out, Source};
 use uimg_legacy::{Options, build};
 
-// Opens the files of the names, in order. The memory for all of them is taken first.
+// Opens the files of the names, in order. Memory for all of them is taken first.
 fn open_all<F: Files, A: Allocator>(
     alloc: A,
     names: &[Vec<u8>],

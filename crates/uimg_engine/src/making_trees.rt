@@ -1,4 +1,4 @@
-//! FIT images, made from image-tree source.
+//! FIT images that are made from image-tree source.
 ghost use Rattle.std.specs.Prelude.{◌≡◌, false, Some, IsTrue, IsSome, IfErr};
 ghost use Rattle.uimg_blob_writing.specs.Trees.{node_of};
 ghost use Rattle.uimg_blob_writing.specs.UsingFiles.{UsesFiles};
@@ -17,7 +17,7 @@ use uimg_fit_base::AlignedPlacement;
 use uimg_fit_building::{build_by, fill};
 use uimg_its::compile;
 
-// All the bytes of a source.
+// Reads all bytes of a source.
 fn whole_text<S: Source, A: Allocator>(alloc: A, source: &mut S) -> Result<Vec<u8, A>, Fault>
     ensures text { HonestSource S.device source →
         ReadsText (λ text. text.items) (Some (S.device source.old).bytes) result }
@@ -36,7 +36,7 @@ fn whole_text<S: Source, A: Allocator>(alloc: A, source: &mut S) -> Result<Vec<u
     }
 }
 
-// Opens the source of a name, and reads it whole.
+// Opens the source of a name, and reads all of it.
 fn read_text<F: Files, A: Allocator>(
     alloc: A,
     name: &[u8],
@@ -58,7 +58,7 @@ fn read_text<F: Files, A: Allocator>(
     }
 }
 
-// The tree that the source of a name spells, filled at a time.
+// Returns the tree that the source of a name spells, filled at a time.
 fn filled_tree<F: Files, A: Allocator + Copy>(
     alloc: A,
     name: &[u8],
@@ -79,8 +79,8 @@ fn filled_tree<F: Files, A: Allocator + Copy>(
     Ok(filled)
 }
 
-/// Builds a FIT image from the source of a name: reads it, compiles it, fills its tree at a time, and
-/// appends the image.
+/// Builds a FIT image from the source of a name: reads it, compiles it, fills its tree at a time,
+/// and appends the image.
 pub(crate) fn build_tree<F: Files, W: Write, A: Allocator + Copy>(
     alloc: A,
     name: &[u8],

@@ -1,4 +1,4 @@
--- The algorithms that are in use, of the six there are, and the digests by them.
+-- Sets of the six algorithms, and the digests by them.
 use Rattle.std.specs.Prelude.{◌≡◌, ◌≤◌, ℕ, List, [], ◌∷◌, ◌++◌, length, drop, Bool, true, false}
 use Rattle.std.specs.Prelude.{not, if◌then◌else◌}
 use Rattle.std.specs.List.{filter}
@@ -13,7 +13,7 @@ use Rattle.uimg_fit_base.specs.declared.algo_sets.Digests.{Digests}
 abbrev pub all_algos : List Algo
 all_algos = Crc32 ∷ Md5 ∷ Sha1 ∷ Sha256 ∷ Sha384 ∷ Sha512 ∷ []
 
--- the place of an algorithm among the six
+-- the number of an algorithm among the six
 abbrev pub rank : Algo → ℕ
 rank Crc32 = 0
 rank Md5 = 1
@@ -22,7 +22,7 @@ rank Sha256 = 3
 rank Sha384 = 4
 rank Sha512 = 5
 
--- whether an algorithm is in use
+-- whether an algorithm is in a set
 unfoldable pub has : AlgoSet → Algo → Bool
 has set Crc32 = set.crc32
 has set Md5 = set.md5
@@ -31,7 +31,7 @@ has set Sha256 = set.sha256
 has set Sha384 = set.sha384
 has set Sha512 = set.sha512
 
--- a set with one more
+-- a set with one more algorithm
 unfoldable pub marked : AlgoSet → Algo → AlgoSet
 marked set Crc32 = record set { crc32 = true }
 marked set Md5 = record set { md5 = true }
@@ -40,7 +40,7 @@ marked set Sha256 = record set { sha256 = true }
 marked set Sha384 = record set { sha384 = true }
 marked set Sha512 = record set { sha512 = true }
 
--- no algorithm is in use
+-- the empty set
 abbrev pub no_algos : AlgoSet
 no_algos =
     record {
@@ -52,17 +52,17 @@ no_algos =
       sha512 = false;
     }
 
--- whether no algorithm is in use
+-- whether a set is empty
 unfoldable pub is_empty : AlgoSet → Bool
 is_empty set =
     if set.crc32 then false else if set.md5 then false else if set.sha1 then false
     else if set.sha256 then false else if set.sha384 then false else not set.sha512
 
--- the algorithms in use, each once
+-- the algorithms of a set, in order
 abbrev pub chosen : AlgoSet → List Algo
 chosen set = filter (has set) all_algos
 
--- the algorithms of some digests
+-- the set of some digests
 abbrev pub set_of : Digests → AlgoSet
 set_of d = d.set
 
@@ -70,7 +70,7 @@ set_of d = d.set
 pub record AreDigests (d : Digests) (message : List ℕ) : Type 0 where
   pub are : d.digests ≡ padded_digests (chosen d.set) message
 
--- A bundle has the sums of the algorithms in use among the first so many.
+-- A bundle has the sums by those algorithms of a set that are among the first `count`.
 pub record SumsSoFar (bundle : Bundle) (set : AlgoSet) (all : List Algo) (count : ℕ) : Type 0 where
   pub done : List Algo
   pub held : Holds bundle done []

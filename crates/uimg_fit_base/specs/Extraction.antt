@@ -12,12 +12,12 @@ use Rattle.uimg_fit_base.specs.declared.fault.FitFault.TheVariants.{NoSuchImage}
 use Rattle.uimg_fit_base.specs.Files.{images_of}
 use Rattle.uimg_fit_base.specs.Places.{payload}
 
--- a fault of the images is one of the file
+-- a fault of images, as one of a command
 abbrev pub of_images : {X : Type 0} → Result X FitFault → Result X Fault
 of_images (Ok x) = Ok x
 of_images (Err fault) = Err (Fit fault)
 
--- the payload of an image, if there is one
+-- the payload of an image, or that there is no image
 abbrev pub payload_of : List ℕ → Option (NodeOf Spot) → Result (List ℕ) FitFault
 payload_of file (Some image) = payload file image
 payload_of file None = Err NoSuchImage
@@ -28,6 +28,6 @@ payload_at file position = do
   found ← images_of file
   of_images (payload_of file (slice_get found position))
 
--- an extraction writes that payload and nothing else, or nothing
+-- an extraction writes that payload alone, or nothing
 abbrev pub extract_of : List ℕ → ℕ → Outcome Fault
 extract_of file position = unless_refused (payload_at file position) (λ bytes. told bytes done)

@@ -1,4 +1,4 @@
--- What the answers of this crate say.
+-- What the results of this crate mean.
 use Rattle.std.specs.Prelude.{◌≡◌, ⊤, Result, Ok, Err, Option, Some, None, Bool, true, false}
 use Rattle.uimg_base.specs.Outcome.{End, done, not_right, refused}
 use Rattle.uimg_base.specs.declared.status.Status.{Status}
@@ -15,7 +15,7 @@ use Rattle.uimg_fit_base.specs.declared.fault.FitFault.TheVariants.{UnknownAlgo,
 use Rattle.uimg_fit_base.specs.declared.fault.FitFault.TheVariants.{TooLarge, OutOfMemory, NoFile}
 use Rattle.uimg_fit_base.specs.declared.fault.FitFault.TheVariants.{ReadFailed}
 
--- the fault of a command that a fault of the index is
+-- a fault of indexing, as one of a command
 abbrev pub of_index : IndexFault → Fault
 of_index (index.Blob fault at) = Blob fault at
 of_index index.Read = Read
@@ -25,22 +25,22 @@ abbrev pub of_move : MoveFault → Fault
 of_move move.Read = Read
 of_move move.Put = Put
 
--- the answer is that a read failed
+-- the result is a failed read
 abbrev pub is_read : {X : Type 0} → Result X Fault → Bool
 is_read (Err Read) = true
 is_read _ = false
 
--- the answer is that a write failed
+-- the result is a failed write
 abbrev pub is_put : {X : Type 0} → Result X Fault → Bool
 is_put (Err Put) = true
 is_put _ = false
 
--- the answer is that memory for the table of nodes was refused
+-- the result is refused memory for the table of nodes
 abbrev pub is_out_of_memory : {X : Type 0} → Result X Fault → Bool
 is_out_of_memory (Err (Blob fault at)) = refuses_memory fault
 is_out_of_memory _ = false
 
--- the fault is of a tree that is filled or built, or of its files
+-- the fault is one of filling or building a tree, or of its files
 abbrev pub of_making : FitFault → Bool
 of_making UnknownAlgo = true
 of_making PositionTooLow = true
@@ -50,18 +50,18 @@ of_making NoFile = true
 of_making ReadFailed = true
 of_making _ = false
 
--- the answer is such a fault, or that of a blob that is made
+-- the result is such a fault, or that of a blob to be built
 abbrev pub is_of_making : {X : Type 0} → Result X Fault → Bool
 is_of_making (Err (Blob fault at)) = is_too_large fault
 is_of_making (Err (Fit fault)) = of_making fault
 is_of_making _ = false
 
--- an end, or none where memory was refused
+-- an end, or none if memory was refused
 abbrev pub unless_memory : Bool → End Fault → Option (End Fault)
 unless_memory true e = None
 unless_memory false e = Some e
 
--- the end that an answer tells, where neither a device failed nor memory was refused
+-- the end that a result means, unless a device failed or memory was refused
 abbrev pub end_of : Result Status Fault → Option (End Fault)
 end_of (Ok Done) = Some done
 end_of (Ok NotRight) = Some not_right
@@ -69,13 +69,13 @@ end_of (Err (Blob fault at)) = unless_memory (refuses_memory fault) (refused (Bl
 end_of (Err (Fit fault)) = Some (refused (Fit fault))
 end_of (Err _) = None
 
--- the answer is that the image is refused, or memory for its table of nodes
+-- the result is a refusal of the image, or of memory for its table of nodes
 abbrev pub is_refused : {X : Type 0} → Result X Fault → Bool
 is_refused (Err (Blob fault at)) = true
 is_refused (Err (Fit fault)) = true
 is_refused _ = false
 
--- An answer is the value or the fault of a definition, unless a device failed or memory was
+-- The result is the value or the fault of a definition, unless a device failed or memory was
 -- refused.
 abbrev pub Gives : {X Y : Type 0} → (X → Y) → Result X Fault → Result Y Fault → Type 0
 Gives view (Ok x) r = r ≡ Ok (view x)

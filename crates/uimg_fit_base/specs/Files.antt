@@ -16,8 +16,8 @@ use Rattle.uimg_fit_base.specs.declared.fault.Fault.{Fault}
 use Rattle.uimg_fit_base.specs.declared.fault.Fault.TheVariants.{Blob, Fit}
 use Rattle.uimg_fit_base.specs.declared.fault.FitFault.TheVariants.{NoImages}
 
--- the tree of a file, each value with the place where it stands, or the first fault of its blob
--- with its offset
+-- the tree of a file, each value with its offset, or the first fault of its blob with the fault's
+-- offset
 abbrev pub spots_in : Result Siblings BlobFaultAt → Result (NodesOf Spot) Fault
 spots_in (Ok t) = Ok (spots t)
 spots_in (Err e) = Err (Blob e.0 e.1)
@@ -25,7 +25,7 @@ spots_in (Err e) = Err (Blob e.0 e.1)
 abbrev pub tree_of : List ℕ → Result (NodesOf Spot) Fault
 tree_of file = spots_in (tree file)
 
--- the images of a tree; one whose root has no child `images` is refused
+-- the images of a tree; a tree whose root has no child `images` is refused
 abbrev pub listed_or : Option (List (NodeOf Spot)) → Result (List (NodeOf Spot)) Fault
 listed_or (Some found) = Ok found
 listed_or None = Err (Fit NoImages)
@@ -41,7 +41,7 @@ abbrev pub root_own : NodesOf Spot → List (NamedOf Spot)
 root_own no_node = []
 root_own (a_node name own below after) = own
 
--- the number of a value that has 4 bytes
+-- the number in a value of 4 bytes
 unfoldable pub number : List ℕ → Option ℕ
 number value = if length value == 4 then Some (from_be_bytes w32 value) else None
 
@@ -49,14 +49,14 @@ number value = if length value == 4 then Some (from_be_bytes w32 value) else Non
 abbrev pub bytes_of : List (NamedOf Spot) → List ℕ → Option (List ℕ)
 bytes_of own key = option_map (λ s. s.bytes) (first own key)
 
--- the number of the first property of a name; a value that has not 4 bytes counts as missing
+-- the number in the first property of a name; a value of another length than 4 counts as missing
 abbrev pub cell : List (NamedOf Spot) → List ℕ → Option ℕ
 cell own key = option_and_then number (bytes_of own key)
 
--- the bytes that stand at a span of a file
+-- the bytes at a span of a file
 abbrev pub bytes_in : List ℕ → Option Span → Option (List ℕ)
 bytes_in file value = option_map (λ s. slice file s.place s.length) value
 
--- the number of the value that stands there
+-- the number at a span of a file
 abbrev pub number_in : List ℕ → Option Span → Option ℕ
 number_in file value = option_and_then number (bytes_in file value)

@@ -1,22 +1,22 @@
--- Where the names and values of a tree stand in its file.
+-- Names and values of a tree, at their offsets in the file.
 use Rattle.std.specs.Prelude.{◌≡◌, ℕ, ◌≤◌, ◌+◌, List, length, ⊤}
 use Rattle.std.specs.List.{AllByRecursion}
 use Rattle.uimg_texts.specs.Slices.{slice}
 use Rattle.uimg_blob_reading.specs.Tokens.{Property}
 use Rattle.uimg_blob_reading.specs.Grammar.{Siblings, none, node}
 
--- A node's name stands behind the word that begins the node.
+-- A node's name follows the token that begins the node.
 pub record NameLies (file : List ℕ) (at : ℕ) (name : List ℕ) : Type 0 where
   pub short : length name ≤ 255
   pub within : at + 4 + length name ≤ length file
   pub here : slice file (at + 4) (length name) ≡ name
 
--- A property's value stands at its place.
+-- A property's value is at its offset.
 pub record ValueLies (file : List ℕ) (p : Property) : Type 0 where
   pub within : p.place + length p.value ≤ length file
   pub here : slice file p.place (length p.value) ≡ p.value
 
--- Each name and each value of nodes does.
+-- The names and values of nodes are at their offsets.
 abbrev pub Lie : List ℕ → Siblings → Type 0
 Lie file none = ⊤
 Lie file (node at name own below after) =

@@ -1,12 +1,12 @@
--- Where payloads stand.
+-- Where payloads go.
 use Rattle.std.specs.Prelude.{ℕ}
 use Rattle.uimg_fit_base.specs.declared.placement.Placement.{Placement}
 use Rattle.uimg_fit_base.specs.declared.placement.Placement.TheVariants as placement
 use Rattle.uimg_fit_base.specs.declared.placement.AlignedPlacement.{AlignedPlacement}
 use Rattle.uimg_fit_base.specs.declared.placement.AlignedPlacement.TheVariants.{Inside, After, At}
 
--- the alignment by which the blob's end and each payload's are rounded up: that of the blob's own
--- values, or the one given
+-- the alignment of the blob's end and of each payload's: that of the blob's own values, or the
+-- given one
 abbrev pub align_of : AlignedPlacement → ℕ
 align_of Inside = 4
 align_of (After align) = align

@@ -1,4 +1,4 @@
--- Where the payload of an image stands (Flattened Image Tree format, "External data").
+-- The span of an image's payload (Flattened Image Tree format, "External data").
 use Rattle.std.specs.Prelude.{◌≡◌, ℕ, ⊤, ◌+◌, List, length, nat_lt, if◌then◌else◌, Option, Some}
 use Rattle.std.specs.Prelude.{None, Result, Ok, Err, codes}
 use Rattle.uimg_texts.specs.Slices.{slice}
@@ -15,25 +15,25 @@ use Rattle.uimg_fit_base.specs.declared.fault.FitFault.{FitFault}
 use Rattle.uimg_fit_base.specs.declared.fault.FitFault.TheVariants.{NoData, DataOutside}
 use Rattle.uimg_fit_base.specs.Files.{cell}
 
--- a place from a base on and a size, if both are there
+-- a span at an offset from a base, if offset and size are known
 abbrev pub external : ℕ → Option ℕ → Option ℕ → Option Span
 external base (Some at) (Some size) = Some (record { place = base + at; length = size })
 external base at size = None
 
--- the place of a value in the blob
+-- the span of a value in the blob
 abbrev pub embedded : Option Span → Result Span FitFault
 embedded (Some s) = Ok s
 embedded None = Err NoData
 
--- the first of two places that is there, or else the third
+-- the first of two spans that is known, or else the third
 abbrev pub or_else : Option Span → Option Span → Result Span FitFault → Result Span FitFault
 or_else (Some p) second third = Ok p
 or_else None (Some p) third = Ok p
 or_else None None third = third
 
--- The payload's place: `data-position` from the file's start, else `data-offset` from the blob's
--- end, rounded up to a multiple of 4, each with `data-size`; else that of the first `data`; else
--- there is none. Sums are of whole numbers: no limit of 32 or 64 bits cuts them.
+-- The payload's span: at `data-position` from the file's start, else at `data-offset` from the
+-- blob's end, rounded up to a multiple of 4, each with `data-size`; else that of the first `data`;
+-- else there is none. Sums are of whole numbers: no limit of 32 or 64 bits cuts them.
 abbrev pub place : List ℕ → NodeOf Spot → Result Span FitFault
 place file image =
     or_else
@@ -42,7 +42,7 @@ place file image =
     (cell image.own (codes "data-size")))
     (embedded (option_map value_span (first image.own (codes "data"))))
 
--- the bytes at a place, unless they end after the file
+-- the bytes at a span, unless it ends after the file
 unfoldable pub bytes_at : List ℕ → Span → Result (List ℕ) FitFault
 bytes_at file p =
     if nat_lt (length file) (p.place + p.length) then Err DataOutside else Ok
@@ -54,7 +54,7 @@ payload file image = do
   p ← place file image
   bytes_at file p
 
--- what is said of the place of an image's payload: where it is, or why there is none that ends in
+-- what a result says of the span of an image's payload: where it is, or why there is none inside
 -- the file
 abbrev pub TellsPlace : List ℕ → NodeOf Spot → Result Span Fault → Type 0
 TellsPlace file image (Ok p) = payload file image ≡ Ok (slice file p.place p.length)

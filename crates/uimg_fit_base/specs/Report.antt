@@ -20,7 +20,7 @@ use Rattle.uimg_fit_base.specs.declared.verdicts.Verdict.TheVariants.{Wrong}
 use Rattle.uimg_fit_base.specs.Files.{images_of, bytes_of}
 use Rattle.uimg_fit_base.specs.Places.{payload}
 
--- what is printed of a hash node
+-- the text of a word
 abbrev pub word_text : Verdict → List ℕ
 word_text Malformed = codes "malformed"
 word_text Unsupported = codes "unsupported"
@@ -40,14 +40,14 @@ is_compared Unsupported = false
 is_compared Right = true
 is_compared Wrong = true
 
--- whether a value is the digest of a payload; one of another length is malformed
+-- the word for a value as the digest of a payload; a value of another length is malformed
 unfoldable pub compared : Algo → List ℕ → List ℕ → Verdict
 compared algo value message =
     if length value == digest_size
     algo then (if bytes_eq value (digest_by algo message) then Right else Wrong) else Malformed
 
--- The word of a hash node, by the name of its algorithm and its value, each of which may be
--- missing: a missing name comes first, then an unknown one, then a missing value.
+-- The word for a hash node, by the name of its algorithm and its value. A missing name comes first,
+-- then an unknown one, then a missing value.
 abbrev pub by_value : Algo → Option (List ℕ) → List ℕ → Verdict
 by_value algo None message = Malformed
 by_value algo (Some value) message = compared algo value message
@@ -68,14 +68,14 @@ algo_of hash = option_map text (bytes_of hash.own (codes "algo"))
 abbrev pub word_of : List ℕ → NodeOf Spot → Verdict
 word_of message hash = by_name (algo_of hash) (bytes_of hash.own (codes "value")) message
 
--- `<image> <hash> <algo> <word>`; `-` stands for a missing algorithm
+-- `<image> <hash> <algo> <word>`; `-` replaces a missing algorithm
 abbrev pub hash_line : List ℕ → List ℕ → NodeOf Spot → List ℕ
 hash_line name message hash =
     line (name ++ codes " " ++ hash.name ++ codes " "
     ++ option_map_or (λ n. n) (algo_of hash) (codes "-") ++ codes " "
     ++ word_text (word_of message hash))
 
--- the lines of an image's hash nodes, or the one line of an image that has none
+-- the lines of an image's hash nodes, or the one line of an image without any
 abbrev pub hash_lines : List ℕ → List ℕ → List (NodeOf Spot) → List ℕ
 hash_lines name message [] = line (name ++ codes " - none unhashed")
 hash_lines name message (h ∷ hs) = flat_map (hash_line name message) (h ∷ hs)
@@ -84,13 +84,13 @@ hash_lines name message (h ∷ hs) = flat_map (hash_line name message) (h ∷ hs
 abbrev pub are_right : List ℕ → List (NodeOf Spot) → Bool
 are_right message hs = list_all (λ h. is_right (word_of message h)) hs
 
--- an end, where what stands before it was right or not
+-- an end, after lines that are right or not
 abbrev pub end_after : {F : Type 0} → Bool → End F → End F
 end_after true e = e
 end_after false done = not_right
 end_after false e = e
 
--- an image's lines and the rest, or the refusal before those lines
+-- an image's lines and the rest, or the refusal before its lines
 abbrev pub report_step : NodeOf Spot → Result (List ℕ) FitFault → Outcome Fault → Outcome Fault
 report_step image (Ok message) rest = record {
   text = hash_lines image.name message (hashes image) ++ rest.text;
@@ -103,6 +103,6 @@ unfoldable pub report : List ℕ → List (NodeOf Spot) → Outcome Fault
 report file [] = told [] done
 report file (image ∷ more) = report_step image (payload file image) (report file more)
 
--- the report on a file; one that has a faulty blob or no images is refused without a line
+-- the report on a file; a faulty blob, or one without images, is refused without a line
 abbrev pub verify_of : List ℕ → Outcome Fault
 verify_of file = unless_refused (images_of file) (report file)

@@ -1,4 +1,4 @@
-//! The algorithms that are asked for, and the digests by them, of one pass over some bytes.
+//! Sets of algorithms, and the digests by them of one pass over some bytes.
 ghost use Rattle.std.specs.Prelude.{◌≡◌, ◌<◌, ◌++◌, ◌∷◌, ℕ, [], List, length, take, true, if◌then◌else◌};
 ghost use Rattle.std.specs.List.{count_by};
 ghost use Rattle.uimg_sums.specs.Algorithms.{digest_by};
@@ -20,7 +20,7 @@ const ALGOS: [Algo; 6] = [
     Algo::Sha512,
 ];
 
-/// Which of the six algorithms are in use.
+/// A set of the six algorithms.
 #[derive(Clone, Copy, Debug, PartialEq, Eq)]
 pub struct AlgoSet {
     crc32: bool,
@@ -32,7 +32,7 @@ pub struct AlgoSet {
 }
 
 impl AlgoSet {
-    /// No algorithm is in use.
+    /// Returns the empty set.
     pub fn none() -> AlgoSet
         ensures { result ≡ no_algos }
     {
@@ -46,7 +46,7 @@ impl AlgoSet {
         }
     }
 
-    /// Whether no algorithm is in use.
+    /// Returns whether the set is empty.
     #[tactic(auto, unfolding(crate::specs::AlgoSets::is_empty))]
     pub fn is_empty(self) -> bool
         ensures { result ≡ is_empty self }
@@ -69,7 +69,7 @@ impl AlgoSet {
         !self.sha512
     }
 
-    /// Whether an algorithm is in use.
+    /// Returns whether an algorithm is in the set.
     #[tactic(auto, unfolding(crate::specs::AlgoSets::has))]
     pub fn has(self, algo: Algo) -> bool
         ensures { result ≡ has self algo }
@@ -84,7 +84,7 @@ impl AlgoSet {
         }
     }
 
-    /// The set with one more algorithm.
+    /// Returns the set with one more algorithm.
     #[tactic(auto, unfolding(crate::specs::AlgoSets::marked))]
     pub fn marked(self, algo: Algo) -> AlgoSet
         ensures { result ≡ marked self algo }
@@ -111,7 +111,7 @@ impl AlgoSet {
         }
     }
 
-    /// A sum by each algorithm in use, to which nothing was fed yet.
+    /// Returns an empty sum by each algorithm of the set.
     pub fn sums(self) -> Bundle
         ensures { Holds result (chosen self) [] }
     {
@@ -123,7 +123,7 @@ impl AlgoSet {
     }
 }
 
-// Adds a sum by an algorithm that is in use.
+// Adds a sum by an algorithm, if it is in the set.
 fn add_chosen(bundle: &mut Bundle, set: AlgoSet, algo: Algo)
     ensures { (algos : List Algo) → Holds bundle.old algos [] → length algos < 8 →
         Holds bundle.new (if has set algo then algos ++ algo ∷ [] else algos) [] }
@@ -133,7 +133,7 @@ fn add_chosen(bundle: &mut Bundle, set: AlgoSet, algo: Algo)
     }
 }
 
-// The place of an algorithm among the six.
+// Returns the number of an algorithm among the six.
 fn rank(algo: Algo) -> usize
     ensures { result ≡ rank algo }
 {
@@ -147,7 +147,7 @@ fn rank(algo: Algo) -> usize
     }
 }
 
-// The place of an algorithm's sum.
+// Returns the number of an algorithm's sum in the bundle of a set.
 fn place(set: AlgoSet, algo: Algo) -> usize
     ensures { result ≡ count_by (has set) (take (rank algo) all_algos) }
 {
@@ -168,7 +168,7 @@ pub struct Digests {
 }
 
 impl Digests {
-    /// The digests of what was fed to the sums of a set.
+    /// Finishes the sums of a set.
     pub fn of(set: AlgoSet, sums: Bundle) -> Digests
         ensures set { set_of result ≡ set }
         ensures digests { (message : List ℕ) → Holds sums (chosen set) message →
@@ -180,15 +180,15 @@ impl Digests {
         }
     }
 
-    /// The algorithms that there are digests by.
+    /// Returns the set of the algorithms.
     pub fn set(&self) -> AlgoSet
         ensures { result ≡ set_of self.now }
     {
         self.set
     }
 
-    /// The digest by an algorithm of the set, with zeros behind it up to 64 bytes. Of an algorithm that
-    /// is not in the set nothing is said.
+    /// Returns the digest by an algorithm of the set, followed by zeros up to 64 bytes. For other
+    /// algorithms nothing is claimed.
     pub fn by(&self, algo: Algo) -> [u8; 64]
         ensures { (message : List ℕ) → AreDigests self.now message → has (set_of self.now) algo ≡ true →
             result ≡ (padded_digest (digest_by algo message)).0 }

@@ -4,8 +4,8 @@ use thiserror::Error;
 use uimg_base::{MoveFault, PutFault, SourceFault};
 use uimg_blob_reading::{BlobFault, IndexFault};
 
-/// What is wrong with the images of a FIT image, or with a tree that one is to be built from. Its text
-/// is the line that the program prints.
+/// What is wrong with a FIT image's images, or with a tree to build one from. Its text is the line
+/// that the program prints.
 #[derive(Clone, Copy, Debug, PartialEq, Eq, Error)]
 pub enum FitFault {
     /// The root has no child `images`.
@@ -43,8 +43,8 @@ pub enum FitFault {
 /// Why a command stopped.
 #[derive(Clone, Copy, Debug, PartialEq, Eq, Error)]
 pub enum Fault {
-    /// The blob is refused, or the memory for its table of nodes was; the offset is counted from the
-    /// file's start. Of a tree that is built it is a bad name, at offset 0.
+    /// The blob is refused, or memory for its table of nodes; the offset counts from the file's
+    /// start. A bad name of a tree to be built is at offset 0.
     #[error("{0} at {1}")]
     Blob(BlobFault, u64),
     /// The images are refused.

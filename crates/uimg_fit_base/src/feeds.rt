@@ -1,4 +1,4 @@
-//! A payload is fed to several sums in one pass.
+//! Feeding of a payload to several sums in one pass.
 
 ghost use Rattle.std.specs.Prelude.{◌≡◌, ℕ, ◌+◌, ◌≤◌, List, [], ◌++◌, length, Some, slice_get, IsTrue, OnOk, is_err};
 ghost use Rattle.uimg_sums.specs.Algorithms.{digest_by};
@@ -33,9 +33,9 @@ fn feed_window<S: Source>(
     Ok(())
 }
 
-/// Feeds the `len` bytes at an offset to all sums, through a window. At most `len` bytes are requested,
-/// and a read that fails ends it. Over an honest source, at `Ok`, each sum is over these bytes behind
-/// those that it was fed before.
+/// Feeds the `len` bytes at an offset to all sums, through a window. Stops at the first read that
+/// fails; at most `len` bytes are requested. Over an honest source, at `Ok`, each sum is over the
+/// bytes that it was fed before, and these.
 pub fn feed_through<S: Source>(
     bundle: &mut Bundle,
     source: &mut S,
@@ -58,7 +58,7 @@ pub fn feed_through<S: Source>(
     Ok(())
 }
 
-// The digest at a place among eight; zeros at a place that is none.
+// Returns digest number `i` of eight, or zeros if `i` is not below 8.
 pub(crate) fn digest_at(digests: &[([u8; 64], usize); 8], i: usize) -> [u8; 64]
     ensures { (algos : List Algo) (message : List ℕ) → digests.now ≡ padded_digests algos message →
         (algo : Algo) → slice_get algos i ≡ Some algo → length algos ≤ 8 →

@@ -1,6 +1,6 @@
-//! What the reading and the building of FIT images both stand on: the faults, the words of a report,
-//! the place of a payload, and payloads that are summed. `specs/` has what FIT images mean. A lemma
-//! shows that in every file whose blob is accepted each name and each value stands at its place
+//! What both reading and building of FIT images use: faults, the words of a report, the span of a
+//! payload, and sums of payloads. `specs/` defines what FIT images mean. A lemma shows that in a
+//! file whose blob is accepted each name and each value is where its tree says
 //! (`proofs/ReadLaws.antt`). `proofs/ReadingExamples.antt` of `uimg_engine` tries the definitions.
 #![tactic(auto)]
 

@@ -1,24 +1,24 @@
-//! Where the payloads of an image that is built stand.
+//! Where the payloads of an image to be built go.
 
 ghost use Rattle.std.specs.Prelude.{◌≡◌};
 ghost use Rattle.uimg_fit_base.specs.Placements.{align_of, aligned_by};
 
-/// The alignment of a blob's own values, and the least of a payload behind it.
+/// The alignment of a blob's own values, and the least of a payload after it.
 pub const WORD_ALIGNMENT: u32 = 4;
 
-/// Where the payloads of a FIT image that is built stand.
+/// Where the payloads of a FIT image to be built go.
 #[derive(Clone, Copy, Debug, PartialEq, Eq)]
 pub enum Placement {
     /// In the blob, as the values of `data`.
     Inside,
-    /// After the blob, each told by `data-offset`, counted from the blob's end.
+    /// After the blob, each given by `data-offset`, which counts from the blob's end.
     After,
-    /// After the blob, each told by `data-position`, the first at this offset of the file.
+    /// After the blob, each given by `data-position`, the first at this offset of the file.
     At(u32),
 }
 
 impl Placement {
-    /// The placement with an alignment, which counts only for payloads after the blob.
+    /// Returns the placement with an alignment, which counts only for payloads after the blob.
     pub fn aligned_by(self, align: u32) -> AlignedPlacement
         ensures { result ≡ aligned_by self align }
     {
@@ -30,22 +30,22 @@ impl Placement {
     }
 }
 
-/// Where the payloads of a FIT image that is built stand, and by which alignment.
+/// Where the payloads of a FIT image to be built go, and with which alignment.
 ///
-/// Behind the blob, its end and that of each payload are rounded up by the alignment, as
-/// `uimg_blob_writing::aligned` does it.
+/// After the blob, its end and each payload's are rounded up to the alignment, as by
+/// `uimg_blob_writing::aligned`.
 #[derive(Clone, Copy)]
 pub enum AlignedPlacement {
     /// In the blob, as the values of `data`.
     Inside,
-    /// After the blob, each told by `data-offset`, counted from the blob's end.
+    /// After the blob, each given by `data-offset`, which counts from the blob's end.
     After { align: u32 },
-    /// After the blob, each told by `data-position`, the first at this offset of the file.
+    /// After the blob, each given by `data-position`, the first at this offset of the file.
     At { position: u32, align: u32 },
 }
 
 impl AlignedPlacement {
-    /// The alignment of the blob's end and of each payload's.
+    /// Returns the alignment of the blob's end and of each payload's.
     pub fn align(self) -> u32
         ensures { result ≡ align_of self }
     {

@@ -3,20 +3,20 @@
 ghost use Rattle.std.specs.Prelude.{◌≡◌};
 ghost use Rattle.uimg_fit_base.specs.Report.{word_text, is_right};
 
-/// What is said of a hash node, by a word of its line.
+/// The word that a report prints for a hash node.
 #[derive(Clone, Copy, Debug, PartialEq, Eq)]
 pub enum Verdict {
-    /// A value or a name is missing, or the value has another length than a digest.
+    /// The name of the algorithm or the value is missing, or the value is not as long as a digest.
     Malformed,
     /// The algorithm is unknown.
     Unsupported,
-    /// The value is the digest.
+    /// The value is the digest of the payload.
     Right,
     /// The value is another one.
     Wrong,
 }
 
-/// The text of a word.
+/// Returns the text of a word.
 pub fn word_text(word: Verdict) -> &'static str
     ensures { result.now ≡ word_text word }
 {
@@ -28,7 +28,7 @@ pub fn word_text(word: Verdict) -> &'static str
     }
 }
 
-/// Whether a word says that a hash is right.
+/// Returns whether a word says that a hash is right.
 pub fn is_right(word: Verdict) -> bool
     ensures { result ≡ is_right word }
 {

@@ -1,4 +1,4 @@
--- What stands behind a blob, where payloads stay in their files.
+-- What follows a blob, if payloads stay in their files.
 use Rattle.std.specs.Prelude.{ℕ, ◌+◌, ◌-◌, List, [], ◌∷◌, replicate, nat_lt, if◌then◌else◌, Option}
 use Rattle.std.specs.Prelude.{Some, None, unwrap_or, codes, Result, Ok, Err}
 use Rattle.std.specs.List.{flat_map}
@@ -14,49 +14,49 @@ use Rattle.uimg_fit_base.specs.declared.placement.AlignedPlacement.TheVariants.{
 use Rattle.uimg_fit_building.specs.Refusing.{is_low}
 use Rattle.uimg_fit_building.specs.UnreadTrees.{padded_size_of}
 
--- a node among those that follow it
+-- a node in memory, as a `NodeOf`
 abbrev pub entry : {A : Type 0} → Node A → NodeOf Content
 entry n = record { name = n.name; own = n.props; below = n.children }
 
--- the images of a tree, none where the root has no child `images`
+-- the images of a tree, none if the root has no child `images`
 abbrev pub images_in : {V : Type 0} → NodesOf V → List (NodeOf V)
 images_in t = unwrap_or (images t) []
 
--- a payload and the zeros behind it, up to where an alignment has it end
+-- a payload, and the zeros that pad it to an alignment
 abbrev pub padded_pieces : ℕ → Option Content → List Content
 padded_pieces align None = []
 padded_pieces align (Some c) = c ∷ bytes (padding_by align (size_of c)) ∷ []
 
--- those of an image
+-- the same for an image
 abbrev pub payload_pieces : ℕ → NodeOf Content → List Content
 payload_pieces align i = padded_pieces align (first i.own (codes "data"))
 
--- how many bytes the payloads of images take, each rounded up by an alignment
+-- the size of the payloads of images, each rounded up to an alignment
 unfoldable pub padded_sizes : ℕ → List (NodeOf Content) → ℕ
 padded_sizes align [] = 0
 padded_sizes align (i ∷ is) = padded_size_of align i.own + padded_sizes align is
 
--- what stands after a blob of so many bytes
+-- what follows a blob of a size
 abbrev pub behind_pieces : ℕ → Unread → AlignedPlacement → List Content
 behind_pieces size t Inside = []
 behind_pieces size t (After align) = flat_map (payload_pieces align) (images_in t)
 behind_pieces size t (At p align) =
     bytes (replicate (p - size) 0) ∷ flat_map (payload_pieces align) (images_in t)
 
--- how many bytes the file has
+-- the size of the file
 abbrev pub file_size : ℕ → ℕ → AlignedPlacement → ℕ
 file_size size padded Inside = size
 file_size size padded (After align) = size + padded
 file_size size padded (At p align) = p + padded
 
--- why payloads of so many bytes can't stand behind a blob of so many
+-- why payloads of a size cannot follow a blob of a size
 unfoldable pub end_fault : ℕ → ℕ → AlignedPlacement → Option FitFault
 end_fault size padded placement =
     if is_low size placement then Some PositionTooLow
     else if nat_lt 4294967295 (file_size size padded placement) then Some TooLarge
     else None
 
--- the fault of an answer, if it is one
+-- the fault of a result, if it is one
 abbrev pub fault_in : {X : Type 0} → Result X FitFault → Option FitFault
 fault_in (Ok x) = None
 fault_in (Err fault) = Some fault

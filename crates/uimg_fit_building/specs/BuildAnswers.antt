@@ -1,4 +1,4 @@
--- What building answers, over files that have those of the tree.
+-- The results of building, over files of the kept sizes.
 use Rattle.std.specs.Prelude.{◌≡◌, Bool, true, false, Some, None, Result, Ok, Err, ⊤}
 use Rattle.uimg_base.specs.Sink.{Sink, AppendsAll, AppendsPrefix}
 use Rattle.uimg_blob_reading.specs.Plain.{Nodes}
@@ -10,12 +10,12 @@ use Rattle.uimg_fit_base.specs.declared.placement.AlignedPlacement.{AlignedPlace
 use Rattle.uimg_fit_building.specs.Building.{built}
 use Rattle.uimg_fit_building.specs.Refusing.{build_fault}
 
--- the answer is that an open was refused
+-- the result is a refused open
 abbrev pub is_no_file : {X : Type 0} → Result X Fault → Bool
 is_no_file (Err (Fit NoFile)) = true
 is_no_file _ = false
 
--- the answer is that the tree or the memory for it was refused: nothing is written then
+-- the result is a refusal of the tree, or of memory for it: nothing is written then
 abbrev pub is_before_writing : {X : Type 0} → Result X Fault → Bool
 is_before_writing (Err (Blob fault at)) = true
 is_before_writing (Err (Fit NoFile)) = false
@@ -28,8 +28,8 @@ pub record CanBuild (t : Nodes) (placement : AlignedPlacement) : Type 0 where
   pub named : bad_name t ≡ None
   pub fits : build_fault t placement ≡ None
 
--- What an answer says of the tree, and of what was appended: the file of the tree, or why not;
--- where an open, a read or a write failed, a prefix of the file.
+-- What the result says of the tree and of what was appended: the file of the tree, or why not;
+-- after a failed open, read or write, a prefix of the file.
 abbrev pub BuildsAnswer : {X : Type 0} → Nodes → AlignedPlacement → Result X Fault → Sink → Sink
     → Type 0
 BuildsAnswer t placement (Ok x) old new =

@@ -1,4 +1,4 @@
--- What the steps of building do.
+-- Steps of building.
 use Rattle.std.specs.Prelude.{◌≡◌, ◌<◌, ℕ, Bool, IsTrue, List, Option, Some, None, Result, Ok, Err}
 use Rattle.std.specs.Prelude.{⊤, false, is_err}
 use Rattle.std.specs.Result.{OnOk}
@@ -23,20 +23,20 @@ use Rattle.uimg_fit_base.specs.declared.placement.AlignedPlacement.{AlignedPlace
 use Rattle.uimg_fit_building.specs.BuildAnswers.{is_no_file, is_before_writing, BuildsAnswer}
 use Rattle.uimg_fit_base.specs.Faults.{is_read, is_put}
 
--- the fault of a tree that can't be measured: its blob is too large for a file, or memory was
+-- the fault of a tree that cannot be measured: its blob is too large for a file, memory was
 -- refused, or a name is bad
 abbrev pub of_measure : BlobFault → Fault
 of_measure blob.TooLarge = Fit TooLarge
 of_measure blob.OutOfMemory = Fit OutOfMemory
 of_measure fault = Blob fault 0
 
--- the fault of a tree that wasn't written
+-- the fault of a tree that was not written
 abbrev pub of_writing : TreeFault → Fault
 of_writing tree.Put = Put
 of_writing tree.Read = Read
 of_writing tree.NoFile = Fit NoFile
 
--- What an answer says of a tree that was measured by an alignment.
+-- What the result of measuring says of a tree, with an alignment.
 abbrev pub MeasuresTree : ℕ → Result Plan Fault → Unread → Type 0
 MeasuresTree align (Ok p) t = (bad_name t ≡ None) × (plan_of align t ≡ p)
 MeasuresTree align (Err (Blob fault at)) t = (bad_name t ≡ Some fault) × (at ≡ 0)
@@ -47,7 +47,7 @@ MeasuresTree align (Err (Fit fault)) t = ⊥
 MeasuresTree align (Err Read) t = ⊥
 MeasuresTree align (Err Put) t = ⊥
 
--- What a call did that writes a text, which depends on files, where those of a tree are kept.
+-- What a call does that writes a text, which depends on files, if those of a tree are kept.
 pub record WritesTextBetween {X : Type 0} (steady : Bool) (t : Unread) (answer : Result X TreeFault)
     (old new : FileMap) (s u : Sink) (text : (List ℕ → Option (List ℕ)) → List ℕ) : Type 0 where
   pub files : UsesFiles (writing.is_no_file answer) old new
@@ -64,7 +64,7 @@ WritesText steady map t answer files out text =
     WritesTextBetween steady t answer (map files.entry.now) (map files.exit.now) out.entry.now
     out.exit.now text
 
--- What building did to files and to an output.
+-- What building does to files and to an output.
 pub record BuildsBetween {X : Type 0} (steady : Bool) (t : Unread) (placement : AlignedPlacement)
     (answer : Result X Fault) (old new : FileMap) (s u : Sink) : Type 0 where
   pub files : UsesFiles (is_no_file answer) old new

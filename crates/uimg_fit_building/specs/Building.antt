@@ -1,4 +1,4 @@
--- The file that is built of a tree (Flattened Image Tree format, "External data").
+-- The file built from a tree (Flattened Image Tree format, "External data").
 use Rattle.std.specs.Prelude.{ℕ, ◌+◌, ◌-◌, List, [], ◌∷◌, ◌++◌, length, replicate, if◌then◌else◌}
 use Rattle.std.specs.Prelude.{codes, unwrap_or}
 use Rattle.std.specs.List.{flat_map}
@@ -17,16 +17,15 @@ use Rattle.uimg_fit_building.specs.Filling.{with_images}
 abbrev pub data_of : List Named → List ℕ
 data_of own = unwrap_or (first own (codes "data")) []
 
--- The steps of placing are over any values: `size` gives how many bytes a value has, `made` the
--- value of bytes.
+-- The steps of placing work on any values: `size` gives the size of a value, `made` the value of
+-- some bytes.
 
--- how many bytes the payload of an image takes, rounded up by an alignment
+-- the size of an image's payload, rounded up to an alignment
 abbrev pub padded_size_by : {V : Type 0} → (V → ℕ) → ℕ → List (NamedOf V) → ℕ
 padded_size_by size align own =
     option_map_or (λ payload. aligned align (size payload)) (first own (codes "data")) 0
 
--- properties, the first `data` moved to a place: two cells stand for it, the place by a key, and
--- the size
+-- properties, with two cells in place of the first `data`: its offset, under a key, and its size
 unfoldable pub moved_own_by : {V : Type 0} → (V → ℕ) → (List ℕ → V) → List ℕ → ℕ → List (NamedOf V)
     → List (NamedOf V)
 moved_own_by size made key at [] = []
@@ -36,8 +35,8 @@ moved_own_by size made key at (p ∷ own) =
     ∷ record { name = codes "data-size"; value = made (word (size p.value)) } ∷ own
     else p ∷ moved_own_by size made key at own
 
--- images, the first `data` of each moved: one after the other from a place on, each rounded up by
--- an alignment An image without `data` stays as it is.
+-- images, with cells in place of the first `data` of each: one after another from an offset on,
+-- each rounded up to an alignment; an image without `data` is unchanged
 unfoldable pub moved_from_by : {V : Type 0} → (V → ℕ) → (List ℕ → V) → ℕ → List ℕ → ℕ → NodesOf V
     → NodesOf V
 moved_from_by size made align key at no_node = no_node
@@ -45,8 +44,8 @@ moved_from_by size made align key at (a_node name own below after) =
     a_node name (moved_own_by size made key at own) below
     (moved_from_by size made align key (at + padded_size_by size align own) after)
 
--- a tree whose payloads are placed: inside the blob; at `data-offset`, counted from the blob's end;
--- or at `data-position`, counted from the file's start
+-- a tree with its payloads placed: inside the blob; at `data-offset`, which counts from the blob's
+-- end; or at `data-position`, which counts from the file's start
 abbrev pub moved_by : {V : Type 0} → (V → ℕ) → (List ℕ → V) → NodesOf V → AlignedPlacement
     → NodesOf V
 moved_by size made t Inside = t
@@ -55,7 +54,7 @@ moved_by size made t (After align) =
 moved_by size made t (At p align) =
     with_images (moved_from_by size made align (codes "data-position") p) t
 
--- the same where the values are bytes
+-- the same for values that are bytes
 abbrev pub padded_size : ℕ → List Named → ℕ
 padded_size align own = padded_size_by (λ value. length value) align own
 
@@ -68,15 +67,15 @@ moved_from = moved_from_by (λ value. length value) (λ value. value)
 abbrev pub moved : Nodes → AlignedPlacement → Nodes
 moved = moved_by (λ value. length value) (λ value. value)
 
--- the payloads of a tree, each with zeros up to where an alignment has it end
+-- the payloads of a tree, each padded with zeros to an alignment
 abbrev pub payloads : ℕ → Nodes → List ℕ
 payloads align t = flat_map (λ image. padded_by align (data_of image.own)) (unwrap_or (images t) [])
 
--- the blob of a tree whose payloads are placed
+-- the blob of a tree with its payloads placed
 abbrev pub placed_blob : Nodes → AlignedPlacement → List ℕ
 placed_blob t placement = encode_by (align_of placement) (moved t placement)
 
--- what stands after the blob
+-- what follows the blob
 abbrev pub behind : Nodes → AlignedPlacement → List ℕ
 behind t Inside = []
 behind t (After align) = payloads align t

@@ -1,4 +1,4 @@
--- What filling answers, over files that have those of the tree.
+-- The results of filling, over files of the kept sizes.
 use Rattle.std.specs.Prelude.{◌≡◌, ◌≢◌, ℕ, List, [], ◌∷◌, ◌++◌, map, Bool, true, false, IsTrue}
 use Rattle.std.specs.Prelude.{Option, Some, None, Result, Ok, Err, codes, ⊤}
 use Rattle.uimg_base.specs.Lent.{Lent}
@@ -13,18 +13,18 @@ use Rattle.uimg_fit_building.specs.Filling.{IsFilled}
 use Rattle.uimg_fit_building.specs.UnreadTrees.{filled_unread}
 use Rattle.uimg_fit_building.specs.Refusing.{first_fault, fill_of}
 
--- the answer is that an open was refused
+-- the result is a refused open
 abbrev pub opens_no_file : {X : Type 0} → Result X FitFault → Bool
 opens_no_file (Err NoFile) = true
 opens_no_file _ = false
 
--- the answer is that a read of a file failed, or that a file has another size
+-- the result is a failed read of a file, or another size of it
 abbrev pub fails_to_read : {X : Type 0} → Result X FitFault → Bool
 fails_to_read (Err ReadFailed) = true
 fails_to_read _ = false
 
--- A call that opens files leaves them as they were, and counts each refused open. Where the files
--- that are kept are there, those of a complete map refuse none, and what never fails is read.
+-- What a call does that opens files: they are unchanged, and each refused open was counted. If the
+-- needed files exist with the kept sizes, complete files refuse none, and what never fails is read.
 pub record OpensKeptBetween {X : Type 0} (never_fails : Bool) (AreThere : Type 0)
     (result : Result X FitFault) (old new : FileMap) : Type 0 where
   -- F9 is returned exactly if the refusals of the files rose
@@ -38,7 +38,7 @@ OpensKept never_fails map AreThere result files =
     OpensKeptBetween never_fails (AreThere (map files.entry.now).bytes) result (map files.entry.now)
     (map files.exit.now)
 
--- a node with the bytes of each file in its place
+-- a node, with the bytes of each file as its value
 abbrev pub node_in_full : (List ℕ → Option (List ℕ)) → NodeOf Content → NodeOf (List ℕ)
 node_in_full files image = record {
   name = image.name;
@@ -46,7 +46,7 @@ node_in_full files image = record {
   below = with_values (bytes_in files) image.below;
 }
 
--- A tree is filled as another: no file of it is read into it, and none is another.
+-- A tree is filled, giving another: no file is read into it or replaced.
 pub record Fills (files : List ℕ → Option (List ℕ)) (time : ℕ) (t u : Unread) : Type 0 where
   -- no file is read into the tree
   pub source : u ≡ filled_unread files time t
@@ -57,8 +57,7 @@ pub record Fills (files : List ℕ → Option (List ℕ)) (time : ℕ) (t u : Un
   -- each file has the size that the tree keeps
   pub kept : AreKept files u
 
--- The filling of a tree stopped at the file of an image with hash nodes: neither that image nor one
--- before it is refused.
+-- Filling stopped at the file of an image with hash nodes.
 pub record StopsAtFile (files : List ℕ → Option (List ℕ)) (t : Unread) : Type 0 where
   pub before : List (NodeOf Content)
   pub image : NodeOf Content
@@ -71,8 +70,8 @@ pub record StopsAtFile (files : List ℕ → Option (List ℕ)) (t : Unread) : T
   pub is_file : first image.own (codes "data") ≡ Some (file name size)
   pub is_hashed : hashes image ≢ []
 
--- An answer is the filled tree, or the first fault; or memory was refused, or a file could not be
--- opened or read.
+-- The result is the filled tree or the first fault; or memory, the open of a file or a read of it
+-- failed.
 abbrev pub FillsAnswer : {X : Type 0} → (X → Unread) → (List ℕ → Option (List ℕ)) → ℕ → Unread
     → Result X FitFault → Type 0
 FillsAnswer view files time t (Ok x) = Fills files time t (view x)

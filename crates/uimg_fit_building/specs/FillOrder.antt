@@ -1,4 +1,4 @@
--- In what order filling reads and refuses, over files of any sizes.
+-- The order in which filling reads and refuses, over files of any sizes.
 use Rattle.std.specs.Prelude.{◌≡◌, ◌≢◌, ℕ, List, [], ◌∷◌, ◌++◌, Bool, IsTrue, Option, Some, None}
 use Rattle.std.specs.Prelude.{Result, Ok, Err, ⊤}
 use Rattle.std.specs.List.{AllByRecursion}
@@ -11,28 +11,27 @@ use Rattle.uimg_fit_base.specs.declared.fault.FitFault.TheVariants.{NoImages, No
 use Rattle.uimg_fit_base.specs.declared.fault.FitFault.TheVariants.{OutOfMemory, NoFile, ReadFailed}
 use Rattle.uimg_fit_building.specs.ImageFillings.{fault_in_memory, IsKeptImage, StopsAtImage}
 
--- The file of an image with hash nodes can be read: it stands among files, with as many bytes as
--- are kept of it.
+-- If an image has hash nodes, its file can be read: it exists, with the size that the tree keeps.
 abbrev pub CanBeRead : (List ℕ → Option (List ℕ)) → NodeOf Content → Type 0
 CanBeRead files image = hashes image ≢ [] → IsKeptImage files image
 
--- Filling goes past an image: it has no fault in memory, and its file can be read.
+-- Filling passes an image: it has no fault in memory, and its file can be read.
 pub record IsPassed (files : List ℕ → Option (List ℕ)) (image : NodeOf Content) : Type 0 where
   -- no F2 and no F5
   pub sound : fault_in_memory image ≡ None
-  -- if it has hash nodes, its file is there with the size that the tree keeps
+  -- if it has hash nodes, its file exists with the size that the tree keeps
   pub read : CanBeRead files image
 
--- Filling stops at the file of an image with hash nodes; where only that file can be the reason, it
--- is missing or has another size.
+-- Filling stops at the file of an image with hash nodes. If only that file can be the reason, it is
+-- missing or has another size.
 pub record StopsAtFileOf (sole : Bool) (files : List ℕ → Option (List ℕ)) (image : NodeOf Content)
     : Type 0 where
   pub stops : StopsAtImage image
   pub unread : IsTrue sole → IsKeptImage files image → ⊥
 
--- Filling stops at an image with a fault: its fault in memory; or, where it has none, a fault of
--- its file, for which only this file can be the reason where the files are complete (of a refused
--- open), or steady (of a failed read).
+-- Filling stops at an image with its fault in memory; or, if it has none, with a fault of its file.
+-- Only this file can be the reason of a refused open if the files are complete, and of a failed
+-- read if they are steady.
 abbrev pub IsRefused : FileMap → Bool → NodeOf Content → FitFault → Type 0
 IsRefused files steady image NoData = fault_in_memory image ≡ Some NoData
 IsRefused files steady image UnknownAlgo = fault_in_memory image ≡ Some UnknownAlgo
@@ -41,25 +40,25 @@ IsRefused files steady image ReadFailed = StopsAtFileOf steady files.bytes image
 IsRefused files steady image OutOfMemory = ⊤
 IsRefused files steady image fault = ⊥
 
--- what filling answers of an image
+-- the result of filling an image
 abbrev pub FillsNext : {X : Type 0} → FileMap → Bool → NodeOf Content → Result X FitFault → Type 0
 FillsNext files steady image (Ok x) = IsPassed files.bytes image
 FillsNext files steady image (Err fault) = IsRefused files steady image fault
 
--- Filling goes past the images before one, and stops at that.
+-- Filling passes the images before one, and stops there.
 pub record StopsInOrder (files : FileMap) (steady : Bool) (found : Option (List (NodeOf Content)))
     (fault : FitFault) : Type 0 where
   pub before : List (NodeOf Content)
   pub image : NodeOf Content
   pub after : List (NodeOf Content)
   pub are_images : found ≡ Some (before ++ image ∷ after)
-  -- no image before it has a reason to stop
+  -- no image before it is refused
   pub passed : AllByRecursion (IsPassed files.bytes) before
-  -- this image has
+  -- this image is
   pub refused : IsRefused files steady image fault
 
--- What filling answers of a root's images: it goes past all, or there are none, or it stops at the
--- first that it can't pass; or memory was refused.
+-- The result of filling a root's images: all are passed, or there are none, or filling stops at the
+-- first that it cannot pass; or memory was refused.
 abbrev pub FillsInOrder : {X : Type 0} → FileMap → Bool → Option (List (NodeOf Content))
     → Result X FitFault → Type 0
 FillsInOrder files steady found (Ok x) = IsSomeAnd found (AllByRecursion (IsPassed files.bytes))

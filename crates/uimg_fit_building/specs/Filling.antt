@@ -11,18 +11,18 @@ use Rattle.uimg_blob_reading.specs.Plain.{NamedOf, NodesOf, Named, Nodes, no_nod
 use Rattle.uimg_blob_writing.specs.Encoding.{word}
 use Rattle.uimg_blob_reading.specs.LookUps.{NodeOf, first, images, hashes}
 
--- properties, the first of a name with another value; where there is none, one more
+-- properties, with the first of a name set to a value, or with one more
 unfoldable pub with : {V : Type 0} → List ℕ → V → List (NamedOf V) → List (NamedOf V)
 with key value [] = record { name = key; value = value } ∷ []
 with key value (p ∷ own) =
     if bytes_eq key p.name then record { name = key; value = value } ∷ own else p
     ∷ with key value own
 
--- the names of the properties that give a payload a place outside the blob
+-- the names of the properties that give payloads offsets outside the blob
 abbrev pub external_names : List (List ℕ)
 external_names = codes "data-offset" ∷ codes "data-size" ∷ codes "data-position" ∷ []
 
--- properties but for those
+-- properties without those
 abbrev pub without_external : {V : Type 0} → List (NamedOf V) → List (NamedOf V)
 without_external own = filter (λ p. not (list_any (bytes_eq p.name) external_names)) own
 
@@ -30,39 +30,39 @@ without_external own = filter (λ p. not (list_any (bytes_eq p.name) external_na
 abbrev pub before : {V : Type 0} → NodeOf V → NodesOf V → NodesOf V
 before n after = a_node n.name n.own n.below after
 
--- nodes, each by a function
+-- a function applied to each of some nodes
 unfoldable pub each : {V : Type 0} → (NodeOf V → NodeOf V) → NodesOf V → NodesOf V
 each f no_node = no_node
 each f (a_node name own below after) =
     before (f (record { name = name; own = own; below = below })) (each f after)
 
--- nodes, the children of the first of a name by a function
+-- nodes, with a function applied to the children of the first of a name
 unfoldable pub in_first : {V : Type 0} → List ℕ → (NodesOf V → NodesOf V) → NodesOf V → NodesOf V
 in_first key f no_node = no_node
 in_first key f (a_node name own below after) =
     if bytes_eq key name then a_node name own (f below) after else a_node name own below
     (in_first key f after)
 
--- a tree, its images by a function
+-- a tree, with a function applied to its images
 abbrev pub with_images : {V : Type 0} → (NodesOf V → NodesOf V) → NodesOf V → NodesOf V
 with_images f no_node = no_node
 with_images f (a_node name own below after) =
     a_node name own (in_first (codes "images") f below) after
 
--- a tree, one of the root's properties with another value
+-- a tree, with one of the root's properties set
 abbrev pub with_root : {V : Type 0} → List ℕ → V → NodesOf V → NodesOf V
 with_root key value no_node = no_node
 with_root key value (a_node name own below after) = a_node name (with key value own) below after
 
--- The steps of filling are over any values: `read` gives the bytes of a value, `made` the value of
--- bytes.
+-- The steps of filling work on any values: `read` gives the bytes of a value, `made` the value of
+-- some bytes.
 
 -- the algorithm of a hash node, if its name is known
 abbrev pub algo_by : {V : Type 0} → (V → List ℕ) → List (NamedOf V) → Option Algo
 algo_by read own =
     option_and_then (λ name. algo_named (text (read name))) (first own (codes "algo"))
 
--- a hash node with the digest of a payload; one whose algorithm is unknown stays
+-- a hash node with the digest of a payload; one of an unknown algorithm is unchanged
 abbrev pub with_digest_by : {V : Type 0} → (V → List ℕ) → (List ℕ → V) → List ℕ → NodeOf V
     → NodeOf V
 with_digest_by read made message h =
@@ -71,11 +71,11 @@ with_digest_by read made message h =
           h.own;
     }) (algo_by read h.own) h
 
--- a child of an image: a hash node with the digest, any other as it is
+-- a child of an image: a hash node with the digest, any other unchanged
 abbrev pub hashed_by : {V : Type 0} → (V → List ℕ) → (List ℕ → V) → List ℕ → NodeOf V → NodeOf V
 hashed_by read made message h = if is_hash h.name then with_digest_by read made message h else h
 
--- an image with the digests of its first `data`, and no place outside the blob
+-- an image with the digests of its first `data`, and no offset outside the blob
 abbrev pub filled_image_by : {V : Type 0} → (V → List ℕ) → (List ℕ → V) → NodeOf V → NodeOf V
 filled_image_by read made image = record image {
   own = without_external image.own;
@@ -84,13 +84,13 @@ filled_image_by read made image = record image {
       (first image.own (codes "data")) image.below;
 }
 
--- a tree with a time and its images' digests
+-- a tree with a timestamp and its images' digests
 abbrev pub filled_by : {V : Type 0} → (V → List ℕ) → (List ℕ → V) → ℕ → NodesOf V → NodesOf V
 filled_by read made time t =
     with_root (codes "timestamp") (made (word time))
     (with_images (each (filled_image_by read made)) t)
 
--- the same where the values are bytes
+-- the same for values that are bytes
 abbrev pub algo_in : List Named → Option Algo
 algo_in own = algo_by (λ value. value) own
 
@@ -109,7 +109,7 @@ pub record IsDigest (message : List ℕ) (h : NodeOf (List ℕ)) : Type 0 where
   pub known : algo_in h.own ≡ Some algo
   pub value : first h.own (codes "value") ≡ Some (digest_by algo message)
 
--- An image has `data` and no place outside the blob, and each of its hash nodes has the digest of
+-- An image has `data` and no offset outside the blob, and each of its hash nodes has the digest of
 -- its first `data`.
 pub record IsFilledImage (image : NodeOf (List ℕ)) : Type 0 where
   pub message : List ℕ

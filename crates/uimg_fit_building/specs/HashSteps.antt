@@ -1,4 +1,4 @@
--- What the steps do that set the digests of hash nodes.
+-- Steps that set the digests of hash nodes.
 use Rattle.std.specs.Prelude.{◌≡◌, ℕ, List, map, true, Result, OnOk, IsOkUnless}
 use Rattle.std.specs.List.{filter, AllByRecursion}
 use Rattle.uimg_base.specs.Lent.{Lent}
@@ -16,9 +16,9 @@ use Rattle.uimg_fit_building.specs.Filling.{each, with_digest_by}
 use Rattle.uimg_fit_building.specs.ImageFillings.{hashed_in}
 use Rattle.uimg_fit_building.specs.PayloadSums.{in_memory, IsCovered}
 
--- Digests were set. Where they are those of a message, by the algorithms of all hash nodes there
--- are, these have them now; whatever they are, all is so but for their bytes; and only memory can
--- have been refused.
+-- Digests were set. If they are those of a message, by the algorithms of all hash nodes, the nodes
+-- have them now; if not, only the bytes of digests differ from that. Only memory can have been
+-- refused.
 pub record SetsDigests {T X : Type 0} (digests : Digests) (AreCovered : Type 0)
     (hashed : List ℕ → T) (zeroed : T → T) (new : T) (result : Result X FitFault) : Type 0 where
   pub filled : (message : List ℕ) → AreDigests digests message → AreCovered

@@ -1,4 +1,4 @@
--- What filling does to an image, by what is in memory and the bytes of its payload.
+-- What filling does to an image, in terms of what is in memory and the bytes of its payload.
 use Rattle.std.specs.Prelude.{◌≡◌, ◌≢◌, ℕ, List, [], ◌∷◌, ◌++◌, map, Bool, true, false, is_some}
 use Rattle.std.specs.Prelude.{find, Option, Some, None, Result, Ok, Err, codes, ⊤}
 use Rattle.std.specs.List.{filter, list_all}
@@ -20,7 +20,7 @@ use Rattle.uimg_fit_building.specs.PayloadSums.{no_files, in_memory}
 abbrev pub hashed_in : List ℕ → NodeOf Content → NodeOf Content
 hashed_in message h = hashed_by in_memory bytes message h
 
--- an image with the digests of its payload, and no place outside the blob
+-- an image with the digests of its payload, and no offset outside the blob
 abbrev pub filled_over : (List ℕ → Option (List ℕ)) → NodeOf Content → NodeOf Content
 filled_over files image = record image {
   own = without_external image.own;
@@ -29,26 +29,26 @@ filled_over files image = record image {
       (first image.own (codes "data")) image.below;
 }
 
--- why an image isn't filled, whatever its file has
+-- why an image is not filled, whatever its file has
 abbrev pub fault_in_memory : NodeOf Content → Option FitFault
 fault_in_memory image = image_fault (node_in_full no_files image)
 
--- the same of the first image that has a fault
+-- the same for the first image with a fault
 abbrev pub first_in_memory : List (NodeOf Content) → Option FitFault
 first_in_memory images = first_fault (map (node_in_full no_files) images)
 
--- A value is in a file, and the file was not opened or not read.
+-- A value is a file, which was not opened or not read.
 abbrev pub IsFileFault : Content → FitFault → Type 0
 IsFileFault (file name size) NoFile = ⊤
 IsFileFault (file name size) ReadFailed = ⊤
 IsFileFault c fault = ⊥
 
--- whether the hash nodes among nodes have known algorithms
+-- whether all hash nodes among nodes have known algorithms
 abbrev pub are_known : Unread → Bool
 are_known t =
     list_all (λ h. is_some (algo_by in_memory h.own)) (filter (λ h. is_hash h.name) (listed t))
 
--- Filling stops at the payload of nodes with hash nodes among them.
+-- Filling stops at a payload in a file, for nodes with hash nodes among them.
 pub record StopsAtPayload (c : Content) (t : Unread) : Type 0 where
   pub known : are_known t ≡ true
   pub name : List ℕ
@@ -56,7 +56,7 @@ pub record StopsAtPayload (c : Content) (t : Unread) : Type 0 where
   pub is_file : c ≡ file name size
   pub is_hashed : filter (λ h. is_hash h.name) (listed t) ≢ []
 
--- what is said of nodes whose hash nodes were to have the digests of a payload
+-- the result of setting the digests of a payload in nodes
 abbrev pub FillsHashes : {X : Type 0} → (X → Unread) → (List ℕ → Option (List ℕ)) → Content → Unread
     → Result X FitFault → Type 0
 FillsHashes view files c t (Ok x) =
@@ -75,7 +75,7 @@ pub record StopsAtImage (image : NodeOf Content) : Type 0 where
   pub is_file : first image.own (codes "data") ≡ Some (file name size)
   pub is_hashed : hashes image ≢ []
 
--- what is said of an image that was to be filled
+-- the result of filling an image
 abbrev pub FillsImage : {X : Type 0} → (List ℕ → Option (List ℕ)) → NodeOf Content → NodeOf Content
     → Result X FitFault → Type 0
 FillsImage files old new (Ok x) = (fault_in_memory old ≡ None) × (new ≡ filled_over files old)
@@ -93,7 +93,7 @@ pub record StopsAmong (images : List (NodeOf Content)) : Type 0 where
   pub sound : first_in_memory before ≡ None
   pub stops : StopsAtImage image
 
--- what is said of images that were to be filled
+-- the result of filling images
 abbrev pub FillsImages : {X : Type 0} → (List ℕ → Option (List ℕ)) → List (NodeOf Content)
     → List (NodeOf Content) → Result X FitFault → Type 0
 FillsImages files old new (Ok x) =
@@ -103,11 +103,11 @@ FillsImages files old new (Err NoFile) = StopsAmong old
 FillsImages files old new (Err ReadFailed) = StopsAmong old
 FillsImages files old new (Err fault) = first_in_memory old ≡ Some fault
 
--- The file of an image's payload is kept.
+-- The file of an image's payload exists with the kept size.
 abbrev pub IsKeptImage : (List ℕ → Option (List ℕ)) → NodeOf Content → Type 0
 IsKeptImage files image = IfSome (first image.own (codes "data")) (IsKept files)
 
--- what is said of a node whose children are images that were to be filled
+-- the result of filling the images that are the children of a node
 abbrev pub FillsParent : {A X : Type 0} → (List ℕ → Option (List ℕ)) → Node A → Node A
     → Result X FitFault → Type 0
 FillsParent files old new (Ok x) =
@@ -123,7 +123,7 @@ abbrev pub images_among : Unread → Option (List (NodeOf Content))
 images_among t =
     option_map (λ c. listed c.below) (find (λ c. bytes_eq (codes "images") c.name) (listed t))
 
--- why they aren't filled, whatever their files have
+-- why they are not filled, whatever their files have
 abbrev pub fault_among : Option (List (NodeOf Content)) → Option FitFault
 fault_among None = Some NoImages
 fault_among (Some images) = first_in_memory images
@@ -134,7 +134,7 @@ pub record StopsBelow (t : Unread) : Type 0 where
   pub are_images : images_among t ≡ Some images
   pub stops : StopsAmong images
 
--- what is said of the children of a root that was to be filled
+-- the result of filling the images below a root with these children
 abbrev pub FillsBelow : {X : Type 0} → (List ℕ → Option (List ℕ)) → Unread → Unread
     → Result X FitFault → Type 0
 FillsBelow files old new (Ok x) =

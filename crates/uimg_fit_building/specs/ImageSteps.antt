@@ -1,4 +1,4 @@
--- What the steps do that fill images.
+-- Steps that fill images.
 use Rattle.std.specs.Prelude.{Bool, IsTrue, List, Option, Result}
 use Rattle.std.specs.List.{AllByRecursion}
 use Rattle.std.specs.Option.{IfSome}
@@ -11,13 +11,13 @@ use Rattle.uimg_fit_building.specs.FillAnswers.{OpensKept}
 use Rattle.uimg_fit_building.specs.FillOrder.{FillsInOrder}
 use Rattle.uimg_fit_building.specs.ImageFillings.{IsKeptImage}
 
--- The files of images were opened as they are kept.
+-- What a call does that opens the files of images.
 abbrev pub OpensImages : {F X : Type 0} → Bool → (F → FileMap) → Option (List (NodeOf Content))
     → Result X FitFault → Lent F → Type 0
 OpensImages steady map found result files =
     OpensKept steady map (λ there. IfSome found (AllByRecursion (IsKeptImage there))) result files
 
--- Where files were honest, the answer is by the first of a root's images that filling can't pass.
+-- Over honest files the result is that of filling the root's images in order.
 abbrev pub AnswersInOrder : {F X : Type 0} → Bool → (F → FileMap) → Option (List (NodeOf Content))
     → Result X FitFault → Lent F → Type 0
 AnswersInOrder steady map found result files =

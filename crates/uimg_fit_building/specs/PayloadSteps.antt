@@ -1,4 +1,4 @@
--- What the steps do that sum a payload.
+-- Steps that sum a payload.
 use Rattle.std.specs.Prelude.{[], ℕ, List, Bool, IsTrue, Result, IfErr, OnOk}
 use Rattle.uimg_sums.specs.declared.algo.Algo.{Algo}
 use Rattle.uimg_sums.specs.declared.bundle.Bundle.{Bundle}
@@ -10,8 +10,8 @@ use Rattle.uimg_fit_base.specs.declared.fault.FitFault.{FitFault}
 use Rattle.uimg_fit_building.specs.FillAnswers.{OpensKeptBetween}
 use Rattle.uimg_fit_building.specs.ImageFillings.{IsFileFault}
 
--- The file of a payload, if it is one, was opened and read as it is kept: any fault is of that
--- file, and where files were honest, there is none only if it is kept.
+-- The payload, if it is a file, was opened and read. Any fault is one of that file; over honest
+-- files, at `Ok`, the file exists with the kept size.
 pub record ReadsPayloadBetween {X : Type 0} (steady : Bool) (payload : Content)
     (result : Result X FitFault) (old new : FileMap) : Type 0 where
   pub opens : OpensKeptBetween steady (IsKept old.bytes payload) result old new
@@ -23,7 +23,7 @@ abbrev pub ReadsPayload : {F X : Type 0} → Bool → (F → FileMap) → Conten
 ReadsPayload steady map payload result files =
     ReadsPayloadBetween steady payload result (map files.entry.now) (map files.exit.now)
 
--- A bundle that was new had these bytes.
+-- A bundle that was new was fed these bytes.
 abbrev pub Feeds : Lent Bundle → List ℕ → Type 0
 Feeds bundle fed =
     (algos : List Algo) → Holds bundle.entry.now algos [] → Holds bundle.exit.now algos fed

@@ -1,4 +1,4 @@
--- The algorithms of the hash nodes of an image, which is in memory but for the bytes of its files.
+-- The algorithms of the hash nodes of an image whose files are not read.
 use Rattle.std.specs.Prelude.{◌≡◌, ℕ, List, [], ◌∷◌, true, Option, Some, None}
 use Rattle.std.specs.Option.{option_and_then, IfSome}
 use Rattle.uimg_blob_reading.specs.LookUps.{NodeOf}
@@ -7,20 +7,20 @@ use Rattle.uimg_fit_base.specs.declared.algo_sets.AlgoSet.{AlgoSet}
 use Rattle.uimg_fit_base.specs.AlgoSets.{has, marked}
 use Rattle.uimg_fit_building.specs.Filling.{algo_by}
 
--- no name has a file
+-- no files
 abbrev pub no_files : List ℕ → Option (List ℕ)
 no_files name = None
 
--- the bytes of a value that is in memory
+-- the bytes of a value in memory
 abbrev pub in_memory : Content → List ℕ
 in_memory c = bytes_in no_files c
 
--- a set with the algorithms of hash nodes, if each is known
+-- a set with the algorithms of hash nodes, if all are known
 unfoldable pub all_marked : AlgoSet → List (NodeOf Content) → Option AlgoSet
 all_marked set [] = Some set
 all_marked set (h ∷ hs) =
     option_and_then (λ algo. all_marked (marked set algo) hs) (algo_by in_memory h.own)
 
--- The algorithm of a hash node, if it is known, is in use.
+-- The algorithm of a hash node, if it is known, is in the set.
 abbrev pub IsCovered : AlgoSet → NodeOf Content → Type 0
 IsCovered set h = IfSome (algo_by in_memory h.own) (λ algo. has set algo ≡ true)

@@ -1,4 +1,4 @@
--- The steps of placing a tree's payloads, over lists.
+-- Steps of placing a tree's payloads, on lists.
 use Rattle.std.specs.Prelude.{ℕ, ◌+◌, List, [], ◌∷◌, ◌++◌, Bool, true, false, if◌then◌else◌, codes}
 use Rattle.std.specs.Str.{bytes_eq}
 use Rattle.uimg_blob_writing.specs.declared.props.Prop.{Prop}
@@ -9,36 +9,36 @@ use Rattle.uimg_blob_writing.specs.Encoding.{word}
 use Rattle.uimg_blob_writing.specs.Properties.{content}
 use Rattle.uimg_fit_building.specs.UnreadTrees.{padded_size_of, unread_own, unread_from}
 
--- a list, the first element that passes a test by a function
+-- a list, with a function applied to the first element that passes a test
 unfoldable pub at_first : {X : Type 0} → (X → Bool) → (X → List X) → List X → List X
 at_first test f [] = []
 at_first test f (x ∷ xs) = if test x then f x ++ xs else x ∷ at_first test f xs
 
--- what is left of a list, where the first such element was met or not
+-- the rest of a list: unchanged if such an element was met already, else treated the same
 abbrev pub left_of : {X : Type 0} → (X → Bool) → (X → List X) → Bool → List X → List X
 left_of test f true xs = xs
 left_of test f false xs = at_first test f xs
 
--- a property of four bytes
+-- a property of one cell
 abbrev pub cell : {A : Type 0} → List ℕ → ℕ → Prop A
 cell key n = record { name = key; value = Bytes (word n) }
 
--- the two cells in the place of a payload
+-- the two cells that replace a payload
 abbrev pub cells : {A : Type 0} → List ℕ → ℕ → Prop A → List (Prop A)
 cells key at p = cell key at ∷ cell (codes "data-size") (size_of (content p.value)) ∷ []
 
 abbrev pub is_data : {A : Type 0} → Prop A → Bool
 is_data p = bytes_eq (codes "data") p.name
 
--- properties, the payload's by its cells
+-- properties, with cells in place of the payload
 abbrev pub placed_properties : {A : Type 0} → List ℕ → ℕ → List (Prop A) → List (Prop A)
 placed_properties key at ps = at_first is_data (cells key at) ps
 
--- an image, its payload moved to a place
+-- an image, with cells in place of its payload
 abbrev pub placed_image : {A : Type 0} → List ℕ → ℕ → Node A → Node A
 placed_image key at n = record n { props = unread_own key at n.props }
 
--- images, one after the other from a place on
+-- images, with their payloads one after another from an offset on
 unfoldable pub placed_images : {A : Type 0} → ℕ → List ℕ → ℕ → List (Node A) → List (Node A)
 placed_images align key at [] = []
 placed_images align key at (n ∷ ns) =
@@ -47,10 +47,10 @@ placed_images align key at (n ∷ ns) =
 abbrev pub is_images : {A : Type 0} → Node A → Bool
 is_images n = bytes_eq (codes "images") n.name
 
--- a node, its children being images that are placed
+-- a node whose children are images, with cells in place of their payloads
 abbrev pub with_placed : {A : Type 0} → ℕ → List ℕ → ℕ → Node A → Node A
 with_placed align key at n = record n { children = unread_from align key at n.children }
 
--- the root's children
+-- the root's children, with cells in place of the images' payloads
 abbrev pub placed_children : {A : Type 0} → ℕ → List ℕ → ℕ → List (Node A) → List (Node A)
 placed_children align key at ns = at_first is_images (λ n. with_placed align key at n ∷ []) ns

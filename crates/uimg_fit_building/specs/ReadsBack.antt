@@ -1,4 +1,4 @@
--- What is read of a file that was built.
+-- What is read back from a built file.
 use Rattle.std.specs.Prelude.{◌≡◌, ℕ, List, Some}
 use Rattle.std.specs.List.{slice_get}
 use Rattle.uimg_base.specs.Outcome.{done, told}
@@ -9,9 +9,9 @@ use Rattle.uimg_fit_base.specs.Extraction.{extract_of}
 use Rattle.uimg_fit_building.specs.Building.{data_of}
 
 -- The file's hashes are right, and the payload at each position is the first `data` of the tree's
--- image there.
+-- image of that number.
 pub record ReadsBack (file : List ℕ) (t : Nodes) : Type 0 where
-  -- no line of the report says anything but `ok` or `unhashed`
+  -- each line of the report ends in `ok` or `unhashed`
   pub report : (verify_of file).end ≡ done
   pub extraction : (position : ℕ) (found : List (NodeOf (List ℕ))) (image : NodeOf (List ℕ))
       → images t ≡ Some found → slice_get found position ≡ Some image →

@@ -1,4 +1,4 @@
--- What filling answers, and what building answers.
+-- The results of filling and of building.
 use Rattle.std.specs.Prelude.{ℕ, List, [], ◌∷◌, Bool, length, is_some, is_none, nat_lt}
 use Rattle.std.specs.Prelude.{if◌then◌else◌, Option, Some, None, Result, Ok, Err, codes}
 use Rattle.std.specs.List.{list_all}
@@ -13,7 +13,7 @@ use Rattle.uimg_blob_reading.specs.LookUps.{NodeOf, first, images, hashes}
 use Rattle.uimg_fit_building.specs.Filling.{algo_in, filled}
 use Rattle.uimg_fit_building.specs.Building.{placed_blob, built}
 
--- why an image isn't filled: it has no `data`, or a hash node of an unknown algorithm
+-- why an image is not filled: it has no `data`, or a hash node of an unknown algorithm
 unfoldable pub image_fault : NodeOf (List ℕ) → Option FitFault
 image_fault image =
     if is_none (first image.own (codes "data")) then Some NoData
@@ -33,8 +33,8 @@ abbrev pub fill_from : Option FitFault → Nodes → Result Nodes FitFault
 fill_from (Some f) t = Err f
 fill_from None t = Ok t
 
--- the filled tree, or the first of: no `images`; image by image, no `data`, a hash node of an
--- unknown algorithm
+-- the filled tree, or the first fault: no `images`; then for each image no `data`, or a hash node
+-- of an unknown algorithm
 abbrev pub fill_of : ℕ → Nodes → Result Nodes FitFault
 fill_of time t = fill_from (fault_of (images t)) (filled time t)
 
@@ -44,8 +44,8 @@ is_low size Inside = Bool.false
 is_low size (After align) = Bool.false
 is_low size (At p align) = nat_lt p size
 
--- whether a tree whose names are good can be built, or the first fault: the blob is too large, the
--- payloads would begin before its end, the file is too large
+-- why a tree with good names cannot be built: the first of a blob that is too large, payloads that
+-- would begin before its end, a file that is too large
 unfoldable pub build_fault : Nodes → AlignedPlacement → Option FitFault
 build_fault t placement =
     if nat_lt 4294967295 (length (placed_blob t placement)) then Some TooLarge

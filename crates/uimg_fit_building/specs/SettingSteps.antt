@@ -1,9 +1,9 @@
--- What the steps do that take memory for a property.
+-- Steps that take memory for a property.
 use Rattle.std.specs.Prelude.{Result, IfOk, IsOkUnless}
 use Rattle.uimg_fit_base.specs.declared.fault.FitFault.{FitFault}
 use Rattle.uimg_fit_base.specs.declared.fault.FitFault.TheVariants.{OutOfMemory}
 
--- A fact holds of what was made, and only memory can have been refused.
+-- A fact holds of the result, or memory was refused.
 pub record Makes {X : Type 0} (result : Result X FitFault) (Made : X → Type 0) : Type 0 where
   pub made : IfOk result Made
   pub memory : IsOkUnless result OutOfMemory

@@ -1,4 +1,4 @@
--- The same filling and placing where payloads stay in their files.
+-- Filling and placing if payloads stay in their files.
 use Rattle.std.specs.Prelude.{ℕ, List, Option}
 use Rattle.uimg_blob_reading.specs.Plain.{NamedOf}
 use Rattle.uimg_blob_writing.specs.Content.{Content, Unread, bytes, bytes_in, size_of}
@@ -6,23 +6,23 @@ use Rattle.uimg_fit_base.specs.declared.placement.AlignedPlacement.{AlignedPlace
 use Rattle.uimg_fit_building.specs.Building.{padded_size_by, moved_own_by, moved_from_by, moved_by}
 use Rattle.uimg_fit_building.specs.Filling.{filled_by}
 
--- a tree with a time and its images' digests, where files have these bytes at their names: each
--- file stays one
+-- a tree with a timestamp and its images' digests, over files with these bytes; each file stays a
+-- file
 abbrev pub filled_unread : (List ℕ → Option (List ℕ)) → ℕ → Unread → Unread
 filled_unread files time t = filled_by (bytes_in files) bytes time t
 
--- how many bytes the payload of an image takes, rounded up by an alignment
+-- the size of an image's payload, rounded up to an alignment
 abbrev pub padded_size_of : ℕ → List (NamedOf Content) → ℕ
 padded_size_of align own = padded_size_by size_of align own
 
--- properties, the first `data` moved to a place
+-- properties, with two cells in place of the first `data`
 abbrev pub unread_own : List ℕ → ℕ → List (NamedOf Content) → List (NamedOf Content)
 unread_own = moved_own_by size_of bytes
 
--- images, the first `data` of each moved
+-- images, with cells in place of the first `data` of each
 abbrev pub unread_from : ℕ → List ℕ → ℕ → Unread → Unread
 unread_from = moved_from_by size_of bytes
 
--- a tree whose payloads are placed, as it is written
+-- a tree with its payloads placed, as it is written
 abbrev pub moved_unread : Unread → AlignedPlacement → Unread
 moved_unread = moved_by size_of bytes

@@ -1,4 +1,4 @@
-//! Building: the blob of a filled tree is written, and the payloads that stand behind it.
+//! Building: the blob of a filled tree is written, and the payloads after it.
 
 ghost use Rattle.std.specs.Prelude.{◌≡◌, IsTrue, OnOk, false};
 ghost use Rattle.uimg_base.specs.Device.{RisesIf};
@@ -30,7 +30,7 @@ use uimg_blob_reading::BlobFault;
 use uimg_blob_writing::{Layout, Tree, TreeFault, measure_by, write_tree};
 use uimg_fit_base::{AlignedPlacement, Fault, FitFault, Placement, WORD_ALIGNMENT};
 
-// The fault of a tree that can't be measured.
+// Turns the fault of measuring a tree into one of building.
 fn of_measure(fault: BlobFault) -> Fault
     ensures { result ≡ of_measure fault }
 {
@@ -41,7 +41,7 @@ fn of_measure(fault: BlobFault) -> Fault
     }
 }
 
-// The fault of a tree that can't be written.
+// Turns the fault of writing a tree into one of building.
 fn of_writing(fault: TreeFault) -> Fault
     ensures { result ≡ of_writing fault }
 {
@@ -52,7 +52,7 @@ fn of_writing(fault: TreeFault) -> Fault
     }
 }
 
-// Measures the blob of a tree, by an alignment.
+// Measures the blob of a tree, with an alignment.
 fn measure_placed<'a, A: Allocator>(
     alloc: A,
     placed: &'a Tree<A>,
@@ -66,7 +66,7 @@ fn measure_placed<'a, A: Allocator>(
     }
 }
 
-// Writes the file of a tree, of which a copy has the payloads placed.
+// Writes the file of a tree; `placed` is its copy with cells for its payloads.
 fn write_file<F: Files, W: Write, A: Allocator>(
     placed: &Tree<A>,
     layout: &Layout<A>,
@@ -87,7 +87,7 @@ fn write_file<F: Files, W: Write, A: Allocator>(
     put_behind(layout.totalsize(), tree, placement, files, out)
 }
 
-// Builds the file of a tree, of which a copy has the payloads placed.
+// Builds the file of a tree; `placed` is its copy with cells for its payloads.
 fn build_placed<F: Files, W: Write, A: Allocator>(
     alloc: A,
     placed: &Tree<A>,
@@ -134,26 +134,26 @@ fn place_and_build<F: Files, W: Write, A: Allocator + Copy>(
     }
 }
 
-/// Builds the FIT image of a tree: its blob (Devicetree Specification, chapter 5), and behind it the
-/// payloads that do not stand in it (Flattened Image Tree format, "External data").
+/// Builds the FIT image of a tree: its blob (Devicetree Specification, chapter 5), and after it the
+/// payloads that are not in it (Flattened Image Tree format, "External data").
 ///
-/// With `Inside` the tree is written as it is. With `After` and `At` two cells stand in the place of
-/// the first `data` of each image, `data-offset` or `data-position`, and `data-size`; the payloads
-/// follow in order. The blob's end and each payload's are rounded up to a multiple of 4, with zeros
-/// behind them, and zeros fill up to the position of the first. An image without `data` is left as it is.
+/// With `Inside` the tree is written unchanged. With `After` and `At` two cells replace the first
+/// `data` of each image, `data-offset` or `data-position`, and `data-size`; the payloads follow in
+/// order. The blob's end and each payload's are padded with zeros to a multiple of 4, and zeros
+/// fill up to the position of the first. An image without `data` is unchanged.
 ///
-/// All memory is taken, and all is refused, before the first byte: `BadNodeName` or `BadPropertyName`
-/// of the blob, at offset 0, for the first bad name in the order of writing; `TooLarge` where the blob
-/// has more than 4294967295 bytes; `PositionTooLow` where the payloads would begin before the blob's
-/// end; `TooLarge` where the file has more than 4294967295 bytes; `OutOfMemory` where memory was
-/// refused. `Put` comes exactly where a write failed, `NoFile` exactly where the open of a file was
-/// refused, `Read` where a read of one failed or its size is another than the tree keeps; over honest
-/// files of the kept sizes a prefix of the image was written then. Over honest files, at `Ok`, each
-/// file has the size that the tree keeps.
+/// All memory is taken before the first byte, and refusals come before it, in this order:
+/// `BadNodeName` or `BadPropertyName` of the blob, at offset 0, for the first bad name in the order
+/// of writing; `TooLarge` if the blob has more than 4294967295 bytes; `PositionTooLow` if the
+/// payloads would begin before the blob's end; `TooLarge` if the file has more than 4294967295
+/// bytes; also `OutOfMemory` if memory was refused. Returns `Put` exactly if a write failed,
+/// `NoFile` exactly if the open of a file was refused, `Read` if a read of a file failed or its
+/// size is another than the tree keeps; over honest files of the kept sizes a prefix of the image
+/// was written then. Over honest files, at `Ok`, each file has the size that the tree keeps.
 ///
-/// A file is opened once for each value that it is, when that is written, and goes through a window of
-/// 8192 bytes. The image of a filled tree verifies, and each payload is found in it. The depth of the
-/// calls is that of the tree.
+/// A file is opened once for each value stored in it, when the value is written, and read through a
+/// window of 8192 bytes. The image of a filled tree verifies, and each payload is found in it.
+/// Calls nest as deep as the tree.
 pub fn build<F: Files, W: Write, A: Allocator + Copy>(
     alloc: A,
     tree: &Tree<A>,
@@ -184,8 +184,8 @@ pub fn build<F: Files, W: Write, A: Allocator + Copy>(
     )
 }
 
-/// Builds the FIT image of a tree as `build` does, the blob's end and each payload's rounded up by the
-/// alignment of the placement.
+/// Builds the FIT image of a tree as `build` does, with the blob's end and each payload's rounded
+/// up to the placement's alignment.
 pub fn build_by<F: Files, W: Write, A: Allocator + Copy>(
     alloc: A,
     tree: &Tree<A>,

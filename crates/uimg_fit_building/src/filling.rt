@@ -31,7 +31,7 @@ use uimg_base::{Files, Source};
 use uimg_blob_writing::{Node, Nodes, Props, Tree, Value};
 use uimg_fit_base::FitFault;
 
-// Properties with the time.
+// Sets the timestamp among properties.
 fn with_time<A: Allocator + Copy>(
     alloc: A,
     props: Props<A>,
@@ -43,7 +43,7 @@ fn with_time<A: Allocator + Copy>(
     with_value(alloc, props, b"timestamp", value)
 }
 
-// How many nodes stand before the first that is named `images`.
+// Counts the nodes before the first that is named `images`.
 fn before_images<A: Allocator>(nodes: &[Node<A>]) -> usize
     ensures { result ≡ prefix_len (λ n. not (bytes_eq (codes "images") n.name)) nodes.now }
 {
@@ -71,7 +71,7 @@ fn fill_parent<F: Files, A: Allocator + Copy>(
     answer
 }
 
-// Fills the images of a root, whose children these are.
+// Fills the images below a root with these children.
 fn fill_below<F: Files, A: Allocator + Copy>(
     alloc: A,
     nodes: &mut [Node<A>],
@@ -95,20 +95,20 @@ fn fill_below<F: Files, A: Allocator + Copy>(
 
 /// Fills a tree before it is built: sets the root's `timestamp`, removes `data-offset`, `data-size`
 /// and `data-position` of each image, and sets the `value` of each hash node to the digest of the
-/// image's first `data` (Flattened Image Tree format, "Hash nodes"). A property that is there is
-/// replaced in its place, a new one comes last. `time` is in seconds since 1970.
+/// image's first `data` (Flattened Image Tree format, "Hash nodes"). An existing property is
+/// replaced in its place, a new one is appended. `time` is in seconds since 1970.
 ///
-/// The caller sees to it that only properties named `data` are files. An image's file is opened once
-/// if the image has hash nodes, and read once through a window of 8192 bytes for all of them; it
-/// stays a file in the tree. Whatever the files answer, the tree that is given is the source's with
-/// just that changed. Over honest files that have those of the tree its hashes are what `verify` expects.
+/// Only properties named `data` may be files. An image's file is opened once if the image has hash
+/// nodes, and read once for all of them through a window of 8192 bytes; it stays a file in the
+/// tree. Over any files, only this is changed in the tree. Over honest files of the kept sizes its
+/// hashes are what `verify` expects.
 ///
-/// The first refusal ends it, and the tree is dropped: `NoImages`; then image by image `NoData`,
-/// `UnknownAlgo` of the first hash node whose `algo` is missing or unknown, `NoFile` exactly where the
-/// open of its file was refused, and `ReadFailed` where a read of it failed or it has another size than
-/// the tree keeps. `OutOfMemory` comes where memory for a property was refused. Over honest files of
-/// any sizes any other fault of an image means that no image before it has one, and at `Ok` the file of
-/// each image with hash nodes has the size that the tree keeps. Over files that have those of the tree,
+/// Returns the first fault and drops the tree: `NoImages`; then for each image `NoData`,
+/// `UnknownAlgo` if the `algo` of a hash node is missing or unknown, `NoFile` exactly if the open
+/// of its file was refused, and `ReadFailed` if a read of it failed or it has another size than the
+/// tree keeps. `OutOfMemory` comes if memory for a property was refused. Over honest files of any
+/// sizes any other fault of an image means that no image before it has one, and at `Ok` the file of
+/// each image with hash nodes has the size that the tree keeps. Over files of the kept sizes,
 /// `NoFile` never comes if they are complete, nor `ReadFailed` if they are honest and never fail.
 pub fn fill<F: Files, A: Allocator + Copy>(
     alloc: A,
@@ -117,20 +117,20 @@ pub fn fill<F: Files, A: Allocator + Copy>(
     files: &mut F,
 ) -> Result<Tree<A>, FitFault>
     requires { FilesAtData (node_of tree.root) }
-    // The files are what they were, and `NoFile` comes exactly where they refused an open.
+    // The files are unchanged, and `NoFile` is returned exactly if they refused an open.
     ensures files { UsesFiles (opens_no_file result) (F.map files.old) (F.map files.new) }
     ensures found { IfComplete F.map files (node_of tree.root) (opens_no_file result ≡ false) }
     ensures steady { IfSteady F.Opened.steady F.map files (node_of tree.root)
         (fails_to_read result ≡ false) }
-    // The tree is filled, and each file stays as it stands; or the first fault is answered.
+    // The tree is filled, and each file stays a file; or the first fault is returned.
     ensures filled { IfKept F.map files (node_of tree.root) (λ there.
         FillsAnswer (λ filled. node_of filled.root) there time (node_of tree.root) result) }
-    // Image by image, over files of any sizes: filling goes past an image with hash nodes only where
-    // its file has the size that the tree keeps, and stops at the first image that it can't pass.
-    // Where the files are complete, `NoFile`, and where what they open is steady, `ReadFailed`, comes
-    // only if the file of that image is missing or has another size, whatever the others are.
+    // In the order of images, over files of any sizes: filling passes an image with hash nodes only
+    // if its file has the size that the tree keeps, and stops at the first image that it cannot
+    // pass. If the files are complete, `NoFile`, and if what they open is steady, `ReadFailed`,
+    // means that the file of that image is missing or has another size, whatever the others are.
     ensures order { AnswersInOrder F.Opened.steady F.map (images (node_of tree.root)) result files }
-    // Whatever the files answer: but for the bytes of its digests, the tree is the source's, filled.
+    // Over any files, except for the bytes of its digests: the tree is the source's, filled.
     ensures rest { IfOk result (λ filled. zeroed_tree (node_of filled.root)
         ≡ zeroed_tree (filled_unread no_files time (node_of tree.root))) }
 {

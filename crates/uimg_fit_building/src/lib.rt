@@ -1,9 +1,9 @@
-//! FIT images are made: trees are filled, and built as files.
+//! Makes FIT images: fills trees, and builds them as files.
 //!
-//! Lemmas show that what is built of a filled tree reads back, under each placement
-//! (`proofs/BuiltLaw.antt`), that filling and placing before the files are read is filling and placing
-//! after (`FillUnreadLaws`, `UnreadLaws`), that a tree's files have their sizes where those of its blob
-//! have, and those behind it (`KeptLaws`), and which faults the order of filling admits
+//! Lemmas prove that the image of a filled tree reads back, with each placement
+//! (`proofs/BuiltLaw.antt`); that filling and placing before the files are read is filling and
+//! placing after (`FillUnreadLaws`, `UnreadLaws`); that a tree's files have their sizes if those of
+//! its blob and those after it have (`KeptLaws`); and which faults the order of filling admits
 //! (`FillOrderLaws`).
 #![tactic(auto)]
 

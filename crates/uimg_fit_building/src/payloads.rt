@@ -12,21 +12,21 @@ use crate::setting::first_value;
 use std::alloc::Allocator;
 use uimg_blob_writing::{Node, Prop, Props, Value};
 
-// Whether a property is named `data`.
+// Returns whether a property is named `data`.
 pub(crate) fn is_data<A: Allocator>(prop: &Prop<A>) -> bool
     ensures { result ≡ bytes_eq (codes "data") prop.now.name }
 {
     b"data".as_slice() == prop.name.items()
 }
 
-// Whether a node is named `images`.
+// Returns whether a node is named `images`.
 pub(crate) fn is_images<A: Allocator>(node: &Node<A>) -> bool
     ensures { result ≡ bytes_eq (codes "images") node.now.name }
 {
     b"images".as_slice() == node.name.items()
 }
 
-// The images of a tree, none where the root has no child `images`.
+// Returns the images of a tree, none if the root has no child `images`.
 pub(crate) fn images_of<A: Allocator>(root: &Node<A>) -> &[Node<A>]
     ensures { map entry result.now ≡ images_in (node_of root.now) }
 {
@@ -38,7 +38,7 @@ pub(crate) fn images_of<A: Allocator>(root: &Node<A>) -> &[Node<A>]
     &[]
 }
 
-// The payload of an image: its first `data`.
+// Returns the payload of an image: its first `data`.
 pub(crate) fn payload_of<A: Allocator>(props: &Props<A>) -> Option<&Value<A>>
     ensures { option_map (λ value. content value.now) result ≡ first props.now (codes "data") }
 {

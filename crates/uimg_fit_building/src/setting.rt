@@ -1,4 +1,4 @@
-//! Properties are looked up, set and removed.
+//! Look-up, setting and removal of properties.
 
 ghost use Rattle.std.specs.Prelude.{◌≡◌, ◌≤◌, ◌++◌, ◌∷◌, [], ◌+◌, map, take, drop, length};
 ghost use Rattle.std.specs.List.{list_any};
@@ -14,7 +14,7 @@ use std::alloc::Allocator;
 use uimg_blob_writing::{ByteList, Prop, Props, Value, copy_bytes};
 use uimg_fit_base::FitFault;
 
-/// A copy of bytes.
+/// Copies bytes.
 pub(crate) fn copied<A: Allocator>(alloc: A, bytes: &[u8]) -> Result<ByteList<A>, FitFault>
     ensures { Makes result (λ l. l ≡ bytes.now) }
 {
@@ -24,7 +24,7 @@ pub(crate) fn copied<A: Allocator>(alloc: A, bytes: &[u8]) -> Result<ByteList<A>
     }
 }
 
-/// The value of the first property of a name.
+/// Returns the value of the first property of a name.
 pub(crate) fn first_value<'a, A: Allocator>(props: &'a Props<A>, key: &[u8]) -> Option<&'a Value<A>>
     ensures { option_map (λ v. content v.now) result ≡ first props.now key.now }
 {
@@ -36,7 +36,7 @@ pub(crate) fn first_value<'a, A: Allocator>(props: &'a Props<A>, key: &[u8]) -> 
     None
 }
 
-// Where the first property of a name stands, or how many there are where none has it.
+// Returns the index of the first property of a name, or the number of properties if none has it.
 #[tactic(auto, unfolding(crate::specs::Filling::with))]
 fn place_of<A: Allocator>(props: &[Prop<A>], key: &[u8]) -> usize
     ensures within { result ≤ length props.now }
@@ -75,7 +75,7 @@ fn set_first<A: Allocator>(list: &mut Vec<Prop<A>, A>, prop: Prop<A>) -> Result<
     push_property(list, prop)
 }
 
-/// Properties, the first of a name with another value; where there is none, one more.
+/// Sets the first property of a name among properties, or adds one.
 pub(crate) fn with_value<A: Allocator + Copy>(
     alloc: A,
     props: Props<A>,
@@ -90,7 +90,7 @@ pub(crate) fn with_value<A: Allocator + Copy>(
     Ok(Props::of(list))
 }
 
-// Whether a property gives a payload a place outside the blob.
+// Returns whether a property gives a payload an offset outside the blob, or its size there.
 fn is_external(name: &[u8]) -> bool
     ensures { result ≡ list_any (bytes_eq name.now) external_names }
 {
@@ -103,14 +103,14 @@ fn is_external(name: &[u8]) -> bool
     name == b"data-position".as_slice()
 }
 
-// Removes the properties that give a payload a place outside the blob.
+// Removes the properties that give payloads offsets outside the blob.
 fn remove_external<A: Allocator>(list: &mut Vec<Prop<A>, A>)
     ensures { map property list.new.items ≡ without_external (map property list.old.items) }
 {
     list.retain(|prop| !is_external(prop.name.items()));
 }
 
-/// Properties but for those that give a payload a place outside the blob.
+/// Removes the properties that give payloads offsets outside the blob.
 pub(crate) fn without_external<A: Allocator>(props: Props<A>) -> Props<A>
     ensures { result ≡ without_external props }
 {

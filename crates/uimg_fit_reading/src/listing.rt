@@ -103,14 +103,15 @@ fn list_body<S: Source, A: Allocator, W: Write>(
     Ok(Status::Done)
 }
 
-/// Writes the listing of the image, by the names of the profile.
+/// Writes the listing of the image, with the names of the profile.
 ///
-/// Two head lines come first, then the lines of each image with those of its hash nodes, the default
-/// configuration, and the lines of each configuration. Refusals of the blob come before the first line,
-/// `NoImages` after the head lines; `OutOfMemory` comes exactly where the room refused to grow. No hash
-/// is checked and no payload is read: a payload that has no place has the size `unavailable`. Over an
-/// honest source a prefix of the listing was written after `Read` or `Put`, and at most 60 bytes, 1024
-/// for each node and property, and 4 for each NOP and each byte of a text were requested.
+/// Two head lines come first, then the lines of each image with those of its hash nodes, the
+/// default configuration, and the lines of each configuration. Faults of the blob come before the
+/// first line, `NoImages` after the head lines. Returns `OutOfMemory` exactly if the room refused
+/// to grow. No hash is checked and no payload is read; a payload without a span has the size
+/// `unavailable`. Over an honest source a prefix of the listing was written after `Read` or `Put`,
+/// and at most 60 bytes, 1024 for each node and property, and 4 for each NOP and each byte of a
+/// text were requested.
 pub fn list<S: Source, A: Allocator, W: Write>(
     source: &mut S,
     room: &mut Room<A>,
@@ -122,7 +123,7 @@ pub fn list<S: Source, A: Allocator, W: Write>(
     list_by(source, room, Naming::Profile, out)
 }
 
-/// Writes the listing of the image as `list` does, by a set of names.
+/// Writes the listing of the image as `list` does, with the names of a set.
 pub fn list_by<S: Source, A: Allocator, W: Write>(
     source: &mut S,
     room: &mut Room<A>,

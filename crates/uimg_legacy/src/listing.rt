@@ -65,12 +65,12 @@ fn list_tail<S: Source, A: Allocator, W: Write>(
     list_parts(source, header.size, count, out)
 }
 
-/// Writes the listing of the image, by the names of the profile: six lines, and for type multi and
-/// script `Contents:` and a line for each part. Refusals of the header and the data come before the
-/// first line: `TooShort`, `BadMagic`, `BadHeaderCrc`, `Truncated`, `BadDataCrc`, in this order. `NoTableEnd`
-/// comes after six lines, `PartOutside` before the line of its part. Over an honest source a
-/// prefix of the listing was written after `Read` or `Put`, and at most 76 bytes, the data and 16 for
-/// each size in the table were requested. The room is only cleared.
+/// Writes the listing of the image, with the names of the profile: six lines, and for the types
+/// multi and script `Contents:` and a line for each part. Faults of the header and the data come
+/// before the first line, in this order: `TooShort`, `BadMagic`, `BadHeaderCrc`, `Truncated`,
+/// `BadDataCrc`. `NoTableEnd` comes after six lines, `PartOutside` before the line of its part.
+/// Over an honest source a prefix of the listing was written after `Read` or `Put`, and at most 76
+/// bytes, the data and 16 for each size in the table were requested. The room is only cleared.
 pub fn list<S: Source, A: Allocator, W: Write>(
     source: &mut S,
     room: &mut Room<A>,
@@ -82,7 +82,7 @@ pub fn list<S: Source, A: Allocator, W: Write>(
     list_by(source, room, Naming::Profile, out)
 }
 
-/// Writes the listing of the image as `list` does, by a set of names.
+/// Writes the listing of the image as `list` does, with the names of a set.
 pub fn list_by<S: Source, A: Allocator, W: Write>(
     source: &mut S,
     room: &mut Room<A>,

@@ -9,7 +9,7 @@ use uimg_blob_writing::{measure, write_tree};
 use uimg_engine::DiskFiles;
 use uimg_its::compile;
 
-// Writes the blob of a source to standard output. The files that it names lie in its folder.
+// Writes the blob of a source to standard output. The files that it names are in its folder.
 pub(crate) fn compile_source<R: Files + Print + AllocGlobal>(rt: &R, path: &str) -> io::Result<()> {
     let text = fs::read(rt, path)?;
     let mut files = DiskFiles::new(rt, folder_of(path));

@@ -1,12 +1,12 @@
--- The names of the files that the word of -d has.
+-- The file names in the word of -d.
 use Rattle.std.specs.Prelude.{ℕ, List, [], ◌∷◌, ◌==◌, if◌then◌else◌}
 use Rattle.std.specs.List.{slice_split}
 use Rattle.uimg_legacy.specs.Parts.{has_parts}
 
--- what stands between the colons of a word, before the first and behind the last
+-- the texts between the colons of a word, before the first and after the last
 abbrev pub between_colons : List ℕ → List (List ℕ)
 between_colons word = slice_split (λ byte. byte == 58) word
 
--- several names for an image type of several parts, and else the word itself
+-- several names for an image type with parts, else the word itself
 abbrev pub names_of : ℕ → List ℕ → List (List ℕ)
 names_of kind word = if has_parts kind then between_colons word else word ∷ []

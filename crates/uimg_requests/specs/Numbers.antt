@@ -2,8 +2,8 @@
 use Rattle.std.specs.Prelude.{ℕ, List, Option, ◌<◌, ◌^◌, SomeIff}
 use Rattle.std.specs.Str.Parse.{IsNumeral, digits_value}
 
--- The number that one or more digits of a base write; none for any other text, and where 32 bits
--- don't have it.
+-- The number of one or more digits of a base; none for any other text, and if it needs more than 32
+-- bits.
 abbrev pub IsNumberOf : ℕ → List ℕ → Option ℕ → Type 0
 IsNumberOf base text result =
     SomeIff result (IsNumeral base text × (digits_value base text < 2 ^ 32))

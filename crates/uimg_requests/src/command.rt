@@ -9,16 +9,16 @@ pub enum Action {
     /// Its verification report is written.
     Verify,
 
-    /// The part of a legacy image, or the payload of the image in a FIT, at this position, counted from
-    /// 0, is written.
+    /// The part of a legacy image, or the payload of a FIT image's image, at this position, counted
+    /// from 0, is written.
     Extract(u32),
 }
 
-/// The format that an image is read as.
+/// The format that an image is read in.
 #[derive(Clone, Copy, Debug, PartialEq, Eq)]
 pub enum Form {
-    /// The format that its first four bytes tell: a FIT image where they are `0xd00dfeed`, a legacy
-    /// image otherwise, also where there are fewer.
+    /// A guess by the first four bytes: a FIT image if they are `0xd00dfeed`, else a legacy image,
+    /// also if the file has fewer.
     Guess,
 
     /// A legacy image.
@@ -34,6 +34,6 @@ pub struct Command {
     /// What is done.
     pub action: Action,
 
-    /// What the image is read as.
+    /// The format that it is read in.
     pub form: Form,
 }

@@ -1,4 +1,4 @@
-//! What is asked of the program: the commands on an image, the making of one, and their words.
+//! Requests to the program: commands on an image, the making of one, and words that they share.
 #![tactic(auto)]
 
 mod command;

@@ -7,9 +7,9 @@ use uimg_names::Naming;
 /// What an image is made from.
 #[derive(Drop)]
 pub enum MakeCommand {
-    /// A legacy image is built from files.
+    /// A legacy image, built from files.
     Parts {
-        /// The fields of its header. `time` is not looked at.
+        /// The fields of its header. Its `time` is ignored.
         options: Options,
 
         /// The names of the files: at least one, and exactly one unless the type is multi or
@@ -17,12 +17,12 @@ pub enum MakeCommand {
         files: Vec<Vec<u8>>,
     },
 
-    /// A FIT image is built from image-tree source.
+    /// A FIT image, built from image-tree source.
     Tree {
         /// The name of the source's file.
         source: Vec<u8>,
 
-        /// Where its payloads stand.
+        /// Where its payloads go.
         placement: Placement,
     },
 }
@@ -33,10 +33,10 @@ pub struct Manner {
     /// The time of the making, in seconds since 1970.
     pub time: u32,
 
-    /// The names that the listing of the image is written by.
+    /// The names for the listing of the image.
     pub naming: Naming,
 
-    /// The alignment by which the blob's end and each payload's are rounded up, where the payloads of a
-    /// FIT image stand after the blob.
+    /// The alignment of the blob's end and of each payload's, if the payloads of a FIT image are
+    /// after the blob.
     pub align: u32,
 }

@@ -6,8 +6,8 @@ ghost use Rattle.uimg_requests.specs.Names.{between_colons, names_of};
 use std::alloc::{AllocError, Global};
 use uimg_legacy::has_parts;
 
-/// The names that the word of -d has for an image type: those between its colons for one of several
-/// parts, and else the word itself.
+/// Returns the file names in the word of -d, by the image type: those between its colons for a type
+/// with parts, else the word itself.
 pub fn file_names(alloc: Global, kind: u8, word: &str) -> Result<Vec<Vec<u8>>, AllocError>
     ensures { IfOk result (λ names. map (λ name. name.items) names.items ≡ names_of kind word.now) }
 {
@@ -20,7 +20,7 @@ pub fn file_names(alloc: Global, kind: u8, word: &str) -> Result<Vec<Vec<u8>>, A
     }
 }
 
-// The names between the colons of a word.
+// Returns the names between the colons of a word.
 fn cut_at_colons(alloc: Global, word: &str) -> Result<Vec<Vec<u8>>, AllocError>
     ensures { IfOk result (λ names. map (λ name. name.items) names.items ≡ between_colons word.now) }
 {

@@ -3,16 +3,16 @@
 ghost use Rattle.std.specs.Prelude.{◌≡◌, ◌≢◌, ◌≤◌, ◌∷◌, ℕ, List};
 ghost use Rattle.uimg_requests.specs.Numbers.{IsNumberOf};
 
-/// The number of one or more decimal digits. `None` for any other text, and for a number of more
-/// than 32 bits.
+/// Returns the number of one or more decimal digits. Returns `None` for any other text, and for a
+/// number of more than 32 bits.
 pub fn decimal(text: &str) -> Option<u32>
     ensures { IsNumberOf 10 text.now result }
 {
     number(text, 10)
 }
 
-/// The number of one or more hexadecimal digits, with or without `0x` before them. `None` for any
-/// other text, and for a number of more than 32 bits.
+/// Returns the number of one or more hexadecimal digits, with or without `0x` before them. Returns
+/// `None` for any other text, and for a number of more than 32 bits.
 pub fn hexadecimal(text: &str) -> Option<u32>
     ensures marked { (digits : List ℕ) → text.now ≡ 48 ∷ 120 ∷ digits →
         IsNumberOf 16 digits result }
@@ -25,7 +25,7 @@ pub fn hexadecimal(text: &str) -> Option<u32>
     }
 }
 
-// The number that digits of a base write. The standard library takes a plus before them, too.
+// Returns the number of digits of a base. The standard library would accept a plus before them.
 fn number(text: &str, base: u32) -> Option<u32>
     requires least { 2 ≤ base }
     requires most { base ≤ 36 }

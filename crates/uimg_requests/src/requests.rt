@@ -1,4 +1,4 @@
-//! What a command line asks for, with the paths that it names.
+//! Requests of a command line, with the paths that it names.
 
 ghost use Rattle.std.specs.Prelude.{◌≡◌, ◌++◌, [], false, IfOk};
 ghost use Rattle.uimg_requests.specs.Names.{names_of};
@@ -19,49 +19,49 @@ pub struct RunRequest<'a> {
     /// What is done with the image.
     pub command: Command,
 
-    /// The names that a listing is written by.
+    /// The names for a listing.
     pub naming: Naming,
 
     /// The path of the image.
     pub image: &'a str,
 
-    /// The path of the file of an extraction.
+    /// The path of an extraction's file.
     pub outfile: Option<&'a str>,
 
-    /// The path that an extraction writes: that of its file, or one that gets its name at the end.
+    /// The path that an extraction is written to: its file's, or a temporary one until the end.
     pub written: Option<&'a str>,
 }
 
 /// The making of an image.
 #[derive(Drop)]
 pub struct MakeRequest<'a> {
-    /// What it is made from. The names of its files are such as `make` takes.
+    /// What it is made from, with names of files that `make` accepts.
     pub command: MakeCommand,
 
     /// How it is made.
     pub manner: Manner,
 
-    /// The path of the image source, or an empty text where it is made from data.
+    /// The path of the image source, or an empty text if the image is made from data.
     pub source: &'a str,
 
-    /// The folder of the files, the current one where it is empty.
+    /// The folder of the files; an empty text is the current one.
     pub folder: &'a str,
 
     /// The path of the image.
     pub outfile: &'a str,
 
-    /// The path that is written: that of the image, or one that gets its name at the end.
+    /// The path that the image is written to: its own, or a temporary one until the end.
     pub written: &'a str,
 
-    /// Whether the header stands in place of the first 64 bytes of the file, which are 0xff.
+    /// Whether the header replaces the first 64 bytes of the file, which are 0xff.
     pub is_xip: bool,
 
     ghost fits: { HasFitNames command } by { has_fit_names_prop command },
 }
 
 impl<'a> MakeRequest<'a> {
-    /// The making of a legacy image from the files of the word of -d, listed by the names of the
-    /// profile. Memory for their names may be refused.
+    /// Returns the request for a legacy image from the files in the word of -d, listed with the
+    /// names of the profile. Memory for the files' names may be refused.
     #[tactic(auto, using(crate::proofs::NameLaws::names_fit))]
     pub fn of_parts(
         alloc: Global,
@@ -95,10 +95,10 @@ impl<'a> MakeRequest<'a> {
         })
     }
 
-    /// The making of a FIT image from the source at a path, whose folder is that of its files, listed
-    /// by the names of the profile, with payloads padded to multiples of 4. Memory for its name may be
-    /// refused. Folder and name together are the path; tests show that the folder is all up to the last
-    /// slash.
+    /// Returns the request for a FIT image from the source at a path, with files in the source's
+    /// folder, listed with the names of the profile, and with payloads padded to multiples of 4.
+    /// Memory for its name may be refused. Folder and name together are the path; tests show that
+    /// the folder ends at the last slash.
     pub fn of_source(
         alloc: Global,
         path: &'a str,
@@ -119,7 +119,7 @@ impl<'a> MakeRequest<'a> {
         MakeRequest::of_name(alloc, path, folder, name, placement, time, outfile)
     }
 
-    /// The same, but the folder of its files is the current one, wherever the source is.
+    /// Returns the same request, but with files in the current folder, wherever the source is.
     pub fn of_source_here(
         alloc: Global,
         path: &'a str,
@@ -140,7 +140,7 @@ impl<'a> MakeRequest<'a> {
         MakeRequest::of_name(alloc, path, "", path, placement, time, outfile)
     }
 
-    // The making of a FIT image from the source at a path, which has a name in a folder.
+    // Returns the request for a FIT image from the source at a path, which has a name in a folder.
     fn of_name(
         alloc: Global,
         path: &'a str,
@@ -177,7 +177,7 @@ impl<'a> MakeRequest<'a> {
     }
 }
 
-// A path, cut behind its last slash.
+// Cuts a path after its last slash.
 fn cut_behind_folder(path: &str) -> (&str, &str)
     ensures { result.0.now ++ result.1.now ≡ path.now }
 {

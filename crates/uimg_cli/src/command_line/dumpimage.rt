@@ -59,7 +59,7 @@ pub(super) fn request<'a>(matches: &ArgMatches<'a>) -> Result<RunRequest<'a>, Wo
     })
 }
 
-// The format of an image type's short name.
+// Returns the format of an image type's short name.
 fn format_named(name: &str) -> Result<Form, WordsFault> {
     match kind_code(name.as_bytes()) {
         Some(FLAT_DT) => Ok(Form::Fit),

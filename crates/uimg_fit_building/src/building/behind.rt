@@ -1,4 +1,4 @@
-//! The payloads behind the blob: refused, or written one after another.
+//! The payloads after the blob: checked, and written one after another.
 
 ghost use Rattle.std.specs.Prelude.{◌≡◌, ◌≤◌, ◌^◌, map, false, Ok, Err};
 ghost use Rattle.std.specs.List.{flat_map};
@@ -19,7 +19,7 @@ use uimg_fit_base::{AlignedPlacement, FitFault};
 // The most bytes of a file.
 const LARGEST: u64 = 0xffff_ffff;
 
-// Refuses payloads that would begin before the end of a blob of so many bytes, and a file that is too
+// Refuses payloads that would begin before the end of a blob of this size, and a file that is too
 // large.
 #[tactic(auto, unfolding(crate::specs::Behind::end_fault))]
 fn check_end(size: u32, padded: u64, placement: AlignedPlacement) -> Result<(), FitFault>
@@ -46,7 +46,7 @@ fn check_end(size: u32, padded: u64, placement: AlignedPlacement) -> Result<(), 
     }
 }
 
-// Refuses a tree whose payloads can't stand behind its blob of so many bytes.
+// Refuses a tree whose payloads cannot follow its blob of this size.
 pub(crate) fn check_payloads<A: Allocator>(
     size: u32,
     tree: &Tree<A>,
@@ -60,7 +60,7 @@ pub(crate) fn check_payloads<A: Allocator>(
     check_end(size, padded, placement)
 }
 
-// Writes the payload of an image, with zeros up to where an alignment has it end.
+// Writes the payload of an image, padded with zeros to an alignment.
 fn put_payload<F: Files, W: Write, A: Allocator>(
     image: &Node<A>,
     align: u32,
@@ -77,7 +77,7 @@ fn put_payload<F: Files, W: Write, A: Allocator>(
     }
 }
 
-// Writes the payloads of images, each with zeros up to where an alignment has it end.
+// Writes the payloads of images, each padded with zeros to an alignment.
 fn put_payloads<F: Files, W: Write, A: Allocator>(
     images: &[Node<A>],
     align: u32,
@@ -94,7 +94,7 @@ fn put_payloads<F: Files, W: Write, A: Allocator>(
     Ok(())
 }
 
-// Writes what stands behind a blob of so many bytes.
+// Writes what follows a blob of this size.
 pub(crate) fn put_behind<F: Files, W: Write, A: Allocator>(
     size: u32,
     tree: &Tree<A>,

@@ -1,4 +1,4 @@
-//! How many bytes the payloads behind the blob take.
+//! The sizes of the payloads after the blob.
 
 ghost use Rattle.std.specs.Prelude.{◌≡◌, ◌^◌, ◌%◌, min, map};
 ghost use Rattle.uimg_fit_building.specs.Behind.{entry, padded_sizes};
@@ -8,13 +8,13 @@ use crate::payloads::payload_of;
 use std::alloc::Allocator;
 use uimg_blob_writing::{Node, Props, aligned, value_size};
 
-// Sizes are counted up to 2^36, which is too large for a file: so no sum of them wraps.
+// Sizes are counted up to 2^36, too large for a file, so no sum of them wraps.
 const MOST: u64 = 0x10_0000_0000;
 
-/// A cell keeps a number's remainder by this.
+/// The modulus of a number in a cell.
 pub(crate) const CELL: u64 = 0x1_0000_0000;
 
-// How many bytes the payload of an image takes, rounded up by an alignment, at most 2^36.
+// Returns the size of an image's payload, rounded up to an alignment, at most 2^36.
 fn padded_size_of<A: Allocator>(props: &Props<A>, align: u32) -> u64
     ensures { result ≡ min (padded_size_of align props.now) (2 ^ 36) }
 {
@@ -24,7 +24,7 @@ fn padded_size_of<A: Allocator>(props: &Props<A>, align: u32) -> u64
     }
 }
 
-// The same as a cell keeps it.
+// Returns the same as a cell keeps it.
 pub(crate) fn padded_size_in_cell<A: Allocator>(props: &Props<A>, align: u32) -> u32
     ensures { result ≡ padded_size_of align props.now % 4294967296 }
 {
@@ -34,7 +34,7 @@ pub(crate) fn padded_size_in_cell<A: Allocator>(props: &Props<A>, align: u32) ->
     }
 }
 
-// How many bytes the payloads of images take, each rounded up by an alignment, at most 2^36.
+// Returns the size of all payloads of images, each rounded up to an alignment, at most 2^36.
 pub(crate) fn payloads_size<A: Allocator>(images: &[Node<A>], align: u32) -> u64
     ensures { result ≡ min (padded_sizes align (map entry images.now)) (2 ^ 36) }
 {

@@ -1,4 +1,4 @@
-//! A copy of the tree in which each payload has its place in cells.
+//! A copy of the tree with cells in place of its payloads.
 
 ghost use Rattle.std.specs.Prelude.{◌≡◌, ◌++◌, IfOk, OnOk, codes};
 ghost use Rattle.uimg_blob_writing.specs.Trees.{node_of};
@@ -14,7 +14,7 @@ use uimg_blob_writing::{
     copy_property, value_size,
 };
 
-// A property of four bytes.
+// Returns a property of one cell.
 fn cell<A: Allocator + Copy>(alloc: A, name: &[u8], number: u32) -> Result<Prop<A>, AllocError>
     ensures { IfOk result (λ prop. prop ≡ cell name.now number) }
 {
@@ -26,7 +26,7 @@ fn cell<A: Allocator + Copy>(alloc: A, name: &[u8], number: u32) -> Result<Prop<
     })
 }
 
-// Adds the two cells that stand in the place of a payload.
+// Adds the two cells that replace a payload.
 fn add_cells<A: Allocator + Copy>(
     alloc: A,
     props: &mut Vec<Prop<A>, A>,
@@ -47,7 +47,7 @@ fn add_cells<A: Allocator + Copy>(
     Ok(())
 }
 
-// A copy of properties, the first `data` moved to a place.
+// Copies properties, with two cells in place of the first `data`.
 fn place_properties<A: Allocator + Copy>(
     alloc: A,
     props: &Props<A>,
@@ -70,7 +70,7 @@ fn place_properties<A: Allocator + Copy>(
     Ok(Props::of(copies))
 }
 
-// A copy of an image, its payload moved to a place.
+// Copies an image, with two cells in place of its payload.
 fn place_image<A: Allocator + Copy>(
     alloc: A,
     image: &Node<A>,
@@ -89,8 +89,8 @@ fn place_image<A: Allocator + Copy>(
     })
 }
 
-// A copy of images, their payloads moved to places, one after the other, each rounded up by an
-// alignment.
+// Copies images, with two cells in place of each payload. The payloads follow one another from an
+// offset on, each rounded up to an alignment.
 fn place_images<A: Allocator + Copy>(
     alloc: A,
     images: &Nodes<A>,
@@ -110,7 +110,7 @@ fn place_images<A: Allocator + Copy>(
     Ok(Nodes::of(copies))
 }
 
-// A copy of the node `images`, the payloads of its children moved.
+// Copies the node `images`, with cells in place of its children's payloads.
 fn place_in<A: Allocator + Copy>(
     alloc: A,
     node: &Node<A>,
@@ -130,7 +130,7 @@ fn place_in<A: Allocator + Copy>(
     })
 }
 
-// A copy of the root's children, the payloads of the images moved.
+// Copies the root's children, with cells in place of the images' payloads.
 fn place_children<A: Allocator + Copy>(
     alloc: A,
     nodes: &Nodes<A>,
@@ -155,8 +155,8 @@ fn place_children<A: Allocator + Copy>(
     Ok(Nodes::of(copies))
 }
 
-// A copy of a tree whose payloads are moved: the first to a place that a cell of this name tells, the
-// others behind it, by an alignment. No payload of an image is copied.
+// Copies a tree, with two cells in place of each payload: `data-size`, and one of this name for its
+// offset, from `at` on, each rounded up to an alignment. No payload of an image is copied.
 pub(crate) fn place<A: Allocator + Copy>(
     alloc: A,
     tree: &Tree<A>,

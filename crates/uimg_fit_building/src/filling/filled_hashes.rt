@@ -21,14 +21,14 @@ use uimg_base::{Algo, before_nul};
 use uimg_blob_writing::{ByteList, Node, Props, Value};
 use uimg_fit_base::{AlgoSet, Digests, FitFault};
 
-// Whether a child of an image is a hash node.
+// Returns whether a child of an image is a hash node.
 fn is_hash(name: &[u8]) -> bool
     ensures { result ≡ is_hash name.now }
 {
     name.starts_with(b"hash")
 }
 
-// The algorithm of a hash node, if its name is known.
+// Returns the algorithm of a hash node, if its name is known.
 #[tactic(auto, using(crate::proofs::FilledHashLaws::no_name))]
 fn algo_of<A: Allocator>(props: &Props<A>) -> Option<Algo>
     ensures { result ≡ algo_by in_memory props.now }
@@ -40,7 +40,7 @@ fn algo_of<A: Allocator>(props: &Props<A>) -> Option<Algo>
     }
 }
 
-/// The algorithms of the hash nodes among nodes, if each is known.
+/// Returns the algorithms of the hash nodes among nodes, if all are known.
 #[tactic(auto, unfolding(crate::specs::PayloadSums::all_marked))]
 pub(crate) fn algos_of<A: Allocator>(nodes: &[Node<A>]) -> Option<AlgoSet>
     ensures { result ≡ all_marked no_algos (filter (λ h. is_hash h.name) (map entry nodes.now)) }
@@ -57,7 +57,7 @@ pub(crate) fn algos_of<A: Allocator>(nodes: &[Node<A>]) -> Option<AlgoSet>
     Some(set)
 }
 
-// A digest as a value.
+// Returns a digest as a value.
 fn digest_value<A: Allocator>(alloc: A, digests: &Digests, algo: Algo) -> Result<Value<A>, FitFault>
     ensures digest { (message : List ℕ) → AreDigests digests.now message →
         has (set_of digests.now) algo ≡ true → IfOk result (λ v. content v ≡ bytes (digest_by algo message)) }

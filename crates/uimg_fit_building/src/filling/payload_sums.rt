@@ -1,4 +1,4 @@
-//! A payload is summed once, by the algorithms in use.
+//! Sums of a payload by all algorithms in use, in one pass.
 
 ghost use Rattle.std.specs.Prelude.{◌≡◌, length, IsTrue, IsOkUnless, IfOk, OnOk};
 ghost use Rattle.uimg_base.specs.Device.{RisesIf};
@@ -15,7 +15,7 @@ use uimg_base::{Bundle, Files, Source, WINDOW};
 use uimg_blob_writing::Value;
 use uimg_fit_base::{AlgoSet, Digests, FitFault, feed_through};
 
-// Feeds a source that has so many bytes; one of another size is a failed read.
+// Feeds a source of this size; another size counts as a failed read.
 fn feed_source<S: Source>(bundle: &mut Bundle, source: &mut S, size: u64) -> Result<(), FitFault>
     ensures fault { IsOkUnless result ReadFailed }
     ensures sized { OnOk result (length (S.device source.old).bytes ≡ size) }
@@ -35,7 +35,7 @@ fn feed_source<S: Source>(bundle: &mut Bundle, source: &mut S, size: u64) -> Res
     }
 }
 
-// Feeds the file of a name, which has so many bytes: it is opened once and read once.
+// Feeds the file of a name and a size: opens it once and reads it once.
 fn feed_file<F: Files>(
     bundle: &mut Bundle,
     name: &[u8],
@@ -71,7 +71,7 @@ fn feed_payload<F: Files, A: Allocator>(
     }
 }
 
-/// The digests of a payload by the algorithms in use; a file is opened once and read once.
+/// Returns the digests of a payload by the algorithms of a set; a file is opened and read once.
 pub(crate) fn payload_digests<F: Files, A: Allocator>(
     set: AlgoSet,
     payload: &Value<A>,

@@ -44,7 +44,7 @@ fn fuse_source<S: Source>(source: S, calls: u64) -> FuseSource<S> {
     FuseSource::new(source, calls)
 }
 
-// Whether a source, of which nothing was asked yet, has three bytes.
+// Returns whether a source that was not read yet has three bytes.
 fn has_abc<S: Source>(source: &mut S) -> bool {
     let mut to = [0; 3];
     size(source) == Ok(3)
@@ -112,7 +112,7 @@ fn file_shelf<'a, R: rt::Files + AllocGlobal>(rt: &'a R, path: &'a str) -> FileS
     FileShelf::new(rt, path)
 }
 
-// Whether a shelf keeps what is written to it.
+// Returns whether a shelf keeps what is written to it.
 fn keeps_abc<H: Shelf>(mut shelf: H) -> bool {
     if shelf.write(b"abc").is_err() {
         return false;
@@ -146,7 +146,7 @@ fn fuse_files<F: Files>(files: F, from: u64, turn: u64, calls: u64) -> FuseFiles
     FuseFiles::new(files, from, turn, calls)
 }
 
-// Whether files have one of three bytes.
+// Returns whether files have one of three bytes.
 fn open_abc<F: Files>(files: &mut F) -> bool {
     match open(files, b"abc.bin") {
         Ok(mut source) => has_abc(&mut source),
@@ -223,7 +223,7 @@ fn algo_named(name: &[u8]) -> Option<Algo> {
     Algo::named(name)
 }
 
-// The length of the digest by an algorithm's name.
+// Returns the length of the digest by an algorithm's name.
 fn length_by(name: &str) -> usize {
     match algo_named(name.as_bytes()) {
         Some(algo) => algo.len(),
@@ -310,7 +310,7 @@ fn summed<M: Summer, S: Source, A: Allocator>(
     sum_range::<M, S, A>(source, room, at, len, to)
 }
 
-// The device that a copy stopped at.
+// Returns the device at which a copy stopped.
 fn stopped(fault: MoveFault) -> &'static str {
     match fault {
         MoveFault::Read => "read",
@@ -352,7 +352,7 @@ fn texts(rt: HostRuntime) {
     assert!(rt; time(0).as_slice() == b"Thu Jan  1 00:00:00 1970".as_slice());
 }
 
-// The codes of short names.
+// Returns the codes of short names.
 fn codes(names: [&[u8]; 4]) -> [Option<u8>; 4] {
     [
         os_code(names[0]),
@@ -362,7 +362,7 @@ fn codes(names: [&[u8]; 4]) -> [Option<u8>; 4] {
     ]
 }
 
-// The printed names of codes.
+// Returns the printed names of codes.
 fn printed(codes: [u8; 4]) -> [&'static str; 4] {
     [
         os_text(codes[0]),
@@ -380,7 +380,7 @@ fn names(rt: HostRuntime) {
     assert!(rt; printed == ["Linux", "AArch64", "Kernel Image", "uncompressed"]);
 }
 
-// The number of a status.
+// Returns the number of a status.
 fn number(status: Status) -> u8 {
     match status {
         Status::Done => 0,

@@ -88,7 +88,7 @@ const KEYS: [(&str, Key); 19] = [
     ("loadables", Key::Loadables),
 ];
 
-// A blob with an image of three bytes, and no configuration.
+// Returns a blob with an image of three bytes, and no configuration.
 fn blob_of(alloc: Global) -> Result<Vec<u8>, AllocError> {
     let mut sample: Sample<Global> = Sample::new(alloc);
     sample.begin(b"")?;
@@ -166,7 +166,7 @@ fn list_of(alloc: Global, bytes: &[u8]) -> Result<ByteList<Global>, AllocError> 
     Ok(ByteList::of(Vec::from_slice(alloc, bytes)?))
 }
 
-// A root with a property of three bytes, and one that is a file of as many.
+// Returns a root with a property of three bytes, and one that is a file of three bytes.
 fn tree_of(alloc: Global) -> Result<Tree<Global>, AllocError> {
     let mut props = Vec::new(alloc);
     props.push(Prop {
@@ -225,7 +225,7 @@ fn lists(rt: HostRuntime) -> Result<(), Fail> {
     Ok(())
 }
 
-/// The number of a fault.
+/// Returns the number of a fault.
 pub(super) fn number(fault: BlobFault) -> u8 {
     match fault {
         BlobFault::TooShort => 1,
@@ -242,7 +242,7 @@ pub(super) fn number(fault: BlobFault) -> u8 {
     }
 }
 
-// The number of a blob's fault and its offset, or none where a read failed.
+// Returns the number of a blob's fault and its offset, or nothing after a failed read.
 fn number_of(fault: IndexFault) -> Option<(u8, u64)> {
     match fault {
         IndexFault::Blob(fault, offset) => Some((number(fault), offset)),
@@ -250,7 +250,7 @@ fn number_of(fault: IndexFault) -> Option<(u8, u64)> {
     }
 }
 
-// The letter of what a tree's writing stopped at.
+// Returns the letter of a fault of writing.
 fn letter(fault: TreeFault) -> char {
     match fault {
         TreeFault::Put => 'p',

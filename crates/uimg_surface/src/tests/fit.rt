@@ -53,7 +53,7 @@ fn built<F: Files, W: Write, A: Allocator + Copy>(
     build(alloc, tree, files, placement, out)
 }
 
-// The image of the source, its payload at a placement.
+// Returns the image of the source, with its payload at a placement.
 fn image(alloc: Global, placement: Placement) -> Vec<u8> {
     let mut files = MemFiles::new(&FILES);
     let Ok(tree) = compile(alloc, SOURCE, &mut files) else {
@@ -69,7 +69,7 @@ fn image(alloc: Global, placement: Placement) -> Vec<u8> {
     }
 }
 
-// Whether the calls that read an image find its payload.
+// Returns whether the calls that read an image find its payload.
 fn reads_payload(alloc: Global, image: &[u8]) -> bool {
     let mut source = MemSource::new(image);
     let mut room = Room::new(alloc);
@@ -91,11 +91,11 @@ fn images(rt: HostRuntime) {
         let image = image(rt.alloc(), *placement);
         assert!(rt; reads_payload(rt.alloc(), &image), "{}", image.len());
     }
-    // Behind the blob a payload takes a multiple of 4.
+    // After the blob a payload takes a multiple of 4.
     assert_eq!(rt; image(rt.alloc(), Placement::At(1024)).len(), 1028);
 }
 
-/// The number of a fault of images.
+/// Returns the number of a fault of images.
 pub(super) fn number(fault: FitFault) -> u8 {
     match fault {
         FitFault::NoImages => 1,
@@ -111,7 +111,7 @@ pub(super) fn number(fault: FitFault) -> u8 {
     }
 }
 
-// The number of a fault, with the offset of a blob's, or none where a device failed.
+// Returns the number of a fault, with the offset of a blob's, or nothing if a device failed.
 fn number_of(fault: Fault) -> Option<(u8, u64)> {
     match fault {
         Fault::Blob(fault, offset) => Some((blob::number(fault), offset)),

@@ -23,7 +23,7 @@ fn sources(rt: HostRuntime) {
     assert_eq!(rt; tree.root.children.items().len(), 1);
 }
 
-// The number of a kind of fault.
+// Returns the number of a kind of fault.
 fn number(kind: FaultKind) -> u8 {
     match kind {
         FaultKind::BadToken => 1,
@@ -36,7 +36,7 @@ fn number(kind: FaultKind) -> u8 {
     }
 }
 
-// The number and the line of a fault.
+// Returns the number and the line of a fault.
 fn number_at(fault: ItsFault) -> (u8, u64) {
     let ItsFault { kind, line } = fault;
     (number(kind), line)

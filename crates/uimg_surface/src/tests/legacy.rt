@@ -53,7 +53,7 @@ fn built<S: Source, W: Write>(
     build(options, parts, out)
 }
 
-/// The options of an image with a kernel.
+/// Returns the options of an image with a kernel.
 pub(super) fn kernel() -> Options {
     let (time, load, ep): (u32, u32, u32) = (1_700_000_000, 0x80000, 0x80000);
     let (os, arch, kind, comp): (u8, u8, u8, u8) = (5, 22, 2, 0);
@@ -70,7 +70,7 @@ pub(super) fn kernel() -> Options {
     }
 }
 
-// An image with a kernel of three bytes.
+// Returns an image with a kernel of three bytes.
 fn image(alloc: Global) -> Vec<u8> {
     let mut out = Out::new(Vec::new(alloc));
     let mut parts = [MemSource::new(b"abc")];
@@ -129,7 +129,7 @@ fn commands(rt: HostRuntime) {
     assert!(rt; out.into_inner().as_slice() == b"abc".as_slice());
 }
 
-/// The number of a fault.
+/// Returns the number of a fault.
 pub(super) fn number(fault: LegacyFault) -> u8 {
     match fault {
         LegacyFault::TooShort => 1,
@@ -145,7 +145,7 @@ pub(super) fn number(fault: LegacyFault) -> u8 {
     }
 }
 
-// The number of a fault of an image, or none where a device failed.
+// Returns the number of a fault of an image, or nothing if a device failed.
 fn number_of(fault: Fault) -> Option<u8> {
     match fault {
         Fault::Legacy(fault) => Some(number(fault)),

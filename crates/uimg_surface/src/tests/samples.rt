@@ -1,4 +1,4 @@
-//! What the calls are tried on.
+//! Samples that the calls are tried on.
 
 /// A file, and a source of a FIT image that has it as its payload.
 pub(super) const FILES: [(&[u8], &[u8]); 2] = [(b"abc.bin", b"abc"), (b"k.its", SOURCE)];

@@ -48,17 +48,17 @@ fn disk_files<'a, R: rt::Files + AllocGlobal>(rt: &'a R, folder: &'a str) -> Dis
     DiskFiles::new(rt, folder)
 }
 
-// The making of a legacy image of one file.
+// Returns the command that makes a legacy image of one file.
 fn of_parts(options: Options, files: Vec<Vec<u8>>) -> MakeCommand {
     MakeCommand::Parts { options, files }
 }
 
-// The making of a FIT image of a source.
+// Returns the command that makes a FIT image of a source.
 fn of_source(source: Vec<u8>, placement: Placement) -> MakeCommand {
     MakeCommand::Tree { source, placement }
 }
 
-// The two makings, by a letter.
+// Returns one of the two commands, by its letter.
 fn making(alloc: Global, letter: char) -> Result<MakeCommand, AllocError> {
     if letter == 'f' {
         return Ok(of_source(Vec::from_slice(alloc, b"k.its")?, Placement::At(1024)));
@@ -74,7 +74,7 @@ const LIST: Command = Command {
     form: Form::Guess,
 };
 
-// What a command writes about a source.
+// Returns what a command writes about a source.
 fn text_of<S: Source>(alloc: Global, command: &Command, source: &mut S) -> Vec<u8> {
     let mut out = Out::new(Vec::new(alloc));
     match ran(command, source, &mut Room::new(alloc), &mut out) {
@@ -83,7 +83,7 @@ fn text_of<S: Source>(alloc: Global, command: &Command, source: &mut S) -> Vec<u
     }
 }
 
-// Whether an image is made, listed as it is by itself, and its payload extracted.
+// Returns whether an image is made, listed as it is when read again, and its payload extracted.
 fn makes<F: Files>(
     alloc: Global,
     letter: char,
@@ -145,7 +145,7 @@ fn command_lines(rt: HostRuntime) {
     assert!(rt; err.is_empty());
 }
 
-// The letter of a fault, and its number or its offset.
+// Returns a letter for a fault, and its number (a blob's offset is added), or the line of a source.
 fn told(fault: Fault) -> (char, u64) {
     match fault {
         Fault::Legacy(fault) => ('L', legacy::number(fault) as u64),
@@ -164,7 +164,7 @@ fn line(fault: ItsFault) -> u64 {
     fault.line
 }
 
-// How the listing of bytes is refused.
+// Returns the fault of listing bytes.
 fn refused(alloc: Global, bytes: &[u8]) -> Option<(char, u64)> {
     let mut source = MemSource::new(bytes);
     let mut out = Out::new(Vec::new(alloc));

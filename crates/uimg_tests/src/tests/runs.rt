@@ -3,7 +3,7 @@ use std::alloc::Global;
 use uimg_base::{FuseSource, FuseWriter, MemSource, Out, Room, Source, Status};
 use uimg_engine::{Action, Command, Fault, Form, run};
 
-/// As many calls, or bytes, as there are.
+/// No limit of calls, or of bytes.
 pub(super) const ALL: u64 = u64::MAX;
 
 /// What a command left: its result and its text, how many bytes it requested, how many its room

@@ -36,7 +36,7 @@ pub(super) const FOUR_HASH: &str = "/dts-v1/;
 };
 ";
 
-/// The placement of a word: `inside`, `after`, or a position.
+/// Returns the placement of a word: `inside`, `after`, or a position.
 pub(super) fn placement(word: &str) -> Placement {
     match word {
         "inside" => Placement::Inside,
@@ -71,8 +71,8 @@ pub(super) fn filled<F: Files>(
     }
 }
 
-/// What is answered, and written, where a tree is built by the word of a placement, which may have an
-/// alignment, as `after by 8`.
+/// Builds a tree at the placement of a word, which may have an alignment, as `after by 8`. Returns
+/// the result and what was written.
 pub(super) fn built<F: Files>(
     alloc: Global,
     tree: &Tree<Global>,

@@ -13,12 +13,12 @@ use uimg_blob_writing::{
     ByteList, Node, Nodes, Prop, Props, Tree, Value, WORD_ALIGNMENT, measure, measure_by,
 };
 
-// What is measured of a tree: its size, or the fault.
+// Measures a tree. Returns its size, or the fault.
 fn measured(alloc: Global, tree: &Tree<Global>) -> Result<String, AllocError> {
     measured_by(alloc, tree, WORD_ALIGNMENT)
 }
 
-// The same by an alignment.
+// Measures a tree with an alignment.
 fn measured_by(alloc: Global, tree: &Tree<Global>, align: u32) -> Result<String, AllocError> {
     match measure_by(alloc, tree, align) {
         Ok(layout) => {
@@ -156,7 +156,7 @@ fn align_rows(rt: HostRuntime) -> Result<(), Fail> {
     Ok(())
 }
 
-// With an alignment a blob is the same up to its end, but for its totalsize; zeros follow.
+// With an alignment a blob is the same except for its totalsize; zeros follow its end.
 #[test]
 fn aligned_blobs(rt: HostRuntime) -> Result<(), Fail> {
     let alloc = rt.alloc();

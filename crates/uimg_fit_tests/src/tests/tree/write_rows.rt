@@ -99,7 +99,7 @@ fn file_rows(rt: HostRuntime) {
     }
 }
 
-// Whether a writer that takes so many bytes of a tree's blob leaves that prefix.
+// Returns whether a writer that takes this many bytes of a tree's blob leaves that prefix.
 fn leaves_prefix(alloc: Global, tree: &Tree<Global>, whole: &[u8], taken: usize) -> bool {
     let Ok(layout) = measure(alloc, tree) else {
         return false;
