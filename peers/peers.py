@@ -42,8 +42,8 @@ COMPRESSIONS = "none gzip bzip2 lzma lzo lz4 zstd".split()
 ENTRIES = [(), ("-a", "80000"), ("-a", "0x1000", "-e", "1040"), ("-e", "fffffff0")]
 PLACEMENTS = [
     ("inside", []),
-    ("behind the tree, `-E`", ["-E"]),
-    ("at a position, `-E -p`", ["-E", "-p", "8000"]),
+    ("after the tree, `-E`", ["-E"]),
+    ("from an offset on, `-E -p`", ["-E", "-p", "8000"]),
 ]
 DATA = [b"abc", b"defg", b"hijkl" * 2000, b"\0", bytes(range(256)) * 33, b"ab"]
 CODES = [
@@ -290,7 +290,7 @@ def print_fits(uimg):
 def print_lines(uimg):
     """Prints the table of command lines with the old names."""
     count, known = old_names.compare(uimg)
-    print("\n| Command lines by the old names | Differences | Otherwise, for a reason that is told |")
+    print("\n| Command lines by the old names | Differences | Different for a listed reason |")
     print("|---|---|---|")
     print(f"| {count.images} | {len(count.differences)} | {known} |", flush=True)
     return count.differences
