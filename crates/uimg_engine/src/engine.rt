@@ -50,24 +50,6 @@ fn run_fit<S: Source, A: Allocator, W: Write>(
     Ok(status)
 }
 
-// Carries out a command with the engine of the format that the file is read in.
-pub(crate) fn run_by_format<S: Source, A: Allocator, W: Write>(
-    naming: Naming,
-    command: &Command,
-    source: &mut S,
-    room: &mut Room<A>,
-    out: &mut Out<W>,
-) -> Result<Status, Fault>
-    ensures { Runs naming command.now result S.device source room out }
-{
-    room.clear();
-    if is_fit(command.form, source)? {
-        run_fit(naming, command.action, source, room, out)
-    } else {
-        run_legacy(naming, command.action, source, room, out)
-    }
-}
-
 /// Carries out a command on an image: writes its listing (with the names of the profile), its
 /// verification report, one part of a legacy image or one payload of a FIT image to `out`. Returns
 /// the status.
@@ -118,26 +100,12 @@ pub fn run_by<S: Source, A: Allocator, W: Write>(
     room: &mut Room<A>,
     out: &mut Out<W>,
 ) -> Result<Status, Fault>
-    ensures headline { HonestSource S.device source → NoReadFails S.device source →
-        NoWriteFails out → GrowthsSucceed command.now S.device source room →
-        Meets (outcome_of naming command.now) result S.device source out }
-    ensures prefix { HonestSource S.device source →
-        WritesPrefix (outcome_of naming command.now) S.device source out }
-    ensures read { ExactlyIfRose (result ≡ Err Fault.Read)
-        (S.device source.old).failures (S.device source.new).failures }
-    ensures put { ExactlyIfRose (result ≡ Err Fault.Put) out.old.faults out.new.faults }
-    ensures no_memory { ExactlyIfRose (is_no_memory result ≡ true)
-        room.old.refused room.new.refused }
-    ensures not_making { is_of_making result ≡ false }
-    ensures asked { HonestSource S.device source → AsksAtMost (work command.now) S.device source }
-    ensures ahead { HonestSource S.device source →
-        ExtractsAhead naming command.now S.device source out }
-    ensures untouched { KeepsOutput command.now.action (is_refused result) out.old out.new }
-    ensures peak { HonestSource S.device source →
-        PeaksAtMost (held_bytes (nodes_of command.now (S.device source.old).bytes)) room }
-    ensures most { PeaksAtMost (8320 + 16 * length (S.device source.old).bytes) room }
-    ensures legacy { IsLegacy command.now.form (S.device source.old) → OnlyClears room }
-    ensures same { SameDevice (S.device source.old) (S.device source.new) }
+    ensures { Runs naming command.now result S.device source room out }
 {
-    run_by_format(naming, command, source, room, out)
+    room.clear();
+    if is_fit(command.form, source)? {
+        run_fit(naming, command.action, source, room, out)
+    } else {
+        run_legacy(naming, command.action, source, room, out)
+    }
 }

@@ -7,7 +7,7 @@ ghost use Rattle.uimg_engine.specs.Locating.{FindsSpan, StandsIn};
 ghost use Rattle.uimg_requests.specs.Commands.{HasFitNames};
 ghost use Rattle.uimg_engine.specs.Commands.{bytes_among, LacksFile, MakesCommand, LeavesRoom, HoldsCommand};
 
-use crate::engine::run_by_format;
+use crate::engine::run_by;
 use crate::fault::Fault;
 use crate::locating::locate;
 use crate::making::make_by;
@@ -40,7 +40,7 @@ pub fn run_in_memory<A: Allocator, B: Allocator>(
 {
     let mut source = MemSource::new(image);
     let mut out = Out::new(Vec::new(alloc));
-    let end = run_by_format(naming, command, &mut source, room, &mut out);
+    let end = run_by(naming, command, &mut source, room, &mut out);
     (end, out.into_inner())
 }
 

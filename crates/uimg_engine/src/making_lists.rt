@@ -1,7 +1,7 @@
 //! The listing of an image that was made.
 ghost use Rattle.uimg_engine.specs.Commands.{Lists};
 
-use crate::engine::{run_by_format, run_legacy};
+use crate::engine::{run_by, run_legacy};
 use crate::fault::Fault;
 use std::alloc::Allocator;
 use std::io::Write;
@@ -27,7 +27,7 @@ pub(crate) fn list_kept<S: Source, A: Allocator, W: Write>(
                 action: Action::List,
                 form: Form::Guess,
             };
-            run_by_format(naming, &command, kept, room, out)
+            run_by(naming, &command, kept, room, out)
         },
     }
 }
