@@ -9,11 +9,11 @@ Helps
   Commands:
     mkimage    Make an image from files, or list one
     dumpimage  List an image, or extract a part of it
-    verify     Check the checksums and hashes of an image, and report each
-    check      Check many images, with a line for each
-    unpack     Put the payloads of an image in a folder, where their hashes are right
-    info       Tell the facts of an image as JSON, for scripts
-    map        Show what lies where in the file of an image, whole or broken
+    verify     Verify the checksums and hashes of an image, a line for each
+    check      Check many images, a line for each
+    unpack     Write the payloads of an image to a folder, if their hashes are right
+    info       Print the facts of an image as JSON, for scripts
+    map        Show the layout of an image's file, even of a broken one
   
   Options:
         --version  Print the name and the version
@@ -31,7 +31,7 @@ Helps
   Usage: uimg mkimage [OPTIONS] <image>
   
   Arguments:
-    <image>  The image to make, or with -l to list
+    <image>  The image to make, or with -l the image to list
   
   Options:
     -A <arch>      The architecture [default: ppc]
@@ -41,11 +41,11 @@ Helps
     -a <load>      The load address, hexadecimal [default: 0]
     -e <entry>     The entry point, hexadecimal [default: the load address]
     -n <name>      The image's name
-    -d <data>      The data's file; for multi and script several, with colons between them
-    -f <source>    The image source of a FIT image
-    -E             With -f: place the data after the tree
-    -p <position>  With -f and -E: place the data at this position, hexadecimal
-    -l             List the image, and make none
+    -d <data>      The file with the data; for multi and script, files separated by colons
+    -f <source>    The image-tree source of a FIT image
+    -E             With -f: place the data after the blob
+    -p <position>  With -f and -E: place the data at this offset of the file, hexadecimal
+    -l             List the image instead of making one
     -h, --help     Print help
   
   Short names:
@@ -56,10 +56,9 @@ Helps
             flat_dt (not for -d) kernel_noload
     <comp>  none gzip bzip2 lzma lzo lz4 zstd
   
-  A value that begins with '-' stands right behind its option, as in -n-x.
-  With -f the options before -d have no effect, and with -d -E and -p have none.
-  A position of 0 is as none. Files that the image source names are looked for in
-  its folder, unless their names begin with '/'.
+  A value that begins with '-' follows its option directly, as in -n-x. -f ignores
+  the options from -A to -n, and -d ignores -E and -p. -p 0 is the same as no -p.
+  Relative file names in the image source start from its folder.
   
   Examples:
     uimg mkimage -A arm64 -C none -a 80000 -n 'kernel 6.1' -d Image uImage
@@ -67,10 +66,10 @@ Helps
     uimg mkimage -f kernel.its -E -p 1000 kernel.itb
   
   Exit status:
-    0  The image was made, or listed
+    0  The image was made or listed
     1  The image, a part or the image source is refused
-    2  The command line is wrong, or the image is one of the files it is made of
-    3  A file cannot be opened, or a read, a write or memory failed
+    2  The command line is wrong, or the image would replace a file that it is made of
+    3  A file cannot be opened, a read or write failed, or memory ran out
   $ uimg mkimage -h > short && uimg mkimage --help | cmp - short
   $ uimg dumpimage --help
   List an image, or extract a part of it
@@ -82,17 +81,17 @@ Helps
   
   Options:
     -l             List the image on standard output
-    -T <type>      Ask for a legacy or a FIT image, by a short name below
-    -p <position>  Extract the part or payload of this number, counted from 0
-    -o <outfile>   Write what is extracted to this file
+    -T <type>      Read the image as a FIT or legacy image, by a short name below
+    -p <position>  Extract the part or payload at this position, counted from 0
+    -o <outfile>   Write the part or payload to this file
     -h, --help     Print help
   
   Short names:
     <type>  standalone kernel ramdisk multi firmware script filesystem
             flat_dt kernel_noload
   
-  flat_dt asks for a FIT image, each other name for a legacy image, whatever type
-  its header has. Without -T the first four bytes tell the format.
+  flat_dt reads the image as a FIT image, every other name as a legacy image,
+  whatever type its header has. Without -T the first four bytes decide.
   
   Examples:
     uimg dumpimage -l uImage
@@ -102,11 +101,11 @@ Helps
   Exit status:
     0  The image was listed, or the part extracted
     1  The image or the part is refused
-    2  The command line is wrong, or the outfile is the image
-    3  A file cannot be opened, or a read, a write or memory failed
+    2  The command line is wrong, or the outfile would replace the image
+    3  A file cannot be opened, a read or write failed, or memory ran out
   $ uimg dumpimage -h > short && uimg dumpimage --help | cmp - short
   $ uimg verify -h
-  Check the checksums and hashes of an image, and report each
+  Verify the checksums and hashes of an image, a line for each
   
   Usage: uimg verify <image>
   
@@ -116,24 +115,24 @@ Helps
   Options:
     -h, --help  Print help
   
-  The checksums of a legacy image are those of the header and of the data. The
-  table of sizes of the types multi and script is not checked: dumpimage -l reads
-  it. Of a FIT image each hash node of each image is reported on: ok, bad,
-  malformed or unsupported. An image without hash nodes is unhashed. Signatures
-  and the hashes of configurations are not checked.
+  Prints a line for each checksum: of a legacy image those of the header and of
+  the data, of a FIT image each hash node of each image. A line ends with ok, bad,
+  malformed or unsupported, or with unhashed for an image without hash nodes.
+  The table of sizes of the types multi and script is not checked (dumpimage -l
+  reads it), and neither are signatures and the hashes of configurations.
   
   Examples:
     uimg verify uImage
     uimg verify kernel.itb && cp kernel.itb /boot
   
   Exit status:
-    0  Each line ends with ok or unhashed, or there is none
+    0  Each line ends with ok or unhashed, or there is no line
     1  A line ends with another word, or the image is refused
     2  The command line is wrong
-    3  A file cannot be opened, or a read, a write or memory failed
+    3  A file cannot be opened, a read or write failed, or memory ran out
   $ uimg verify --help > short && uimg verify -h | cmp - short
   $ uimg check -h
-  Check many images, with a line for each
+  Check many images, a line for each
   
   Usage: uimg check [OPTIONS] [image]...
   
@@ -141,48 +140,46 @@ Helps
     [image]...  The images
   
   Options:
-        --need <algo>        Ask for a hash by this algorithm or a stronger one
-        --strict             Ask for a hash of each image, and for what configurations name
-        --files-from <file>  Check the images that this file names too, a line each
-    -0                       End each name of that file by a NUL
-        --json               Write an object of JSON for each image
+        --need <algo>        Require a hash by this algorithm or a stronger one
+        --strict             Require a hash of each image, and an image for each name in configurations
+        --files-from <file>  Also check the images in this file, one path a line
+    -0                       Paths in that file end with NUL, not with a newline
+        --json               Print a JSON object for each image
     -h, --help               Print help
   
   Algorithms, from the weakest to the strongest:
     <algo>  crc32 md5 sha1 sha256 sha384 sha512
   
-  A line for each image: its path, and what was found first.
-    ok           Each hash is right, or both checksums of a legacy image are; with
-                 --strict a FIT's line ends with how many nodes its configurations
-                 have, if any: 2 nodes of configurations unchecked
-    unhashed     The same, but this image of a FIT has no hash
-    bad          This hash of an image is not right, or a checksum is not
-    malformed    This hash of an image has no algorithm, or no value of its length
-    unsupported  This hash of an image has an unknown algorithm
-    weak         This image has no hash as strong as --need, or is a legacy image;
-                 --strict alone asks for any hash
-    empty        There is no image in the FIT, where --need or --strict is given
-    missing      With --strict: this configuration gives this name, by kernel, ramdisk,
-                 fdt, loadables, firmware, fpga, setup, standalone or script, and no
-                 image has it; or the default, and no configuration has it
-    overlapping  With this image there are more bytes to hash than the file has
-    refused      The image is refused by this fault
-    failed       The file cannot be opened, or a read or memory failed
-  Control characters and \ are written \xNN in a name. The names of --files-from -
-  are those of standard input. With --json a line is an object: path, status,
-  verdict (the word), and what is known of format, images, hashes, unchecked,
-  checksums, algo, image, hash, configuration, property, name, fault, message and
-  offset.
-  Signatures and the hashes of configurations are not checked; --strict counts those
-  of configurations.
+  A line has the path of the image and the first finding:
+    ok           All hashes are right, or both checksums of a legacy image. With
+                 --strict the line of a FIT also counts the nodes of its
+                 configurations, if any: 2 nodes of configurations unchecked
+    unhashed     The same, but this image of the FIT has no hash
+    bad          This hash of this image is wrong, or a checksum of a legacy image
+    malformed    This hash has no algorithm, or a value of the wrong length
+    unsupported  This hash has an unknown algorithm
+    weak         This image has no hash as strong as --need, or with --strict none;
+                 a legacy image has crc32
+    empty        The FIT has no images (with --need or --strict)
+    missing      With --strict: no image has this name, which this configuration
+                 gives by kernel, ramdisk, fdt, loadables, firmware, fpga, setup,
+                 standalone or script; or no configuration is the default
+    overlapping  With this image, the payloads to hash are longer than the file
+    refused      The image is refused, with this fault
+    failed       The file cannot be opened, a read failed, or memory ran out
+  Names print control characters and \ as \xNN. --files-from - reads standard
+  input. --json prints path, status and verdict (the word), and depending on it
+  format, images, hashes, unchecked, checksums, algo, image, hash, configuration,
+  property, name, fault, message and offset.
+  Signatures and the hashes of configurations are not checked.
   
   Examples:
     uimg check --strict --need sha256 kernel.itb rescue.itb
     find /srv/images -name '*.itb' -print0 | uimg check -0 --files-from -
   
-  Exit status: the greatest of all lines
+  Exit status, the greatest of all lines:
     0  ok or unhashed
-    1  Another word than these and failed
+    1  Any other word except failed
     2  The command line is wrong
     3  failed, or a line cannot be written
   $ uimg check --help > short && uimg check -h | cmp - short
@@ -199,11 +196,11 @@ Without words the command line is wrong: the help goes to standard error.
   Commands:
     mkimage    Make an image from files, or list one
     dumpimage  List an image, or extract a part of it
-    verify     Check the checksums and hashes of an image, and report each
-    check      Check many images, with a line for each
-    unpack     Put the payloads of an image in a folder, where their hashes are right
-    info       Tell the facts of an image as JSON, for scripts
-    map        Show what lies where in the file of an image, whole or broken
+    verify     Verify the checksums and hashes of an image, a line for each
+    check      Check many images, a line for each
+    unpack     Write the payloads of an image to a folder, if their hashes are right
+    info       Print the facts of an image as JSON, for scripts
+    map        Show the layout of an image's file, even of a broken one
   
   Options:
         --version  Print the name and the version

@@ -257,7 +257,7 @@ Wrong command lines:
   For more information, try '--help'.
   [2]
   $ uimg info --help
-  Tell the facts of an image as JSON, for scripts
+  Print the facts of an image as JSON, for scripts
   
   Usage: uimg info [OPTIONS] <image>
   
@@ -265,26 +265,26 @@ Wrong command lines:
     <image>  The image
   
   Options:
-        --json  Write an object of JSON, as is done without it too
+        --json  Print a JSON object (the default)
     -h, --help  Print help
   
-  One line is written, an object. Of a FIT image it has path, status, format, size,
+  Prints one line, a JSON object. Of a FIT image it has path, status, format, size,
   totalsize, description, timestamp, default, reservations, images and
-  configurations; an image has name, description, type, arch, os, compression, load,
-  entry, offset and data-size (where its payload stands), hashes, and where it has no
-  payload in the file fault and message; a configuration what its properties name,
-  nodes and properties. Of a legacy image it has path, status, format, size, name,
-  time, load, entry, header-crc, data-crc, os, arch, type and compression, each with
-  its code, data-size and parts. What is missing in the image is left out. An image
-  that is refused, or cannot be read, has the line that check --json has of it.
-  Hashes and the checksums of a legacy image's data are told, and not checked.
+  configurations. An image has name, description, type, arch, os, compression, load,
+  entry, offset and data-size of its payload, and hashes; without a payload in the
+  file it has fault and message. A configuration has the names that its properties
+  give, nodes and properties. Of a legacy image the object has path, status, format,
+  size, name, time, load, entry, header-crc, data-crc, os, arch, type and compression
+  (each with its code), data-size and parts. What the image lacks is left out. An
+  image that is refused or cannot be read has the line of check --json.
+  Hashes and the checksum of a legacy image's data are printed, not checked.
   
   Examples:
     uimg info kernel.itb
     uimg info kernel.itb | jq -r '.images[] | select(.type == "kernel") | .load'
   
   Exit status:
-    0  The facts are told
+    0  The facts were printed
     1  The image is refused
     2  The command line is wrong
-    3  The file cannot be opened, or a read, a write or memory failed
+    3  A file cannot be opened, a read or write failed, or memory ran out

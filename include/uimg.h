@@ -89,9 +89,11 @@ enum uimg_need {
     UIMG_SHA512 = 6
 };
 
-/* Checks an image without printing (needed and written are 0). Returns report->status: 0 only if uimg_verify returns 0,
-   the FIT has an image, and each of its images has a right hash by the needed algorithm or a stronger one. A legacy
-   image has CRC-32 alone. No image meets a number that is not in the list above. */
+/* Checks an image without printing, like `uimg check --need` (needed and written are 0). Returns report->status: 0 only
+   if uimg_verify returns 0, the FIT has an image, each of its images has a right hash by the needed algorithm or a
+   stronger one, and their payloads together are not longer than the file. Checks images in their order, and stops at
+   the first that is not right. So it reads no more bytes of payloads than the file has, and takes no memory for a text.
+   A legacy image has CRC-32 alone. No image meets a number that is not in the list above. */
 uint32_t uimg_check(const uint8_t *image, size_t image_size, uint32_t need, uimg_report *report);
 
 /* Locates the part of a legacy image, or the payload of an image in a FIT, by its position, counted from 0. Returns

@@ -161,9 +161,9 @@ def verify(image):
 
 
 def check(image, need="sha256"):
-    """Checks an image strictly: as verify, but DONE only if there is an image, and each has a
-    hash node that is compared by this algorithm or a stronger one, of crc32, md5, sha1, sha256,
-    sha384 and sha512. There is no text."""
+    """Checks an image, as `uimg check --need`: DONE only if verify returns DONE, there is an image,
+    and each has a hash node that is compared by this algorithm or a stronger one, of crc32, md5,
+    sha1, sha256, sha384 and sha512. There is no text."""
     pointer, size, _keep = _passed(image)
     report = _Report()
     _library.uimg_check(pointer, size, _STRENGTHS.index(need) + 1, ctypes.byref(report))

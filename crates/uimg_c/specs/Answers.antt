@@ -3,8 +3,9 @@ use Rattle.std.specs.Prelude.{◌≡◌, ℕ, min, List, ◌++◌, length, take,
 use Rattle.std.specs.Prelude.{Result, Ok, Err}
 use Rattle.uimg_sums.specs.declared.algo.Algo.{Algo}
 use Rattle.uimg_texts.specs.Slices.{slice}
-use Rattle.uimg_base.specs.Outcome.{Outcome, End, not_right}
-use Rattle.uimg_base.specs.declared.status.Status.TheVariants.{Done}
+use Rattle.uimg_base.specs.Outcome.{Outcome, End, done, not_right, refused}
+use Rattle.uimg_base.specs.declared.status.Status.{Status}
+use Rattle.uimg_base.specs.declared.status.Status.TheVariants.{Done, NotRight}
 use Rattle.uimg_c.specs.declared.codes.Code.{Code}
 use Rattle.uimg_engine.specs.declared.fault.Fault.{Fault}
 use Rattle.uimg_c.specs.declared.reports.UimgReport.{UimgReport}
@@ -13,7 +14,9 @@ use Rattle.uimg_c.specs.declared.reports.UimgCount.{UimgCount}
 use Rattle.uimg_fit_base.specs.declared.fault.Fault.{Fault as FitEngineFault}
 use Rattle.uimg_base.specs.Held.{held_bytes}
 use Rattle.uimg_requests.specs.declared.command.Form.{Form}
-use Rattle.uimg_checks.specs.Checking.{check_of}
+use Rattle.uimg_checks.specs.declared.finding.Checked.{Checked}
+use Rattle.uimg_checks.specs.Finding.{check_of, status_of}
+use Rattle.uimg_requests.specs.declared.command.Form.TheVariants as form
 use Rattle.uimg_engine.specs.Headline.{is_fit, nodes_in}
 use Rattle.uimg_c.specs.Codes.{code_of, code_of_answer, code_of_fault, code_of_found, strength}
 
@@ -48,10 +51,23 @@ pub record FindsNamed (found : Result (List ℕ) FitEngineFault) (image : List �
       (record { status = payload.status; fault = payload.fault; place = payload.place })
   pub bytes : payload.status ≡ 0 → found ≡ Ok (slice image payload.start payload.size)
 
--- the end of a check; an unknown algorithm vouches for nothing
+-- the end that a finding means, or the fault that refuses the image
+abbrev pub end_of_status : Status → End Fault
+end_of_status Done = done
+end_of_status NotRight = not_right
+
+abbrev pub end_of_found : Result (Checked (List ℕ)) Fault → End Fault
+end_of_found (Ok found) = end_of_status (status_of found)
+end_of_found (Err fault) = refused fault
+
+-- the end of a check for an algorithm
+abbrev pub end_of_check : Algo → List ℕ → End Fault
+end_of_check need image = end_of_found (check_of (is_fit form.Guess image) (Some need) image)
+
+-- the same by its number; no image meets an unknown one
 abbrev pub check_by : Option Algo → List ℕ → End Fault
 check_by None image = not_right
-check_by (Some need) image = check_of need image
+check_by (Some need) image = end_of_check need image
 
 -- A report without a text has the end of a check.
 pub record Checks (need : ℕ) (image : List ℕ) (report : UimgReport) : Type 0 where

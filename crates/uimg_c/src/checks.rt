@@ -1,16 +1,17 @@
-//! Whether an image in memory is whole and vouched for.
+//! Whether an image in memory has right checksums of a needed strength.
 
-ghost use Rattle.std.specs.Prelude.{◌≡◌, ◌≢◌, ◌≤◌, Some};
+ghost use Rattle.std.specs.Prelude.{◌≡◌, ◌≢◌, ◌≤◌, Some, false};
 ghost use Rattle.uimg_requests.specs.declared.command.Form.TheVariants as form;
-ghost use Rattle.uimg_c.specs.Answers.{Checks, no_report, table_most};
+ghost use Rattle.uimg_engine.specs.Faults.{is_put, is_no_memory, end_of};
+ghost use Rattle.uimg_engine.specs.Headline.{InMemory};
+ghost use Rattle.uimg_c.specs.Answers.{Checks, end_of_check, no_report, table_most};
 ghost use Rattle.uimg_c.specs.Codes.{code_of_answer, strength};
 
 use crate::codes::{NO_MEMORY, answer_code};
 use crate::peaks::peak_of;
 use crate::reports::UimgReport;
-use std::alloc::Global;
-use uimg_base::{Algo, Room, Status};
-use uimg_checks::check_in_memory;
+use std::alloc::{Allocator, Global};
+use uimg_base::{Algo, MemSource, Room, Status};
 use uimg_engine::Fault;
 
 // Returns the algorithm of a strength.
@@ -59,6 +60,16 @@ fn report_of(end: Result<Status, Fault>, peak: u64) -> UimgReport
     }
 }
 
+// Checks the bytes of an image for an algorithm.
+fn check_for<A: Allocator>(need: Algo, image: &[u8], room: &mut Room<A>) -> Result<Status, Fault>
+    ensures end { is_no_memory result ≡ false → end_of result ≡ Some (end_of_check need image.now) }
+    ensures no_put { is_put result ≡ false }
+    ensures memory { InMemory form.Guess image.now result room }
+{
+    let found = uimg_checks::check(Some(need), &mut MemSource::new(image), room)?;
+    Ok(found.status())
+}
+
 /// Checks the bytes of an image, with `need` as the number of the needed strength.
 pub(crate) fn check(alloc: Global, image: &[u8], need: u32, report: &mut UimgReport) -> u32
     ensures told { result ≢ 3 → Checks need image.now report.new }
@@ -68,7 +79,7 @@ pub(crate) fn check(alloc: Global, image: &[u8], need: u32, report: &mut UimgRep
 {
     let mut room = Room::new(alloc);
     let end = match strength(need) {
-        Some(algo) => check_in_memory(alloc, algo, image, &mut room),
+        Some(algo) => check_for(algo, image, &mut room),
         None => Ok(Status::NotRight),
     };
     *report = report_of(end, peak_of(&room));

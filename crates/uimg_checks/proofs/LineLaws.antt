@@ -8,9 +8,13 @@ use Rattle.uimg_fit_base.specs.declared.verdicts.Verdict.{Verdict}
 use Rattle.uimg_fit_base.specs.declared.verdicts.Verdict.TheVariants as told
 use Rattle.uimg_fit_base.specs.Report.{word_text}
 use Rattle.uimg_checks.specs.declared.answer.Answer.{Answer}
-use Rattle.uimg_checks.specs.declared.answer.Answer.TheVariants.{Right, Unhashed, Wrong, Weak, Overlapping, Empty, Missing, RightChecksums, BadChecksum, WeakChecksums, Refused, Failed}
-use Rattle.uimg_checks.specs.Answers.{word_of}
-use Rattle.uimg_checks.specs.Lines.{nodes_text, some_unchecked, unchecked_text, named, named_if, details_of, line_of, own_text}
+use Rattle.uimg_fit_checking.specs.declared.checking.Finding.{Finding}
+use Rattle.uimg_fit_checking.specs.declared.checking.Finding.TheVariants.{Right, Unhashed, Wrong, Weak, Overlapping, NoImage}
+use Rattle.uimg_checks.specs.declared.answer.Answer.TheVariants.{Found, Missing, Refused, Failed}
+use Rattle.uimg_checks.specs.declared.finding.Checked.{Checked}
+use Rattle.uimg_checks.specs.declared.finding.Checked.TheVariants as checked
+use Rattle.uimg_checks.specs.Answers.{finding_word, found_word, word_of}
+use Rattle.uimg_checks.specs.Lines.{nodes_text, some_unchecked, unchecked_text, named, named_if, finding_details, found_details, details_of, line_of, own_text}
 
 one_of : (b : Bool) (x y : List ℕ) → is_shown x ≡ true → is_shown y ≡ true → is_shown (if b then x else y) ≡ true
 one_of true x y p q = p
@@ -36,24 +40,30 @@ named_if_shown : (name : Option (Bor (List ℕ))) → is_shown (named_if name) �
 named_if_shown None = refl
 named_if_shown (Some name) = named_shown name.now
 
-details_shown : (answer : Answer) → is_shown (own_text answer) ≡ true → is_shown (details_of answer) ≡ true
-details_shown (Right images hashes unchecked) own =
+finding_shown : (finding : Finding (Bor (List ℕ))) (unchecked : Option ℕ) → is_shown (finding_details finding unchecked) ≡ true
+finding_shown (Right images hashes) unchecked =
     let payloads = counted images (codes "payload") (codes "payloads") in
     let nodes = counted hashes (codes "hash") (codes "hashes") in
     let first = joined (codes " ") payloads refl (counted_shown images (codes "payload") (codes "payloads") refl refl) in
     let second = joined (codes " " ++ payloads ++ codes ", ") nodes (joined (codes " " ++ payloads) (codes ", ") first refl) (counted_shown hashes (codes "hash") (codes "hashes") refl refl) in
     joined (codes " " ++ payloads ++ codes ", " ++ nodes) (unchecked_text unchecked) second (unchecked_shown unchecked)
-details_shown (Unhashed image) own = named_shown image.now
-details_shown (Wrong verdict image hash) own = joined (named image.now) (named hash.now) (named_shown image.now) (named_shown hash.now)
-details_shown (Weak image) own = named_shown image.now
-details_shown (Overlapping image) own = named_shown image.now
-details_shown Empty own = refl
+finding_shown (Unhashed image) unchecked = named_shown image.now
+finding_shown (Wrong image hash verdict) unchecked = joined (named image.now) (named hash.now) (named_shown image.now) (named_shown hash.now)
+finding_shown (Weak image) unchecked = named_shown image.now
+finding_shown (Overlapping image) unchecked = named_shown image.now
+finding_shown NoImage unchecked = refl
+
+found_shown : (found : Checked (Bor (List ℕ))) (unchecked : Option ℕ) → is_shown (found_details found unchecked) ≡ true
+found_shown (checked.Fit finding) unchecked = finding_shown finding unchecked
+found_shown checked.Right unchecked = refl
+found_shown checked.Damaged unchecked = refl
+found_shown checked.Weak unchecked = refl
+
+details_shown : (answer : Answer) → is_shown (own_text answer) ≡ true → is_shown (details_of answer) ≡ true
+details_shown (Found found unchecked) own = found_shown found unchecked
 details_shown (Missing configuration property name) own =
     let giver = joined (named_if configuration) (codes " ") (named_if_shown configuration) refl in
     joined (named_if configuration ++ codes " " ++ property.now) (named name.now) (joined (named_if configuration ++ codes " ") property.now giver own) (named_shown name.now)
-details_shown RightChecksums own = refl
-details_shown BadChecksum own = refl
-details_shown WeakChecksums own = refl
 details_shown (Refused stop) own = joined (codes " ") stop.message.now refl own
 details_shown (Failed stop) own = joined (codes " ") stop.message.now refl own
 
@@ -63,17 +73,23 @@ verdict_shown told.Unsupported = refl
 verdict_shown told.Right = refl
 verdict_shown told.Wrong = refl
 
+finding_word_shown : {N : Type 0} (finding : Finding N) → is_shown (finding_word finding) ≡ true
+finding_word_shown (Right images hashes) = refl
+finding_word_shown (Unhashed image) = refl
+finding_word_shown (Wrong image hash verdict) = verdict_shown verdict
+finding_word_shown (Weak image) = refl
+finding_word_shown (Overlapping image) = refl
+finding_word_shown NoImage = refl
+
+found_word_shown : {N : Type 0} (found : Checked N) → is_shown (found_word found) ≡ true
+found_word_shown (checked.Fit finding) = finding_word_shown finding
+found_word_shown checked.Right = refl
+found_word_shown checked.Damaged = refl
+found_word_shown checked.Weak = refl
+
 word_shown : (answer : Answer) → is_shown (word_of answer) ≡ true
-word_shown (Right images hashes unchecked) = refl
-word_shown (Unhashed image) = refl
-word_shown (Wrong verdict image hash) = verdict_shown verdict
-word_shown (Weak image) = refl
-word_shown (Overlapping image) = refl
-word_shown Empty = refl
+word_shown (Found found unchecked) = found_word_shown found
 word_shown (Missing configuration property name) = refl
-word_shown RightChecksums = refl
-word_shown BadChecksum = refl
-word_shown WeakChecksums = refl
 word_shown (Refused stop) = refl
 word_shown (Failed stop) = refl
 

@@ -8,8 +8,12 @@ use Rattle.uimg_base.specs.Held.{Held}
 use Rattle.uimg_base.specs.Lent.{Lent}
 use Rattle.uimg_base.specs.Outcome.{End, done, not_right, refused}
 use Rattle.uimg_base.specs.Using.{UsesAtMost}
+use Rattle.uimg_base.specs.declared.spans.Span.{Span}
+use Rattle.uimg_base.specs.declared.status.Status.{Status}
+use Rattle.uimg_base.specs.declared.status.Status.TheVariants.{Done, NotRight}
 use Rattle.uimg_fit_base.specs.declared.fault.Fault.{Fault as FitEngineFault}
 use Rattle.uimg_fit_checking.specs.Checks as fit
+use Rattle.uimg_fit_checking.specs.declared.checking.Finding.TheVariants as fit_finding
 use Rattle.uimg_legacy.specs.declared.fault.LegacyFault.{LegacyFault}
 use Rattle.uimg_legacy.specs.Report as legacy_report
 use Rattle.uimg_legacy.specs.Work as legacy
@@ -32,7 +36,7 @@ abbrev pub check_work : List ℕ → ℕ
 check_work file = 4 + work_in (is_fit form.Guess file) file
 
 -- each span of a finding ends within a file of this size
-abbrev pub EndsInside : ℕ → Checked → Type 0
+abbrev pub EndsInside : ℕ → Checked Span → Type 0
 EndsInside size (checked.Fit finding) = fit.EndsInside size finding
 EndsInside size _ = ⊤
 
@@ -42,57 +46,63 @@ stands_by_crc32 None = true
 stands_by_crc32 (Some algo.Crc32) = true
 stands_by_crc32 (Some _) = false
 
--- The finding about an image; that about a FIT image has the names of its nodes.
-pub data Found : Type 0 where
-  in_fit : fit.Told → Found
-  right : Found
-  damaged : Found
-  weak : Found
+-- a finding with the names at its spans
+abbrev pub found_at : List ℕ → Checked Span → Checked (List ℕ)
+found_at file (checked.Fit finding) = checked.Fit (fit.told_of file finding)
+found_at file checked.Right = checked.Right
+found_at file checked.Damaged = checked.Damaged
+found_at file checked.Weak = checked.Weak
 
-abbrev pub found_at : List ℕ → Checked → Found
-found_at file (checked.Fit finding) = in_fit (fit.told_of file finding)
-found_at file checked.Right = right
-found_at file checked.Damaged = damaged
-found_at file checked.Weak = weak
+-- the status of a finding: `Done` if all is right
+abbrev pub status_of : {N : Type 0} → Checked N → Status
+status_of (checked.Fit (fit_finding.Right images nodes)) = Done
+status_of (checked.Fit (fit_finding.Unhashed image)) = Done
+status_of (checked.Fit (fit_finding.Wrong image hash word)) = NotRight
+status_of (checked.Fit (fit_finding.Weak image)) = NotRight
+status_of (checked.Fit (fit_finding.Overlapping image)) = NotRight
+status_of (checked.Fit fit_finding.NoImage) = NotRight
+status_of checked.Right = Done
+status_of checked.Damaged = NotRight
+status_of checked.Weak = NotRight
 
 -- the finding about a legacy image whose checksums are right
-abbrev pub if_strong : Bool → Found
-if_strong true = right
-if_strong false = weak
+abbrev pub if_strong : Bool → Checked (List ℕ)
+if_strong true = checked.Right
+if_strong false = checked.Weak
 
 -- the finding about a legacy image by the end of its report, or the fault that refuses it
-abbrev pub found_by : Option Algo → End LegacyFault → Result Found Fault
+abbrev pub found_by : Option Algo → End LegacyFault → Result (Checked (List ℕ)) Fault
 found_by need done = Ok (if_strong (stands_by_crc32 need))
-found_by need not_right = Ok damaged
+found_by need not_right = Ok checked.Damaged
 found_by need (refused fault) = Err (Legacy fault)
 
 -- the finding about a FIT image, or the fault that refuses it
-abbrev pub found_in_fit : Result fit.Told FitEngineFault → Result Found Fault
-found_in_fit (Ok told) = Ok (in_fit told)
+abbrev pub found_in_fit : Result fit.Told FitEngineFault → Result (Checked (List ℕ)) Fault
+found_in_fit (Ok told) = Ok (checked.Fit told)
 found_in_fit (Err fault) = Err (of_fit fault)
 
 -- the finding about a file that is read as a FIT image, or as a legacy image
-abbrev pub check_of : Bool → Option Algo → List ℕ → Result Found Fault
+abbrev pub check_of : Bool → Option Algo → List ℕ → Result (Checked (List ℕ)) Fault
 check_of true need file = found_in_fit (fit.check_of need file)
 check_of false need file = found_by need (legacy_report.verify_of file).end
 
 -- a result with the names at its spans
-abbrev pub told_at : List ℕ → Result Checked Fault → Result Found Fault
+abbrev pub told_at : List ℕ → Result (Checked Span) Fault → Result (Checked (List ℕ)) Fault
 told_at file (Ok finding) = Ok (found_at file finding)
 told_at file (Err fault) = Err fault
 
 -- The result is the finding of the definition, unless a read failed or memory was refused.
-abbrev pub TellsCheckIn : Bool → Option Algo → List ℕ → Result Checked Fault → Type 0
+abbrev pub TellsCheckIn : Bool → Option Algo → List ℕ → Result (Checked Span) Fault → Type 0
 TellsCheckIn fit need file result =
     is_read result ≡ false → is_no_memory result ≡ false
     → check_of fit need file ≡ told_at file result
 
 -- the same for a file whose first bytes decide the format
-abbrev pub TellsCheck : Option Algo → List ℕ → Result Checked Fault → Type 0
+abbrev pub TellsCheck : Option Algo → List ℕ → Result (Checked Span) Fault → Type 0
 TellsCheck need file result = TellsCheckIn (is_fit form.Guess file) need file result
 
 -- What the check of an image of a format does, at any exit.
-pub record ChecksInBetween (fit : Bool) (need : Option Algo) (result : Result Checked Fault)
+pub record ChecksInBetween (fit : Bool) (need : Option Algo) (result : Result (Checked Span) Fault)
     (d e : Device) (old new : Held) : Type 0 where
   pub uses : UsesAtMost (work_in fit d.bytes) (is_read result) d e
   pub room : Takes fit d (is_no_memory result) old new
@@ -101,7 +111,7 @@ pub record ChecksInBetween (fit : Bool) (need : Option Algo) (result : Result Ch
   pub inside : IfOk result (EndsInside (length d.bytes))
   pub told : IsTrue d.honest → TellsCheckIn fit need d.bytes result
 
-abbrev pub ChecksIn : {S : Type 0} → Bool → Option Algo → Result Checked Fault → (S → Device)
+abbrev pub ChecksIn : {S : Type 0} → Bool → Option Algo → Result (Checked Span) Fault → (S → Device)
     → Lent S → Lent Held → Type 0
 ChecksIn fit need result device source room = ChecksInBetween fit need result
     (device source.entry.now) (device source.exit.now) room.entry.now room.exit.now

@@ -1,7 +1,6 @@
 pub mod Answers
 pub mod Lines
 pub mod Objects
-pub mod Checking
 pub mod Counting
 pub mod Finding
 pub mod Given

@@ -4,11 +4,12 @@ use Rattle.std.specs.Prelude.{None}
 use Rattle.std.specs.Borrow.{Bor}
 use Rattle.uimg_printing.specs.Counting.{counted}
 use Rattle.uimg_printing.specs.Printing.{printed}
+use Rattle.uimg_fit_checking.specs.declared.checking.Finding.{Finding}
+use Rattle.uimg_fit_checking.specs.declared.checking.Finding.TheVariants as fit_finding
 use Rattle.uimg_checks.specs.declared.answer.Answer.{Answer}
-use Rattle.uimg_checks.specs.declared.answer.Answer.TheVariants.{Right, Unhashed, Wrong, Weak}
-use Rattle.uimg_checks.specs.declared.answer.Answer.TheVariants.{Overlapping, Empty, Missing}
-use Rattle.uimg_checks.specs.declared.answer.Answer.TheVariants.{RightChecksums, BadChecksum}
-use Rattle.uimg_checks.specs.declared.answer.Answer.TheVariants.{WeakChecksums, Refused, Failed}
+use Rattle.uimg_checks.specs.declared.answer.Answer.TheVariants.{Found, Missing, Refused, Failed}
+use Rattle.uimg_checks.specs.declared.finding.Checked.{Checked}
+use Rattle.uimg_checks.specs.declared.finding.Checked.TheVariants as checked
 use Rattle.uimg_checks.specs.Answers.{word_of}
 
 -- the number of unchecked nodes of configurations, if they were counted and there are any
@@ -31,22 +32,30 @@ abbrev pub named_if : Option (Bor (List ℕ)) → List ℕ
 named_if None = []
 named_if (Some name) = named name.now
 
+-- the details of a finding about a FIT image
+abbrev pub finding_details : Finding (Bor (List ℕ)) → Option ℕ → List ℕ
+finding_details (fit_finding.Right images nodes) unchecked =
+    codes " " ++ counted images (codes "payload") (codes "payloads") ++ codes ", "
+    ++ counted nodes (codes "hash") (codes "hashes")
+    ++ unchecked_text unchecked
+finding_details (fit_finding.Unhashed image) unchecked = named image.now
+finding_details (fit_finding.Wrong image hash word) unchecked = named image.now ++ named hash.now
+finding_details (fit_finding.Weak image) unchecked = named image.now
+finding_details (fit_finding.Overlapping image) unchecked = named image.now
+finding_details fit_finding.NoImage unchecked = []
+
+-- the details of a finding
+abbrev pub found_details : Checked (Bor (List ℕ)) → Option ℕ → List ℕ
+found_details (checked.Fit finding) unchecked = finding_details finding unchecked
+found_details checked.Right unchecked = codes " 2 checksums"
+found_details checked.Damaged unchecked = codes " checksum"
+found_details checked.Weak unchecked = codes " crc32"
+
 -- the details after the word
 abbrev pub details_of : Answer → List ℕ
-details_of (Right images hashes unchecked) =
-    codes " " ++ counted images (codes "payload") (codes "payloads") ++ codes ", "
-    ++ counted hashes (codes "hash") (codes "hashes")
-    ++ unchecked_text unchecked
-details_of (Unhashed image) = named image.now
-details_of (Wrong word image hash) = named image.now ++ named hash.now
-details_of (Weak image) = named image.now
-details_of (Overlapping image) = named image.now
-details_of Empty = []
+details_of (Found found unchecked) = found_details found unchecked
 details_of (Missing configuration property name) =
     named_if configuration ++ codes " " ++ property.now ++ named name.now
-details_of RightChecksums = codes " 2 checksums"
-details_of BadChecksum = codes " checksum"
-details_of WeakChecksums = codes " crc32"
 details_of (Refused stop) = codes " " ++ stop.message.now
 details_of (Failed stop) = codes " " ++ stop.message.now
 
@@ -56,15 +65,7 @@ line_of path answer = printed false path ++ codes ": " ++ word_of answer ++ deta
 
 -- the text of a fault, or a property's name, if there is one
 abbrev pub own_text : Answer → List ℕ
-own_text (Right images hashes unchecked) = []
-own_text (Unhashed image) = []
-own_text (Wrong word image hash) = []
-own_text (Weak image) = []
-own_text (Overlapping image) = []
-own_text Empty = []
+own_text (Found found unchecked) = []
 own_text (Missing configuration property name) = property.now
-own_text RightChecksums = []
-own_text BadChecksum = []
-own_text WeakChecksums = []
 own_text (Refused stop) = stop.message.now
 own_text (Failed stop) = stop.message.now

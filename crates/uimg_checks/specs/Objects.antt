@@ -4,11 +4,12 @@ use Rattle.std.specs.Borrow.{Bor}
 use Rattle.json.specs.Json.{Json}
 use Rattle.uimg_printing.specs.Members.{Member, object_of, string_member, number_member, number_if}
 use Rattle.uimg_printing.specs.Members.{text_members}
+use Rattle.uimg_fit_checking.specs.declared.checking.Finding.{Finding}
+use Rattle.uimg_fit_checking.specs.declared.checking.Finding.TheVariants as fit_finding
 use Rattle.uimg_checks.specs.declared.answer.Answer.{Answer}
-use Rattle.uimg_checks.specs.declared.answer.Answer.TheVariants.{Right, Unhashed, Wrong, Weak}
-use Rattle.uimg_checks.specs.declared.answer.Answer.TheVariants.{Overlapping, Empty, Missing}
-use Rattle.uimg_checks.specs.declared.answer.Answer.TheVariants.{RightChecksums, BadChecksum}
-use Rattle.uimg_checks.specs.declared.answer.Answer.TheVariants.{WeakChecksums, Refused, Failed}
+use Rattle.uimg_checks.specs.declared.answer.Answer.TheVariants.{Found, Missing, Refused, Failed}
+use Rattle.uimg_checks.specs.declared.finding.Checked.{Checked}
+use Rattle.uimg_checks.specs.declared.finding.Checked.TheVariants as checked
 use Rattle.uimg_checks.specs.declared.answer.Format.{Format}
 use Rattle.uimg_checks.specs.declared.answer.Format.TheVariants.{Fit, Legacy}
 use Rattle.uimg_checks.specs.declared.answer.Stop.{Stop}
@@ -31,18 +32,17 @@ abbrev pub name_if : List ℕ → Option (Bor (List ℕ)) → List Member
 name_if key None = []
 name_if key (Some name) = text_members key name.now
 
+-- the format of a checked image
+abbrev pub found_format : {N : Type 0} → Checked N → Format
+found_format (checked.Fit finding) = Fit
+found_format checked.Right = Legacy
+found_format checked.Damaged = Legacy
+found_format checked.Weak = Legacy
+
 -- the format of the image, if it is known
 abbrev pub format_of : Answer → Option Format
-format_of (Right images hashes unchecked) = Some Fit
-format_of (Unhashed image) = Some Fit
-format_of (Wrong word image hash) = Some Fit
-format_of (Weak image) = Some Fit
-format_of (Overlapping image) = Some Fit
-format_of Empty = Some Fit
+format_of (Found found unchecked) = Some (found_format found)
 format_of (Missing configuration property name) = Some Fit
-format_of RightChecksums = Some Legacy
-format_of BadChecksum = Some Legacy
-format_of WeakChecksums = Some Legacy
 format_of (Refused stop) = stop.format
 format_of (Failed stop) = stop.format
 
@@ -53,23 +53,31 @@ stop_members stop =
     ++ (string_member (codes "message") stop.message.now
     ++ number_if (codes "offset") stop.offset)
 
+-- the members about a FIT image
+abbrev pub about_fit : Finding (Bor (List ℕ)) → Option ℕ → List Member
+about_fit (fit_finding.Right images nodes) unchecked =
+    number_member (codes "images") images
+    ++ (number_member (codes "hashes") nodes ++ number_if (codes "unchecked") unchecked)
+about_fit (fit_finding.Unhashed image) unchecked = text_members (codes "image") image.now
+about_fit (fit_finding.Wrong image hash word) unchecked =
+    text_members (codes "image") image.now ++ text_members (codes "hash") hash.now
+about_fit (fit_finding.Weak image) unchecked = text_members (codes "image") image.now
+about_fit (fit_finding.Overlapping image) unchecked = text_members (codes "image") image.now
+about_fit fit_finding.NoImage unchecked = []
+
+-- the members about a finding
+abbrev pub about_found : Checked (Bor (List ℕ)) → Option ℕ → List Member
+about_found (checked.Fit finding) unchecked = about_fit finding unchecked
+about_found checked.Right unchecked = number_member (codes "checksums") 2
+about_found checked.Damaged unchecked = []
+about_found checked.Weak unchecked = string_member (codes "algo") (codes "crc32")
+
 -- the members after the format
 abbrev pub about : Answer → List Member
-about (Right images hashes unchecked) =
-    number_member (codes "images") images
-    ++ (number_member (codes "hashes") hashes ++ number_if (codes "unchecked") unchecked)
-about (Unhashed image) = text_members (codes "image") image.now
-about (Wrong word image hash) =
-    text_members (codes "image") image.now ++ text_members (codes "hash") hash.now
-about (Weak image) = text_members (codes "image") image.now
-about (Overlapping image) = text_members (codes "image") image.now
-about Empty = []
+about (Found found unchecked) = about_found found unchecked
 about (Missing configuration property name) =
     name_if (codes "configuration") configuration
     ++ (string_member (codes "property") property.now ++ text_members (codes "name") name.now)
-about RightChecksums = number_member (codes "checksums") 2
-about BadChecksum = []
-about WeakChecksums = string_member (codes "algo") (codes "crc32")
 about (Refused stop) = stop_members stop
 about (Failed stop) = stop_members stop
 

@@ -1,9 +1,12 @@
 //! The result of a check.
 
 ghost use Rattle.std.specs.Prelude.{◌≡◌};
-ghost use Rattle.uimg_checks.specs.Answers.{status_of, word_of};
+ghost use Rattle.uimg_checks.specs.Answers.{status_of, exit_status, word_of, found_word, finding_word};
 
-use uimg_fit_base::{Verdict, word_text};
+use crate::finding::Checked;
+use uimg_base::Status;
+use uimg_fit_base::word_text;
+use uimg_fit_checking::Finding;
 
 /// The format of an image.
 #[derive(Clone, Copy, Debug, PartialEq, Eq)]
@@ -30,38 +33,9 @@ pub struct Stop<'a> {
 /// The result of a check. Names are those of nodes, without their NULs.
 #[derive(Clone, Copy, Debug, PartialEq, Eq)]
 pub enum Answer<'a> {
-    /// Each hash of a FIT image's images is right, and each image has one. A strict check counts
-    /// the nodes of the configurations, which are not checked.
-    Right {
-        /// The number of images.
-        images: u64,
-        /// The number of their hash nodes.
-        hashes: u64,
-        /// The number of nodes of the configurations, if they were counted.
-        unchecked: Option<u64>,
-    },
-
-    /// The hashes are right, and this image of a FIT image has none.
-    Unhashed(&'a [u8]),
-
-    /// A hash node of a FIT image is not right.
-    Wrong {
-        /// The word that a report prints for it.
-        word: Verdict,
-        /// The name of the image.
-        image: &'a [u8],
-        /// The name of the hash node.
-        hash: &'a [u8],
-    },
-
-    /// This image of a FIT image has no hash that is strong enough.
-    Weak(&'a [u8]),
-
-    /// With the payload of this image, those to compare have more bytes than the file.
-    Overlapping(&'a [u8]),
-
-    /// A FIT image has no image, but a strength is needed.
-    Empty,
+    /// The finding about the image. A strict check of a FIT image whose hashes are right adds the
+    /// number of nodes of the configurations, which are not checked.
+    Found(Checked<&'a [u8]>, Option<u64>),
 
     /// A name has no image or configuration.
     Missing {
@@ -73,15 +47,6 @@ pub enum Answer<'a> {
         name: &'a [u8],
     },
 
-    /// Both checksums of a legacy image are right.
-    RightChecksums,
-
-    /// The checksum of the header or of the data of a legacy image is not right.
-    BadChecksum,
-
-    /// The checksums of a legacy image are not strong enough.
-    WeakChecksums,
-
     /// The image is refused.
     Refused(Stop<'a>),
 
@@ -89,13 +54,49 @@ pub enum Answer<'a> {
     Failed(Stop<'a>),
 }
 
+// Returns the word of a finding about a FIT image.
+fn finding_word<N>(finding: &Finding<N>) -> &'static str
+    ensures { result.now ≡ finding_word finding.now }
+{
+    match finding {
+        Finding::Right { .. } => "ok",
+        Finding::Unhashed(_) => "unhashed",
+        Finding::Wrong { word, .. } => word_text(*word),
+        Finding::Weak(_) => "weak",
+        Finding::Overlapping(_) => "overlapping",
+        Finding::NoImage => "empty",
+    }
+}
+
+// Returns the word of a finding.
+fn found_word<N>(found: &Checked<N>) -> &'static str
+    ensures { result.now ≡ found_word found.now }
+{
+    match found {
+        Checked::Fit(finding) => finding_word(finding),
+        Checked::Right => "ok",
+        Checked::Damaged => "bad",
+        Checked::Weak => "weak",
+    }
+}
+
+// Returns the exit status of a check that found something.
+fn exit_status(status: Status) -> u8
+    ensures { result ≡ exit_status status }
+{
+    match status {
+        Status::Done => 0,
+        Status::NotRight => 1,
+    }
+}
+
 impl<'a> Answer<'a> {
     /// Returns the exit status: 0 if the image is right, 3 if a check failed, else 1.
     pub fn status(&self) -> u8
         ensures { result ≡ status_of self.now }
     {
-        match *self {
-            Answer::Right { .. } | Answer::RightChecksums | Answer::Unhashed(_) => 0,
+        match self {
+            Answer::Found(found, _) => exit_status(found.status()),
             Answer::Failed(_) => 3,
             _ => 1,
         }
@@ -105,15 +106,9 @@ impl<'a> Answer<'a> {
     pub fn word(&self) -> &'static str
         ensures { result.now ≡ word_of self.now }
     {
-        match *self {
-            Answer::Right { .. } | Answer::RightChecksums => "ok",
-            Answer::Unhashed(_) => "unhashed",
-            Answer::Wrong { word, .. } => word_text(word),
-            Answer::Weak(_) | Answer::WeakChecksums => "weak",
-            Answer::Overlapping(_) => "overlapping",
-            Answer::Empty => "empty",
+        match self {
+            Answer::Found(found, _) => found_word(found),
             Answer::Missing { .. } => "missing",
-            Answer::BadChecksum => "bad",
             Answer::Refused(_) => "refused",
             Answer::Failed(_) => "failed",
         }

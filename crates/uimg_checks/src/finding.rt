@@ -2,20 +2,21 @@
 
 ghost use Rattle.std.specs.Prelude.{◌≡◌, true, false, length, IfOk};
 ghost use Rattle.uimg_requests.specs.declared.command.Form.TheVariants as form;
-ghost use Rattle.uimg_checks.specs.Finding.{ChecksIn, EndsInside, TellsCheck, check_work, stands_by_crc32};
+ghost use Rattle.uimg_checks.specs.Finding.{ChecksIn, EndsInside, TellsCheck, check_work, stands_by_crc32, status_of};
 ghost use Rattle.uimg_engine.specs.Headline.{HonestSource, OnlyReads};
 
 use std::alloc::Allocator;
-use uimg_base::{Algo, Room, Source};
+use uimg_base::{Algo, Room, Source, Span, Status};
 use uimg_engine::{Fault, is_fit};
 use uimg_fit_checking::Finding;
 use uimg_requests::Form;
 
-/// The finding about an image.
+/// The finding about an image. Nodes of a FIT image are given by the spans of their names in the
+/// file, or by the names themselves.
 #[derive(Clone, Copy, Debug, PartialEq, Eq)]
-pub enum Checked {
+pub enum Checked<N> {
     /// The finding about a FIT image.
-    Fit(Finding),
+    Fit(Finding<N>),
 
     /// Both checksums of a legacy image are right and strong enough.
     Right,
@@ -25,6 +26,21 @@ pub enum Checked {
 
     /// The checksums of a legacy image are right, but a stronger algorithm than CRC-32 is needed.
     Weak,
+}
+
+impl<N> Checked<N> {
+    /// Returns `Done` if all checksums or hashes are right, even if no strength was needed and an
+    /// image has no hash, else `NotRight`.
+    pub fn status(&self) -> Status
+        ensures { result ≡ status_of self.now }
+    {
+        match self {
+            Checked::Fit(Finding::Right { .. } | Finding::Unhashed(_)) | Checked::Right => {
+                Status::Done
+            }
+            _ => Status::NotRight,
+        }
+    }
 }
 
 // Returns whether CRC-32, the checksum of a legacy image, is strong enough.
@@ -42,7 +58,7 @@ fn check_legacy<S: Source, A: Allocator>(
     need: Option<Algo>,
     source: &mut S,
     room: &mut Room<A>,
-) -> Result<Checked, Fault>
+) -> Result<Checked<Span>, Fault>
     ensures { ChecksIn false need result S.device source room }
 {
     let is_right = uimg_legacy::check(source, room)?;
@@ -61,7 +77,7 @@ fn check_fit<S: Source, A: Allocator>(
     need: Option<Algo>,
     source: &mut S,
     room: &mut Room<A>,
-) -> Result<Checked, Fault>
+) -> Result<Checked<Span>, Fault>
     ensures { ChecksIn true need result S.device source room }
 {
     let finding = uimg_fit_checking::check(need, source, room)?;
@@ -82,7 +98,7 @@ pub fn check<S: Source, A: Allocator>(
     need: Option<Algo>,
     source: &mut S,
     room: &mut Room<A>,
-) -> Result<Checked, Fault>
+) -> Result<Checked<Span>, Fault>
     ensures reads { OnlyReads form.Guess check_work result S.device source room }
     ensures inside { IfOk result (EndsInside (length (S.device source.old).bytes)) }
     ensures told { HonestSource S.device source →

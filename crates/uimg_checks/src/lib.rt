@@ -3,7 +3,6 @@
 #![tactic(auto)]
 
 mod answer;
-mod checking;
 mod counting;
 mod finding;
 mod line;
@@ -11,7 +10,6 @@ mod object;
 mod references;
 
 pub use answer::{Answer, Format, Stop};
-pub use checking::check_in_memory;
 pub use counting::count_in_memory;
 pub use finding::{Checked, check};
 pub use line::{Line, line_text};

@@ -4,12 +4,14 @@ ghost use Rattle.std.specs.Prelude.{◌≡◌, ◌++◌, Some, codes, true, IfOk
 ghost use Rattle.std.specs.String.{string_bytes};
 ghost use Rattle.uimg_printing.specs.Printing.{is_shown};
 ghost use Rattle.std.specs.Fmt.{WritesOnOk};
-ghost use Rattle.uimg_checks.specs.Lines.{unchecked_text, nodes_text, some_unchecked, named, named_if, details_of, line_of, own_text};
+ghost use Rattle.uimg_checks.specs.Lines.{unchecked_text, nodes_text, some_unchecked, named, named_if, finding_details, found_details, details_of, line_of, own_text};
 
 use crate::answer::Answer;
+use crate::finding::Checked;
 use std::alloc::{AllocError, Global};
 use std::fmt;
 use std::fmt::{Display, Formatter, Write};
+use uimg_fit_checking::Finding;
 use uimg_printing::{Counted, Printed};
 
 /// The line of the image at a path, without its end. It begins with the path and the word of the
@@ -37,28 +39,51 @@ fn put_details<W: Write>(answer: &Answer<'_>, f: &mut Formatter<W>) -> fmt::Resu
     ensures { WritesOnOk W.Write.write_str_gives f.old result (details_of answer.now) f.new }
 {
     match *answer {
-        Answer::Right {
-            images,
-            hashes,
-            unchecked,
-        } => put_counts(images, hashes, unchecked, f),
-        Answer::Unhashed(image) | Answer::Weak(image) | Answer::Overlapping(image) => {
-            put_named(image, f)
-        }
-        Answer::Wrong { image, hash, .. } => {
-            put_named(image, f)?;
-            put_named(hash, f)
-        }
-        Answer::Empty => Ok(()),
+        Answer::Found(found, unchecked) => put_found(found, unchecked, f),
         Answer::Missing {
             configuration,
             property,
             name,
         } => put_missing(configuration, property, name, f),
-        Answer::RightChecksums => f.write_str(" 2 checksums"),
-        Answer::BadChecksum => f.write_str(" checksum"),
-        Answer::WeakChecksums => f.write_str(" crc32"),
         Answer::Refused(stop) | Answer::Failed(stop) => write!(f, " {}", stop.message),
+    }
+}
+
+// Writes the details of a finding.
+fn put_found<W: Write>(
+    found: Checked<&[u8]>,
+    unchecked: Option<u64>,
+    f: &mut Formatter<W>,
+) -> fmt::Result
+    ensures { WritesOnOk W.Write.write_str_gives f.old result (found_details found unchecked) f.new }
+{
+    match found {
+        Checked::Fit(finding) => put_finding(finding, unchecked, f),
+        Checked::Right => f.write_str(" 2 checksums"),
+        Checked::Damaged => f.write_str(" checksum"),
+        Checked::Weak => f.write_str(" crc32"),
+    }
+}
+
+// Writes the details of a finding about a FIT image.
+fn put_finding<W: Write>(
+    finding: Finding<&[u8]>,
+    unchecked: Option<u64>,
+    f: &mut Formatter<W>,
+) -> fmt::Result
+    ensures { WritesOnOk W.Write.write_str_gives f.old result
+        (finding_details finding unchecked) f.new }
+{
+    match finding {
+        Finding::Right { images, hashes } => put_counts(images as u64, hashes as u64, unchecked, f),
+        Finding::Unhashed(image) | Finding::Weak(image) | Finding::Overlapping(image) => {
+            put_named(image, f)
+        }
+        Finding::Wrong { image, hash, .. } => {
+            put_named(image, f)?;
+            put_named(hash, f)
+        }
+        Finding::NoImage => Ok(()),
     }
 }
 
@@ -70,7 +95,7 @@ fn put_counts<W: Write>(
     f: &mut Formatter<W>,
 ) -> fmt::Result
     ensures { WritesOnOk W.Write.write_str_gives f.old result
-        (details_of (Answer.Right images hashes unchecked)) f.new }
+        (finding_details (Finding.Right images hashes) unchecked) f.new }
 {
     let payloads = Counted {
         count: images,

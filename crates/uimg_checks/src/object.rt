@@ -8,11 +8,13 @@ ghost use Rattle.json.specs.Tree.{json_tokens};
 ghost use Rattle.uimg_printing.specs.Members.{tokens_of, string_member, text_members};
 ghost use Rattle.uimg_printing.specs.Objects.{is_one_line};
 ghost use Rattle.uimg_printing.specs.Steps.{Appends};
-ghost use Rattle.uimg_checks.specs.Objects.{name_of, format_if, string_if, name_if, format_of, stop_members, about, head_members, check_json};
+ghost use Rattle.uimg_checks.specs.Objects.{name_of, format_if, string_if, name_if, found_format, format_of, stop_members, about_fit, about_found, about, head_members, check_json};
 
 use crate::answer::{Answer, Format, Stop};
+use crate::finding::Checked;
 use json::Writer;
 use std::alloc::{AllocError, Global};
+use uimg_fit_checking::Finding;
 use uimg_printing::{put_number, put_number_if, put_string, put_text};
 
 impl Format {
@@ -27,16 +29,24 @@ impl Format {
     }
 }
 
+// Returns the format of a checked image.
+fn found_format<N>(found: &Checked<N>) -> Format
+    ensures { result ≡ found_format found.now }
+{
+    match found {
+        Checked::Fit(_) => Format::Fit,
+        _ => Format::Legacy,
+    }
+}
+
 // Returns the format of an image, if it is known.
 fn format_of(answer: &Answer<'_>) -> Option<Format>
     ensures { result ≡ format_of answer.now }
 {
-    match *answer {
-        Answer::RightChecksums | Answer::BadChecksum | Answer::WeakChecksums => {
-            Some(Format::Legacy)
-        }
+    match answer {
+        Answer::Found(found, _) => Some(found_format(found)),
+        Answer::Missing { .. } => Some(Format::Fit),
         Answer::Refused(stop) | Answer::Failed(stop) => stop.format,
-        _ => Some(Format::Fit),
     }
 }
 
@@ -93,7 +103,7 @@ fn put_counts(
     unchecked: Option<u64>,
 ) -> Result<(), AllocError>
     ensures { Appends result writer.old writer.new
-        (tokens_of (about (Answer.Right images hashes unchecked))) }
+        (tokens_of (about_fit (Finding.Right images hashes) unchecked)) }
 {
     put_number(writer, "images", images)?;
     put_number(writer, "hashes", hashes)?;
@@ -134,28 +144,55 @@ fn put_wrong(
     Ok(())
 }
 
+// Writes the members about a FIT image.
+fn put_fit(
+    alloc: Global,
+    writer: &mut Writer,
+    finding: Finding<&[u8]>,
+    unchecked: Option<u64>,
+) -> Result<(), AllocError>
+    ensures { Appends result writer.old writer.new (tokens_of (about_fit finding unchecked)) }
+{
+    match finding {
+        Finding::Right { images, hashes } => {
+            put_counts(writer, images as u64, hashes as u64, unchecked)
+        }
+        Finding::Unhashed(image) | Finding::Weak(image) | Finding::Overlapping(image) => {
+            put_text(alloc, writer, "image", image)
+        }
+        Finding::Wrong { image, hash, .. } => put_wrong(alloc, writer, image, hash),
+        Finding::NoImage => Ok(()),
+    }
+}
+
+// Writes the members about a finding.
+fn put_found(
+    alloc: Global,
+    writer: &mut Writer,
+    found: Checked<&[u8]>,
+    unchecked: Option<u64>,
+) -> Result<(), AllocError>
+    ensures { Appends result writer.old writer.new (tokens_of (about_found found unchecked)) }
+{
+    match found {
+        Checked::Fit(finding) => put_fit(alloc, writer, finding, unchecked),
+        Checked::Right => put_number(writer, "checksums", 2),
+        Checked::Damaged => Ok(()),
+        Checked::Weak => put_string(writer, "algo", "crc32"),
+    }
+}
+
 // Writes the members after the format.
 fn put_about(alloc: Global, writer: &mut Writer, answer: &Answer<'_>) -> Result<(), AllocError>
     ensures { Appends result writer.old writer.new (tokens_of (about answer.now)) }
 {
     match *answer {
-        Answer::Right {
-            images,
-            hashes,
-            unchecked,
-        } => put_counts(writer, images, hashes, unchecked),
-        Answer::Unhashed(image) | Answer::Weak(image) | Answer::Overlapping(image) => {
-            put_text(alloc, writer, "image", image)
-        }
-        Answer::Wrong { image, hash, .. } => put_wrong(alloc, writer, image, hash),
+        Answer::Found(found, unchecked) => put_found(alloc, writer, found, unchecked),
         Answer::Missing {
             configuration,
             property,
             name,
         } => put_missing(alloc, writer, configuration, property, name),
-        Answer::RightChecksums => put_number(writer, "checksums", 2),
-        Answer::WeakChecksums => put_string(writer, "algo", "crc32"),
-        Answer::Empty | Answer::BadChecksum => Ok(()),
         Answer::Refused(stop) | Answer::Failed(stop) => put_stop(writer, stop),
     }
 }

@@ -29,12 +29,12 @@ use Rattle.uimg_fit_base.specs.Places.{payload, TellsPlace}
 use Rattle.uimg_fit_base.specs.Report.{word_of, is_right}
 use Rattle.uimg_fit_base.proofs.FileLaws.{images_are}
 use Rattle.uimg_fit_checking.specs.declared.checking.Finding.{Finding}
-use Rattle.uimg_fit_checking.specs.declared.checking.Finding.TheVariants as finding
+use Rattle.uimg_fit_checking.specs.declared.checking.Finding.TheVariants as fit_finding
 use Rattle.uimg_fit_checking.specs.declared.checking.checked_payloads.Checked.{Checked}
 use Rattle.uimg_fit_checking.specs.declared.checking.checked_payloads.Checked.TheVariants.{On, Ended}
 use Rattle.uimg_fit_checking.specs.declared.wrong_hashes.WrongHash.{WrongHash}
 use Rattle.uimg_fit_reading.specs.Allowances.{node_allowance, allowance}
-use Rattle.uimg_fit_checking.specs.Checks.{Told, wrong, weak, overlapping, no_image, check_work, told_of, wrong_in, is_weak, or_weak, found_of, image_told, or_later, first_told, images_told, some_told, check_of, or_right}
+use Rattle.uimg_fit_checking.specs.Checks.{Told, check_work, told_of, wrong_in, is_weak, or_weak, found_of, image_told, or_later, first_told, images_told, some_told, check_of, or_right}
 use Rattle.uimg_fit_checking.specs.CheckParts.{FindsWrongBetween, IsChecked, TellsChecked, left_of, ChecksPayloadBetween, ChecksImageBetween, ChecksImagesBetween}
 use Rattle.uimg_fit_reading.specs.HashReports.{AllCovered}
 use Rattle.uimg_fit_reading.specs.Nodes.{AreFrom, HashesAt, FirstHash}
@@ -65,7 +65,7 @@ unfolding wrong_in
 right_next name message h hs is = rw is refl
 
 wrong_next : (name message : List ℕ) (h : NodeOf Spot) (hs : List (NodeOf Spot)) → is_right (word_of message h) ≡ false
-    → wrong_in name message (h ∷ hs) ≡ Some (wrong name h.name (word_of message h))
+    → wrong_in name message (h ∷ hs) ≡ Some (fit_finding.Wrong name h.name (word_of message h))
 unfolding wrong_in
 wrong_next name message h hs is = rw is refl
 
@@ -98,7 +98,7 @@ pub rights_end : (t : Siblings) (set : AlgoSet) (file message : List ℕ) (hs : 
     → FindsWrongBetween file message hs asked later (Ok (Some (record { hash = hash; word = word })))
 rights_end t set file message hs asked new number next hash k f word later is bad named short paid = record {
   short = short;
-  told = λ name. ap (λ (n : List ℕ). Some (wrong name n word)) named ∙ ap (λ (w : Verdict). Some (wrong name f.hash.name w)) is
+  told = λ name. ap (λ (n : List ℕ). Some (fit_finding.Wrong name n word)) named ∙ ap (λ (w : Verdict). Some (fit_finding.Wrong name f.hash.name w)) is
       ∙ sym (k.same name ∙ ap (wrong_in name message) f.are ∙ wrong_next name message f.hash f.more (ap is_right (sym is) ∙ bad));
   paid = omega (arith, paid, k.paid, ap (λ (l : List (NodeOf Spot)). length l) f.are);
 }
@@ -122,7 +122,7 @@ read_is image message set size is long =
     ∙ ap (λ (b : Bool). if b then length message else 0) (sym (compared_any message (hashes image)))
 
 -- an image whose payload has more bytes than are left
-over : (need : Option Algo) (left size : ℕ) (image : NodeOf Spot) (message : List ℕ) → size ≡ hashed image (Ok message) → left < size → found_of need left image message ≡ Some (overlapping image.name)
+over : (need : Option Algo) (left size : ℕ) (image : NodeOf Spot) (message : List ℕ) → size ≡ hashed image (Ok message) → left < size → found_of need left image message ≡ Some (fit_finding.Overlapping image.name)
 over need left size image message is more = rw (lt-ltb left (hashed image (Ok message)) (omega (arith, is, more))) refl
 
 -- one whose payload has not
@@ -139,9 +139,9 @@ nodes_paid : (image : NodeOf Spot) → 128 * length (hashes image) + 760 ≤ nod
 nodes_paid image = omega (arith, some_nodes (hashes image), hashes_allowed image)
 
 pub payload_over : (file : List ℕ) (need : Option Algo) (left size : ℕ) (image : NodeOf Spot) (message : List ℕ) (asked new : ℕ) (name : Span) → size ≡ hashed image (Ok message) → left < size
-    → slice file name.place name.length ≡ image.name → new ≤ asked + 32 * length (hashes image) → ChecksPayloadBetween file need left image message asked new (Ok (Ended (finding.Overlapping name)))
+    → slice file name.place name.length ≡ image.name → new ≤ asked + 32 * length (hashes image) → ChecksPayloadBetween file need left image message asked new (Ok (Ended (fit_finding.Overlapping name)))
 payload_over file need left size image message asked new name is more named paid = record {
-  told = over need left size image message is more ∙ ap (λ (n : List ℕ). Some (overlapping n)) (sym named);
+  told = over need left size image message is more ∙ ap (λ (n : List ℕ). Some (fit_finding.Overlapping n)) (sym named);
   paid = omega (arith, paid, nodes_paid image);
 }
 
@@ -160,10 +160,10 @@ payload_cut file need left image message asked new r failed paid = record {
 -- a hash node is not right
 pub payload_wrong : (file : List ℕ) (need : Option Algo) (left size : ℕ) (image : NodeOf Spot) (message : List ℕ) (asked middle new : ℕ) (name : Span) (found : WrongHash) → size ≡ hashed image (Ok message) → size ≤ left
     → middle ≤ asked + (size + 32 * length (hashes image)) → FindsWrongBetween file message (hashes image) middle new (Ok (Some found)) → slice file name.place name.length ≡ image.name
-    → ChecksPayloadBetween file need left image message asked new (Ok (Ended (finding.Wrong name found.hash found.word)))
+    → ChecksPayloadBetween file need left image message asked new (Ok (Ended (fit_finding.Wrong name found.hash found.word)))
 payload_wrong file need left size image message asked middle new name found is few paid w named = record {
   told = within need left size image message is few ∙ ap (λ (o : Option Told). or_weak o need image) (sym (w.told image.name))
-      ∙ ap (λ (n : List ℕ). Some (wrong n (slice file found.hash.place found.hash.length) found.word)) (sym named);
+      ∙ ap (λ (n : List ℕ). Some (fit_finding.Wrong n (slice file found.hash.place found.hash.length) found.word)) (sym named);
   paid = omega (arith, paid, w.paid, few, nodes_paid image);
 }
 
@@ -182,10 +182,10 @@ weak_by (Some need) image set is = ap (λ (s : AlgoSet). not (has_from s need)) 
 pub payload_weak : (file : List ℕ) (need : Option Algo) (left size : ℕ) (image : NodeOf Spot) (message : List ℕ) (asked middle new : ℕ) (set : AlgoSet) (name : Span) → size ≡ hashed image (Ok message) → size ≤ left
     → middle ≤ asked + (size + 32 * length (hashes image)) → FindsWrongBetween file message (hashes image) middle new (Ok None) → set ≡ with_all no_algos (hashes image)
     → option_map_or (λ algo. not (has_from set algo)) need false ≡ true → slice file name.place name.length ≡ image.name
-    → ChecksPayloadBetween file need left image message asked new (Ok (Ended (finding.Weak name)))
+    → ChecksPayloadBetween file need left image message asked new (Ok (Ended (fit_finding.Weak name)))
 payload_weak file need left size image message asked middle new set name is few paid w algos lacks named = record {
   told = within need left size image message is few ∙ ap (λ (o : Option Told). or_weak o need image) (sym (w.told image.name))
-      ∙ ap (λ (b : Bool). if b then Some (weak image.name) else None) (weak_by need image set algos ∙ lacks) ∙ ap (λ (n : List ℕ). Some (weak n)) (sym named);
+      ∙ ap (λ (b : Bool). if b then Some (fit_finding.Weak image.name) else None) (weak_by need image set algos ∙ lacks) ∙ ap (λ (n : List ℕ). Some (fit_finding.Weak n)) (sym named);
   paid = omega (arith, paid, w.paid, few, nodes_paid image);
 }
 
@@ -195,7 +195,7 @@ pub payload_on : (file : List ℕ) (need : Option Algo) (left size : ℕ) (image
 payload_on file need left size image message asked middle new set rest is few paid w algos lacks sum = record {
   told = (
     within need left size image message is few ∙ ap (λ (o : Option Told). or_weak o need image) (sym (w.told image.name))
-        ∙ ap (λ (b : Bool). if b then Some (weak image.name) else None) (weak_by need image set algos ∙ lacks),
+        ∙ ap (λ (b : Bool). if b then Some (fit_finding.Weak image.name) else None) (weak_by need image set algos ∙ lacks),
     omega (arith, is, sum),
   );
   paid = omega (arith, paid, w.paid, few, sum, nodes_paid image);
@@ -270,7 +270,7 @@ images_more t file need found asked new left next k image more are later rest fo
     }
 
 pub images_end : (t : Siblings) (file : List ℕ) (need : Option Algo) (found : List (NodeOf Spot)) (asked new left : ℕ) (next : Option ℕ) (k : LeftChecked t file need found asked new left next)
-    → (image : NodeOf Spot) (more : List (NodeOf Spot)) → k.rest ≡ image ∷ more → (later : ℕ) (ended : Finding) → ChecksImageBetween file need left image new later (Ok (Ended ended))
+    → (image : NodeOf Spot) (more : List (NodeOf Spot)) → k.rest ≡ image ∷ more → (later : ℕ) (ended : Finding Span) → ChecksImageBetween file need left image new later (Ok (Ended ended))
     → ChecksImagesBetween file need found asked later (Ok (Some ended))
 images_end t file need found asked new left next k image more are later ended c = record {
   told = k.same ∙ ap (first_told need file left) are ∙ told_more need file left image more
@@ -280,7 +280,7 @@ images_end t file need found asked new left next k image more are later ended c 
 
 -- a fault of an image is that of all
 fault_gives : (file : List ℕ) (left size : ℕ) (told all : Result (Option Told) Fault) (later : Result (Option Told) Fault) (fault : Fault) → all ≡ or_later told later → TellsChecked file left size told (Err fault)
-    → Gives (option_map (told_of file)) (let r : Result (Option Finding) Fault = Err fault in r) all
+    → Gives (option_map (told_of file)) (let r : Result (Option (Finding Span)) Fault = Err fault in r) all
 fault_gives file left size told all later (of.Blob fault at) is tells = absurd tells
 fault_gives file left size told all later (of.Fit fault) is tells = is ∙ ap (λ (r : Result (Option Told) Fault). or_later r later) tells
 fault_gives file left size told all later of.Read is tells = tt
@@ -318,13 +318,13 @@ check_is file t need found is has =
     ap (λ (r : Result (List (NodeOf Spot)) Fault). r >>= some_told need file) (images_are file t (Some found) is has)
 
 -- a needed strength, and no image
-lacks_image : (file : List ℕ) (t : Siblings) (need : Option Algo) (found : List (NodeOf Spot)) (first : Option ℕ) → AreFrom t in_images first found → (is_some need && is_none first) ≡ true → some_told need file found ≡ Ok no_image
+lacks_image : (file : List ℕ) (t : Siblings) (need : Option Algo) (found : List (NodeOf Spot)) (first : Option ℕ) → AreFrom t in_images first found → (is_some need && is_none first) ≡ true → some_told need file found ≡ Ok fit_finding.NoImage
 lacks_image file t None found first from lacks = absurd (true_false (sym lacks))
 lacks_image file t (Some need) found (Some i) from lacks = absurd (true_false (sym lacks))
 lacks_image file t (Some need) found None from lacks = ap (some_told (Some need) file) (none_left t in_images found from)
 
 pub check_lacks : (file : List ℕ) (t : Siblings) (need : Option Algo) (found : List (NodeOf Spot)) (first : Option ℕ) → tree file ≡ Ok t → images (spots t) ≡ Some found → AreFrom t in_images first found
-    → (is_some need && is_none first) ≡ true → check_of need file ≡ Ok no_image
+    → (is_some need && is_none first) ≡ true → check_of need file ≡ Ok fit_finding.NoImage
 check_lacks file t need found first is has from lacks = check_is file t need found is has ∙ lacks_image file t need found first from lacks
 
 -- an image, or no needed strength
@@ -342,8 +342,8 @@ pub check_has : (file : List ℕ) (t : Siblings) (need : Option Algo) (found : L
 check_has file t need found first is has from some = check_is file t need found is has ∙ has_image file t need found first from some
 
 pub check_cut : (file : List ℕ) (need : Option Algo) (found : List (NodeOf Spot)) (fault : Fault) → check_of need file ≡ images_told need file found
-    → Gives (option_map (told_of file)) (let r : Result (Option Finding) Fault = Err fault in r) (first_told need file (length file) found)
-    → Gives (told_of file) (let r : Result Finding Fault = Err fault in r) (check_of need file)
+    → Gives (option_map (told_of file)) (let r : Result (Option (Finding Span)) Fault = Err fault in r) (first_told need file (length file) found)
+    → Gives (told_of file) (let r : Result (Finding Span) Fault = Err fault in r) (check_of need file)
 check_cut file need found (of.Blob fault at) is gives = λ m. is ∙ ap (λ (r : Result (Option Told) Fault). r >>= (λ o. Ok (or_right need found o))) (gives m)
 check_cut file need found (of.Fit fault) is gives = is ∙ ap (λ (r : Result (Option Told) Fault). r >>= (λ o. Ok (or_right need found o))) gives
 check_cut file need found of.Read is gives = tt

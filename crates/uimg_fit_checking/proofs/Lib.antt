@@ -1,7 +1,6 @@
 pub mod FullSurveyLaws
 pub mod NamedLaws
 pub mod CountingLaws
-pub mod VouchingLaws
 pub mod CheckLaws
 pub mod CheckCountLaws
 pub mod CopyLaws

@@ -16,7 +16,8 @@ use Rattle.uimg_fit_checking.specs.declared.wrong_hashes.WrongHash.{WrongHash}
 use Rattle.uimg_fit_checking.specs.declared.unpacking.taker.Refusal.{Refusal}
 use Rattle.uimg_fit_checking.specs.declared.unpacking.taker.Refusal.TheVariants.{Weak}
 use Rattle.uimg_fit_checking.specs.declared.unpacking.taker.Vouched.{Vouched}
-use Rattle.uimg_fit_checking.specs.Checks.{Told, weak, wrong_in, or_weak}
+use Rattle.uimg_fit_checking.specs.declared.checking.Finding.TheVariants as fit_finding
+use Rattle.uimg_fit_checking.specs.Checks.{Told, wrong_in, or_weak}
 use Rattle.uimg_fit_checking.specs.CheckParts.{FindsWrongBetween, wrong_told}
 use Rattle.uimg_fit_reading.specs.Plans.{with_all}
 use Rattle.uimg_fit_checking.specs.Unpacking.{strongest, vouched_by, told_of}
@@ -74,7 +75,7 @@ refusal_found file need image message asked middle new wrong refusal w is paid =
 pub refusal_weak : (file : List ℕ) (need : Option Algo) (image : NodeOf Spot) (message : List ℕ) (asked new : ℕ) (set : AlgoSet) → FindsWrongBetween file message (hashes image) asked new (Ok None) → set ≡ with_all no_algos (hashes image)
     → option_map_or (λ algo. not (has_from set algo)) need false ≡ true → FindsRefusalBetween need image message asked new (Ok (Some Weak))
 refusal_weak file need image message asked new set w algos lacks = record {
-  told = sym (ap (λ (o : Option Told). or_weak o need image) (sym (w.told image.name)) ∙ ap (λ (b : Bool). if b then Some (weak image.name) else None) (weak_by need image set algos ∙ lacks));
+  told = sym (ap (λ (o : Option Told). or_weak o need image) (sym (w.told image.name)) ∙ ap (λ (b : Bool). if b then Some (fit_finding.Weak image.name) else None) (weak_by need image set algos ∙ lacks));
   paid = omega (arith, w.paid);
 }
 
@@ -82,6 +83,6 @@ refusal_weak file need image message asked new set w algos lacks = record {
 pub refusal_none : (file : List ℕ) (need : Option Algo) (image : NodeOf Spot) (message : List ℕ) (asked new : ℕ) (set : AlgoSet) → FindsWrongBetween file message (hashes image) asked new (Ok None) → set ≡ with_all no_algos (hashes image)
     → option_map_or (λ algo. not (has_from set algo)) need false ≡ false → FindsRefusalBetween need image message asked new (Ok None)
 refusal_none file need image message asked new set w algos lacks = record {
-  told = sym (ap (λ (o : Option Told). or_weak o need image) (sym (w.told image.name)) ∙ ap (λ (b : Bool). if b then Some (weak image.name) else None) (weak_by need image set algos ∙ lacks));
+  told = sym (ap (λ (o : Option Told). or_weak o need image) (sym (w.told image.name)) ∙ ap (λ (b : Bool). if b then Some (fit_finding.Weak image.name) else None) (weak_by need image set algos ∙ lacks));
   paid = omega (arith, w.paid);
 }

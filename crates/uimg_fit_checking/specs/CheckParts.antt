@@ -17,18 +17,19 @@ use Rattle.uimg_fit_base.specs.Places.{payload}
 use Rattle.uimg_texts.specs.Slices.{slice}
 use Rattle.uimg_fit_reading.specs.Values.{in_span}
 use Rattle.uimg_fit_checking.specs.declared.checking.Finding.{Finding}
+use Rattle.uimg_fit_checking.specs.declared.checking.Finding.TheVariants as fit_finding
 use Rattle.uimg_fit_checking.specs.declared.wrong_hashes.WrongHash.{WrongHash}
 use Rattle.uimg_fit_checking.specs.declared.checking.checked_payloads.Checked.{Checked}
 use Rattle.uimg_fit_checking.specs.declared.checking.checked_payloads.Checked.TheVariants.{On}
 use Rattle.uimg_fit_checking.specs.declared.checking.checked_payloads.Checked.TheVariants.{Ended}
 use Rattle.uimg_fit_reading.specs.Allowances.{node_allowance}
 use Rattle.uimg_fit_reading.specs.Work.{hashed}
-use Rattle.uimg_fit_checking.specs.Checks.{Told, wrong, told_of, EndsInside, wrong_in, found_of}
+use Rattle.uimg_fit_checking.specs.Checks.{Told, told_of, EndsInside, wrong_in, found_of}
 use Rattle.uimg_fit_checking.specs.Checks.{image_told, first_told}
 
 -- the finding about an image with a hash node that is not right
 abbrev pub wrong_told : List ℕ → List ℕ → WrongHash → Told
-wrong_told file name found = wrong name (slice file found.hash.place found.hash.length) found.word
+wrong_told file name found = fit_finding.Wrong name (slice file found.hash.place found.hash.length) found.word
 
 -- The first hash node that is not right was found; at most 96 bytes were requested for each node.
 pub record FindsWrongBetween (file message : List ℕ) (hs : List (NodeOf Spot)) (asked new : ℕ)
@@ -99,12 +100,12 @@ ChecksImage need left image result device source =
 
 -- Images were checked, up to the first finding.
 pub record ChecksImagesBetween (file : List ℕ) (need : Option Algo) (found : List (NodeOf Spot))
-    (asked new : ℕ) (result : Result (Option Finding) Fault) : Type 0 where
+    (asked new : ℕ) (result : Result (Option (Finding Span)) Fault) : Type 0 where
   pub told : Gives (option_map (told_of file)) result (first_told need file (length file) found)
   pub paid : new ≤ asked + length file + sum_by node_allowance found
 
 abbrev pub ChecksImages : {S : Type 0} → Option Algo → List (NodeOf Spot)
-    → Result (Option Finding) Fault → (S → Device) → Lent S → Type 0
+    → Result (Option (Finding Span)) Fault → (S → Device) → Lent S → Type 0
 ChecksImages need found result device source =
     ChecksImagesBetween (device source.entry.now).bytes need found (device source.entry.now).asked
     (device source.exit.now).asked result

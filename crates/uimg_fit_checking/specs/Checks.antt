@@ -5,6 +5,7 @@ use Rattle.std.specs.List.{sum_by}
 use Rattle.uimg_sums.specs.declared.algo.Algo.{Algo}
 use Rattle.uimg_texts.specs.Slices.{slice}
 use Rattle.uimg_base.specs.Results.{◌>>=◌}
+use Rattle.uimg_base.specs.declared.spans.Span.{Span}
 use Rattle.uimg_blob_reading.specs.LookUps.{NodeOf, hashes}
 use Rattle.uimg_blob_reading.specs.Spots.{Spot}
 use Rattle.uimg_fit_base.specs.declared.fault.Fault.{Fault}
@@ -25,27 +26,22 @@ use Rattle.uimg_fit_reading.specs.Work.{own_meta, hashed}
 abbrev pub check_work : List ℕ → ℕ
 check_work file = own_meta file + length file
 
--- The finding about a FIT image whose blob and payloads are in order, with the names of nodes.
-pub data Told : Type 0 where
-  right : ℕ → ℕ → Told
-  unhashed : List ℕ → Told
-  wrong : List ℕ → List ℕ → Verdict → Told
-  weak : List ℕ → Told
-  overlapping : List ℕ → Told
-  no_image : Told
+-- a finding with the names of nodes
+abbrev pub Told : Type 0
+Told = Finding (List ℕ)
 
 -- a finding with the names at its spans
-abbrev pub told_of : List ℕ → Finding → Told
-told_of file (Right images nodes) = right images nodes
-told_of file (Unhashed image) = unhashed (slice file image.place image.length)
+abbrev pub told_of : List ℕ → Finding Span → Told
+told_of file (Right images nodes) = Right images nodes
+told_of file (Unhashed image) = Unhashed (slice file image.place image.length)
 told_of file (Wrong image hash word) =
-    wrong (slice file image.place image.length) (slice file hash.place hash.length) word
-told_of file (Weak image) = weak (slice file image.place image.length)
-told_of file (Overlapping image) = overlapping (slice file image.place image.length)
-told_of file NoImage = no_image
+    Wrong (slice file image.place image.length) (slice file hash.place hash.length) word
+told_of file (Weak image) = Weak (slice file image.place image.length)
+told_of file (Overlapping image) = Overlapping (slice file image.place image.length)
+told_of file NoImage = NoImage
 
 -- each span of a finding ends within a file of this size
-abbrev pub EndsInside : ℕ → Finding → Type 0
+abbrev pub EndsInside : ℕ → Finding Span → Type 0
 EndsInside size (Right images nodes) = ⊤
 EndsInside size (Unhashed image) = image.place + image.length ≤ size
 EndsInside size (Wrong image hash word) =
@@ -59,7 +55,7 @@ unfoldable pub wrong_in : List ℕ → List ℕ → List (NodeOf Spot) → Optio
 wrong_in image message [] = None
 wrong_in image message (h ∷ hs) =
     if is_right (word_of message h) then wrong_in image message hs else Some
-    (wrong image h.name (word_of message h))
+    (Wrong image h.name (word_of message h))
 
 -- whether no hash node of an image is compared by an algorithm at least as strong as needed
 abbrev pub is_weak : Option Algo → NodeOf Spot → Bool
@@ -69,13 +65,13 @@ is_weak (Some need) image = not (is_vouched need image)
 -- a finding, or else that the image is weak
 abbrev pub or_weak : Option Told → Option Algo → NodeOf Spot → Option Told
 or_weak (Some told) need image = Some told
-or_weak None need image = if is_weak need image then Some (weak image.name) else None
+or_weak None need image = if is_weak need image then Some (Weak image.name) else None
 
 -- the finding about an image with a payload, if `left` bytes may still be read: the payload is
 -- longer, or else a hash node is not right, or else the image is weak
 abbrev pub found_of : Option Algo → ℕ → NodeOf Spot → List ℕ → Option Told
 found_of need left image message =
-    if nat_lt left (hashed image (Ok message)) then Some (overlapping image.name)
+    if nat_lt left (hashed image (Ok message)) then Some (Overlapping image.name)
     else or_weak (wrong_in image.name message (hashes image)) need image
 
 -- the same, or the fault of the payload
@@ -119,8 +115,8 @@ unhashed_of (Some need) found = None
 
 -- the finding about images whose hash nodes are all right
 abbrev pub right_or : Option (List ℕ) → List (NodeOf Spot) → Told
-right_or (Some name) found = unhashed name
-right_or None found = right (length found) (hash_count found)
+right_or (Some name) found = Unhashed name
+right_or None found = Right (length found) (hash_count found)
 
 abbrev pub all_right : Option Algo → List (NodeOf Spot) → Told
 all_right need found = right_or (unhashed_of need found) found
@@ -139,7 +135,7 @@ images_told need file found = do
 -- a needed strength requires an image
 abbrev pub some_told : Option Algo → List ℕ → List (NodeOf Spot) → Result Told Fault
 some_told None file found = images_told None file found
-some_told (Some need) file [] = Ok no_image
+some_told (Some need) file [] = Ok NoImage
 some_told (Some need) file (image ∷ more) = images_told (Some need) file (image ∷ more)
 
 -- the finding about a file, or its first fault

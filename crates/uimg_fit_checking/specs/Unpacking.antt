@@ -27,7 +27,8 @@ use Rattle.uimg_fit_checking.specs.declared.unpacking.Unpacked.{Unpacked}
 use Rattle.uimg_fit_checking.specs.declared.unpacking.Unpacked.TheVariants.{Taken, Overlapping}
 use Rattle.uimg_blob_reading.specs.Faults.{refuses_memory}
 use Rattle.uimg_fit_reading.specs.Work.{own_meta}
-use Rattle.uimg_fit_checking.specs.Checks.{Told, wrong, weak, wrong_in, or_weak}
+use Rattle.uimg_fit_checking.specs.Checks.{Told, wrong_in, or_weak}
+use Rattle.uimg_fit_checking.specs.declared.checking.Finding.TheVariants as fit_finding
 use Rattle.uimg_fit_reading.specs.Plans.{with_all}
 
 -- the bytes of a name
@@ -41,8 +42,8 @@ pub data Take : Type 0 where
 
 -- why an image is refused, with its name
 abbrev pub told_of : List ℕ → Refusal → Told
-told_of name (Wrong hash word) = wrong name (bytes_of hash) word
-told_of name Weak = weak name
+told_of name (Wrong hash word) = fit_finding.Wrong name (bytes_of hash) word
+told_of name Weak = fit_finding.Weak name
 
 -- One more was given, unless a device failed.
 abbrev pub AddsIf : {E : Type 0} → Result ⊤ E → List Take → List Take → Take → Type 0

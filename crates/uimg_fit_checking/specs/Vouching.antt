@@ -1,15 +1,12 @@
 -- Which images their hash nodes vouch for.
-use Rattle.std.specs.Prelude.{List, ℕ, [], ◌∷◌, Bool, false, Result, Ok}
-use Rattle.std.specs.List.{list_all, list_any}
+use Rattle.std.specs.Prelude.{List, [], ◌∷◌, Bool}
+use Rattle.std.specs.List.{list_any}
 use Rattle.uimg_sums.specs.declared.algo.Algo.{Algo}
 use Rattle.uimg_sums.specs.declared.algo.Algo.TheVariants.{Crc32, Md5, Sha1, Sha256, Sha384, Sha512}
-use Rattle.uimg_base.specs.Results.{◌>>=◌}
 use Rattle.uimg_blob_reading.specs.LookUps.{NodeOf, hashes}
 use Rattle.uimg_blob_reading.specs.Spots.{Spot}
 use Rattle.uimg_fit_base.specs.declared.algo_sets.AlgoSet.{AlgoSet}
-use Rattle.uimg_fit_base.specs.declared.fault.Fault.{Fault}
 use Rattle.uimg_fit_base.specs.AlgoSets.{has, no_algos}
-use Rattle.uimg_fit_base.specs.Files.{images_of}
 use Rattle.uimg_fit_reading.specs.Plans.{with_all}
 
 -- the algorithms that are at least as strong as this one
@@ -28,14 +25,3 @@ has_from set need = list_any (has set) (from need)
 -- A hash node of an image is compared by an algorithm at least as strong as the needed one.
 abbrev pub is_vouched : Algo → NodeOf Spot → Bool
 is_vouched need image = has_from (with_all no_algos (hashes image)) need
-
--- there are images, and each of them is vouched for
-abbrev pub are_vouched : Algo → List (NodeOf Spot) → Bool
-are_vouched need [] = false
-are_vouched need (image ∷ more) = list_all (is_vouched need) (image ∷ more)
-
--- the same for the images of a file, or its first fault
-abbrev pub vouched_in : Algo → List ℕ → Result Bool Fault
-vouched_in need file = do
-  found ← images_of file
-  Ok (are_vouched need found)

@@ -19,9 +19,9 @@ use uimg_fit_reading::images::first_image;
 use uimg_fit_reading::read_tree;
 
 /// The finding about a FIT image whose blob and payloads are in order. Images and hash nodes are
-/// given by the spans of their names.
+/// given by the spans of their names in the file, or by the names themselves.
 #[derive(Clone, Copy, Debug, PartialEq, Eq)]
-pub enum Finding {
+pub enum Finding<N> {
     /// Each image has a hash node, and each hash node is right.
     Right {
         /// The number of images.
@@ -31,22 +31,22 @@ pub enum Finding {
     },
     /// Each hash node is right, and this is the first image without one. Returned only if no
     /// strength is needed.
-    Unhashed(Span),
+    Unhashed(N),
     /// A hash node is not right.
     Wrong {
         /// The image.
-        image: Span,
+        image: N,
         /// The hash node, the first of the image that is not right.
-        hash: Span,
+        hash: N,
         /// The word that a report prints for it.
         word: Verdict,
     },
     /// No hash node of the image is compared with its payload by an algorithm at least as strong as
     /// the needed one.
-    Weak(Span),
+    Weak(N),
     /// With this image, the compared payloads have more bytes together than the file, so some of
     /// them overlap.
-    Overlapping(Span),
+    Overlapping(N),
     /// There is no image, but a strength is needed.
     NoImage,
 }
@@ -65,7 +65,7 @@ pub fn check<S: Source, A: Allocator>(
     need: Option<Algo>,
     source: &mut S,
     room: &mut Room<A>,
-) -> Result<Finding, Fault>
+) -> Result<Finding<Span>, Fault>
     ensures inspects { Inspects check_work result S.device source room }
     ensures inside { IfOk result (EndsInside (length (S.device source.old).bytes)) }
     ensures told { IfHonest S.device source

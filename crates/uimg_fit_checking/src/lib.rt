@@ -17,4 +17,3 @@ pub use surveying::{
     survey_with_properties,
 };
 pub use unpacking::{MemTake, MemTaker, NodeName, Refusal, Taker, Unpacked, Vouched, unpack};
-pub use vouching::is_vouched;

@@ -26,7 +26,7 @@ pub(crate) struct WrongHash {
 
 impl WrongHash {
     // Returns the finding about an image with such a hash node; `image` is the span of its name.
-    pub(crate) fn finding(self, image: Span) -> Finding
+    pub(crate) fn finding(self, image: Span) -> Finding<Span>
         ensures { result ≡ Finding.Wrong image self.hash self.word }
     {
         Finding::Wrong {

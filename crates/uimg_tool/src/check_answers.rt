@@ -7,7 +7,6 @@ use std::alloc::Global;
 use uimg_base::{Source, Span};
 use uimg_checks::{Answer, Checked, Format, Missing, Stop};
 use uimg_engine::Fault;
-use uimg_fit_base::Verdict;
 use uimg_fit_checking::Finding;
 
 /// The longest name of a node, in bytes.
@@ -63,18 +62,24 @@ impl Names {
 /// Returns the result of a check, with the number of nodes of configurations, if they were counted.
 /// The names are read from the source; if a read fails, that is the result.
 pub(crate) fn answer_of<'a, S: Source>(
-    end: Result<Checked, Fault>,
+    end: Result<Checked<Span>, Fault>,
     unchecked: Option<u64>,
     source: &mut S,
     names: &'a mut Names,
 ) -> Answer<'a> {
-    match end {
-        Ok(Checked::Fit(finding)) => answer_of_fit(finding, unchecked, source, names),
-        Ok(Checked::Right) => Answer::RightChecksums,
-        Ok(Checked::Damaged) => Answer::BadChecksum,
-        Ok(Checked::Weak) => Answer::WeakChecksums,
-        Err(fault) => answer_of_fault(fault, names),
-    }
+    let found = match end {
+        Ok(Checked::Fit(finding)) => {
+            if !read_names(finding, source, names) {
+                return answer_of_fault(Fault::Read, names);
+            }
+            Checked::Fit(named(finding, names))
+        }
+        Ok(Checked::Right) => Checked::Right,
+        Ok(Checked::Damaged) => Checked::Damaged,
+        Ok(Checked::Weak) => Checked::Weak,
+        Err(fault) => return answer_of_fault(fault, names),
+    };
+    Answer::Found(found, unchecked)
 }
 
 /// Returns the result for a missing name.
@@ -153,70 +158,53 @@ fn offset_of(fault: Fault) -> Option<u64> {
     }
 }
 
-fn answer_of_fit<'a, S: Source>(
-    finding: Finding,
-    unchecked: Option<u64>,
-    source: &mut S,
-    names: &'a mut Names,
-) -> Answer<'a> {
+// Reads the names of a finding. Returns false if one cannot be read.
+fn read_names<S: Source>(finding: Finding<Span>, source: &mut S, names: &mut Names) -> bool {
     match finding {
-        Finding::Right { images, hashes } => Answer::Right {
-            images: images as u64,
-            hashes: hashes as u64,
-            unchecked,
-        },
-        Finding::Wrong { image, hash, word } => about_hash(word, source, image, hash, names),
+        Finding::Right { .. } | Finding::NoImage => true,
         Finding::Unhashed(image) | Finding::Weak(image) | Finding::Overlapping(image) => {
-            about_image(finding, source, image, names)
+            read_name(source, image, &mut names.image).is_some()
         }
-        Finding::NoImage => Answer::Empty,
+        Finding::Wrong { image, hash, .. } => {
+            read_name(source, image, &mut names.image).is_some()
+                && read_name(source, hash, &mut names.hash).is_some()
+        }
     }
 }
 
-// Returns the result for an image.
-fn about_image<'a, S: Source>(
-    finding: Finding,
-    source: &mut S,
-    image: Span,
-    names: &'a mut Names,
-) -> Answer<'a> {
-    let Some(length) = read_name(source, image, &mut names.image) else {
-        return answer_of_fault(Fault::Read, names);
-    };
-    let name = &names.image[..length];
+// Returns a finding with its names, which were read.
+fn named<'a>(finding: Finding<Span>, names: &'a Names) -> Finding<&'a [u8]> {
     match finding {
-        Finding::Weak(_) => Answer::Weak(name),
-        Finding::Overlapping(_) => Answer::Overlapping(name),
-        _ => Answer::Unhashed(name),
+        Finding::Right { images, hashes } => Finding::Right { images, hashes },
+        Finding::Unhashed(image) => Finding::Unhashed(name_in(&names.image, image)),
+        Finding::Wrong { image, hash, word } => Finding::Wrong {
+            image: name_in(&names.image, image),
+            hash: name_in(&names.hash, hash),
+            word,
+        },
+        Finding::Weak(image) => Finding::Weak(name_in(&names.image, image)),
+        Finding::Overlapping(image) => Finding::Overlapping(name_in(&names.image, image)),
+        Finding::NoImage => Finding::NoImage,
     }
 }
 
-// Returns the result for a hash node that is not right.
-fn about_hash<'a, S: Source>(
-    word: Verdict,
-    source: &mut S,
-    image: Span,
-    hash: Span,
-    names: &'a mut Names,
-) -> Answer<'a> {
-    let (Some(length), Some(hash_length)) = (
-        read_name(source, image, &mut names.image),
-        read_name(source, hash, &mut names.hash),
-    ) else {
-        return answer_of_fault(Fault::Read, names);
-    };
-    Answer::Wrong {
-        word,
-        image: &names.image[..length],
-        hash: &names.hash[..hash_length],
-    }
+// Returns the length of a name, at most that of the longest.
+fn name_length(name: Span) -> usize
+    ensures { result ≤ 255 }
+{
+    u64::min(name.length, NAME_LEN as u64) as usize
+}
+
+// Returns a name that was read into `bytes`.
+fn name_in(bytes: &[u8; NAME_LEN], name: Span) -> &[u8] {
+    &bytes[..name_length(name)]
 }
 
 // Reads a name into `bytes`, and returns its length, or none if it cannot be read.
 fn read_name<S: Source>(source: &mut S, name: Span, bytes: &mut [u8; NAME_LEN]) -> Option<usize>
     ensures { IfSome result (λ length. length ≤ 255) }
 {
-    let length = u64::min(name.length, NAME_LEN as u64) as usize;
+    let length = name_length(name);
     let size = source.size().ok()?;
     if name.place > size || size - name.place < length as u64 {
         return None;

@@ -30,34 +30,39 @@ pub struct CheckRequest<'a> {
 
 pub(super) fn command<'a>(alloc: Global) -> Result<clap::Command<'a>, AllocError> {
     clap::Command::new(alloc, "check")
-        .about("Check many images, with a line for each")
+        .about("Check many images, a line for each")
         .after_help(CHECK_NOTES)
         .arg(
             Arg::new(alloc, "need")
                 .long("need")
                 .action(ArgAction::Set)
                 .value_name("algo")
-                .help("Ask for a hash by this algorithm or a stronger one"),
+                .help("Require a hash by this algorithm or a stronger one"),
         )?
         .arg(
             Arg::new(alloc, "strict")
                 .long("strict")
                 .action(ArgAction::SetTrue)
-                .help("Ask for a hash of each image, and for what configurations name"),
+                .help("Require a hash of each image, and an image for each name in configurations"),
         )?
         .arg(
             Arg::new(alloc, "files-from")
                 .long("files-from")
                 .action(ArgAction::Set)
                 .value_name("file")
-                .help("Check the images that this file names too, a line each"),
+                .help("Also check the images in this file, one path a line"),
         )?
-        .arg(flag(alloc, "nuls", '0', "End each name of that file by a NUL"))?
+        .arg(flag(
+            alloc,
+            "nuls",
+            '0',
+            "Paths in that file end with NUL, not with a newline",
+        ))?
         .arg(
             Arg::new(alloc, "json")
                 .long("json")
                 .action(ArgAction::SetTrue)
-                .help("Write an object of JSON for each image"),
+                .help("Print a JSON object for each image"),
         )?
         .arg(
             Arg::new(alloc, "image")

@@ -17,19 +17,19 @@ pub(super) fn command<'a>(alloc: Global) -> Result<clap::Command<'a>, AllocError
             alloc,
             "type",
             'T',
-            "Ask for a legacy or a FIT image, by a short name below",
+            "Read the image as a FIT or legacy image, by a short name below",
         ))?
         .arg(value(
             alloc,
             "position",
             'p',
-            "Extract the part or payload of this number, counted from 0",
+            "Extract the part or payload at this position, counted from 0",
         ))?
         .arg(value(
             alloc,
             "outfile",
             'o',
-            "Write what is extracted to this file",
+            "Write the part or payload to this file",
         ))?
         .arg(image(alloc, "The image"))
 }

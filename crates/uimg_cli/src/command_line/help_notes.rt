@@ -14,10 +14,9 @@ pub(super) const MKIMAGE_NOTES: &str = "Short names:
           flat_dt (not for -d) kernel_noload
   <comp>  none gzip bzip2 lzma lzo lz4 zstd
 
-A value that begins with '-' stands right behind its option, as in -n-x.
-With -f the options before -d have no effect, and with -d -E and -p have none.
-A position of 0 is as none. Files that the image source names are looked for in
-its folder, unless their names begin with '/'.
+A value that begins with '-' follows its option directly, as in -n-x. -f ignores
+the options from -A to -n, and -d ignores -E and -p. -p 0 is the same as no -p.
+Relative file names in the image source start from its folder.
 
 Examples:
   uimg mkimage -A arm64 -C none -a 80000 -n 'kernel 6.1' -d Image uImage
@@ -25,18 +24,18 @@ Examples:
   uimg mkimage -f kernel.its -E -p 1000 kernel.itb
 
 Exit status:
-  0  The image was made, or listed
+  0  The image was made or listed
   1  The image, a part or the image source is refused
-  2  The command line is wrong, or the image is one of the files it is made of
-  3  A file cannot be opened, or a read, a write or memory failed";
+  2  The command line is wrong, or the image would replace a file that it is made of
+  3  A file cannot be opened, a read or write failed, or memory ran out";
 
 /// The notes of dumpimage.
 pub(super) const DUMPIMAGE_NOTES: &str = "Short names:
   <type>  standalone kernel ramdisk multi firmware script filesystem
           flat_dt kernel_noload
 
-flat_dt asks for a FIT image, each other name for a legacy image, whatever type
-its header has. Without -T the first four bytes tell the format.
+flat_dt reads the image as a FIT image, every other name as a legacy image,
+whatever type its header has. Without -T the first four bytes decide.
 
 Examples:
   uimg dumpimage -l uImage
@@ -46,63 +45,61 @@ Examples:
 Exit status:
   0  The image was listed, or the part extracted
   1  The image or the part is refused
-  2  The command line is wrong, or the outfile is the image
-  3  A file cannot be opened, or a read, a write or memory failed";
+  2  The command line is wrong, or the outfile would replace the image
+  3  A file cannot be opened, a read or write failed, or memory ran out";
 
 /// The notes of verify.
 pub(super) const VERIFY_NOTES: &str =
-    "The checksums of a legacy image are those of the header and of the data. The
-table of sizes of the types multi and script is not checked: dumpimage -l reads
-it. Of a FIT image each hash node of each image is reported on: ok, bad,
-malformed or unsupported. An image without hash nodes is unhashed. Signatures
-and the hashes of configurations are not checked.
+    "Prints a line for each checksum: of a legacy image those of the header and of
+the data, of a FIT image each hash node of each image. A line ends with ok, bad,
+malformed or unsupported, or with unhashed for an image without hash nodes.
+The table of sizes of the types multi and script is not checked (dumpimage -l
+reads it), and neither are signatures and the hashes of configurations.
 
 Examples:
   uimg verify uImage
   uimg verify kernel.itb && cp kernel.itb /boot
 
 Exit status:
-  0  Each line ends with ok or unhashed, or there is none
+  0  Each line ends with ok or unhashed, or there is no line
   1  A line ends with another word, or the image is refused
   2  The command line is wrong
-  3  A file cannot be opened, or a read, a write or memory failed";
+  3  A file cannot be opened, a read or write failed, or memory ran out";
 
 /// The notes of check.
 pub(super) const CHECK_NOTES: &str = "Algorithms, from the weakest to the strongest:
   <algo>  crc32 md5 sha1 sha256 sha384 sha512
 
-A line for each image: its path, and what was found first.
-  ok           Each hash is right, or both checksums of a legacy image are; with
-               --strict a FIT's line ends with how many nodes its configurations
-               have, if any: 2 nodes of configurations unchecked
-  unhashed     The same, but this image of a FIT has no hash
-  bad          This hash of an image is not right, or a checksum is not
-  malformed    This hash of an image has no algorithm, or no value of its length
-  unsupported  This hash of an image has an unknown algorithm
-  weak         This image has no hash as strong as --need, or is a legacy image;
-               --strict alone asks for any hash
-  empty        There is no image in the FIT, where --need or --strict is given
-  missing      With --strict: this configuration gives this name, by kernel, ramdisk,
-               fdt, loadables, firmware, fpga, setup, standalone or script, and no
-               image has it; or the default, and no configuration has it
-  overlapping  With this image there are more bytes to hash than the file has
-  refused      The image is refused by this fault
-  failed       The file cannot be opened, or a read or memory failed
-Control characters and \\ are written \\xNN in a name. The names of --files-from -
-are those of standard input. With --json a line is an object: path, status,
-verdict (the word), and what is known of format, images, hashes, unchecked,
-checksums, algo, image, hash, configuration, property, name, fault, message and
-offset.
-Signatures and the hashes of configurations are not checked; --strict counts those
-of configurations.
+A line has the path of the image and the first finding:
+  ok           All hashes are right, or both checksums of a legacy image. With
+               --strict the line of a FIT also counts the nodes of its
+               configurations, if any: 2 nodes of configurations unchecked
+  unhashed     The same, but this image of the FIT has no hash
+  bad          This hash of this image is wrong, or a checksum of a legacy image
+  malformed    This hash has no algorithm, or a value of the wrong length
+  unsupported  This hash has an unknown algorithm
+  weak         This image has no hash as strong as --need, or with --strict none;
+               a legacy image has crc32
+  empty        The FIT has no images (with --need or --strict)
+  missing      With --strict: no image has this name, which this configuration
+               gives by kernel, ramdisk, fdt, loadables, firmware, fpga, setup,
+               standalone or script; or no configuration is the default
+  overlapping  With this image, the payloads to hash are longer than the file
+  refused      The image is refused, with this fault
+  failed       The file cannot be opened, a read failed, or memory ran out
+Names print control characters and \\ as \\xNN. --files-from - reads standard
+input. --json prints path, status and verdict (the word), and depending on it
+format, images, hashes, unchecked, checksums, algo, image, hash, configuration,
+property, name, fault, message and offset.
+Signatures and the hashes of configurations are not checked.
 
 Examples:
   uimg check --strict --need sha256 kernel.itb rescue.itb
   find /srv/images -name '*.itb' -print0 | uimg check -0 --files-from -
 
-Exit status: the greatest of all lines
+Exit status, the greatest of all lines:
   0  ok or unhashed
-  1  Another word than these and failed
+  1  Any other word except failed
   2  The command line is wrong
   3  failed, or a line cannot be written";
 
@@ -110,28 +107,28 @@ Exit status: the greatest of all lines
 pub(super) const UNPACK_NOTES: &str = "Algorithms, from the weakest to the strongest:
   <algo>  crc32 md5 sha1 sha256 sha384 sha512
 
-Each payload is read once: summed while it is written to .uimg-new1 of the
-folder. It gets its name only where each hash of its image is right, and one is
-as strong as --need-hash. A line for each:
-  kernel: 3 bytes, sha256 ba7816..  It is kept; what vouches for it, with which digest
-  kernel: 3 bytes, unhashed         It is kept; its image has no hash
-  kernel: bad hash-1                It is not kept, as this hash is not right
-                                    (malformed, unsupported: as verify tells it)
-  kernel: weak                      It is not kept: no hash is strong enough
-  kernel: overlapping               None is kept: with it there are more bytes than
-                                    the file has
-A file has its image's name where that has letters, digits and . _ - + @ alone,
-begins with neither . nor -, and is that of no payload before it (a and A are the
-same); else it is image-N, N counted from 0 (kernel: 3 bytes as image-1, ..).
-Nothing is written where one of the files is there already, unless --force
-replaces them; then a file whose new payload is refused is removed. In names,
-control characters, \\, spaces, colons and commas are written \\xNN.
+Each payload is read once, and hashed while it is written to .uimg-new1 in the
+folder. It gets its name only if each hash of its image is right and, with
+--need-hash, one of them is strong enough. A line for each payload:
+  kernel: 3 bytes, sha256 ba7816..  Kept; its strongest hash, which is right
+  kernel: 3 bytes, unhashed         Kept; its image has no hash
+  kernel: bad hash-1                Not kept; this hash is wrong (or malformed, or
+                                    unsupported, as in verify)
+  kernel: weak                      Not kept; no hash is strong enough
+  kernel: overlapping               None is kept; with this one, the payloads are
+                                    longer than the file
+A file has the name of its image if that has only letters, digits and . _ - + @,
+does not begin with . or -, and differs from all earlier ones (a and A count as
+the same). Otherwise it is image-N, with N counted from 0 (kernel: 3 bytes as
+image-1, ..). If one of the files exists, nothing is written; with --force it is
+replaced, or removed if its new payload is refused. Names print control
+characters, \\, spaces, colons and commas as \\xNN.
 Signatures and the hashes of configurations are not checked.
 
-Of a legacy image all parts are kept, or where it has none its data, if the
-checksum of the data is right; until then they stand in a folder .uimg-new1:
-  image-0: 3 bytes, data crc32 352441c2  It is kept; the data are right by this
-  kernel.img: weak crc32                 None is kept: --need-hash is stronger
+Of a legacy image all parts are kept, or the data of one without parts, if the
+checksum of the data is right. Until then they are in a folder .uimg-new1:
+  image-0: 3 bytes, data crc32 352441c2  Kept; the checksum of the data is right
+  kernel.img: weak crc32                 None is kept; --need-hash is stronger
 
 Examples:
   uimg unpack -C /srv/tftp --need-hash sha256 kernel.itb
@@ -139,25 +136,25 @@ Examples:
   uimg unpack --only image-1 uImage
 
 Exit status:
-  0  All payloads or parts that were asked for are kept
-  1  A payload is refused, there is no such image or part, or the image is refused
-  2  The command line is wrong, or a file would be the image
-  3  A file cannot be opened, is there already or cannot be written, or memory failed";
+  0  All requested payloads or parts are kept
+  1  A payload is refused, the image or part does not exist, or the image is refused
+  2  The command line is wrong, or a file would replace the image
+  3  A file cannot be opened, exists or cannot be written, or memory ran out";
 
 /// The notes of map.
 pub(super) const MAP_NOTES: &str =
-    "A line for each thing, by where it begins and then by where it ends: its offset
-and its end in hexadecimal, its size, a bar of the file, and what it is.
-  gap                    Bytes of nothing, with something behind them
-  rest                   Bytes of nothing up to the file's end
-    payload of kernel    It stands in the structure block, as the value of data
-  .., overlaps strings   It has bytes that this thing of a line before has too
-  .., outside the file   It ends behind the file's end
-  fault B5 bad token ..  Here is the fault that the image is refused for
-A refused image has a map too, of what its header tells. The reservation block
-is counted up to its entry of zeros; where none comes it ends outside the file.
-Neither payloads nor data are read: verify checks them. In names, control
-characters, \\, spaces, colons and commas are written \\xNN.
+    "A line for each item, by its offset and then by its end: offset and end in
+hexadecimal, size, a bar of the file, and what it is.
+  gap                    Unused bytes before another item
+  rest                   Unused bytes up to the end of the file
+    payload of kernel    In the structure block, as the value of data
+  .., overlaps strings   Shares bytes with this earlier item
+  .., outside the file   Ends after the end of the file
+  fault B5 bad token ..  The fault that the image is refused with
+A refused image has a map too, of what its header says. The reservation block
+ends with its entry of zeros; without one it ends outside the file. Payloads and
+data are not read: verify checks them. Names print control characters, \\, spaces,
+colons and commas as \\xNN.
 
 Examples:
   uimg map kernel.itb
@@ -165,29 +162,29 @@ Examples:
 
 Exit status:
   0  The map was written
-  1  It was written too, and the image is refused, or something ends outside the file
-  2  The command line is wrong, or the picture would be the image
-  3  A file cannot be opened or written, or a read or memory failed";
+  1  It was written, but the image is refused, or an item ends outside the file
+  2  The command line is wrong, or the picture would replace the image
+  3  A file cannot be opened or written, a read failed, or memory ran out";
 
 /// The notes of info.
 pub(super) const INFO_NOTES: &str =
-    "One line is written, an object. Of a FIT image it has path, status, format, size,
+    "Prints one line, a JSON object. Of a FIT image it has path, status, format, size,
 totalsize, description, timestamp, default, reservations, images and
-configurations; an image has name, description, type, arch, os, compression, load,
-entry, offset and data-size (where its payload stands), hashes, and where it has no
-payload in the file fault and message; a configuration what its properties name,
-nodes and properties. Of a legacy image it has path, status, format, size, name,
-time, load, entry, header-crc, data-crc, os, arch, type and compression, each with
-its code, data-size and parts. What is missing in the image is left out. An image
-that is refused, or cannot be read, has the line that check --json has of it.
-Hashes and the checksums of a legacy image's data are told, and not checked.
+configurations. An image has name, description, type, arch, os, compression, load,
+entry, offset and data-size of its payload, and hashes; without a payload in the
+file it has fault and message. A configuration has the names that its properties
+give, nodes and properties. Of a legacy image the object has path, status, format,
+size, name, time, load, entry, header-crc, data-crc, os, arch, type and compression
+(each with its code), data-size and parts. What the image lacks is left out. An
+image that is refused or cannot be read has the line of check --json.
+Hashes and the checksum of a legacy image's data are printed, not checked.
 
 Examples:
   uimg info kernel.itb
   uimg info kernel.itb | jq -r '.images[] | select(.type == \"kernel\") | .load'
 
 Exit status:
-  0  The facts are told
+  0  The facts were printed
   1  The image is refused
   2  The command line is wrong
-  3  The file cannot be opened, or a read, a write or memory failed";
+  3  A file cannot be opened, a read or write failed, or memory ran out";

@@ -14,13 +14,13 @@ pub struct InfoRequest<'a> {
 
 pub(super) fn command<'a>(alloc: Global) -> Result<clap::Command<'a>, AllocError> {
     clap::Command::new(alloc, "info")
-        .about("Tell the facts of an image as JSON, for scripts")
+        .about("Print the facts of an image as JSON, for scripts")
         .after_help(INFO_NOTES)
         .arg(
             Arg::new(alloc, "json")
                 .long("json")
                 .action(ArgAction::SetTrue)
-                .help("Write an object of JSON, as is done without it too"),
+                .help("Print a JSON object (the default)"),
         )?
         .arg(image(alloc, "The image"))
 }

@@ -17,14 +17,14 @@ pub struct MapRequest<'a> {
 
 pub(super) fn command<'a>(alloc: Global) -> Result<clap::Command<'a>, AllocError> {
     clap::Command::new(alloc, "map")
-        .about("Show what lies where in the file of an image, whole or broken")
+        .about("Show the layout of an image's file, even of a broken one")
         .after_help(MAP_NOTES)
         .arg(
             Arg::new(alloc, "svg")
                 .long("svg")
                 .action(ArgAction::Set)
                 .value_name("file")
-                .help("Write a picture to this file, in place of lines"),
+                .help("Write a picture to this file instead of printing lines"),
         )?
         .arg(image(alloc, "The image"))
 }

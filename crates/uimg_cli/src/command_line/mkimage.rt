@@ -17,8 +17,8 @@ pub(super) fn command<'a>(alloc: Global) -> Result<clap::Command<'a>, AllocError
     let command = header_options(alloc, command)?;
     let command = source_options(alloc, command)?;
     command
-        .arg(flag(alloc, "list", 'l', "List the image, and make none"))?
-        .arg(image(alloc, "The image to make, or with -l to list"))
+        .arg(flag(alloc, "list", 'l', "List the image instead of making one"))?
+        .arg(image(alloc, "The image to make, or with -l the image to list"))
 }
 
 // Adds the options of an image that is made from data.
@@ -53,7 +53,7 @@ fn header_options<'a>(
             alloc,
             "data",
             'd',
-            "The data's file; for multi and script several, with colons between them",
+            "The file with the data; for multi and script, files separated by colons",
         ))
 }
 
@@ -63,18 +63,18 @@ fn source_options<'a>(
     command: clap::Command<'a>,
 ) -> Result<clap::Command<'a>, AllocError> {
     command
-        .arg(value(alloc, "source", 'f', "The image source of a FIT image"))?
+        .arg(value(alloc, "source", 'f', "The image-tree source of a FIT image"))?
         .arg(flag(
             alloc,
             "external",
             'E',
-            "With -f: place the data after the tree",
+            "With -f: place the data after the blob",
         ))?
         .arg(value(
             alloc,
             "position",
             'p',
-            "With -f and -E: place the data at this position, hexadecimal",
+            "With -f and -E: place the data at this offset of the file, hexadecimal",
         ))
 }
 

@@ -27,28 +27,28 @@ pub struct UnpackRequest<'a> {
 
 pub(super) fn command<'a>(alloc: Global) -> Result<clap::Command<'a>, AllocError> {
     clap::Command::new(alloc, "unpack")
-        .about("Put the payloads of an image in a folder, where their hashes are right")
+        .about("Write the payloads of an image to a folder, if their hashes are right")
         .after_help(UNPACK_NOTES)
-        .arg(value(alloc, "folder", 'C', "Put the files in this folder"))?
+        .arg(value(alloc, "folder", 'C', "Write the files to this folder"))?
         .arg(
             Arg::new(alloc, "only")
                 .long("only")
                 .action(ArgAction::Set)
                 .value_name("name")
-                .help("Take the payload of the image of this name alone, or one part: image-0"),
+                .help("Unpack only the payload of the image of this name, or one part: image-0"),
         )?
         .arg(
             Arg::new(alloc, "need-hash")
                 .long("need-hash")
                 .action(ArgAction::Set)
                 .value_name("algo")
-                .help("Ask for a hash by this algorithm or a stronger one"),
+                .help("Require a hash by this algorithm or a stronger one"),
         )?
         .arg(
             Arg::new(alloc, "force")
                 .long("force")
                 .action(ArgAction::SetTrue)
-                .help("Replace files that are there"),
+                .help("Replace files that exist"),
         )?
         .arg(image(alloc, "The image"))
 }

@@ -99,7 +99,7 @@ pub(crate) fn all_right<A: Allocator>(
     room: &Room<A>,
     first: Option<usize>,
     need: Option<Algo>,
-) -> Finding
+) -> Finding<Span>
     requires { IsEntryOrNone blob.now room.now first }
     ensures inside { InAnyFile blob.now room.now (λ size. EndsInside size result) }
     ensures told { FromNode blob.now room.now in_images first

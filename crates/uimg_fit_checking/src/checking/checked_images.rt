@@ -10,7 +10,7 @@ ghost use Rattle.uimg_fit_checking.specs.UnpackingParts.{ReadsOrRefuses};
 use crate::checking::Finding;
 use crate::checking::checked_payloads::{Checked, check_payload};
 use std::alloc::Allocator;
-use uimg_base::{Algo, Room, Source};
+use uimg_base::{Algo, Room, Source, Span};
 use uimg_blob_reading::Blob;
 use uimg_fit_base::Fault;
 use uimg_fit_reading::nodes::next_of;
@@ -42,7 +42,7 @@ pub(crate) fn first_finding<S: Source, A: Allocator>(
     room: &mut Room<A>,
     first: Option<usize>,
     need: Option<Algo>,
-) -> Result<Option<Finding>, Fault>
+) -> Result<Option<Finding<Span>>, Fault>
     requires { HasNodes (S.device source.old) blob.now room.old first }
     ensures leaves { ReadsOrRefuses result S.device source room }
     ensures inside { IfOk result (λ found. IfSome found

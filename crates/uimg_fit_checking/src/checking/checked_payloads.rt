@@ -23,7 +23,7 @@ pub(crate) enum Checked {
     // It is in order, and this many bytes may still be read.
     On(u64),
     // The finding about it.
-    Ended(Finding),
+    Ended(Finding<Span>),
 }
 
 // Returns how many bytes of a payload are read to compare it by the algorithms of a set.

@@ -4,6 +4,7 @@ use Rattle.std.specs.Option.{is_some, option_map}
 use Rattle.uimg_base.specs.Held.{Held}
 use Rattle.uimg_fit_base.specs.declared.fault.Fault.{Fault}
 use Rattle.uimg_fit_base.specs.Faults.{Gives}
+use Rattle.uimg_base.specs.declared.spans.Span.{Span}
 use Rattle.uimg_fit_checking.specs.declared.checking.Finding.{Finding}
 use Rattle.uimg_fit_checking.specs.Checks.{Told, told_of, check_of}
 use Rattle.uimg_fit_checking.specs.CheckParts.{ChecksImagesBetween}
@@ -55,7 +56,7 @@ returns-in_err-finding-clause-told g c = λ honest.
     let some : (is_some c.args.need && is_none c.in_ok-first.first) ≡ false = search rules in
     let has = check_has file h.nodes c.args.need found.found c.in_ok-first.first h.read.is found.is found.from some in
     let is : c.from_residual-in_err-finding.result ≡ Err c.in_err-finding.field-0.0 = search rules in
-    subst (λ (r : Result Finding Fault). Gives (told_of file) r (check_of c.args.need file)) (sym is)
+    subst (λ (r : Result (Finding Span) Fault). Gives (told_of file) r (check_of c.args.need file)) (sym is)
     (check_cut file c.args.need found.found c.in_err-finding.field-0.0 has told.told)
 
 pub returns-in-Some-clause-inspects : goal.returns-in-Some-clause-inspects
@@ -92,7 +93,7 @@ returns-in-Some-clause-told g c = λ honest.
     let some : (is_some c.args.need && is_none c.in_ok-first.first) ≡ false = search rules in
     let has = check_has file h.nodes c.args.need found.found c.in_ok-first.first h.read.is found.is found.from some in
     check_ends file c.args.need found.found (Some (told_of file c.in-Some.finding)) has
-    (told.told ∙ ap (λ (o : Option Finding). Ok (option_map (told_of file) o)) c.in-Some.is)
+    (told.told ∙ ap (λ (o : Option (Finding Span)). Ok (option_map (told_of file) o)) c.in-Some.is)
 
 pub returns-clause-inspects : goal.returns-clause-inspects
 returns-clause-inspects g c = record {
@@ -128,5 +129,5 @@ returns-clause-told g c = λ honest.
     let some : (is_some c.args.need && is_none c.in_ok-first.first) ≡ false = search rules in
     let has = check_has file h.nodes c.args.need found.found c.in_ok-first.first h.read.is found.is found.from some in
     let read = subst (λ (r : Held). IsRead file c.in_ok-blob.blob r.entries h.nodes) (sym c.first_finding.ensures.leaves.room) h.read in
-    check_ends file c.args.need found.found None has (told.told ∙ ap (λ (o : Option Finding). Ok (option_map (told_of file) o)) c.in_default.is)
+    check_ends file c.args.need found.found None has (told.told ∙ ap (λ (o : Option (Finding Span)). Ok (option_map (told_of file) o)) c.in_default.is)
     ∙ ap (λ (x : Told). Ok x) (sym (c.all_right.ensures.told file h.nodes read found.found found.from))

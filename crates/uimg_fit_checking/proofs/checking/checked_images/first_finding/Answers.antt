@@ -4,6 +4,7 @@ use Rattle.uimg_blob_reading.specs.LookUps.{NodeOf}
 use Rattle.uimg_blob_reading.specs.Roles.{in_images}
 use Rattle.uimg_blob_reading.specs.Spots.{Spot}
 use Rattle.uimg_fit_base.specs.declared.fault.Fault.{Fault}
+use Rattle.uimg_base.specs.declared.spans.Span.{Span}
 use Rattle.uimg_fit_checking.specs.declared.checking.Finding.{Finding}
 use Rattle.uimg_fit_checking.specs.declared.checking.checked_payloads.Checked.{Checked}
 use Rattle.uimg_fit_checking.specs.CheckParts.{ChecksImageBetween, ChecksImagesBetween}
@@ -59,7 +60,7 @@ returns-in_err-rest-clause-told g c = λ t o found from.
     let f = front t in_images c.in-Some.image k.rest (subst (λ (x : Option ℕ). AreFrom t in_images x k.rest) c.in-Some.is k.from) in
     let cut = subst (λ (xs : List ℕ). ChecksImageBetween xs c.args.need c.loop-next.left f.image (d c.loop-next.source).asked (d c.check_image.new.source).asked (Err fault)) same.bytes
     (c.in_err-rest.ensures.told t (still same c.loop-next.invariant.room o) f.image f.node) in
-    subst (λ (r : Result (Option Finding) Fault). ChecksImagesBetween file c.args.need found (d c.args.source.now).asked (d c.check_image.new.source).asked r) (sym is)
+    subst (λ (r : Result (Option (Finding Span)) Fault). ChecksImagesBetween file c.args.need found (d c.args.source.now).asked (d c.check_image.new.source).asked r) (sym is)
     (images_cut t file c.args.need found _ _ c.loop-next.left c.loop-next.next k f.image f.more f.are _ fault cut)
 
 pub returns-clause-told : goal.returns-clause-told

@@ -6,6 +6,7 @@ use Rattle.uimg_blob_reading.specs.LookUps.{hashes}
 use Rattle.uimg_blob_reading.specs.Roles.{in_images}
 use Rattle.uimg_fit_base.specs.declared.algo_sets.AlgoSet.{AlgoSet}
 use Rattle.uimg_fit_base.specs.AlgoSets.{no_algos, AreDigests}
+use Rattle.uimg_base.specs.declared.spans.Span.{Span}
 use Rattle.uimg_fit_checking.specs.declared.checking.Finding.{Finding}
 use Rattle.uimg_fit_checking.specs.declared.checking.checked_payloads.Checked.TheVariants.{Ended}
 use Rattle.uimg_fit_checking.specs.CheckParts.{ChecksPayloadBetween}
@@ -78,7 +79,7 @@ returns-in-Some-clause-told g c = λ t o found n.
     let are = subst (λ (xs : List ℕ). AreDigests c.in_ok-digests.digests (slice xs span.place span.length)) one.bytes (c.in_ok-digests.ensures.digests here.honest) in
     let covered = subst (λ (s : AlgoSet). AllCovered s (hashes found)) (sym (c.in_ok-digests.ensures.set ∙ algos.algos)) (all_covered no_algos (hashes found)) in
     let wrong = finds_in file _ message (hashes found) _ _ c.in_ok-wrong.field-0 (Some c.in-Some.wrong) (two.bytes ∙ one.bytes) c.in-Some.is (c.in_ok-wrong.ensures.told t there (hashes found) at message are covered) in
-    subst (λ (x : Finding). ChecksPayloadBetween file c.args.need c.args.left found message (g.S.Source.device c.args.source.now).asked (g.S.Source.device c.first_wrong.new.source).asked (Ok (Ended x))) (sym c.finding.ensures)
+    subst (λ (x : Finding Span). ChecksPayloadBetween file c.args.need c.args.left found message (g.S.Source.device c.args.source.now).asked (g.S.Source.device c.first_wrong.new.source).asked (Ok (Ended x))) (sym c.finding.ensures)
     (payload_wrong file c.args.need c.args.left c.read_size-size.result found message _ _ _ c.name_of-name.result c.in-Some.wrong size c.if-size-left.false
     (omega (arith, algos.paid, c.payload_digests.ensures.uses.asked, c.read_size-size.ensures)) wrong named)
 
