@@ -1,4 +1,4 @@
-use Rattle.std.proofs.Common.{rules, ◌≡◌, ◌∙◌, ◌&&◌, ℕ, List, Option, Some, None, is_none, true, false, refl, subst, sym, ap, arith}
+use Rattle.std.proofs.Common.{rules, length, ◌≡◌, ◌∙◌, ◌&&◌, ℕ, List, Option, Some, None, is_none, true, false, refl, subst, sym, ap, arith}
 use Rattle.std.specs.Prelude.{Result, Ok, Err}
 use Rattle.std.specs.Option.{is_some, option_map}
 use Rattle.uimg_base.specs.Held.{Held}
@@ -8,7 +8,7 @@ use Rattle.uimg_base.specs.declared.spans.Span.{Span}
 use Rattle.uimg_fit_checking.specs.declared.checking.Finding.{Finding}
 use Rattle.uimg_fit_checking.specs.Checks.{Told, told_of, check_of}
 use Rattle.uimg_fit_checking.specs.CheckParts.{ChecksImagesBetween}
-use Rattle.uimg_fit_reading.specs.Nodes.{IsRead, Opened}
+use Rattle.uimg_fit_reading.specs.Nodes.{InFile, IsRead, Opened}
 use Rattle.uimg_fit_reading.proofs.OpenedLaws.{still}
 use Rattle.uimg_fit_checking.proofs.CheckLaws.{check_within, check_lacks, check_has, check_cut, check_ends}
 use Rattle.uimg_fit_checking.proofs.checking.check.Goals as goal
@@ -131,3 +131,10 @@ returns-clause-told g c = λ honest.
     let read = subst (λ (r : Held). IsRead file c.in_ok-blob.blob r.entries h.nodes) (sym c.first_finding.ensures.leaves.room) h.read in
     check_ends file c.args.need found.found None has (told.told ∙ ap (λ (o : Option (Finding Span)). Ok (option_map (told_of file) o)) c.in_default.is)
     ∙ ap (λ (x : Told). Ok x) (sym (c.all_right.ensures.told file h.nodes read found.found found.from))
+
+pub returns-clause-inside : goal.returns-clause-inside
+returns-clause-inside g c =
+    let d = g.S.Source.device in
+    let size = length (d c.args.source.now).bytes in
+    c.all_right.ensures.inside size
+    (subst (λ (r : Held). InFile size c.in_ok-blob.blob r.entries) (sym c.first_finding.ensures.leaves.room) c.in_ok-blob.ensures.inside)
