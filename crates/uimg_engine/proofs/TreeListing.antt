@@ -34,7 +34,8 @@ use Rattle.uimg_names.specs.declared.naming.Naming.{Naming}
 use Rattle.uimg_engine.specs.declared.fault.Fault.{Fault}
 use Rattle.uimg_engine.specs.declared.fault.Fault.TheVariants.{Legacy, Blob, Fit, Its, Read, Put, NoFile, Keep, OutOfMemory}
 use Rattle.uimg_engine.specs.Faults.{end_of, unless_memory, of_fit, is_of_making, is_no_memory}
-use Rattle.uimg_engine.specs.Headline.{begins_as_blob, end_as, outcome_as, outcome_in, outcome_of}
+use Rattle.uimg_fit_base.specs.Files.{begins_as_blob}
+use Rattle.uimg_engine.specs.Headline.{end_as, outcome_as, outcome_in, outcome_of}
 use Rattle.uimg_engine.specs.MakingTrees.{BuildsTree, StopsAtImages, unfilled, unbuilt, StopsAtRead, before, unwritten, StopsReading, unread, unlisted, BuildsSource, KeepsTree, MakesTree, BreaksTree, StopsAtBlob, unnamed, no_table, StopsSource}
 use Rattle.uimg_engine.proofs.MakingLaws.{all_told}
 

@@ -1,7 +1,7 @@
 -- What a command on an image has to write, how it has to end, how many bytes it may request, and
 -- what memory it may take.
-use Rattle.std.specs.Prelude.{◌≡◌, ◌↔◌, ℕ, ◌+◌, ◌-◌, ◌^◌, ◌<◌, ◌≤◌, max, List, [], length, nat_lt}
-use Rattle.std.specs.Prelude.{◌==◌, if◌then◌else◌, Result, Some, ⊤, Bool, true, false, IsTrue}
+use Rattle.std.specs.Prelude.{◌≡◌, ◌↔◌, ℕ, ◌+◌, ◌-◌, ◌^◌, ◌<◌, ◌≤◌, max, List, []}
+use Rattle.std.specs.Prelude.{Result, Some, ⊤, Bool, true, false, IsTrue}
 use Rattle.uimg_base.specs.Device.{Device, RisesIf}
 use Rattle.uimg_base.specs.Held.{Held, held_bytes}
 use Rattle.uimg_base.specs.Lent.{Lent}
@@ -10,11 +10,11 @@ use Rattle.uimg_base.specs.Sink.{Sink, AppendsAll, AppendsPrefix}
 use Rattle.uimg_base.specs.Outcome.{End, Outcome, done, not_right, refused, Tells}
 use Rattle.uimg_base.specs.Using.{UsesAtMost}
 use Rattle.uimg_base.specs.declared.status.Status.{Status}
-use Rattle.uimg_texts.specs.Numbers.{be32}
 use Rattle.uimg_blob_reading.specs.Counts.{nodes_met}
 use Rattle.uimg_fit_base.specs.declared.fault.Fault.{Fault as FitEngineFault}
 use Rattle.uimg_fit_reading.specs.Rooms.{TakesNodes}
 use Rattle.uimg_fit_reading.specs.Listing as fit_listing
+use Rattle.uimg_fit_base.specs.Files.{begins_as_blob}
 use Rattle.uimg_fit_base.specs.Report as fit_report
 use Rattle.uimg_fit_base.specs.Extraction as fit_extraction
 use Rattle.uimg_fit_reading.specs.Work as fit
@@ -33,11 +33,6 @@ use Rattle.uimg_requests.specs.declared.command.Form.{Form}
 use Rattle.uimg_requests.specs.declared.command.Form.TheVariants as form
 use Rattle.uimg_engine.specs.Faults.{end_of, of_fit, is_read, is_put, is_no_memory, is_refused}
 use Rattle.uimg_engine.specs.Faults.{is_of_making}
-
--- the file begins with the magic number of a devicetree blob (Devicetree Specification, section
--- 5.2)
-unfoldable pub begins_as_blob : List ℕ → Bool
-begins_as_blob file = if nat_lt (length file) 4 then false else be32 file 0 == 0xd00dfeed
 
 -- The file is read as a FIT image: that is the given format, or the format is to be guessed and the
 -- file begins as a blob. Any other file is read as a legacy image.

@@ -30,7 +30,7 @@ use Rattle.uimg_names.specs.declared.naming.Naming.{Naming}
 use Rattle.uimg_engine.specs.declared.fault.Fault.{Fault}
 use Rattle.uimg_engine.specs.declared.fault.Fault.TheVariants.{Legacy, Blob, Fit, Its, Read, Put}
 use Rattle.uimg_engine.specs.declared.fault.Fault.TheVariants.{NoFile, Keep, OutOfMemory}
-use Rattle.uimg_engine.specs.Headline.{begins_as_blob}
+use Rattle.uimg_fit_base.specs.Files.{begins_as_blob}
 
 -- The source has a text, whose words spell a tree.
 pub record SpellsTree (files : List ℕ → Option (List ℕ)) (source : List ℕ) (t : Nodes)

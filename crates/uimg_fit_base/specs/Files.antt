@@ -1,8 +1,9 @@
 -- What a FIT image has (Flattened Image Tree format, "Root node", "'/images' node").
 use Rattle.std.specs.Prelude.{ℕ, List, [], length, Option, Some, None, Result, Ok, Err, ◌==◌}
-use Rattle.std.specs.Prelude.{if◌then◌else◌}
+use Rattle.std.specs.Prelude.{if◌then◌else◌, nat_lt, Bool, false}
 use Rattle.std.specs.Int.{from_be_bytes, w32}
 use Rattle.std.specs.Option.{option_and_then, option_map}
+use Rattle.uimg_texts.specs.Numbers.{be32}
 use Rattle.uimg_texts.specs.Slices.{slice}
 use Rattle.uimg_base.specs.Results.{◌>>=◌}
 use Rattle.uimg_base.specs.declared.spans.Span.{Span}
@@ -15,6 +16,11 @@ use Rattle.uimg_blob_reading.specs.Spots.{Spot, spots}
 use Rattle.uimg_fit_base.specs.declared.fault.Fault.{Fault}
 use Rattle.uimg_fit_base.specs.declared.fault.Fault.TheVariants.{Blob, Fit}
 use Rattle.uimg_fit_base.specs.declared.fault.FitFault.TheVariants.{NoImages}
+
+-- the file begins with the magic number of a devicetree blob (Devicetree Specification, section
+-- 5.2)
+unfoldable pub begins_as_blob : List ℕ → Bool
+begins_as_blob file = if nat_lt (length file) 4 then false else be32 file 0 == 0xd00dfeed
 
 -- the tree of a file, each value with its offset, or the first fault of its blob with the fault's
 -- offset

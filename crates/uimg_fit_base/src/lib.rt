@@ -7,11 +7,13 @@
 mod algo_sets;
 mod fault;
 mod feeds;
+mod formats;
 mod placement;
 mod verdicts;
 
 pub use algo_sets::{AlgoSet, Digests};
 pub use fault::{Fault, FitFault};
 pub use feeds::feed_through;
+pub use formats::begins_as_blob;
 pub use placement::{AlignedPlacement, Placement, WORD_ALIGNMENT};
 pub use verdicts::{Verdict, is_right, word_text};

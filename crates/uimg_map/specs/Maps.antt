@@ -1,6 +1,6 @@
 -- The map of an image's file.
-use Rattle.std.specs.Prelude.{◌≡◌, ℕ, List, length, map, nat_lt, ◌==◌, if◌then◌else◌, Bool, false}
-use Rattle.uimg_texts.specs.Numbers.{be32}
+use Rattle.std.specs.Prelude.{◌≡◌, ℕ, List, length, map, if◌then◌else◌}
+use Rattle.uimg_fit_base.specs.Files.{begins_as_blob}
 use Rattle.uimg_map.specs.declared.map.Map.{Map}
 use Rattle.uimg_map.specs.declared.thing.Thing.{Thing}
 use Rattle.uimg_map.specs.Arranging.{Arranges}
@@ -13,10 +13,6 @@ use Rattle.uimg_map.specs.LegacyContents.{legacy_contents}
 pub record IsMap (map : Map) : Type 0 where
   pub things : List Thing
   pub rows : Arranges map.size things map.rows.items
-
--- a file begins as a devicetree blob does: with the magic number
-unfoldable pub begins_as_blob : List ℕ → Bool
-begins_as_blob file = if nat_lt (length file) 4 then false else be32 file 0 == 0xd00dfeed
 
 -- what is found in a file: in a FIT image if it begins as a blob, else in a legacy image
 abbrev pub contents_of : List ℕ → Told

@@ -9,7 +9,7 @@ use Rattle.uimg_legacy.specs.declared.fault.LegacyFault.{LegacyFault}
 use Rattle.uimg_legacy.specs.Header.{header}
 use Rattle.uimg_legacy.specs.Image.{payload}
 use Rattle.uimg_legacy.specs.Parts.{has_parts, sizes}
-use Rattle.uimg_map.specs.Maps.{begins_as_blob}
+use Rattle.uimg_fit_base.specs.Files.{begins_as_blob}
 
 -- the number of images of a file
 abbrev pub images_in : Result Said Fault → ℕ

@@ -1,10 +1,10 @@
 //! The map of an image's file.
 
-ghost use Rattle.std.specs.Prelude.{◌≡◌, length, is_err, IfOk, IfErr, IsTrue};
-ghost use Rattle.uimg_base.specs.Using.{Asks, UsesAtMost};
+ghost use Rattle.std.specs.Prelude.{◌≡◌, length, IfOk, IfErr, IsTrue};
+ghost use Rattle.uimg_base.specs.Using.{UsesAtMost};
 ghost use Rattle.uimg_map.specs.Contents.{Gathers};
 ghost use Rattle.uimg_map.specs.Faults.{is_read, stops};
-ghost use Rattle.uimg_map.specs.Maps.{begins_as_blob, contents_of, IsMap, IsMapOf};
+ghost use Rattle.uimg_map.specs.Maps.{contents_of, IsMap, IsMapOf};
 ghost use Rattle.uimg_map.specs.Work.{map_work};
 
 use crate::arranging::arrange;
@@ -15,8 +15,8 @@ use crate::legacy_contents::add_legacy;
 use crate::row::Row;
 use crate::thing::Thing;
 use std::alloc::Global;
-use uimg_base::{Source, SourceFault, be32_at};
-use uimg_blob_reading::BLOB_MAGIC;
+use uimg_base::Source;
+use uimg_fit_base::begins_as_blob;
 
 /// The map of an image's file.
 #[derive(Drop)]
@@ -118,19 +118,4 @@ fn add_contents<S: Source>(
     }
     add_legacy(source, contents)?;
     Ok(())
-}
-
-// Returns whether a file begins with the magic number of a blob.
-#[tactic(auto, unfolding(crate::specs::Maps::begins_as_blob, uimg_texts::specs::Numbers::be32))]
-fn begins_as_blob<S: Source>(source: &mut S) -> Result<bool, SourceFault>
-    ensures uses { Asks 4 (is_err result) (S.device source.old) (S.device source.new) }
-    ensures told { IsTrue (S.device source.old).honest →
-        IfOk result (λ begins. begins ≡ begins_as_blob (S.device source.old).bytes) }
-{
-    if source.size()? < 4 {
-        return Ok(false);
-    }
-    let mut magic = [0; 4];
-    source.fill_at(0, &mut magic)?;
-    Ok(be32_at(&magic, 0) == BLOB_MAGIC)
 }
