@@ -4,42 +4,42 @@ use thiserror::Error;
 use uimg_base::SourceFault;
 
 /// What is wrong with a blob, or with a tree to be written as one. The text is the start of the
-/// line that the program prints; the offset follows.
+/// line that the program prints, `B` and the variant's number first; the offset follows.
 #[derive(Clone, Copy, Debug, PartialEq, Eq, Error)]
 pub enum BlobFault {
     /// The file has fewer than 40 bytes.
     #[error("B1 too short")]
-    TooShort,
+    TooShort = 1,
     /// The file does not begin with `0xd00dfeed`.
     #[error("B2 bad magic")]
-    BadMagic,
+    BadMagic = 2,
     /// The version is below 17, or the last compatible version above 17.
     #[error("B3 bad version")]
-    BadVersion,
+    BadVersion = 3,
     /// A block is outside the blob, or the blob outside the file.
     #[error("B4 block outside")]
-    BlockOutside,
+    BlockOutside = 4,
     /// A word of the structure block is not a token.
     #[error("B5 bad token")]
-    BadToken,
+    BadToken = 5,
     /// The structure block ends inside a token.
     #[error("B6 truncated")]
-    Truncated,
+    Truncated = 6,
     /// A node's name has more than 255 bytes, or a NUL.
     #[error("B7 bad node name")]
-    BadNodeName,
+    BadNodeName = 7,
     /// A token is not allowed at its offset.
     #[error("B8 bad nesting")]
-    BadNesting,
+    BadNesting = 8,
     /// A property's name has more than 255 bytes, or a NUL, or is not in the strings block.
     #[error("B9 bad property name")]
-    BadPropertyName,
+    BadPropertyName = 9,
     /// The blob has more than 4294967295 bytes.
     #[error("B10 too large")]
-    TooLarge,
+    TooLarge = 10,
     /// Memory was refused.
     #[error("B11 out of memory")]
-    OutOfMemory,
+    OutOfMemory = 11,
 }
 
 /// Why a blob is not indexed.

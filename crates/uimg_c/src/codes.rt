@@ -26,56 +26,22 @@ pub struct Code {
     pub place: u64,
 }
 
-fn number_of_legacy(fault: LegacyFault) -> u32
-    ensures { result ≡ legacy_number fault }
+fn number_of_legacy(legacy: LegacyFault) -> u32
+    ensures { result ≡ legacy_number legacy }
 {
-    match fault {
-        LegacyFault::TooShort => 1,
-        LegacyFault::BadMagic => 2,
-        LegacyFault::BadHeaderCrc => 3,
-        LegacyFault::Truncated => 4,
-        LegacyFault::BadDataCrc => 5,
-        LegacyFault::NoTableEnd => 6,
-        LegacyFault::PartOutside => 7,
-        LegacyFault::NoSuchPart => 8,
-        LegacyFault::EmptyPart => 9,
-        LegacyFault::TooLarge => 10,
-    }
+    legacy as u32
 }
 
-fn number_of_blob(fault: BlobFault) -> u32
-    ensures { result ≡ blob_number fault }
+fn number_of_blob(blob: BlobFault) -> u32
+    ensures { result ≡ blob_number blob }
 {
-    match fault {
-        BlobFault::TooShort => 1,
-        BlobFault::BadMagic => 2,
-        BlobFault::BadVersion => 3,
-        BlobFault::BlockOutside => 4,
-        BlobFault::BadToken => 5,
-        BlobFault::Truncated => 6,
-        BlobFault::BadNodeName => 7,
-        BlobFault::BadNesting => 8,
-        BlobFault::BadPropertyName => 9,
-        BlobFault::TooLarge => 10,
-        BlobFault::OutOfMemory => 11,
-    }
+    blob as u32
 }
 
-fn number_of_fit(fault: FitFault) -> u32
-    ensures { result ≡ fit_number fault }
+fn number_of_fit(fit: FitFault) -> u32
+    ensures { result ≡ fit_number fit }
 {
-    match fault {
-        FitFault::NoImages => 1,
-        FitFault::NoData => 2,
-        FitFault::DataOutside => 3,
-        FitFault::NoSuchImage => 4,
-        FitFault::UnknownAlgo => 5,
-        FitFault::PositionTooLow => 6,
-        FitFault::TooLarge => 7,
-        FitFault::OutOfMemory => 8,
-        FitFault::NoFile => 9,
-        FitFault::ReadFailed => 10,
-    }
+    fit as u32
 }
 
 // Returns a refusal, by the letter, the number and the offset of a fault.

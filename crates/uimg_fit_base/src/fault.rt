@@ -5,39 +5,39 @@ use uimg_base::{MoveFault, PutFault, SourceFault};
 use uimg_blob_reading::{BlobFault, IndexFault};
 
 /// What is wrong with a FIT image's images, or with a tree to build one from. Its text is the line
-/// that the program prints.
+/// that the program prints, a letter and the variant's number first.
 #[derive(Clone, Copy, Debug, PartialEq, Eq, Error)]
 pub enum FitFault {
     /// The root has no child `images`.
     #[error("F1 no images")]
-    NoImages,
+    NoImages = 1,
     /// An image has no payload.
     #[error("F2 no data")]
-    NoData,
+    NoData = 2,
     /// A payload ends after the file.
     #[error("F3 data outside")]
-    DataOutside,
+    DataOutside = 3,
     /// There is no image at the position.
     #[error("F4 no such image")]
-    NoSuchImage,
+    NoSuchImage = 4,
     /// A hash node names no known algorithm.
     #[error("F5 unknown algorithm")]
-    UnknownAlgo,
+    UnknownAlgo = 5,
     /// The payloads would begin before the blob's end.
     #[error("F6 position too low")]
-    PositionTooLow,
+    PositionTooLow = 6,
     /// The file would have more than 4294967295 bytes.
     #[error("F7 too large")]
-    TooLarge,
+    TooLarge = 7,
     /// Memory was refused.
     #[error("F8 out of memory")]
-    OutOfMemory,
+    OutOfMemory = 8,
     /// A payload's file could not be opened.
     #[error("F9 no file")]
-    NoFile,
+    NoFile = 9,
     /// A read of a payload's file failed, or the file has another size than the tree keeps.
     #[error("F10 read failed")]
-    ReadFailed,
+    ReadFailed = 10,
 }
 
 /// Why a command stopped.

@@ -5,39 +5,39 @@ use thiserror::Error;
 use uimg_base::{MoveFault, PutFault, SourceFault};
 
 /// What is wrong with a legacy image, or with the parts to build one from. Its text is the line
-/// that the program prints.
+/// that the program prints, a letter and the variant's number first.
 #[derive(Clone, Copy, Debug, PartialEq, Eq, Error)]
 pub enum LegacyFault {
     /// The file has fewer than 64 bytes.
     #[error("L1 too short")]
-    TooShort,
+    TooShort = 1,
     /// The file does not begin with `0x27051956`.
     #[error("L2 bad magic")]
-    BadMagic,
+    BadMagic = 2,
     /// The header's CRC is not that of its bytes.
     #[error("L3 bad header CRC")]
-    BadHeaderCrc,
+    BadHeaderCrc = 3,
     /// The data end after the file.
     #[error("L4 truncated")]
-    Truncated,
+    Truncated = 4,
     /// The data's CRC is not that in the header.
     #[error("L5 bad data CRC")]
-    BadDataCrc,
+    BadDataCrc = 5,
     /// The data end before the zero word at the end of the table of sizes.
     #[error("L6 no table end")]
-    NoTableEnd,
+    NoTableEnd = 6,
     /// A part ends after the data.
     #[error("L7 part outside")]
-    PartOutside,
+    PartOutside = 7,
     /// The image has no part at the position.
     #[error("L8 no such part")]
-    NoSuchPart,
+    NoSuchPart = 8,
     /// A part is empty.
     #[error("L9 empty part")]
-    EmptyPart,
+    EmptyPart = 9,
     /// The data have more than 4294967295 bytes.
     #[error("L10 too large")]
-    TooLarge,
+    TooLarge = 10,
 }
 
 /// Why a command stopped.
