@@ -193,17 +193,9 @@ pub fn build_by<F: Files, W: Write, A: Allocator + Copy>(
     placement: AlignedPlacement,
     out: &mut Out<W>,
 ) -> Result<(), Fault>
-    ensures files { UsesFiles (is_no_file result) (F.map files.old) (F.map files.new) }
-    ensures found { IfComplete F.map files (node_of tree.now.root) (is_no_file result ≡ false) }
-    ensures steady { IfSteady F.Opened.steady F.map files (node_of tree.now.root)
-        (is_read result ≡ false) }
-    ensures faults { RisesIf (is_put result) out.old.faults out.new.faults }
-    ensures untouched { IsTrue (is_before_writing result) → out.new ≡ out.old }
-    ensures kept { IfHonest F.map files (λ there.
-        OnOk result (AreKept there (node_of tree.now.root))) }
+    ensures builds { Builds F.Opened.steady F.map (node_of tree.now.root) placement result
+        files out }
     // Here `t` is the tree with the bytes of its files.
-    ensures built { IfInFull F.map files (node_of tree.now.root) (λ t.
-        BuildsAnswer t placement result out.old out.new) }
     ensures reads_back { IfInFull F.map files (node_of tree.now.root) (λ t.
         IsFilled t → OnOk result (ReadsBack (built t placement) t)) }
 {
