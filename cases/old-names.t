@@ -16,7 +16,7 @@ The name is what follows the last slash:
   mkimage version 2023.01 (uimg 0.1.0)
   dumpimage version 2023.01 (uimg 0.1.0)
   mkimage version 2023.01 (uimg 0.1.0)
-  dumpimage: no image is named
+  dumpimage: no image given
   [2]
   $ uimg --version
   uimg 0.1.0
@@ -78,10 +78,10 @@ Addresses at their limits, an image without data, and an image of several parts:
   $ address 1ffffffffffffffff
    ff ff ff ff ff ff ff ff
   $ address 0x
-  mkimage: -a: '0x' is no hexadecimal number
+  mkimage: -a: '0x' is not a hexadecimal number
   [2]
   $ address 12g
-  mkimage: -a: '12g' is no hexadecimal number
+  mkimage: -a: '12g' is not a hexadecimal number
   [2]
   $ mkimage -q -s -A arm -d d out && od -An -v -tx1 out
    27 05 19 56 90 ba f7 5c 65 53 f1 00 00 00 00 00
@@ -289,34 +289,34 @@ Listing and unpacking:
 Requests that fail:
 
   $ mkimage -A amd64 -d d out
-  mkimage: -A: unknown architecture 'amd64', which is near to 'arm64'; see mkimage -A list
+  mkimage: -A: unknown architecture 'amd64'; did you mean 'arm64'? mkimage -A list prints all
   [2]
   $ mkimage -O android -d d out
-  mkimage: -O: unknown operating system 'android'; see mkimage -O list
+  mkimage: -O: unknown operating system 'android'; mkimage -O list prints all
   [2]
   $ mkimage -T kwbimage -d d out
-  mkimage: -T kwbimage: uimg has no such images; see mkimage of u-boot-tools
+  mkimage: -T kwbimage: not supported; use mkimage of u-boot-tools
   [2]
   $ mkimage -k keys -f kernel.its out
-  mkimage: -k: uimg signs nothing; see mkimage -F of u-boot-tools, which signs an image that is made
+  mkimage: -k: uimg does not sign; mkimage -F of u-boot-tools signs an existing image
   [2]
   $ mkimage -F inside
-  mkimage: -F: uimg signs nothing; see mkimage -F of u-boot-tools, which signs an image that is made
+  mkimage: -F: uimg does not sign; mkimage -F of u-boot-tools signs an existing image
   [2]
   $ mkimage -f auto out
-  mkimage: -f auto: no data is named; see -d
+  mkimage: -f auto needs -d
   [2]
   $ mkimage -x -T multi -d d:d out
-  mkimage: -x: uimg makes no image of several parts that is run in its place; see mkimage of u-boot-tools
+  mkimage: -x: not supported for several parts; use mkimage of u-boot-tools
   [2]
   $ mkimage -E -B 6 -f kernel.its out
-  mkimage: -B: '6' is no multiple of 4, where readers look for payloads
+  mkimage: -B: '6' is not a multiple of 4
   [2]
   $ mkimage -f kernel.its --external --position 1000 --alignment=1 out
-  mkimage: -B: '1' is no multiple of 4, where readers look for payloads
+  mkimage: -B: '1' is not a multiple of 4
   [2]
   $ mkimage -f kernel.its -B 8x out
-  mkimage: -B: '8x' is no hexadecimal number
+  mkimage: -B: '8x' is not a hexadecimal number
   [2]
   $ mkimage -E -B 1000 -p 800 -f kernel.its out
   mkimage: out: F6 position too low
@@ -325,13 +325,13 @@ Requests that fail:
   mkimage: out: F7 too large
   [1]
   $ mkimage -D '-@' -f kernel.its out
-  mkimage: -D: uimg takes no words for dtc but -I dts, -O dtb, -q and -p with a number; see mkimage of u-boot-tools
+  mkimage: -D: only -I dts, -O dtb, -q and -p with a number are supported; use mkimage of u-boot-tools
   [2]
   $ mkimage -D -I -f kernel.its out
-  mkimage: -D: uimg takes no words for dtc but -I dts, -O dtb, -q and -p with a number; see mkimage of u-boot-tools
+  mkimage: -D: only -I dts, -O dtb, -q and -p with a number are supported; use mkimage of u-boot-tools
   [2]
   $ mkimage -T flat_dt -d d out
-  mkimage: -T flat_dt: a FIT image is made by -f
+  mkimage: -T flat_dt needs -f
   [2]
   $ mkimage -l -f kernel.its out
   mkimage: -l is given with -f
@@ -340,34 +340,34 @@ Requests that fail:
   mkimage: -d is given with -f
   [2]
   $ mkimage -A arm out
-  mkimage: none of -l, -d and -f is given
+  mkimage: no -l, -d or -f given
   [2]
   $ mkimage -A arm -d d
-  mkimage: no image is named
+  mkimage: no image given
   [2]
   $ mkimage -qZ
-  mkimage: there is no option '-Z'
+  mkimage: unknown option '-Z'
   [2]
   $ mkimage --arch=arm
-  mkimage: there is no option '--arch'
+  mkimage: unknown option '--arch'
   [2]
   $ mkimage out -d
-  mkimage: the option '-d' lacks its value
+  mkimage: option '-d' needs a value
   [2]
   $ mkimage out --image
-  mkimage: the option '--image' lacks its value
+  mkimage: option '--image' needs a value
   [2]
   $ mkimage --quiet=yes
-  mkimage: the option '--quiet' has no value
+  mkimage: option '--quiet' takes no value
   [2]
   $ dumpimage wanted
-  dumpimage: neither -l nor -o is given
+  dumpimage: no -l or -o given
   [2]
   $ dumpimage -p 1x -o part wanted
-  dumpimage: -p: '1x' is no decimal number
+  dumpimage: -p: '1x' is not a decimal number
   [2]
   $ dumpimage --list wanted
-  dumpimage: there is no option '--list'
+  dumpimage: unknown option '--list'
   [2]
 
 The names:
@@ -409,7 +409,7 @@ The outfile gets its name when it is complete, also through a link, and an exist
   mkimage: write failed
   kept
   $ mkfifo pipe && mkimage -q -A arm -d d pipe
-  mkimage: cannot write pipe: an image is not made as a pipe
+  mkimage: cannot write pipe: it is a pipe
   [3]
   $ mkimage -q -A arm -d d folder/none/out
   mkimage: folder/none/out: write failed

@@ -32,7 +32,7 @@ the digest (of `abc`: FIPS 180-2, B.1):
 Nothing is written if one of the files exists:
 
   $ rm out/kernel && echo old > out/ramdisk && uimg unpack -C out k.itb
-  uimg: out/ramdisk is there already, and only a file is replaced, by --force
+  uimg: out/ramdisk exists; use --force to replace it
   [3]
   $ ls -A out && cat out/ramdisk
   ramdisk
@@ -42,7 +42,7 @@ Nothing is written if one of the files exists:
   ramdisk: 4 bytes, un
   defg
   $ ln -s nowhere link && rm out/ramdisk && mv link out/ramdisk && uimg unpack --only ramdisk -C out k.itb
-  uimg: out/ramdisk is there already, and only a file is replaced, by --force
+  uimg: out/ramdisk exists; use --force to replace it
   [3]
   $ uimg unpack --only ramdisk --force -C out k.itb && test ! -L out/ramdisk && test ! -e out/nowhere && cat out/ramdisk && echo
   ramdisk: 4 bytes, unhashed
@@ -121,7 +121,7 @@ Names that are no file names, and repeated names, also in another case:
   $ uimg unpack --force -C out k.itb | grep -c ' as '
   3
   $ rm out/c out/image-0 out/image-2 && uimg unpack -C out k.itb
-  uimg: out/image-3 is there already, and only a file is replaced, by --force
+  uimg: out/image-3 exists; use --force to replace it
   [3]
   $ ls -A out
   image-3
@@ -143,7 +143,7 @@ Names that are no file names, and repeated names, also in another case:
   $ name=$(printf %0255d 7) && fit "$name { data = [61]; };" && rm -r out && mkdir out && uimg unpack -C out k.itb > lines && cat out/$name && echo
   a
   $ uimg unpack --only $name -C out k.itb
-  uimg: out/*7 is there already, and only a file is replaced, by --force (glob)
+  uimg: out/*7 exists; use --force to replace it (glob)
   [3]
 
 A name makes no line of its own, and no line of another:
@@ -216,7 +216,7 @@ The image is not overwritten, under any name, nor is a folder:
   $ cmp k.itb out/image-1 && ls -A out
   image-1
   $ rm out/image-1 && mkdir out/c && uimg unpack --force -C out k.itb
-  uimg: out/c is there already, and only a file is replaced, by --force
+  uimg: out/c is a folder, which is never replaced
   [3]
 
 Nobody reads the lines, and there is no space for them:
@@ -294,7 +294,7 @@ A needed strength:
 Nothing is written if one of the files exists:
 
   $ rm out/* && echo old > out/image-2 && uimg unpack -C out three-part-multi.img
-  uimg: out/image-2 is there already, and only a file is replaced, by --force
+  uimg: out/image-2 exists; use --force to replace it
   [3]
   $ ls -A out && cat out/image-2
   image-2
@@ -302,7 +302,7 @@ Nothing is written if one of the files exists:
   $ uimg unpack --force -C out three-part-multi.img > lines && cat out/image-2 && echo
   hijkl
   $ rm out/* && mkdir out/image-1 && uimg unpack --force -C out three-part-multi.img
-  uimg: out/image-1 is there already, and only a file is replaced, by --force
+  uimg: out/image-1 is a folder, which is never replaced
   [3]
   $ ls -A out
   image-1

@@ -12,7 +12,7 @@ pub enum OldFault<'a> {
     Misused(Misuse<'a>),
 
     /// The word of -A, -O, -T or -C is not a name of its field.
-    #[error("-{letter}: unknown {title} '{word}'; see mkimage -{letter} list")]
+    #[error("-{letter}: unknown {title} '{word}'; mkimage -{letter} list prints all")]
     UnknownName {
         letter: char,
         title: &'static str,
@@ -20,7 +20,7 @@ pub enum OldFault<'a> {
     },
 
     /// The word of -A, -O, -T or -C is not a name of its field, but near to one.
-    #[error("-{letter}: unknown {title} '{word}', which is near to '{nearest}'; see mkimage -{letter} list")]
+    #[error("-{letter}: unknown {title} '{word}'; did you mean '{nearest}'? mkimage -{letter} list prints all")]
     NearName {
         letter: char,
         title: &'static str,
@@ -29,7 +29,7 @@ pub enum OldFault<'a> {
     },
 
     /// The word of an option is not a number.
-    #[error("-{letter}: '{word}' is no {title} number")]
+    #[error("-{letter}: '{word}' is not a {title} number")]
     NoNumber {
         letter: char,
         title: &'static str,
@@ -37,7 +37,7 @@ pub enum OldFault<'a> {
     },
 
     /// Readers of the image look only at multiples of 4 for payloads after the tree.
-    #[error("-B: '{0}' is no multiple of 4, where readers look for payloads")]
+    #[error("-B: '{0}' is not a multiple of 4")]
     UnevenAlignment(&'a str),
 
     /// SOURCE_DATE_EPOCH is in no year that the C library has.
@@ -45,15 +45,15 @@ pub enum OldFault<'a> {
     BadEpoch,
 
     /// No image is named.
-    #[error("no image is named")]
+    #[error("no image given")]
     NoImage,
 
     /// dumpimage was given neither -l nor -o.
-    #[error("neither -l nor -o is given")]
+    #[error("no -l or -o given")]
     NoOutfile,
 
     /// mkimage was given none of -l, -d and -f.
-    #[error("none of -l, -d and -f is given")]
+    #[error("no -l, -d or -f given")]
     NothingToMake,
 
     /// Both data and a source are named.
@@ -65,31 +65,31 @@ pub enum OldFault<'a> {
     ListWithSource,
 
     /// Files exist at all names under which the image could be written.
-    #[error("cannot write {0}: a file is at each of {0}.uimg-new1 to {0}.uimg-new100")]
+    #[error("cannot write {0}: all of {0}.uimg-new1 to {0}.uimg-new100 exist")]
     NamesTaken(&'a str),
 
     /// An image would be written to a pipe, from which it could not be read back.
-    #[error("cannot write {0}: an image is not made as a pipe")]
+    #[error("cannot write {0}: it is a pipe")]
     MadeAsPipe(&'a str),
 
     /// -f auto was given without data.
-    #[error("-f auto: no data is named; see -d")]
+    #[error("-f auto needs -d")]
     NoData,
 
     /// The type flat_dt was given without a source.
-    #[error("-T flat_dt: a FIT image is made by -f")]
+    #[error("-T flat_dt needs -f")]
     NoSource,
 
     /// Images of this type are neither legacy nor FIT images.
-    #[error("-T {0}: uimg has no such images; see mkimage of u-boot-tools")]
+    #[error("-T {0}: not supported; use mkimage of u-boot-tools")]
     OtherImages(&'a str),
 
     /// The option is for signing.
-    #[error("-{0}: uimg signs nothing; see mkimage -F of u-boot-tools, which signs an image that is made")]
+    #[error("-{0}: uimg does not sign; mkimage -F of u-boot-tools signs an existing image")]
     Signs(char),
 
     /// The option is not supported.
-    #[error("-{letter}: uimg {what}; see mkimage of u-boot-tools")]
+    #[error("-{letter}: {what}; use mkimage of u-boot-tools")]
     NotDone {
         letter: char,
         what: &'static str,

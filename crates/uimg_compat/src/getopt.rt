@@ -29,23 +29,23 @@ pub enum Given<'a> {
 #[derive(Clone, Copy, Debug, Error, PartialEq, Eq)]
 pub enum Misuse<'a> {
     /// No option has this letter.
-    #[error("there is no option '-{0}'")]
+    #[error("unknown option '-{0}'")]
     UnknownLetter(char),
 
     /// No option has this long name.
-    #[error("there is no option '--{0}'")]
+    #[error("unknown option '--{0}'")]
     UnknownName(&'a str),
 
     /// The option of this letter needs a value, and no word is left.
-    #[error("the option '-{0}' lacks its value")]
+    #[error("option '-{0}' needs a value")]
     NoValueOfLetter(&'a str),
 
     /// The option of this long name needs a value, and no word is left.
-    #[error("the option '--{0}' lacks its value")]
+    #[error("option '--{0}' needs a value")]
     NoValueOfName(&'a str),
 
     /// The option of this long name has no value, but one is joined to it.
-    #[error("the option '--{0}' has no value")]
+    #[error("option '--{0}' takes no value")]
     ValueNotWanted(&'a str),
 }
 

@@ -257,7 +257,7 @@ impl<'a> Settings<'a> {
         if self.is_xip && has_parts(options.kind) {
             return Err(OldFault::NotDone {
                 letter: 'x',
-                what: "makes no image of several parts that is run in its place",
+                what: "not supported for several parts",
             });
         }
         let data = if self.has_no_data { NO_DATA } else { data };
@@ -365,6 +365,6 @@ fn check_dtc_words(words: &str) -> Result<(), OldFault<'_>> {
     }
     Err(OldFault::NotDone {
         letter: 'D',
-        what: "takes no words for dtc but -I dts, -O dtb, -q and -p with a number",
+        what: "only -I dts, -O dtb, -q and -p with a number are supported",
     })
 }

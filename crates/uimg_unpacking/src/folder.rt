@@ -57,7 +57,8 @@ impl<'a> Folder<'a> {
             return Err(Trouble::IsImage(path));
         }
         match fs::symlink_metadata(rt, path.as_str()) {
-            Ok(found) if !self.is_forced | found.is_dir() => Err(Trouble::IsThere(path)),
+            Ok(found) if found.is_dir() => Err(Trouble::IsFolder(path)),
+            Ok(_) if !self.is_forced => Err(Trouble::Exists(path)),
             _ => Ok(path),
         }
     }

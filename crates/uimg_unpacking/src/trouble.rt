@@ -8,9 +8,13 @@ use thiserror::Error;
 /// Why a payload was not written to a folder. Its text is the line to print; `Closed` needs none.
 #[derive(Debug, Drop, Error)]
 pub enum Trouble {
-    /// Something exists at the path of a file to write. A folder is never replaced.
-    #[error("{0} is there already, and only a file is replaced, by --force")]
-    IsThere(String),
+    /// Something exists at the path of a file to write.
+    #[error("{0} exists; use --force to replace it")]
+    Exists(String),
+
+    /// A folder exists at the path of a file to write.
+    #[error("{0} is a folder, which is never replaced")]
+    IsFolder(String),
 
     /// A file to write is the image.
     #[error("{0} would be written while it is read")]
