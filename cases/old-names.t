@@ -110,13 +110,13 @@ An image that runs in place has its header where the file begins with 64 bytes 0
   $ mkimage -q -x -A arm -a ffffffd0 -d room out && od -An -tx1 -j12 -N12 out
    00 00 00 00 ff ff ff d0 00 00 00 10
   $ cp out kept && mkimage -x -A arm -d little out
-  mkimage: -x: little does not begin with 64 bytes 0xff, in whose place the header is to stand
+  mkimage: -x: little does not begin with 64 bytes 0xff, which the header replaces
   [1]
   $ mkimage -x -A arm -d other out
-  mkimage: -x: other does not begin with 64 bytes 0xff, in whose place the header is to stand
+  mkimage: -x: other does not begin with 64 bytes 0xff, which the header replaces
   [1]
   $ mkimage -x -A arm -d /dev/null out
-  mkimage: -x: /dev/null does not begin with 64 bytes 0xff, in whose place the header is to stand
+  mkimage: -x: /dev/null does not begin with 64 bytes 0xff, which the header replaces
   [1]
   $ mkimage -x -A arm -d nothing out
   mkimage: cannot read nothing: No such file or directory (os error 2)

@@ -44,7 +44,7 @@ pub(crate) enum RequestFault<'a> {
     #[error("{0} would be written while it is read")]
     WritesWhatIsRead(&'a str),
 
-    #[error("-x: {0} does not begin with 64 bytes 0xff, in whose place the header is to stand")]
+    #[error("-x: {0} does not begin with 64 bytes 0xff, which the header replaces")]
     NoRoom(&'a str),
 
     #[error("out of memory")]
