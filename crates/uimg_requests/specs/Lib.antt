@@ -2,3 +2,4 @@ pub mod Commands
 pub mod Names
 pub mod Numbers
 pub mod Requests
+pub mod Plain

@@ -1,6 +1,6 @@
 //! Requests of a command line, with the paths that it names.
 
-ghost use Rattle.std.specs.Prelude.{◌≡◌, ◌++◌, [], false, IfOk};
+ghost use Rattle.std.specs.Prelude.{◌≡◌, ◌++◌, [], IfOk};
 ghost use Rattle.uimg_requests.specs.Names.{names_of};
 ghost use Rattle.uimg_requests.specs.Requests.{AsksParts, AsksSource};
 ghost use Rattle.uimg_requests.specs.Commands.{HasFitNames, has_fit_names_prop};
@@ -60,6 +60,8 @@ pub struct MakeRequest<'a> {
 }
 
 impl<'a> MakeRequest<'a> {
+    ghost use Rattle.uimg_requests.specs.Plain.{IsPlain};
+
     /// Returns the request for a legacy image from the files in the word of -d, listed with the
     /// names of the profile. Memory for the files' names may be refused.
     #[tactic(auto, using(crate::proofs::NameLaws::names_fit))]
@@ -72,12 +74,7 @@ impl<'a> MakeRequest<'a> {
     ) -> Result<MakeRequest<'a>, AllocError>
         ensures asks { IfOk result (λ request. AsksParts request.command options
             (names_of options.kind word.now)) }
-        ensures time { IfOk result (λ request. request.manner.time ≡ time) }
-        ensures naming { IfOk result (λ request. request.manner.naming ≡ Naming.Profile) }
-        ensures align { IfOk result (λ request. request.manner.align ≡ 4) }
-        ensures whole { IfOk result (λ request. request.is_xip ≡ false) }
-        ensures outfile { IfOk result (λ request. request.outfile.now ≡ outfile.entry.now) }
-        ensures written { IfOk result (λ request. request.written.now ≡ outfile.entry.now) }
+        ensures plain { IfOk result (λ request. IsPlain request time outfile.entry.now) }
     {
         let files = file_names(alloc, options.kind, word)?;
         Ok(MakeRequest {
@@ -108,15 +105,13 @@ impl<'a> MakeRequest<'a> {
     ) -> Result<MakeRequest<'a>, AllocError>
         ensures asks { IfOk result (λ request. AsksSource request.command request.folder.now
             path.entry.now placement) }
-        ensures time { IfOk result (λ request. request.manner.time ≡ time) }
-        ensures naming { IfOk result (λ request. request.manner.naming ≡ Naming.Profile) }
-        ensures align { IfOk result (λ request. request.manner.align ≡ 4) }
-        ensures whole { IfOk result (λ request. request.is_xip ≡ false) }
-        ensures outfile { IfOk result (λ request. request.outfile.now ≡ outfile.entry.now) }
-        ensures written { IfOk result (λ request. request.written.now ≡ outfile.entry.now) }
+        ensures plain { IfOk result (λ request. IsPlain request time outfile.entry.now) }
     {
         let (folder, name) = cut_behind_folder(path);
-        MakeRequest::of_name(alloc, path, folder, name, placement, time, outfile)
+        let mut request = MakeRequest::of_source_here(alloc, name, placement, time, outfile)?;
+        request.source = path;
+        request.folder = folder;
+        Ok(request)
     }
 
     /// Returns the same request, but with files in the current folder, wherever the source is.
@@ -130,37 +125,9 @@ impl<'a> MakeRequest<'a> {
         ensures asks { IfOk result (λ request. AsksSource request.command request.folder.now
             path.entry.now placement) }
         ensures folder { IfOk result (λ request. request.folder.now ≡ []) }
-        ensures time { IfOk result (λ request. request.manner.time ≡ time) }
-        ensures naming { IfOk result (λ request. request.manner.naming ≡ Naming.Profile) }
-        ensures align { IfOk result (λ request. request.manner.align ≡ 4) }
-        ensures whole { IfOk result (λ request. request.is_xip ≡ false) }
-        ensures outfile { IfOk result (λ request. request.outfile.now ≡ outfile.entry.now) }
-        ensures written { IfOk result (λ request. request.written.now ≡ outfile.entry.now) }
+        ensures plain { IfOk result (λ request. IsPlain request time outfile.entry.now) }
     {
-        MakeRequest::of_name(alloc, path, "", path, placement, time, outfile)
-    }
-
-    // Returns the request for a FIT image from the source at a path, which has a name in a folder.
-    fn of_name(
-        alloc: Global,
-        path: &'a str,
-        folder: &'a str,
-        name: &'a str,
-        placement: Placement,
-        time: u32,
-        outfile: &'a str,
-    ) -> Result<MakeRequest<'a>, AllocError>
-        ensures asks { IfOk result (λ request. AsksSource request.command request.folder.now
-            (folder.entry.now ++ name.entry.now) placement) }
-        ensures folder { IfOk result (λ request. request.folder.now ≡ folder.entry.now) }
-        ensures time { IfOk result (λ request. request.manner.time ≡ time) }
-        ensures naming { IfOk result (λ request. request.manner.naming ≡ Naming.Profile) }
-        ensures align { IfOk result (λ request. request.manner.align ≡ 4) }
-        ensures whole { IfOk result (λ request. request.is_xip ≡ false) }
-        ensures outfile { IfOk result (λ request. request.outfile.now ≡ outfile.entry.now) }
-        ensures written { IfOk result (λ request. request.written.now ≡ outfile.entry.now) }
-    {
-        let source = Vec::from_slice(alloc, name.as_bytes())?;
+        let source = Vec::from_slice(alloc, path.as_bytes())?;
         Ok(MakeRequest {
             command: MakeCommand::Tree { source, placement },
             manner: Manner {
@@ -169,7 +136,7 @@ impl<'a> MakeRequest<'a> {
                 align: WORD_ALIGNMENT,
             },
             source: path,
-            folder,
+            folder: "",
             outfile,
             written: outfile,
             is_xip: false,
