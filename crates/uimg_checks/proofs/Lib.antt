@@ -4,3 +4,4 @@ mod Examples
 pub mod SetLaws
 pub mod PieceLaws
 pub mod MissingLaws
+pub mod FindingLaws

@@ -55,7 +55,8 @@ fn put_found<W: Write>(
     unchecked: Option<u64>,
     f: &mut Formatter<W>,
 ) -> fmt::Result
-    ensures { WritesOnOk W.Write.write_str_gives f.old result (found_details found unchecked) f.new }
+    ensures { WritesOnOk W.Write.write_str_gives f.old result
+        (found_details found.entry unchecked) f.new }
 {
     match found {
         Checked::Fit(finding) => put_finding(finding, unchecked, f),
@@ -72,7 +73,7 @@ fn put_finding<W: Write>(
     f: &mut Formatter<W>,
 ) -> fmt::Result
     ensures { WritesOnOk W.Write.write_str_gives f.old result
-        (finding_details finding unchecked) f.new }
+        (finding_details finding.entry unchecked) f.new }
 {
     match finding {
         Finding::Right { images, hashes } => put_counts(images as u64, hashes as u64, unchecked, f),

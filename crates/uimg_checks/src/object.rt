@@ -151,7 +151,7 @@ fn put_fit(
     finding: Finding<&[u8]>,
     unchecked: Option<u64>,
 ) -> Result<(), AllocError>
-    ensures { Appends result writer.old writer.new (tokens_of (about_fit finding unchecked)) }
+    ensures { Appends result writer.old writer.new (tokens_of (about_fit finding.entry unchecked)) }
 {
     match finding {
         Finding::Right { images, hashes } => {
@@ -172,7 +172,7 @@ fn put_found(
     found: Checked<&[u8]>,
     unchecked: Option<u64>,
 ) -> Result<(), AllocError>
-    ensures { Appends result writer.old writer.new (tokens_of (about_found found unchecked)) }
+    ensures { Appends result writer.old writer.new (tokens_of (about_found found.entry unchecked)) }
 {
     match found {
         Checked::Fit(finding) => put_fit(alloc, writer, finding, unchecked),
