@@ -1,10 +1,9 @@
 -- Claiming images, one more at a time.
-use Rattle.std.proofs.Common.{◌≡◌, ◌<◌, ◌≤◌, ◌+◌, ◌-◌, ◌*◌, ℕ, List, [], ◌∷◌, length, Option, Some, None, Bool, true, false, refl, ap, sym, ◌∙◌, subst, arith}
-use Rattle.std.specs.Prelude.{Result, Ok, Err, is_ok, nat_lt, if◌then◌else◌}
+use Rattle.std.proofs.Common.{◌≡◌, ◌≤◌, ◌+◌, ◌-◌, ◌*◌, ℕ, List, [], ◌∷◌, length, Option, Some, None, Bool, true, false, refl, ap, sym, ◌∙◌, subst, arith}
+use Rattle.std.specs.Prelude.{Result, Ok, Err, IfSome, is_ok, nat_lt, if◌then◌else◌}
 use Rattle.std.proofs.lemmas.Bool.{lt-ltb, le-ltb, ltb-false}
 use Rattle.uimg_texts.specs.Slices.{slice}
 use Rattle.uimg_base.proofs.Slices.{length-slice}
-use Rattle.uimg_base.specs.declared.spans.Span.{Span}
 use Rattle.uimg_blob_reading.specs.Grammar.{Siblings}
 use Rattle.uimg_blob_reading.specs.LookUps.{NodeOf}
 use Rattle.uimg_blob_reading.specs.Roles.{in_images}
@@ -18,44 +17,17 @@ use Rattle.uimg_fit_checking.specs.declared.unpacking.claims.Claim.{Claim}
 use Rattle.uimg_fit_checking.specs.declared.unpacking.claims.Claim.TheVariants.{Fits, Overlaps}
 use Rattle.uimg_fit_checking.specs.declared.unpacking.node_names.NodeName.{NodeName}
 use Rattle.uimg_fit_checking.specs.Unpacking.{is_asked, overlapping, fits_before, bytes_of}
-use Rattle.uimg_fit_checking.specs.UnpackingParts.{ClaimsTo, ClaimsIf, ClaimsAll, ClaimsImageBetween, ClaimsImagesBetween, size_if}
+use Rattle.uimg_fit_checking.specs.declared.unpacking.requested.Requested.{Requested}
+use Rattle.uimg_fit_checking.specs.UnpackingParts.{IsOf, TellsFound, Claims, ClaimsAll, ClaimsImagesBetween, size_if}
 use Rattle.uimg_fit_reading.specs.Nodes.{AreFrom}
 use Rattle.uimg_fit_reading.proofs.ImageLaws.{none_left}
 
--- an image that is not asked for
-pub claim_skips : (file : List ℕ) (only : Option (List ℕ)) (left : ℕ) (image : NodeOf Spot) (asked new : ℕ) → is_asked only image.name ≡ false → new ≤ asked + 267
-    → ClaimsImageBetween file only left image asked new (Ok (Fits left))
-claim_skips file only left image asked new not_asked paid = record {
-  told = subst (λ (b : Bool). ClaimsIf b image.name left (Ok (Fits left)) (payload file image)) (sym not_asked) (refl, refl);
-  paid = paid;
-}
-
--- what is told of one that is asked for
-pub claim_told : (file : List ℕ) (only : Option (List ℕ)) (left : ℕ) (image : NodeOf Spot) (asked new : ℕ) (r : Result Claim Fault) → is_asked only image.name ≡ true → new ≤ asked + 267
-    → ClaimsTo image.name left r (payload file image) → ClaimsImageBetween file only left image asked new r
-claim_told file only left image asked new r is paid told = record {
-  told = subst (λ (b : Bool). ClaimsIf b image.name left r (payload file image)) (sym is) told;
-  paid = paid;
-}
-
--- one whose payload is not there
-pub claim_lacks : (file : List ℕ) (left : ℕ) (image : NodeOf Spot) (fault : Fault) → TellsPlace file image (Err fault) → ClaimsTo image.name left (Err fault) (payload file image)
-claim_lacks file left image (of.Blob fault at) tells = absurd tells
-claim_lacks file left image (of.Fit fault) tells = tells
-claim_lacks file left image of.Read tells = tt
-claim_lacks file left image of.Put tells = tt
-
--- one whose payload is too long
-pub claim_over : (file : List ℕ) (left : ℕ) (image : NodeOf Spot) (span : Span) (name : NodeName) → payload file image ≡ Ok (slice file span.place span.length) → span.place + span.length ≤ length file → left < span.length
-    → bytes_of name ≡ image.name → ClaimsTo image.name left (Ok (Overlaps name)) (payload file image)
-claim_over file left image span name is inside more named =
-    subst (λ (p : Result (List ℕ) FitFault). ClaimsTo image.name left (Ok (Overlaps name)) p) (sym is) (omega (arith, more, length-slice file span.place span.length inside), named)
-
--- one whose payload fits
-pub claim_fits : (file : List ℕ) (left rest : ℕ) (image : NodeOf Spot) (span : Span) → payload file image ≡ Ok (slice file span.place span.length) → span.place + span.length ≤ length file → rest + span.length ≡ left
-    → ClaimsTo image.name left (Ok (Fits rest)) (payload file image)
-claim_fits file left rest image span is inside sum =
-    subst (λ (p : Result (List ℕ) FitFault). ClaimsTo image.name left (Ok (Fits rest)) p) (sym is) (omega (arith, sum, length-slice file span.place span.length inside))
+-- a requested image without a payload
+pub found_lacks : (file : List ℕ) (only : Option (List ℕ)) (image : NodeOf Spot) (fault : Fault) (r : Result (Option Requested) Fault) → r ≡ Err fault → is_asked only image.name ≡ true → TellsPlace file image (Err fault) → TellsFound only file image r
+found_lacks file only image (of.Blob fault at) r is asked tells = absurd tells
+found_lacks file only image (of.Fit fault) r is asked tells = subst (λ (x : Result (Option Requested) Fault). TellsFound only file image x) (sym is) (asked, tells)
+found_lacks file only image of.Read r is asked tells = subst (λ (x : Result (Option Requested) Fault). TellsFound only file image x) (sym is) tt
+found_lacks file only image of.Put r is asked tells = subst (λ (x : Result (Option Requested) Fault). TellsFound only file image x) (sym is) tt
 
 -- What is told of the images that are left, with the bytes that are left, is told of all.
 pub record LeftClaimed (t : Siblings) (file : List ℕ) (only : Option (List ℕ)) (found : List (NodeOf Spot)) (asked new left : ℕ) (next : Option ℕ) : Type 0 where
@@ -82,60 +54,70 @@ rest_of : Claim → ℕ
 rest_of (Fits rest) = rest
 rest_of (Overlaps name) = 0
 
--- one that fits
-fits : (b : Bool) (name : List ℕ) (left rest : ℕ) (p : Result (List ℕ) FitFault) (later : ℕ → Result (Option (List ℕ)) FitFault) → ClaimsIf b name left (Ok (Fits rest)) p
-    → (if b then fits_before name left p later else later left) ≡ later rest
+-- one that is not asked for, or fits
+fits : (number : ℕ) (only : Option (List ℕ)) (file : List ℕ) (left rest : ℕ) (image : NodeOf Spot) (found : Option Requested) (later : ℕ → Result (Option (List ℕ)) FitFault) → TellsFound only file image (Ok found)
+    → IfSome found (IsOf number (length file)) → Claims left found (Fits rest) → (if is_asked only image.name then fits_before image.name left (payload file image) later else later left) ≡ later rest
 unfolding rest_of
-fits true name left rest (Ok message) later sum = rw (le-ltb left (length message) (omega (arith, sum))) (ap later (omega (arith, sum)))
-fits true name left rest (Err fault) later sum = absurd sum
-fits false name left rest p later same = ap later (sym (ap rest_of same.0))
+fits number only file left rest image None later tells inside same =
+    ap (λ (b : Bool). if b then fits_before image.name left (payload file image) later else later left) tells ∙ ap later (sym (ap rest_of same))
+fits number only file left rest image (Some it) later tells inside sum =
+    let message = slice file it.span.place it.span.length in
+    let len = length-slice file it.span.place it.span.length inside.inside in
+    ap (λ (b : Bool). if b then fits_before image.name left (payload file image) later else later left) tells.asked
+    ∙ ap (λ (p : Result (List ℕ) FitFault). fits_before image.name left p later) tells.is ∙ rw (le-ltb left (length message) (omega (arith, sum, len))) (ap later (omega (arith, sum, len)))
 
 -- one with which they overlap
-overlaps_here : (b : Bool) (name : List ℕ) (left : ℕ) (its : NodeName) (p : Result (List ℕ) FitFault) (later : ℕ → Result (Option (List ℕ)) FitFault) → ClaimsIf b name left (Ok (Overlaps its)) p
-    → (if b then fits_before name left p later else later left) ≡ Ok (Some (bytes_of its))
-overlaps_here true name left its (Ok message) later told = rw (lt-ltb left (length message) told.0) (ap (λ (n : List ℕ). let r : Result (Option (List ℕ)) FitFault = Ok (Some n) in r) (sym told.1))
-overlaps_here true name left its (Err fault) later told = absurd told
-overlaps_here false name left its p later told = absurd (cc)
+overlaps_here : (number : ℕ) (only : Option (List ℕ)) (file : List ℕ) (left : ℕ) (image : NodeOf Spot) (found : Option Requested) (its : NodeName) (later : ℕ → Result (Option (List ℕ)) FitFault) → TellsFound only file image (Ok found)
+    → IfSome found (IsOf number (length file)) → Claims left found (Overlaps its) → (if is_asked only image.name then fits_before image.name left (payload file image) later else later left) ≡ Ok (Some (bytes_of its))
+overlaps_here number only file left image None its later tells inside same = absurd (cc)
+overlaps_here number only file left image (Some it) its later tells inside over =
+    let message = slice file it.span.place it.span.length in
+    let len = length-slice file it.span.place it.span.length inside.inside in
+    let named : image.name ≡ bytes_of its = sym (ap bytes_of over.1 ∙ tells.named) in
+    ap (λ (b : Bool). if b then fits_before image.name left (payload file image) later else later left) tells.asked
+    ∙ ap (λ (p : Result (List ℕ) FitFault). fits_before image.name left p later) tells.is
+    ∙ rw (lt-ltb left (length message) (omega (arith, over.0, len))) (ap (λ (n : List ℕ). let r : Result (Option (List ℕ)) FitFault = Ok (Some n) in r) named)
 
 -- one that is refused
-refused_here : (b : Bool) (name : List ℕ) (left : ℕ) (fault : Fault) (p : Result (List ℕ) FitFault) (later : ℕ → Result (Option (List ℕ)) FitFault) → ClaimsIf b name left (Err fault) p
-    → ClaimsAll (if b then fits_before name left p later else later left) (Err fault)
-refused_here true name left (of.Blob fault at) p later told = absurd told
-refused_here true name left (of.Fit fault) p later told = ap (λ (r : Result (List ℕ) FitFault). fits_before name left r later) told
-refused_here true name left of.Read p later told = tt
-refused_here true name left of.Put p later told = tt
-refused_here false name left (of.Blob fault at) p later told = absurd (true_false told.1)
-refused_here false name left (of.Fit fault) p later told = absurd (true_false told.1)
-refused_here false name left of.Read p later told = tt
-refused_here false name left of.Put p later told = tt
+refused_here : (only : Option (List ℕ)) (file : List ℕ) (left : ℕ) (image : NodeOf Spot) (fault : Fault) (later : ℕ → Result (Option (List ℕ)) FitFault) → TellsFound only file image (Err fault)
+    → ClaimsAll (if is_asked only image.name then fits_before image.name left (payload file image) later else later left) (Err fault)
+refused_here only file left image (of.Blob fault at) later tells = absurd tells
+refused_here only file left image (of.Fit fault) later tells =
+    ap (λ (b : Bool). if b then fits_before image.name left (payload file image) later else later left) tells.0
+    ∙ ap (λ (p : Result (List ℕ) FitFault). fits_before image.name left p later) tells.1
+refused_here only file left image of.Read later tells = tt
+refused_here only file left image of.Put later tells = tt
 
 pub claims_more : (t : Siblings) (file : List ℕ) (only : Option (List ℕ)) (found : List (NodeOf Spot)) (asked new left : ℕ) (next : Option ℕ) (k : LeftClaimed t file only found asked new left next)
-    → (image : NodeOf Spot) (more : List (NodeOf Spot)) → k.rest ≡ image ∷ more → (later rest : ℕ) (following : Option ℕ) → ClaimsImageBetween file only left image new later (Ok (Fits rest))
+    → (image : NodeOf Spot) (more : List (NodeOf Spot)) → k.rest ≡ image ∷ more → (later rest : ℕ) (following : Option ℕ) (number : ℕ) (it : Option Requested) → later ≤ new + 267 → TellsFound only file image (Ok it)
+    → IfSome it (IsOf number (length file)) → Claims left it (Fits rest)
     → AreFrom t in_images following more → LeftClaimed t file only found asked later rest following
-claims_more t file only found asked new left next k image more are later rest following c from = record {
+claims_more t file only found asked new left next k image more are later rest following number it paid tells inside claims from = record {
   rest = more;
   from = from;
   same = k.same ∙ ap (overlapping only file left) are ∙ overlapping_more only file left image more
-      ∙ fits (is_asked only image.name) image.name left rest (payload file image) (λ n. overlapping only file n more) c.told;
-  paid = omega (arith, k.paid, c.paid, ap (λ (l : List (NodeOf Spot)). length l) are);
+      ∙ fits number only file left rest image it (λ n. overlapping only file n more) tells inside claims;
+  paid = omega (arith, k.paid, paid, ap (λ (l : List (NodeOf Spot)). length l) are);
 }
 
 pub claims_end : (t : Siblings) (file : List ℕ) (only : Option (List ℕ)) (found : List (NodeOf Spot)) (asked new left : ℕ) (next : Option ℕ) (k : LeftClaimed t file only found asked new left next)
-    → (image : NodeOf Spot) (more : List (NodeOf Spot)) → k.rest ≡ image ∷ more → (later : ℕ) (its : NodeName) → ClaimsImageBetween file only left image new later (Ok (Overlaps its))
+    → (image : NodeOf Spot) (more : List (NodeOf Spot)) → k.rest ≡ image ∷ more → (later : ℕ) (its : NodeName) (number : ℕ) (it : Option Requested) → later ≤ new + 267 → TellsFound only file image (Ok it)
+    → IfSome it (IsOf number (length file)) → Claims left it (Overlaps its)
     → ClaimsImagesBetween file only found asked later (Ok (Some its))
-claims_end t file only found asked new left next k image more are later its c = record {
+claims_end t file only found asked new left next k image more are later its number it paid tells inside claims = record {
   told = k.same ∙ ap (overlapping only file left) are ∙ overlapping_more only file left image more
-      ∙ overlaps_here (is_asked only image.name) image.name left its (payload file image) (λ n. overlapping only file n more) c.told;
-  paid = omega (arith, k.paid, c.paid, ap (λ (l : List (NodeOf Spot)). length l) are);
+      ∙ overlaps_here number only file left image it its (λ n. overlapping only file n more) tells inside claims;
+  paid = omega (arith, k.paid, paid, ap (λ (l : List (NodeOf Spot)). length l) are);
 }
 
 pub claims_cut : (t : Siblings) (file : List ℕ) (only : Option (List ℕ)) (found : List (NodeOf Spot)) (asked new left : ℕ) (next : Option ℕ) (k : LeftClaimed t file only found asked new left next)
-    → (image : NodeOf Spot) (more : List (NodeOf Spot)) → k.rest ≡ image ∷ more → (later : ℕ) (fault : Fault) → ClaimsImageBetween file only left image new later (Err fault)
-    → ClaimsImagesBetween file only found asked later (Err fault)
-claims_cut t file only found asked new left next k image more are later fault c = record {
-  told = subst (λ (r : Result (Option (List ℕ)) FitFault). ClaimsAll r (Err fault)) (sym (k.same ∙ ap (overlapping only file left) are ∙ overlapping_more only file left image more))
-      (refused_here (is_asked only image.name) image.name left fault (payload file image) (λ n. overlapping only file n more) c.told);
-  paid = omega (arith, k.paid, c.paid, ap (λ (l : List (NodeOf Spot)). length l) are);
+    → (image : NodeOf Spot) (more : List (NodeOf Spot)) → k.rest ≡ image ∷ more → (later : ℕ) (fault : Fault) (r : Result (Option NodeName) Fault) → r ≡ Err fault → later ≤ new + 267 → TellsFound only file image (Err fault)
+    → ClaimsImagesBetween file only found asked later r
+claims_cut t file only found asked new left next k image more are later fault r is paid tells = record {
+  told = subst (λ (x : Result (Option NodeName) Fault). ClaimsAll (overlapping only file (length file) found) x) (sym is)
+      (subst (λ (x : Result (Option (List ℕ)) FitFault). ClaimsAll x (Err fault)) (sym (k.same ∙ ap (overlapping only file left) are ∙ overlapping_more only file left image more))
+      (refused_here only file left image fault (λ n. overlapping only file n more) tells));
+  paid = omega (arith, k.paid, paid, ap (λ (l : List (NodeOf Spot)). length l) are);
 }
 
 pub claims_done : (t : Siblings) (file : List ℕ) (only : Option (List ℕ)) (found : List (NodeOf Spot)) (asked new left : ℕ) (next : Option ℕ) → next ≡ None → LeftClaimed t file only found asked new left next

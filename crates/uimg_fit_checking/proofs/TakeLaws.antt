@@ -24,7 +24,7 @@ use Rattle.uimg_fit_base.specs.declared.algo_sets.AlgoSet.{AlgoSet}
 use Rattle.uimg_fit_base.specs.declared.fault.Fault.{Fault}
 use Rattle.uimg_fit_base.specs.declared.fault.Fault.TheVariants as of
 use Rattle.uimg_fit_base.specs.declared.fault.FitFault.{FitFault}
-use Rattle.uimg_fit_base.specs.Places.{payload, TellsPlace}
+use Rattle.uimg_fit_base.specs.Places.{payload}
 use Rattle.uimg_fit_base.specs.AlgoSets.{no_algos}
 use Rattle.uimg_fit_checking.specs.declared.unpacking.taker.Refusal.{Refusal}
 use Rattle.uimg_fit_checking.specs.declared.unpacking.taker.Vouched.{Vouched}
@@ -33,7 +33,7 @@ use Rattle.uimg_fit_reading.specs.Allowances.{node_allowance}
 use Rattle.uimg_fit_reading.specs.Nodes.{AreFrom}
 use Rattle.uimg_fit_reading.specs.Plans.{with_all}
 use Rattle.uimg_fit_checking.specs.Unpacking.{Take, kept, refused, take_by, take_of, is_asked, bytes_or_none, is_kept, told_of, strongest, vouched_by, IsVouched, takes, overlapping, GivenFirst}
-use Rattle.uimg_fit_checking.specs.UnpackingParts.{TakesTo, TakesAll, size_if, take_allowance}
+use Rattle.uimg_fit_checking.specs.UnpackingParts.{TellsFound, TakesTo, TakesAll, size_if, take_allowance}
 use Rattle.uimg_fit_checking.proofs.CheckLaws.{some_nodes}
 use Rattle.uimg_fit_checking.proofs.ClaimLaws.{fits_first}
 use Rattle.uimg_fit_reading.proofs.ImageLaws.{none_left}
@@ -80,18 +80,24 @@ pub takes_skips : (file : List ℕ) (only : Option (List ℕ)) (one : Take) (ima
     → TakesTo (is_asked only image.name) one (Ok true) (payload file image) given given
 takes_skips file only one image given is = subst (λ (b : Bool). TakesTo b one (Ok true) (payload file image) given given) (sym is) (refl, refl)
 
--- one whose payload is not there
-lacks_it : (file : List ℕ) (one : Take) (image : NodeOf Spot) (fault : Fault) (given : List Take) → TellsPlace file image (Err fault) → TakesTo true one (Err fault) (payload file image) given given
-lacks_it file one image (of.Blob fault at) given tells = absurd tells
-lacks_it file one image (of.Fit fault) given tells = (refl, tells)
-lacks_it file one image of.Read given tells = refl
-lacks_it file one image of.Put given tells = refl
+-- one whose payload is not there, or was not found
+read_failed : (b : Bool) (one : Take) (p : Result (List ℕ) FitFault) (given : List Take) → TakesTo b one (Err of.Read) p given given
+read_failed true one p given = refl
+read_failed false one p given = refl
 
-pub takes_lacks : (file : List ℕ) (only : Option (List ℕ)) (one : Take) (image : NodeOf Spot) (fault : Fault) (r : Result Bool Fault) (given : List Take) → r ≡ Err fault → is_asked only image.name ≡ true
-    → TellsPlace file image (Err fault) → TakesTo (is_asked only image.name) one r (payload file image) given given
-takes_lacks file only one image fault r given is asked tells =
-    subst (λ (x : Result Bool Fault). TakesTo (is_asked only image.name) one x (payload file image) given given) (sym is)
-    (subst (λ (b : Bool). TakesTo b one (Err fault) (payload file image) given given) (sym asked) (lacks_it file one image fault given tells))
+put_failed : (b : Bool) (one : Take) (p : Result (List ℕ) FitFault) (given : List Take) → TakesTo b one (Err of.Put) p given given
+put_failed true one p given = refl
+put_failed false one p given = refl
+
+lacks_it : (file : List ℕ) (only : Option (List ℕ)) (one : Take) (image : NodeOf Spot) (fault : Fault) (given : List Take) → TellsFound only file image (Err fault) → TakesTo (is_asked only image.name) one (Err fault) (payload file image) given given
+lacks_it file only one image (of.Blob fault at) given tells = absurd tells
+lacks_it file only one image (of.Fit fault) given tells = subst (λ (b : Bool). TakesTo b one (Err (of.Fit fault)) (payload file image) given given) (sym tells.0) (refl, tells.1)
+lacks_it file only one image of.Read given tells = read_failed (is_asked only image.name) one (payload file image) given
+lacks_it file only one image of.Put given tells = put_failed (is_asked only image.name) one (payload file image) given
+
+pub takes_lacks : (file : List ℕ) (only : Option (List ℕ)) (one : Take) (image : NodeOf Spot) (fault : Fault) (r : Result Bool Fault) (given : List Take) → r ≡ Err fault → TellsFound only file image (Err fault)
+    → TakesTo (is_asked only image.name) one r (payload file image) given given
+takes_lacks file only one image fault r given is tells = subst (λ (x : Result Bool Fault). TakesTo (is_asked only image.name) one x (payload file image) given given) (sym is) (lacks_it file only one image fault given tells)
 
 -- one whose payload is there
 pub takes_there : (file : List ℕ) (only : Option (List ℕ)) (need : Option Algo) (image : NodeOf Spot) (message : List ℕ) (r : Result Bool Fault) (old new : List Take) → is_asked only image.name ≡ true → payload file image ≡ Ok message

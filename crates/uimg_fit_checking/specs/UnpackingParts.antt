@@ -1,6 +1,6 @@
 -- Unpacking the payloads of a FIT image, one after the other.
 use Rattle.std.specs.Prelude.{◌≡◌, ⊤, ℕ, ◌+◌, ◌<◌, ◌≤◌, ◌*◌, List, [], ◌∷◌, ◌++◌, length, Bool}
-use Rattle.std.specs.Prelude.{true, false, Option, None, Result, Ok, Err, IfOk}
+use Rattle.std.specs.Prelude.{true, false, Option, Some, None, Result, Ok, Err, IfOk}
 use Rattle.std.specs.List.{list_all}
 use Rattle.std.specs.Option.{option_map}
 use Rattle.uimg_sums.specs.declared.algo.Algo.{Algo}
@@ -14,13 +14,15 @@ use Rattle.uimg_blob_reading.specs.Spots.{Spot}
 use Rattle.uimg_fit_base.specs.declared.fault.Fault.{Fault}
 use Rattle.uimg_fit_base.specs.declared.fault.Fault.TheVariants as of
 use Rattle.uimg_fit_base.specs.declared.fault.FitFault.{FitFault}
-use Rattle.uimg_fit_base.specs.Faults.{is_read, is_put, is_out_of_memory, is_of_making, is_refused}
+use Rattle.uimg_fit_base.specs.Faults.{is_read, is_put, is_out_of_memory, is_of_making}
 use Rattle.uimg_fit_base.specs.Places.{payload}
 use Rattle.uimg_fit_reading.specs.Allowances.{allowance}
+use Rattle.uimg_fit_reading.specs.Values.{in_span}
 use Rattle.uimg_fit_checking.specs.declared.unpacking.node_names.NodeName.{NodeName}
 use Rattle.uimg_fit_checking.specs.declared.unpacking.taker.Refusal.{Refusal}
 use Rattle.uimg_fit_checking.specs.declared.unpacking.claims.Claim.{Claim}
 use Rattle.uimg_fit_checking.specs.declared.unpacking.claims.Claim.TheVariants.{Fits, Overlaps}
+use Rattle.uimg_fit_checking.specs.declared.unpacking.requested.Requested.{Requested}
 use Rattle.uimg_fit_checking.specs.Checks.{wrong_in, or_weak}
 use Rattle.uimg_fit_checking.specs.Unpacking.{Take, GivenFirst, overlapping, is_asked, is_kept}
 use Rattle.uimg_fit_checking.specs.Unpacking.{told_of, bytes_of}
@@ -68,33 +70,33 @@ ReadsOrRefuses result device source room =
     ReadsOrRefusesBetween result (device source.entry.now) (device source.exit.now) room.entry.now
     room.exit.now
 
--- What a claim says of an image's payload, if `left` bytes may be read.
-abbrev pub ClaimsTo : List ℕ → ℕ → Result Claim Fault → Result (List ℕ) FitFault → Type 0
-ClaimsTo name left (Ok (Fits rest)) (Ok message) = rest + length message ≡ left
-ClaimsTo name left (Ok (Overlaps its)) (Ok message) =
-    (left < length message) × (bytes_of its ≡ name)
-ClaimsTo name left (Ok claim) (Err fault) = ⊥
-ClaimsTo name left (Err (of.Fit fault)) payload = payload ≡ Err fault
-ClaimsTo name left (Err (of.Blob fault at)) payload = ⊥
-ClaimsTo name left (Err fault) payload = ⊤
+-- The payload is that of the image of this number, and ends within a file of this size.
+pub record IsOf (image size : ℕ) (found : Requested) : Type 0 where
+  pub number : found.image ≡ image
+  pub inside : found.span.place + found.span.length ≤ size
 
--- The same for an image that may not be requested.
-abbrev pub ClaimsIf : Bool → List ℕ → ℕ → Result Claim Fault → Result (List ℕ) FitFault → Type 0
-ClaimsIf true name left result payload = ClaimsTo name left result payload
-ClaimsIf false name left result payload =
-    IfOk result (λ claim. claim ≡ Fits left) × (is_refused result ≡ false)
+-- The image is requested, and this is its payload.
+pub record Finds (only : Option (List ℕ)) (file : List ℕ) (image : NodeOf Spot) (found : Requested)
+    : Type 0 where
+  pub asked : is_asked only image.name ≡ true
+  pub named : bytes_of found.name ≡ image.name
+  pub is : payload file image ≡ Ok (in_span file found.span)
 
--- An image was claimed; its name and the span of its payload took at most 267 bytes.
-pub record ClaimsImageBetween (file : List ℕ) (only : Option (List ℕ)) (left : ℕ)
-    (image : NodeOf Spot) (asked new : ℕ) (result : Result Claim Fault) : Type 0 where
-  pub told : ClaimsIf (is_asked only image.name) image.name left result (payload file image)
-  pub paid : new ≤ asked + 267
+-- What a result says of the payload of an image: where it is, if it is requested.
+abbrev pub TellsFound : Option (List ℕ) → List ℕ → NodeOf Spot → Result (Option Requested) Fault
+    → Type 0
+TellsFound only file image (Ok (Some found)) = Finds only file image found
+TellsFound only file image (Ok None) = is_asked only image.name ≡ false
+TellsFound only file image (Err (of.Fit fault)) =
+    (is_asked only image.name ≡ true) × (payload file image ≡ Err fault)
+TellsFound only file image (Err (of.Blob fault at)) = ⊥
+TellsFound only file image (Err fault) = ⊤
 
-abbrev pub ClaimsImage : {S : Type 0} → Option (List ℕ) → ℕ → NodeOf Spot → Result Claim Fault
-    → (S → Device) → Lent S → Type 0
-ClaimsImage only left image result device source =
-    ClaimsImageBetween (device source.entry.now).bytes only left image
-    (device source.entry.now).asked (device source.exit.now).asked result
+-- What a claim says of a requested payload, or of one that is not, if `left` bytes may be read.
+abbrev pub Claims : ℕ → Option Requested → Claim → Type 0
+Claims left None claim = claim ≡ Fits left
+Claims left (Some found) (Fits rest) = rest + found.span.length ≡ left
+Claims left (Some found) (Overlaps name) = (left < found.span.length) × (name ≡ found.name)
 
 -- what claiming all images returns, by the definition
 abbrev pub ClaimsAll : Result (Option (List ℕ)) FitFault → Result (Option NodeName) Fault → Type 0

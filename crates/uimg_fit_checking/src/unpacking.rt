@@ -11,10 +11,12 @@ mod copies;
 mod mem_taker;
 mod node_names;
 mod refusals;
+mod requested;
 mod taker;
 mod takes;
 
 use crate::unpacking::claims::claim_images;
+use crate::unpacking::requested::Request;
 use crate::unpacking::takes::take_images;
 pub use mem_taker::{MemTake, MemTaker};
 pub use node_names::NodeName;
@@ -66,6 +68,6 @@ pub fn unpack<S: Source, A: Allocator, T: Taker>(
     if let Some(name) = claim_images(source, &blob, room, first, only, taker)? {
         return Ok(Unpacked::Overlapping(name));
     }
-    let all = take_images(source, &blob, room, first, only, need, taker)?;
+    let all = take_images(source, &blob, room, first, Request { only, need }, taker)?;
     Ok(Unpacked::Taken(all))
 }

@@ -17,20 +17,6 @@ pub word_at : (bytes word : List ℕ) (at : ℕ) → word ≡ slice bytes at 4 �
 unfolding be32
 word_at bytes word at e = ap (λ (xs : List ℕ). from_be_bytes w32 (take 4 xs)) e ∙ ap (λ (xs : List ℕ). from_be_bytes w32 xs) (take-take 4 4 (drop at bytes) (omega arith))
 
--- the same piece, of the device as it was before, by other names of its places
-pub padded_as : (asked wanted honest : Bool) (number : ℕ) (d e : Device) (at len size all whole : ℕ) (a b : Crc) (from to : List Part) → SameDevice d e → asked ≡ wanted → len ≡ size → all ≡ whole → TakesPaddedBetween asked honest number e at len all a b from to → TakesPaddedBetween wanted honest number d at size whole a b from to
-padded_as asked wanted honest number d e at len size all whole a b from to same ask sized summed p = record {
-  sums = record {
-    piece = p.sums.piece;
-    size = p.sums.size ∙ summed;
-    summed = p.sums.summed;
-    right = λ true_one.
-        let now = subst (λ (x : Bool). IsTrue x) (sym same.honest) true_one in
-        p.sums.right now ∙ ap (λ (xs : List ℕ). slice xs at all) same.bytes ∙ ap (λ (n : ℕ). slice d.bytes at n) summed;
-  };
-  held = λ known. p.held known ∙ ap (λ (b : Bool). from ++ part_if b number (take len p.sums.piece)) ask ∙ ap (λ (n : ℕ). from ++ part_if wanted number (take n p.sums.piece)) sized;
-}
-
 -- what an empty shelf holds after bytes were appended
 filled : (c : Option (List ℕ)) (bytes : List ℕ) → Appends (Some []) c bytes → c ≡ Some bytes
 filled (Some xs) bytes e = ap (λ (l : List ℕ). Some l) e
@@ -40,22 +26,21 @@ pub filled_by : (a c : Option (List ℕ)) (bytes : List ℕ) → a ≡ Some [] �
 filled_by a c bytes empty appended = filled c bytes (subst (λ (o : Option (List ℕ)). Appends o c bytes) empty appended)
 
 -- the first bytes of two pieces are the first piece
-pub first_of : (xs ys : List ℕ) (n : ℕ) → length xs ≡ n → take n (xs ++ ys) ≡ xs
+first_of : (xs ys : List ℕ) (n : ℕ) → length xs ≡ n → take n (xs ++ ys) ≡ xs
 first_of xs ys n e = take-append-le n xs ys (omega (arith, e)) ∙ take_all n xs (omega (arith, e))
 
--- a part, and the bytes behind it
-pub padded : (asked honest : Bool) (number : ℕ) (d e : Device) (at len all : ℕ) (a b c : Crc) (from to : List Part) → SameDevice d e → len ≤ all → TakesPartBetween asked honest number d at len a b from to → SumsPieceBetween e (at + len) (all - len) b c → TakesPaddedBetween asked honest number d at len all a c from to
-padded asked honest number d e at len all a b c from to same h p q =
-    let whole : len + (all - len) ≡ all = omega arith in
-    record {
-      sums = record {
-        piece = p.sums.piece ++ q.piece;
-        size = length-append p.sums.piece q.piece ∙ omega (arith, p.sums.size, q.size);
-        summed = λ fed holds. subst (λ (xs : List ℕ). Holds c xs) (append_assoc fed p.sums.piece q.piece) (q.summed (fed ++ p.sums.piece) (p.sums.summed fed holds));
-        right = λ true_one.
-            let now = subst (λ (x : Bool). IsTrue x) (sym same.honest) true_one in
-            let next : q.piece ≡ slice d.bytes (at + len) (all - len) = subst (λ (xs : List ℕ). q.piece ≡ slice xs (at + len) (all - len)) same.bytes (q.right now) in
-            ap (λ (xs : List ℕ). xs ++ q.piece) (p.sums.right true_one) ∙ ap (λ (xs : List ℕ). slice d.bytes at len ++ xs) next ∙ sym (slice-add d.bytes at len (all - len)) ∙ ap (λ (n : ℕ). slice d.bytes at n) whole;
-      };
-      held = λ known. p.held known ∙ ap (λ (xs : List ℕ). from ++ part_if asked number xs) (sym (first_of p.sums.piece q.piece len p.sums.size));
-    }
+-- a part, and the bytes behind it, of the device as it was before, by other names of its places
+pub padded : (asked wanted honest : Bool) (number : ℕ) (d e f : Device) (at len size all whole : ℕ) (a b c : Crc) (from to : List Part) → SameDevice d e → SameDevice d f → asked ≡ wanted → len ≡ size → all ≡ whole → len ≤ all → TakesPartBetween asked honest number e at len a b from to → SumsPieceBetween f (at + len) (all - len) b c → TakesPaddedBetween wanted honest number d at size whole a c from to
+padded asked wanted honest number d e f at len size all whole a b c from to de df ask sized summed h p q = record {
+  sums = record {
+    piece = p.sums.piece ++ q.piece;
+    size = length-append p.sums.piece q.piece ∙ omega (arith, p.sums.size, q.size, summed, h);
+    summed = λ fed holds. subst (λ (xs : List ℕ). Holds c xs) (append_assoc fed p.sums.piece q.piece) (q.summed (fed ++ p.sums.piece) (p.sums.summed fed holds));
+    right = λ true_one.
+        let first = p.sums.right (subst (λ (x : Bool). IsTrue x) (sym de.honest) true_one) ∙ ap (λ (xs : List ℕ). slice xs at len) de.bytes in
+        let next = q.right (subst (λ (x : Bool). IsTrue x) (sym df.honest) true_one) ∙ ap (λ (xs : List ℕ). slice xs (at + len) (all - len)) df.bytes in
+        let sum : len + (all - len) ≡ whole = omega (arith, summed, h) in
+        ap (λ (xs : List ℕ). xs ++ q.piece) first ∙ ap (λ (xs : List ℕ). slice d.bytes at len ++ xs) next ∙ sym (slice-add d.bytes at len (all - len)) ∙ ap (λ (n : ℕ). slice d.bytes at n) sum;
+  };
+  held = λ known. p.held known ∙ ap (λ (b : Bool). from ++ part_if b number p.sums.piece) ask ∙ ap (λ (xs : List ℕ). from ++ part_if wanted number xs) (sym (first_of p.sums.piece q.piece size (p.sums.size ∙ sized)));
+}

@@ -17,6 +17,8 @@ use Rattle.uimg_legacy.specs.declared.fault.LegacyFault.{LegacyFault}
 use Rattle.uimg_legacy.specs.declared.fault.LegacyFault.TheVariants.{BadDataCrc, PartOutside}
 use Rattle.uimg_legacy.specs.declared.fault.Fault.{Fault}
 use Rattle.uimg_legacy.specs.declared.fault.Fault.TheVariants.{Legacy, Read, Put}
+use Rattle.uimg_legacy.specs.declared.unpacking.takes.Parts.{Parts}
+use Rattle.uimg_legacy.specs.declared.unpacking.takes.PlacedPart.{PlacedPart}
 use Rattle.uimg_legacy.specs.declared.unpacking.takes.Walk.{Walk}
 use Rattle.uimg_legacy.specs.Faults.{is_read, is_of_making}
 use Rattle.uimg_legacy.specs.Words.{words}
@@ -71,11 +73,11 @@ pub record TakesPartBetween (asked honest : Bool) (number : ℕ) (d : Device) (a
   pub held : IsTrue honest → to ≡ from ++ part_if asked number sums.piece
 
 -- the same unless a device failed
-abbrev pub TakesPart : {X S T : Type 0} → Bool → ℕ → ℕ → ℕ → Result X Fault → (S → Device) → Lent S
-    → Lent Crc → Bool → (T → List Part) → Lent T → Type 0
-TakesPart asked number at len result device source sum honest held taker =
-    OnOk result (TakesPartBetween asked honest number
-    (device source.entry.now) at len sum.entry.now sum.exit.now (held taker.entry.now)
+abbrev pub TakesPart : {X S T : Type 0} → Bool → PlacedPart → Result X Fault → (S → Device)
+    → Lent S → Lent Crc → Bool → (T → List Part) → Lent T → Type 0
+TakesPart asked part result device source sum honest held taker =
+    OnOk result (TakesPartBetween asked honest part.number
+    (device source.entry.now) part.at part.len sum.entry.now sum.exit.now (held taker.entry.now)
     (held taker.exit.now))
 
 -- Some bytes were fed to a sum, and the first `len` of them held as a part if that is requested.
@@ -83,14 +85,6 @@ pub record TakesPaddedBetween (asked honest : Bool) (number : ℕ) (d : Device) 
     (old new : Crc) (from to : List Part) : Type 0 where
   pub sums : SumsPieceBetween d at all old new
   pub held : IsTrue honest → to ≡ from ++ part_if asked number (take len sums.piece)
-
--- the same unless a device failed
-abbrev pub TakesPadded : {X S T : Type 0} → Bool → ℕ → ℕ → ℕ → ℕ → Result X Fault → (S → Device)
-    → Lent S → Lent Crc → Bool → (T → List Part) → Lent T → Type 0
-TakesPadded asked number at len all result device source sum honest held taker =
-    OnOk result (TakesPaddedBetween asked honest number
-    (device source.entry.now) at len all sum.entry.now sum.exit.now (held taker.entry.now)
-    (held taker.exit.now))
 
 -- The next size was read, and its part taken with the bytes up to the next multiple of 4.
 pub record TakesNextBetween (only : Option ℕ) (honest : Bool) (number size : ℕ) (d : Device)
@@ -106,10 +100,10 @@ pub record TakesNextBetween (only : Option ℕ) (honest : Bool) (number size : �
       (new.at - old.at) old.sum new.sum from to
 
 -- the same at `Ok`
-abbrev pub TakesNext : {X S T : Type 0} → Option ℕ → ℕ → ℕ → Result X Fault → (S → Device) → Lent S
+abbrev pub TakesNext : {X S T : Type 0} → Parts → ℕ → Result X Fault → (S → Device) → Lent S
     → Lent Walk → Bool → (T → List Part) → Lent T → Type 0
-TakesNext only number size result device source walk honest held taker =
-    OnOk result (TakesNextBetween only honest number size
+TakesNext parts number result device source walk honest held taker =
+    OnOk result (TakesNextBetween parts.only honest number parts.size
     (device source.entry.now) walk.entry.now walk.exit.now (held taker.entry.now)
     (held taker.exit.now))
 
@@ -150,10 +144,10 @@ pub record Walked (only : Option ℕ) (honest : Bool) (count size : ℕ) (d : De
   pub held : IsTrue honest → to ≡ from ++ chosen only 0 parts
 
 -- the same at `Ok`
-abbrev pub Walks : {X S T : Type 0} → Option ℕ → ℕ → ℕ → Result X Fault → (S → Device) → Lent S
-    → Lent Walk → Bool → (T → List Part) → Lent T → Type 0
-Walks only count size result device source walk honest held taker =
-    OnOk result (Walked only honest count size
+abbrev pub Walks : {X S T : Type 0} → Parts → Result X Fault → (S → Device) → Lent S → Lent Walk
+    → Bool → (T → List Part) → Lent T → Type 0
+Walks parts result device source walk honest held taker =
+    OnOk result (Walked parts.only honest parts.count parts.size
     (device source.entry.now) walk.entry.now walk.exit.now (held taker.entry.now)
     (held taker.exit.now))
 

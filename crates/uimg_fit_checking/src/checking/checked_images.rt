@@ -8,7 +8,7 @@ ghost use Rattle.uimg_fit_reading.specs.Nodes.{OfNode, OfNodes, HasNode, HasNode
 ghost use Rattle.uimg_fit_checking.specs.UnpackingParts.{ReadsOrRefuses};
 
 use crate::checking::Finding;
-use crate::checking::checked_payloads::{Checked, check_payload};
+use crate::checking::checked_payloads::{Checked, Payload, check_payload};
 use std::alloc::Allocator;
 use uimg_base::{Algo, Room, Source, Span};
 use uimg_blob_reading::Blob;
@@ -32,7 +32,8 @@ fn check_image<S: Source, A: Allocator>(
         (λ found. ChecksImage need left found result S.device source) }
 {
     let span = payload_place(source, blob, room, image)?;
-    Ok(check_payload(source, blob, room, image, span, need, left)?)
+    let payload = Payload { image, span };
+    Ok(check_payload(source, blob, room, payload, need, left)?)
 }
 
 // Returns the first finding from an image on; as many bytes may be read as the source has.

@@ -26,6 +26,15 @@ pub(crate) enum Checked {
     Ended(Finding<Span>),
 }
 
+/// An image and the span of its payload.
+#[derive(Clone, Copy)]
+pub(crate) struct Payload {
+    // The number of the image.
+    pub(crate) image: usize,
+    // Where the payload is.
+    pub(crate) span: Span,
+}
+
 // Returns how many bytes of a payload are read to compare it by the algorithms of a set.
 fn read_size(set: AlgoSet, span: Span) -> u64
     ensures { result ≡ (if is_empty set then 0 else span.length) }
@@ -38,27 +47,27 @@ pub(crate) fn check_payload<S: Source, A: Allocator>(
     source: &mut S,
     blob: &Blob,
     room: &mut Room<A>,
-    image: usize,
-    span: Span,
+    payload: Payload,
     need: Option<Algo>,
     left: u64,
 ) -> Result<Checked, SourceFault>
-    requires node { HasNode (S.device source.old) blob.now room.old image }
-    requires payload { span.place + span.length ≤ length (S.device source.old).bytes }
+    requires node { HasNode (S.device source.old) blob.now room.old payload.image }
+    requires payload { payload.span.place + payload.span.length
+        ≤ length (S.device source.old).bytes }
     ensures uses { Uses (is_err result) (S.device source.old) (S.device source.new) }
     ensures room { room.new ≡ room.old }
     ensures inside { IfOk result (StaysInside (length (S.device source.old).bytes)) }
-    ensures told { OfNode (S.device source.old) blob.now room.old in_images image
-        (λ found. ChecksPayload need left found span result S.device source) }
+    ensures told { OfNode (S.device source.old) blob.now room.old in_images payload.image
+        (λ found. ChecksPayload need left found payload.span result S.device source) }
 {
-    let name = name_of(blob, room, image);
-    let first = first_hash(blob, room, image);
+    let name = name_of(blob, room, payload.image);
+    let first = first_hash(blob, room, payload.image);
     let set = compared_algos(source, blob, room, first)?;
-    let size = read_size(set, span);
+    let size = read_size(set, payload.span);
     if size > left {
         return Ok(Checked::Ended(Finding::Overlapping(name)));
     }
-    let digests = payload_digests(source, room, set, span)?;
+    let digests = payload_digests(source, room, set, payload.span)?;
     if let Some(wrong) = first_wrong(source, blob, room, first, &digests)? {
         return Ok(Checked::Ended(wrong.finding(name)));
     }

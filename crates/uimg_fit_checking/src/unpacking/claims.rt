@@ -1,67 +1,48 @@
 //! Checks, before any payload is taken, that the payloads of all requested images are present and
 //! have at most the file's length together.
 
-ghost use Rattle.std.specs.Prelude.{◌≡◌, IsTrue};
+ghost use Rattle.std.specs.Prelude.{◌≡◌, IfOk, IsTrue};
 ghost use Rattle.std.specs.Option.{option_map};
 ghost use Rattle.uimg_blob_reading.specs.Roles.{in_images};
-ghost use Rattle.uimg_fit_reading.specs.Nodes.{OfNode, OfNodes, HasNode, HasNodes};
-ghost use Rattle.uimg_fit_checking.specs.Unpacking.{bytes_of, is_asked};
-ghost use Rattle.uimg_fit_checking.specs.UnpackingParts.{LeavesImage, ClaimsImage, ClaimsImages};
+ghost use Rattle.uimg_fit_reading.specs.Nodes.{OfNodes, HasNodes};
+ghost use Rattle.uimg_fit_checking.specs.Unpacking.{bytes_of};
+ghost use Rattle.uimg_fit_checking.specs.UnpackingParts.{LeavesImage, Claims, ClaimsImages};
 
-use crate::unpacking::node_names::{NodeName, read_name};
+use crate::unpacking::node_names::NodeName;
+use crate::unpacking::requested::{Requested, find_requested};
 use crate::unpacking::taker::Taker;
 use std::alloc::Allocator;
-use uimg_base::{Room, Source};
+use uimg_base::{PutFault, Room, Source};
 use uimg_blob_reading::Blob;
 use uimg_fit_base::Fault;
-use uimg_fit_reading::nodes::{name_of, next_of};
-use uimg_fit_reading::payload_place;
+use uimg_fit_reading::nodes::next_of;
 
-/// The result of claiming an image.
+/// The result of claiming a payload.
 #[derive(Clone, Copy, Debug)]
 enum Claim {
     // This many bytes may still be read.
     Fits(u64),
-    // The payload of the image of this name is longer than the bytes that may still be read.
+    // It is longer than the bytes that may still be read; the name is that of its image.
     Overlaps(NodeName),
 }
 
-// Returns whether an image is requested: all are, or those of one name.
-pub(super) fn is_asked(only: Option<NodeName>, name: &NodeName) -> bool
-    ensures { result ≡ is_asked (option_map bytes_of only) (bytes_of name.now) }
-{
-    match only {
-        Some(asked) => asked.bytes() == name.bytes(),
-        None => true,
-    }
-}
-
-// Claims an image, of whose payload at most `left` bytes may be read.
-fn claim_image<S: Source, A: Allocator, T: Taker>(
-    source: &mut S,
-    blob: &Blob,
-    room: &mut Room<A>,
-    image: usize,
-    only: Option<NodeName>,
+// Claims a payload, if one was found; at most `left` bytes of it may be read.
+fn claim_requested<T: Taker>(
+    found: Option<Requested>,
     left: u64,
     taker: &mut T,
-) -> Result<Claim, Fault>
-    requires { HasNode (S.device source.old) blob.now room.old image }
-    ensures leaves { LeavesImage result S.device source room }
+) -> Result<Claim, PutFault>
     ensures none_given { IsTrue T.honest → T.takes taker.new ≡ T.takes taker.old }
-    ensures told { OfNode (S.device source.old) blob.now room.old in_images image
-        (λ found. ClaimsImage (option_map bytes_of only) left found result S.device source) }
+    ensures told { IfOk result (Claims left found) }
 {
-    let name = read_name(source, name_of(blob, room, image))?;
-    if !is_asked(only, &name) {
+    let Some(payload) = found else {
         return Ok(Claim::Fits(left));
+    };
+    if payload.span.length > left {
+        return Ok(Claim::Overlaps(payload.name));
     }
-    let payload = payload_place(source, blob, room, image)?;
-    if payload.length > left {
-        return Ok(Claim::Overlaps(name));
-    }
-    taker.claim(&name)?;
-    Ok(Claim::Fits(left - payload.length))
+    taker.claim(&payload.name)?;
+    Ok(Claim::Fits(left - payload.span.length))
 }
 
 // Claims the requested images from one on; of their payloads as many bytes may be read as the
@@ -83,7 +64,8 @@ pub(super) fn claim_images<S: Source, A: Allocator, T: Taker>(
     let mut left = source.size()?;
     let mut next = first;
     while let Some(image) = next {
-        match claim_image(source, blob, room, image, only, left, taker)? {
+        let found = find_requested(source, blob, room, image, only)?;
+        match claim_requested(found, left, taker)? {
             Claim::Fits(rest) => left = rest,
             Claim::Overlaps(name) => return Ok(Some(name)),
         }

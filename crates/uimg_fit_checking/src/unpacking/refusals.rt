@@ -47,12 +47,12 @@ fn strongest(set: AlgoSet) -> Option<Algo>
     None
 }
 
-// Returns what vouches for bytes that are compared by the algorithms of a set, from their digests.
-pub(super) fn vouched_by(set: AlgoSet, digests: &Digests) -> Option<Vouched>
-    requires { set_of digests.now ≡ set }
-    ensures { (message : List ℕ) → AreDigests digests.now message → result ≡ vouched_by set message }
+// Returns what vouches for bytes that are compared by these digests.
+pub(super) fn vouched_by(digests: &Digests) -> Option<Vouched>
+    ensures { (message : List ℕ) → AreDigests digests.now message →
+        result ≡ vouched_by (set_of digests.now) message }
 {
-    match strongest(set) {
+    match strongest(digests.set()) {
         Some(algo) => Some(Vouched {
             algo,
             digest: digests.by(algo),
@@ -81,23 +81,21 @@ pub(super) fn refusal_of<S: Source, A: Allocator>(
     blob: &Blob,
     room: &Room<A>,
     image: usize,
-    set: AlgoSet,
     digests: &Digests,
     need: Option<Algo>,
 ) -> Result<Option<Refusal>, SourceFault>
-    requires node { HasNode (S.device source.old) blob.now room.now image }
-    requires set { set_of digests.now ≡ set }
+    requires { HasNode (S.device source.old) blob.now room.now image }
     ensures uses { Uses (is_err result) (S.device source.old) (S.device source.new) }
     ensures told { OfNode (S.device source.old) blob.now room.now in_images image
         (λ found. (message : List ℕ) → AreDigests digests.now message →
-        set ≡ with_all no_algos (hashes found) →
+        set_of digests.now ≡ with_all no_algos (hashes found) →
         FindsRefusal need found message result S.device source) }
 {
     let first = first_hash(blob, room, image);
     if let Some(wrong) = first_wrong(source, blob, room, first, digests)? {
         return Ok(Some(refusal(source, wrong)?));
     }
-    if lacks(set, need) {
+    if lacks(digests.set(), need) {
         return Ok(Some(Refusal::Weak));
     }
     Ok(None)

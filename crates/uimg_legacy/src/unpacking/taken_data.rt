@@ -12,7 +12,7 @@ use crate::parts::has_parts;
 use crate::unpacking::copies::sum_range;
 use crate::unpacking::part_taker::PartTaker;
 use crate::unpacking::tables::sum_table;
-use crate::unpacking::takes::{Walk, take_part, take_parts};
+use crate::unpacking::takes::{Parts, PlacedPart, Walk, take_part, take_parts};
 use std::alloc::Allocator;
 use uimg_base::{Crc, PutFault, Room, Source, Summer};
 
@@ -59,7 +59,12 @@ fn take_whole<S: Source, A: Allocator, T: PartTaker>(
     }
     taker.claim(0)?;
     let mut sum = Crc::start();
-    take_part(source, room, &mut sum, 0, 64, header.size as u64, taker)?;
+    let part = PlacedPart {
+        number: 0,
+        at: 64,
+        len: header.size as u64,
+    };
+    take_part(source, room, &mut sum, part, taker)?;
     Ok(sum.value() == header.dcrc)
 }
 
@@ -90,7 +95,12 @@ fn take_listed<S: Source, A: Allocator, T: PartTaker>(
         sum,
         sizes: Crc::start(),
     };
-    take_parts(source, room, count, header.size, only, &mut walk, taker)?;
+    let parts = Parts {
+        count,
+        size: header.size,
+        only,
+    };
+    take_parts(source, room, parts, &mut walk, taker)?;
     let left = header.size as u64 - walk.at;
     sum_range(&mut walk.sum, source, room.window(), 64 + walk.at, left)?;
     walk.sizes.feed(&[0; 4]);

@@ -5,13 +5,47 @@ ghost use Rattle.uimg_base.specs.Using.{Asks};
 ghost use Rattle.uimg_legacy.specs.Commands.{OfHonest};
 ghost use Rattle.uimg_legacy.specs.Faults.{is_refused};
 ghost use Rattle.uimg_legacy.specs.Unpacking.{is_asked};
-ghost use Rattle.uimg_legacy.specs.UnpackingSteps.{Takes, TakesPart, TakesPadded, TakesNext, Pays, Walks, RefusesNumber, RefusesFrom};
+ghost use Rattle.uimg_legacy.specs.UnpackingSteps.{Takes, TakesPart, TakesNext, Pays, Walks, RefusesNumber, RefusesFrom};
 
 use crate::fault::{Fault, LegacyFault};
 use crate::unpacking::copies::{sum_range, take_range};
 use crate::unpacking::part_taker::PartTaker;
 use std::alloc::Allocator;
 use uimg_base::{Crc, Out, Room, Source, Summer, be32_at, up4};
+
+// The parts of the data, and which of them are requested.
+#[derive(Clone, Copy)]
+pub(super) struct Parts {
+    // How many there are.
+    pub(super) count: u32,
+    // The length of the data, in bytes.
+    pub(super) size: u32,
+    // The number of the requested part, or `None` for all.
+    pub(super) only: Option<u32>,
+}
+
+impl Parts {
+    // Returns whether a part is requested.
+    fn is_asked(self, number: u32) -> bool
+        ensures { result ≡ is_asked self.only number }
+    {
+        match self.only {
+            Some(asked) => asked == number,
+            None => true,
+        }
+    }
+}
+
+// A part and where it is.
+#[derive(Clone, Copy)]
+pub(super) struct PlacedPart {
+    // Its number.
+    pub(super) number: u32,
+    // The offset of its first byte in the image.
+    pub(super) at: u64,
+    // Its length in bytes.
+    pub(super) len: u64,
+}
 
 // How far parts were taken.
 #[derive(Drop)]
@@ -24,102 +58,65 @@ pub(super) struct Walk {
     pub(super) sizes: Crc,
 }
 
-// Returns whether a part is requested: all are, or one by its number.
-fn is_asked(only: Option<u32>, number: u32) -> bool
-    ensures { result ≡ is_asked only number }
-{
-    match only {
-        Some(asked) => asked == number,
-        None => true,
-    }
-}
-
-// Takes the `len` bytes at an offset as a part.
+// Takes a part.
 pub(super) fn take_part<S: Source, A: Allocator, T: PartTaker>(
     source: &mut S,
     room: &mut Room<A>,
     sum: &mut Crc,
-    number: u32,
-    at: u64,
-    len: u64,
+    part: PlacedPart,
     taker: &mut T,
 ) -> Result<(), Fault>
-    requires { at + len ≤ length (S.device source.old).bytes }
-    ensures takes { Takes (Asks len) result S.device source room T.honest T.kept taker }
+    requires { part.at + part.len ≤ length (S.device source.old).bytes }
+    ensures takes { Takes (Asks part.len) result S.device source room T.honest T.kept taker }
     ensures accepted { is_refused result ≡ false }
-    ensures taken { TakesPart true number at len result S.device source sum T.honest T.held taker }
+    ensures taken { TakesPart true part result S.device source sum T.honest T.held taker }
 {
-    let mut out = Out::new(taker.shelf(number)?);
-    take_range(sum, source, room.window(), at, len, &mut out)?;
-    taker.hold(number, out.into_inner())?;
+    let mut out = Out::new(taker.shelf(part.number)?);
+    take_range(sum, source, room.window(), part.at, part.len, &mut out)?;
+    taker.hold(part.number, out.into_inner())?;
     Ok(())
 }
 
-// Takes the `len` bytes at an offset as a part if it is requested, else only sums them.
+// Takes a part if it is requested, else only sums it.
 fn take_if<S: Source, A: Allocator, T: PartTaker>(
     source: &mut S,
     room: &mut Room<A>,
     sum: &mut Crc,
     asked: bool,
-    number: u32,
-    at: u64,
-    len: u64,
+    part: PlacedPart,
     taker: &mut T,
 ) -> Result<(), Fault>
-    requires { at + len ≤ length (S.device source.old).bytes }
-    ensures takes { Takes (Asks len) result S.device source room T.honest T.kept taker }
+    requires { part.at + part.len ≤ length (S.device source.old).bytes }
+    ensures takes { Takes (Asks part.len) result S.device source room T.honest T.kept taker }
     ensures accepted { is_refused result ≡ false }
-    ensures taken { TakesPart asked number at len result S.device source sum T.honest T.held taker }
+    ensures taken { TakesPart asked part result S.device source sum T.honest T.held taker }
 {
     if asked {
-        return take_part(source, room, sum, number, at, len, taker);
+        return take_part(source, room, sum, part, taker);
     }
-    sum_range(sum, source, room.window(), at, len)?;
+    sum_range(sum, source, room.window(), part.at, part.len)?;
     Ok(())
 }
 
-// Does the same, and sums the bytes after the part, up to `all` bytes in all.
-fn take_padded<S: Source, A: Allocator, T: PartTaker>(
-    source: &mut S,
-    room: &mut Room<A>,
-    sum: &mut Crc,
-    asked: bool,
-    number: u32,
-    at: u64,
-    len: u64,
-    all: u64,
-    taker: &mut T,
-) -> Result<(), Fault>
-    requires part { len ≤ all }
-    requires data { at + all ≤ length (S.device source.old).bytes }
-    ensures takes { Takes (Asks all) result S.device source room T.honest T.kept taker }
-    ensures accepted { is_refused result ≡ false }
-    ensures taken { TakesPadded asked number at len all result
-        S.device source sum T.honest T.held taker }
-{
-    take_if(source, room, sum, asked, number, at, len, taker)?;
-    sum_range(sum, source, room.window(), at + len, all - len)?;
-    Ok(())
-}
-
-// Takes the part of a number by its size in the table, read again: `BadDataCrc` if that is 0.
+// Takes the part of a number by its size in the table, read again: `BadDataCrc` if that is 0. Sums
+// the bytes after it up to the next multiple of 4.
 fn take_next<S: Source, A: Allocator, T: PartTaker>(
     source: &mut S,
     room: &mut Room<A>,
     number: u32,
-    size: u32,
-    only: Option<u32>,
+    parts: Parts,
     walk: &mut Walk,
     taker: &mut T,
 ) -> Result<(), Fault>
-    requires data { 64 + size ≤ length (S.device source.old).bytes }
-    requires word { 4 * (number + 1) ≤ size }
-    requires place { walk.old.at ≤ size }
-    ensures takes { Takes (Asks (4 + (size - walk.old.at))) result
+    requires data { 64 + parts.size ≤ length (S.device source.old).bytes }
+    requires word { 4 * (number + 1) ≤ parts.size }
+    requires place { walk.old.at ≤ parts.size }
+    ensures takes { Takes (Asks (4 + (parts.size - walk.old.at))) result
         S.device source room T.honest T.kept taker }
     ensures paid { Pays 4 result S.device source walk }
-    ensures taken { TakesNext only number size result S.device source walk T.honest T.held taker }
-    ensures refused { OfHonest (RefusesNumber number size walk.old.at) result S.device source }
+    ensures taken { TakesNext parts number result S.device source walk T.honest T.held taker }
+    ensures refused { OfHonest (RefusesNumber number parts.size walk.old.at) result
+        S.device source }
 {
     let mut word = [0; 4];
     source.fill_at(64 + 4 * number as u64, &mut word)?;
@@ -127,49 +124,40 @@ fn take_next<S: Source, A: Allocator, T: PartTaker>(
     if len == 0 {
         return Err(Fault::Legacy(LegacyFault::BadDataCrc));
     }
-    let left = size as u64 - walk.at;
+    let left = parts.size as u64 - walk.at;
     if len > left {
         return Err(Fault::Legacy(LegacyFault::PartOutside));
     }
     walk.sizes.feed(&word);
-    let all = u64::min(up4(len), left);
-    let (asked, at) = (is_asked(only, number), 64 + walk.at);
-    take_padded(
-        source,
-        room,
-        &mut walk.sum,
-        asked,
-        number,
-        at,
-        len,
-        all,
-        taker,
-    )?;
+    let (at, all) = (64 + walk.at, u64::min(up4(len), left));
+    let part = PlacedPart { number, at, len };
+    let asked = parts.is_asked(number);
+    take_if(source, room, &mut walk.sum, asked, part, taker)?;
+    sum_range(&mut walk.sum, source, room.window(), at + len, all - len)?;
     walk.at += all;
     Ok(())
 }
 
-// Takes the first `count` parts by their sizes in the table.
+// Takes the requested parts by their sizes in the table.
 pub(super) fn take_parts<S: Source, A: Allocator, T: PartTaker>(
     source: &mut S,
     room: &mut Room<A>,
-    count: u32,
-    size: u32,
-    only: Option<u32>,
+    parts: Parts,
     walk: &mut Walk,
     taker: &mut T,
 ) -> Result<(), Fault>
-    requires data { 64 + size ≤ length (S.device source.old).bytes }
-    requires table { 4 * (count + 1) ≤ size }
-    requires place { walk.old.at ≡ 4 * (count + 1) }
-    ensures takes { Takes (Asks (4 * count + (size - walk.old.at))) result
+    requires data { 64 + parts.size ≤ length (S.device source.old).bytes }
+    requires table { 4 * (parts.count + 1) ≤ parts.size }
+    requires place { walk.old.at ≡ 4 * (parts.count + 1) }
+    ensures takes { Takes (Asks (4 * parts.count + (parts.size - walk.old.at))) result
         S.device source room T.honest T.kept taker }
-    ensures paid { Pays (4 * count) result S.device source walk }
-    ensures taken { Walks only count size result S.device source walk T.honest T.held taker }
-    ensures refused { OfHonest (RefusesFrom count size walk.old.at) result S.device source }
+    ensures paid { Pays (4 * parts.count) result S.device source walk }
+    ensures taken { Walks parts result S.device source walk T.honest T.held taker }
+    ensures refused { OfHonest (RefusesFrom parts.count parts.size walk.old.at) result
+        S.device source }
 {
-    for number in 0..count {
-        take_next(source, room, number, size, only, walk, taker)?;
+    for number in 0..parts.count {
+        take_next(source, room, number, parts, walk, taker)?;
     }
     Ok(())
 }

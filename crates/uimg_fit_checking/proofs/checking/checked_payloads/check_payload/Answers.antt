@@ -19,7 +19,7 @@ use Rattle.uimg_fit_checking.proofs.checking.checked_payloads.check_payload.Goal
 pub returns-in_err-set-clause-told : goal.returns-in_err-set-clause-told
 returns-in_err-set-clause-told g c = λ t o found n.
     let file = (g.S.Source.device c.args.source.now).bytes in
-    let span = c.args.span in
+    let span = c.args.payload.span in
     let at = c.first_hash-first.ensures.hashes t o.read.indexed found n in
     let failed : is_err c.from_residual.result ≡ true = search rules in
     payload_cut file c.args.need c.args.left found (slice file span.place span.length) _ _ c.from_residual.result failed
@@ -28,7 +28,7 @@ returns-in_err-set-clause-told g c = λ t o found n.
 pub returns-then-size-left-clause-told : goal.returns-then-size-left-clause-told
 returns-then-size-left-clause-told g c = λ t o found n.
     let file = (g.S.Source.device c.args.source.now).bytes in
-    let span = c.args.span in
+    let span = c.args.payload.span in
     let message = slice file span.place span.length in
     let at = c.first_hash-first.ensures.hashes t o.read.indexed found n in
     let named = c.name_of-name.ensures.name file t o.read in_images found n in
@@ -39,7 +39,7 @@ returns-then-size-left-clause-told g c = λ t o found n.
 pub returns-in_err-digests-clause-told : goal.returns-in_err-digests-clause-told
 returns-in_err-digests-clause-told g c = λ t o found n.
     let file = (g.S.Source.device c.args.source.now).bytes in
-    let span = c.args.span in
+    let span = c.args.payload.span in
     let at = c.first_hash-first.ensures.hashes t o.read.indexed found n in
     let algos = c.in_ok-set.ensures.found t o (hashes found) at in
     let failed : is_err c.from_residual-in_err-digests.result ≡ true = search rules in
@@ -49,7 +49,7 @@ returns-in_err-digests-clause-told g c = λ t o found n.
 pub returns-in_err-wrong-clause-told : goal.returns-in_err-wrong-clause-told
 returns-in_err-wrong-clause-told g c = λ t o found n.
     let file = (g.S.Source.device c.args.source.now).bytes in
-    let span = c.args.span in
+    let span = c.args.payload.span in
     let message = slice file span.place span.length in
     let at = c.first_hash-first.ensures.hashes t o.read.indexed found n in
     let algos = c.in_ok-set.ensures.found t o (hashes found) at in
@@ -66,7 +66,7 @@ returns-in_err-wrong-clause-told g c = λ t o found n.
 pub returns-in-Some-clause-told : goal.returns-in-Some-clause-told
 returns-in-Some-clause-told g c = λ t o found n.
     let file = (g.S.Source.device c.args.source.now).bytes in
-    let span = c.args.span in
+    let span = c.args.payload.span in
     let message = slice file span.place span.length in
     let at = c.first_hash-first.ensures.hashes t o.read.indexed found n in
     let named = c.name_of-name.ensures.name file t o.read in_images found n in
@@ -86,7 +86,7 @@ returns-in-Some-clause-told g c = λ t o found n.
 pub returns-then-lacks-clause-told : goal.returns-then-lacks-clause-told
 returns-then-lacks-clause-told g c = λ t o found n.
     let file = (g.S.Source.device c.args.source.now).bytes in
-    let span = c.args.span in
+    let span = c.args.payload.span in
     let message = slice file span.place span.length in
     let at = c.first_hash-first.ensures.hashes t o.read.indexed found n in
     let named = c.name_of-name.ensures.name file t o.read in_images found n in
@@ -105,7 +105,7 @@ returns-then-lacks-clause-told g c = λ t o found n.
 pub returns-clause-told : goal.returns-clause-told
 returns-clause-told g c = λ t o found n.
     let file = (g.S.Source.device c.args.source.now).bytes in
-    let span = c.args.span in
+    let span = c.args.payload.span in
     let message = slice file span.place span.length in
     let at = c.first_hash-first.ensures.hashes t o.read.indexed found n in
     let named = c.name_of-name.ensures.name file t o.read in_images found n in

@@ -1,15 +1,14 @@
-use Rattle.std.proofs.Common.{rules, ◌≡◌, ℕ, List, Option, Some, subst, sym}
-use Rattle.std.specs.Prelude.{Result, Ok, Err}
+use Rattle.std.proofs.Common.{rules, ◌≡◌, ℕ, List, Option, Some, length, IfSome, refl, subst}
+use Rattle.std.specs.Prelude.{Ok, Err}
 use Rattle.std.specs.Option.{option_map}
 use Rattle.uimg_blob_reading.specs.LookUps.{NodeOf}
 use Rattle.uimg_blob_reading.specs.Roles.{in_images}
 use Rattle.uimg_blob_reading.specs.Spots.{Spot}
-use Rattle.uimg_fit_base.specs.declared.fault.Fault.{Fault}
+use Rattle.uimg_fit_base.specs.declared.fault.Fault.TheVariants.{Put}
 use Rattle.uimg_fit_checking.specs.declared.unpacking.claims.Claim.{Claim}
-use Rattle.uimg_fit_checking.specs.declared.unpacking.node_names.NodeName.{NodeName}
 use Rattle.uimg_fit_reading.specs.Nodes.{AreFrom}
 use Rattle.uimg_fit_checking.specs.Unpacking.{bytes_of}
-use Rattle.uimg_fit_checking.specs.UnpackingParts.{ClaimsImageBetween, ClaimsImagesBetween}
+use Rattle.uimg_fit_checking.specs.UnpackingParts.{IsOf, TellsFound, Claims}
 use Rattle.uimg_fit_reading.proofs.OpenedLaws.{still}
 use Rattle.uimg_fit_reading.proofs.ImageLaws.{front}
 use Rattle.uimg_fit_checking.proofs.ClaimLaws.{claims_more, claims_end, claims_cut, claims_done}
@@ -31,11 +30,12 @@ loop-next-preserved g c = record {
       let here = still same c.loop-next.invariant.room o in
       let start = subst (λ (x : Option ℕ). AreFrom t in_images x k.rest) c.in-Some.is k.from in
       let f = front t in_images c.in-Some.image k.rest start in
-      let told = subst (λ (x : Claim). ClaimsImageBetween file only c.loop-next.left f.image (d c.loop-next.source).asked (d c.claim_image.new.source).asked (Ok x)) c.in-Fits.is
-      (subst (λ (xs : List ℕ). ClaimsImageBetween xs only c.loop-next.left f.image (d c.loop-next.source).asked (d c.claim_image.new.source).asked (Ok c.in_ok-rest.field-0)) same.bytes
-      (c.in_ok-rest.ensures.told t here f.image f.node)) in
-      let indexed = (still c.claim_image.ensures.leaves.uses.same c.claim_image.ensures.leaves.room here).read.indexed in
-      claims_more t file only found _ _ c.loop-next.left c.loop-next.next k f.image f.more f.are _ c.in-Fits.rest _ told
+      let it = c.in_ok-found.found in
+      let tells = subst (λ (xs : List ℕ). TellsFound only xs f.image (Ok it)) same.bytes (c.in_ok-found.ensures.told t here f.image f.node) in
+      let its = subst (λ (xs : List ℕ). IfSome it (IsOf c.in-Some.image (length xs))) same.bytes c.in_ok-found.ensures.its in
+      let claims = subst (λ (x : Claim). Claims c.loop-next.left it x) c.in-Fits.is c.in_ok-rest.ensures.told in
+      let indexed = (still c.find_requested.ensures.uses.same refl here).read.indexed in
+      claims_more t file only found _ _ c.loop-next.left c.loop-next.next k f.image f.more f.are _ c.in-Fits.rest _ c.in-Some.image it c.find_requested.ensures.uses.asked tells its claims
       (c.next_of-next.ensures.next t indexed in_images f.image f.more (subst (λ (l : List (NodeOf Spot)). AreFrom t in_images (Some c.in-Some.image) l) f.are start));
 }
 
@@ -48,25 +48,30 @@ returns-in-Overlaps-clause-told g c = λ t o found from.
     let same = c.loop-next.invariant.same in
     let here = still same c.loop-next.invariant.room o in
     let f = front t in_images c.in-Some.image k.rest (subst (λ (x : Option ℕ). AreFrom t in_images x k.rest) c.in-Some.is k.from) in
-    let told = subst (λ (x : Claim). ClaimsImageBetween file only c.loop-next.left f.image (d c.loop-next.source).asked (d c.claim_image.new.source).asked (Ok x)) c.in-Overlaps.is
-    (subst (λ (xs : List ℕ). ClaimsImageBetween xs only c.loop-next.left f.image (d c.loop-next.source).asked (d c.claim_image.new.source).asked (Ok c.in_ok-rest.field-0)) same.bytes
-    (c.in_ok-rest.ensures.told t here f.image f.node)) in
-    claims_end t file only found _ _ c.loop-next.left c.loop-next.next k f.image f.more f.are _ c.in-Overlaps.name told
+    let it = c.in_ok-found.found in
+    let tells = subst (λ (xs : List ℕ). TellsFound only xs f.image (Ok it)) same.bytes (c.in_ok-found.ensures.told t here f.image f.node) in
+    let its = subst (λ (xs : List ℕ). IfSome it (IsOf c.in-Some.image (length xs))) same.bytes c.in_ok-found.ensures.its in
+    let claims = subst (λ (x : Claim). Claims c.loop-next.left it x) c.in-Overlaps.is c.in_ok-rest.ensures.told in
+    claims_end t file only found _ _ c.loop-next.left c.loop-next.next k f.image f.more f.are _ c.in-Overlaps.name c.in-Some.image it c.find_requested.ensures.uses.asked tells its claims
 
-pub returns-in_err-rest-clause-told : goal.returns-in_err-rest-clause-told
-returns-in_err-rest-clause-told g c = λ t o found from.
-    let d = g.S.Source.device in
-    let file = (d c.args.source.now).bytes in
+pub returns-in_err-found-clause-told : goal.returns-in_err-found-clause-told
+returns-in_err-found-clause-told g c = λ t o found from.
+    let file = (g.S.Source.device c.args.source.now).bytes in
     let only = option_map bytes_of c.args.only in
     let k = c.loop-next.invariant.told t o found from in
     let same = c.loop-next.invariant.same in
-    let fault = c.in_err-rest.field-0.0 in
-    let is : c.from_residual-in_err-rest.result ≡ Err fault = search rules in
+    let fault = c.in_err-found.field-0.0 in
+    let is : c.from_residual-in_err-found.result ≡ Err fault = search rules in
     let f = front t in_images c.in-Some.image k.rest (subst (λ (x : Option ℕ). AreFrom t in_images x k.rest) c.in-Some.is k.from) in
-    let cut = subst (λ (xs : List ℕ). ClaimsImageBetween xs only c.loop-next.left f.image (d c.loop-next.source).asked (d c.claim_image.new.source).asked (Err fault)) same.bytes
-    (c.in_err-rest.ensures.told t (still same c.loop-next.invariant.room o) f.image f.node) in
-    subst (λ (r : Result (Option NodeName) Fault). ClaimsImagesBetween file only found (d c.args.source.now).asked (d c.claim_image.new.source).asked r) (sym is)
-    (claims_cut t file only found _ _ c.loop-next.left c.loop-next.next k f.image f.more f.are _ fault cut)
+    let tells = subst (λ (xs : List ℕ). TellsFound only xs f.image (Err fault)) same.bytes (c.in_err-found.ensures.told t (still same c.loop-next.invariant.room o) f.image f.node) in
+    claims_cut t file only found _ _ c.loop-next.left c.loop-next.next k f.image f.more f.are _ fault c.from_residual-in_err-found.result is c.find_requested.ensures.uses.asked tells
+
+pub returns-in_err-rest-clause-told : goal.returns-in_err-rest-clause-told
+returns-in_err-rest-clause-told g c = λ t o found from.
+    let k = c.loop-next.invariant.told t o found from in
+    let is : c.from_residual-in_err-rest.result ≡ Err Put = search rules in
+    let f = front t in_images c.in-Some.image k.rest (subst (λ (x : Option ℕ). AreFrom t in_images x k.rest) c.in-Some.is k.from) in
+    claims_cut t _ (option_map bytes_of c.args.only) found _ _ c.loop-next.left c.loop-next.next k f.image f.more f.are _ Put c.from_residual-in_err-rest.result is c.find_requested.ensures.uses.asked tt
 
 pub returns-clause-told : goal.returns-clause-told
 returns-clause-told g c = λ t o found from.

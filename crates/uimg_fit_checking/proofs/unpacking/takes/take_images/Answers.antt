@@ -21,7 +21,7 @@ loop-next-init g c = record {
   room = search rules;
   within = search rules;
   paid = λ t o found from fits. pay_first t _ _ found _ c.args.first from fits;
-  told = λ honest t o found from fits. take_first t _ c.args.need _ found _ c.args.first from fits;
+  told = λ honest t o found from fits. take_first t _ c.args.request.need _ found _ c.args.first from fits;
 }
 
 pub loop-next-preserved : goal.loop-next-preserved
@@ -33,7 +33,7 @@ loop-next-preserved g c = record {
   paid = λ t o found from fits.
       let d = g.S.Source.device in
       let file = (d c.args.source.now).bytes in
-      let only = option_map bytes_of c.args.only in
+      let only = option_map bytes_of c.args.request.only in
       let same = c.loop-next.invariant.same in
       let here = still same c.loop-next.invariant.room o in
       let k = c.loop-next.invariant.paid t o found from fits in
@@ -47,17 +47,17 @@ loop-next-preserved g c = record {
   told = λ honest t o found from fits.
       let d = g.S.Source.device in
       let file = (d c.args.source.now).bytes in
-      let only = option_map bytes_of c.args.only in
+      let only = option_map bytes_of c.args.request.only in
       let same = c.loop-next.invariant.same in
       let here = still same c.loop-next.invariant.room o in
       let k = c.loop-next.invariant.told honest t o found from fits in
       let start = subst (λ (x : Option ℕ). AreFrom t in_images x k.rest) c.in-Some.is k.from in
       let f = front t in_images c.in-Some.image k.rest start in
-      let told = subst (λ (xs : List ℕ). TakesTo (is_asked only f.image.name) (take_of c.args.need f.image (bytes_or_none (payload xs f.image))) (Ok c.in_ok-all.field-0) (payload xs f.image)
+      let told = subst (λ (xs : List ℕ). TakesTo (is_asked only f.image.name) (take_of c.args.request.need f.image (bytes_or_none (payload xs f.image))) (Ok c.in_ok-all.field-0) (payload xs f.image)
       (g.T.Taker.takes c.loop-next.taker) (g.T.Taker.takes c.take_image.new.taker)) same.bytes
       (c.in_ok-all.ensures.told honest t here f.image f.node) in
       let indexed = (still c.take_image.ensures.leaves.uses.same c.take_image.ensures.leaves.room here).read.indexed in
-      take_more t file c.args.need only found c.loop-next.all c.in_ok-all.field-0 _ _ _ c.loop-next.next k f.image f.more f.are _ told
+      take_more t file c.args.request.need only found c.loop-next.all c.in_ok-all.field-0 _ _ _ c.loop-next.next k f.image f.more f.are _ told
       (c.next_of-next.ensures.next t indexed in_images f.image f.more (subst (λ (l : List (NodeOf Spot)). AreFrom t in_images (Some c.in-Some.image) l) f.are start));
 }
 
@@ -65,7 +65,7 @@ pub returns-in_err-all-clause-paid : goal.returns-in_err-all-clause-paid
 returns-in_err-all-clause-paid g c = λ t o found from fits.
     let d = g.S.Source.device in
     let file = (d c.args.source.now).bytes in
-    let only = option_map bytes_of c.args.only in
+    let only = option_map bytes_of c.args.request.only in
     let same = c.loop-next.invariant.same in
     let here = still same c.loop-next.invariant.room o in
     let k = c.loop-next.invariant.paid t o found from fits in
@@ -78,18 +78,18 @@ pub returns-in_err-all-clause-told : goal.returns-in_err-all-clause-told
 returns-in_err-all-clause-told g c = λ honest t o found from fits.
     let d = g.S.Source.device in
     let file = (d c.args.source.now).bytes in
-    let only = option_map bytes_of c.args.only in
+    let only = option_map bytes_of c.args.request.only in
     let same = c.loop-next.invariant.same in
     let here = still same c.loop-next.invariant.room o in
     let k = c.loop-next.invariant.told honest t o found from fits in
     let fault = c.in_err-all.field-0.0 in
     let is : c.from_residual.result ≡ Err fault = search rules in
     let f = front t in_images c.in-Some.image k.rest (subst (λ (x : Option ℕ). AreFrom t in_images x k.rest) c.in-Some.is k.from) in
-    let told = subst (λ (xs : List ℕ). TakesTo (is_asked only f.image.name) (take_of c.args.need f.image (bytes_or_none (payload xs f.image))) (Err fault) (payload xs f.image)
+    let told = subst (λ (xs : List ℕ). TakesTo (is_asked only f.image.name) (take_of c.args.request.need f.image (bytes_or_none (payload xs f.image))) (Err fault) (payload xs f.image)
     (g.T.Taker.takes c.loop-next.taker) (g.T.Taker.takes c.take_image.new.taker)) same.bytes
     (c.in_err-all.ensures.told honest t here f.image f.node) in
-    subst (λ (r : Result Bool Fault). TakesAll (takes c.args.need only file found) r (g.T.Taker.takes c.args.taker.now) (g.T.Taker.takes c.take_image.new.taker)) (sym is)
-    (take_cut t file c.args.need only found c.loop-next.all _ _ _ c.loop-next.next k f.image f.more f.are fault told)
+    subst (λ (r : Result Bool Fault). TakesAll (takes c.args.request.need only file found) r (g.T.Taker.takes c.args.taker.now) (g.T.Taker.takes c.take_image.new.taker)) (sym is)
+    (take_cut t file c.args.request.need only found c.loop-next.all _ _ _ c.loop-next.next k f.image f.more f.are fault told)
 
 pub returns-clause-paid : goal.returns-clause-paid
 returns-clause-paid g c = λ t o found from fits.
@@ -97,4 +97,4 @@ returns-clause-paid g c = λ t o found from fits.
 
 pub returns-clause-told : goal.returns-clause-told
 returns-clause-told g c = λ honest t o found from fits.
-    take_done t _ c.args.need _ found c.loop-next.all _ _ c.loop-next.next (search rules) (c.loop-next.invariant.told honest t o found from fits)
+    take_done t _ c.args.request.need _ found c.loop-next.all _ _ c.loop-next.next (search rules) (c.loop-next.invariant.told honest t o found from fits)

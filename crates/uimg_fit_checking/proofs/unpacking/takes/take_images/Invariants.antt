@@ -16,7 +16,7 @@ abbrev pub invariant-loop-next : goal.invariant-loop-next
 invariant-loop-next g l =
     let device = g.S.Source.device in
     let file = (device l.fn.source).bytes in
-    let only = option_map bytes_of l.only in
+    let only = option_map bytes_of l.request.only in
     record {
       same : SameDevice (device l.fn.source) (device l.source);
       failures : (device l.source).failures ≡ (device l.fn.source).failures;
@@ -25,7 +25,7 @@ invariant-loop-next g l =
       paid : (t : Siblings) → Opened (device l.fn.source) l.blob l.fn.room t → (found : List (NodeOf Spot)) → AreFrom t in_images l.fn.first found
           → Fitting only file found (LeftToPay t file only found (device l.fn.source).asked (device l.source).asked l.next);
       told : IsTrue g.T.Taker.honest → (t : Siblings) → Opened (device l.fn.source) l.blob l.fn.room t → (found : List (NodeOf Spot)) → AreFrom t in_images l.fn.first found
-          → Fitting only file found (LeftToTake t file l.need only found l.all (g.T.Taker.takes l.fn.taker) (g.T.Taker.takes l.taker) l.next);
+          → Fitting only file found (LeftToTake t file l.request.need only found l.all (g.T.Taker.takes l.fn.taker) (g.T.Taker.takes l.taker) l.next);
     }
 
 abbrev pub decreases-loop-next : goal.decreases-loop-next

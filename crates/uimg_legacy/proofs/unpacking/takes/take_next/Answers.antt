@@ -1,5 +1,6 @@
 use Rattle.std.proofs.Common.{rules, ◌∙◌, ◌+◌, ◌*◌, sym, arith}
-use Rattle.uimg_legacy.proofs.TakingLaws.{word_at, padded_as}
+use Rattle.uimg_legacy.proofs.SourceLaws.{same_still}
+use Rattle.uimg_legacy.proofs.TakingLaws.{word_at, padded}
 use Rattle.uimg_legacy.proofs.unpacking.takes.take_next.Goals as goal
 
 pub returns-then-len-eq0-clause-refused : goal.returns-then-len-eq0-clause-refused
@@ -22,5 +23,6 @@ returns-clause-taken g c =
       place = omega (arith, c.be32_at-len.ensures, c.up4.ensures, c.min-all.ensures, c.requires.place);
       sizes = c.feed.ensures;
       read = λ honest. c.in_ok-fill_at.ensures.bytes honest;
-      taken = padded_as _ _ g.T.PartTaker.honest c.args.number _ _ _ _ _ _ _ _ _ _ _ c.fill_at.ensures.same c.is_asked-asked.ensures c.be32_at-len.ensures (omega arith) c.in_ok-take_padded.ensures.taken;
+      taken = padded _ _ g.T.PartTaker.honest c.args.number _ _ _ _ _ _ _ _ _ _ _ _ _ c.fill_at.ensures.same (same_still c.fill_at.ensures.same c.take_if.ensures.takes.uses.same) c.is_asked-asked.ensures c.be32_at-len.ensures (omega arith)
+          (omega (arith, c.up4.ensures, c.min-all.ensures, c.if-len-left.false)) c.in_ok-take_if.ensures.taken c.in_ok-sum_range.ensures.summed;
     }

@@ -12,5 +12,5 @@ returns-clause-taken g c =
       sums = taken.sums;
       held = λ honest.
           let holds = c.into_inner.ensures ∙ filled_by _ _ piece (ap (λ (s : Sink). s.contents) c.new-out.ensures ∙ c.in_ok-shelf.ensures.empty honest) taken.wrote.appended in
-          c.in_ok-hold.ensures.held honest piece holds ∙ ap (λ (l : List Part). l ++ part_if true c.args.number piece) (c.in_ok-shelf.ensures.held honest);
+          c.in_ok-hold.ensures.held honest piece holds ∙ ap (λ (l : List Part). l ++ part_if true c.args.part.number piece) (c.in_ok-shelf.ensures.held honest);
     }

@@ -12,7 +12,7 @@ loop-number-init g c = record {
   within = omega (arith, c.requires.table, c.requires.place);
   room = refl;
   kept = λ known. refl;
-  taken = walked_none c.args.only g.T.PartTaker.honest c.args.size _ _ _ (omega (arith, c.requires.table, c.requires.place));
+  taken = walked_none c.args.parts.only g.T.PartTaker.honest c.args.parts.size _ _ _ (omega (arith, c.requires.table, c.requires.place));
 }
 
 pub loop-number-preserved : goal.loop-number-preserved
@@ -26,7 +26,7 @@ loop-number-preserved g c =
       within = omega (arith, next.place);
       room = c.take_next.ensures.takes.room ∙ inv.room;
       kept = λ known. c.take_next.ensures.takes.kept known ∙ inv.kept known;
-      taken = walked_more c.args.only g.T.PartTaker.honest c.loop-number.number c.args.size _ _ _ _ _ _ _ _ inv.same inv.taken next;
+      taken = walked_more c.args.parts.only g.T.PartTaker.honest c.loop-number.number c.args.parts.size _ _ _ _ _ _ _ _ inv.same inv.taken next;
     }
 
 pub returns-in_err-take_next-clause-refused : goal.returns-in_err-take_next-clause-refused
@@ -36,4 +36,4 @@ returns-in_err-take_next-clause-refused g c = λ honest counts.
     let n = c.loop-number.number in
     let fault = c.in_err-take_next.field-0.0 in
     let is : c.from_residual.result ≡ Err fault = search rules in
-    refused_next c.args.only g.T.PartTaker.honest n c.args.count c.args.size d _ c.args.walk.now c.loop-number.walk _ _ c.from_residual.result fault is inv.same honest c.requires.data c.loop-number-test.true c.requires.table c.requires.place counts inv.taken c.in_err-take_next.ensures.refused
+    refused_next c.args.parts.only g.T.PartTaker.honest n c.args.parts.count c.args.parts.size d _ c.args.walk.now c.loop-number.walk _ _ c.from_residual.result fault is inv.same honest c.requires.data c.loop-number-test.true c.requires.table c.requires.place counts inv.taken c.in_err-take_next.ensures.refused

@@ -12,8 +12,8 @@ invariant-loop-number g l =
       same : SameDevice (device l.fn.source) (device l.source);
       failures : (device l.source).failures ≡ (device l.fn.source).failures;
       paid : (device l.source).asked + l.fn.walk.at ≤ (device l.fn.source).asked + (4 * l.number + l.walk.at);
-      within : l.walk.at ≤ l.size;
+      within : l.walk.at ≤ l.parts.size;
       room : l.room ≡ l.fn.room;
       kept : IsTrue taker.honest → taker.kept l.taker ≡ taker.kept l.fn.taker;
-      taken : Walked l.only taker.honest l.number l.size (device l.fn.source) l.fn.walk l.walk (taker.held l.fn.taker) (taker.held l.taker);
+      taken : Walked l.parts.only taker.honest l.number l.parts.size (device l.fn.source) l.fn.walk l.walk (taker.held l.fn.taker) (taker.held l.taker);
     }

@@ -10,73 +10,73 @@ use Rattle.uimg_fit_checking.specs.Unpacking.{Take, kept, bytes_of, take_of, tol
 use Rattle.uimg_fit_checking.specs.UnpackingParts.{TakesTo}
 use Rattle.uimg_fit_reading.proofs.OpenedLaws.{still}
 use Rattle.uimg_fit_checking.proofs.TakeLaws.{filled_by, kept_is}
-use Rattle.uimg_fit_checking.proofs.unpacking.takes.take_named.Goals as goal
+use Rattle.uimg_fit_checking.proofs.unpacking.takes.take_requested.Goals as goal
 
 pub returns-in_err-set-clause-paid : goal.returns-in_err-set-clause-paid
 returns-in_err-set-clause-paid g c = λ t o found n.
-    let at = c.first_hash.ensures.hashes t o.read.indexed found n in
+    let at = c.first_hash-first.ensures.hashes t o.read.indexed found n in
     omega (arith, (c.in_err-set.ensures.found t o (hashes found) at).paid)
 
 pub returns-in_err-digests-clause-paid : goal.returns-in_err-digests-clause-paid
 returns-in_err-digests-clause-paid g c = λ t o found n.
-    let at = c.first_hash.ensures.hashes t o.read.indexed found n in
+    let at = c.first_hash-first.ensures.hashes t o.read.indexed found n in
     let algos = c.in_ok-set.ensures.found t o (hashes found) at in
     omega (arith, algos.paid, c.take_payload.ensures.uses.asked)
 
 pub returns-in_err-refuse-clause-paid : goal.returns-in_err-refuse-clause-paid
 returns-in_err-refuse-clause-paid g c = λ t o found n.
-    let at = c.first_hash.ensures.hashes t o.read.indexed found n in
+    let at = c.first_hash-first.ensures.hashes t o.read.indexed found n in
     let algos = c.in_ok-set.ensures.found t o (hashes found) at in
     let same = c.compared_algos.ensures.uses.same in
     let taken = c.in_ok-digests.ensures.taken in
     let there = still c.take_payload.ensures.uses.same c.take_payload.ensures.room (still same refl o) in
-    let its = c.in_ok-refusal.ensures.told t there found n taken.message taken.digests algos.algos in
+    let its = c.in_ok-refusal.ensures.told t there found n taken.message taken.digests (taken.set ∙ algos.algos) in
     omega (arith, algos.paid, c.take_payload.ensures.uses.asked, its.paid)
 
 pub returns-in-Some-clause-paid : goal.returns-in-Some-clause-paid
 returns-in-Some-clause-paid g c = λ t o found n.
-    let at = c.first_hash.ensures.hashes t o.read.indexed found n in
+    let at = c.first_hash-first.ensures.hashes t o.read.indexed found n in
     let algos = c.in_ok-set.ensures.found t o (hashes found) at in
     let same = c.compared_algos.ensures.uses.same in
     let taken = c.in_ok-digests.ensures.taken in
     let there = still c.take_payload.ensures.uses.same c.take_payload.ensures.room (still same refl o) in
-    let its = c.in_ok-refusal.ensures.told t there found n taken.message taken.digests algos.algos in
+    let its = c.in_ok-refusal.ensures.told t there found n taken.message taken.digests (taken.set ∙ algos.algos) in
     omega (arith, algos.paid, c.take_payload.ensures.uses.asked, its.paid)
 
 pub returns-in_err-keep-clause-paid : goal.returns-in_err-keep-clause-paid
 returns-in_err-keep-clause-paid g c = λ t o found n.
-    let at = c.first_hash.ensures.hashes t o.read.indexed found n in
+    let at = c.first_hash-first.ensures.hashes t o.read.indexed found n in
     let algos = c.in_ok-set.ensures.found t o (hashes found) at in
     let same = c.compared_algos.ensures.uses.same in
     let taken = c.in_ok-digests.ensures.taken in
     let there = still c.take_payload.ensures.uses.same c.take_payload.ensures.room (still same refl o) in
-    let its = c.in_ok-refusal.ensures.told t there found n taken.message taken.digests algos.algos in
+    let its = c.in_ok-refusal.ensures.told t there found n taken.message taken.digests (taken.set ∙ algos.algos) in
     omega (arith, algos.paid, c.take_payload.ensures.uses.asked, its.paid)
 
 pub returns-clause-paid : goal.returns-clause-paid
 returns-clause-paid g c = λ t o found n.
-    let at = c.first_hash.ensures.hashes t o.read.indexed found n in
+    let at = c.first_hash-first.ensures.hashes t o.read.indexed found n in
     let algos = c.in_ok-set.ensures.found t o (hashes found) at in
     let same = c.compared_algos.ensures.uses.same in
     let taken = c.in_ok-digests.ensures.taken in
     let there = still c.take_payload.ensures.uses.same c.take_payload.ensures.room (still same refl o) in
-    let its = c.in_ok-refusal.ensures.told t there found n taken.message taken.digests algos.algos in
+    let its = c.in_ok-refusal.ensures.told t there found n taken.message taken.digests (taken.set ∙ algos.algos) in
     omega (arith, algos.paid, c.take_payload.ensures.uses.asked, its.paid)
 
 pub returns-clause-told : goal.returns-clause-told
 returns-clause-told g c = λ honest t o found n named message is.
     let d = g.S.Source.device in
-    let at = c.first_hash.ensures.hashes t o.read.indexed found n in
+    let at = c.first_hash-first.ensures.hashes t o.read.indexed found n in
     let algos = c.in_ok-set.ensures.found t o (hashes found) at in
     let same = c.compared_algos.ensures.uses.same in
     let taken = c.in_ok-digests.ensures.taken in
     let there = still c.take_payload.ensures.uses.same c.take_payload.ensures.room (still same refl o) in
-    let its = c.in_ok-refusal.ensures.told t there found n taken.message taken.digests algos.algos in
-    let read = subst (λ (xs : List ℕ). taken.message ≡ slice xs c.args.span.place c.args.span.length) same.bytes (taken.right (still same refl o).honest) in
+    let its = c.in_ok-refusal.ensures.told t there found n taken.message taken.digests (taken.set ∙ algos.algos) in
+    let read = subst (λ (xs : List ℕ). taken.message ≡ slice xs c.args.payload.span.place c.args.payload.span.length) same.bytes (taken.right (still same refl o).honest) in
     let whole : taken.message ≡ message = read ∙ sym is in
     let none : None ≡ or_weak (wrong_in found.name taken.message (hashes found)) c.args.need found = ap (λ (x : Option Refusal). option_map (told_of found.name) x) (sym c.in_default.is) ∙ its.told in
     let holds = c.into_inner-shelf.ensures ∙ filled_by _ _ taken.message (ap (λ (s : Sink). s.contents) c.new-out.ensures ∙ c.in_ok-shelf.ensures.empty honest) taken.wrote.appended in
     let given = c.in_ok-keep.ensures honest taken.message holds in
     subst (λ (xs : List ℕ). TakesTo true (take_of c.args.need found xs) (Ok true) (Ok xs) (g.T.Taker.takes c.args.taker.now) (g.T.Taker.takes c.keep.new.self)) whole
-    (kept_is c.args.need found taken.message (bytes_of c.args.name.now) c.in_ok-set.set c.vouched_by.result (Ok taken.message) _ _ named none algos.algos (c.vouched_by.ensures taken.message taken.digests)
-    (given ∙ ap (λ (l : List Take). l ++ kept (bytes_of c.args.name.now) taken.message c.vouched_by.result ∷ []) (c.in_ok-shelf.ensures.same honest)))
+    (kept_is c.args.need found taken.message (bytes_of c.args.payload.name) _ c.vouched_by.result (Ok taken.message) _ _ named none (taken.set ∙ algos.algos) (c.vouched_by.ensures taken.message taken.digests)
+    (given ∙ ap (λ (l : List Take). l ++ kept (bytes_of c.args.payload.name) taken.message c.vouched_by.result ∷ []) (c.in_ok-shelf.ensures.same honest)))

@@ -1,0 +1,73 @@
+//! What is requested: the payloads of all images, or of the images of one name.
+
+ghost use Rattle.std.specs.Prelude.{◌≡◌, length, IfOk, IfSome};
+ghost use Rattle.std.specs.Option.{option_map};
+ghost use Rattle.uimg_base.specs.Using.{Asks};
+ghost use Rattle.uimg_blob_reading.specs.Roles.{in_images};
+ghost use Rattle.uimg_fit_base.specs.Faults.{is_read};
+ghost use Rattle.uimg_fit_reading.specs.Nodes.{OfNode, HasNode};
+ghost use Rattle.uimg_fit_reading.specs.Puts.{OnlyReads};
+ghost use Rattle.uimg_fit_checking.specs.Unpacking.{bytes_of, is_asked};
+ghost use Rattle.uimg_fit_checking.specs.UnpackingParts.{IsOf, TellsFound};
+
+use crate::unpacking::node_names::{NodeName, read_name};
+use std::alloc::Allocator;
+use uimg_base::{Algo, Room, Source, Span};
+use uimg_blob_reading::Blob;
+use uimg_fit_base::Fault;
+use uimg_fit_reading::nodes::name_of;
+use uimg_fit_reading::payload_place;
+
+/// Which payloads are requested, and what has to vouch for them.
+#[derive(Clone, Copy)]
+pub(super) struct Request {
+    // The name of the requested images, or `None` for all.
+    pub(super) only: Option<NodeName>,
+    // The needed strength, if one is needed.
+    pub(super) need: Option<Algo>,
+}
+
+/// A requested payload.
+#[derive(Clone, Copy)]
+pub(super) struct Requested {
+    // The number of its image.
+    pub(super) image: usize,
+    // The name of its image.
+    pub(super) name: NodeName,
+    // Where it is.
+    pub(super) span: Span,
+}
+
+// Returns whether an image is requested: all are, or those of one name.
+fn is_asked(only: Option<NodeName>, name: &NodeName) -> bool
+    ensures { result ≡ is_asked (option_map bytes_of only) (bytes_of name.now) }
+{
+    match only {
+        Some(asked) => asked.bytes() == name.bytes(),
+        None => true,
+    }
+}
+
+// Finds the payload of an image, if it is requested.
+pub(super) fn find_requested<S: Source, A: Allocator>(
+    source: &mut S,
+    blob: &Blob,
+    room: &Room<A>,
+    image: usize,
+    only: Option<NodeName>,
+) -> Result<Option<Requested>, Fault>
+    requires { HasNode (S.device source.old) blob.now room.now image }
+    ensures uses { Asks 267 (is_read result) (S.device source.old) (S.device source.new) }
+    ensures only { OnlyReads result }
+    ensures its { IfOk result (λ found. IfSome found
+        (IsOf image (length (S.device source.old).bytes))) }
+    ensures told { OfNode (S.device source.old) blob.now room.now in_images image
+        (λ found. TellsFound (option_map bytes_of only) (S.device source.old).bytes found result) }
+{
+    let name = read_name(source, name_of(blob, room, image))?;
+    if !is_asked(only, &name) {
+        return Ok(None);
+    }
+    let span = payload_place(source, blob, room, image)?;
+    Ok(Some(Requested { image, name, span }))
+}
