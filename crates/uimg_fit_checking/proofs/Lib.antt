@@ -4,7 +4,6 @@ pub mod CountingLaws
 pub mod VouchingLaws
 pub mod CheckLaws
 pub mod CheckCountLaws
-pub mod CopyLaws
 pub mod UnpackLaws
 pub mod ClaimLaws
 pub mod TakeLaws

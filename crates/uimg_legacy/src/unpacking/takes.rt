@@ -8,10 +8,9 @@ ghost use Rattle.uimg_legacy.specs.Unpacking.{is_asked};
 ghost use Rattle.uimg_legacy.specs.UnpackingSteps.{Takes, TakesPart, TakesPadded, TakesNext, Pays, Walks, RefusesNumber, RefusesFrom};
 
 use crate::fault::{Fault, LegacyFault};
-use crate::unpacking::copies::{sum_range, take_range};
 use crate::unpacking::part_taker::PartTaker;
 use std::alloc::Allocator;
-use uimg_base::{Crc, Out, Room, Source, Summer, be32_at, up4};
+use uimg_base::{Crc, Out, Room, Source, Summer, be32_at, feed_through, take_through, up4};
 
 // How far parts were taken.
 #[derive(Drop)]
@@ -50,7 +49,7 @@ pub(super) fn take_part<S: Source, A: Allocator, T: PartTaker>(
     ensures taken { TakesPart true number at len result S.device source sum T.honest T.held taker }
 {
     let mut out = Out::new(taker.shelf(number)?);
-    take_range(sum, source, room.window(), at, len, &mut out)?;
+    take_through(source, room.window(), at, len, sum, &mut out)?;
     taker.hold(number, out.into_inner())?;
     Ok(())
 }
@@ -74,7 +73,7 @@ fn take_if<S: Source, A: Allocator, T: PartTaker>(
     if asked {
         return take_part(source, room, sum, number, at, len, taker);
     }
-    sum_range(sum, source, room.window(), at, len)?;
+    feed_through(sum, source, room.window(), at, len)?;
     Ok(())
 }
 
@@ -98,7 +97,7 @@ fn take_padded<S: Source, A: Allocator, T: PartTaker>(
         S.device source sum T.honest T.held taker }
 {
     take_if(source, room, sum, asked, number, at, len, taker)?;
-    sum_range(sum, source, room.window(), at + len, all - len)?;
+    feed_through(sum, source, room.window(), at + len, all - len)?;
     Ok(())
 }
 
