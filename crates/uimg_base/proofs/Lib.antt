@@ -6,3 +6,4 @@ pub mod WritingLaws
 pub mod StreamLaws
 pub mod DeviceLaws
 pub mod AheadLaws
+pub mod RangeLaws

@@ -1,6 +1,8 @@
--- What a copy from a source to an output does.
-use Rattle.std.specs.Prelude.{ℕ, ◌+◌, ◌≤◌, List, Result, Err, Bool, true, false}
+-- What a copy from a source to an output does, or a sum over a range of a source.
+use Rattle.std.specs.Prelude.{◌≡◌, ℕ, ◌+◌, ◌≤◌, List, length, Result, Err, Bool, true, false}
+use Rattle.std.specs.Prelude.{IsTrue}
 use Rattle.std.specs.Bool.{OnFalse}
+use Rattle.uimg_texts.specs.Slices.{slice}
 use Rattle.uimg_base.specs.Device.{Device}
 use Rattle.uimg_base.specs.Sink.{Sink, AppendsFirst, AppendsAll}
 use Rattle.uimg_base.specs.declared.ranges.MoveFault.{MoveFault}
@@ -36,3 +38,18 @@ pub record ReadsAhead (most : ℕ) (d e : Device) (s t : Sink) (bytes : List ℕ
   pub first : AppendsFirst count s t bytes
   -- at most `most` bytes, these and 8192 more were requested
   pub ahead : e.asked ≤ d.asked + (most + (count + 8192))
+
+-- Some bytes were fed to sums: those of a range of the device, if it is honest.
+pub record SumsRange {T : Type 0} (fed : T → T → List ℕ → Type 0) (d : Device) (at len : ℕ)
+    (old new : T) : Type 0 where
+  -- what was read, whatever the source returned
+  pub piece : List ℕ
+  pub size : length piece ≡ len
+  pub summed : fed old new piece
+  pub right : IsTrue d.honest → piece ≡ slice d.bytes at len
+
+-- The same, and the bytes were appended to an output.
+pub record TakesRange {T : Type 0} (fed : T → T → List ℕ → Type 0) (d : Device) (at len : ℕ)
+    (old new : T) (s t : Sink) : Type 0 where
+  pub sums : SumsRange fed d at len old new
+  pub wrote : AppendsAll s t sums.piece

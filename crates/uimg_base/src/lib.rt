@@ -32,7 +32,9 @@ pub use fuse_writer::FuseWriter;
 pub use mem_files::MemFiles;
 pub use mem_shelf::{MemKept, MemShelf};
 pub use output::{Out, PutFault};
-pub use ranges::{MoveFault, copy_range, copy_through, crc_range, feed_through, sum_range};
+pub use ranges::{
+    MoveFault, copy_range, copy_through, crc_range, feed_through, sum_range, take_through,
+};
 pub use room::{Entry, Room, WINDOW};
 pub use seek_read::{DiskFile, SeekRead};
 pub use seek_source::SeekSource;
@@ -42,7 +44,8 @@ pub use source::{MemSource, Source, SourceFault};
 pub use spans::Span;
 pub use status::Status;
 pub use uimg_sums::{
-    Algo, Bundle, Crc, Md5Sum, Sha1Sum, Sha256Sum, Sha384Sum, Sha512Sum, Summer, crc_entry, crc_of,
+    Algo, Bundle, Crc, Md5Sum, Sha1Sum, Sha256Sum, Sha384Sum, Sha512Sum, Summer, Sums, crc_entry,
+    crc_of,
 };
 pub use uimg_texts::{
     ARCHITECTURES, COMPRESSIONS, CodeRow, FLAT_DT, IMAGE_TYPES, MULTI, OPERATING_SYSTEMS, SCRIPT,

@@ -1,13 +1,13 @@
 //! Ranges of a source, copied to an output or fed to a sum, one window at a time.
 
-ghost use Rattle.std.specs.Prelude.{◌≡◌, ℕ, ◌+◌, ◌≤◌, List, ◌++◌, length, IsTrue, OnOk, OnErr, IfOk, is_err};
+ghost use Rattle.std.specs.Prelude.{◌≡◌, ◌+◌, ◌≤◌, ⊤, length, IsTrue, OnOk, OnErr, IfOk, is_err};
 ghost use Rattle.uimg_base.specs.Device.{RisesIf, asked_more};
 ghost use Rattle.uimg_texts.specs.Slices.{slice};
-ghost use Rattle.uimg_base.specs.Sink.{AppendsAll, AppendsPrefix};
+ghost use Rattle.uimg_base.specs.Sink.{AppendsPrefix};
 ghost use Rattle.uimg_base.specs.Using.{Asks, AsksAll, Uses};
 ghost use Rattle.uimg_sums.specs.Crc.{crc};
 ghost use Rattle.uimg_sums.specs.Digest.{PutsDigest};
-ghost use Rattle.uimg_base.specs.Ranges.{is_read, is_put, Copies};
+ghost use Rattle.uimg_base.specs.Ranges.{is_read, is_put, Copies, SumsRange, TakesRange};
 
 use crate::output::Out;
 use crate::room::{Room, WINDOW};
@@ -15,7 +15,7 @@ use crate::source::{Source, SourceFault};
 use std::alloc::Allocator;
 use std::io::Write;
 use thiserror::Error;
-use uimg_sums::{Crc, Summer};
+use uimg_sums::{Crc, Summer, Sums};
 
 /// The device that failed during a copy.
 #[derive(Clone, Copy, Debug, PartialEq, Eq, Error)]
@@ -29,13 +29,27 @@ pub enum MoveFault {
     Put,
 }
 
-// Copies at most one window.
-#[tactic(auto, using(crate::proofs::WritingLaws::prefix_of))]
-fn copy_window<S: Source, W: Write>(
+// Sums nothing.
+#[derive(Drop)]
+struct NoSums;
+
+impl Sums for NoSums {
+    ghost fed = { λ old new bytes. ⊤ };
+
+    ghost fed_nothing = { λ sums. tt };
+
+    ghost fed_more = { λ first between last xs ys p q. tt };
+
+    fn feed_all(&mut self, _bytes: &[u8]) {}
+}
+
+// Sums and copies at most one window.
+fn take_window<S: Source, M: Sums, W: Write>(
     source: &mut S,
     window: &mut [u8; WINDOW],
     at: u64,
     len: usize,
+    sums: &mut M,
     out: &mut Out<W>,
 ) -> Result<(), MoveFault>
     requires range { at + len ≤ length (S.device source.old).bytes }
@@ -45,15 +59,50 @@ fn copy_window<S: Source, W: Write>(
     ensures faults { RisesIf (is_put result) out.old.faults out.new.faults }
     ensures prefix { IsTrue (S.device source.old).honest →
         AppendsPrefix out.old out.new (slice (S.device source.old).bytes at len) }
-    ensures ok { IsTrue (S.device source.old).honest →
-        OnOk result (AppendsAll out.old out.new (slice (S.device source.old).bytes at len)) }
+    ensures taken { OnOk result (TakesRange M.fed (S.device source.old) at len
+        sums.old sums.new out.old out.new) }
 {
     let window = &mut window[..len];
     if source.fill_at(at, window).is_err() {
         return Err(MoveFault::Read);
     }
+    sums.feed_all(window);
     if out.put_all(window).is_err() {
         return Err(MoveFault::Put);
+    }
+    Ok(())
+}
+
+/// Copies `len` bytes at offset `at` of the source to the output, and feeds the same bytes to sums.
+///
+/// The range must be inside the source. Returns `MoveFault::Read` if and only if a read failed,
+/// `MoveFault::Put` if and only if a write failed. Requests at most `len` bytes, and exactly `len`
+/// at `Ok`. Over an honest source, at every exit, a prefix of the range was written and at most
+/// 8192 bytes more were requested. At `Ok`, what was fed is what was written, over any source.
+pub fn take_through<S: Source, M: Sums, W: Write>(
+    source: &mut S,
+    window: &mut [u8; WINDOW],
+    at: u64,
+    len: u64,
+    sums: &mut M,
+    out: &mut Out<W>,
+) -> Result<(), MoveFault>
+    requires { at + len ≤ length (S.device source.old).bytes }
+    ensures uses { Asks len (is_read result) (S.device source.old) (S.device source.new) }
+    ensures asked_all { OnOk result
+        ((S.device source.new).asked ≡ asked_more (S.device source.old).asked len) }
+    ensures faults { RisesIf (is_put result) out.old.faults out.new.faults }
+    ensures copied { IsTrue (S.device source.old).honest →
+        Copies (is_err result) (S.device source.old) (S.device source.new) out.old out.new
+        (slice (S.device source.old).bytes at len) }
+    ensures taken { OnOk result (TakesRange M.fed (S.device source.old) at len
+        sums.old sums.new out.old out.new) }
+{
+    let mut done = 0;
+    while done < len {
+        let next = u64::min(len - done, WINDOW as u64);
+        take_window(source, window, at + done, next as usize, sums, out)?;
+        done += next;
     }
     Ok(())
 }
@@ -80,13 +129,7 @@ pub fn copy_through<S: Source, W: Write>(
         Copies (is_err result) (S.device source.old) (S.device source.new) out.old out.new
         (slice (S.device source.old).bytes at len) }
 {
-    let mut done = 0;
-    while done < len {
-        let next = u64::min(len - done, WINDOW as u64);
-        copy_window(source, window, at + done, next as usize, out)?;
-        done += next;
-    }
-    Ok(())
+    take_through(source, window, at, len, &mut NoSums, out)
 }
 
 /// Copies `len` bytes at offset `at` of the source to the output, through the room's window.
@@ -116,8 +159,8 @@ pub fn copy_range<S: Source, W: Write, A: Allocator>(
 }
 
 // Feeds at most one window.
-fn feed_window<M: Summer, S: Source>(
-    sum: &mut M,
+fn feed_window<M: Sums, S: Source>(
+    sums: &mut M,
     source: &mut S,
     window: &mut [u8; WINDOW],
     at: u64,
@@ -127,22 +170,21 @@ fn feed_window<M: Summer, S: Source>(
     requires window { len ≤ 8192 }
     ensures uses { Uses (is_err result) (S.device source.old) (S.device source.new) }
     ensures asked { (S.device source.new).asked ≡ asked_more (S.device source.old).asked len }
-    ensures fed { IsTrue (S.device source.old).honest → OnOk result ((fed : List ℕ) →
-        M.holds sum.old fed → M.holds sum.new (fed ++ slice (S.device source.old).bytes at len)) }
+    ensures fed { OnOk result (SumsRange M.fed (S.device source.old) at len sums.old sums.new) }
 {
     let window = &mut window[..len];
     source.fill_at(at, window)?;
-    sum.feed(window);
+    sums.feed_all(window);
     Ok(())
 }
 
-/// Feeds `len` bytes at offset `at` of the source to the sum, through a window.
+/// Feeds `len` bytes at offset `at` of the source to sums, through a window.
 ///
 /// The range must be inside the source. Returns `SourceFault` if and only if a read failed; then
 /// part of the range may have been fed. Requests at most `len` bytes, and exactly `len` at `Ok`.
-/// Over an honest source, the sum then covers the earlier bytes followed by the range's bytes.
-pub fn feed_through<M: Summer, S: Source>(
-    sum: &mut M,
+/// Then `len` bytes were fed, over an honest source the range's.
+pub fn feed_through<M: Sums, S: Source>(
+    sums: &mut M,
     source: &mut S,
     window: &mut [u8; WINDOW],
     at: u64,
@@ -150,13 +192,12 @@ pub fn feed_through<M: Summer, S: Source>(
 ) -> Result<(), SourceFault>
     requires { at + len ≤ length (S.device source.old).bytes }
     ensures uses { AsksAll len (is_err result) (S.device source.old) (S.device source.new) }
-    ensures fed { IsTrue (S.device source.old).honest → OnOk result ((fed : List ℕ) →
-        M.holds sum.old fed → M.holds sum.new (fed ++ slice (S.device source.old).bytes at len)) }
+    ensures fed { OnOk result (SumsRange M.fed (S.device source.old) at len sums.old sums.new) }
 {
     let mut done = 0;
     while done < len {
         let next = u64::min(len - done, WINDOW as u64);
-        feed_window(sum, source, window, at + done, next as usize)?;
+        feed_window(sums, source, window, at + done, next as usize)?;
         done += next;
     }
     Ok(())

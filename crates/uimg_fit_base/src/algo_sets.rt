@@ -1,13 +1,12 @@
 //! Sets of algorithms, and the digests by them of one pass over some bytes.
-ghost use Rattle.std.specs.Prelude.{◌≡◌, ◌<◌, ◌++◌, ◌∷◌, ℕ, [], List, length, take, true, if◌then◌else◌};
+ghost use Rattle.std.specs.Prelude.{◌≡◌, ◌<◌, ◌≤◌, ◌++◌, ◌∷◌, ℕ, [], List, length, take, true, Some, slice_get, if◌then◌else◌};
 ghost use Rattle.std.specs.List.{count_by};
 ghost use Rattle.uimg_sums.specs.Algorithms.{digest_by};
 ghost use Rattle.uimg_sums.specs.AnySum.{padded_digest};
 ghost use Rattle.uimg_sums.specs.declared.algo.Algo.{Algo};
-ghost use Rattle.uimg_sums.specs.Bundle.{Holds};
+ghost use Rattle.uimg_sums.specs.Bundle.{Holds, padded_digests};
 ghost use Rattle.uimg_fit_base.specs.AlgoSets.{all_algos, rank, is_empty, has, marked, no_algos, chosen, set_of, AreDigests};
 
-use crate::feeds::digest_at;
 use uimg_base::{Algo, Bundle};
 
 // The six algorithms, in the order of their sums.
@@ -158,6 +157,15 @@ fn place(set: AlgoSet, algo: Algo) -> usize
         }
     }
     place
+}
+
+// Returns digest number `i` of eight, or zeros if `i` is not below 8.
+fn digest_at(digests: &[([u8; 64], usize); 8], i: usize) -> [u8; 64]
+    ensures { (algos : List Algo) (message : List ℕ) → digests.now ≡ padded_digests algos message →
+        (algo : Algo) → slice_get algos i ≡ Some algo → length algos ≤ 8 →
+        result ≡ (padded_digest (digest_by algo message)).0 }
+{
+    if i < 8 { digests[i].0 } else { [0; 64] }
 }
 
 /// The digests of the same bytes by the algorithms of a set.

@@ -3,7 +3,6 @@ pub mod NamedLaws
 pub mod CountingLaws
 pub mod CheckLaws
 pub mod CheckCountLaws
-pub mod CopyLaws
 pub mod UnpackLaws
 pub mod ClaimLaws
 pub mod TakeLaws

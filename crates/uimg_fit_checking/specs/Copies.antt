@@ -1,8 +1,5 @@
 -- What is written is what is summed, over any device.
-use Rattle.std.specs.Prelude.{◌≡◌, ℕ, List, ◌++◌, IsTrue}
-use Rattle.uimg_sums.specs.declared.algo.Algo.{Algo}
-use Rattle.uimg_sums.specs.declared.bundle.Bundle.{Bundle}
-use Rattle.uimg_sums.specs.Bundle.{Holds}
+use Rattle.std.specs.Prelude.{◌≡◌, ℕ, List, IsTrue}
 use Rattle.uimg_texts.specs.Slices.{slice}
 use Rattle.uimg_base.specs.Device.{Device}
 use Rattle.uimg_base.specs.Lent.{Lent}
@@ -11,21 +8,6 @@ use Rattle.uimg_base.specs.declared.spans.Span.{Span}
 use Rattle.uimg_fit_base.specs.declared.algo_sets.AlgoSet.{AlgoSet}
 use Rattle.uimg_fit_base.specs.declared.algo_sets.Digests.{Digests}
 use Rattle.uimg_fit_base.specs.AlgoSets.{set_of, AreDigests}
-
--- Some bytes were fed to sums and appended to an output: of a range of the device, if it is honest.
-pub record TakesPieceBetween (d : Device) (at len : ℕ) (old new : Bundle) (s t : Sink)
-    : Type 0 where
-  pub piece : List ℕ
-  pub summed : (algos : List Algo) (fed : List ℕ) → Holds old algos fed
-      → Holds new algos (fed ++ piece)
-  pub wrote : AppendsAll s t piece
-  pub right : IsTrue d.honest → piece ≡ slice d.bytes at len
-
-abbrev pub TakesPiece : {S : Type 0} → (S → Device) → Lent S → ℕ → ℕ → Lent Bundle → Lent Sink
-    → Type 0
-TakesPiece device source at len sums out =
-    TakesPieceBetween (device source.entry.now) at len sums.entry.now sums.exit.now out.entry.now
-    out.exit.now
 
 -- The digests, by the algorithms of a set, of the bytes appended to an output: the payload at a
 -- span of the device, if it is honest.

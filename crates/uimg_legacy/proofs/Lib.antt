@@ -13,7 +13,6 @@ pub mod TableLaws
 pub mod PlacedPartsLaws
 pub mod ReadsBackLaw
 pub mod BuildingLaws
-pub mod SumLaws
 pub mod TakingLaws
 pub mod CuttingLaws
 pub mod WalkLaws

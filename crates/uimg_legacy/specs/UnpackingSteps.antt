@@ -6,12 +6,13 @@ use Rattle.std.specs.List.{AllByRecursion}
 use Rattle.uimg_texts.specs.Slices.{slice}
 use Rattle.uimg_texts.specs.Numbers.{be32, up4}
 use Rattle.uimg_sums.specs.Crc.{crc}
+use Rattle.uimg_sums.specs.Adding.{Adds}
 use Rattle.uimg_sums.specs.CrcSums.{Holds}
 use Rattle.uimg_sums.specs.declared.crc.Crc.{Crc}
 use Rattle.uimg_base.specs.Lent.{Lent}
 use Rattle.uimg_base.specs.Device.{Device}
 use Rattle.uimg_base.specs.Held.{Held}
-use Rattle.uimg_base.specs.Sink.{Sink, AppendsAll}
+use Rattle.uimg_base.specs.Ranges.{SumsRange}
 use Rattle.uimg_legacy.specs.declared.header.Header.{Header}
 use Rattle.uimg_legacy.specs.declared.fault.LegacyFault.{LegacyFault}
 use Rattle.uimg_legacy.specs.declared.fault.LegacyFault.TheVariants.{BadDataCrc, PartOutside}
@@ -45,26 +46,13 @@ Takes used result device source room honest kept taker = TakesBetween used resul
     (kept taker.entry.now) (kept taker.exit.now)
 
 -- Some bytes were fed to a sum: those of a range of the device, if it is honest.
-pub record SumsPieceBetween (d : Device) (at len : ℕ) (old new : Crc) : Type 0 where
-  pub piece : List ℕ
-  pub size : length piece ≡ len
-  pub summed : (fed : List ℕ) → Holds old fed → Holds new (fed ++ piece)
-  pub right : IsTrue d.honest → piece ≡ slice d.bytes at len
+abbrev pub SumsPieceBetween : Device → ℕ → ℕ → Crc → Crc → Type 0
+SumsPieceBetween = SumsRange (Adds Holds)
 
 -- the same for a borrowed source and sum
 abbrev pub SumsPiece : {S : Type 0} → ℕ → ℕ → (S → Device) → Lent S → Lent Crc → Type 0
 SumsPiece at len device source sum =
     SumsPieceBetween (device source.entry.now) at len sum.entry.now sum.exit.now
-
--- The same, and the bytes were appended to an output.
-pub record TakesPieceBetween (d : Device) (at len : ℕ) (old new : Crc) (s t : Sink) : Type 0 where
-  pub sums : SumsPieceBetween d at len old new
-  pub wrote : AppendsAll s t sums.piece
-
--- the same for a borrowed source, sum and output
-abbrev pub TakesPiece : {S : Type 0} → ℕ → ℕ → (S → Device) → Lent S → Lent Crc → Lent Sink → Type 0
-TakesPiece at len device source sum out = TakesPieceBetween (device source.entry.now) at len
-    sum.entry.now sum.exit.now out.entry.now out.exit.now
 
 -- Some bytes were fed to a sum, and held as a part if that is requested.
 pub record TakesPartBetween (asked honest : Bool) (number : ℕ) (d : Device) (at len : ℕ)

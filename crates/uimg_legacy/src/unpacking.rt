@@ -5,7 +5,6 @@ ghost use Rattle.uimg_legacy.specs.Commands.{TakesOut};
 ghost use Rattle.uimg_legacy.specs.Unpacking.{AreRight, Unpacks, KeepsRight, Extracts};
 ghost use Rattle.uimg_legacy.specs.UnpackingSteps.{Settles, unpack_work};
 
-mod copies;
 mod mem_parts;
 mod part_taker;
 mod tables;

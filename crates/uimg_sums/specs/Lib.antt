@@ -5,3 +5,4 @@ pub mod Algorithms
 pub mod AnySum
 pub mod Bundle
 pub mod CrcSums
+pub mod Adding

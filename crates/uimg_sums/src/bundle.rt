@@ -2,12 +2,14 @@
 
 ghost use Rattle.std.specs.Prelude.{◌≡◌, ◌==◌, ◌<◌, ℕ, List, [], ◌∷◌, ◌++◌, length, false, IsTrue, ◌↔◌};
 ghost use Rattle.std.specs.Option.{option_map};
+ghost use Rattle.uimg_sums.specs.Adding.{Adds, adds_nothing, adds_more};
 ghost use Rattle.uimg_sums.specs.AnySum.{algo_of, padded_digest};
 ghost use Rattle.uimg_sums.specs.Bundle.{Holds, SlotHolds, digest_at, padded_digests};
 ghost use Rattle.uimg_sums.specs.declared.algo.Algo.{Algo};
 
 use crate::algo::Algo;
 use crate::any_sum::AnySum;
+use crate::sums::Sums;
 
 /// Up to eight sums over the same bytes, each with its own algorithm.
 ///
@@ -91,6 +93,20 @@ impl Bundle {
             result ≡ padded_digests algos fed }
     {
         self.sums.map(digest_of)
+    }
+}
+
+impl Sums for Bundle {
+    ghost fed = { λ old new bytes.
+        (algos : List Algo) → Adds (λ bundle. Holds bundle algos) old new bytes };
+
+    ghost fed_nothing = { λ bundle algos. adds_nothing (λ b. Holds b algos) bundle };
+
+    ghost fed_more = { λ first between last xs ys p q algos.
+        adds_more (λ b. Holds b algos) first between last xs ys (p algos) (q algos) };
+
+    fn feed_all(&mut self, bytes: &[u8]) {
+        self.feed(bytes);
     }
 }
 

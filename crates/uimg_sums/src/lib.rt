@@ -16,4 +16,4 @@ pub use bundle::Bundle;
 pub use crc::{Crc, crc_of};
 pub use crc_table::crc_entry;
 pub use digests::{Md5Sum, Sha1Sum, Sha256Sum, Sha384Sum, Sha512Sum};
-pub use sums::Summer;
+pub use sums::{Summer, Sums};

@@ -11,9 +11,9 @@ ghost use Rattle.uimg_fit_base.specs.AlgoSets.{set_of, AreDigests};
 ghost use Rattle.uimg_fit_base.specs.declared.fault.FitFault.TheVariants.{ReadFailed};
 
 use std::alloc::Allocator;
-use uimg_base::{Bundle, Files, Source, WINDOW};
+use uimg_base::{Bundle, Files, Source, WINDOW, feed_through};
 use uimg_blob_writing::Value;
-use uimg_fit_base::{AlgoSet, Digests, FitFault, feed_through};
+use uimg_fit_base::{AlgoSet, Digests, FitFault};
 
 // Feeds a source of this size; another size counts as a failed read.
 fn feed_source<S: Source>(bundle: &mut Bundle, source: &mut S, size: u64) -> Result<(), FitFault>

@@ -10,9 +10,9 @@ ghost use Rattle.uimg_fit_reading.specs.Values.{in_span};
 use crate::nodes::next_hash;
 use crate::report::plans::{Plan, plan_at};
 use std::alloc::Allocator;
-use uimg_base::{Room, Source, SourceFault, Span};
+use uimg_base::{Room, Source, SourceFault, Span, feed_through};
 use uimg_blob_reading::Blob;
-use uimg_fit_base::{AlgoSet, Digests, feed_through};
+use uimg_fit_base::{AlgoSet, Digests};
 
 // Adds the algorithm of a plan that compares to a set.
 fn with_plan(set: AlgoSet, plan: Plan) -> AlgoSet

@@ -9,12 +9,11 @@ ghost use Rattle.uimg_legacy.specs.UnpackingSteps.{Takes, TakesData, listed_work
 use crate::fault::{Fault, LegacyFault};
 use crate::header::Header;
 use crate::parts::has_parts;
-use crate::unpacking::copies::sum_range;
 use crate::unpacking::part_taker::PartTaker;
 use crate::unpacking::tables::sum_table;
 use crate::unpacking::takes::{Parts, PlacedPart, Walk, take_part, take_parts};
 use std::alloc::Allocator;
-use uimg_base::{Crc, PutFault, Room, Source, Summer};
+use uimg_base::{Crc, PutFault, Room, Source, Summer, feed_through};
 
 // Returns whether the requested part exists, if one is requested.
 fn is_there(only: Option<u32>, count: u32) -> bool
@@ -102,7 +101,7 @@ fn take_listed<S: Source, A: Allocator, T: PartTaker>(
     };
     take_parts(source, room, parts, &mut walk, taker)?;
     let left = header.size as u64 - walk.at;
-    sum_range(&mut walk.sum, source, room.window(), 64 + walk.at, left)?;
+    feed_through(&mut walk.sum, source, room.window(), 64 + walk.at, left)?;
     walk.sizes.feed(&[0; 4]);
     let (same, crc) = (table.is_same(&walk.sizes), walk.sum.value());
     Ok(same & (crc == header.dcrc))

@@ -8,10 +8,9 @@ ghost use Rattle.uimg_legacy.specs.Unpacking.{is_asked};
 ghost use Rattle.uimg_legacy.specs.UnpackingSteps.{Takes, TakesPart, TakesNext, Pays, Walks, RefusesNumber, RefusesFrom};
 
 use crate::fault::{Fault, LegacyFault};
-use crate::unpacking::copies::{sum_range, take_range};
 use crate::unpacking::part_taker::PartTaker;
 use std::alloc::Allocator;
-use uimg_base::{Crc, Out, Room, Source, Summer, be32_at, up4};
+use uimg_base::{Crc, Out, Room, Source, Summer, be32_at, feed_through, take_through, up4};
 
 // The parts of the data, and which of them are requested.
 #[derive(Clone, Copy)]
@@ -72,7 +71,7 @@ pub(super) fn take_part<S: Source, A: Allocator, T: PartTaker>(
     ensures taken { TakesPart true part result S.device source sum T.honest T.held taker }
 {
     let mut out = Out::new(taker.shelf(part.number)?);
-    take_range(sum, source, room.window(), part.at, part.len, &mut out)?;
+    take_through(source, room.window(), part.at, part.len, sum, &mut out)?;
     taker.hold(part.number, out.into_inner())?;
     Ok(())
 }
@@ -94,7 +93,7 @@ fn take_if<S: Source, A: Allocator, T: PartTaker>(
     if asked {
         return take_part(source, room, sum, part, taker);
     }
-    sum_range(sum, source, room.window(), part.at, part.len)?;
+    feed_through(sum, source, room.window(), part.at, part.len)?;
     Ok(())
 }
 
@@ -133,7 +132,7 @@ fn take_next<S: Source, A: Allocator, T: PartTaker>(
     let part = PlacedPart { number, at, len };
     let asked = parts.is_asked(number);
     take_if(source, room, &mut walk.sum, asked, part, taker)?;
-    sum_range(&mut walk.sum, source, room.window(), at + len, all - len)?;
+    feed_through(&mut walk.sum, source, room.window(), at + len, all - len)?;
     walk.at += all;
     Ok(())
 }

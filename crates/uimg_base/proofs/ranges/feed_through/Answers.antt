@@ -1,40 +1,27 @@
-use Rattle.std.proofs.Common.{◌≡◌, ◌+◌, ◌∙◌, ◌++◌, IsTrue, subst, sym, ap, arith, ℕ, List, Bool, append-nil, append_assoc, refl}
-use Rattle.uimg_texts.specs.Slices.{slice}
-use Rattle.uimg_base.proofs.Slices.{slice-add}
+use Rattle.std.proofs.Common.{rules, ◌∙◌, arith, subst, ℕ}
+use Rattle.uimg_base.specs.Ranges.{SumsRange}
+use Rattle.uimg_base.proofs.RangeLaws.{nothing_summed, more_summed}
 use Rattle.uimg_base.proofs.ranges.feed_through.Goals as goal
 
 pub loop-done-init : goal.loop-done-init
 loop-done-init g c = record {
-  bound = omega arith;
-  same = record { bytes = refl; honest = refl };
-  asked = omega arith;
-  failures = refl;
-  fed = λ honest before held. subst (λ (w : List ℕ). g.M.Summer.holds c.args.sum.now w) (sym (append-nil before)) held;
+  bound = search rules;
+  same = search rules;
+  asked = search rules;
+  failures = search rules;
+  fed = nothing_summed g.M.Sums.fed g.M.Sums.fed_nothing _ c.args.at _;
 }
 
 pub loop-done-preserved : goal.loop-done-preserved
 loop-done-preserved g c =
     let same = c.loop-done.invariant.same in
-    let d = g.S.Source.device in
-    let bytes = (d c.args.source.now).bytes in
-    let at = c.args.at in
-    let done = c.loop-done.done in
-    let next = c.min-next.result in
     record {
       bound = omega arith;
       same = record { bytes = c.feed_window.ensures.uses.same.bytes ∙ same.bytes; honest = c.feed_window.ensures.uses.same.honest ∙ same.honest };
       asked = omega arith;
       failures = omega (arith, c.in_ok-feed_window.ensures.uses.failures);
-      fed = λ honest before held.
-          let now = subst (λ (b : Bool). IsTrue b) (sym same.honest) honest in
-          let fed = c.in_ok-feed_window.ensures.fed now _ (c.loop-done.invariant.fed honest before held) in
-          let here = subst (λ (xs : List ℕ). g.M.Summer.holds c.feed_window.new.sum ((before ++ slice bytes at done) ++ slice xs (at + done) next)) same.bytes fed in
-          let joined : (before ++ slice bytes at done) ++ slice bytes (at + done) next ≡ before ++ slice bytes at (done + next) =
-          append_assoc before (slice bytes at done) (slice bytes (at + done) next) ∙ ap (λ (w : List ℕ). before ++ w) (sym (slice-add bytes at done next)) in
-          subst (λ (w : List ℕ). g.M.Summer.holds c.feed_window.new.sum w) joined here;
+      fed = more_summed g.M.Sums.fed g.M.Sums.fed_more _ _ c.args.at c.loop-done.done c.min-next.result _ _ _ same c.loop-done.invariant.fed c.in_ok-feed_window.ensures.fed;
     }
 
 pub returns-clause-fed : goal.returns-clause-fed
-returns-clause-fed g c = λ honest before held.
-    let all : c.loop-done.done ≡ c.args.len = omega arith in
-    subst (λ (n : ℕ). g.M.Summer.holds c.loop-done.sum (before ++ slice (g.S.Source.device c.args.source.now).bytes c.args.at n)) all (c.loop-done.invariant.fed honest before held)
+returns-clause-fed g c = subst (λ (n : ℕ). SumsRange g.M.Sums.fed (g.S.Source.device c.args.source.now) c.args.at n c.args.sums.now c.loop-done.sums) (omega (arith, c.loop-done.invariant.bound)) c.loop-done.invariant.fed

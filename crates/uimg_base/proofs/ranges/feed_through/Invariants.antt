@@ -1,6 +1,6 @@
-use Rattle.std.proofs.Common.{◌≡◌, ◌≤◌, ◌-◌, ◌++◌, ℕ, List, IsTrue}
+use Rattle.std.proofs.Common.{◌≡◌, ◌≤◌, ◌-◌}
 use Rattle.uimg_base.specs.Device.{SameDevice, asked_more}
-use Rattle.uimg_texts.specs.Slices.{slice}
+use Rattle.uimg_base.specs.Ranges.{SumsRange}
 use Rattle.uimg_base.proofs.ranges.feed_through.Given as goal
 
 -- the first `done` bytes were asked for and fed
@@ -12,8 +12,7 @@ invariant-loop-done g l =
       same : SameDevice (device l.fn.source) (device l.source);
       asked : (device l.source).asked ≡ asked_more (device l.fn.source).asked l.done;
       failures : (device l.source).failures ≡ (device l.fn.source).failures;
-      fed : IsTrue (device l.fn.source).honest → (before : List ℕ) → g.M.Summer.holds l.fn.sum before →
-          g.M.Summer.holds l.sum (before ++ slice (device l.fn.source).bytes l.at l.done);
+      fed : SumsRange g.M.Sums.fed (device l.fn.source) l.at l.done l.fn.sums l.sums;
     }
 
 abbrev pub decreases-loop-done : goal.decreases-loop-done

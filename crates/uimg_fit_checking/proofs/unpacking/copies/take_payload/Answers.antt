@@ -4,11 +4,11 @@ use Rattle.uimg_fit_checking.proofs.unpacking.copies.take_payload.Goals as goal
 
 pub returns-clause-taken : goal.returns-clause-taken
 returns-clause-taken g c =
-    let taken = c.in_ok-take_range.ensures.taken in
+    let taken = c.in_ok-take_through.ensures.taken in
     record {
-      message = taken.piece;
+      message = taken.sums.piece;
       set = c.of.ensures.set;
-      digests = c.of.ensures.digests taken.piece (taken.summed (chosen c.args.set) [] c.sums-sums.ensures);
+      digests = c.of.ensures.digests taken.sums.piece (taken.sums.summed (chosen c.args.set) [] c.sums-sums.ensures);
       wrote = taken.wrote;
-      right = taken.right;
+      right = taken.sums.right;
     }

@@ -1,5 +1,6 @@
 use Rattle.std.proofs.Common.{◌∙◌, [], sym, ap}
 use Rattle.uimg_texts.specs.Slices.{slice}
+use Rattle.uimg_base.proofs.RangeLaws.{summed_right}
 use Rattle.uimg_fit_base.specs.AlgoSets.{is_empty}
 use Rattle.uimg_fit_reading.proofs.CompareLaws.{empty_digests}
 use Rattle.uimg_fit_reading.proofs.report.digests.payload_digests.Goals as goal
@@ -11,4 +12,4 @@ returns-then-is_empty-clause-digests g c = λ honest.
 
 pub returns-clause-digests : goal.returns-clause-digests
 returns-clause-digests g c = λ honest.
-    c.of-2.ensures.digests _ (c.in_ok-feed_through.ensures.fed honest _ [] c.sums-sums.ensures)
+    c.of-2.ensures.digests _ (summed_right c.in_ok-feed_through.ensures.fed honest _ [] c.sums-sums.ensures)

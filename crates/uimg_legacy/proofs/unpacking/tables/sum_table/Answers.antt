@@ -1,6 +1,8 @@
 use Rattle.std.proofs.Common.{rules, ◌∙◌, ◌*◌, ℕ, subst, refl, arith}
 use Rattle.uimg_legacy.specs.UnpackingSteps.{SumsPieceBetween}
-use Rattle.uimg_legacy.proofs.SumLaws.{nothing_summed, more_summed}
+use Rattle.uimg_sums.specs.Adding.{Adds, adds_nothing, adds_more}
+use Rattle.uimg_sums.specs.CrcSums.{Holds}
+use Rattle.uimg_base.proofs.RangeLaws.{nothing_summed, more_summed}
 use Rattle.uimg_texts.specs.Slices.{slice}
 use Rattle.uimg_base.proofs.Slices.{length-slice}
 use Rattle.uimg_legacy.proofs.SourceLaws.{honest_still, same_still, reads_by}
@@ -32,7 +34,7 @@ loop-counted-preserved g c =
           let more = found ∙ sizes_window image c.args.size c.loop-counted.counted c.min-next.result (omega arith) (inv.sizes honest) in
           omega (arith, more, inv.sizes honest);
       summed = subst (λ (n : ℕ). SumsPieceBetween (g.S.Source.device c.args.source.now) 64 n c.args.sum.now c.sum_sizes.new.sum) (omega (arith, c.in_ok-found.ensures.reads.bound))
-          (more_summed _ _ 64 (4 * c.loop-counted.counted) _ _ _ _ inv.same inv.summed c.in_ok-found.ensures.summed);
+          (more_summed (Adds Holds) (adds_more Holds) _ _ 64 (4 * c.loop-counted.counted) _ _ _ _ inv.same inv.summed c.in_ok-found.ensures.summed);
     }
 
 pub returns-clause-reads : goal.returns-clause-reads
@@ -49,11 +51,11 @@ loop-counted-init g c = record {
   asked = omega arith;
   failures = refl;
   sizes = λ honest. omega arith;
-  summed = nothing_summed _ 64 _;
+  summed = nothing_summed (Adds Holds) (adds_nothing Holds) _ 64 _;
 }
 
 pub returns-then-found-next-clause-summed : goal.returns-then-found-next-clause-summed
 returns-then-found-next-clause-summed g c =
     let inv = c.loop-counted.invariant in
     subst (λ (n : ℕ). SumsPieceBetween (g.S.Source.device c.args.source.now) 64 n c.args.sum.now c.sum_sizes.new.sum) (omega (arith, c.in_ok-found.ensures.reads.bound))
-    (more_summed _ _ 64 (4 * c.loop-counted.counted) _ _ _ _ inv.same inv.summed c.in_ok-found.ensures.summed)
+    (more_summed (Adds Holds) (adds_more Holds) _ _ 64 (4 * c.loop-counted.counted) _ _ _ _ inv.same inv.summed c.in_ok-found.ensures.summed)

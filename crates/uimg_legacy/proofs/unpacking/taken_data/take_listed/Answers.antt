@@ -17,4 +17,4 @@ returns-clause-taken g c =
     let there : is_there c.args.only c.in_ok-count.count ≡ true = sym c.is_there.ensures ∙ c.if-not-is_there.false in
     let first = c.sum_table.ensures.reads.uses.same in
     listed_data c.args.only g.T.PartTaker.honest c.args.header.now c.in_ok-count.count _ _ _ _ _ _ _ _ _ _ _ _ c.is_same-same.result c.value-crc.result c.requires.kind there c.requires.data c.in_ok-count.ensures.inside first (same_still first c.take_parts.ensures.takes.uses.same)
-    c.start-sum.ensures c.in_ok-count.ensures.summed c.copied-table.ensures refl c.start.ensures c.in_ok-take_parts.ensures.taken c.claim_parts.ensures.held c.in_ok-sum_range.ensures.summed c.feed.ensures c.is_same-same.ensures.other c.is_same-same.ensures.same c.value-crc.ensures (λ honest. (c.in_ok-count.ensures.reads.answer honest).1)
+    c.start-sum.ensures c.in_ok-count.ensures.summed c.copied-table.ensures refl c.start.ensures c.in_ok-take_parts.ensures.taken c.claim_parts.ensures.held c.in_ok-feed_through.ensures.fed c.feed.ensures c.is_same-same.ensures.other c.is_same-same.ensures.same c.value-crc.ensures (λ honest. (c.in_ok-count.ensures.reads.answer honest).1)

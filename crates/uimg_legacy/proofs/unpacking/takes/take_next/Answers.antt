@@ -24,5 +24,5 @@ returns-clause-taken g c =
       sizes = c.feed.ensures;
       read = λ honest. c.in_ok-fill_at.ensures.bytes honest;
       taken = padded _ _ g.T.PartTaker.honest c.args.number _ _ _ _ _ _ _ _ _ _ _ _ _ c.fill_at.ensures.same (same_still c.fill_at.ensures.same c.take_if.ensures.takes.uses.same) c.is_asked-asked.ensures c.be32_at-len.ensures (omega arith)
-          (omega (arith, c.up4.ensures, c.min-all.ensures, c.if-len-left.false)) c.in_ok-take_if.ensures.taken c.in_ok-sum_range.ensures.summed;
+          (omega (arith, c.up4.ensures, c.min-all.ensures, c.if-len-left.false)) c.in_ok-take_if.ensures.taken c.in_ok-feed_through.ensures.fed;
     }

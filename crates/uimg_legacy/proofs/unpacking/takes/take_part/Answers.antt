@@ -6,7 +6,7 @@ use Rattle.uimg_legacy.proofs.unpacking.takes.take_part.Goals as goal
 
 pub returns-clause-taken : goal.returns-clause-taken
 returns-clause-taken g c =
-    let taken = c.in_ok-take_range.ensures.taken in
+    let taken = c.in_ok-take_through.ensures.taken in
     let piece = taken.sums.piece in
     record {
       sums = taken.sums;

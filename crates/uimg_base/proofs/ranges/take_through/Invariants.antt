@@ -1,7 +1,7 @@
 use Rattle.std.proofs.Common.{◌≡◌, ◌≤◌, ◌-◌}
 use Rattle.uimg_base.specs.Device.{SameDevice, asked_more}
-use Rattle.uimg_fit_checking.specs.Copies.{TakesPieceBetween}
-use Rattle.uimg_fit_checking.proofs.unpacking.copies.take_range.Given as goal
+use Rattle.uimg_base.specs.Ranges.{TakesRange}
+use Rattle.uimg_base.proofs.ranges.take_through.Given as goal
 
 -- the first `done` bytes were asked for, summed and written
 abbrev pub invariant-loop-done : goal.invariant-loop-done
@@ -12,7 +12,8 @@ invariant-loop-done g l =
       same : SameDevice (device l.fn.source) (device l.source);
       asked : (device l.source).asked ≡ asked_more (device l.fn.source).asked l.done;
       failures : (device l.source).failures ≡ (device l.fn.source).failures;
-      taken : TakesPieceBetween (device l.fn.source) l.at l.done l.fn.sums l.sums l.fn.out l.out;
+      faults : l.out.faults ≡ l.fn.out.faults;
+      taken : TakesRange g.M.Sums.fed (device l.fn.source) l.at l.done l.fn.sums l.sums l.fn.out l.out;
     }
 
 abbrev pub decreases-loop-done : goal.decreases-loop-done

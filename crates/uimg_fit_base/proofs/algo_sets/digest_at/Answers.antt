@@ -1,6 +1,6 @@
 use Rattle.std.proofs.Common.{ℕ, List, [], ap, arith}
 use Rattle.uimg_fit_base.proofs.SlotLaws.{padded_at, not_past}
-use Rattle.uimg_fit_base.proofs.feeds.digest_at.Goals as goal
+use Rattle.uimg_fit_base.proofs.algo_sets.digest_at.Goals as goal
 
 pub returns-then-i-lt8 : goal.returns-then-i-lt8
 returns-then-i-lt8 c = λ algos message all algo is few.
