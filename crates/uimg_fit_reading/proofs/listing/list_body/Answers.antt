@@ -13,8 +13,8 @@ use Rattle.uimg_fit_reading.proofs.listing.list_body.Goals as goal
 
 pub returns-in_err-put_body-clause-told : goal.returns-in_err-put_body-clause-told
 returns-in_err-put_body-clause-told g c = λ t o time.
-    let d = g.S.Source.device c.args.source.now in
-    let m = g.S.Source.device c.put_body.new.source in
+    let d = g.S.Source.device c.args.fit.now.source.now in
+    let m = g.S.Source.device c.put_body.new.fit.source.now in
     let p = err_from_is_err_and c.from_residual-in_err-put_body.result c.from_residual-in_err-put_body.ensures.1 in
     let ends = no_end c.from_residual-in_err-put_body.result p.0 _ p.1 p.2 in
     let h = c.in_ok-first.ensures.told t o.read.indexed in
@@ -25,8 +25,8 @@ returns-in_err-put_body-clause-told g c = λ t o time.
 
 pub returns-clause-told : goal.returns-clause-told
 returns-clause-told g c = λ t o time.
-    let d = g.S.Source.device c.args.source.now in
-    let m = g.S.Source.device c.put_body.new.source in
+    let d = g.S.Source.device c.args.fit.now.source.now in
+    let m = g.S.Source.device c.put_body.new.fit.source.now in
     let h = c.in_ok-first.ensures.told t o.read.indexed in
     let told = c.in_ok-put_body.ensures.told t o h.found h.from in
     subst (λ (o : Option (List (NodeOf Spot))). TellsWithin (Some done) (body_allowance (spots t) o) d m c.args.out.now c.put_body.new.out (lists c.args.naming d.bytes (spots t) o)) (sym h.is)
