@@ -8,7 +8,6 @@ pub mod ListLaws
 pub mod NodeLaws
 pub mod HashLaws
 pub mod OpenedLaws
-pub mod OpenFitLaws
 pub mod CompareLaws
 pub mod PlaceLaws
 pub mod ExtractionLaws

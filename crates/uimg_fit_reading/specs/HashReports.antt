@@ -18,6 +18,8 @@ use Rattle.uimg_fit_base.specs.declared.algo_sets.Digests.{Digests}
 use Rattle.uimg_fit_base.specs.declared.verdicts.Verdict.{Verdict}
 use Rattle.uimg_fit_base.specs.AlgoSets.{no_algos, set_of, AreDigests}
 use Rattle.uimg_fit_base.specs.Report.{algo_of, word_text, word_of, hash_line, are_right}
+use Rattle.uimg_fit_reading.specs.declared.open_fit.OpenFit.{OpenFit}
+use Rattle.uimg_fit_reading.specs.OpenFits.{file_of}
 use Rattle.uimg_fit_reading.specs.Values.{in_span}
 use Rattle.uimg_fit_reading.specs.Plans.{IsCovered, are_compared, with_all, plan_of, algo_length}
 
@@ -51,11 +53,11 @@ pub record FindsDigestsBetween (message : List ℕ) (size : ℕ) (hs : List (Nod
   pub covered : IfOk result (λ found. AllCovered (set_of found) hs)
   pub paid : new ≤ asked + ((if are_compared hs then size else 0) + 32 * length hs)
 
-abbrev pub FindsDigests : {S : Type 0} → Span → List (NodeOf Spot) → Result Digests SourceFault
-    → (S → Device) → Lent S → Type 0
-FindsDigests payload hs result device source =
-    FindsDigestsBetween (in_span (device source.entry.now).bytes payload) payload.length hs
-    (device source.entry.now).asked (device source.exit.now).asked result
+abbrev pub FindsDigests : {S A : Type 0} → Span → List (NodeOf Spot) → Result Digests SourceFault
+    → (S → Device) → Lent (OpenFit S A) → Type 0
+FindsDigests payload hs result device fit =
+    FindsDigestsBetween (in_span (file_of device fit.entry.now) payload) payload.length hs
+    (device fit.entry.now.source.now).asked (device fit.exit.now.source.now).asked result
 
 -- the line of a hash node with a word
 abbrev pub line_of : List ℕ → Verdict → NodeOf Spot → List ℕ
@@ -70,12 +72,12 @@ pub record PutsHashBetween (name message : List ℕ) (n : ℕ) (hash : NodeOf Sp
   pub written : Written (is_err result) old now (hash_line name message hash)
   pub paid : new ≤ asked + line_cost n hash
 
-abbrev pub PutsHash : {S : Type 0} → Span → List ℕ → NodeOf Spot → Result Verdict MoveFault
-    → (S → Device) → Lent S → Lent Sink → Type 0
-PutsHash image message hash result device source out =
-    PutsHashBetween (in_span (device source.entry.now).bytes image) message image.length hash
-    (device source.entry.now).asked (device source.exit.now).asked result out.entry.now
-    out.exit.now
+abbrev pub PutsHash : {S A : Type 0} → Span → List ℕ → NodeOf Spot → Result Verdict MoveFault
+    → (S → Device) → Lent (OpenFit S A) → Lent Sink → Type 0
+PutsHash image message hash result device fit out =
+    PutsHashBetween (in_span (file_of device fit.entry.now) image) message image.length hash
+    (device fit.entry.now.source.now).asked (device fit.exit.now.source.now).asked result
+    out.entry.now out.exit.now
 
 -- The lines of hash nodes were written; the result is whether all are right.
 pub record PutsHashesBetween (name message : List ℕ) (n : ℕ) (hs : List (NodeOf Spot))
@@ -84,12 +86,12 @@ pub record PutsHashesBetween (name message : List ℕ) (n : ℕ) (hs : List (Nod
   pub written : Written (is_err result) old now (flat_map (hash_line name message) hs)
   pub paid : new ≤ asked + sum_by (line_cost n) hs
 
-abbrev pub PutsHashes : {S : Type 0} → Span → List ℕ → List (NodeOf Spot) → Result Bool MoveFault
-    → (S → Device) → Lent S → Lent Sink → Type 0
-PutsHashes image message hs result device source out =
-    PutsHashesBetween (in_span (device source.entry.now).bytes image) message image.length hs
-    (device source.entry.now).asked (device source.exit.now).asked result out.entry.now
-    out.exit.now
+abbrev pub PutsHashes : {S A : Type 0} → Span → List ℕ → List (NodeOf Spot)
+    → Result Bool MoveFault → (S → Device) → Lent (OpenFit S A) → Lent Sink → Type 0
+PutsHashes image message hs result device fit out =
+    PutsHashesBetween (in_span (file_of device fit.entry.now) image) message image.length hs
+    (device fit.entry.now.source.now).asked (device fit.exit.now.source.now).asked result
+    out.entry.now out.exit.now
 
 -- All hash nodes were reported on, after at most one pass over the payload.
 pub record ReportsHashesBetween (name message : List ℕ) (size n : ℕ) (hs : List (NodeOf Spot))
@@ -98,10 +100,10 @@ pub record ReportsHashesBetween (name message : List ℕ) (size n : ℕ) (hs : L
   pub written : Written (is_err result) old now (flat_map (hash_line name message) hs)
   pub paid : new ≤ asked + ((if are_compared hs then size else 0) + sum_by (hash_cost n) hs)
 
-abbrev pub ReportsHashes : {S : Type 0} → Span → Span → List (NodeOf Spot) → Result Bool MoveFault
-    → (S → Device) → Lent S → Lent Sink → Type 0
-ReportsHashes image payload hs result device source out =
-    ReportsHashesBetween (in_span (device source.entry.now).bytes image)
-    (in_span (device source.entry.now).bytes payload) payload.length image.length hs
-    (device source.entry.now).asked (device source.exit.now).asked result out.entry.now
-    out.exit.now
+abbrev pub ReportsHashes : {S A : Type 0} → Span → Span → List (NodeOf Spot)
+    → Result Bool MoveFault → (S → Device) → Lent (OpenFit S A) → Lent Sink → Type 0
+ReportsHashes image payload hs result device fit out =
+    ReportsHashesBetween (in_span (file_of device fit.entry.now) image)
+    (in_span (file_of device fit.entry.now) payload) payload.length image.length hs
+    (device fit.entry.now.source.now).asked (device fit.exit.now.source.now).asked result
+    out.entry.now out.exit.now

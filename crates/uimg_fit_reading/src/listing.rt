@@ -6,9 +6,11 @@ ghost use Rattle.uimg_blob_reading.specs.Roles.{in_images};
 ghost use Rattle.uimg_blob_reading.specs.Spots.{Spot, spots};
 ghost use Rattle.uimg_fit_base.specs.Files.{root_own, cell};
 ghost use Rattle.uimg_fit_reading.specs.Listing.{configurations_lines, image_lines, lists, list_of, numbered};
-ghost use Rattle.uimg_fit_reading.specs.ListingParts.{configurations_allowance, body_allowance};
+ghost use Rattle.uimg_fit_reading.specs.ListingParts.{configurations_allowance, body_allowance, TellsWithin};
 ghost use Rattle.uimg_fit_reading.specs.Nodes.{AreFrom};
-ghost use Rattle.uimg_fit_reading.specs.OpenFits.{file_of, IsOpen, NodesIn, OfTreeIn, Leaves, LeavesOrRefuses, Lists, TellsRest};
+ghost use Rattle.uimg_fit_reading.specs.OpenFits.{file_of, IsOpen, NodesIn, OfTreeIn};
+ghost use Rattle.uimg_fit_reading.specs.Puts.{Leaves, LeavesOrRefuses};
+ghost use Rattle.uimg_fit_reading.specs.Telling.{Lists};
 ghost use Rattle.uimg_fit_reading.specs.Work.{list_work};
 ghost use Rattle.uimg_fit_reading.specs.Rooms.{Delivers, TellsOf};
 
@@ -88,7 +90,7 @@ fn list_body<S: Source, A: Allocator, W: Write>(
     ensures leaves { LeavesOrRefuses result S.device fit out }
     ensures told { OfTreeIn S.device fit.old (λ t.
         time ≡ cell (root_own (spots t)) (codes "timestamp") →
-        TellsRest (body_allowance (spots t) (images (spots t))) result S.device fit out
+        TellsWithin (body_allowance (spots t) (images (spots t))) result S.device fit out
         (lists naming (file_of S.device fit.old) (spots t) (images (spots t)))) }
 {
     let first = first_image(&fit.blob, fit.room)?;

@@ -6,10 +6,11 @@ ghost use Rattle.uimg_base.specs.Outcome.{line};
 ghost use Rattle.uimg_texts.specs.Nul.{text};
 ghost use Rattle.uimg_texts.specs.Sizes.{size_text};
 ghost use Rattle.uimg_fit_base.specs.Files.{bytes_in};
-ghost use Rattle.uimg_fit_reading.specs.OpenFits.{NodeIn, OfAnyNodeIn, Leaves, Lists};
-ghost use Rattle.uimg_fit_reading.specs.Puts.{Puts, PutsOwn};
+ghost use Rattle.uimg_fit_reading.specs.OpenFits.{NodeIn, OfAnyNodeIn};
+ghost use Rattle.uimg_fit_reading.specs.Puts.{Leaves, Puts, PutsOwn};
 ghost use Rattle.uimg_fit_reading.specs.Rows.{keeps_row, row_cost, row_lines, rows_lines};
 ghost use Rattle.uimg_fit_reading.specs.Shows.{value_lines, value_cost, shown, time_line, size_line};
+ghost use Rattle.uimg_fit_reading.specs.Telling.{Lists};
 ghost use Rattle.uimg_fit_reading.specs.Values.{in_span};
 ghost use Rattle.uimg_fit_reading.specs.PayloadPlaces.{Ends};
 

@@ -7,7 +7,9 @@ ghost use Rattle.uimg_fit_reading.specs.Allowances.{text_sizes, node_allowance};
 ghost use Rattle.uimg_fit_reading.specs.Listing.{hash_lines, numbered, size_in};
 ghost use Rattle.uimg_fit_reading.specs.NodeLines.{level_of, node_lines};
 ghost use Rattle.uimg_fit_reading.specs.Rows.{image_rows, rows_lines, title};
-ghost use Rattle.uimg_fit_reading.specs.OpenFits.{file_of, NodeIn, NodesIn, OfNodeIn, OfNodesIn, OfHashesIn, Leaves, Lists};
+ghost use Rattle.uimg_fit_reading.specs.OpenFits.{file_of, NodeIn, NodesIn, OfNodeIn, OfNodesIn, OfHashesIn};
+ghost use Rattle.uimg_fit_reading.specs.Puts.{Leaves};
+ghost use Rattle.uimg_fit_reading.specs.Telling.{Lists};
 
 use crate::listing::fields::put_rows;
 use crate::listing::rows::{CONFIGURATION, Facts, HASH, NO_FACTS, image_rows};

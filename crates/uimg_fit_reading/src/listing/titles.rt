@@ -1,9 +1,10 @@
 //! The title of a node, and its rows.
 ghost use Rattle.std.specs.Prelude.{◌≡◌, ◌+◌, ◌≤◌, ◌++◌, length, decimal, codes, true};
 ghost use Rattle.std.specs.List.{list_all, sum_by};
-ghost use Rattle.uimg_fit_reading.specs.OpenFits.{NodeIn, OfAnyNodeIn, Leaves, Lists};
-ghost use Rattle.uimg_fit_reading.specs.Puts.{Puts, PutsOwn};
+ghost use Rattle.uimg_fit_reading.specs.OpenFits.{NodeIn, OfAnyNodeIn};
+ghost use Rattle.uimg_fit_reading.specs.Puts.{Leaves, Puts, PutsOwn};
 ghost use Rattle.uimg_fit_reading.specs.Rows.{keeps_row, row_cost, rows_lines, title};
+ghost use Rattle.uimg_fit_reading.specs.Telling.{Lists};
 ghost use Rattle.uimg_fit_reading.specs.Values.{in_span};
 
 use crate::listing::fields::put_rows;

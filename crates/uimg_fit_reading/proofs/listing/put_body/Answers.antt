@@ -6,8 +6,8 @@ use Rattle.uimg_fit_reading.specs.Allowances.{node_allowance}
 use Rattle.uimg_fit_reading.specs.Listing.{configurations_lines, image_lines, numbered}
 use Rattle.uimg_fit_reading.specs.ListingParts.{configurations_allowance}
 use Rattle.uimg_fit_reading.proofs.TellingLaws.{then_lists, cut_lists}
-use Rattle.uimg_fit_reading.proofs.PassedLaws.{failed_of}
-use Rattle.uimg_fit_reading.proofs.OpenFitLaws.{leaves_stops, leaves_then, stays}
+use Rattle.uimg_fit_reading.proofs.OpenedLaws.{stays}
+use Rattle.uimg_fit_reading.proofs.PassedLaws.{failed_of, leaves_stops, leaves_then}
 use Rattle.uimg_fit_reading.proofs.listing.put_body.Goals as goal
 
 pub returns-in_err-put_listed_nodes-clause-told : goal.returns-in_err-put_listed_nodes-clause-told
@@ -24,7 +24,7 @@ returns-clause-told g c = λ t o found at.
     let m = g.S.Source.device c.put_listed_nodes.new.fit.source.now in
     let f = g.S.Source.device c.put_configurations.new.fit.source.now in
     let e = is_err c.put_configurations.result in
-    let here = stays c.put_listed_nodes.ensures.leaves o in
+    let here = stays c.put_listed_nodes.ensures.leaves.keeps o in
     let tail = c.put_configurations.ensures.told t here in
     then_lists e (sum_by node_allowance found) (configurations_allowance (configurations (spots t))) d m f c.args.out.now c.put_listed_nodes.new.out c.put_configurations.new.out
     (numbered (image_lines c.args.naming d.bytes c.args.time) 0 found) (configurations_lines (configurations (spots t))) (c.in_ok-put_listed_nodes.ensures.told t o found at) tail

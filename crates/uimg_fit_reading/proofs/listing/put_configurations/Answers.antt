@@ -16,8 +16,7 @@ use Rattle.uimg_fit_reading.proofs.PutLaws.{cut}
 use Rattle.uimg_fit_reading.proofs.SharesLaws.{one_text, children_allowed}
 use Rattle.uimg_fit_reading.proofs.TellingLaws.{then_lists, more_lists}
 use Rattle.uimg_fit_reading.proofs.WithinLaws.{value_size}
-use Rattle.uimg_fit_reading.proofs.PassedLaws.{failed_of}
-use Rattle.uimg_fit_reading.proofs.OpenFitLaws.{leaves_stops, leaves_then, puts_leave}
+use Rattle.uimg_fit_reading.proofs.PassedLaws.{failed_of, leaves_stops, leaves_then, puts_leave}
 use Rattle.uimg_fit_reading.proofs.listing.put_configurations.Goals as goal
 
 pub returns-in_err-put_default-clause-told : goal.returns-in_err-put_default-clause-told

@@ -6,14 +6,14 @@ use Rattle.uimg_fit_reading.specs.Rows.{keeps_row, row_cost, row_lines, rows_lin
 use Rattle.uimg_fit_reading.specs.Telling.{ListsBetween}
 use Rattle.uimg_fit_reading.proofs.RowLaws.{passes_at, rows_more, rows_fail}
 use Rattle.uimg_fit_reading.proofs.TellingLaws.{no_lists}
-use Rattle.uimg_fit_reading.proofs.PassedLaws.{failed_of}
-use Rattle.uimg_fit_reading.proofs.OpenFitLaws.{nothing_done, leaves_stops, leaves_then, stays}
+use Rattle.uimg_fit_reading.proofs.OpenedLaws.{kept, stays}
+use Rattle.uimg_fit_reading.proofs.PassedLaws.{failed_of, leaves_stops, leaves_then}
 use Rattle.uimg_fit_reading.proofs.listing.fields.put_rows.Goals as goal
 
 pub loop-row-init : goal.loop-row-init
 unfolding rows_lines
 loop-row-init g c = record {
-  leaves = nothing_done tt;
+  leaves = record { keeps = kept; faults = refl };
   told = λ t o level found n keeps. no_lists 0 (g.S.Source.device c.args.fit.now.source.now) c.args.out.now;
 }
 
@@ -25,7 +25,7 @@ loop-row-preserved g c =
       leaves = leaves_then tt _ before.leaves c.in_ok-put_row.ensures.leaves;
       told = λ t o level found n keeps.
           let within : c.loop-row.row-index < length c.args.rows.now = omega (arith, c.loop-row-test.true) in
-          let here = stays before.leaves o in
+          let here = stays before.leaves.keeps o in
           let kept = passes_at (keeps_row level found.name) c.args.rows.now c.loop-row.row-index _ keeps within in
           rows_more (row_cost found.own) (row_lines c.args.facts found.own) c.args.rows.now c.loop-row.row-index _ _ _ _ _ _ _ within
           (before.told t o level found n keeps) (c.in_ok-put_row.ensures.told t here level found n kept);
@@ -37,7 +37,7 @@ returns-in_err-put_row-clause-told g c = λ t o level found n keeps.
     let failed = failed_of c.from_residual.result c.from_residual.ensures.0 in
     let before = c.loop-row.invariant in
     let within : c.loop-row.row-index < length c.args.rows.now = omega (arith, c.loop-row-test.true) in
-    let here = stays before.leaves o in
+    let here = stays before.leaves.keeps o in
     let kept = passes_at (keeps_row level found.name) c.args.rows.now c.loop-row.row-index _ keeps within in
     rw failed (rows_fail (row_cost found.own) (row_lines c.args.facts found.own) c.args.rows.now c.loop-row.row-index _ _ _ _ _ _ _ within
     (before.told t o level found n keeps) (c.in_err-put_row.ensures.told t here level found n kept))

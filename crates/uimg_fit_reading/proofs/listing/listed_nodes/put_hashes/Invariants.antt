@@ -5,7 +5,8 @@ use Rattle.uimg_blob_reading.specs.LookUps.{NodeOf}
 use Rattle.uimg_blob_reading.specs.Spots.{Spot}
 use Rattle.uimg_fit_reading.specs.Listing.{hash_lines}
 use Rattle.uimg_fit_reading.specs.Nodes.{HashesAt}
-use Rattle.uimg_fit_reading.specs.OpenFits.{LeavesBetween, OfTreeIn}
+use Rattle.uimg_fit_reading.specs.OpenFits.{OfTreeIn}
+use Rattle.uimg_fit_reading.specs.Puts.{LeavesBetween}
 use Rattle.uimg_fit_reading.proofs.TellingLaws.{Left}
 use Rattle.uimg_fit_reading.proofs.listing.listed_nodes.put_hashes.Given as goal
 

@@ -13,8 +13,8 @@ use Rattle.uimg_fit_reading.specs.Telling.{ListsBetween}
 use Rattle.uimg_fit_reading.proofs.RowLaws.{name_cost, address_cost}
 use Rattle.uimg_fit_reading.proofs.SharesLaws.{one_text}
 use Rattle.uimg_fit_reading.proofs.TellingLaws.{then_lists, cut_lists, more_lists}
-use Rattle.uimg_fit_reading.proofs.PassedLaws.{failed_of}
-use Rattle.uimg_fit_reading.proofs.OpenFitLaws.{leaves_stops, leaves_then, stays}
+use Rattle.uimg_fit_reading.proofs.OpenedLaws.{stays}
+use Rattle.uimg_fit_reading.proofs.PassedLaws.{failed_of, leaves_stops, leaves_then}
 use Rattle.uimg_fit_reading.proofs.listing.listed_nodes.put_known_image.Goals as goal
 
 -- an image's own lines ask for its description, and for 144 bytes at most of the rest
@@ -46,7 +46,7 @@ returns-clause-told g c = λ t o found n.
     let d = g.S.Source.device c.args.fit.now.source.now in
     let m = g.S.Source.device c.put_node.new.fit.source.now in
     let f = g.S.Source.device c.put_hashes.new.fit.source.now in
-    let here = stays c.put_node.ensures.leaves o in
+    let here = stays c.put_node.ensures.leaves.keeps o in
     let head = more_lists false _ (748 + 4 * text_sizes found.own) d m c.args.out.now c.put_node.new.out _ (image_paid c.args.naming found) (rw known at (c.in_ok-put_node.ensures.told t o in_images found n (ap (list_all (keeps_row in_images found.name)) known))) in
     let tail = c.put_hashes.ensures.told t here (hashes found) (c.first_hash-first.ensures.hashes t here.read.indexed found n) in
     subst (λ (w : List ℕ). ListsBetween (is_err c.put_hashes.result) (748 + 4 * text_sizes found.own + sum_by node_allowance (hashes found)) d f c.args.out.now c.put_hashes.new.out w)

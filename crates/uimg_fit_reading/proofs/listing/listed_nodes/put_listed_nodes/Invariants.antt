@@ -4,7 +4,8 @@ use Rattle.uimg_blob_reading.specs.Spots.{Spot}
 use Rattle.uimg_fit_reading.specs.Listing.{numbered}
 use Rattle.uimg_fit_reading.specs.NodeLines.{level_of, node_lines}
 use Rattle.uimg_fit_reading.specs.Nodes.{AreFrom}
-use Rattle.uimg_fit_reading.specs.OpenFits.{LeavesBetween, OfTreeIn}
+use Rattle.uimg_fit_reading.specs.OpenFits.{OfTreeIn}
+use Rattle.uimg_fit_reading.specs.Puts.{LeavesBetween}
 use Rattle.uimg_fit_reading.proofs.TellingLaws.{Left}
 use Rattle.uimg_fit_reading.proofs.listing.listed_nodes.put_listed_nodes.Given as goal
 

@@ -5,8 +5,7 @@ use Rattle.uimg_fit_reading.specs.Rows.{row_cost, rows_lines, title}
 use Rattle.uimg_fit_reading.specs.Telling.{ListsBetween}
 use Rattle.uimg_fit_reading.proofs.OpenedLaws.{still}
 use Rattle.uimg_fit_reading.proofs.TellingLaws.{then_lists, cut_lists}
-use Rattle.uimg_fit_reading.proofs.PassedLaws.{failed_of}
-use Rattle.uimg_fit_reading.proofs.OpenFitLaws.{leaves_stops, leaves_then, puts_leave}
+use Rattle.uimg_fit_reading.proofs.PassedLaws.{failed_of, leaves_stops, leaves_then, puts_leave}
 use Rattle.uimg_fit_reading.proofs.listing.titles.put_node.Goals as goal
 
 pub returns-in_err-put_title-clause-told : goal.returns-in_err-put_title-clause-told
