@@ -2,12 +2,12 @@
 ghost use Rattle.std.specs.Prelude.{◌≡◌, ◌<◌, ◌+◌, ◌*◌, ◌^◌, ◌++◌, codes, true, IfOk};
 ghost use Rattle.std.specs.List.{flat_map, sum_by};
 ghost use Rattle.uimg_blob_reading.specs.LookUps.{hashes};
-ghost use Rattle.uimg_blob_reading.specs.Roles.{in_images, in_image, in_configurations, is_hash};
+ghost use Rattle.uimg_blob_reading.specs.Roles.{in_images, in_image, is_hash};
 ghost use Rattle.uimg_fit_reading.specs.Allowances.{text_sizes, node_allowance};
-ghost use Rattle.uimg_fit_reading.specs.Listing.{hash_lines, numbered, size_in};
-ghost use Rattle.uimg_fit_reading.specs.NodeLines.{level_of, node_lines};
+ghost use Rattle.uimg_fit_reading.specs.Listing.{hash_lines, size_in};
+ghost use Rattle.uimg_fit_reading.specs.NodeLines.{ListsNode, ListsNodes};
 ghost use Rattle.uimg_fit_reading.specs.Rows.{image_rows, rows_lines, title};
-ghost use Rattle.uimg_fit_reading.specs.OpenFits.{file_of, NodeIn, NodesIn, OfNodeIn, OfNodesIn, OfHashesIn};
+ghost use Rattle.uimg_fit_reading.specs.OpenFits.{NodeIn, NodesIn, OfNodeIn, OfHashesIn};
 ghost use Rattle.uimg_fit_reading.specs.Puts.{Leaves};
 ghost use Rattle.uimg_fit_reading.specs.Telling.{Lists};
 
@@ -108,9 +108,7 @@ fn put_image<S: Source, A: Allocator, W: Write>(
 ) -> Result<(), MoveFault>
     requires { NodeIn S.device fit.old image.node }
     ensures leaves { Leaves result S.device fit out }
-    ensures told { OfNodeIn S.device fit.old in_images image.node
-        (λ found. Lists (node_allowance found) result S.device fit out
-        (node_lines (file_of S.device fit.old) (Listed.Image naming time) image.number found)) }
+    ensures told { ListsNode (Listed.Image naming time) image result S.device fit out }
 {
     match find_place(fit.source, &fit.blob, fit.room, image.node) {
         Ok(place) => {
@@ -130,9 +128,7 @@ fn put_configuration<S: Source, A: Allocator, W: Write>(
 ) -> Result<(), MoveFault>
     requires { NodeIn S.device fit.old configuration.node }
     ensures leaves { Leaves result S.device fit out }
-    ensures told { OfNodeIn S.device fit.old in_configurations configuration.node
-        (λ found. Lists (node_allowance found) result S.device fit out
-        (node_lines (file_of S.device fit.old) Listed.Configuration configuration.number found)) }
+    ensures told { ListsNode Listed.Configuration configuration result S.device fit out }
 {
     put_node(
         fit,
@@ -153,9 +149,7 @@ fn put_listed<S: Source, A: Allocator, W: Write>(
 ) -> Result<(), MoveFault>
     requires { NodeIn S.device fit.old at.node }
     ensures leaves { Leaves result S.device fit out }
-    ensures told { OfNodeIn S.device fit.old (level_of kind) at.node
-        (λ found. Lists (node_allowance found) result S.device fit out
-        (node_lines (file_of S.device fit.old) kind at.number found)) }
+    ensures told { ListsNode kind at result S.device fit out }
 {
     match kind {
         Listed::Image(naming, time) => put_image(fit, naming, time, at, out),
@@ -172,9 +166,7 @@ pub(crate) fn put_listed_nodes<S: Source, A: Allocator, W: Write>(
 ) -> Result<(), MoveFault>
     requires { NodesIn S.device fit.old first }
     ensures leaves { Leaves result S.device fit out }
-    ensures told { OfNodesIn S.device fit.old (level_of kind) first
-        (λ found. Lists (sum_by node_allowance found) result S.device fit out
-        (numbered (node_lines (file_of S.device fit.old) kind) 0 found)) }
+    ensures told { ListsNodes kind first result S.device fit out }
 {
     let mut next = first;
     for number in 0..fit.room.count() {

@@ -4,7 +4,7 @@ ghost use Rattle.uimg_base.specs.Using.{Asks, Uses};
 ghost use Rattle.uimg_fit_base.specs.AlgoSets.{is_empty, set_of, AreDigests};
 ghost use Rattle.uimg_fit_reading.specs.HashReports.{FindsAlgos, FindsDigests};
 ghost use Rattle.uimg_fit_reading.specs.Nodes.{OfHashes, HasNodes};
-ghost use Rattle.uimg_fit_reading.specs.OpenFits.{file_of, Keeps, NodesIn, OfHashesIn};
+ghost use Rattle.uimg_fit_reading.specs.OpenFits.{file_of, Keeps, NodesIn};
 ghost use Rattle.uimg_fit_reading.specs.Plans.{with_plan};
 ghost use Rattle.uimg_fit_reading.specs.Values.{in_span};
 
@@ -80,8 +80,7 @@ pub(crate) fn compared_digests<S: Source, A: Allocator>(
     requires node { NodesIn S.device fit.old first }
     requires payload { span.place + span.length ≤ length (file_of S.device fit.old) }
     ensures keeps { Keeps (is_err result) S.device fit }
-    ensures found { OfHashesIn S.device fit.old first
-        (λ hs. FindsDigests span hs result S.device fit) }
+    ensures found { FindsDigests span first result S.device fit }
 {
     let set = compared_algos(fit.source, &fit.blob, fit.room, first)?;
     payload_digests(fit.source, fit.room, set, span)

@@ -1,8 +1,7 @@
 //! Reports on the hash nodes of an image.
-ghost use Rattle.std.specs.Prelude.{ℕ, ◌+◌, ◌≤◌, List, length};
-ghost use Rattle.uimg_fit_base.specs.AlgoSets.{set_of, AreDigests};
-ghost use Rattle.uimg_fit_reading.specs.HashReports.{AllCovered, PutsHashes, ReportsHashes};
-ghost use Rattle.uimg_fit_reading.specs.OpenFits.{file_of, NodesIn, OfHashesIn};
+ghost use Rattle.std.specs.Prelude.{◌+◌, ◌≤◌, length};
+ghost use Rattle.uimg_fit_reading.specs.HashReports.{PutsHashes, ReportsHashes};
+ghost use Rattle.uimg_fit_reading.specs.OpenFits.{file_of, NodesIn};
 ghost use Rattle.uimg_fit_reading.specs.Puts.{Leaves};
 
 use crate::nodes::next_hash;
@@ -25,9 +24,7 @@ fn put_hashes<S: Source, A: Allocator, W: Write>(
     requires node { NodesIn S.device fit.old first }
     requires name { image.place + image.length ≤ length (file_of S.device fit.old) }
     ensures leaves { Leaves result S.device fit out }
-    ensures told { OfHashesIn S.device fit.old first (λ hs.
-        (message : List ℕ) → AreDigests digests.now message → AllCovered (set_of digests.now) hs →
-        PutsHashes image message hs result S.device fit out) }
+    ensures told { PutsHashes image first digests.now result S.device fit out }
 {
     let mut are_right = true;
     let mut next = first;
@@ -51,8 +48,7 @@ pub(crate) fn report_hashes<S: Source, A: Allocator, W: Write>(
     requires name { image.place + image.length ≤ length (file_of S.device fit.old) }
     requires payload { span.place + span.length ≤ length (file_of S.device fit.old) }
     ensures leaves { Leaves result S.device fit out }
-    ensures told { OfHashesIn S.device fit.old first
-        (λ hs. ReportsHashes image span hs result S.device fit out) }
+    ensures told { ReportsHashes image span first result S.device fit out }
 {
     let Ok(digests) = compared_digests(fit, first, span) else {
         return Err(MoveFault::Read);

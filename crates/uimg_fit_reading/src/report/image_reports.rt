@@ -1,8 +1,7 @@
 //! Reports on images, one after the other.
 ghost use Rattle.std.specs.Prelude.{◌≡◌, ◌+◌, ◌≤◌, length};
-ghost use Rattle.uimg_blob_reading.specs.Roles.{in_images};
 ghost use Rattle.uimg_fit_reading.specs.ImageReports.{ReportsFound, ReportsImage, ReportsImages, status_of};
-ghost use Rattle.uimg_fit_reading.specs.OpenFits.{file_of, NodeIn, NodesIn, OfNodeIn, OfNodesIn};
+ghost use Rattle.uimg_fit_reading.specs.OpenFits.{file_of, NodeIn, NodesIn};
 ghost use Rattle.uimg_fit_reading.specs.Puts.{Leaves, LeavesOrRefuses};
 
 use crate::nodes::{first_hash, name_of, next_of};
@@ -25,8 +24,7 @@ fn report_found<S: Source, A: Allocator, W: Write>(
     requires node { NodeIn S.device fit.old image }
     requires payload { span.place + span.length ≤ length (file_of S.device fit.old) }
     ensures leaves { Leaves result S.device fit out }
-    ensures told { OfNodeIn S.device fit.old in_images image
-        (λ found. ReportsFound found span result S.device fit out) }
+    ensures told { ReportsFound image span result S.device fit out }
 {
     let name = name_of(&fit.blob, fit.room, image);
     let first = first_hash(&fit.blob, fit.room, image);
@@ -45,8 +43,7 @@ fn report_image<S: Source, A: Allocator, W: Write>(
 ) -> Result<bool, Fault>
     requires { NodeIn S.device fit.old image }
     ensures leaves { LeavesOrRefuses result S.device fit out }
-    ensures told { OfNodeIn S.device fit.old in_images image
-        (λ found. ReportsImage found result S.device fit out) }
+    ensures told { ReportsImage image result S.device fit out }
 {
     let span = payload_place(fit.source, &fit.blob, fit.room, image)?;
     Ok(report_found(fit, image, span, out)?)
@@ -71,8 +68,7 @@ pub(crate) fn report_images<S: Source, A: Allocator, W: Write>(
 ) -> Result<Status, Fault>
     requires { NodesIn S.device fit.old first }
     ensures leaves { LeavesOrRefuses result S.device fit out }
-    ensures told { OfNodesIn S.device fit.old in_images first
-        (λ found. ReportsImages found result S.device fit out) }
+    ensures told { ReportsImages first result S.device fit out }
 {
     let mut are_right = true;
     let mut next = first;

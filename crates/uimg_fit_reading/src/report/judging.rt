@@ -75,10 +75,7 @@ pub(crate) fn put_hash<S: Source, A: Allocator, W: Write>(
     requires node { NodeIn S.device fit.old hash }
     requires name { image.place + image.length ≤ length (file_of S.device fit.old) }
     ensures leaves { Leaves result S.device fit out }
-    ensures told { OfHashIn S.device fit.old hash (λ found.
-        (message : List ℕ) → AreDigests digests.now message →
-        IsCovered (set_of digests.now) (plan_of found) →
-        PutsHash image message found result S.device fit out) }
+    ensures told { PutsHash image hash digests.now result S.device fit out }
 {
     let Ok(word) = judge(fit.source, &fit.blob, fit.room, hash, digests) else {
         return Err(MoveFault::Read);
