@@ -1,13 +1,15 @@
 -- What a `?` passes on.
-use Rattle.std.proofs.Common.{◌≡◌, ◌++◌, ◌∙◌, ℕ, List, true, Result, Ok, Err, ap, sym, subst}
+use Rattle.std.proofs.Common.{◌≡◌, ◌++◌, ℕ, List, true, Result, Ok, Err, ap, sym, subst}
 use Rattle.std.specs.Prelude.{is_err}
 use Rattle.std.specs.Result.{IsErr, IsErrAnd}
 use Rattle.uimg_base.specs.Device.{Device, RisesIf}
-use Rattle.uimg_base.specs.Held.{Held}
-use Rattle.uimg_base.specs.Ranges.{is_read, is_put}
+use Rattle.uimg_base.specs.Ranges.{is_put}
 use Rattle.uimg_base.specs.Sink.{Sink}
 use Rattle.uimg_base.specs.declared.ranges.MoveFault.{MoveFault}
+use Rattle.uimg_fit_reading.specs.declared.open_fit.OpenFit.{OpenFit}
+use Rattle.uimg_fit_reading.specs.OpenFits.{SameFit}
 use Rattle.uimg_fit_reading.specs.Puts.{LeavesBetween, PutsBetween, PutsOwn}
+use Rattle.uimg_fit_reading.proofs.OpenedLaws.{kept_then}
 use Rattle.uimg_fit_reading.proofs.PutLaws.{cut}
 
 pub passed_on : {X F : Type 0} (r : Result X F) (e : F) → IsErrAnd r (λ g. g ≡ e) → r ≡ Err e
@@ -18,24 +20,22 @@ pub failed_of : {X F : Type 0} (r : Result X F) → IsErr r → is_err r ≡ tru
 failed_of r is = is
 
 -- a call that stopped
-pub leaves_stops : {X Y : Type 0} (r : Result Y MoveFault) (e : MoveFault) (d f : Device) (h i : Held) (s t : Sink)
-    → IsErrAnd r (λ g. g ≡ e) → LeavesBetween {X = X} (Err e) d f h i s t → LeavesBetween {X = Y} r d f h i s t
-leaves_stops (Ok x) e d f h i s t is p = absurd is
-leaves_stops {Y = Y} (Err g) e d f h i s t is p = subst (λ (x : MoveFault). LeavesBetween {X = Y} (Err x) d f h i s t) (sym is) (record { uses = p.uses; room = p.room; faults = p.faults })
+pub leaves_stops : {S A X Y : Type 0} {device : S → Device} {f g : OpenFit S A} {s t : Sink} (r : Result Y MoveFault) (e : MoveFault)
+    → IsErrAnd r (λ g. g ≡ e) → LeavesBetween {X = X} (Err e) device f g s t → LeavesBetween {X = Y} r device f g s t
+leaves_stops (Ok x) e is p = absurd is
+leaves_stops {Y = Y} {device = device} {f = f} {g = g} {s = s} {t = t} (Err i) e is p =
+    subst (λ (x : MoveFault). LeavesBetween {X = Y} (Err x) device f g s t) (sym is) (record { keeps = p.keeps; faults = p.faults })
 
--- .. of one that wrote a text
-pub puts_leave : {X : Type 0} {m : ℕ} {r : Result X MoveFault} {d f : Device} {h i : Held} {s t : Sink} {xs : List ℕ} → PutsBetween m r d f h i s t xs → LeavesBetween r d f h i s t
-puts_leave p = record { uses = record { same = p.uses.same; failures = p.uses.failures }; room = p.room; faults = p.faults }
+-- .. with its source and its room, of one that wrote a text
+pub puts_leave : {S A X : Type 0} {device : S → Device} {m : ℕ} {r : Result X MoveFault} {f g : OpenFit S A} {s t : Sink} {xs : List ℕ}
+    → SameFit f g → PutsBetween m r (device f.source.now) (device g.source.now) f.room.now g.room.now s t xs → LeavesBetween r device f g s t
+puts_leave same p = record { keeps = record { uses = record { same = p.uses.same; failures = p.uses.failures }; room = p.room; same = same }; faults = p.faults }
 
 -- one call, and then another
-pub leaves_then : {X Y : Type 0} (x : X) (r : Result Y MoveFault) (d e f : Device) (h i j : Held) (s t u : Sink)
-    → LeavesBetween {X = X} (Ok x) d e h i s t → LeavesBetween {X = Y} r e f i j t u → LeavesBetween {X = Y} r d f h j s u
-leaves_then x r d e f h i j s t u p q = record {
-  uses = record {
-    same = record { bytes = q.uses.same.bytes ∙ p.uses.same.bytes; honest = q.uses.same.honest ∙ p.uses.same.honest };
-    failures = subst (λ (k : ℕ). RisesIf (is_read r) k f.failures) p.uses.failures q.uses.failures;
-  };
-  room = q.room ∙ p.room;
+pub leaves_then : {S A X Y : Type 0} {device : S → Device} {f g h : OpenFit S A} {s t u : Sink} (x : X) (r : Result Y MoveFault)
+    → LeavesBetween {X = X} (Ok x) device f g s t → LeavesBetween {X = Y} r device g h t u → LeavesBetween {X = Y} r device f h s u
+leaves_then {u = u} x r p q = record {
+  keeps = kept_then p.keeps q.keeps;
   faults = subst (λ (k : ℕ). RisesIf (is_put r) k u.faults) p.faults q.faults;
 }
 

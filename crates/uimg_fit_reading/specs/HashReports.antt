@@ -1,6 +1,6 @@
 -- Reports on the hash nodes of an image: the digests that they are compared with, then their lines.
 use Rattle.std.specs.Prelude.{◌≡◌, ◌≤◌, ◌+◌, ◌*◌, ℕ, List, ◌++◌, length, codes, if◌then◌else◌, Bool}
-use Rattle.std.specs.Prelude.{Result, IfOk, is_err}
+use Rattle.std.specs.Prelude.{Option, Result, IfOk, is_err}
 use Rattle.std.specs.List.{AllByRecursion, flat_map, sum_by}
 use Rattle.std.specs.Option.{option_map_or}
 use Rattle.uimg_base.specs.Device.{Device}
@@ -18,6 +18,8 @@ use Rattle.uimg_fit_base.specs.declared.algo_sets.Digests.{Digests}
 use Rattle.uimg_fit_base.specs.declared.verdicts.Verdict.{Verdict}
 use Rattle.uimg_fit_base.specs.AlgoSets.{no_algos, set_of, AreDigests}
 use Rattle.uimg_fit_base.specs.Report.{algo_of, word_text, word_of, hash_line, are_right}
+use Rattle.uimg_fit_reading.specs.declared.open_fit.OpenFit.{OpenFit}
+use Rattle.uimg_fit_reading.specs.OpenFits.{file_of, OfHashIn, OfHashesIn}
 use Rattle.uimg_fit_reading.specs.Values.{in_span}
 use Rattle.uimg_fit_reading.specs.Plans.{IsCovered, are_compared, with_all, plan_of, algo_length}
 
@@ -51,11 +53,12 @@ pub record FindsDigestsBetween (message : List ℕ) (size : ℕ) (hs : List (Nod
   pub covered : IfOk result (λ found. AllCovered (set_of found) hs)
   pub paid : new ≤ asked + ((if are_compared hs then size else 0) + 32 * length hs)
 
-abbrev pub FindsDigests : {S : Type 0} → Span → List (NodeOf Spot) → Result Digests SourceFault
-    → (S → Device) → Lent S → Type 0
-FindsDigests payload hs result device source =
-    FindsDigestsBetween (in_span (device source.entry.now).bytes payload) payload.length hs
-    (device source.entry.now).asked (device source.exit.now).asked result
+-- The same of the hash nodes from a number on.
+abbrev pub FindsDigests : {S A : Type 0} → Span → Option ℕ → Result Digests SourceFault
+    → (S → Device) → Lent (OpenFit S A) → Type 0
+FindsDigests payload first result device fit = OfHashesIn device fit.entry.now first
+    (λ hs. FindsDigestsBetween (in_span (file_of device fit.entry.now) payload) payload.length hs
+    (device fit.entry.now.source.now).asked (device fit.exit.now.source.now).asked result)
 
 -- the line of a hash node with a word
 abbrev pub line_of : List ℕ → Verdict → NodeOf Spot → List ℕ
@@ -70,12 +73,15 @@ pub record PutsHashBetween (name message : List ℕ) (n : ℕ) (hash : NodeOf Sp
   pub written : Written (is_err result) old now (hash_line name message hash)
   pub paid : new ≤ asked + line_cost n hash
 
-abbrev pub PutsHash : {S : Type 0} → Span → List ℕ → NodeOf Spot → Result Verdict MoveFault
-    → (S → Device) → Lent S → Lent Sink → Type 0
-PutsHash image message hash result device source out =
-    PutsHashBetween (in_span (device source.entry.now).bytes image) message image.length hash
-    (device source.entry.now).asked (device source.exit.now).asked result out.entry.now
-    out.exit.now
+-- The same of the hash node at a number, by digests of a message.
+abbrev pub PutsHash : {S A : Type 0} → Span → ℕ → Digests → Result Verdict MoveFault
+    → (S → Device) → Lent (OpenFit S A) → Lent Sink → Type 0
+PutsHash image number digests result device fit out = OfHashIn device fit.entry.now number
+    (λ hash. (message : List ℕ) → AreDigests digests message
+    → IsCovered (set_of digests) (plan_of hash)
+    → PutsHashBetween (in_span (file_of device fit.entry.now) image) message image.length hash
+    (device fit.entry.now.source.now).asked (device fit.exit.now.source.now).asked result
+    out.entry.now out.exit.now)
 
 -- The lines of hash nodes were written; the result is whether all are right.
 pub record PutsHashesBetween (name message : List ℕ) (n : ℕ) (hs : List (NodeOf Spot))
@@ -84,12 +90,14 @@ pub record PutsHashesBetween (name message : List ℕ) (n : ℕ) (hs : List (Nod
   pub written : Written (is_err result) old now (flat_map (hash_line name message) hs)
   pub paid : new ≤ asked + sum_by (line_cost n) hs
 
-abbrev pub PutsHashes : {S : Type 0} → Span → List ℕ → List (NodeOf Spot) → Result Bool MoveFault
-    → (S → Device) → Lent S → Lent Sink → Type 0
-PutsHashes image message hs result device source out =
-    PutsHashesBetween (in_span (device source.entry.now).bytes image) message image.length hs
-    (device source.entry.now).asked (device source.exit.now).asked result out.entry.now
-    out.exit.now
+-- The same of the hash nodes from a number on, by digests of a message.
+abbrev pub PutsHashes : {S A : Type 0} → Span → Option ℕ → Digests → Result Bool MoveFault
+    → (S → Device) → Lent (OpenFit S A) → Lent Sink → Type 0
+PutsHashes image first digests result device fit out = OfHashesIn device fit.entry.now first
+    (λ hs. (message : List ℕ) → AreDigests digests message → AllCovered (set_of digests) hs
+    → PutsHashesBetween (in_span (file_of device fit.entry.now) image) message image.length hs
+    (device fit.entry.now.source.now).asked (device fit.exit.now.source.now).asked result
+    out.entry.now out.exit.now)
 
 -- All hash nodes were reported on, after at most one pass over the payload.
 pub record ReportsHashesBetween (name message : List ℕ) (size n : ℕ) (hs : List (NodeOf Spot))
@@ -98,10 +106,11 @@ pub record ReportsHashesBetween (name message : List ℕ) (size n : ℕ) (hs : L
   pub written : Written (is_err result) old now (flat_map (hash_line name message) hs)
   pub paid : new ≤ asked + ((if are_compared hs then size else 0) + sum_by (hash_cost n) hs)
 
-abbrev pub ReportsHashes : {S : Type 0} → Span → Span → List (NodeOf Spot) → Result Bool MoveFault
-    → (S → Device) → Lent S → Lent Sink → Type 0
-ReportsHashes image payload hs result device source out =
-    ReportsHashesBetween (in_span (device source.entry.now).bytes image)
-    (in_span (device source.entry.now).bytes payload) payload.length image.length hs
-    (device source.entry.now).asked (device source.exit.now).asked result out.entry.now
-    out.exit.now
+-- The same of the hash nodes from a number on.
+abbrev pub ReportsHashes : {S A : Type 0} → Span → Span → Option ℕ → Result Bool MoveFault
+    → (S → Device) → Lent (OpenFit S A) → Lent Sink → Type 0
+ReportsHashes image payload first result device fit out = OfHashesIn device fit.entry.now first
+    (λ hs. ReportsHashesBetween (in_span (file_of device fit.entry.now) image)
+    (in_span (file_of device fit.entry.now) payload) payload.length image.length hs
+    (device fit.entry.now.source.now).asked (device fit.exit.now.source.now).asked result
+    out.entry.now out.exit.now)

@@ -1,6 +1,6 @@
 -- Reports on images, one after the other.
 use Rattle.std.specs.Prelude.{◌≡◌, ◌≤◌, ◌+◌, ℕ, List, if◌then◌else◌, Bool, true, false, Result, Ok}
-use Rattle.std.specs.Prelude.{Err, IfOk, is_err}
+use Rattle.std.specs.Prelude.{Err, IfOk, is_err, Option}
 use Rattle.std.specs.List.{sum_by}
 use Rattle.uimg_base.specs.Device.{Device}
 use Rattle.uimg_base.specs.Lent.{Lent}
@@ -12,8 +12,11 @@ use Rattle.uimg_base.specs.declared.ranges.MoveFault.{MoveFault}
 use Rattle.uimg_base.specs.declared.status.Status.{Status}
 use Rattle.uimg_base.specs.declared.status.Status.TheVariants.{Done, NotRight}
 use Rattle.uimg_blob_reading.specs.LookUps.{NodeOf, hashes}
+use Rattle.uimg_blob_reading.specs.Roles.{in_images}
 use Rattle.uimg_blob_reading.specs.Spots.{Spot}
 use Rattle.uimg_fit_base.specs.declared.fault.Fault.{Fault}
+use Rattle.uimg_fit_reading.specs.declared.open_fit.OpenFit.{OpenFit}
+use Rattle.uimg_fit_reading.specs.OpenFits.{file_of, OfNodeIn, OfNodesIn}
 use Rattle.uimg_fit_reading.specs.Values.{in_span}
 use Rattle.uimg_fit_reading.specs.Allowances.{node_allowance}
 use Rattle.uimg_fit_base.specs.Faults.{end_of}
@@ -35,12 +38,13 @@ pub record ReportsFoundBetween (image : NodeOf Spot) (message : List ℕ) (size 
   pub paid : new + 12 ≤ asked +
       ((if are_compared (hashes image) then size else 0) + node_allowance image)
 
-abbrev pub ReportsFound : {S : Type 0} → NodeOf Spot → Span → Result Bool MoveFault → (S → Device)
-    → Lent S → Lent Sink → Type 0
-ReportsFound found payload result device source out =
-    ReportsFoundBetween found (in_span (device source.entry.now).bytes payload) payload.length
-    (device source.entry.now).asked (device source.exit.now).asked result out.entry.now
-    out.exit.now
+-- The same of the image at a number.
+abbrev pub ReportsFound : {S A : Type 0} → ℕ → Span → Result Bool MoveFault → (S → Device)
+    → Lent (OpenFit S A) → Lent Sink → Type 0
+ReportsFound number payload result device fit out = OfNodeIn device fit.entry.now in_images number
+    (λ image. ReportsFoundBetween image (in_span (file_of device fit.entry.now) payload)
+    payload.length (device fit.entry.now.source.now).asked (device fit.exit.now.source.now).asked
+    result out.entry.now out.exit.now)
 
 -- the most bytes requested for an image
 abbrev pub image_work : List ℕ → NodeOf Spot → ℕ
@@ -69,11 +73,12 @@ ReportsImageBetween file image asked new (Ok right) old now =
 ReportsImageBetween file image asked new (Err fault) old now =
     ImageCut file image asked new fault old now
 
-abbrev pub ReportsImage : {S : Type 0} → NodeOf Spot → Result Bool Fault → (S → Device) → Lent S
-    → Lent Sink → Type 0
-ReportsImage image result device source out =
-    ReportsImageBetween (device source.entry.now).bytes image (device source.entry.now).asked
-    (device source.exit.now).asked result out.entry.now out.exit.now
+abbrev pub ReportsImage : {S A : Type 0} → ℕ → Result Bool Fault → (S → Device)
+    → Lent (OpenFit S A) → Lent Sink → Type 0
+ReportsImage number result device fit out = OfNodeIn device fit.entry.now in_images number
+    (λ image. ReportsImageBetween (file_of device fit.entry.now) image
+    (device fit.entry.now.source.now).asked (device fit.exit.now.source.now).asked result
+    out.entry.now out.exit.now)
 
 -- Images were reported on.
 pub record ReportsImagesBetween (file : List ℕ) (found : List (NodeOf Spot)) (asked new : ℕ)
@@ -81,8 +86,10 @@ pub record ReportsImagesBetween (file : List ℕ) (found : List (NodeOf Spot)) (
   pub told : Tells (end_of result) (report file found) old now
   pub paid : new ≤ asked + sum_by (image_work file) found
 
-abbrev pub ReportsImages : {S : Type 0} → List (NodeOf Spot) → Result Status Fault → (S → Device)
-    → Lent S → Lent Sink → Type 0
-ReportsImages found result device source out =
-    ReportsImagesBetween (device source.entry.now).bytes found (device source.entry.now).asked
-    (device source.exit.now).asked result out.entry.now out.exit.now
+-- The same of the images from a number on.
+abbrev pub ReportsImages : {S A : Type 0} → Option ℕ → Result Status Fault → (S → Device)
+    → Lent (OpenFit S A) → Lent Sink → Type 0
+ReportsImages first result device fit out = OfNodesIn device fit.entry.now in_images first
+    (λ found. ReportsImagesBetween (file_of device fit.entry.now) found
+    (device fit.entry.now.source.now).asked (device fit.exit.now.source.now).asked result
+    out.entry.now out.exit.now)

@@ -16,3 +16,4 @@ pub mod Telling
 pub mod NodeLines
 pub mod Heads
 pub mod ListingParts
+pub mod OpenFits

@@ -1,13 +1,17 @@
 -- The lines after the head lines of a listing, and the most bytes requested for them.
-use Rattle.std.specs.Prelude.{ℕ, ◌+◌, ◌≤◌, List, Option, Some, None}
+use Rattle.std.specs.Prelude.{ℕ, ◌+◌, ◌≤◌, List, Option, Some, None, Result}
 use Rattle.std.specs.List.{sum_by}
 use Rattle.uimg_base.specs.Device.{Device}
+use Rattle.uimg_base.specs.Lent.{Lent}
 use Rattle.uimg_base.specs.Sink.{Sink}
+use Rattle.uimg_base.specs.declared.status.Status.{Status}
 use Rattle.uimg_base.specs.Outcome.{End, Outcome, Tells}
 use Rattle.uimg_blob_reading.specs.Plain.{NodesOf}
 use Rattle.uimg_blob_reading.specs.LookUps.{NodeOf, configurations}
 use Rattle.uimg_blob_reading.specs.Spots.{Spot}
+use Rattle.uimg_fit_base.specs.Faults.{end_of}
 use Rattle.uimg_fit_base.specs.declared.fault.Fault.{Fault}
+use Rattle.uimg_fit_reading.specs.declared.open_fit.OpenFit.{OpenFit}
 use Rattle.uimg_fit_reading.specs.Allowances.{node_allowance}
 
 -- the most bytes requested for the configurations
@@ -22,7 +26,13 @@ body_allowance t (Some found) =
     sum_by node_allowance found + configurations_allowance (configurations t)
 
 -- At most `most` bytes more were requested, and an outcome was written.
-pub record TellsWithin (e : Option (End Fault)) (most : ℕ) (d f : Device) (s t : Sink)
+pub record TellsWithinBetween (e : Option (End Fault)) (most : ℕ) (d f : Device) (s t : Sink)
     (o : Outcome Fault) : Type 0 where
   pub asked : f.asked ≤ d.asked + most
   pub told : Tells e o s t
+
+abbrev pub TellsWithin : {S A : Type 0} → ℕ → Result Status Fault → (S → Device)
+    → Lent (OpenFit S A) → Lent Sink → Outcome Fault → Type 0
+TellsWithin most result device fit out outcome = TellsWithinBetween (end_of result) most
+    (device fit.entry.now.source.now) (device fit.exit.now.source.now) out.entry.now out.exit.now
+    outcome

@@ -1,12 +1,22 @@
 -- The lines of a listed node, by its kind.
-use Rattle.std.specs.Prelude.{ℕ, List}
+use Rattle.std.specs.Prelude.{ℕ, List, Option, Result}
+use Rattle.std.specs.List.{sum_by}
+use Rattle.uimg_base.specs.Device.{Device}
+use Rattle.uimg_base.specs.Lent.{Lent}
+use Rattle.uimg_base.specs.Sink.{Sink}
+use Rattle.uimg_base.specs.declared.ranges.MoveFault.{MoveFault}
 use Rattle.uimg_blob_reading.specs.Roles.{Level, in_images, in_configurations}
 use Rattle.uimg_blob_reading.specs.LookUps.{NodeOf}
 use Rattle.uimg_blob_reading.specs.Spots.{Spot}
 use Rattle.uimg_fit_reading.specs.declared.listing.listed_nodes.Listed.{Listed}
 use Rattle.uimg_fit_reading.specs.declared.listing.listed_nodes.Listed.TheVariants.{Image}
 use Rattle.uimg_fit_reading.specs.declared.listing.listed_nodes.Listed.TheVariants.{Configuration}
-use Rattle.uimg_fit_reading.specs.Listing.{image_lines, configuration_lines}
+use Rattle.uimg_fit_reading.specs.declared.listing.titles.Numbered.{Numbered}
+use Rattle.uimg_fit_reading.specs.declared.open_fit.OpenFit.{OpenFit}
+use Rattle.uimg_fit_reading.specs.Allowances.{node_allowance}
+use Rattle.uimg_fit_reading.specs.Listing.{image_lines, configuration_lines, numbered}
+use Rattle.uimg_fit_reading.specs.OpenFits.{file_of, OfNodeIn, OfNodesIn}
+use Rattle.uimg_fit_reading.specs.Telling.{Lists}
 
 -- the level of the nodes of a kind
 abbrev pub level_of : Listed → Level
@@ -17,3 +27,18 @@ level_of Configuration = in_configurations
 abbrev pub node_lines : List ℕ → Listed → ℕ → NodeOf Spot → List ℕ
 node_lines file (Image naming time) = image_lines naming file time
 node_lines file Configuration = configuration_lines
+
+-- The lines of a node of a kind were written.
+abbrev pub ListsNode : {S A X : Type 0} → Listed → Numbered → Result X MoveFault → (S → Device)
+    → Lent (OpenFit S A) → Lent Sink → Type 0
+ListsNode kind at result device fit out =
+    OfNodeIn device fit.entry.now (level_of kind) at.node (λ found. Lists (node_allowance found)
+    result device fit out (node_lines (file_of device fit.entry.now) kind at.number found))
+
+-- The same for the nodes from a number on.
+abbrev pub ListsNodes : {S A X : Type 0} → Listed → Option ℕ → Result X MoveFault → (S → Device)
+    → Lent (OpenFit S A) → Lent Sink → Type 0
+ListsNodes kind first result device fit out =
+    OfNodesIn device fit.entry.now (level_of kind) first (λ found.
+    Lists (sum_by node_allowance found) result device fit out
+    (numbered (node_lines (file_of device fit.entry.now) kind) 0 found))

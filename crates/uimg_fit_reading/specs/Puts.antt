@@ -5,12 +5,14 @@ use Rattle.uimg_base.specs.Held.{Held}
 use Rattle.uimg_base.specs.Lent.{Lent}
 use Rattle.uimg_base.specs.Ranges.{is_read, is_put}
 use Rattle.uimg_base.specs.Sink.{Sink}
-use Rattle.uimg_base.specs.Using.{Uses, Asks}
+use Rattle.uimg_base.specs.Using.{Asks}
 use Rattle.uimg_base.specs.Writing.{Written}
 use Rattle.uimg_base.specs.declared.ranges.MoveFault.{MoveFault}
 use Rattle.uimg_base.specs.declared.ranges.MoveFault.TheVariants.{Put}
 use Rattle.uimg_fit_base.specs.declared.fault.Fault.{Fault}
-use Rattle.uimg_fit_base.specs.Faults as fit
+use Rattle.uimg_fit_base.specs.Faults as of
+use Rattle.uimg_fit_reading.specs.declared.open_fit.OpenFit.{OpenFit}
+use Rattle.uimg_fit_reading.specs.OpenFits.{KeepsBetween}
 
 -- A fact about the bytes of a source, if it is honest.
 abbrev pub IfHonest : {S : Type 0} → (S → Device) → Lent S → (List ℕ → Type 0) → Type 0
@@ -21,39 +23,35 @@ IfHonest device source P =
 abbrev pub Pays : {S : Type 0} → ℕ → (S → Device) → Lent S → Type 0
 Pays most device source = (device source.exit.now).asked ≤ (device source.entry.now).asked + most
 
--- Source and room are unchanged, and a failure was counted exactly if it is returned.
-pub record LeavesBetween {X : Type 0} (result : Result X MoveFault) (d e : Device) (old new : Held)
-    (s t : Sink) : Type 0 where
-  pub uses : Uses (is_read result) d e
-  pub room : new ≡ old
+-- Source, blob and room are unchanged, and a failure was counted exactly if it is returned.
+pub record LeavesBetween {S A X : Type 0} (result : Result X MoveFault) (device : S → Device)
+    (old new : OpenFit S A) (s t : Sink) : Type 0 where
+  pub keeps : KeepsBetween (is_read result) device old new
   pub faults : RisesIf (is_put result) s.faults t.faults
 
-abbrev pub Leaves : {S X : Type 0} → Result X MoveFault → (S → Device) → Lent S → Lent Held
+abbrev pub Leaves : {S A X : Type 0} → Result X MoveFault → (S → Device) → Lent (OpenFit S A)
     → Lent Sink → Type 0
-Leaves result device source room out = LeavesBetween result
-    (device source.entry.now) (device source.exit.now) room.entry.now room.exit.now out.entry.now
-    out.exit.now
+Leaves result device fit out =
+    LeavesBetween result device fit.entry.now fit.exit.now out.entry.now out.exit.now
 
 -- The same for a call that may refuse the image, but not for want of memory or a fault of building.
-pub record RefusesBetween {X : Type 0} (result : Result X Fault) (d e : Device) (old new : Held)
-    (s t : Sink) : Type 0 where
-  pub uses : Uses (fit.is_read result) d e
-  pub room : new ≡ old
-  pub faults : RisesIf (fit.is_put result) s.faults t.faults
-  pub memory : fit.is_out_of_memory result ≡ false
-  pub no_making : fit.is_of_making result ≡ false
+pub record RefusesBetween {S A X : Type 0} (result : Result X Fault) (device : S → Device)
+    (old new : OpenFit S A) (s t : Sink) : Type 0 where
+  pub keeps : KeepsBetween (of.is_read result) device old new
+  pub faults : RisesIf (of.is_put result) s.faults t.faults
+  pub memory : of.is_out_of_memory result ≡ false
+  pub no_making : of.is_of_making result ≡ false
 
-abbrev pub LeavesOrRefuses : {S X : Type 0} → Result X Fault → (S → Device) → Lent S → Lent Held
-    → Lent Sink → Type 0
-LeavesOrRefuses result device source room out = RefusesBetween result
-    (device source.entry.now) (device source.exit.now) room.entry.now room.exit.now out.entry.now
-    out.exit.now
+abbrev pub LeavesOrRefuses : {S A X : Type 0} → Result X Fault → (S → Device)
+    → Lent (OpenFit S A) → Lent Sink → Type 0
+LeavesOrRefuses result device fit out =
+    RefusesBetween result device fit.entry.now fit.exit.now out.entry.now out.exit.now
 
 -- Of faults, only a failed read and what is wrong with the image are returned.
 pub record OnlyReads {X : Type 0} (result : Result X Fault) : Type 0 where
-  pub no_put : fit.is_put result ≡ false
-  pub memory : fit.is_out_of_memory result ≡ false
-  pub no_making : fit.is_of_making result ≡ false
+  pub no_put : of.is_put result ≡ false
+  pub memory : of.is_out_of_memory result ≡ false
+  pub no_making : of.is_of_making result ≡ false
 
 -- A text was written, or a prefix of it if a write failed.
 pub record PutsOwn {X : Type 0} (result : Result X MoveFault) (s t : Sink) (text : List ℕ)

@@ -5,6 +5,7 @@ use Rattle.uimg_base.specs.Lent.{Lent}
 use Rattle.uimg_base.specs.Sink.{Sink}
 use Rattle.uimg_base.specs.Writing.{Written}
 use Rattle.uimg_base.specs.declared.ranges.MoveFault.{MoveFault}
+use Rattle.uimg_fit_reading.specs.declared.open_fit.OpenFit.{OpenFit}
 
 -- At most `most` bytes more were requested; a text was written, or a prefix if the call failed.
 pub record ListsBetween (failed : Bool) (most : ℕ) (d e : Device) (s t : Sink) (text : List ℕ)
@@ -12,7 +13,8 @@ pub record ListsBetween (failed : Bool) (most : ℕ) (d e : Device) (s t : Sink)
   pub asked : e.asked ≤ d.asked + most
   pub written : Written failed s t text
 
-abbrev pub Lists : {S X : Type 0} → ℕ → Result X MoveFault → (S → Device) → Lent S → Lent Sink
-    → List ℕ → Type 0
-Lists most result device source out text = ListsBetween (is_err result) most
-    (device source.entry.now) (device source.exit.now) out.entry.now out.exit.now text
+abbrev pub Lists : {S A X : Type 0} → ℕ → Result X MoveFault → (S → Device) → Lent (OpenFit S A)
+    → Lent Sink → List ℕ → Type 0
+Lists most result device fit out text = ListsBetween (is_err result) most
+    (device fit.entry.now.source.now) (device fit.exit.now.source.now) out.entry.now out.exit.now
+    text

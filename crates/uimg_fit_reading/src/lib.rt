@@ -7,6 +7,7 @@ mod extraction;
 pub mod images;
 mod listing;
 pub mod nodes;
+mod open_fit;
 mod places;
 mod puts;
 mod report;

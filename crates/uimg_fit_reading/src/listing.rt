@@ -1,18 +1,17 @@
 //! The listing of an image.
 
-ghost use Rattle.std.specs.Prelude.{◌≡◌, ◌++◌, List, Some, codes, length};
-ghost use Rattle.uimg_blob_reading.specs.Grammar.{Siblings};
+ghost use Rattle.std.specs.Prelude.{◌≡◌, ◌++◌, List, Some, codes};
 ghost use Rattle.uimg_blob_reading.specs.LookUps.{NodeOf, images, configurations};
 ghost use Rattle.uimg_blob_reading.specs.Roles.{in_images};
 ghost use Rattle.uimg_blob_reading.specs.Spots.{Spot, spots};
-ghost use Rattle.uimg_fit_base.specs.Faults.{end_of};
 ghost use Rattle.uimg_fit_base.specs.Files.{root_own, cell};
 ghost use Rattle.uimg_fit_reading.specs.Listing.{configurations_lines, image_lines, lists, list_of, numbered};
 ghost use Rattle.uimg_fit_reading.specs.ListingParts.{configurations_allowance, body_allowance, TellsWithin};
-ghost use Rattle.uimg_fit_reading.specs.Nodes.{InFile, AreFrom, Opened, HasNodes};
+ghost use Rattle.uimg_fit_reading.specs.Nodes.{AreFrom};
+ghost use Rattle.uimg_fit_reading.specs.OpenFits.{file_of, IsOpen, NodesIn, OfTreeIn};
+ghost use Rattle.uimg_fit_reading.specs.Puts.{Leaves, LeavesOrRefuses};
 ghost use Rattle.uimg_fit_reading.specs.Telling.{Lists};
 ghost use Rattle.uimg_fit_reading.specs.Work.{list_work};
-ghost use Rattle.uimg_fit_reading.specs.Puts.{Leaves, LeavesOrRefuses};
 ghost use Rattle.uimg_fit_reading.specs.Rooms.{Delivers, TellsOf};
 
 mod addresses;
@@ -30,76 +29,72 @@ use crate::images::first_image;
 use crate::listing::heads::{put_default, put_head};
 use crate::listing::listed_nodes::{Listed, put_listed_nodes};
 use crate::nodes::{child_of, configurations_of, root_value, value_of};
+use crate::open_fit::OpenFit;
 use crate::places::cell;
 use crate::tree::read_tree;
 use std::alloc::Allocator;
 use std::io::Write;
 use uimg_base::{MoveFault, Out, Room, Source, Status};
-use uimg_blob_reading::{Blob, Key};
+use uimg_blob_reading::Key;
 use uimg_fit_base::Fault;
 use uimg_names::Naming;
 
 // Writes the lines of the configurations, if there are any.
 fn put_configurations<S: Source, A: Allocator, W: Write>(
-    source: &mut S,
-    blob: &Blob,
-    room: &mut Room<A>,
+    fit: &mut OpenFit<'_, S, A>,
     out: &mut Out<W>,
 ) -> Result<(), MoveFault>
-    requires { InFile (length (S.device source.old).bytes) blob.now room.old.entries }
-    ensures leaves { Leaves result S.device source room out }
-    ensures told { (t : Siblings) → Opened (S.device source.old) blob.now room.old t →
-        Lists (configurations_allowance (configurations (spots t))) result S.device source out
-        (configurations_lines (configurations (spots t))) }
+    requires { IsOpen S.device fit.old }
+    ensures leaves { Leaves result S.device fit out }
+    ensures told { OfTreeIn S.device fit.old (λ t.
+        Lists (configurations_allowance (configurations (spots t))) result S.device fit out
+        (configurations_lines (configurations (spots t)))) }
 {
-    let Some(node) = configurations_of(blob, room) else {
+    let Some(node) = configurations_of(&fit.blob, fit.room) else {
         return Ok(());
     };
-    put_default(source, room, value_of(blob, room, node, Key::Default), out)?;
-    let first = child_of(blob, room, node);
-    put_listed_nodes(source, blob, room, Listed::Configuration, first, out)
+    let default = value_of(&fit.blob, fit.room, node, Key::Default);
+    put_default(fit.source, fit.room, default, out)?;
+    let first = child_of(&fit.blob, fit.room, node);
+    put_listed_nodes(fit, Listed::Configuration, first, out)
 }
 
 // Writes the lines of the images, from the first one on, and of the configurations.
 fn put_body<S: Source, A: Allocator, W: Write>(
-    source: &mut S,
-    blob: &Blob,
-    room: &mut Room<A>,
+    fit: &mut OpenFit<'_, S, A>,
     naming: Naming,
     time: Option<u32>,
     first: Option<usize>,
     out: &mut Out<W>,
 ) -> Result<(), MoveFault>
-    requires { HasNodes (S.device source.old) blob.now room.old first }
-    ensures leaves { Leaves result S.device source room out }
-    ensures told { (t : Siblings) → Opened (S.device source.old) blob.now room.old t →
+    requires { NodesIn S.device fit.old first }
+    ensures leaves { Leaves result S.device fit out }
+    ensures told { OfTreeIn S.device fit.old (λ t.
         (found : List (NodeOf Spot)) → AreFrom t in_images first found →
-        Lists (body_allowance (spots t) (Some found)) result S.device source out
-        (numbered (image_lines naming (S.device source.old).bytes time) 0 found
-        ++ configurations_lines (configurations (spots t))) }
+        Lists (body_allowance (spots t) (Some found)) result S.device fit out
+        (numbered (image_lines naming (file_of S.device fit.old) time) 0 found
+        ++ configurations_lines (configurations (spots t)))) }
 {
-    put_listed_nodes(source, blob, room, Listed::Image(naming, time), first, out)?;
-    put_configurations(source, blob, room, out)
+    put_listed_nodes(fit, Listed::Image(naming, time), first, out)?;
+    put_configurations(fit, out)
 }
 
 // Writes the lines after the head lines, or returns `NoImages`.
 fn list_body<S: Source, A: Allocator, W: Write>(
-    source: &mut S,
-    blob: &Blob,
-    room: &mut Room<A>,
+    fit: &mut OpenFit<'_, S, A>,
     naming: Naming,
     time: Option<u32>,
     out: &mut Out<W>,
 ) -> Result<Status, Fault>
-    requires { InFile (length (S.device source.old).bytes) blob.now room.old.entries }
-    ensures leaves { LeavesOrRefuses result S.device source room out }
-    ensures told { (t : Siblings) → Opened (S.device source.old) blob.now room.old t →
-        time ≡ cell (root_own (spots t)) (codes "timestamp") → TellsWithin (end_of result)
-        (body_allowance (spots t) (images (spots t))) (S.device source.old) (S.device source.new)
-        out.old out.new (lists naming (S.device source.old).bytes (spots t) (images (spots t))) }
+    requires { IsOpen S.device fit.old }
+    ensures leaves { LeavesOrRefuses result S.device fit out }
+    ensures told { OfTreeIn S.device fit.old (λ t.
+        time ≡ cell (root_own (spots t)) (codes "timestamp") →
+        TellsWithin (body_allowance (spots t) (images (spots t))) result S.device fit out
+        (lists naming (file_of S.device fit.old) (spots t) (images (spots t)))) }
 {
-    let first = first_image(blob, room)?;
-    put_body(source, blob, room, naming, time, first, out)?;
+    let first = first_image(&fit.blob, fit.room)?;
+    put_body(fit, naming, time, first, out)?;
     Ok(Status::Done)
 }
 
@@ -137,5 +132,6 @@ pub fn list_by<S: Source, A: Allocator, W: Write>(
     let time = cell(source, root_value(&blob, room, Key::Timestamp))?;
     let description = root_value(&blob, room, Key::Description);
     put_head(source, room, description, time, out)?;
-    list_body(source, &blob, room, naming, time, out)
+    let mut fit = OpenFit { source, blob, room };
+    list_body(&mut fit, naming, time, out)
 }

@@ -12,6 +12,7 @@ mod judging;
 mod plans;
 
 use crate::images::first_image;
+use crate::open_fit::OpenFit;
 use crate::report::image_reports::report_images;
 use crate::tree::read_tree;
 pub use digests::{compared_algos, payload_digests};
@@ -41,5 +42,6 @@ pub fn verify<S: Source, A: Allocator, W: Write>(
 {
     let blob = read_tree(source, room)?;
     let first = first_image(&blob, room)?;
-    report_images(source, &blob, room, first, out)
+    let mut fit = OpenFit { source, blob, room };
+    report_images(&mut fit, first, out)
 }

@@ -6,7 +6,7 @@ ghost use Rattle.uimg_base.specs.Outcome.{line};
 ghost use Rattle.uimg_texts.specs.Nul.{text};
 ghost use Rattle.uimg_texts.specs.Sizes.{size_text};
 ghost use Rattle.uimg_fit_base.specs.Files.{bytes_in};
-ghost use Rattle.uimg_fit_reading.specs.Nodes.{HasNode, OfAnyNode};
+ghost use Rattle.uimg_fit_reading.specs.OpenFits.{NodeIn, OfAnyNodeIn};
 ghost use Rattle.uimg_fit_reading.specs.Puts.{Leaves, Puts, PutsOwn};
 ghost use Rattle.uimg_fit_reading.specs.Rows.{keeps_row, row_cost, row_lines, rows_lines};
 ghost use Rattle.uimg_fit_reading.specs.Shows.{value_lines, value_cost, shown, time_line, size_line};
@@ -21,11 +21,12 @@ use crate::listing::names::put_name_line;
 use crate::listing::rows::{Facts, Row};
 use crate::listing::shows::Show;
 use crate::nodes::value_of;
+use crate::open_fit::OpenFit;
 use crate::puts::{put, put_line};
 use std::alloc::Allocator;
 use std::io::Write;
 use uimg_base::{MoveFault, Out, Room, Source, Span, size_text, time_text};
-use uimg_blob_reading::{Blob, put_text};
+use uimg_blob_reading::put_text;
 
 // Writes a line of a label and the text of a value.
 pub(crate) fn put_text_line<S: Source, A: Allocator, W: Write>(
@@ -127,24 +128,22 @@ fn put_size_line<W: Write>(
 
 // Writes the lines of a row.
 fn put_row<S: Source, A: Allocator, W: Write>(
-    source: &mut S,
-    blob: &Blob,
-    room: &mut Room<A>,
+    fit: &mut OpenFit<'_, S, A>,
     node: usize,
     facts: Facts,
     row: Row,
     out: &mut Out<W>,
 ) -> Result<(), MoveFault>
-    requires { HasNode (S.device source.old) blob.now room.old node }
-    ensures leaves { Leaves result S.device source room out }
-    ensures told { OfAnyNode (S.device source.old) blob.now room.old node
+    requires { NodeIn S.device fit.old node }
+    ensures leaves { Leaves result S.device fit out }
+    ensures told { OfAnyNodeIn S.device fit.old node
         (λ level found. keeps_row level found.name row ≡ true →
-        Lists (row_cost found.own row) result S.device source out (row_lines facts found.own row)) }
+        Lists (row_cost found.own row) result S.device fit out (row_lines facts found.own row)) }
 {
     match row {
         Row::Property(key, label, show) => {
-            let value = value_of(blob, room, node, key);
-            put_property(source, room, &label, show, value, out)
+            let value = value_of(&fit.blob, fit.room, node, key);
+            put_property(fit.source, fit.room, &label, show, value, out)
         }
         Row::Time(label) => put_time_line(out, &label, facts.time),
         Row::Size(label) => put_size_line(out, &label, facts.size),
@@ -153,23 +152,21 @@ fn put_row<S: Source, A: Allocator, W: Write>(
 
 // Writes the lines of rows.
 pub(crate) fn put_rows<S: Source, A: Allocator, W: Write>(
-    source: &mut S,
-    blob: &Blob,
-    room: &mut Room<A>,
+    fit: &mut OpenFit<'_, S, A>,
     node: usize,
     facts: Facts,
     rows: &[Row],
     out: &mut Out<W>,
 ) -> Result<(), MoveFault>
-    requires { HasNode (S.device source.old) blob.now room.old node }
-    ensures leaves { Leaves result S.device source room out }
-    ensures told { OfAnyNode (S.device source.old) blob.now room.old node
+    requires { NodeIn S.device fit.old node }
+    ensures leaves { Leaves result S.device fit out }
+    ensures told { OfAnyNodeIn S.device fit.old node
         (λ level found. list_all (keeps_row level found.name) rows.now ≡ true →
-        Lists (sum_by (row_cost found.own) rows.now) result S.device source out
+        Lists (sum_by (row_cost found.own) rows.now) result S.device fit out
         (rows_lines facts found.own rows.now)) }
 {
     for row in rows {
-        put_row(source, blob, room, node, facts, *row, out)?;
+        put_row(fit, node, facts, *row, out)?;
     }
     Ok(())
 }

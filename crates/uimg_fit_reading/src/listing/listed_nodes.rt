@@ -2,24 +2,24 @@
 ghost use Rattle.std.specs.Prelude.{◌≡◌, ◌<◌, ◌+◌, ◌*◌, ◌^◌, ◌++◌, codes, true, IfOk};
 ghost use Rattle.std.specs.List.{flat_map, sum_by};
 ghost use Rattle.uimg_blob_reading.specs.LookUps.{hashes};
-ghost use Rattle.uimg_blob_reading.specs.Roles.{in_images, in_image, in_configurations, is_hash};
+ghost use Rattle.uimg_blob_reading.specs.Roles.{in_images, in_image, is_hash};
 ghost use Rattle.uimg_fit_reading.specs.Allowances.{text_sizes, node_allowance};
-ghost use Rattle.uimg_fit_reading.specs.Listing.{hash_lines, numbered, size_in};
-ghost use Rattle.uimg_fit_reading.specs.NodeLines.{level_of, node_lines};
+ghost use Rattle.uimg_fit_reading.specs.Listing.{hash_lines, size_in};
+ghost use Rattle.uimg_fit_reading.specs.NodeLines.{ListsNode, ListsNodes};
 ghost use Rattle.uimg_fit_reading.specs.Rows.{image_rows, rows_lines, title};
-ghost use Rattle.uimg_fit_reading.specs.Nodes.{OfNode, OfNodes, OfHashes, HasNode, HasNodes};
-ghost use Rattle.uimg_fit_reading.specs.Telling.{Lists};
+ghost use Rattle.uimg_fit_reading.specs.OpenFits.{NodeIn, NodesIn, OfNodeIn, OfHashesIn};
 ghost use Rattle.uimg_fit_reading.specs.Puts.{Leaves};
+ghost use Rattle.uimg_fit_reading.specs.Telling.{Lists};
 
 use crate::listing::fields::put_rows;
 use crate::listing::rows::{CONFIGURATION, Facts, HASH, NO_FACTS, image_rows};
-use crate::listing::titles::put_node;
+use crate::listing::titles::{Numbered, put_node};
 use crate::nodes::{first_hash, next_hash, next_of};
+use crate::open_fit::OpenFit;
 use crate::places::find_place;
 use std::alloc::Allocator;
 use std::io::Write;
-use uimg_base::{MoveFault, Out, Room, Source, Span};
-use uimg_blob_reading::Blob;
+use uimg_base::{MoveFault, Out, Source, Span};
 use uimg_fit_base::FitFault;
 use uimg_names::Naming;
 
@@ -34,38 +34,34 @@ pub(crate) enum Listed {
 
 // Writes the lines of a hash node.
 fn put_hash<S: Source, A: Allocator, W: Write>(
-    source: &mut S,
-    blob: &Blob,
-    room: &mut Room<A>,
+    fit: &mut OpenFit<'_, S, A>,
     hash: usize,
     out: &mut Out<W>,
 ) -> Result<(), MoveFault>
-    requires { HasNode (S.device source.old) blob.now room.old hash }
-    ensures leaves { Leaves result S.device source room out }
-    ensures told { OfNode (S.device source.old) blob.now room.old in_image hash
+    requires { NodeIn S.device fit.old hash }
+    ensures leaves { Leaves result S.device fit out }
+    ensures told { OfNodeIn S.device fit.old in_image hash
         (λ found. is_hash found.name ≡ true →
-        Lists (node_allowance found) result S.device source out (hash_lines found)) }
+        Lists (node_allowance found) result S.device fit out (hash_lines found)) }
 {
-    put_rows(source, blob, room, hash, NO_FACTS, &HASH, out)
+    put_rows(fit, hash, NO_FACTS, &HASH, out)
 }
 
 // Writes the lines of the hash nodes from one on.
 fn put_hashes<S: Source, A: Allocator, W: Write>(
-    source: &mut S,
-    blob: &Blob,
-    room: &mut Room<A>,
+    fit: &mut OpenFit<'_, S, A>,
     first: Option<usize>,
     out: &mut Out<W>,
 ) -> Result<(), MoveFault>
-    requires { HasNodes (S.device source.old) blob.now room.old first }
-    ensures leaves { Leaves result S.device source room out }
-    ensures told { OfHashes (S.device source.old) blob.now room.old first (λ hs.
-        Lists (sum_by node_allowance hs) result S.device source out (flat_map hash_lines hs)) }
+    requires { NodesIn S.device fit.old first }
+    ensures leaves { Leaves result S.device fit out }
+    ensures told { OfHashesIn S.device fit.old first (λ hs.
+        Lists (sum_by node_allowance hs) result S.device fit out (flat_map hash_lines hs)) }
 {
     let mut next = first;
     while let Some(hash) = next {
-        put_hash(source, blob, room, hash, out)?;
-        next = next_hash(blob, room, hash);
+        put_hash(fit, hash, out)?;
+        next = next_hash(&fit.blob, fit.room, hash);
     }
     Ok(())
 }
@@ -83,51 +79,42 @@ fn size_in(place: Result<Span, FitFault>) -> Option<u32>
 
 // Writes the lines of an image, whose time and size are known.
 fn put_known_image<S: Source, A: Allocator, W: Write>(
-    source: &mut S,
-    blob: &Blob,
-    room: &mut Room<A>,
+    fit: &mut OpenFit<'_, S, A>,
     naming: Naming,
     facts: Facts,
-    number: usize,
-    image: usize,
+    image: Numbered,
     out: &mut Out<W>,
 ) -> Result<(), MoveFault>
-    requires { HasNode (S.device source.old) blob.now room.old image }
-    ensures leaves { Leaves result S.device source room out }
-    ensures told { OfNode (S.device source.old) blob.now room.old in_images image
+    requires { NodeIn S.device fit.old image.node }
+    ensures leaves { Leaves result S.device fit out }
+    ensures told { OfNodeIn S.device fit.old in_images image.node
         (λ found. Lists (748 + 4 * text_sizes found.own + sum_by node_allowance (hashes found))
-        result S.device source out (title (codes " Image ") number found.name
+        result S.device fit out (title (codes " Image ") image.number found.name
         ++ (rows_lines facts found.own (image_rows naming) ++ flat_map hash_lines (hashes found)))) }
 {
     let rows = image_rows(naming);
-    put_node(
-        source, blob, room, b" Image ", number, image, facts, &rows, out,
-    )?;
-    put_hashes(source, blob, room, first_hash(blob, room, image), out)
+    put_node(fit, b" Image ", image, facts, &rows, out)?;
+    let first = first_hash(&fit.blob, fit.room, image.node);
+    put_hashes(fit, first, out)
 }
 
 // Writes the lines of an image.
 fn put_image<S: Source, A: Allocator, W: Write>(
-    source: &mut S,
-    blob: &Blob,
-    room: &mut Room<A>,
+    fit: &mut OpenFit<'_, S, A>,
     naming: Naming,
     time: Option<u32>,
-    number: usize,
-    image: usize,
+    image: Numbered,
     out: &mut Out<W>,
 ) -> Result<(), MoveFault>
-    requires { HasNode (S.device source.old) blob.now room.old image }
-    ensures leaves { Leaves result S.device source room out }
-    ensures told { OfNode (S.device source.old) blob.now room.old in_images image
-        (λ found. Lists (node_allowance found) result S.device source out
-        (node_lines (S.device source.old).bytes (Listed.Image naming time) number found)) }
+    requires { NodeIn S.device fit.old image.node }
+    ensures leaves { Leaves result S.device fit out }
+    ensures told { ListsNode (Listed.Image naming time) image result S.device fit out }
 {
-    match find_place(source, blob, room, image) {
+    match find_place(fit.source, &fit.blob, fit.room, image.node) {
         Ok(place) => {
             let size = size_in(place);
             let facts = Facts { time, size };
-            put_known_image(source, blob, room, naming, facts, number, image, out)
+            put_known_image(fit, naming, facts, image, out)
         }
         Err(_) => Err(MoveFault::Read),
     }
@@ -135,25 +122,17 @@ fn put_image<S: Source, A: Allocator, W: Write>(
 
 // Writes the lines of a configuration.
 fn put_configuration<S: Source, A: Allocator, W: Write>(
-    source: &mut S,
-    blob: &Blob,
-    room: &mut Room<A>,
-    number: usize,
-    configuration: usize,
+    fit: &mut OpenFit<'_, S, A>,
+    configuration: Numbered,
     out: &mut Out<W>,
 ) -> Result<(), MoveFault>
-    requires { HasNode (S.device source.old) blob.now room.old configuration }
-    ensures leaves { Leaves result S.device source room out }
-    ensures told { OfNode (S.device source.old) blob.now room.old in_configurations configuration
-        (λ found. Lists (node_allowance found) result S.device source out
-        (node_lines (S.device source.old).bytes Listed.Configuration number found)) }
+    requires { NodeIn S.device fit.old configuration.node }
+    ensures leaves { Leaves result S.device fit out }
+    ensures told { ListsNode Listed.Configuration configuration result S.device fit out }
 {
     put_node(
-        source,
-        blob,
-        room,
+        fit,
         b" Configuration ",
-        number,
         configuration,
         NO_FACTS,
         &CONFIGURATION,
@@ -163,50 +142,39 @@ fn put_configuration<S: Source, A: Allocator, W: Write>(
 
 // Writes the lines of a node.
 fn put_listed<S: Source, A: Allocator, W: Write>(
-    source: &mut S,
-    blob: &Blob,
-    room: &mut Room<A>,
+    fit: &mut OpenFit<'_, S, A>,
     kind: Listed,
-    number: usize,
-    node: usize,
+    at: Numbered,
     out: &mut Out<W>,
 ) -> Result<(), MoveFault>
-    requires { HasNode (S.device source.old) blob.now room.old node }
-    ensures leaves { Leaves result S.device source room out }
-    ensures told { OfNode (S.device source.old) blob.now room.old (level_of kind) node
-        (λ found. Lists (node_allowance found) result S.device source out
-        (node_lines (S.device source.old).bytes kind number found)) }
+    requires { NodeIn S.device fit.old at.node }
+    ensures leaves { Leaves result S.device fit out }
+    ensures told { ListsNode kind at result S.device fit out }
 {
     match kind {
-        Listed::Image(naming, time) => {
-            put_image(source, blob, room, naming, time, number, node, out)
-        }
-        Listed::Configuration => put_configuration(source, blob, room, number, node, out),
+        Listed::Image(naming, time) => put_image(fit, naming, time, at, out),
+        Listed::Configuration => put_configuration(fit, at, out),
     }
 }
 
 // Writes the lines of the nodes from one on.
 pub(crate) fn put_listed_nodes<S: Source, A: Allocator, W: Write>(
-    source: &mut S,
-    blob: &Blob,
-    room: &mut Room<A>,
+    fit: &mut OpenFit<'_, S, A>,
     kind: Listed,
     first: Option<usize>,
     out: &mut Out<W>,
 ) -> Result<(), MoveFault>
-    requires { HasNodes (S.device source.old) blob.now room.old first }
-    ensures leaves { Leaves result S.device source room out }
-    ensures told { OfNodes (S.device source.old) blob.now room.old (level_of kind) first
-        (λ found. Lists (sum_by node_allowance found) result S.device source out
-        (numbered (node_lines (S.device source.old).bytes kind) 0 found)) }
+    requires { NodesIn S.device fit.old first }
+    ensures leaves { Leaves result S.device fit out }
+    ensures told { ListsNodes kind first result S.device fit out }
 {
     let mut next = first;
-    for number in 0..room.count() {
+    for number in 0..fit.room.count() {
         let Some(node) = next else {
             return Ok(());
         };
-        put_listed(source, blob, room, kind, number, node, out)?;
-        next = next_of(blob, room, node);
+        put_listed(fit, kind, Numbered { number, node }, out)?;
+        next = next_of(&fit.blob, fit.room, node);
     }
     Ok(())
 }

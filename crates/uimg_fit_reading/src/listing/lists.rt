@@ -1,7 +1,6 @@
 //! Prints values of several texts.
 
 ghost use Rattle.std.specs.Prelude.{◌≡◌, ◌+◌, ◌≤◌, ◌<◌, length, take, drop, IfOk};
-ghost use Rattle.uimg_texts.specs.Slices.{slice};
 ghost use Rattle.uimg_fit_reading.specs.Values.{pieces, in_span};
 ghost use Rattle.uimg_fit_reading.specs.Shows.{lines_of};
 ghost use Rattle.uimg_fit_reading.specs.Lists.{start_of, emitted, line_after, IsPiece};
@@ -97,21 +96,20 @@ fn put_texts<W: Write>(
 fn put_window<S: Source, W: Write>(
     source: &mut S,
     window: &mut [u8; WINDOW],
-    at: u64,
-    count: usize,
+    span: Span,
     label: &[u8],
     line: Line,
     out: &mut Out<W>,
 ) -> Result<Line, MoveFault>
-    requires range { at + count ≤ length (S.device source.old).bytes }
-    requires window { count ≤ 8192 }
+    requires range { span.place + span.length ≤ length (S.device source.old).bytes }
+    requires window { span.length ≤ 8192 }
     ensures line { IfHonest S.device source (λ file.
-        IfOk result (λ l. l ≡ line_after line (slice file at count))) }
-    ensures puts { PutsFrom count result S.device source out
-        (λ file. emitted label.now line (slice file at count)) }
+        IfOk result (λ l. l ≡ line_after line (in_span file span))) }
+    ensures puts { PutsFrom span.length result S.device source out
+        (λ file. emitted label.now line (in_span file span)) }
 {
-    let window = &mut window[..count];
-    read(source, at, window)?;
+    let window = &mut window[..span.length as usize];
+    read(source, span.place, window)?;
     put_texts(label, line, window, out)
 }
 
@@ -132,10 +130,12 @@ fn put_value<S: Source, W: Write>(
     let mut line = Line::First;
     let mut done = 0;
     while done < span.length {
-        let next = u64::min(span.length - done, WINDOW as u64);
-        let at = span.place + done;
-        line = put_window(source, window, at, next as usize, label, line, out)?;
-        done += next;
+        let part = Span {
+            place: span.place + done,
+            length: u64::min(span.length - done, WINDOW as u64),
+        };
+        line = put_window(source, window, part, label, line, out)?;
+        done += part.length;
     }
     Ok(line)
 }

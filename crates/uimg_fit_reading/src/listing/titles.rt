@@ -1,7 +1,7 @@
 //! The title of a node, and its rows.
 ghost use Rattle.std.specs.Prelude.{◌≡◌, ◌+◌, ◌≤◌, ◌++◌, length, decimal, codes, true};
 ghost use Rattle.std.specs.List.{list_all, sum_by};
-ghost use Rattle.uimg_fit_reading.specs.Nodes.{HasNode, OfAnyNode};
+ghost use Rattle.uimg_fit_reading.specs.OpenFits.{NodeIn, OfAnyNodeIn};
 ghost use Rattle.uimg_fit_reading.specs.Puts.{Leaves, Puts, PutsOwn};
 ghost use Rattle.uimg_fit_reading.specs.Rows.{keeps_row, row_cost, rows_lines, title};
 ghost use Rattle.uimg_fit_reading.specs.Telling.{Lists};
@@ -10,12 +10,19 @@ ghost use Rattle.uimg_fit_reading.specs.Values.{in_span};
 use crate::listing::fields::put_rows;
 use crate::listing::rows::{Facts, Row};
 use crate::nodes::name_of;
+use crate::open_fit::OpenFit;
 use crate::puts::{put, put_span};
 use itoa::Buffer;
 use std::alloc::Allocator;
 use std::io::Write;
 use uimg_base::{MoveFault, Out, Room, Source, Span};
-use uimg_blob_reading::Blob;
+
+/// A listed node: its number in the listing, and its number in the index.
+#[derive(Clone, Copy)]
+pub(crate) struct Numbered {
+    pub(crate) number: usize,
+    pub(crate) node: usize,
+}
 
 // Writes what comes before a node's name.
 fn put_number<W: Write>(out: &mut Out<W>, before: &[u8], number: usize) -> Result<(), MoveFault>
@@ -48,23 +55,21 @@ fn put_title<S: Source, A: Allocator, W: Write>(
 
 // Writes the title and the rows of a node.
 pub(crate) fn put_node<S: Source, A: Allocator, W: Write>(
-    source: &mut S,
-    blob: &Blob,
-    room: &mut Room<A>,
+    fit: &mut OpenFit<'_, S, A>,
     before: &[u8],
-    number: usize,
-    node: usize,
+    at: Numbered,
     facts: Facts,
     rows: &[Row],
     out: &mut Out<W>,
 ) -> Result<(), MoveFault>
-    requires { HasNode (S.device source.old) blob.now room.old node }
-    ensures leaves { Leaves result S.device source room out }
-    ensures told { OfAnyNode (S.device source.old) blob.now room.old node
+    requires { NodeIn S.device fit.old at.node }
+    ensures leaves { Leaves result S.device fit out }
+    ensures told { OfAnyNodeIn S.device fit.old at.node
         (λ level found. list_all (keeps_row level found.name) rows.now ≡ true →
-        Lists (255 + sum_by (row_cost found.own) rows.now) result S.device source out
-        (title before.now number found.name ++ rows_lines facts found.own rows.now)) }
+        Lists (255 + sum_by (row_cost found.own) rows.now) result S.device fit out
+        (title before.now at.number found.name ++ rows_lines facts found.own rows.now)) }
 {
-    put_title(source, room, before, number, name_of(blob, room, node), out)?;
-    put_rows(source, blob, room, node, facts, rows, out)
+    let name = name_of(&fit.blob, fit.room, at.node);
+    put_title(fit.source, fit.room, before, at.number, name, out)?;
+    put_rows(fit, at.node, facts, rows, out)
 }

@@ -4,10 +4,12 @@ ghost use Rattle.uimg_base.specs.Using.{Asks, Uses};
 ghost use Rattle.uimg_fit_base.specs.AlgoSets.{is_empty, set_of, AreDigests};
 ghost use Rattle.uimg_fit_reading.specs.HashReports.{FindsAlgos, FindsDigests};
 ghost use Rattle.uimg_fit_reading.specs.Nodes.{OfHashes, HasNodes};
+ghost use Rattle.uimg_fit_reading.specs.OpenFits.{file_of, Keeps, NodesIn};
 ghost use Rattle.uimg_fit_reading.specs.Plans.{with_plan};
 ghost use Rattle.uimg_fit_reading.specs.Values.{in_span};
 
 use crate::nodes::next_hash;
+use crate::open_fit::OpenFit;
 use crate::report::plans::{Plan, plan_at};
 use std::alloc::Allocator;
 use uimg_base::{Room, Source, SourceFault, Span, feed_through};
@@ -71,19 +73,15 @@ pub fn payload_digests<S: Source, A: Allocator>(
 
 // Returns the digests of a payload that the hash nodes from one on are compared with.
 pub(crate) fn compared_digests<S: Source, A: Allocator>(
-    source: &mut S,
-    blob: &Blob,
-    room: &mut Room<A>,
+    fit: &mut OpenFit<'_, S, A>,
     first: Option<usize>,
     span: Span,
 ) -> Result<Digests, SourceFault>
-    requires node { HasNodes (S.device source.old) blob.now room.old first }
-    requires payload { span.place + span.length ≤ length (S.device source.old).bytes }
-    ensures uses { Uses (is_err result) (S.device source.old) (S.device source.new) }
-    ensures room { room.new ≡ room.old }
-    ensures found { OfHashes (S.device source.old) blob.now room.old first
-        (λ hs. FindsDigests span hs result S.device source) }
+    requires node { NodesIn S.device fit.old first }
+    requires payload { span.place + span.length ≤ length (file_of S.device fit.old) }
+    ensures keeps { Keeps (is_err result) S.device fit }
+    ensures found { FindsDigests span first result S.device fit }
 {
-    let set = compared_algos(source, blob, room, first)?;
-    payload_digests(source, room, set, span)
+    let set = compared_algos(fit.source, &fit.blob, fit.room, first)?;
+    payload_digests(fit.source, fit.room, set, span)
 }

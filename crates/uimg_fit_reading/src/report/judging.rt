@@ -5,12 +5,14 @@ ghost use Rattle.uimg_fit_base.specs.AlgoSets.{set_of, AreDigests};
 ghost use Rattle.uimg_fit_base.specs.Report.{word_of};
 ghost use Rattle.uimg_fit_reading.specs.HashReports.{PutsHash, line_of};
 ghost use Rattle.uimg_fit_reading.specs.Nodes.{OfHash, HasNode};
+ghost use Rattle.uimg_fit_reading.specs.OpenFits.{file_of, NodeIn, OfHashIn};
 ghost use Rattle.uimg_fit_reading.specs.Plans.{IsCovered, algo_length, plan_of};
 ghost use Rattle.uimg_fit_reading.specs.Puts.{Leaves};
 ghost use Rattle.uimg_fit_reading.specs.Telling.{Lists};
 ghost use Rattle.uimg_fit_reading.specs.Values.{in_span};
 
 use crate::nodes::{name_of, value_of};
+use crate::open_fit::OpenFit;
 use crate::report::hash_lines::{HashLine, put_hash_line};
 use crate::report::plans::{judged, plan_at};
 use std::alloc::Allocator;
@@ -40,51 +42,44 @@ pub fn judge<S: Source, A: Allocator>(
 
 // Writes the line of a hash node with a word.
 fn put_judged<S: Source, A: Allocator, W: Write>(
-    source: &mut S,
-    blob: &Blob,
-    room: &mut Room<A>,
+    fit: &mut OpenFit<'_, S, A>,
     image: Span,
     hash: usize,
     word: Verdict,
     out: &mut Out<W>,
 ) -> Result<(), MoveFault>
-    requires node { HasNode (S.device source.old) blob.now room.old hash }
-    requires name { image.place + image.length ≤ length (S.device source.old).bytes }
-    ensures leaves { Leaves result S.device source room out }
-    ensures told { OfHash (S.device source.old) blob.now room.old hash
-        (λ found. Lists (image.length + 255 + algo_length found) result S.device source out
-        (line_of (in_span (S.device source.old).bytes image) word found)) }
+    requires node { NodeIn S.device fit.old hash }
+    requires name { image.place + image.length ≤ length (file_of S.device fit.old) }
+    ensures leaves { Leaves result S.device fit out }
+    ensures told { OfHashIn S.device fit.old hash
+        (λ found. Lists (image.length + 255 + algo_length found) result S.device fit out
+        (line_of (in_span (file_of S.device fit.old) image) word found)) }
 {
     let line = HashLine {
         image,
-        hash: name_of(blob, room, hash),
-        algo: value_of(blob, room, hash, Key::Algo),
+        hash: name_of(&fit.blob, fit.room, hash),
+        algo: value_of(&fit.blob, fit.room, hash, Key::Algo),
         word,
     };
-    put_hash_line(source, room, line, out)
+    put_hash_line(fit.source, fit.room, line, out)
 }
 
 // Writes the line of a hash node, and returns its word.
 pub(crate) fn put_hash<S: Source, A: Allocator, W: Write>(
-    source: &mut S,
-    blob: &Blob,
-    room: &mut Room<A>,
+    fit: &mut OpenFit<'_, S, A>,
     image: Span,
     hash: usize,
     digests: &Digests,
     out: &mut Out<W>,
 ) -> Result<Verdict, MoveFault>
-    requires node { HasNode (S.device source.old) blob.now room.old hash }
-    requires name { image.place + image.length ≤ length (S.device source.old).bytes }
-    ensures leaves { Leaves result S.device source room out }
-    ensures told { OfHash (S.device source.old) blob.now room.old hash (λ found.
-        (message : List ℕ) → AreDigests digests.now message →
-        IsCovered (set_of digests.now) (plan_of found) →
-        PutsHash image message found result S.device source out) }
+    requires node { NodeIn S.device fit.old hash }
+    requires name { image.place + image.length ≤ length (file_of S.device fit.old) }
+    ensures leaves { Leaves result S.device fit out }
+    ensures told { PutsHash image hash digests.now result S.device fit out }
 {
-    let Ok(word) = judge(source, blob, room, hash, digests) else {
+    let Ok(word) = judge(fit.source, &fit.blob, fit.room, hash, digests) else {
         return Err(MoveFault::Read);
     };
-    put_judged(source, blob, room, image, hash, word, out)?;
+    put_judged(fit, image, hash, word, out)?;
     Ok(word)
 }

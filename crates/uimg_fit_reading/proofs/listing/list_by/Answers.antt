@@ -1,4 +1,4 @@
-use Rattle.std.proofs.Common.{rules, ◌++◌, ℕ, List, length, Option, Bool, refl, IsTrue, codes, ap, sym, ◌∙◌, subst, arith}
+use Rattle.std.proofs.Common.{rules, ◌≤◌, ◌+◌, ◌++◌, ℕ, List, length, Option, Bool, refl, IsTrue, codes, ap, sym, ◌∙◌, subst, arith}
 use Rattle.std.specs.Option.{option_and_then}
 use Rattle.std.proofs.lemmas.Result.{err_from_is_err_and}
 use Rattle.uimg_base.specs.Held.{Held}
@@ -14,6 +14,7 @@ use Rattle.uimg_fit_base.specs.Files.{number, bytes_in, number_in, root_own}
 use Rattle.uimg_fit_reading.specs.Heads.{description_line, created_line}
 use Rattle.uimg_fit_reading.specs.Listing.{lists, list_of, head_lines}
 use Rattle.uimg_fit_reading.specs.Nodes.{HasTree}
+use Rattle.uimg_fit_reading.specs.Work.{list_work}
 use Rattle.uimg_fit_reading.proofs.ListingLaws.{head_is, list_is}
 use Rattle.uimg_fit_reading.proofs.SharesLaws.{one_text}
 use Rattle.uimg_fit_reading.proofs.TellingLaws.{read_same}
@@ -69,8 +70,9 @@ returns-clause-delivers g c = record {
   uses = record {
     same = search rules;
     failures = search rules;
-    asked = λ honest.
+    asked =
         let d = g.S.Source.device c.args.source.now in
+        let paid : IsTrue d.honest → (g.S.Source.device c.list_body.new.fit.source.now).asked ≤ d.asked + list_work d.bytes = λ honest.
         let file = d.bytes in
         let h : HasTree file c.in_ok-blob.blob c.read_tree.new.room.entries = c.in_ok-blob.ensures.gives honest in
         let t = h.nodes in
@@ -91,7 +93,8 @@ returns-clause-delivers g c = record {
         let read = read_same file (g.S.Source.device c.put_head.new.source).bytes c.in_ok-blob.blob _ c.put_head.new.room.entries t after_head (ap (λ (r : Held). r.entries) c.put_head.ensures.room) h.read in
         let e = end_of c.list_body.result in
         let body = c.list_body.ensures.told t (record { honest = honest_last; read = read }) time in
-        omega (arith, c.read_tree.ensures.inspects.uses.asked honest, c.cell.ensures.uses.asked, c.put_head.ensures.uses.asked, body.asked, size, few, body_allowed (spots t), paid file t h.read.is);
+        omega (arith, c.read_tree.ensures.inspects.uses.asked honest, c.cell.ensures.uses.asked, c.put_head.ensures.uses.asked, body.asked, size, few, body_allowed (spots t), paid file t h.read.is) in
+        search rules;
   };
   room = search rules;
   faults = search rules;

@@ -22,11 +22,11 @@ use Rattle.uimg_fit_reading.proofs.listing.put_configurations.Goals as goal
 pub returns-in_err-put_default-clause-told : goal.returns-in_err-put_default-clause-told
 returns-in_err-put_default-clause-told g c = λ t o.
     let failed = failed_of c.from_residual.result c.from_residual.ensures.0 in
-    let d = g.S.Source.device c.args.source.now in
+    let d = g.S.Source.device c.args.fit.now.source.now in
     let m = g.S.Source.device c.put_default.new.source in
     let h = c.in-Some.ensures.told t o.read.indexed in
-    let value = c.value_of.ensures.bytes d.bytes t o.read h.level h.found h.node h.keeps in
-    let size = value_size h.found.own (codes "default") _ (c.value_of.ensures.span t o.read.indexed h.level h.found h.node h.keeps) in
+    let value = c.value_of-default.ensures.bytes d.bytes t o.read h.level h.found h.node h.keeps in
+    let size = value_size h.found.own (codes "default") _ (c.value_of-default.ensures.span t o.read.indexed h.level h.found h.node h.keeps) in
     let few = one_text h.found.own (codes "default") refl in
     let told = subst (λ (v : Option (List ℕ)). Written true c.args.out.now c.put_default.new.out (default_line v)) (sym value) (c.in_err-put_default.ensures.told o.honest) in
     rw failed (subst (λ (o : Option (NodeOf Spot)). ListsBetween true (configurations_allowance o) d m c.args.out.now c.put_default.new.out (configurations_lines o)) (sym h.is)
@@ -37,15 +37,15 @@ returns-in_err-put_default-clause-told g c = λ t o.
 
 pub returns-clause-told : goal.returns-clause-told
 returns-clause-told g c = λ t o.
-    let d = g.S.Source.device c.args.source.now in
+    let d = g.S.Source.device c.args.fit.now.source.now in
     let m = g.S.Source.device c.put_default.new.source in
-    let f = g.S.Source.device c.put_listed_nodes.new.source in
+    let f = g.S.Source.device c.put_listed_nodes.new.fit.source.now in
     let e = is_err c.put_listed_nodes.result in
     let same = c.put_default.ensures.uses.same in
     let here = still same c.put_default.ensures.room o in
     let h = c.in-Some.ensures.told t o.read.indexed in
-    let value = c.value_of.ensures.bytes d.bytes t o.read h.level h.found h.node h.keeps in
-    let size = value_size h.found.own (codes "default") _ (c.value_of.ensures.span t o.read.indexed h.level h.found h.node h.keeps) in
+    let value = c.value_of-default.ensures.bytes d.bytes t o.read h.level h.found h.node h.keeps in
+    let size = value_size h.found.own (codes "default") _ (c.value_of-default.ensures.span t o.read.indexed h.level h.found h.node h.keeps) in
     let few = one_text h.found.own (codes "default") refl in
     let told = subst (λ (v : Option (List ℕ)). Written false c.args.out.now c.put_default.new.out (default_line v)) (sym value) (c.in_ok-put_default.ensures.told o.honest) in
     let head : ListsBetween false (760 + 4 * text_sizes h.found.own) d m c.args.out.now c.put_default.new.out (default_line (bytes_of h.found.own (codes "default"))) =
@@ -58,7 +58,7 @@ returns-clause-told g c = λ t o.
     (default_line (bytes_of h.found.own (codes "default"))) (numbered configuration_lines 0 (listed h.found.below)) head tail))
 
 pub returns-in_err-put_default-clause-leaves : goal.returns-in_err-put_default-clause-leaves
-returns-in_err-put_default-clause-leaves g c = leaves_stops _ _ _ _ _ _ _ _ c.from_residual.ensures.1 (puts_leave c.in_err-put_default.ensures)
+returns-in_err-put_default-clause-leaves g c = leaves_stops _ _ c.from_residual.ensures.1 (puts_leave (record { source = refl; blob = refl; room = refl }) c.in_err-put_default.ensures)
 
 pub returns-clause-leaves : goal.returns-clause-leaves
-returns-clause-leaves g c = leaves_then tt _ _ _ _ _ _ _ _ _ _ (puts_leave c.in_ok-put_default.ensures) c.put_listed_nodes.ensures.leaves
+returns-clause-leaves g c = leaves_then tt _ (puts_leave (record { source = refl; blob = refl; room = refl }) c.in_ok-put_default.ensures) c.put_listed_nodes.ensures.leaves

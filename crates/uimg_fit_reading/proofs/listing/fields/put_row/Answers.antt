@@ -7,7 +7,7 @@ use Rattle.uimg_fit_reading.proofs.listing.fields.put_row.Goals as goal
 
 pub returns-in-Property-clause-told : goal.returns-in-Property-clause-told
 returns-in-Property-clause-told g c = λ t o level found n kept.
-    let d = g.S.Source.device c.args.source.now in
+    let d = g.S.Source.device c.args.fit.now.source.now in
     let f = g.S.Source.device c.put_property.new.source in
     let e = is_err c.put_property.result in
     let keeps = subst (λ (r : Row). keeps_row level found.name r ≡ true) c.in-Property.is kept in

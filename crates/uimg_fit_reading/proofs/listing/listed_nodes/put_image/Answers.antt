@@ -17,5 +17,5 @@ returns-in-Ok-clause-told g c = λ t o found n.
     record {
       asked = omega (arith, told.asked, c.find_place.ensures.uses.asked, hashes_allowed found);
       written = subst (λ (o : Option ℕ). Written (is_err c.put_known_image.result) c.args.out.now c.put_known_image.new.out
-          (title (codes " Image ") c.args.number found.name ++ (rows_lines (record { time = c.args.time; size = o }) found.own (image_rows c.args.naming) ++ flat_map hash_lines (hashes found)))) size told.written;
+          (title (codes " Image ") c.args.image.number found.name ++ (rows_lines (record { time = c.args.time; size = o }) found.own (image_rows c.args.naming) ++ flat_map hash_lines (hashes found)))) size told.written;
     }

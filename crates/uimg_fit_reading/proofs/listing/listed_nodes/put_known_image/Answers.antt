@@ -10,10 +10,10 @@ use Rattle.uimg_fit_reading.specs.Allowances.{text_sizes, node_allowance}
 use Rattle.uimg_fit_reading.specs.Listing.{hash_lines}
 use Rattle.uimg_fit_reading.specs.Rows.{image_rows, keeps_row, row_cost, rows_lines, title}
 use Rattle.uimg_fit_reading.specs.Telling.{ListsBetween}
-use Rattle.uimg_fit_reading.proofs.OpenedLaws.{still}
 use Rattle.uimg_fit_reading.proofs.RowLaws.{name_cost, address_cost}
 use Rattle.uimg_fit_reading.proofs.SharesLaws.{one_text}
 use Rattle.uimg_fit_reading.proofs.TellingLaws.{then_lists, cut_lists, more_lists}
+use Rattle.uimg_fit_reading.proofs.OpenedLaws.{stays}
 use Rattle.uimg_fit_reading.proofs.PassedLaws.{failed_of, leaves_stops, leaves_then}
 use Rattle.uimg_fit_reading.proofs.listing.listed_nodes.put_known_image.Goals as goal
 
@@ -33,28 +33,28 @@ pub returns-in_err-put_node-clause-told : goal.returns-in_err-put_node-clause-to
 returns-in_err-put_node-clause-told g c = λ t o found n.
     let failed = failed_of c.from_residual.result c.from_residual.ensures.0 in
     let known = c.image_rows-rows.ensures in
-    let d = g.S.Source.device c.args.source.now in
-    let m = g.S.Source.device c.put_node.new.source in
+    let d = g.S.Source.device c.args.fit.now.source.now in
+    let m = g.S.Source.device c.put_node.new.fit.source.now in
     let head = more_lists true _ (748 + 4 * text_sizes found.own) d m c.args.out.now c.put_node.new.out _ (image_paid c.args.naming found) (rw known at (c.in_err-put_node.ensures.told t o in_images found n (ap (list_all (keeps_row in_images found.name)) known))) in
     rw failed (subst (λ (w : List ℕ). ListsBetween true (748 + 4 * text_sizes found.own + sum_by node_allowance (hashes found)) d m c.args.out.now c.put_node.new.out w)
-    (append_assoc (title (codes " Image ") c.args.number found.name) (rows_lines c.args.facts found.own (image_rows c.args.naming)) (flat_map hash_lines (hashes found)))
+    (append_assoc (title (codes " Image ") c.args.image.number found.name) (rows_lines c.args.facts found.own (image_rows c.args.naming)) (flat_map hash_lines (hashes found)))
     (cut_lists _ _ _ _ _ _ _ (flat_map hash_lines (hashes found)) head))
 
 pub returns-clause-told : goal.returns-clause-told
 returns-clause-told g c = λ t o found n.
     let known = c.image_rows-rows.ensures in
-    let d = g.S.Source.device c.args.source.now in
-    let m = g.S.Source.device c.put_node.new.source in
-    let f = g.S.Source.device c.put_hashes.new.source in
-    let here = still c.put_node.ensures.leaves.uses.same c.put_node.ensures.leaves.room o in
+    let d = g.S.Source.device c.args.fit.now.source.now in
+    let m = g.S.Source.device c.put_node.new.fit.source.now in
+    let f = g.S.Source.device c.put_hashes.new.fit.source.now in
+    let here = stays c.put_node.ensures.leaves.keeps o in
     let head = more_lists false _ (748 + 4 * text_sizes found.own) d m c.args.out.now c.put_node.new.out _ (image_paid c.args.naming found) (rw known at (c.in_ok-put_node.ensures.told t o in_images found n (ap (list_all (keeps_row in_images found.name)) known))) in
-    let tail = c.put_hashes.ensures.told t here (hashes found) (c.first_hash.ensures.hashes t here.read.indexed found n) in
+    let tail = c.put_hashes.ensures.told t here (hashes found) (c.first_hash-first.ensures.hashes t here.read.indexed found n) in
     subst (λ (w : List ℕ). ListsBetween (is_err c.put_hashes.result) (748 + 4 * text_sizes found.own + sum_by node_allowance (hashes found)) d f c.args.out.now c.put_hashes.new.out w)
-    (append_assoc (title (codes " Image ") c.args.number found.name) (rows_lines c.args.facts found.own (image_rows c.args.naming)) (flat_map hash_lines (hashes found)))
+    (append_assoc (title (codes " Image ") c.args.image.number found.name) (rows_lines c.args.facts found.own (image_rows c.args.naming)) (flat_map hash_lines (hashes found)))
     (then_lists (is_err c.put_hashes.result) _ _ _ _ _ _ _ _ _ _ head tail)
 
 pub returns-in_err-put_node-clause-leaves : goal.returns-in_err-put_node-clause-leaves
-returns-in_err-put_node-clause-leaves g c = leaves_stops _ _ _ _ _ _ _ _ c.from_residual.ensures.1 c.in_err-put_node.ensures.leaves
+returns-in_err-put_node-clause-leaves g c = leaves_stops _ _ c.from_residual.ensures.1 c.in_err-put_node.ensures.leaves
 
 pub returns-clause-leaves : goal.returns-clause-leaves
-returns-clause-leaves g c = leaves_then tt _ _ _ _ _ _ _ _ _ _ c.in_ok-put_node.ensures.leaves c.put_hashes.ensures.leaves
+returns-clause-leaves g c = leaves_then tt _ c.in_ok-put_node.ensures.leaves c.put_hashes.ensures.leaves

@@ -36,7 +36,7 @@ returns-in_err-line-clause-puts g c = record {
       let file = (g.S.Source.device c.args.source.now).bytes in
       let at = c.args.span.place in
       let done = c.loop-done.done in
-      let next = c.min-next.result in
+      let next = c.min.result in
       let all = c.args.span.length in
       let label = c.args.label.now in
       let now = subst (λ (b : Bool). IsTrue b) (sym same.honest) honest in
@@ -57,7 +57,7 @@ loop-done-preserved g c =
     let file = (g.S.Source.device c.args.source.now).bytes in
     let at = c.args.span.place in
     let done = c.loop-done.done in
-    let next = c.min-next.result in
+    let next = c.min.result in
     let label = c.args.label.now in
     record {
       bound = omega arith;

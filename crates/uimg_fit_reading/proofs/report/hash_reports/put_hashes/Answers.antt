@@ -4,17 +4,15 @@ use Rattle.uimg_base.specs.Writing.{Written}
 use Rattle.uimg_fit_base.specs.AlgoSets.{set_of}
 use Rattle.uimg_fit_base.specs.Report.{hash_line}
 use Rattle.uimg_fit_reading.specs.Nodes.{HashesAt}
-use Rattle.uimg_fit_reading.proofs.OpenedLaws.{still}
+use Rattle.uimg_fit_reading.proofs.OpenedLaws.{kept, kept_then, stays}
 use Rattle.uimg_fit_reading.proofs.HashReportLaws.{LinesLeft, lines_first, lines_more, lines_cut, lines_all, covered_first}
 use Rattle.uimg_fit_reading.proofs.PassedLaws.{failed_of, leaves_stops, leaves_then}
 use Rattle.uimg_fit_reading.proofs.report.hash_reports.put_hashes.Goals as goal
 
 pub loop-next-init : goal.loop-next-init
 loop-next-init g c = record {
-  same = record { bytes = refl; honest = refl };
-  failures = refl;
+  keeps = kept;
   faults = refl;
-  room = refl;
   within = search rules;
   left = λ t o hs at message are covered. lines_first t _ _ message c.args.image.length hs _ c.args.out.now c.args.first at covered;
 }
@@ -25,37 +23,35 @@ returns-in_err-word-clause-told g c = λ t o hs at message are covered.
     let image = c.args.image in
     let set = set_of c.args.digests.now in
     let k = c.loop-next.invariant.left t o hs at message are covered in
-    let same = c.loop-next.invariant.same in
-    let here = still same c.loop-next.invariant.room o in
+    let keeps = c.loop-next.invariant.keeps in
+    let here = stays keeps o in
     let f = subst (λ (x : Option ℕ). HashesAt t x k.left) c.in-Some.is k.at in
     let failed = failed_of c.from_residual.result c.from_residual.ensures.0 in
     let put = c.in_err-word.ensures.told t here f.hash f.more f.at message are (covered_first set k.left t c.in-Some.hash f k.covered).0 in
-    let written = subst (λ (xs : List ℕ). Written true c.loop-next.out c.put_hash.new.out (hash_line (slice xs image.place image.length) message f.hash)) same.bytes put.written in
+    let written = subst (λ (xs : List ℕ). Written true c.loop-next.out c.put_hash.new.out (hash_line (slice xs image.place image.length) message f.hash)) keeps.uses.same.bytes put.written in
     lines_cut t set _ message image.length hs _ _ c.args.out.now c.loop-next.out c.loop-next.are_right c.loop-next.next c.in-Some.hash k f c.put_hash.new.out _
     c.from_residual.result failed written put.paid
 
 pub loop-next-preserved : goal.loop-next-preserved
 loop-next-preserved g c = record {
-  same = record { bytes = c.put_hash.ensures.leaves.uses.same.bytes ∙ c.loop-next.invariant.same.bytes; honest = c.put_hash.ensures.leaves.uses.same.honest ∙ c.loop-next.invariant.same.honest };
-  failures = c.in_ok-word.ensures.leaves.uses.failures ∙ c.loop-next.invariant.failures;
+  keeps = kept_then c.loop-next.invariant.keeps c.in_ok-word.ensures.leaves.keeps;
   faults = c.in_ok-word.ensures.leaves.faults ∙ c.loop-next.invariant.faults;
-  room = c.put_hash.ensures.leaves.room ∙ c.loop-next.invariant.room;
   within = search rules;
   left = λ t o hs at message are covered.
       let d = g.S.Source.device in
       let image = c.args.image in
       let set = set_of c.args.digests.now in
       let k = c.loop-next.invariant.left t o hs at message are covered in
-      let same = c.loop-next.invariant.same in
-      let here = still same c.loop-next.invariant.room o in
+      let keeps = c.loop-next.invariant.keeps in
+      let here = stays keeps o in
       let f = subst (λ (x : Option ℕ). HashesAt t x k.left) c.in-Some.is k.at in
       let put = c.in_ok-word.ensures.told t here f.hash f.more f.at message are (covered_first set k.left t c.in-Some.hash f k.covered).0 in
-      let name = slice (d c.args.source.now).bytes image.place image.length in
-      let written = subst (λ (xs : List ℕ). Written false c.loop-next.out c.put_hash.new.out (hash_line (slice xs image.place image.length) message f.hash)) same.bytes put.written in
-      let indexed = (still c.put_hash.ensures.leaves.uses.same c.put_hash.ensures.leaves.room here).read.indexed in
+      let name = slice (d c.args.fit.now.source.now).bytes image.place image.length in
+      let written = subst (λ (xs : List ℕ). Written false c.loop-next.out c.put_hash.new.out (hash_line (slice xs image.place image.length) message f.hash)) keeps.uses.same.bytes put.written in
+      let indexed = (stays c.put_hash.ensures.leaves.keeps here).read.indexed in
       let more = lines_more t set name message image.length hs _ _ c.args.out.now c.loop-next.out c.loop-next.are_right c.loop-next.next c.in-Some.hash k f c.in_ok-word.word c.put_hash.new.out c.next_hash-next.result _
       put.word written put.paid (c.next_hash-next.ensures.hashes t indexed f.hash f.more f.at) in
-      subst (λ (b : Bool). LinesLeft t set name message image.length hs (d c.args.source.now).asked (d c.put_hash.new.source).asked c.args.out.now c.put_hash.new.out (c.loop-next.are_right && b) c.next_hash-next.result)
+      subst (λ (b : Bool). LinesLeft t set name message image.length hs (d c.args.fit.now.source.now).asked (d c.put_hash.new.fit.source.now).asked c.args.out.now c.put_hash.new.out (c.loop-next.are_right && b) c.next_hash-next.result)
       (sym c.is_right-are_right.ensures) more;
 }
 
@@ -67,5 +63,5 @@ returns-clause-told g c = λ t o hs at message are covered.
 pub returns-in_err-word-clause-leaves : goal.returns-in_err-word-clause-leaves
 returns-in_err-word-clause-leaves g c =
     let k = c.loop-next.invariant in
-    leaves_stops _ _ _ _ _ _ _ _ c.from_residual.ensures.1
-    (leaves_then {X = Unit} tt (Err c.in_err-word.field-0.0) _ _ _ _ _ _ _ _ _ (record { uses = record { same = k.same; failures = k.failures }; room = k.room; faults = k.faults }) c.in_err-word.ensures.leaves)
+    leaves_stops _ _ c.from_residual.ensures.1
+    (leaves_then {X = Unit} tt (Err c.in_err-word.field-0.0) (record { keeps = k.keeps; faults = k.faults }) c.in_err-word.ensures.leaves)

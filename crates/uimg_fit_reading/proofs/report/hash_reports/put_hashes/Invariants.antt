@@ -1,13 +1,12 @@
-use Rattle.std.proofs.Common.{◌≡◌, ◌-◌, ◌<◌, ℕ, List, length, IfSome}
+use Rattle.std.proofs.Common.{◌≡◌, ◌-◌, ◌<◌, ℕ, List, length, IfSome, false}
 use Rattle.std.specs.Option.{option_map_or}
 use Rattle.uimg_texts.specs.Slices.{slice}
-use Rattle.uimg_base.specs.Device.{SameDevice}
-use Rattle.uimg_blob_reading.specs.Grammar.{Siblings}
 use Rattle.uimg_blob_reading.specs.LookUps.{NodeOf}
 use Rattle.uimg_blob_reading.specs.Spots.{Spot}
 use Rattle.uimg_fit_base.specs.AlgoSets.{set_of, AreDigests}
 use Rattle.uimg_fit_reading.specs.HashReports.{AllCovered}
-use Rattle.uimg_fit_reading.specs.Nodes.{Opened, HashesAt}
+use Rattle.uimg_fit_reading.specs.Nodes.{HashesAt}
+use Rattle.uimg_fit_reading.specs.OpenFits.{file_of, OfTreeIn, KeepsBetween}
 use Rattle.uimg_fit_reading.proofs.HashReportLaws.{LinesLeft}
 use Rattle.uimg_fit_reading.proofs.report.hash_reports.put_hashes.Given as goal
 
@@ -15,18 +14,16 @@ use Rattle.uimg_fit_reading.proofs.report.hash_reports.put_hashes.Given as goal
 abbrev pub invariant-loop-next : goal.invariant-loop-next
 invariant-loop-next g l =
     let device = g.S.Source.device in
-    let file = (device l.fn.source).bytes in
+    let file = file_of device l.fn.fit in
     record {
-      same : SameDevice (device l.fn.source) (device l.source);
-      failures : (device l.source).failures ≡ (device l.fn.source).failures;
+      keeps : KeepsBetween false device l.fn.fit l.fit;
       faults : l.out.faults ≡ l.fn.out.faults;
-      room : l.room ≡ l.fn.room;
-      within : IfSome l.next (λ i. i < length l.fn.room.entries);
-      left : (t : Siblings) → Opened (device l.fn.source) l.blob l.fn.room t → (hs : List (NodeOf Spot)) → HashesAt t l.fn.first hs
+      within : IfSome l.next (λ i. i < length l.fn.fit.room.now.entries);
+      left : OfTreeIn device l.fn.fit (λ t. (hs : List (NodeOf Spot)) → HashesAt t l.fn.first hs
           → (message : List ℕ) → AreDigests l.digests message → AllCovered (set_of l.digests) hs
           → LinesLeft t (set_of l.digests) (slice file l.image.place l.image.length) message l.image.length hs
-          (device l.fn.source).asked (device l.source).asked l.fn.out l.out l.are_right l.next;
+          (device l.fn.fit.source.now).asked (device l.fit.source.now).asked l.fn.out l.out l.are_right l.next);
     }
 
 abbrev pub decreases-loop-next : goal.decreases-loop-next
-decreases-loop-next g l = option_map_or (λ i. length l.fn.room.entries - i) l.next 0
+decreases-loop-next g l = option_map_or (λ i. length l.fn.fit.room.now.entries - i) l.next 0

@@ -7,7 +7,7 @@ use Rattle.uimg_blob_reading.specs.Spots.{Spot}
 use Rattle.uimg_fit_base.specs.declared.fault.Fault.{Fault}
 use Rattle.uimg_fit_reading.specs.ImageReports.{ImageDone, ImageCut, ReportsImagesBetween}
 use Rattle.uimg_fit_reading.specs.Nodes.{AreFrom}
-use Rattle.uimg_fit_reading.proofs.OpenedLaws.{still}
+use Rattle.uimg_fit_reading.proofs.OpenedLaws.{kept, kept_then, stays}
 use Rattle.uimg_fit_reading.proofs.ImageLaws.{front}
 use Rattle.uimg_fit_reading.proofs.ImageReportLaws.{all_images, images_more, images_cut, images_done}
 use Rattle.uimg_fit_reading.proofs.PassedLaws.{passed_on}
@@ -15,33 +15,29 @@ use Rattle.uimg_fit_reading.proofs.report.image_reports.report_images.Goals as g
 
 pub loop-next-init : goal.loop-next-init
 loop-next-init g c = record {
-  same = record { bytes = refl; honest = refl };
-  failures = refl;
+  keeps = kept;
   faults = refl;
-  room = refl;
   within = search rules;
-  left = λ t o found from. all_images t (g.S.Source.device c.args.source.now).bytes found _ c.args.out.now c.args.first from;
+  left = λ t o found from. all_images t (g.S.Source.device c.args.fit.now.source.now).bytes found _ c.args.out.now c.args.first from;
 }
 
 pub loop-next-preserved : goal.loop-next-preserved
 loop-next-preserved g c = record {
-  same = record { bytes = c.report_image.ensures.leaves.uses.same.bytes ∙ c.loop-next.invariant.same.bytes; honest = c.report_image.ensures.leaves.uses.same.honest ∙ c.loop-next.invariant.same.honest };
-  failures = c.in_ok-right.ensures.leaves.uses.failures ∙ c.loop-next.invariant.failures;
+  keeps = kept_then c.loop-next.invariant.keeps c.in_ok-right.ensures.leaves.keeps;
   faults = c.in_ok-right.ensures.leaves.faults ∙ c.loop-next.invariant.faults;
-  room = c.report_image.ensures.leaves.room ∙ c.loop-next.invariant.room;
   within = search rules;
   left = λ t o found from.
       let d = g.S.Source.device in
-      let file = (d c.args.source.now).bytes in
+      let file = (d c.args.fit.now.source.now).bytes in
       let k = c.loop-next.invariant.left t o found from in
-      let same = c.loop-next.invariant.same in
-      let here = still same c.loop-next.invariant.room o in
+      let keeps = c.loop-next.invariant.keeps in
+      let here = stays keeps o in
       let start = subst (λ (x : Option ℕ). AreFrom t in_images x k.left) c.in-Some.is k.from in
       let f = front t in_images c.in-Some.image k.left start in
-      let told = subst (λ (xs : List ℕ). ImageDone xs f.image (d c.loop-next.source).asked (d c.report_image.new.source).asked c.in_ok-right.right c.loop-next.out c.report_image.new.out) same.bytes
+      let told = subst (λ (xs : List ℕ). ImageDone xs f.image (d c.loop-next.fit.source.now).asked (d c.report_image.new.fit.source.now).asked c.in_ok-right.right c.loop-next.out c.report_image.new.out) keeps.uses.same.bytes
       (c.in_ok-right.ensures.told t here f.image f.node) in
-      let indexed = (still c.report_image.ensures.leaves.uses.same c.report_image.ensures.leaves.room here).read.indexed in
-      images_more t file found (d c.args.source.now).asked (d c.loop-next.source).asked c.args.out.now c.loop-next.out c.loop-next.are_right c.loop-next.next k
+      let indexed = (stays c.report_image.ensures.leaves.keeps here).read.indexed in
+      images_more t file found (d c.args.fit.now.source.now).asked (d c.loop-next.fit.source.now).asked c.args.out.now c.loop-next.out c.loop-next.are_right c.loop-next.next k
       f.image f.more f.are _ c.report_image.new.out c.next_of-next.result c.in_ok-right.right told
       (c.next_of-next.ensures.next t indexed in_images f.image f.more (subst (λ (l : List (NodeOf Spot)). AreFrom t in_images (Some c.in-Some.image) l) f.are start));
 }
@@ -49,16 +45,16 @@ loop-next-preserved g c = record {
 pub returns-in_err-right-clause-told : goal.returns-in_err-right-clause-told
 returns-in_err-right-clause-told g c = λ t o found from.
     let d = g.S.Source.device in
-    let file = (d c.args.source.now).bytes in
+    let file = (d c.args.fit.now.source.now).bytes in
     let k = c.loop-next.invariant.left t o found from in
-    let same = c.loop-next.invariant.same in
+    let keeps = c.loop-next.invariant.keeps in
     let fault = c.in_err-right.field-0.0 in
     let is : c.from_residual.result ≡ Err fault = passed_on c.from_residual.result fault c.from_residual.ensures.1 in
     let f = front t in_images c.in-Some.image k.left (subst (λ (x : Option ℕ). AreFrom t in_images x k.left) c.in-Some.is k.from) in
-    let cut = subst (λ (xs : List ℕ). ImageCut xs f.image (d c.loop-next.source).asked (d c.report_image.new.source).asked fault c.loop-next.out c.report_image.new.out) same.bytes
-    (c.in_err-right.ensures.told t (still same c.loop-next.invariant.room o) f.image f.node) in
-    subst (λ (r : Result Status Fault). ReportsImagesBetween file found (d c.args.source.now).asked (d c.report_image.new.source).asked r c.args.out.now c.report_image.new.out) (sym is)
-    (images_cut t file found (d c.args.source.now).asked (d c.loop-next.source).asked c.args.out.now c.loop-next.out c.loop-next.are_right c.loop-next.next k
+    let cut = subst (λ (xs : List ℕ). ImageCut xs f.image (d c.loop-next.fit.source.now).asked (d c.report_image.new.fit.source.now).asked fault c.loop-next.out c.report_image.new.out) keeps.uses.same.bytes
+    (c.in_err-right.ensures.told t (stays keeps o) f.image f.node) in
+    subst (λ (r : Result Status Fault). ReportsImagesBetween file found (d c.args.fit.now.source.now).asked (d c.report_image.new.fit.source.now).asked r c.args.out.now c.report_image.new.out) (sym is)
+    (images_cut t file found (d c.args.fit.now.source.now).asked (d c.loop-next.fit.source.now).asked c.args.out.now c.loop-next.out c.loop-next.are_right c.loop-next.next k
     f.image f.more f.are _ fault c.report_image.new.out cut)
 
 pub returns-clause-told : goal.returns-clause-told

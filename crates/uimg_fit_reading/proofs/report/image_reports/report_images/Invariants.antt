@@ -1,11 +1,10 @@
-use Rattle.std.proofs.Common.{◌≡◌, ◌-◌, ◌<◌, List, length, IfSome}
+use Rattle.std.proofs.Common.{◌≡◌, ◌-◌, ◌<◌, List, length, IfSome, false}
 use Rattle.std.specs.Option.{option_map_or}
-use Rattle.uimg_base.specs.Device.{SameDevice}
-use Rattle.uimg_blob_reading.specs.Grammar.{Siblings}
 use Rattle.uimg_blob_reading.specs.LookUps.{NodeOf}
 use Rattle.uimg_blob_reading.specs.Roles.{in_images}
 use Rattle.uimg_blob_reading.specs.Spots.{Spot}
-use Rattle.uimg_fit_reading.specs.Nodes.{Opened, AreFrom}
+use Rattle.uimg_fit_reading.specs.Nodes.{AreFrom}
+use Rattle.uimg_fit_reading.specs.OpenFits.{file_of, OfTreeIn, KeepsBetween}
 use Rattle.uimg_fit_reading.proofs.ImageReportLaws.{ImagesLeft}
 use Rattle.uimg_fit_reading.proofs.report.image_reports.report_images.Given as goal
 
@@ -13,16 +12,13 @@ use Rattle.uimg_fit_reading.proofs.report.image_reports.report_images.Given as g
 abbrev pub invariant-loop-next : goal.invariant-loop-next
 invariant-loop-next g l =
     let device = g.S.Source.device in
-    let file = (device l.fn.source).bytes in
     record {
-      same : SameDevice (device l.fn.source) (device l.source);
-      failures : (device l.source).failures ≡ (device l.fn.source).failures;
+      keeps : KeepsBetween false device l.fn.fit l.fit;
       faults : l.out.faults ≡ l.fn.out.faults;
-      room : l.room ≡ l.fn.room;
-      within : IfSome l.next (λ i. i < length l.fn.room.entries);
-      left : (t : Siblings) → Opened (device l.fn.source) l.blob l.fn.room t → (found : List (NodeOf Spot)) → AreFrom t in_images l.fn.first found
-          → ImagesLeft t file found (device l.fn.source).asked (device l.source).asked l.fn.out l.out l.are_right l.next;
+      within : IfSome l.next (λ i. i < length l.fn.fit.room.now.entries);
+      left : OfTreeIn device l.fn.fit (λ t. (found : List (NodeOf Spot)) → AreFrom t in_images l.fn.first found
+          → ImagesLeft t (file_of device l.fn.fit) found (device l.fn.fit.source.now).asked (device l.fit.source.now).asked l.fn.out l.out l.are_right l.next);
     }
 
 abbrev pub decreases-loop-next : goal.decreases-loop-next
-decreases-loop-next g l = option_map_or (λ i. length l.fn.room.entries - i) l.next 0
+decreases-loop-next g l = option_map_or (λ i. length l.fn.fit.room.now.entries - i) l.next 0

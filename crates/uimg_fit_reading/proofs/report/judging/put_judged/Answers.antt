@@ -8,7 +8,7 @@ use Rattle.uimg_fit_reading.proofs.report.judging.put_judged.Goals as goal
 
 pub returns-clause-told : goal.returns-clause-told
 returns-clause-told g c = λ t o found more at.
-    let file = (g.S.Source.device c.args.source.now).bytes in
+    let file = (g.S.Source.device c.args.fit.now.source.now).bytes in
     let name = c.name_of.ensures.name file t o.read in_image found at.node in
     let algo = c.value_of.ensures.bytes file t o.read in_image found at.node (keeps_algo found.name at.named) in
     let inside = c.value_of.ensures.inside (length file) c.requires.node.file in
