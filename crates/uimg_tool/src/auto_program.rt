@@ -2,7 +2,7 @@
 
 use crate::main_program::{FAILED, RequestFault};
 use crate::old_program::{make_image, tell, tell_unread};
-use crate::old_tools::Tool;
+use crate::old_tools::{Called, Tool};
 use crate::safe_path::unused_beside;
 use std::fs;
 use std::io::{BufWriter, Write};
@@ -60,7 +60,8 @@ fn make_of_text<R: Files + AllocGlobal, W: Write, V: Write>(
     match made {
         Ok(mut making) => {
             making.manner = request.manner;
-            make_image(rt, tool, making, request.is_quiet, out, err)
+            let is_quiet = request.is_quiet;
+            make_image(rt, Called { tool, is_quiet }, making, out, err)
         }
         Err(_) => tell(tool, err, &OldFault::OutOfMemory, FAILED),
     }

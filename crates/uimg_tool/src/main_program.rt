@@ -4,7 +4,7 @@ use crate::check_program::check_images;
 use crate::info_program::tell_facts;
 use crate::making::make_image;
 use crate::map_program::map_image;
-use crate::old_program::program_by_old_name;
+use crate::old_program::{carry_out_old, read_old_words};
 use crate::old_tools::Tool;
 use crate::unpack_program::unpack_image;
 use std::fmt::Display;
@@ -77,7 +77,8 @@ pub fn program<R: Files + AllocGlobal, W: Write, V: Write>(
     err: &mut V,
 ) -> u8 {
     if let Some(tool) = words.first().and_then(|word| Tool::of_path(word)) {
-        return program_by_old_name(rt, tool, words, epoch, now, out, err);
+        let asked = read_old_words(rt.alloc(), tool, words, epoch, now);
+        return carry_out_old(rt, tool, asked, out, err);
     }
     match read_words(rt.alloc(), words, epoch, now) {
         Ok(asked) => carry_out_asked(rt, &asked, out, err),

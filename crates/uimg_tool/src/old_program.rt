@@ -4,9 +4,10 @@ use crate::auto_program::make_auto;
 use crate::main_program::{
     DONE, FAILED, REFUSED, RequestFault, WRONG_LINE, carry_out, carry_out_apart, status_of,
 };
-use crate::old_tools::Tool;
+use crate::old_tools::{Called, Tool};
 use crate::safe_path::{SafePath, Writing, writing_of};
 use crate::source_warnings::warn_of_source;
+use std::alloc::Global;
 use std::fmt::Display;
 use std::io::Write;
 use std::rt::Files;
@@ -18,30 +19,39 @@ use uimg_engine::Fault;
 use uimg_names::Field;
 use uimg_requests::{MakeRequest, RunRequest, VERSION};
 
-/// Carries out the words of a command line, the program's name first, as this tool of U-Boot
-/// 2023.01 takes them, and returns the exit status. An image is written to a new file and gets its
-/// name when it is complete, unless something exists there that is not a regular file.
-pub(crate) fn program_by_old_name<R: Files + AllocGlobal, W: Write, V: Write>(
-    rt: &R,
+/// Takes the words of a command line, the program's name first, as this tool of U-Boot 2023.01
+/// does.
+pub(crate) fn read_old_words<'a>(
+    alloc: Global,
     tool: Tool,
-    words: &[&str],
+    words: &'a [&'a str],
     epoch: Option<&str>,
     now: u32,
+) -> Result<OldRequest<'a>, OldFault<'a>> {
+    let words = words.get(1..).unwrap_or(&[]);
+    match tool {
+        Tool::Mkimage => read_mkimage(alloc, words, epoch, now),
+        Tool::Dumpimage => read_dumpimage(alloc, words),
+    }
+}
+
+/// Carries out what a tool's command line requests, and returns the exit status. An image is written
+/// to a new file and gets its name when it is complete, unless something exists there that is not a
+/// regular file.
+pub(crate) fn carry_out_old<R: Files + AllocGlobal, W: Write, V: Write>(
+    rt: &R,
+    tool: Tool,
+    asked: Result<OldRequest<'_>, OldFault<'_>>,
     out: &mut W,
     err: &mut V,
 ) -> u8 {
-    let words = words.get(1..).unwrap_or(&[]);
-    let asked = match tool {
-        Tool::Mkimage => read_mkimage(rt.alloc(), words, epoch, now),
-        Tool::Dumpimage => read_dumpimage(rt.alloc(), words),
-    };
     match asked {
         Ok(OldRequest::Run { request, is_quiet }) => {
-            run_command(rt, tool, request, is_quiet, out, err)
+            run_command(rt, Called { tool, is_quiet }, request, out, err)
         }
         Ok(OldRequest::Make { request, is_quiet }) => {
             warn_of_source(rt, &request, err);
-            make_image(rt, tool, request, is_quiet, out, err)
+            make_image(rt, Called { tool, is_quiet }, request, out, err)
         }
         Ok(OldRequest::MakeAuto(request)) => make_auto(rt, tool, &request, out, err),
         Ok(OldRequest::Show(show)) => show_text(tool, show, out, err),
@@ -54,19 +64,17 @@ pub(crate) fn program_by_old_name<R: Files + AllocGlobal, W: Write, V: Write>(
 // is complete.
 fn run_command<R: Files + AllocGlobal, W: Write, V: Write>(
     rt: &R,
-    tool: Tool,
+    called: Called,
     request: RunRequest<'_>,
-    is_quiet: bool,
     out: &mut W,
     err: &mut V,
 ) -> u8 {
+    let tool = called.tool;
     let Some(outfile) = request.outfile else {
-        return run_in_place(rt, tool, request, is_quiet, out, err);
+        return run_in_place(rt, called, request, out, err);
     };
     match writing_of(rt, outfile) {
-        Ok(Writing::InPlace | Writing::Pipe) => {
-            run_in_place(rt, tool, request, is_quiet, out, err)
-        }
+        Ok(Writing::InPlace | Writing::Pipe) => run_in_place(rt, called, request, out, err),
         Ok(Writing::Beside(path)) => run_beside(rt, tool, request, &path, out, err),
         Ok(Writing::Nowhere) => tell(tool, err, &OldFault::NamesTaken(outfile), FAILED),
         Err(_) => tell(tool, err, &OldFault::OutOfMemory, FAILED),
@@ -75,16 +83,15 @@ fn run_command<R: Files + AllocGlobal, W: Write, V: Write>(
 
 fn run_in_place<R: Files + AllocGlobal, W: Write, V: Write>(
     rt: &R,
-    tool: Tool,
+    called: Called,
     request: RunRequest<'_>,
-    is_quiet: bool,
     out: &mut W,
     err: &mut V,
 ) -> u8 {
     let image = request.image;
     let request = Request::Run(request);
-    let end = carry_out_by(rt, &request, is_quiet, out);
-    tell_end(rt, tool, &end, image, err)
+    let end = carry_out_by(rt, &request, called.is_quiet, out);
+    tell_end(rt, called.tool, &end, image, err)
 }
 
 fn run_beside<'a, R: Files + AllocGlobal, W: Write, V: Write>(
@@ -105,20 +112,20 @@ fn run_beside<'a, R: Files + AllocGlobal, W: Write, V: Write>(
 /// Makes an image beside its name, which it gets when it is complete.
 pub(crate) fn make_image<R: Files + AllocGlobal, W: Write, V: Write>(
     rt: &R,
-    tool: Tool,
+    called: Called,
     request: MakeRequest<'_>,
-    is_quiet: bool,
     out: &mut W,
     err: &mut V,
 ) -> u8 {
+    let tool = called.tool;
     match writing_of(rt, request.outfile) {
         Ok(Writing::InPlace) => {
             let outfile = request.outfile;
             let request = Request::Make(request);
-            let end = carry_out_by(rt, &request, is_quiet, out);
+            let end = carry_out_by(rt, &request, called.is_quiet, out);
             tell_end(rt, tool, &end, outfile, err)
         }
-        Ok(Writing::Beside(path)) => make_beside(rt, tool, request, &path, is_quiet, out, err),
+        Ok(Writing::Beside(path)) => make_beside(rt, called, request, &path, out, err),
         Ok(Writing::Pipe) => tell(tool, err, &OldFault::MadeAsPipe(request.outfile), FAILED),
         Ok(Writing::Nowhere) => tell(tool, err, &OldFault::NamesTaken(request.outfile), FAILED),
         Err(_) => tell(tool, err, &OldFault::OutOfMemory, FAILED),
@@ -128,17 +135,16 @@ pub(crate) fn make_image<R: Files + AllocGlobal, W: Write, V: Write>(
 // Makes an image at one path, and moves it to another, even if its listing could not be printed.
 fn make_beside<'a, R: Files + AllocGlobal, W: Write, V: Write>(
     rt: &'a R,
-    tool: Tool,
+    called: Called,
     mut request: MakeRequest<'a>,
     path: &'a SafePath,
-    is_quiet: bool,
     out: &mut W,
     err: &mut V,
 ) -> u8 {
     let (source, outfile) = (request.source, request.outfile);
     request.written = path.new.as_str();
     let request = Request::Make(request);
-    let (end, is_printed) = if is_quiet {
+    let (end, is_printed) = if called.is_quiet {
         carry_out_apart(rt, &request, &mut io::sink())
     } else {
         carry_out_apart(rt, &request, out)
@@ -147,8 +153,8 @@ fn make_beside<'a, R: Files + AllocGlobal, W: Write, V: Write>(
         Err(RequestFault::Stopped(Fault::Its(_))) => source,
         _ => outfile,
     };
-    match tell_written(rt, tool, path, &end, about, err) {
-        DONE if !is_printed => tell(tool, err, &Fault::Put, FAILED),
+    match tell_written(rt, called.tool, path, &end, about, err) {
+        DONE if !is_printed => tell(called.tool, err, &Fault::Put, FAILED),
         status => status,
     }
 }

@@ -7,6 +7,13 @@ pub(crate) enum Tool {
     Dumpimage,
 }
 
+/// A tool whose command line is carried out, and whether it prints nothing.
+#[derive(Clone, Copy, Debug, PartialEq, Eq)]
+pub(crate) struct Called {
+    pub(crate) tool: Tool,
+    pub(crate) is_quiet: bool,
+}
+
 impl Tool {
     /// Returns the tool whose name comes after the last slash of a program's path.
     pub(crate) fn of_path(path: &str) -> Option<Tool> {
