@@ -19,7 +19,8 @@ use Rattle.uimg_fit_base.specs.declared.verdicts.Verdict.{Verdict}
 use Rattle.uimg_fit_base.specs.AlgoSets.{no_algos, set_of, AreDigests}
 use Rattle.uimg_fit_base.specs.Report.{algo_of, word_text, word_of, hash_line, are_right}
 use Rattle.uimg_fit_reading.specs.declared.open_fit.OpenFit.{OpenFit}
-use Rattle.uimg_fit_reading.specs.OpenFits.{file_of, OfHashIn, OfHashesIn}
+use Rattle.uimg_fit_reading.specs.Nodes.{OfHash, OfHashes}
+use Rattle.uimg_fit_reading.specs.OpenFits.{file_of, InFit}
 use Rattle.uimg_fit_reading.specs.Values.{in_span}
 use Rattle.uimg_fit_reading.specs.Plans.{IsCovered, are_compared, with_all, plan_of, algo_length}
 
@@ -56,7 +57,7 @@ pub record FindsDigestsBetween (message : List ℕ) (size : ℕ) (hs : List (Nod
 -- The same of the hash nodes from a number on.
 abbrev pub FindsDigests : {S A : Type 0} → Span → Option ℕ → Result Digests SourceFault
     → (S → Device) → Lent (OpenFit S A) → Type 0
-FindsDigests payload first result device fit = OfHashesIn device fit.entry.now first
+FindsDigests payload first result device fit = InFit device fit.entry.now OfHashes first
     (λ hs. FindsDigestsBetween (in_span (file_of device fit.entry.now) payload) payload.length hs
     (device fit.entry.now.source.now).asked (device fit.exit.now.source.now).asked result)
 
@@ -76,7 +77,7 @@ pub record PutsHashBetween (name message : List ℕ) (n : ℕ) (hash : NodeOf Sp
 -- The same of the hash node at a number, by digests of a message.
 abbrev pub PutsHash : {S A : Type 0} → Span → ℕ → Digests → Result Verdict MoveFault
     → (S → Device) → Lent (OpenFit S A) → Lent Sink → Type 0
-PutsHash image number digests result device fit out = OfHashIn device fit.entry.now number
+PutsHash image number digests result device fit out = InFit device fit.entry.now OfHash number
     (λ hash. (message : List ℕ) → AreDigests digests message
     → IsCovered (set_of digests) (plan_of hash)
     → PutsHashBetween (in_span (file_of device fit.entry.now) image) message image.length hash
@@ -93,7 +94,7 @@ pub record PutsHashesBetween (name message : List ℕ) (n : ℕ) (hs : List (Nod
 -- The same of the hash nodes from a number on, by digests of a message.
 abbrev pub PutsHashes : {S A : Type 0} → Span → Option ℕ → Digests → Result Bool MoveFault
     → (S → Device) → Lent (OpenFit S A) → Lent Sink → Type 0
-PutsHashes image first digests result device fit out = OfHashesIn device fit.entry.now first
+PutsHashes image first digests result device fit out = InFit device fit.entry.now OfHashes first
     (λ hs. (message : List ℕ) → AreDigests digests message → AllCovered (set_of digests) hs
     → PutsHashesBetween (in_span (file_of device fit.entry.now) image) message image.length hs
     (device fit.entry.now.source.now).asked (device fit.exit.now.source.now).asked result
@@ -109,7 +110,7 @@ pub record ReportsHashesBetween (name message : List ℕ) (size n : ℕ) (hs : L
 -- The same of the hash nodes from a number on.
 abbrev pub ReportsHashes : {S A : Type 0} → Span → Span → Option ℕ → Result Bool MoveFault
     → (S → Device) → Lent (OpenFit S A) → Lent Sink → Type 0
-ReportsHashes image payload first result device fit out = OfHashesIn device fit.entry.now first
+ReportsHashes image payload first result device fit out = InFit device fit.entry.now OfHashes first
     (λ hs. ReportsHashesBetween (in_span (file_of device fit.entry.now) image)
     (in_span (file_of device fit.entry.now) payload) payload.length image.length hs
     (device fit.entry.now.source.now).asked (device fit.exit.now.source.now).asked result

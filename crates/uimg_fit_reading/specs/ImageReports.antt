@@ -16,7 +16,8 @@ use Rattle.uimg_blob_reading.specs.Roles.{in_images}
 use Rattle.uimg_blob_reading.specs.Spots.{Spot}
 use Rattle.uimg_fit_base.specs.declared.fault.Fault.{Fault}
 use Rattle.uimg_fit_reading.specs.declared.open_fit.OpenFit.{OpenFit}
-use Rattle.uimg_fit_reading.specs.OpenFits.{file_of, OfNodeIn, OfNodesIn}
+use Rattle.uimg_fit_reading.specs.Nodes.{OfNode, OfNodes}
+use Rattle.uimg_fit_reading.specs.OpenFits.{file_of, InFit}
 use Rattle.uimg_fit_reading.specs.Values.{in_span}
 use Rattle.uimg_fit_reading.specs.Allowances.{node_allowance}
 use Rattle.uimg_fit_base.specs.Faults.{end_of}
@@ -41,7 +42,8 @@ pub record ReportsFoundBetween (image : NodeOf Spot) (message : List ℕ) (size 
 -- The same of the image at a number.
 abbrev pub ReportsFound : {S A : Type 0} → ℕ → Span → Result Bool MoveFault → (S → Device)
     → Lent (OpenFit S A) → Lent Sink → Type 0
-ReportsFound number payload result device fit out = OfNodeIn device fit.entry.now in_images number
+ReportsFound number payload result device fit out =
+    InFit device fit.entry.now OfNode in_images number
     (λ image. ReportsFoundBetween image (in_span (file_of device fit.entry.now) payload)
     payload.length (device fit.entry.now.source.now).asked (device fit.exit.now.source.now).asked
     result out.entry.now out.exit.now)
@@ -75,7 +77,7 @@ ReportsImageBetween file image asked new (Err fault) old now =
 
 abbrev pub ReportsImage : {S A : Type 0} → ℕ → Result Bool Fault → (S → Device)
     → Lent (OpenFit S A) → Lent Sink → Type 0
-ReportsImage number result device fit out = OfNodeIn device fit.entry.now in_images number
+ReportsImage number result device fit out = InFit device fit.entry.now OfNode in_images number
     (λ image. ReportsImageBetween (file_of device fit.entry.now) image
     (device fit.entry.now.source.now).asked (device fit.exit.now.source.now).asked result
     out.entry.now out.exit.now)
@@ -89,7 +91,7 @@ pub record ReportsImagesBetween (file : List ℕ) (found : List (NodeOf Spot)) (
 -- The same of the images from a number on.
 abbrev pub ReportsImages : {S A : Type 0} → Option ℕ → Result Status Fault → (S → Device)
     → Lent (OpenFit S A) → Lent Sink → Type 0
-ReportsImages first result device fit out = OfNodesIn device fit.entry.now in_images first
+ReportsImages first result device fit out = InFit device fit.entry.now OfNodes in_images first
     (λ found. ReportsImagesBetween (file_of device fit.entry.now) found
     (device fit.entry.now.source.now).asked (device fit.exit.now.source.now).asked result
     out.entry.now out.exit.now)

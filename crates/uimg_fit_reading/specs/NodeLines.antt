@@ -15,7 +15,8 @@ use Rattle.uimg_fit_reading.specs.declared.listing.titles.Numbered.{Numbered}
 use Rattle.uimg_fit_reading.specs.declared.open_fit.OpenFit.{OpenFit}
 use Rattle.uimg_fit_reading.specs.Allowances.{node_allowance}
 use Rattle.uimg_fit_reading.specs.Listing.{image_lines, configuration_lines, numbered}
-use Rattle.uimg_fit_reading.specs.OpenFits.{file_of, OfNodeIn, OfNodesIn}
+use Rattle.uimg_fit_reading.specs.Nodes.{OfNode, OfNodes}
+use Rattle.uimg_fit_reading.specs.OpenFits.{file_of, InFit}
 use Rattle.uimg_fit_reading.specs.Telling.{Lists}
 
 -- the level of the nodes of a kind
@@ -32,13 +33,13 @@ node_lines file Configuration = configuration_lines
 abbrev pub ListsNode : {S A X : Type 0} → Listed → Numbered → Result X MoveFault → (S → Device)
     → Lent (OpenFit S A) → Lent Sink → Type 0
 ListsNode kind at result device fit out =
-    OfNodeIn device fit.entry.now (level_of kind) at.node (λ found. Lists (node_allowance found)
+    InFit device fit.entry.now OfNode (level_of kind) at.node (λ found. Lists (node_allowance found)
     result device fit out (node_lines (file_of device fit.entry.now) kind at.number found))
 
 -- The same for the nodes from a number on.
 abbrev pub ListsNodes : {S A X : Type 0} → Listed → Option ℕ → Result X MoveFault → (S → Device)
     → Lent (OpenFit S A) → Lent Sink → Type 0
 ListsNodes kind first result device fit out =
-    OfNodesIn device fit.entry.now (level_of kind) first (λ found.
+    InFit device fit.entry.now OfNodes (level_of kind) first (λ found.
     Lists (sum_by node_allowance found) result device fit out
     (numbered (node_lines (file_of device fit.entry.now) kind) 0 found))

@@ -1,14 +1,15 @@
 //! The listing of an image.
 
-ghost use Rattle.std.specs.Prelude.{◌≡◌, ◌++◌, List, Some, codes};
+ghost use Rattle.std.specs.Prelude.{◌≡◌, ◌++◌, List, Some, codes, length};
+ghost use Rattle.uimg_blob_reading.specs.Grammar.{Siblings};
 ghost use Rattle.uimg_blob_reading.specs.LookUps.{NodeOf, images, configurations};
 ghost use Rattle.uimg_blob_reading.specs.Roles.{in_images};
 ghost use Rattle.uimg_blob_reading.specs.Spots.{Spot, spots};
 ghost use Rattle.uimg_fit_base.specs.Files.{root_own, cell};
 ghost use Rattle.uimg_fit_reading.specs.Listing.{configurations_lines, image_lines, lists, list_of, numbered};
 ghost use Rattle.uimg_fit_reading.specs.ListingParts.{configurations_allowance, body_allowance, TellsWithin};
-ghost use Rattle.uimg_fit_reading.specs.Nodes.{AreFrom};
-ghost use Rattle.uimg_fit_reading.specs.OpenFits.{file_of, IsOpen, NodesIn, OfTreeIn};
+ghost use Rattle.uimg_fit_reading.specs.Nodes.{AreFrom, HasNodes, InFile, Opened};
+ghost use Rattle.uimg_fit_reading.specs.OpenFits.{file_of, InFit};
 ghost use Rattle.uimg_fit_reading.specs.Puts.{Leaves, LeavesOrRefuses};
 ghost use Rattle.uimg_fit_reading.specs.Telling.{Lists};
 ghost use Rattle.uimg_fit_reading.specs.Work.{list_work};
@@ -44,11 +45,11 @@ fn put_configurations<S: Source, A: Allocator, W: Write>(
     fit: &mut OpenFit<'_, S, A>,
     out: &mut Out<W>,
 ) -> Result<(), MoveFault>
-    requires { IsOpen S.device fit.old }
+    requires { InFile (length (file_of S.device fit.old)) fit.old.blob fit.old.room.now.entries }
     ensures leaves { Leaves result S.device fit out }
-    ensures told { OfTreeIn S.device fit.old (λ t.
+    ensures told { (t : Siblings) → InFit S.device fit.old Opened t →
         Lists (configurations_allowance (configurations (spots t))) result S.device fit out
-        (configurations_lines (configurations (spots t)))) }
+        (configurations_lines (configurations (spots t))) }
 {
     let Some(node) = configurations_of(&fit.blob, fit.room) else {
         return Ok(());
@@ -67,13 +68,13 @@ fn put_body<S: Source, A: Allocator, W: Write>(
     first: Option<usize>,
     out: &mut Out<W>,
 ) -> Result<(), MoveFault>
-    requires { NodesIn S.device fit.old first }
+    requires { InFit S.device fit.old HasNodes first }
     ensures leaves { Leaves result S.device fit out }
-    ensures told { OfTreeIn S.device fit.old (λ t.
+    ensures told { (t : Siblings) → InFit S.device fit.old Opened t →
         (found : List (NodeOf Spot)) → AreFrom t in_images first found →
         Lists (body_allowance (spots t) (Some found)) result S.device fit out
         (numbered (image_lines naming (file_of S.device fit.old) time) 0 found
-        ++ configurations_lines (configurations (spots t)))) }
+        ++ configurations_lines (configurations (spots t))) }
 {
     put_listed_nodes(fit, Listed::Image(naming, time), first, out)?;
     put_configurations(fit, out)
@@ -86,12 +87,12 @@ fn list_body<S: Source, A: Allocator, W: Write>(
     time: Option<u32>,
     out: &mut Out<W>,
 ) -> Result<Status, Fault>
-    requires { IsOpen S.device fit.old }
+    requires { InFile (length (file_of S.device fit.old)) fit.old.blob fit.old.room.now.entries }
     ensures leaves { LeavesOrRefuses result S.device fit out }
-    ensures told { OfTreeIn S.device fit.old (λ t.
+    ensures told { (t : Siblings) → InFit S.device fit.old Opened t →
         time ≡ cell (root_own (spots t)) (codes "timestamp") →
         TellsWithin (body_allowance (spots t) (images (spots t))) result S.device fit out
-        (lists naming (file_of S.device fit.old) (spots t) (images (spots t)))) }
+        (lists naming (file_of S.device fit.old) (spots t) (images (spots t))) }
 {
     let first = first_image(&fit.blob, fit.room)?;
     put_body(fit, naming, time, first, out)?;

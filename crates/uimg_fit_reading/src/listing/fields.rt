@@ -6,7 +6,8 @@ ghost use Rattle.uimg_base.specs.Outcome.{line};
 ghost use Rattle.uimg_texts.specs.Nul.{text};
 ghost use Rattle.uimg_texts.specs.Sizes.{size_text};
 ghost use Rattle.uimg_fit_base.specs.Files.{bytes_in};
-ghost use Rattle.uimg_fit_reading.specs.OpenFits.{NodeIn, OfAnyNodeIn};
+ghost use Rattle.uimg_fit_reading.specs.Nodes.{HasNode, OfAnyNode};
+ghost use Rattle.uimg_fit_reading.specs.OpenFits.{InFit};
 ghost use Rattle.uimg_fit_reading.specs.Puts.{Leaves, Puts, PutsOwn};
 ghost use Rattle.uimg_fit_reading.specs.Rows.{keeps_row, row_cost, row_lines, rows_lines};
 ghost use Rattle.uimg_fit_reading.specs.Shows.{value_lines, value_cost, shown, time_line, size_line};
@@ -134,9 +135,9 @@ fn put_row<S: Source, A: Allocator, W: Write>(
     row: Row,
     out: &mut Out<W>,
 ) -> Result<(), MoveFault>
-    requires { NodeIn S.device fit.old node }
+    requires { InFit S.device fit.old HasNode node }
     ensures leaves { Leaves result S.device fit out }
-    ensures told { OfAnyNodeIn S.device fit.old node
+    ensures told { InFit S.device fit.old OfAnyNode node
         (λ level found. keeps_row level found.name row ≡ true →
         Lists (row_cost found.own row) result S.device fit out (row_lines facts found.own row)) }
 {
@@ -158,9 +159,9 @@ pub(crate) fn put_rows<S: Source, A: Allocator, W: Write>(
     rows: &[Row],
     out: &mut Out<W>,
 ) -> Result<(), MoveFault>
-    requires { NodeIn S.device fit.old node }
+    requires { InFit S.device fit.old HasNode node }
     ensures leaves { Leaves result S.device fit out }
-    ensures told { OfAnyNodeIn S.device fit.old node
+    ensures told { InFit S.device fit.old OfAnyNode node
         (λ level found. list_all (keeps_row level found.name) rows.now ≡ true →
         Lists (sum_by (row_cost found.own) rows.now) result S.device fit out
         (rows_lines facts found.own rows.now)) }

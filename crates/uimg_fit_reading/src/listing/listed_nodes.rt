@@ -7,7 +7,8 @@ ghost use Rattle.uimg_fit_reading.specs.Allowances.{text_sizes, node_allowance};
 ghost use Rattle.uimg_fit_reading.specs.Listing.{hash_lines, size_in};
 ghost use Rattle.uimg_fit_reading.specs.NodeLines.{ListsNode, ListsNodes};
 ghost use Rattle.uimg_fit_reading.specs.Rows.{image_rows, rows_lines, title};
-ghost use Rattle.uimg_fit_reading.specs.OpenFits.{NodeIn, NodesIn, OfNodeIn, OfHashesIn};
+ghost use Rattle.uimg_fit_reading.specs.Nodes.{HasNode, HasNodes, OfHashes, OfNode};
+ghost use Rattle.uimg_fit_reading.specs.OpenFits.{InFit};
 ghost use Rattle.uimg_fit_reading.specs.Puts.{Leaves};
 ghost use Rattle.uimg_fit_reading.specs.Telling.{Lists};
 
@@ -38,9 +39,9 @@ fn put_hash<S: Source, A: Allocator, W: Write>(
     hash: usize,
     out: &mut Out<W>,
 ) -> Result<(), MoveFault>
-    requires { NodeIn S.device fit.old hash }
+    requires { InFit S.device fit.old HasNode hash }
     ensures leaves { Leaves result S.device fit out }
-    ensures told { OfNodeIn S.device fit.old in_image hash
+    ensures told { InFit S.device fit.old OfNode in_image hash
         (λ found. is_hash found.name ≡ true →
         Lists (node_allowance found) result S.device fit out (hash_lines found)) }
 {
@@ -53,9 +54,9 @@ fn put_hashes<S: Source, A: Allocator, W: Write>(
     first: Option<usize>,
     out: &mut Out<W>,
 ) -> Result<(), MoveFault>
-    requires { NodesIn S.device fit.old first }
+    requires { InFit S.device fit.old HasNodes first }
     ensures leaves { Leaves result S.device fit out }
-    ensures told { OfHashesIn S.device fit.old first (λ hs.
+    ensures told { InFit S.device fit.old OfHashes first (λ hs.
         Lists (sum_by node_allowance hs) result S.device fit out (flat_map hash_lines hs)) }
 {
     let mut next = first;
@@ -85,9 +86,9 @@ fn put_known_image<S: Source, A: Allocator, W: Write>(
     image: Numbered,
     out: &mut Out<W>,
 ) -> Result<(), MoveFault>
-    requires { NodeIn S.device fit.old image.node }
+    requires { InFit S.device fit.old HasNode image.node }
     ensures leaves { Leaves result S.device fit out }
-    ensures told { OfNodeIn S.device fit.old in_images image.node
+    ensures told { InFit S.device fit.old OfNode in_images image.node
         (λ found. Lists (748 + 4 * text_sizes found.own + sum_by node_allowance (hashes found))
         result S.device fit out (title (codes " Image ") image.number found.name
         ++ (rows_lines facts found.own (image_rows naming) ++ flat_map hash_lines (hashes found)))) }
@@ -106,7 +107,7 @@ fn put_image<S: Source, A: Allocator, W: Write>(
     image: Numbered,
     out: &mut Out<W>,
 ) -> Result<(), MoveFault>
-    requires { NodeIn S.device fit.old image.node }
+    requires { InFit S.device fit.old HasNode image.node }
     ensures leaves { Leaves result S.device fit out }
     ensures told { ListsNode (Listed.Image naming time) image result S.device fit out }
 {
@@ -126,7 +127,7 @@ fn put_configuration<S: Source, A: Allocator, W: Write>(
     configuration: Numbered,
     out: &mut Out<W>,
 ) -> Result<(), MoveFault>
-    requires { NodeIn S.device fit.old configuration.node }
+    requires { InFit S.device fit.old HasNode configuration.node }
     ensures leaves { Leaves result S.device fit out }
     ensures told { ListsNode Listed.Configuration configuration result S.device fit out }
 {
@@ -147,7 +148,7 @@ fn put_listed<S: Source, A: Allocator, W: Write>(
     at: Numbered,
     out: &mut Out<W>,
 ) -> Result<(), MoveFault>
-    requires { NodeIn S.device fit.old at.node }
+    requires { InFit S.device fit.old HasNode at.node }
     ensures leaves { Leaves result S.device fit out }
     ensures told { ListsNode kind at result S.device fit out }
 {
@@ -164,7 +165,7 @@ pub(crate) fn put_listed_nodes<S: Source, A: Allocator, W: Write>(
     first: Option<usize>,
     out: &mut Out<W>,
 ) -> Result<(), MoveFault>
-    requires { NodesIn S.device fit.old first }
+    requires { InFit S.device fit.old HasNodes first }
     ensures leaves { Leaves result S.device fit out }
     ensures told { ListsNodes kind first result S.device fit out }
 {

@@ -1,7 +1,8 @@
 //! The title of a node, and its rows.
 ghost use Rattle.std.specs.Prelude.{◌≡◌, ◌+◌, ◌≤◌, ◌++◌, length, decimal, codes, true};
 ghost use Rattle.std.specs.List.{list_all, sum_by};
-ghost use Rattle.uimg_fit_reading.specs.OpenFits.{NodeIn, OfAnyNodeIn};
+ghost use Rattle.uimg_fit_reading.specs.Nodes.{HasNode, OfAnyNode};
+ghost use Rattle.uimg_fit_reading.specs.OpenFits.{InFit};
 ghost use Rattle.uimg_fit_reading.specs.Puts.{Leaves, Puts, PutsOwn};
 ghost use Rattle.uimg_fit_reading.specs.Rows.{keeps_row, row_cost, rows_lines, title};
 ghost use Rattle.uimg_fit_reading.specs.Telling.{Lists};
@@ -62,9 +63,9 @@ pub(crate) fn put_node<S: Source, A: Allocator, W: Write>(
     rows: &[Row],
     out: &mut Out<W>,
 ) -> Result<(), MoveFault>
-    requires { NodeIn S.device fit.old at.node }
+    requires { InFit S.device fit.old HasNode at.node }
     ensures leaves { Leaves result S.device fit out }
-    ensures told { OfAnyNodeIn S.device fit.old at.node
+    ensures told { InFit S.device fit.old OfAnyNode at.node
         (λ level found. list_all (keeps_row level found.name) rows.now ≡ true →
         Lists (255 + sum_by (row_cost found.own) rows.now) result S.device fit out
         (title before.now at.number found.name ++ rows_lines facts found.own rows.now)) }

@@ -4,7 +4,7 @@ ghost use Rattle.uimg_base.specs.Using.{Asks, Uses};
 ghost use Rattle.uimg_fit_base.specs.AlgoSets.{is_empty, set_of, AreDigests};
 ghost use Rattle.uimg_fit_reading.specs.HashReports.{FindsAlgos, FindsDigests};
 ghost use Rattle.uimg_fit_reading.specs.Nodes.{OfHashes, HasNodes};
-ghost use Rattle.uimg_fit_reading.specs.OpenFits.{file_of, Keeps, NodesIn};
+ghost use Rattle.uimg_fit_reading.specs.OpenFits.{file_of, InFit, Keeps};
 ghost use Rattle.uimg_fit_reading.specs.Plans.{with_plan};
 ghost use Rattle.uimg_fit_reading.specs.Values.{in_span};
 
@@ -77,7 +77,7 @@ pub(crate) fn compared_digests<S: Source, A: Allocator>(
     first: Option<usize>,
     span: Span,
 ) -> Result<Digests, SourceFault>
-    requires node { NodesIn S.device fit.old first }
+    requires node { InFit S.device fit.old HasNodes first }
     requires payload { span.place + span.length ≤ length (file_of S.device fit.old) }
     ensures keeps { Keeps (is_err result) S.device fit }
     ensures found { FindsDigests span first result S.device fit }

@@ -1,7 +1,8 @@
 //! Reports on the hash nodes of an image.
 ghost use Rattle.std.specs.Prelude.{◌+◌, ◌≤◌, length};
 ghost use Rattle.uimg_fit_reading.specs.HashReports.{PutsHashes, ReportsHashes};
-ghost use Rattle.uimg_fit_reading.specs.OpenFits.{file_of, NodesIn};
+ghost use Rattle.uimg_fit_reading.specs.Nodes.{HasNodes};
+ghost use Rattle.uimg_fit_reading.specs.OpenFits.{file_of, InFit};
 ghost use Rattle.uimg_fit_reading.specs.Puts.{Leaves};
 
 use crate::nodes::next_hash;
@@ -21,7 +22,7 @@ fn put_hashes<S: Source, A: Allocator, W: Write>(
     digests: &Digests,
     out: &mut Out<W>,
 ) -> Result<bool, MoveFault>
-    requires node { NodesIn S.device fit.old first }
+    requires node { InFit S.device fit.old HasNodes first }
     requires name { image.place + image.length ≤ length (file_of S.device fit.old) }
     ensures leaves { Leaves result S.device fit out }
     ensures told { PutsHashes image first digests.now result S.device fit out }
@@ -44,7 +45,7 @@ pub(crate) fn report_hashes<S: Source, A: Allocator, W: Write>(
     first: Option<usize>,
     out: &mut Out<W>,
 ) -> Result<bool, MoveFault>
-    requires node { NodesIn S.device fit.old first }
+    requires node { InFit S.device fit.old HasNodes first }
     requires name { image.place + image.length ≤ length (file_of S.device fit.old) }
     requires payload { span.place + span.length ≤ length (file_of S.device fit.old) }
     ensures leaves { Leaves result S.device fit out }

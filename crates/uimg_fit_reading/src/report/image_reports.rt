@@ -1,7 +1,8 @@
 //! Reports on images, one after the other.
 ghost use Rattle.std.specs.Prelude.{◌≡◌, ◌+◌, ◌≤◌, length};
 ghost use Rattle.uimg_fit_reading.specs.ImageReports.{ReportsFound, ReportsImage, ReportsImages, status_of};
-ghost use Rattle.uimg_fit_reading.specs.OpenFits.{file_of, NodeIn, NodesIn};
+ghost use Rattle.uimg_fit_reading.specs.Nodes.{HasNode, HasNodes};
+ghost use Rattle.uimg_fit_reading.specs.OpenFits.{file_of, InFit};
 ghost use Rattle.uimg_fit_reading.specs.Puts.{Leaves, LeavesOrRefuses};
 
 use crate::nodes::{first_hash, name_of, next_of};
@@ -21,7 +22,7 @@ fn report_found<S: Source, A: Allocator, W: Write>(
     span: Span,
     out: &mut Out<W>,
 ) -> Result<bool, MoveFault>
-    requires node { NodeIn S.device fit.old image }
+    requires node { InFit S.device fit.old HasNode image }
     requires payload { span.place + span.length ≤ length (file_of S.device fit.old) }
     ensures leaves { Leaves result S.device fit out }
     ensures told { ReportsFound image span result S.device fit out }
@@ -41,7 +42,7 @@ fn report_image<S: Source, A: Allocator, W: Write>(
     image: usize,
     out: &mut Out<W>,
 ) -> Result<bool, Fault>
-    requires { NodeIn S.device fit.old image }
+    requires { InFit S.device fit.old HasNode image }
     ensures leaves { LeavesOrRefuses result S.device fit out }
     ensures told { ReportsImage image result S.device fit out }
 {
@@ -66,7 +67,7 @@ pub(crate) fn report_images<S: Source, A: Allocator, W: Write>(
     first: Option<usize>,
     out: &mut Out<W>,
 ) -> Result<Status, Fault>
-    requires { NodesIn S.device fit.old first }
+    requires { InFit S.device fit.old HasNodes first }
     ensures leaves { LeavesOrRefuses result S.device fit out }
     ensures told { ReportsImages first result S.device fit out }
 {

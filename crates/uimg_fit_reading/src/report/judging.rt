@@ -5,7 +5,7 @@ ghost use Rattle.uimg_fit_base.specs.AlgoSets.{set_of, AreDigests};
 ghost use Rattle.uimg_fit_base.specs.Report.{word_of};
 ghost use Rattle.uimg_fit_reading.specs.HashReports.{PutsHash, line_of};
 ghost use Rattle.uimg_fit_reading.specs.Nodes.{OfHash, HasNode};
-ghost use Rattle.uimg_fit_reading.specs.OpenFits.{file_of, NodeIn, OfHashIn};
+ghost use Rattle.uimg_fit_reading.specs.OpenFits.{file_of, InFit};
 ghost use Rattle.uimg_fit_reading.specs.Plans.{IsCovered, algo_length, plan_of};
 ghost use Rattle.uimg_fit_reading.specs.Puts.{Leaves};
 ghost use Rattle.uimg_fit_reading.specs.Telling.{Lists};
@@ -48,10 +48,10 @@ fn put_judged<S: Source, A: Allocator, W: Write>(
     word: Verdict,
     out: &mut Out<W>,
 ) -> Result<(), MoveFault>
-    requires node { NodeIn S.device fit.old hash }
+    requires node { InFit S.device fit.old HasNode hash }
     requires name { image.place + image.length ≤ length (file_of S.device fit.old) }
     ensures leaves { Leaves result S.device fit out }
-    ensures told { OfHashIn S.device fit.old hash
+    ensures told { InFit S.device fit.old OfHash hash
         (λ found. Lists (image.length + 255 + algo_length found) result S.device fit out
         (line_of (in_span (file_of S.device fit.old) image) word found)) }
 {
@@ -72,7 +72,7 @@ pub(crate) fn put_hash<S: Source, A: Allocator, W: Write>(
     digests: &Digests,
     out: &mut Out<W>,
 ) -> Result<Verdict, MoveFault>
-    requires node { NodeIn S.device fit.old hash }
+    requires node { InFit S.device fit.old HasNode hash }
     requires name { image.place + image.length ≤ length (file_of S.device fit.old) }
     ensures leaves { Leaves result S.device fit out }
     ensures told { PutsHash image hash digests.now result S.device fit out }

@@ -1,4 +1,4 @@
-use Rattle.std.proofs.Common.{rules, ◌≡◌, ◌<◌, List, length, false, refl, take, subst, arith, ◌∙◌, Err}
+use Rattle.std.proofs.Common.{◌≡◌, ◌<◌, List, length, false, refl, take, subst, arith, Err}
 use Rattle.std.specs.List.{sum_by}
 use Rattle.std.proofs.lemmas.List.{take_all}
 use Rattle.uimg_fit_reading.specs.declared.listing.rows.Row.{Row}

@@ -1,4 +1,4 @@
-use Rattle.std.proofs.Common.{rules, ℕ, List, Option, refl, subst, ◌∙◌, Err}
+use Rattle.std.proofs.Common.{rules, ℕ, List, Option, refl, subst, Err}
 use Rattle.std.specs.List.{flat_map}
 use Rattle.uimg_blob_reading.specs.LookUps.{NodeOf}
 use Rattle.uimg_blob_reading.specs.Spots.{Spot}

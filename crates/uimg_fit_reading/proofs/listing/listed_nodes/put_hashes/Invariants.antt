@@ -1,11 +1,12 @@
-use Rattle.std.proofs.Common.{◌≡◌, ◌-◌, ◌<◌, List, length, IfSome, Ok}
+use Rattle.std.proofs.Common.{◌-◌, ◌<◌, List, length, IfSome, Ok}
 use Rattle.std.specs.List.{flat_map}
 use Rattle.std.specs.Option.{option_map_or}
+use Rattle.uimg_blob_reading.specs.Grammar.{Siblings}
 use Rattle.uimg_blob_reading.specs.LookUps.{NodeOf}
 use Rattle.uimg_blob_reading.specs.Spots.{Spot}
 use Rattle.uimg_fit_reading.specs.Listing.{hash_lines}
-use Rattle.uimg_fit_reading.specs.Nodes.{HashesAt}
-use Rattle.uimg_fit_reading.specs.OpenFits.{OfTreeIn}
+use Rattle.uimg_fit_reading.specs.Nodes.{HashesAt, Opened}
+use Rattle.uimg_fit_reading.specs.OpenFits.{InFit}
 use Rattle.uimg_fit_reading.specs.Puts.{LeavesBetween}
 use Rattle.uimg_fit_reading.proofs.TellingLaws.{Left}
 use Rattle.uimg_fit_reading.proofs.listing.listed_nodes.put_hashes.Given as goal
@@ -17,8 +18,8 @@ invariant-loop-next g l =
     record {
       within : IfSome l.next (λ i. i < length l.fit.room.now.entries);
       leaves : LeavesBetween {X = Unit} (Ok tt) device l.fn.fit l.fit l.fn.out l.out;
-      left : OfTreeIn device l.fn.fit (λ t. (hs : List (NodeOf Spot)) → HashesAt t l.fn.first hs
-          → Left (HashesAt t) (λ i ns. flat_map hash_lines ns) 0 l.next (device l.fn.fit.source.now) (device l.fit.source.now) l.fn.out l.out hs);
+      left : (t : Siblings) → InFit device l.fn.fit Opened t → (hs : List (NodeOf Spot)) → HashesAt t l.fn.first hs
+          → Left (HashesAt t) (λ i ns. flat_map hash_lines ns) 0 l.next (device l.fn.fit.source.now) (device l.fit.source.now) l.fn.out l.out hs;
     }
 
 abbrev pub decreases-loop-next : goal.decreases-loop-next

@@ -1,4 +1,4 @@
-use Rattle.std.proofs.Common.{◌≤◌, ◌<◌, ◌+◌, ℕ, List, length, Option, Some, IfSome, true, ap, subst, ◌∙◌, false, arith, Err}
+use Rattle.std.proofs.Common.{◌≤◌, ◌<◌, ◌+◌, ℕ, List, length, Option, Some, IfSome, true, ap, subst, false, arith, Err}
 use Rattle.uimg_base.specs.Held.{Held}
 use Rattle.uimg_blob_reading.specs.LookUps.{NodeOf}
 use Rattle.uimg_blob_reading.specs.Roles.{Level}

@@ -1,10 +1,11 @@
-use Rattle.std.proofs.Common.{◌≡◌, ◌≤◌, ◌<◌, List, length, IfSome, Ok}
+use Rattle.std.proofs.Common.{◌≤◌, ◌<◌, List, length, IfSome, Ok}
+use Rattle.uimg_blob_reading.specs.Grammar.{Siblings}
 use Rattle.uimg_blob_reading.specs.LookUps.{NodeOf}
 use Rattle.uimg_blob_reading.specs.Spots.{Spot}
 use Rattle.uimg_fit_reading.specs.Listing.{numbered}
 use Rattle.uimg_fit_reading.specs.NodeLines.{level_of, node_lines}
-use Rattle.uimg_fit_reading.specs.Nodes.{AreFrom}
-use Rattle.uimg_fit_reading.specs.OpenFits.{OfTreeIn}
+use Rattle.uimg_fit_reading.specs.Nodes.{AreFrom, Opened}
+use Rattle.uimg_fit_reading.specs.OpenFits.{InFit}
 use Rattle.uimg_fit_reading.specs.Puts.{LeavesBetween}
 use Rattle.uimg_fit_reading.proofs.TellingLaws.{Left}
 use Rattle.uimg_fit_reading.proofs.listing.listed_nodes.put_listed_nodes.Given as goal
@@ -16,6 +17,6 @@ invariant-loop-number g l =
     record {
       within : IfSome l.next (λ i. (l.number ≤ i) × (i < length l.fit.room.now.entries));
       leaves : LeavesBetween {X = Unit} (Ok tt) device l.fn.fit l.fit l.fn.out l.out;
-      left : OfTreeIn device l.fn.fit (λ t. (all : List (NodeOf Spot)) → AreFrom t (level_of l.kind) l.fn.first all
-          → Left (AreFrom t (level_of l.kind)) (numbered (node_lines (device l.fn.fit.source.now).bytes l.kind)) l.number l.next (device l.fn.fit.source.now) (device l.fit.source.now) l.fn.out l.out all);
+      left : (t : Siblings) → InFit device l.fn.fit Opened t → (all : List (NodeOf Spot)) → AreFrom t (level_of l.kind) l.fn.first all
+          → Left (AreFrom t (level_of l.kind)) (numbered (node_lines (device l.fn.fit.source.now).bytes l.kind)) l.number l.next (device l.fn.fit.source.now) (device l.fit.source.now) l.fn.out l.out all;
     }

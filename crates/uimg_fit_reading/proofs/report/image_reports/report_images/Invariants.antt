@@ -1,10 +1,11 @@
 use Rattle.std.proofs.Common.{◌≡◌, ◌-◌, ◌<◌, List, length, IfSome, false}
 use Rattle.std.specs.Option.{option_map_or}
+use Rattle.uimg_blob_reading.specs.Grammar.{Siblings}
 use Rattle.uimg_blob_reading.specs.LookUps.{NodeOf}
 use Rattle.uimg_blob_reading.specs.Roles.{in_images}
 use Rattle.uimg_blob_reading.specs.Spots.{Spot}
-use Rattle.uimg_fit_reading.specs.Nodes.{AreFrom}
-use Rattle.uimg_fit_reading.specs.OpenFits.{file_of, OfTreeIn, KeepsBetween}
+use Rattle.uimg_fit_reading.specs.Nodes.{AreFrom, Opened}
+use Rattle.uimg_fit_reading.specs.OpenFits.{file_of, InFit, KeepsBetween}
 use Rattle.uimg_fit_reading.proofs.ImageReportLaws.{ImagesLeft}
 use Rattle.uimg_fit_reading.proofs.report.image_reports.report_images.Given as goal
 
@@ -16,8 +17,8 @@ invariant-loop-next g l =
       keeps : KeepsBetween false device l.fn.fit l.fit;
       faults : l.out.faults ≡ l.fn.out.faults;
       within : IfSome l.next (λ i. i < length l.fn.fit.room.now.entries);
-      left : OfTreeIn device l.fn.fit (λ t. (found : List (NodeOf Spot)) → AreFrom t in_images l.fn.first found
-          → ImagesLeft t (file_of device l.fn.fit) found (device l.fn.fit.source.now).asked (device l.fit.source.now).asked l.fn.out l.out l.are_right l.next);
+      left : (t : Siblings) → InFit device l.fn.fit Opened t → (found : List (NodeOf Spot)) → AreFrom t in_images l.fn.first found
+          → ImagesLeft t (file_of device l.fn.fit) found (device l.fn.fit.source.now).asked (device l.fit.source.now).asked l.fn.out l.out l.are_right l.next;
     }
 
 abbrev pub decreases-loop-next : goal.decreases-loop-next
