@@ -10,6 +10,7 @@ pub mod Named
 pub mod Writing
 pub mod Using
 pub mod Lent
+pub mod Honest
 pub mod Streams
 pub mod Ahead
 pub mod Shelves

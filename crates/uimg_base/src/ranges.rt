@@ -1,6 +1,7 @@
 //! Ranges of a source, copied to an output or fed to a sum, one window at a time.
 
-ghost use Rattle.std.specs.Prelude.{◌≡◌, ◌+◌, ◌≤◌, ⊤, length, IsTrue, OnOk, OnErr, IfOk, is_err};
+ghost use Rattle.std.specs.Prelude.{◌≡◌, ◌+◌, ◌≤◌, ⊤, length, OnOk, OnErr, IfOk, is_err};
+ghost use Rattle.uimg_base.specs.Honest.{HonestSource};
 ghost use Rattle.uimg_base.specs.Device.{RisesIf, asked_more};
 ghost use Rattle.uimg_texts.specs.Slices.{slice};
 ghost use Rattle.uimg_base.specs.Sink.{AppendsPrefix};
@@ -57,7 +58,7 @@ fn take_window<S: Source, M: Sums, W: Write>(
     ensures uses { Uses (is_read result) (S.device source.old) (S.device source.new) }
     ensures asked { (S.device source.new).asked ≡ asked_more (S.device source.old).asked len }
     ensures faults { RisesIf (is_put result) out.old.faults out.new.faults }
-    ensures prefix { IsTrue (S.device source.old).honest →
+    ensures prefix { HonestSource S.device source →
         AppendsPrefix out.old out.new (slice (S.device source.old).bytes at len) }
     ensures taken { OnOk result (TakesRange M.fed (S.device source.old) at len
         sums.old sums.new out.old out.new) }
@@ -92,7 +93,7 @@ pub fn take_through<S: Source, M: Sums, W: Write>(
     ensures asked_all { OnOk result
         ((S.device source.new).asked ≡ asked_more (S.device source.old).asked len) }
     ensures faults { RisesIf (is_put result) out.old.faults out.new.faults }
-    ensures copied { IsTrue (S.device source.old).honest →
+    ensures copied { HonestSource S.device source →
         Copies (is_err result) (S.device source.old) (S.device source.new) out.old out.new
         (slice (S.device source.old).bytes at len) }
     ensures taken { OnOk result (TakesRange M.fed (S.device source.old) at len
@@ -125,7 +126,7 @@ pub fn copy_through<S: Source, W: Write>(
     ensures asked_all { OnOk result
         ((S.device source.new).asked ≡ asked_more (S.device source.old).asked len) }
     ensures faults { RisesIf (is_put result) out.old.faults out.new.faults }
-    ensures copied { IsTrue (S.device source.old).honest →
+    ensures copied { HonestSource S.device source →
         Copies (is_err result) (S.device source.old) (S.device source.new) out.old out.new
         (slice (S.device source.old).bytes at len) }
 {
@@ -151,7 +152,7 @@ pub fn copy_range<S: Source, W: Write, A: Allocator>(
     ensures asked_all { OnOk result
         ((S.device source.new).asked ≡ asked_more (S.device source.old).asked len) }
     ensures faults { RisesIf (is_put result) out.old.faults out.new.faults }
-    ensures copied { IsTrue (S.device source.old).honest →
+    ensures copied { HonestSource S.device source →
         Copies (is_err result) (S.device source.old) (S.device source.new) out.old out.new
         (slice (S.device source.old).bytes at len) }
 {
@@ -221,7 +222,7 @@ pub fn sum_range<M: Summer, S: Source, A: Allocator>(
     ensures room { room.new ≡ room.old }
     ensures kept { OnErr result (to.new ≡ to.old) }
     ensures bound { IfOk result (λ n. n ≤ 64) }
-    ensures digest { IsTrue (S.device source.old).honest →
+    ensures digest { HonestSource S.device source →
         IfOk result (PutsDigest (M.digest (slice (S.device source.old).bytes at len)) to.old to.new) }
 {
     let mut sum = M::start();
@@ -243,7 +244,7 @@ pub fn crc_range<S: Source, A: Allocator>(
     requires { at + len ≤ length (S.device source.old).bytes }
     ensures uses { AsksAll len (is_err result) (S.device source.old) (S.device source.new) }
     ensures room { room.new ≡ room.old }
-    ensures crc { IsTrue (S.device source.old).honest →
+    ensures crc { HonestSource S.device source →
         IfOk result (λ n. n ≡ crc (slice (S.device source.old).bytes at len)) }
 {
     let mut sum = Crc::start();

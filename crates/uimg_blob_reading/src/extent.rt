@@ -1,8 +1,9 @@
 //! The header of a blob: the offsets of its blocks.
 
-ghost use Rattle.std.specs.Prelude.{◌≡◌, ℕ, ◌+◌, ◌≤◌, List, length, false, IsTrue, IfOk};
+ghost use Rattle.std.specs.Prelude.{◌≡◌, ℕ, ◌+◌, ◌≤◌, List, length, false, IfOk};
 ghost use Rattle.uimg_blob_reading.specs.Extents.{IsInside, HeadsFile, GivesBlocks};
 ghost use Rattle.uimg_blob_reading.specs.Faults.{is_read, is_out_of_memory, is_of_making};
+ghost use Rattle.uimg_base.specs.Honest.{HonestSource};
 ghost use Rattle.uimg_base.specs.Using.{Asks};
 
 use crate::fault::{BlobFault, IndexFault};
@@ -84,7 +85,7 @@ pub(crate) fn read_extent<S: Source>(source: &mut S) -> Result<Extent, IndexFaul
     ensures uses { Asks 40 (is_read result) (S.device source.old) (S.device source.new) }
     ensures no_memory { is_out_of_memory result ≡ false }
     ensures no_making { is_of_making result ≡ false }
-    ensures gives { IsTrue (S.device source.old).honest →
+    ensures gives { HonestSource S.device source →
         GivesBlocks (S.device source.old).bytes result }
     ensures inside { IfOk result (λ extent. IsInside extent (length (S.device source.old).bytes)) }
 {

@@ -1,6 +1,7 @@
 //! The pass over the tokens that gives each node an entry.
 
-ghost use Rattle.std.specs.Prelude.{◌≡◌, [], ◌+◌, ◌*◌, ◌^◌, ◌<◌, ◌≤◌, max, length, IfOk, IsTrue, false};
+ghost use Rattle.std.specs.Prelude.{◌≡◌, [], ◌+◌, ◌*◌, ◌^◌, ◌<◌, ◌≤◌, max, length, IfOk, false};
+ghost use Rattle.uimg_base.specs.Honest.{HonestSource};
 ghost use Rattle.uimg_base.specs.Device.{RisesIf};
 ghost use Rattle.uimg_base.specs.Using.{Uses};
 ghost use Rattle.uimg_texts.specs.Numbers.{be32};
@@ -95,7 +96,7 @@ pub fn index<S: Source, A: Allocator>(
     ensures no_making { is_of_making result ≡ false }
     ensures found { IfOk result (λ blob. Finds (S.device source.old) blob room.new.entries) }
     ensures indexes { IndexesTree (S.device source.old) result room.new.entries }
-    ensures totalsize { IsTrue (S.device source.old).honest →
+    ensures totalsize { HonestSource S.device source →
         IfOk result (λ blob. blob.totalsize ≡ be32 (S.device source.old).bytes 4) }
 {
     room.clear();

@@ -1,8 +1,9 @@
 //! The properties of a node, read again from the structure block.
 
-ghost use Rattle.std.specs.Prelude.{◌≡◌, ◌+◌, ◌*◌, ◌^◌, ◌<◌, ◌≤◌, length, Ok, IfOk, IsTrue};
+ghost use Rattle.std.specs.Prelude.{◌≡◌, ◌+◌, ◌*◌, ◌^◌, ◌<◌, ◌≤◌, length, Ok, IfOk};
 ghost use Rattle.std.specs.List.{All};
 ghost use Rattle.uimg_texts.specs.Numbers.{be32};
+ghost use Rattle.uimg_base.specs.Honest.{HonestSource};
 ghost use Rattle.uimg_base.specs.Using.{Asks, Uses};
 ghost use Rattle.uimg_blob_reading.specs.Grammar.{Siblings};
 ghost use Rattle.uimg_blob_reading.specs.Blob.{tree};
@@ -89,7 +90,7 @@ fn extent_again<S: Source>(source: &mut S, totalsize: u32) -> Result<Extent, Pro
     ensures uses { Asks 40 (is_unread result) (S.device source.old) (S.device source.new) }
     ensures inside { IfOk result (λ extent. IsInside extent (length (S.device source.old).bytes)) }
     ensures same { IfOk result (λ extent. extent.totalsize ≡ totalsize) }
-    ensures again { IsTrue (S.device source.old).honest → (t : Siblings) →
+    ensures again { HonestSource S.device source → (t : Siblings) →
         tree (S.device source.old).bytes ≡ Ok t → totalsize ≡ be32 (S.device source.old).bytes 4 →
         FindsBlocks (S.device source.old).bytes result }
 {

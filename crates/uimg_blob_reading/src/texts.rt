@@ -1,9 +1,10 @@
 //! Texts of values, written or read from their spans.
 
-ghost use Rattle.std.specs.Prelude.{◌≡◌, ◌+◌, ◌<◌, ◌≤◌, length, is_err, nat_lt, Some, None, IsTrue, IfOk, IfSome, if◌then◌else◌};
+ghost use Rattle.std.specs.Prelude.{◌≡◌, ◌+◌, ◌<◌, ◌≤◌, length, is_err, nat_lt, Some, None, IfOk, IfSome, if◌then◌else◌};
 ghost use Rattle.std.specs.Option.{is_some};
 ghost use Rattle.uimg_texts.specs.Nul.{before_nul, text};
 ghost use Rattle.uimg_texts.specs.Slices.{slice};
+ghost use Rattle.uimg_base.specs.Honest.{HonestSource};
 ghost use Rattle.uimg_base.specs.Device.{RisesIf};
 ghost use Rattle.uimg_base.specs.Ranges.{is_read, is_put};
 ghost use Rattle.uimg_base.specs.Using.{Asks};
@@ -26,7 +27,7 @@ fn put_window<S: Source, W: Write>(
     requires window { len ≤ 8192 }
     ensures put { PutsText at len result (S.device source.old) (S.device source.new)
         out.old out.new }
-    ensures ended { IsTrue (S.device source.old).honest → IfOk result (λ ended.
+    ensures ended { HonestSource S.device source → IfOk result (λ ended.
         ended ≡ is_some (before_nul (slice (S.device source.old).bytes at len))) }
 {
     let window = &mut window[..len];
@@ -77,7 +78,7 @@ pub fn put_text<S: Source, A: Allocator, W: Write>(
     ensures uses { Asks span.length (is_read result) (S.device source.old) (S.device source.new) }
     ensures room { room.new ≡ room.old }
     ensures faults { RisesIf (is_put result) out.old.faults out.new.faults }
-    ensures told { IsTrue (S.device source.old).honest → Written (is_err result) out.old out.new
+    ensures told { HonestSource S.device source → Written (is_err result) out.old out.new
         (text (slice (S.device source.old).bytes span.place span.length)) }
 {
     put_through(source, room.window(), span, out)
@@ -106,7 +107,7 @@ pub fn short_text<S: Source>(
     ensures uses { Asks span.length (is_err result) (S.device source.old) (S.device source.new) }
     ensures few { (S.device source.new).asked ≤ (S.device source.old).asked + 32 }
     ensures bound { IfOk result (λ found. IfSome found (λ n. n ≤ 31)) }
-    ensures text { IsTrue (S.device source.old).honest → IfOk result (λ found. GivesShort
+    ensures text { HonestSource S.device source → IfOk result (λ found. GivesShort
         (text (slice (S.device source.old).bytes span.place span.length)) found to.new) }
 {
     let length = u64::min(32, span.length) as usize;

@@ -1,6 +1,7 @@
 //! Files as values of a blob, copied through a window.
 
-ghost use Rattle.std.specs.Prelude.{◌≡◌, ◌∷◌, [], length, IsTrue, OnOk, is_err, false};
+ghost use Rattle.std.specs.Prelude.{◌≡◌, ◌∷◌, [], length, OnOk, is_err, false};
+ghost use Rattle.uimg_base.specs.Honest.{HonestSource};
 ghost use Rattle.uimg_base.specs.Device.{RisesIf};
 ghost use Rattle.uimg_base.specs.Writing.{Written};
 ghost use Rattle.uimg_blob_writing.specs.Content.{file};
@@ -24,7 +25,7 @@ fn put_source<S: Source, W: Write>(
     ensures failures { length (S.device source.old).bytes ≡ size →
         RisesIf (is_read result) (S.device source.old).failures (S.device source.new).failures }
     ensures faults { RisesIf (is_put result) out.old.faults out.new.faults }
-    ensures written { IsTrue (S.device source.old).honest →
+    ensures written { HonestSource S.device source →
         Written (is_err result) out.old out.new (S.device source.old).bytes }
 {
     if source.size()? != size {

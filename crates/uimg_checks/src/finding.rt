@@ -1,9 +1,10 @@
 //! What a check of an image finds, over any source.
 
 ghost use Rattle.std.specs.Prelude.{◌≡◌, true, false, length, IfOk};
+ghost use Rattle.uimg_base.specs.Honest.{HonestSource};
 ghost use Rattle.uimg_requests.specs.declared.command.Form.TheVariants as form;
 ghost use Rattle.uimg_checks.specs.Finding.{ChecksIn, EndsInside, TellsCheck, check_work, stands_by_crc32, status_of};
-ghost use Rattle.uimg_engine.specs.Headline.{HonestSource, OnlyReads};
+ghost use Rattle.uimg_engine.specs.Headline.{OnlyReads};
 
 use std::alloc::Allocator;
 use uimg_base::{Algo, Room, Source, Span, Status};

@@ -140,10 +140,6 @@ Stays old new = (old < 2 ^ 64 - 1) × (new ≡ old)
 abbrev pub ExactlyIfRose : Type 0 → ℕ → ℕ → Type 0
 ExactlyIfRose fact old new = old < 2 ^ 64 - 1 → fact ↔ (old < new)
 
--- the source is honest
-abbrev pub HonestSource : {S : Type 0} → (S → Device) → Lent S → Type 0
-HonestSource device source = IsTrue (device source.entry.now).honest
-
 -- no read of the source failed
 abbrev pub NoReadFails : {S : Type 0} → (S → Device) → Lent S → Type 0
 NoReadFails device source =

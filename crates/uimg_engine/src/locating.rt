@@ -1,7 +1,8 @@
 //! The span of a part or a payload in an image, found by the engine of its format.
 
 ghost use Rattle.std.specs.Prelude.{false, true, IfOk};
-ghost use Rattle.uimg_engine.specs.Headline.{listing_work, HonestSource, OnlyReads};
+ghost use Rattle.uimg_base.specs.Honest.{HonestSource};
+ghost use Rattle.uimg_engine.specs.Headline.{listing_work, OnlyReads};
 ghost use Rattle.uimg_engine.specs.Locating.{Locates, StandsIn, FindsSpan};
 
 use crate::fault::Fault;

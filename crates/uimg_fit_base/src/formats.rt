@@ -1,6 +1,7 @@
 //! The format of an image's file, by its first bytes.
 
-ghost use Rattle.std.specs.Prelude.{◌≡◌, is_err, IfOk, IsTrue};
+ghost use Rattle.std.specs.Prelude.{◌≡◌, is_err, IfOk};
+ghost use Rattle.uimg_base.specs.Honest.{HonestSource};
 ghost use Rattle.uimg_base.specs.Using.{Asks};
 ghost use Rattle.uimg_fit_base.specs.Files.{begins_as_blob};
 
@@ -13,7 +14,7 @@ use uimg_blob_reading::BLOB_MAGIC;
 #[tactic(auto, unfolding(crate::specs::Files::begins_as_blob, uimg_texts::specs::Numbers::be32))]
 pub fn begins_as_blob<S: Source>(source: &mut S) -> Result<bool, SourceFault>
     ensures uses { Asks 4 (is_err result) (S.device source.old) (S.device source.new) }
-    ensures told { IsTrue (S.device source.old).honest →
+    ensures told { HonestSource S.device source →
         IfOk result (λ begins. begins ≡ begins_as_blob (S.device source.old).bytes) }
 {
     if source.size()? < 4 {

@@ -1,9 +1,9 @@
 //! Checks the hashes of a FIT image's images.
 
 ghost use Rattle.std.specs.Prelude.{length, IfOk};
+ghost use Rattle.uimg_base.specs.Honest.{IfHonest};
 ghost use Rattle.uimg_fit_base.specs.Faults.{Gives};
 ghost use Rattle.uimg_fit_checking.specs.Checks.{check_work, told_of, check_of, EndsInside};
-ghost use Rattle.uimg_fit_reading.specs.Puts.{IfHonest};
 ghost use Rattle.uimg_fit_reading.specs.Rooms.{Inspects};
 
 mod all_right;

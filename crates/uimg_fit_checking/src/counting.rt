@@ -1,10 +1,10 @@
 //! Counts the images of a FIT image in memory.
 
 ghost use Rattle.std.specs.Prelude.{◌≡◌, ◌<◌, length};
+ghost use Rattle.uimg_base.specs.Honest.{IfHonest};
 ghost use Rattle.uimg_blob_reading.specs.Roles.{in_images};
 ghost use Rattle.uimg_fit_base.specs.Faults.{Gives};
 ghost use Rattle.uimg_fit_checking.specs.Counting.{count_of};
-ghost use Rattle.uimg_fit_reading.specs.Puts.{IfHonest};
 ghost use Rattle.uimg_fit_reading.specs.Rooms.{ReadsAny, ReadsInMemory};
 ghost use Rattle.uimg_fit_reading.specs.Nodes.{IsEntryOrNone, InTreeFrom};
 

@@ -1,7 +1,8 @@
 //! The payload of an image by its name, and the name of an image, in memory.
 
-ghost use Rattle.std.specs.Prelude.{◌≡◌, ◌+◌, ◌<◌, ◌≤◌, false, length, IsTrue, IfErr, IfOk};
+ghost use Rattle.std.specs.Prelude.{◌≡◌, ◌+◌, ◌<◌, ◌≤◌, false, length, IfErr, IfOk};
 ghost use Rattle.std.specs.Str.{bytes_eq};
+ghost use Rattle.uimg_base.specs.Honest.{HonestSource, IfHonest};
 ghost use Rattle.uimg_texts.specs.Slices.{slice};
 ghost use Rattle.uimg_blob_reading.specs.Grammar.{Siblings};
 ghost use Rattle.uimg_blob_reading.specs.LookUps.{NodeOf};
@@ -12,7 +13,6 @@ ghost use Rattle.uimg_fit_checking.specs.Named.{TellsNamed, name_at, payload_nam
 ghost use Rattle.uimg_fit_reading.specs.Nodes.{InFile, IsNode, IsRead};
 ghost use Rattle.uimg_fit_reading.specs.Values.{in_span};
 ghost use Rattle.uimg_fit_reading.specs.Rooms.{ReadsAny, ReadsInMemory};
-ghost use Rattle.uimg_fit_reading.specs.Puts.{IfHonest};
 
 use std::alloc::Allocator;
 use uimg_base::{MemSource, Room, Source, Span};
@@ -83,7 +83,7 @@ fn locate_in<S: Source, A: Allocator>(
     requires { (S.device source.old).bytes ≡ file.now }
     ensures reads { ReadsAny result S.device source room }
     ensures inside { IfOk result (λ p. p.place + p.length ≤ length file.now) }
-    ensures told { IsTrue (S.device source.old).honest →
+    ensures told { HonestSource S.device source →
         Gives (in_span file.now) result (payload_named file.now name.now) }
 {
     let blob = read_tree(source, room)?;

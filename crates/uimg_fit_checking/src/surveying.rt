@@ -1,6 +1,7 @@
 //! Surveys a FIT image: collects where its facts are, without its payloads.
 
-ghost use Rattle.std.specs.Prelude.{◌≡◌, ◌+◌, ◌<◌, ℕ, List, length, false, IsTrue, IfOk};
+ghost use Rattle.std.specs.Prelude.{◌≡◌, ◌+◌, ◌<◌, ℕ, List, length, false, IfOk};
+ghost use Rattle.uimg_base.specs.Honest.{HonestSource, IfHonest};
 ghost use Rattle.uimg_blob_reading.specs.Counts.{index_cost};
 ghost use Rattle.uimg_blob_reading.specs.Grammar.{Siblings};
 ghost use Rattle.uimg_blob_reading.specs.LookUps.{NodeOf, images, configurations};
@@ -12,7 +13,6 @@ ghost use Rattle.uimg_fit_reading.specs.Rooms.{TakesNodes, UsesWithin};
 ghost use Rattle.uimg_fit_checking.specs.Survey.{said_of, read_survey, preferred_in, configurations_in, read_configuration};
 ghost use Rattle.uimg_fit_checking.specs.SurveyParts.{ConfigurationInside, SurveyInside, is_unread, lacks_room, is_changed, Surveys};
 ghost use Rattle.uimg_fit_reading.specs.PayloadPlaces.{Ends};
-ghost use Rattle.uimg_fit_reading.specs.Puts.{IfHonest};
 ghost use Rattle.std.specs.List.{All};
 ghost use Rattle.std.specs.Prelude.{map};
 ghost use Rattle.uimg_fit_base.specs.Files.{bytes_in};
@@ -99,7 +99,7 @@ pub fn survey<S: Source, A: Allocator>(
     ensures room { TakesNodes (S.device source.old) (lacks_room result) room.old room.new }
     ensures inside { IfOk result (SurveyInside (length (S.device source.old).bytes)) }
     ensures unchanged { is_changed result ≡ false }
-    ensures told { IsTrue (S.device source.old).honest → Surveys (S.device source.old).bytes result }
+    ensures told { HonestSource S.device source → Surveys (S.device source.old).bytes result }
 {
     let blob = read_tree(source, room)?;
     let first = first_image(&blob, room)?;

@@ -2,8 +2,8 @@
 
 ghost use Rattle.std.specs.Prelude.{IsTrue};
 ghost use Rattle.std.specs.Option.{option_map};
+ghost use Rattle.uimg_base.specs.Honest.{IfHonest};
 ghost use Rattle.uimg_fit_checking.specs.Unpacking.{Unpacks, unpack_of, unpack_work, bytes_of};
-ghost use Rattle.uimg_fit_reading.specs.Puts.{IfHonest};
 ghost use Rattle.uimg_fit_reading.specs.Rooms.{TakesOut};
 
 mod claims;

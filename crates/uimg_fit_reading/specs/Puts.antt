@@ -14,11 +14,6 @@ use Rattle.uimg_fit_base.specs.Faults as of
 use Rattle.uimg_fit_reading.specs.declared.open_fit.OpenFit.{OpenFit}
 use Rattle.uimg_fit_reading.specs.OpenFits.{KeepsBetween}
 
--- A fact about the bytes of a source, if it is honest.
-abbrev pub IfHonest : {S : Type 0} → (S → Device) → Lent S → (List ℕ → Type 0) → Type 0
-IfHonest device source P =
-    IsTrue (device source.entry.now).honest → P (device source.entry.now).bytes
-
 -- At most `most` bytes more were requested.
 abbrev pub Pays : {S : Type 0} → ℕ → (S → Device) → Lent S → Type 0
 Pays most device source = (device source.exit.now).asked ≤ (device source.entry.now).asked + most

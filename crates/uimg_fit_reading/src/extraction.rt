@@ -1,12 +1,12 @@
 //! Extraction: finds the payload of an image and writes it.
 
 ghost use Rattle.std.specs.Prelude.{◌≡◌, ◌+◌, ◌≤◌, length, IsTrue, IfOk};
+ghost use Rattle.uimg_base.specs.Honest.{IfHonest};
 ghost use Rattle.uimg_fit_base.specs.Extraction.{payload_at, extract_of};
 ghost use Rattle.uimg_fit_base.specs.Faults.{is_refused, Gives};
 ghost use Rattle.uimg_fit_reading.specs.Work.{list_work, extract_work};
 ghost use Rattle.uimg_fit_reading.specs.Values.{in_span};
 ghost use Rattle.uimg_fit_reading.specs.Rooms.{Inspects, Delivers, TellsOf, KeepsAhead};
-ghost use Rattle.uimg_fit_reading.specs.Puts.{IfHonest};
 
 use crate::images::image_at;
 use crate::places::payload_place;

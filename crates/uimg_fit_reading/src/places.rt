@@ -1,6 +1,7 @@
 //! Where the payload of an image is.
 
-ghost use Rattle.std.specs.Prelude.{◌≡◌, false, ◌+◌, ◌<◌, ◌≤◌, ◌^◌, length, is_err, IfOk, IfSome, IsTrue, IfErr};
+ghost use Rattle.std.specs.Prelude.{◌≡◌, false, ◌+◌, ◌<◌, ◌≤◌, ◌^◌, length, is_err, IfOk, IfSome, IfErr};
+ghost use Rattle.uimg_base.specs.Honest.{HonestSource};
 ghost use Rattle.uimg_base.specs.Using.{Asks};
 ghost use Rattle.uimg_blob_reading.specs.LookUps.{NodeOf};
 ghost use Rattle.uimg_blob_reading.specs.Grammar.{Siblings};
@@ -54,7 +55,7 @@ pub(crate) fn cell<S: Source>(
 ) -> Result<Option<u32>, SourceFault>
     requires { Ends (length (S.device source.old).bytes) value }
     ensures uses { Asks 4 (is_err result) (S.device source.old) (S.device source.new) }
-    ensures number { IsTrue (S.device source.old).honest →
+    ensures number { HonestSource S.device source →
         IfOk result (λ found. found ≡ number_in (S.device source.old).bytes value) }
 {
     let Some(span) = value else {
@@ -114,7 +115,7 @@ pub fn find_payload<S: Source>(
     requires blob { totalsize ≤ length (S.device source.old).bytes }
     ensures uses { Asks 12 (is_err result) (S.device source.old) (S.device source.new) }
     ensures found { IfOk result PlaceOrFault }
-    ensures place { IsTrue (S.device source.old).honest → IfOk result (λ p.
+    ensures place { HonestSource S.device source → IfOk result (λ p.
         p ≡ place_said totalsize (read_payload (S.device source.old).bytes facts.now)) }
 {
     let size = cell(source, facts.size)?;
@@ -139,7 +140,7 @@ pub(crate) fn find_place<S: Source, A: Allocator>(
     requires { HasNode (S.device source.old) blob.now room.now image }
     ensures uses { Asks 12 (is_err result) (S.device source.old) (S.device source.new) }
     ensures found { IfOk result PlaceOrFault }
-    ensures place { IsTrue (S.device source.old).honest → (t : Siblings) →
+    ensures place { HonestSource S.device source → (t : Siblings) →
         IsRead (S.device source.old).bytes blob.now room.now.entries t → (found : NodeOf Spot) →
         IsNode t in_images image found →
         IfOk result (λ p. p ≡ place (S.device source.old).bytes found) }
@@ -160,7 +161,7 @@ pub fn payload_place<S: Source, A: Allocator>(
     ensures uses { Asks 12 (is_read result) (S.device source.old) (S.device source.new) }
     ensures only { OnlyReads result }
     ensures inside { IfOk result (λ p. p.place + p.length ≤ length (S.device source.old).bytes) }
-    ensures told { IsTrue (S.device source.old).honest → (t : Siblings) →
+    ensures told { HonestSource S.device source → (t : Siblings) →
         IsRead (S.device source.old).bytes blob.now room.now.entries t → (found : NodeOf Spot) →
         IsNode t in_images image found → TellsPlace (S.device source.old).bytes found result }
 {

@@ -1,5 +1,6 @@
 //! Writes texts and reads bytes; failures are returned as those of a copy.
-ghost use Rattle.std.specs.Prelude.{◌≡◌, ◌+◌, ◌≤◌, ◌++◌, length, is_err, IsTrue, OnOk, IfErr};
+ghost use Rattle.std.specs.Prelude.{◌≡◌, ◌+◌, ◌≤◌, ◌++◌, length, is_err, OnOk, IfErr};
+ghost use Rattle.uimg_base.specs.Honest.{HonestSource};
 ghost use Rattle.uimg_base.specs.Outcome.{line};
 ghost use Rattle.uimg_base.specs.declared.ranges.MoveFault.TheVariants.{Read};
 ghost use Rattle.uimg_base.specs.Using.{Asks};
@@ -54,7 +55,7 @@ pub(crate) fn read<S: Source>(source: &mut S, at: u64, to: &mut [u8]) -> Result<
     requires { at + length to.old ≤ length (S.device source.old).bytes }
     ensures uses { Asks (length to.old) (is_err result) (S.device source.old) (S.device source.new) }
     ensures read { IfErr result (λ e. e ≡ Read) }
-    ensures bytes { IsTrue (S.device source.old).honest →
+    ensures bytes { HonestSource S.device source →
         OnOk result (to.new ≡ slice (S.device source.old).bytes at (length to.old)) }
 {
     match source.fill_at(at, to) {

@@ -29,12 +29,6 @@ use Rattle.uimg_fit_checking.specs.declared.surveying.facts.FullSurvey.{FullSurv
 use Rattle.uimg_info.specs.Members.{Fact}
 use Rattle.uimg_info.specs.declared.forms.Form.{Form}
 
--- Over an honest source the result is as a fact says of its bytes.
-abbrev pub Says : {S X E : Type 0} → Result X E → (S → Device) → Lent S → (List ℕ → X → Type 0)
-    → Type 0
-Says result device source Fact =
-    IsTrue (device source.entry.now).honest → IfOk result (Fact (device source.entry.now).bytes)
-
 -- The text is that of an object.
 abbrev pub Prints : {Z : Type 0} → Json → Vec ℕ Z → Type 0
 Prints j text = text.items ≡ print (json_tokens j)

@@ -3,6 +3,7 @@
 ghost use Rattle.std.specs.Prelude.{◌≡◌, ◌+◌, ◌^◌, ◌<◌, ◌≤◌, length, map, IfOk};
 ghost use Rattle.std.specs.List.{All, sum_by};
 ghost use Rattle.json.specs.Tree.{json_tokens};
+ghost use Rattle.uimg_base.specs.Honest.{IfHonest};
 ghost use Rattle.uimg_base.specs.Using.{Asks};
 ghost use Rattle.uimg_fit_checking.specs.FullSurvey.{FullInside};
 ghost use Rattle.uimg_fit_checking.specs.Survey.{read_hash, read_image, read_survey};
@@ -12,7 +13,7 @@ ghost use Rattle.uimg_info.specs.Fit.{fault_members, span_members, place_members
 ghost use Rattle.uimg_printing.specs.Members.{array_of, tokens_of};
 ghost use Rattle.uimg_info.specs.Members.{facts_members};
 ghost use Rattle.uimg_info.specs.Reservations.{reservations_of};
-ghost use Rattle.uimg_info.specs.Steps.{Puts, Adds, Says, read_json};
+ghost use Rattle.uimg_info.specs.Steps.{Puts, Adds, read_json};
 ghost use Rattle.uimg_info.specs.Work.{hash_size, image_rows_size, image_size, root_size, full_size};
 
 use crate::configurations::put_configurations;
@@ -138,8 +139,8 @@ fn place_of<S: Source>(
     ensures uses { Asks 12 (is_unread result) (S.device source.old) (S.device source.new) }
     ensures own { IsOwn result }
     ensures small { IfOk result (λ found. IfOk found (λ p. p.place + p.length < 2 ^ 64)) }
-    ensures place { Says result S.device source
-        (λ file found. found ≡ place_said totalsize (read_payload file facts.now)) }
+    ensures place { IfHonest S.device source (λ file.
+        IfOk result (λ found. found ≡ place_said totalsize (read_payload file facts.now))) }
 {
     match find_payload(source, totalsize, facts) {
         Ok(found) => Ok(found),

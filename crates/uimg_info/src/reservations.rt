@@ -2,13 +2,14 @@
 
 ghost use Rattle.std.specs.Prelude.{◌≡◌, Some, ◌-◌, ◌≤◌, min, length, drop, map, is_err, IfOk};
 ghost use Rattle.json.specs.Tree.{json_tokens};
+ghost use Rattle.uimg_base.specs.Honest.{IfHonest};
 ghost use Rattle.uimg_base.specs.Using.{Asks};
 ghost use Rattle.uimg_texts.specs.Numbers.{be32};
 ghost use Rattle.uimg_texts.specs.Slices.{slice};
 ghost use Rattle.uimg_printing.specs.Members.{array_of, tokens_of};
 ghost use Rattle.uimg_info.specs.Reservations.{entry_of, is_end, items_in, entries_in, reservations_of, reservation_json, reservations_members};
 ghost use Rattle.uimg_fit_checking.specs.SurveyParts.{IsOwn, is_unread};
-ghost use Rattle.uimg_info.specs.Steps.{Puts, Adds, Says};
+ghost use Rattle.uimg_info.specs.Steps.{Puts, Adds};
 
 use byteorder::{BigEndian, ByteOrder};
 use json::Writer;
@@ -79,7 +80,7 @@ fn entries_in(alloc: Global, bytes: &[u8]) -> Result<Option<Vec<Reservation>>, A
 fn place_of<S: Source>(source: &mut S) -> Result<u32, SourceFault>
     requires { 20 ≤ length (S.device source.old).bytes }
     ensures uses { Asks 4 (is_err result) (S.device source.old) (S.device source.new) }
-    ensures place { Says result S.device source (λ file n. n ≡ be32 file 16) }
+    ensures place { IfHonest S.device source (λ file. IfOk result (λ n. n ≡ be32 file 16)) }
 {
     let mut word = [0; 4];
     source.fill_at(16, &mut word)?;
@@ -96,8 +97,8 @@ fn read_reservations<S: Source>(
     requires { totalsize ≤ length (S.device source.old).bytes }
     ensures uses { Asks 65540 (is_unread result) (S.device source.old) (S.device source.new) }
     ensures own { IsOwn result }
-    ensures told { Says result S.device source
-        (λ file found. items_in found ≡ reservations_of file totalsize) }
+    ensures told { IfHonest S.device source (λ file.
+        IfOk result (λ found. items_in found ≡ reservations_of file totalsize)) }
 {
     if totalsize < 20 {
         return Ok(None);

@@ -1,15 +1,16 @@
 //! The text of the object of a FIT image's facts.
 
-ghost use Rattle.std.specs.Prelude.{◌≡◌, length, true, IsTrue, IfOk};
+ghost use Rattle.std.specs.Prelude.{◌≡◌, length, true, IfOk};
 ghost use Rattle.std.specs.Str.{IsUtf8};
 ghost use Rattle.json.specs.Json.{document};
 ghost use Rattle.uimg_printing.specs.Objects.{is_one_line};
+ghost use Rattle.uimg_base.specs.Honest.{HonestSource, IfHonest};
 ghost use Rattle.uimg_base.specs.Using.{Asks, UsesAtMost};
 ghost use Rattle.uimg_fit_reading.specs.Rooms.{TakesNodes};
 ghost use Rattle.uimg_fit_checking.specs.FullSurvey.{FullInside};
 ghost use Rattle.uimg_fit_checking.specs.SurveyParts.{is_unread, lacks_room, IsOwn};
 ghost use Rattle.uimg_info.specs.Fit.{info_of, ok_of};
-ghost use Rattle.uimg_info.specs.Steps.{Informs, Prints, ReadsAs, Says, read_json};
+ghost use Rattle.uimg_info.specs.Steps.{Informs, Prints, ReadsAs, read_json};
 ghost use Rattle.uimg_info.specs.Work.{full_size, info_work};
 
 use crate::fit::put_fit;
@@ -31,12 +32,13 @@ fn survey_text<S: Source>(
     ensures uses { Asks (full_size full.now) (is_unread result)
         (S.device source.old) (S.device source.new) }
     ensures own { IsOwn result }
-    ensures text { Says result S.device source
-        (λ file. Prints (read_json path.now size file full.now)) }
-    ensures reads_back { Says result S.device source
-        (λ file. ReadsAs (read_json path.now size file full.now)) }
+    ensures text { IfHonest S.device source (λ file.
+        IfOk result (Prints (read_json path.now size file full.now))) }
+    ensures reads_back { IfHonest S.device source (λ file.
+        IfOk result (ReadsAs (read_json path.now size file full.now))) }
     ensures utf8 { IfOk result (λ text. IsUtf8 text.items) }
-    ensures one_line { Says result S.device source (λ file text. is_one_line text.items ≡ true) }
+    ensures one_line { IfHonest S.device source (λ file.
+        IfOk result (λ text. is_one_line text.items ≡ true)) }
 {
     let mut writer = Writer::new(Vec::new(alloc));
     put_fit(alloc, source, &mut writer, path, size, full)?;
@@ -59,12 +61,13 @@ pub fn fit_text<S: Source, A: Allocator>(
     ensures uses { UsesAtMost (info_work (S.device source.old).bytes) (is_unread result)
         (S.device source.old) (S.device source.new) }
     ensures room { TakesNodes (S.device source.old) (lacks_room result) room.old room.new }
-    ensures told { IsTrue (S.device source.old).honest →
+    ensures told { HonestSource S.device source →
         Informs (λ text. text.items) path.now (S.device source.old).bytes result }
-    ensures reads_back { Says result S.device source
-        (λ file text. document text.items ≡ ok_of (info_of path.now file)) }
+    ensures reads_back { IfHonest S.device source (λ file.
+        IfOk result (λ text. document text.items ≡ ok_of (info_of path.now file))) }
     ensures utf8 { IfOk result (λ text. IsUtf8 text.items) }
-    ensures one_line { Says result S.device source (λ file text. is_one_line text.items ≡ true) }
+    ensures one_line { IfHonest S.device source (λ file.
+        IfOk result (λ text. is_one_line text.items ≡ true)) }
 {
     let full = survey_with_properties(alloc, source, room)?;
     let Ok(size) = source.size() else {

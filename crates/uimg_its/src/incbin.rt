@@ -1,6 +1,7 @@
 //! The files that values name, read whole or kept as name and size.
 
 ghost use Rattle.std.specs.Prelude.{◌≡◌, ◌<◌, Some, IfOk, IsTrue, length, codes, false};
+ghost use Rattle.uimg_base.specs.Honest.{HonestSource};
 ghost use Rattle.uimg_blob_writing.specs.Content.{bytes_in};
 ghost use Rattle.uimg_blob_writing.specs.Properties.{content};
 ghost use Rattle.uimg_blob_writing.specs.LentFiles.{IfHonest};
@@ -29,7 +30,7 @@ fn read_whole<S: Source, A: Allocator>(
     source: &mut S,
     left: usize,
 ) -> Result<Vec<u8, A>, Stop>
-    ensures bytes { IsTrue (S.device source.old).honest →
+    ensures bytes { HonestSource S.device source →
         IfOk result (λ v. v.items ≡ (S.device source.old).bytes) }
     ensures outside { IsOutside result }
     ensures no_file { is_no_file result ≡ false }

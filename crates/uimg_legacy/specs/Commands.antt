@@ -12,11 +12,6 @@ use Rattle.uimg_legacy.specs.declared.fault.LegacyFault.{LegacyFault}
 use Rattle.uimg_legacy.specs.declared.fault.Fault.{Fault}
 use Rattle.uimg_legacy.specs.Faults.{is_read, is_put, is_of_making, end_of}
 
--- A fact about the result and the source's bytes, if the source is honest.
-abbrev pub OfHonest : {S X : Type 0} → (List ℕ → X → Type 0) → X → (S → Device) → Lent S → Type 0
-OfHonest fact result device source =
-    IsTrue (device source.entry.now).honest → fact (device source.entry.now).bytes result
-
 -- The source is unchanged, and its failures rose exactly if a read failed. Of an honest source at
 -- most `work` of its bytes were requested.
 abbrev pub UsesWithin : {S : Type 0} → (List ℕ → ℕ) → Bool → (S → Device) → Lent S → Type 0

@@ -1,8 +1,9 @@
 //! Whether an image's checksums are right, without a report.
 
+ghost use Rattle.uimg_base.specs.Honest.{IfHonest};
 ghost use Rattle.uimg_base.specs.Using.{UsesAtMost};
 ghost use Rattle.uimg_legacy.specs.Checking.{ChecksAs, Checks};
-ghost use Rattle.uimg_legacy.specs.Commands.{Inspects, OfHonest};
+ghost use Rattle.uimg_legacy.specs.Commands.{Inspects};
 ghost use Rattle.uimg_legacy.specs.Reading.{Reads};
 ghost use Rattle.uimg_legacy.specs.Work.{verify_work};
 
@@ -28,7 +29,7 @@ fn are_right<S: Source, A: Allocator>(source: &mut S, room: &mut Room<A>) -> Res
 /// more than a report; the room is only cleared.
 pub fn check<S: Source, A: Allocator>(source: &mut S, room: &mut Room<A>) -> Result<bool, Fault>
     ensures inspects { Inspects verify_work result S.device source room }
-    ensures told { OfHonest ChecksAs result S.device source }
+    ensures told { IfHonest S.device source (λ file. ChecksAs file result) }
 {
     room.clear();
     are_right(source, room)

@@ -1,9 +1,10 @@
 //! How many parts an image has.
 
 ghost use Rattle.std.specs.Prelude.{◌+◌, ◌≤◌, length};
+ghost use Rattle.uimg_base.specs.Honest.{IfHonest};
 ghost use Rattle.uimg_base.specs.Using.{UsesAtMost};
 ghost use Rattle.uimg_legacy.specs.Counting.{CountsIn, CountsOf};
-ghost use Rattle.uimg_legacy.specs.Commands.{Inspects, OfHonest};
+ghost use Rattle.uimg_legacy.specs.Commands.{Inspects};
 ghost use Rattle.uimg_legacy.specs.Reading.{Reads};
 ghost use Rattle.uimg_legacy.specs.Work.{list_work, table_work};
 
@@ -48,7 +49,7 @@ pub fn count_parts<S: Source, A: Allocator>(
     room: &mut Room<A>,
 ) -> Result<u32, Fault>
     ensures inspects { Inspects list_work result S.device source room }
-    ensures told { OfHonest CountsOf result S.device source }
+    ensures told { IfHonest S.device source (λ file. CountsOf file result) }
 {
     room.clear();
     count_in_image(source, room)

@@ -1,12 +1,13 @@
 //! Extraction: finds a part and writes it.
 
 ghost use Rattle.std.specs.Prelude.{◌≡◌, IsTrue};
+ghost use Rattle.uimg_base.specs.Honest.{IfHonest};
 ghost use Rattle.uimg_base.specs.Using.{UsesAtMost};
 ghost use Rattle.uimg_legacy.specs.Extraction.{extract_of};
 ghost use Rattle.uimg_legacy.specs.Work.{list_work, extract_work};
 ghost use Rattle.uimg_legacy.specs.Reading.{Reads, LocatesPart, EndsInFile};
 ghost use Rattle.uimg_legacy.specs.Faults.{is_refused};
-ghost use Rattle.uimg_legacy.specs.Commands.{Inspects, Delivers, OfHonest, TellsOf, KeepsAhead};
+ghost use Rattle.uimg_legacy.specs.Commands.{Inspects, Delivers, TellsOf, KeepsAhead};
 
 use crate::fault::Fault;
 use crate::image::read_image;
@@ -39,7 +40,7 @@ pub fn locate<S: Source, A: Allocator>(
 ) -> Result<Span, Fault>
     ensures inspects { Inspects list_work result S.device source room }
     ensures inside { EndsInFile result S.device source }
-    ensures told { OfHonest (LocatesPart position) result S.device source }
+    ensures told { IfHonest S.device source (λ file. LocatesPart position file result) }
 {
     room.clear();
     locate_part(source, room, position)

@@ -1,9 +1,9 @@
 //! Reading and writing the 64 bytes of a header.
 
 ghost use Rattle.std.specs.Prelude.{◌≡◌, true, Ok};
+ghost use Rattle.uimg_base.specs.Honest.{IfHonest};
 ghost use Rattle.uimg_texts.specs.Numbers.{be32};
 ghost use Rattle.uimg_legacy.specs.Header.{magic, head, has_right_crc, fields, header as header_of, spelled_with, spelled, name_of};
-ghost use Rattle.uimg_legacy.specs.Commands.{OfHonest};
 ghost use Rattle.uimg_legacy.specs.Faults.{GivesBy};
 ghost use Rattle.uimg_legacy.specs.Reading.{ReadsHead, IsSpelledIn};
 
@@ -47,7 +47,7 @@ pub struct Header {
 #[tactic(auto, unfolding(crate::specs::Header::head))]
 pub(crate) fn read_head<S: Source>(source: &mut S) -> Result<[u8; HEADER_LEN], Fault>
     ensures reads { ReadsHead result S.device source }
-    ensures gives { OfHonest (GivesBy head) result S.device source }
+    ensures gives { IfHonest S.device source (λ file. GivesBy head file result) }
 {
     if source.size()? < HEADER_LEN as u64 {
         return Err(Fault::Legacy(LegacyFault::TooShort));
@@ -99,8 +99,8 @@ pub(crate) fn fields(bytes: &[u8; HEADER_LEN]) -> Header
 /// spells the first 64 bytes.
 pub fn read_header<S: Source>(source: &mut S) -> Result<Header, Fault>
     ensures reads { ReadsHead result S.device source }
-    ensures gives { OfHonest (GivesBy header_of) result S.device source }
-    ensures spelled { OfHonest IsSpelledIn result S.device source }
+    ensures gives { IfHonest S.device source (λ file. GivesBy header_of file result) }
+    ensures spelled { IfHonest S.device source (λ file. IsSpelledIn file result) }
 {
     let bytes = read_head(source)?;
     if !has_right_crc(&bytes) {

@@ -1,11 +1,11 @@
 //! The parts of the types multi and script: how many, and where each is.
 
 ghost use Rattle.std.specs.Prelude.{◌≡◌, ◌+◌, ◌*◌, ◌≤◌, length, IfOk, is_err};
+ghost use Rattle.uimg_base.specs.Honest.{IfHonest};
 ghost use Rattle.uimg_base.specs.Using.{Asks, UsesAtMost};
 ghost use Rattle.uimg_legacy.specs.Parts.{has_parts};
 ghost use Rattle.uimg_legacy.specs.Work.{table_work};
 ghost use Rattle.uimg_legacy.specs.Tables.{Counts, sizes_work};
-ghost use Rattle.uimg_legacy.specs.Commands.{OfHonest};
 ghost use Rattle.uimg_legacy.specs.Reading.{Reads, FindsPart, IsWordAt};
 
 use crate::fault::{Fault, LegacyFault};
@@ -27,7 +27,7 @@ pub fn has_parts(kind: u8) -> bool
 pub(crate) fn size_at<S: Source>(source: &mut S, i: u32) -> Result<u32, SourceFault>
     requires { 64 + 4 * (i + 1) ≤ length (S.device source.old).bytes }
     ensures uses { Asks 4 (is_err result) (S.device source.old) (S.device source.new) }
-    ensures size { OfHonest (IsWordAt (64 + 4 * i)) result S.device source }
+    ensures size { IfHonest S.device source (λ file. IsWordAt (64 + 4 * i) file result) }
 {
     let mut word = [0; 4];
     source.fill_at(64 + 4 * i as u64, &mut word)?;

@@ -1,6 +1,7 @@
 //! Where all parts of an image are.
 
-ghost use Rattle.std.specs.Prelude.{◌≡◌, ◌+◌, ◌*◌, ◌≤◌, [], ◌∷◌, ◌++◌, length, IsTrue, IfOk, OnOk};
+ghost use Rattle.std.specs.Prelude.{◌≡◌, ◌+◌, ◌*◌, ◌≤◌, [], ◌∷◌, ◌++◌, length, IfOk, OnOk};
+ghost use Rattle.uimg_base.specs.Honest.{HonestSource};
 ghost use Rattle.uimg_base.specs.Using.{Asks};
 ghost use Rattle.uimg_legacy.specs.Commands.{UsesWithin};
 ghost use Rattle.uimg_legacy.specs.Placing.{places_of, is_unread, GivesPlaces, TellsPlaces};
@@ -122,7 +123,7 @@ pub fn locate_parts<S: Source, A: Allocator>(
 ) -> Result<Vec<Span>, PartsFault>
     ensures uses { UsesWithin (table_work header.now) (is_unread result) S.device source }
     ensures room { room.new ≡ room.old }
-    ensures told { IsTrue (S.device source.old).honest → GivesPlaces (λ parts. parts.items) result
+    ensures told { HonestSource S.device source → GivesPlaces (λ parts. parts.items) result
         (places_of (S.device source.old).bytes header.now) }
 {
     if source.size()? < 64 + header.size as u64 {

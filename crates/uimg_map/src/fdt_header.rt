@@ -1,6 +1,7 @@
 //! The ten numbers at the beginning of a devicetree blob.
 
-ghost use Rattle.std.specs.Prelude.{◌≡◌, is_err, IfOk, IsTrue};
+ghost use Rattle.std.specs.Prelude.{◌≡◌, is_err, IfOk};
+ghost use Rattle.uimg_base.specs.Honest.{HonestSource};
 ghost use Rattle.uimg_base.specs.Using.{Asks};
 ghost use Rattle.uimg_map.specs.FdtHeader.{fdt_header_at_start, fdt_header_of};
 
@@ -69,7 +70,7 @@ fn fdt_header_at_start(bytes: &[u8; BLOB_HEADER_LEN]) -> FdtHeader
 #[tactic(auto, unfolding(crate::specs::FdtHeader::fdt_header_of))]
 pub fn read_fdt_header<S: Source>(source: &mut S) -> Result<Option<FdtHeader>, SourceFault>
     ensures uses { Asks 40 (is_err result) (S.device source.old) (S.device source.new) }
-    ensures found { IsTrue (S.device source.old).honest →
+    ensures found { HonestSource S.device source →
         IfOk result (λ found. found ≡ fdt_header_of (S.device source.old).bytes) }
 {
     if source.size()? < BLOB_HEADER_LEN as u64 {

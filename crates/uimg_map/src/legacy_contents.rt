@@ -1,6 +1,7 @@
 //! What is in the file of a legacy image.
 
-ghost use Rattle.std.specs.Prelude.{◌≡◌, ◌≤◌, ◌<◌, ◌+◌, ◌*◌, ◌^◌, length, ℕ, List, nat_lt, true, Some, IfOk, IsTrue, is_err};
+ghost use Rattle.std.specs.Prelude.{◌≡◌, ◌≤◌, ◌<◌, ◌+◌, ◌*◌, ◌^◌, length, ℕ, List, nat_lt, true, Some, IfOk, is_err};
+ghost use Rattle.uimg_base.specs.Honest.{HonestSource};
 ghost use Rattle.uimg_base.specs.Using.{Asks, UsesAtMost};
 ghost use Rattle.uimg_legacy.specs.Image.{payload};
 ghost use Rattle.uimg_legacy.specs.Parts.{has_parts, sizes, part_sizes};
@@ -147,7 +148,7 @@ fn add_endless(size: u32, contents: &mut Contents) -> Result<(), MapFault>
 fn count_sizes<S: Source>(source: &mut S, size: u32) -> Result<Option<u32>, SourceFault>
     ensures uses { UsesAtMost (4 * length (sizes (slice (S.device source.old).bytes 64 size)) + 4) (is_err result)
         (S.device source.old) (S.device source.new) }
-    ensures count { IsTrue (S.device source.old).honest →
+    ensures count { HonestSource S.device source →
         IfOk result (λ count. count ≡ count_in (part_sizes (slice (S.device source.old).bytes 64 size))) }
 {
     for number in 0..size / 4 {
@@ -164,7 +165,7 @@ fn count_sizes<S: Source>(source: &mut S, size: u32) -> Result<Option<u32>, Sour
 #[tactic(auto, unfolding(crate::specs::Tables::word_at, uimg_texts::specs::Numbers::be32))]
 fn size_at<S: Source>(source: &mut S, number: u32) -> Result<Option<u32>, SourceFault>
     ensures uses { Asks 4 (is_err result) (S.device source.old) (S.device source.new) }
-    ensures word { IsTrue (S.device source.old).honest →
+    ensures word { HonestSource S.device source →
         IfOk result (λ word. word ≡ word_at (S.device source.old).bytes number) }
 {
     let at = HEADER_LEN as u64 + 4 * number as u64;
@@ -185,7 +186,7 @@ fn add_parts<S: Source>(
     size: u32,
     contents: &mut Contents,
 ) -> Result<(), MapFault>
-    requires { IsTrue (S.device source.old).honest →
+    requires { HonestSource S.device source →
         count_in (part_sizes (slice (S.device source.old).bytes 64 size)) ≡ Some count }
     ensures { Gathers (λ _. 4 * count)
         (λ file. parts_told (64 + size) (64 + 4 * (count + 1)) 0 (sizes (slice file 64 size))) result

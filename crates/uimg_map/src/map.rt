@@ -1,6 +1,7 @@
 //! The map of an image's file.
 
 ghost use Rattle.std.specs.Prelude.{◌≡◌, length, IfOk, IfErr, IsTrue};
+ghost use Rattle.uimg_base.specs.Honest.{HonestSource};
 ghost use Rattle.uimg_base.specs.Using.{UsesAtMost};
 ghost use Rattle.uimg_map.specs.Contents.{Gathers};
 ghost use Rattle.uimg_map.specs.Faults.{is_read, stops};
@@ -80,9 +81,9 @@ pub fn map_of<S: Source>(alloc: Global, source: &mut S) -> Result<Map, MapFault>
         (S.device source.old) (S.device source.new) }
     ensures size { IfOk result (λ map. map.size ≡ length (S.device source.old).bytes) }
     ensures rows { IfOk result IsMap }
-    ensures found { IsTrue (S.device source.old).honest →
+    ensures found { HonestSource S.device source →
         IfOk result (IsMapOf (S.device source.old).bytes) }
-    ensures stops { IsTrue (S.device source.old).honest →
+    ensures stops { HonestSource S.device source →
         IfErr result (λ fault. IsTrue (stops fault)) }
 {
     let mut contents = Contents::new(alloc, source.size()?);

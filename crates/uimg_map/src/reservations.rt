@@ -1,6 +1,7 @@
 //! Finds the end of the memory reservation block of a devicetree blob.
 
-ghost use Rattle.std.specs.Prelude.{◌≡◌, ◌+◌, ◌≤◌, length, is_err, IfOk, IfSome, IsTrue};
+ghost use Rattle.std.specs.Prelude.{◌≡◌, ◌+◌, ◌≤◌, length, is_err, IfOk, IfSome};
+ghost use Rattle.uimg_base.specs.Honest.{HonestSource};
 ghost use Rattle.uimg_base.specs.Using.{Asks};
 ghost use Rattle.uimg_map.specs.Reservations.{zeros, EndsBlock};
 ghost use Rattle.uimg_texts.specs.Slices.{slice};
@@ -14,7 +15,7 @@ const ENTRY_LEN: usize = 16;
 fn is_last<S: Source>(source: &mut S, at: u64) -> Result<bool, SourceFault>
     requires { at + 16 ≤ length (S.device source.old).bytes }
     ensures uses { Asks 16 (is_err result) (S.device source.old) (S.device source.new) }
-    ensures last { IsTrue (S.device source.old).honest →
+    ensures last { HonestSource S.device source →
         IfOk result (λ is. is ≡ zeros (slice (S.device source.old).bytes at 16)) }
 {
     let mut entry = [0; ENTRY_LEN];
@@ -31,7 +32,7 @@ pub fn end_of_reservations<S: Source>(
 ) -> Result<Option<u64>, SourceFault>
     ensures uses { Asks (length (S.device source.old).bytes) (is_err result)
         (S.device source.old) (S.device source.new) }
-    ensures found { IsTrue (S.device source.old).honest →
+    ensures found { HonestSource S.device source →
         IfOk result (EndsBlock (S.device source.old).bytes place) }
 {
     let size = source.size()?;

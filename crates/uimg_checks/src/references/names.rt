@@ -1,8 +1,9 @@
 //! The names of images and configurations, as a set.
 
-ghost use Rattle.std.specs.Prelude.{◌+◌, ◌≤◌, length, map, IsTrue};
+ghost use Rattle.std.specs.Prelude.{◌+◌, ◌≤◌, length, map};
 ghost use Rattle.std.specs.Result.{OnOk};
 ghost use Rattle.std.specs.List.{All, sum_by};
+ghost use Rattle.uimg_base.specs.Honest.{HonestSource};
 ghost use Rattle.uimg_base.specs.Using.{Asks};
 ghost use Rattle.uimg_fit_checking.specs.SurveyParts.{is_unread, IsOwn, ImageInside, ConfigurationInside};
 ghost use Rattle.uimg_checks.specs.ReferenceNames.{name_in, image_name_in, configuration_name_in, AddsName, TellsNames};
@@ -22,7 +23,7 @@ fn add_name<S: Source>(
     requires { span.place + span.length ≤ length (S.device source.old).bytes }
     ensures uses { Asks span.length (is_unread result) (S.device source.old) (S.device source.new) }
     ensures own { IsOwn result }
-    ensures told { IsTrue (S.device source.old).honest →
+    ensures told { HonestSource S.device source →
         OnOk result (AddsName (name_in (S.device source.old).bytes span) names.old names.new) }
 {
     let name = read_bytes(alloc, source, span)?;

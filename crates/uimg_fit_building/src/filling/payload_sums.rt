@@ -1,6 +1,7 @@
 //! Sums of a payload by all algorithms in use, in one pass.
 
-ghost use Rattle.std.specs.Prelude.{◌≡◌, length, IsTrue, IsOkUnless, IfOk, OnOk};
+ghost use Rattle.std.specs.Prelude.{◌≡◌, length, IsOkUnless, IfOk, OnOk};
+ghost use Rattle.uimg_base.specs.Honest.{HonestSource};
 ghost use Rattle.uimg_base.specs.Device.{RisesIf};
 ghost use Rattle.uimg_blob_writing.specs.Content.{bytes_in, file};
 ghost use Rattle.uimg_blob_writing.specs.Properties.{content};
@@ -21,7 +22,7 @@ fn feed_source<S: Source>(bundle: &mut Bundle, source: &mut S, size: u64) -> Res
     ensures sized { OnOk result (length (S.device source.old).bytes ≡ size) }
     ensures failures { length (S.device source.old).bytes ≡ size →
         RisesIf (fails_to_read result) (S.device source.old).failures (S.device source.new).failures }
-    ensures fed { IsTrue (S.device source.old).honest →
+    ensures fed { HonestSource S.device source →
         OnOk result (Feeds bundle (S.device source.old).bytes) }
 {
     match source.size() {

@@ -1,6 +1,7 @@
 //! Reads values at the spans of a survey.
 
-ghost use Rattle.std.specs.Prelude.{◌≡◌, ◌+◌, ◌≤◌, length, IsTrue, IfOk};
+ghost use Rattle.std.specs.Prelude.{◌≡◌, ◌+◌, ◌≤◌, length, IfOk};
+ghost use Rattle.uimg_base.specs.Honest.{HonestSource};
 ghost use Rattle.uimg_base.specs.Using.{Asks};
 ghost use Rattle.uimg_fit_checking.specs.SurveyParts.{is_unread, IsOwn};
 ghost use Rattle.uimg_fit_reading.specs.Values.{in_span};
@@ -19,7 +20,7 @@ pub fn read_bytes<S: Source>(
     requires { span.place + span.length ≤ length (S.device source.old).bytes }
     ensures uses { Asks span.length (is_unread result) (S.device source.old) (S.device source.new) }
     ensures own { IsOwn result }
-    ensures told { IsTrue (S.device source.old).honest →
+    ensures told { HonestSource S.device source →
         IfOk result (λ bytes. bytes.items ≡ in_span (S.device source.old).bytes span) }
 {
     let mut bytes = Vec::from_elem(alloc, 0, span.length as usize)?;

@@ -1,6 +1,7 @@
 //! Names of nodes, read from their image.
 
-ghost use Rattle.std.specs.Prelude.{◌≡◌, ◌≤◌, ◌+◌, ◌↔◌, length, take, is_err, IfOk, IfSome, IsSome, IsTrue};
+ghost use Rattle.std.specs.Prelude.{◌≡◌, ◌≤◌, ◌+◌, ◌↔◌, length, take, is_err, IfOk, IfSome, IsSome};
+ghost use Rattle.uimg_base.specs.Honest.{HonestSource};
 ghost use Rattle.uimg_base.specs.Using.{Asks};
 ghost use Rattle.uimg_fit_reading.specs.Values.{in_span};
 
@@ -46,7 +47,7 @@ impl NodeName {
 pub(super) fn read_name<S: Source>(source: &mut S, span: Span) -> Result<NodeName, SourceFault>
     requires { span.place + span.length ≤ length (S.device source.old).bytes }
     ensures uses { Asks 255 (is_err result) (S.device source.old) (S.device source.new) }
-    ensures bytes { IsTrue (S.device source.old).honest → span.length ≤ 255 → IfOk result
+    ensures bytes { HonestSource S.device source → span.length ≤ 255 → IfOk result
         (λ name. take name.length name.bytes ≡ in_span (S.device source.old).bytes span) }
 {
     let length = u64::min(span.length, NAME_LEN as u64) as usize;

@@ -1,6 +1,7 @@
 //! Whether the hash nodes of an image vouch for what was written of its payload.
 
-ghost use Rattle.std.specs.Prelude.{◌≡◌, ◌≤◌, ◌+◌, ℕ, List, length, is_err, IfOk, IsTrue};
+ghost use Rattle.std.specs.Prelude.{◌≡◌, ◌≤◌, ◌+◌, ℕ, List, length, is_err, IfOk};
+ghost use Rattle.uimg_base.specs.Honest.{HonestSource};
 ghost use Rattle.uimg_base.specs.Using.{Asks, Uses};
 ghost use Rattle.uimg_blob_reading.specs.LookUps.{hashes};
 ghost use Rattle.uimg_blob_reading.specs.Roles.{in_images};
@@ -65,7 +66,7 @@ pub(super) fn vouched_by(digests: &Digests) -> Option<Vouched>
 fn refusal<S: Source>(source: &mut S, wrong: WrongHash) -> Result<Refusal, SourceFault>
     requires { wrong.hash.place + wrong.hash.length ≤ length (S.device source.old).bytes }
     ensures uses { Asks 255 (is_err result) (S.device source.old) (S.device source.new) }
-    ensures told { IsTrue (S.device source.old).honest → wrong.hash.length ≤ 255 → (name : List ℕ) →
+    ensures told { HonestSource S.device source → wrong.hash.length ≤ 255 → (name : List ℕ) →
         IfOk result (λ found. told_of name found ≡ wrong_told (S.device source.old).bytes name wrong) }
 {
     Ok(Refusal::Wrong {

@@ -1,6 +1,7 @@
 //! Prints types, architectures, systems and compressions, with the names of a set.
 
-ghost use Rattle.std.specs.Prelude.{◌≡◌, ◌+◌, ◌≤◌, ◌++◌, min, length, is_err, IsTrue, IfOk};
+ghost use Rattle.std.specs.Prelude.{◌≡◌, ◌+◌, ◌≤◌, ◌++◌, min, length, is_err, IfOk};
+ghost use Rattle.uimg_base.specs.Honest.{HonestSource};
 ghost use Rattle.uimg_base.specs.Outcome.{line};
 ghost use Rattle.uimg_base.specs.Using.{Asks};
 ghost use Rattle.uimg_fit_reading.specs.Shows.{name_in};
@@ -23,7 +24,7 @@ fn long_name<S: Source>(
     requires { span.place + span.length ≤ length (S.device source.old).bytes }
     ensures uses { Asks (min 32 span.length) (is_err result) (S.device source.old)
         (S.device source.new) }
-    ensures name { IsTrue (S.device source.old).honest → IfOk result
+    ensures name { HonestSource S.device source → IfOk result
         (λ name. name.now ≡ name_in naming field (in_span (S.device source.old).bytes span)) }
 {
     let mut text = [0; 32];

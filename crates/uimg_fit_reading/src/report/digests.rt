@@ -1,5 +1,6 @@
 //! The digests that the hash nodes of an image are compared with, from one pass over its payload.
-ghost use Rattle.std.specs.Prelude.{◌≡◌, ◌+◌, ◌≤◌, length, is_err, IfOk, IsTrue, if◌then◌else◌};
+ghost use Rattle.std.specs.Prelude.{◌≡◌, ◌+◌, ◌≤◌, length, is_err, IfOk, if◌then◌else◌};
+ghost use Rattle.uimg_base.specs.Honest.{HonestSource};
 ghost use Rattle.uimg_base.specs.Using.{Asks, Uses};
 ghost use Rattle.uimg_fit_base.specs.AlgoSets.{is_empty, set_of, AreDigests};
 ghost use Rattle.uimg_fit_reading.specs.HashReports.{FindsAlgos, FindsDigests};
@@ -60,7 +61,7 @@ pub fn payload_digests<S: Source, A: Allocator>(
         (S.device source.old) (S.device source.new) }
     ensures room { room.new ≡ room.old }
     ensures set { IfOk result (λ found. set_of found ≡ set) }
-    ensures digests { IsTrue (S.device source.old).honest →
+    ensures digests { HonestSource S.device source →
         IfOk result (λ found. AreDigests found (in_span (S.device source.old).bytes span)) }
 {
     let mut sums = set.sums();

@@ -1,7 +1,8 @@
 //! The plan for a hash node before its payload is read, and its word afterwards.
-ghost use Rattle.std.specs.Prelude.{◌≡◌, ◌+◌, ◌≤◌, ℕ, List, length, take, is_err, IfOk, IsTrue};
+ghost use Rattle.std.specs.Prelude.{◌≡◌, ◌+◌, ◌≤◌, ℕ, List, length, take, is_err, IfOk};
 ghost use Rattle.std.specs.Str.{bytes_eq};
 ghost use Rattle.uimg_sums.specs.Algorithms.{algo_named};
+ghost use Rattle.uimg_base.specs.Honest.{HonestSource};
 ghost use Rattle.uimg_base.specs.Using.{Asks};
 ghost use Rattle.uimg_fit_base.specs.AlgoSets.{set_of, AreDigests};
 ghost use Rattle.uimg_fit_base.specs.Report.{word_of};
@@ -55,7 +56,7 @@ fn planned<S: Source>(
 ) -> Result<Plan, SourceFault>
     requires { Ends (length (S.device source.old).bytes) algo }
     ensures uses { Asks 32 (is_err result) (S.device source.old) (S.device source.new) }
-    ensures plan { IsTrue (S.device source.old).honest → IfOk result (λ plan.
+    ensures plan { HonestSource S.device source → IfOk result (λ plan.
         plan ≡ plan_by_name (text_in (S.device source.old).bytes algo) value) }
     ensures value { IfOk result (IsOf value) }
 {
@@ -95,7 +96,7 @@ fn is_digest<S: Source>(source: &mut S, span: Span, digest: &[u8; 64]) -> Result
     requires range { span.place + span.length ≤ length (S.device source.old).bytes }
     requires few { span.length ≤ 64 }
     ensures uses { Asks span.length (is_err result) (S.device source.old) (S.device source.new) }
-    ensures same { IsTrue (S.device source.old).honest → IfOk result (λ same.
+    ensures same { HonestSource S.device source → IfOk result (λ same.
         same ≡ bytes_eq (in_span (S.device source.old).bytes span) (take span.length digest.now)) }
 {
     let length = span.length as usize;
@@ -113,7 +114,7 @@ pub(crate) fn judged<S: Source>(
 ) -> Result<Verdict, SourceFault>
     requires { EndsIn (length (S.device source.old).bytes) plan }
     ensures uses { Asks 64 (is_err result) (S.device source.old) (S.device source.new) }
-    ensures word { IsTrue (S.device source.old).honest → (message : List ℕ) →
+    ensures word { HonestSource S.device source → (message : List ℕ) →
         AreDigests digests.now message → IsCovered (set_of digests.now) plan →
         IfOk result (λ word. word ≡ word_by (S.device source.old).bytes message plan) }
     ensures compared { IfOk result (IsCompared (set_of digests.now) plan) }
