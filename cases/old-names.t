@@ -435,5 +435,5 @@ The outfile gets its name when it is complete, also through a link, and an exist
 Helps:
 
   $ mkimage --help | head -n 1 && dumpimage -h | head -n 1
-  Make a U-Boot image, or list one: uimg by mkimage's name
-  List a U-Boot image, or extract a part of it: uimg by dumpimage's name
+  Make a U-Boot image, or list one (uimg under the name of mkimage)
+  List a U-Boot image, or extract a part of it (uimg under the name of dumpimage)

@@ -3,5 +3,6 @@
 #![tactic(auto)]
 
 pub mod samples;
+pub mod sources;
 #[cfg(test)]
 mod tests;

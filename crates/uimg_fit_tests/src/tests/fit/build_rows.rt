@@ -1,7 +1,8 @@
 //! Images that are filled and built, compared with bytes from elsewhere.
 use super::super::answers::is_said;
 use super::images::image;
-use super::making::{FOUR_HASH, built, filled, told};
+use super::making::{built, filled, told};
+use crate::sources::FOUR_HASH;
 use std::alloc::{AllocError, Global};
 use std::process::Abort;
 use std::test::Fail;

@@ -1,6 +1,7 @@
 //! Results and output if files, the output or memory fail.
 use super::super::answers::is_said;
-use super::making::{FOUR_HASH, built, filled, placement, told};
+use super::making::{built, filled, placement, told};
+use crate::sources::FOUR_HASH;
 use linked_list_allocator::LocalHeap;
 use std::alloc::{AllocError, Global};
 use std::test::Fail;

@@ -1,6 +1,7 @@
 //! Results of `fill`.
 use super::super::answers::is_said;
-use super::making::{FOUR_HASH, built, filled};
+use super::making::{built, filled};
+use crate::sources::FOUR_HASH;
 use std::alloc::{AllocError, Global};
 use std::test::Fail;
 use uimg_base::{Files, FuseFiles, MemFiles};

@@ -5,37 +5,6 @@ use uimg_blob_writing::Tree;
 use uimg_fit::{Fault, Placement, build, build_by, fill};
 use uimg_its::compile;
 
-/// The source of the case four-hash-fit, which is `examples/kernel.its`.
-pub(super) const FOUR_HASH: &str = "/dts-v1/;
-/ {
-\tdescription = \"demo\";
-\t#address-cells = <1>;
-\timages {
-\t\tkernel {
-\t\t\tdescription = \"k\";
-\t\t\tdata = /incbin/(\"abc.bin\");
-\t\t\ttype = \"kernel\";
-\t\t\tarch = \"arm64\";
-\t\t\tos = \"linux\";
-\t\t\tcompression = \"none\";
-\t\t\tload = <0x80000>;
-\t\t\tentry = <0x80000>;
-\t\t\thash-1 { algo = \"crc32\"; };
-\t\t\thash-2 { algo = \"md5\"; };
-\t\t\thash-3 { algo = \"sha1\"; };
-\t\t\thash-4 { algo = \"sha256\"; };
-\t\t};
-\t};
-\tconfigurations {
-\t\tdefault = \"conf\";
-\t\tconf {
-\t\t\tdescription = \"c\";
-\t\t\tkernel = \"kernel\";
-\t\t};
-\t};
-};
-";
-
 /// Returns the placement of a word: `inside`, `after`, or a position.
 pub(super) fn placement(word: &str) -> Placement {
     match word {

@@ -1,5 +1,6 @@
 //! Refused memory during compilation.
-use super::sources::{FOUR_HASH, NAMED};
+use super::sources::NAMED;
+use crate::sources::FOUR_HASH;
 use linked_list_allocator::LocalHeap;
 use std::alloc::Global;
 use std::test::Fail;

@@ -1,4 +1,5 @@
 //! Sources that several rows name, and what they compile to.
+use crate::sources::FOUR_HASH;
 use std::alloc::Global;
 use uimg_base::{MemFiles, Out};
 use uimg_blob_writing::{Tree, WORD_ALIGNMENT, measure_by, write_tree};
@@ -6,37 +7,6 @@ use uimg_its::compile;
 
 /// The files of the tests.
 pub(super) const NAMED: [(&[u8], &[u8]); 2] = [(b"a", b"abc"), (b"abc.bin", b"abc")];
-
-/// The source of the case four-hash-fit, which is `examples/kernel.its`.
-pub(super) const FOUR_HASH: &str = "/dts-v1/;
-/ {
-\tdescription = \"demo\";
-\t#address-cells = <1>;
-\timages {
-\t\tkernel {
-\t\t\tdescription = \"k\";
-\t\t\tdata = /incbin/(\"abc.bin\");
-\t\t\ttype = \"kernel\";
-\t\t\tarch = \"arm64\";
-\t\t\tos = \"linux\";
-\t\t\tcompression = \"none\";
-\t\t\tload = <0x80000>;
-\t\t\tentry = <0x80000>;
-\t\t\thash-1 { algo = \"crc32\"; };
-\t\t\thash-2 { algo = \"md5\"; };
-\t\t\thash-3 { algo = \"sha1\"; };
-\t\t\thash-4 { algo = \"sha256\"; };
-\t\t};
-\t};
-\tconfigurations {
-\t\tdefault = \"conf\";
-\t\tconf {
-\t\t\tdescription = \"c\";
-\t\t\tkernel = \"kernel\";
-\t\t};
-\t};
-};
-";
 
 /// The source of the case mixed-values, which is `examples/mixed-values.its`.
 const MIXED: &str = "/dts-v1/;
