@@ -37,7 +37,9 @@ def owner_of(header):
     named = {it.strip() for group in (found[3], found[5]) for it in (group or "").split(",")}
     if not named - {"", "'_"} <= own:
         return None
-    return found[4].split("::")[-1] + (found[2] or "").split("::")[-1]
+    # An impl for a parameter is one for any type.
+    kind = "Any" if found[4] in own else found[4].split("::")[-1]
+    return kind + (found[2] or "").split("::")[-1]
 
 
 def functions_in(file, module):
