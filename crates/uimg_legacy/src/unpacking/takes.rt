@@ -114,8 +114,8 @@ fn take_next<S: Source, A: Allocator, T: PartTaker>(
         S.device source room T.honest T.kept taker }
     ensures paid { Pays 4 result S.device source walk }
     ensures taken { TakesNext parts number result S.device source walk T.honest T.held taker }
-    ensures refused { OfHonest (RefusesNumber number parts.size walk.old.at) result
-        S.device source }
+    ensures refused { IfHonest S.device source (λ file.
+        RefusesNumber number parts.size walk.old.at file result) }
 {
     let mut word = [0; 4];
     source.fill_at(64 + 4 * number as u64, &mut word)?;
@@ -152,8 +152,8 @@ pub(super) fn take_parts<S: Source, A: Allocator, T: PartTaker>(
         S.device source room T.honest T.kept taker }
     ensures paid { Pays (4 * parts.count) result S.device source walk }
     ensures taken { Walks parts result S.device source walk T.honest T.held taker }
-    ensures refused { OfHonest (RefusesFrom parts.count parts.size walk.old.at) result
-        S.device source }
+    ensures refused { IfHonest S.device source (λ file.
+        RefusesFrom parts.count parts.size walk.old.at file result) }
 {
     for number in 0..parts.count {
         take_next(source, room, number, parts, walk, taker)?;
