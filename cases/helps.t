@@ -9,8 +9,8 @@ Helps
   Commands:
     mkimage    Make an image from files, or list one
     dumpimage  List an image, or extract a part of it
-    verify     Verify the checksums and hashes of an image, a line for each
-    check      Check many images, a line for each
+    verify     Verify the checksums and hashes of an image, and print a line for each
+    check      Check many images, and print a line for each
     unpack     Write the payloads of an image to a folder, if their hashes are right
     info       Print the facts of an image as JSON, for scripts
     map        Show the layout of an image's file, even of a broken one
@@ -105,7 +105,7 @@ Helps
     3  A file cannot be opened, a read or write failed, or memory ran out
   $ uimg dumpimage -h > short && uimg dumpimage --help | cmp - short
   $ uimg verify -h
-  Verify the checksums and hashes of an image, a line for each
+  Verify the checksums and hashes of an image, and print a line for each
   
   Usage: uimg verify <image>
   
@@ -115,9 +115,10 @@ Helps
   Options:
     -h, --help  Print help
   
-  Prints a line for each checksum: of a legacy image those of the header and of
-  the data, of a FIT image each hash node of each image. A line ends with ok, bad,
-  malformed or unsupported, or with unhashed for an image without hash nodes.
+  Prints a line for each checksum. A legacy image has one of the header and, if that
+  is right, one of the data; a FIT image has one for each hash node of each image.
+  A line ends with ok, bad, malformed or unsupported, or with unhashed for an image
+  without hash nodes.
   The table of sizes of the types multi and script is not checked (dumpimage -l
   reads it), and neither are signatures and the hashes of configurations.
   
@@ -132,7 +133,7 @@ Helps
     3  A file cannot be opened, a read or write failed, or memory ran out
   $ uimg verify --help > short && uimg verify -h | cmp - short
   $ uimg check -h
-  Check many images, a line for each
+  Check many images, and print a line for each
   
   Usage: uimg check [OPTIONS] [image]...
   
@@ -142,7 +143,7 @@ Helps
   Options:
         --need <algo>        Require a hash by this algorithm or a stronger one
         --strict             Require a hash of each image, and an image for each name in configurations
-        --files-from <file>  Also check the images in this file, one path a line
+        --files-from <file>  Also check the images whose paths are in this file, one a line
     -0                       Paths in that file end with NUL, not with a newline
         --json               Print a JSON object for each image
     -h, --help               Print help
@@ -156,19 +157,20 @@ Helps
                  configurations, if any: 2 nodes of configurations unchecked
     unhashed     The same, but this image of the FIT has no hash
     bad          This hash of this image is wrong, or a checksum of a legacy image
-    malformed    This hash has no algorithm, or a value of the wrong length
+    malformed    This hash has no algorithm, no value, or one of the wrong length
     unsupported  This hash has an unknown algorithm
     weak         This image has no hash as strong as --need, or with --strict none;
                  a legacy image has crc32
     empty        The FIT has no images (with --need or --strict)
     missing      With --strict: no image has this name, which this configuration
                  gives by kernel, ramdisk, fdt, loadables, firmware, fpga, setup,
-                 standalone or script; or no configuration is the default
+                 standalone or script; or the default configuration does not
+                 exist
     overlapping  With this image, the payloads to hash are longer than the file
     refused      The image is refused, with this fault
     failed       The file cannot be opened, a read failed, or memory ran out
-  Names print control characters and \ as \xNN. --files-from - reads standard
-  input. --json prints path, status and verdict (the word), and depending on it
+  In names, control characters and \ are printed as \xNN. --files-from - reads
+  standard input. --json prints path, status and verdict (the word), and depending on it
   format, images, hashes, unchecked, checksums, algo, image, hash, configuration,
   property, name, fault, message and offset.
   Signatures and the hashes of configurations are not checked.
@@ -196,8 +198,8 @@ Without words the command line is wrong: the help goes to standard error.
   Commands:
     mkimage    Make an image from files, or list one
     dumpimage  List an image, or extract a part of it
-    verify     Verify the checksums and hashes of an image, a line for each
-    check      Check many images, a line for each
+    verify     Verify the checksums and hashes of an image, and print a line for each
+    check      Check many images, and print a line for each
     unpack     Write the payloads of an image to a folder, if their hashes are right
     info       Print the facts of an image as JSON, for scripts
     map        Show the layout of an image's file, even of a broken one

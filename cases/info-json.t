@@ -268,7 +268,7 @@ Wrong command lines:
         --json  Print a JSON object (the default)
     -h, --help  Print help
   
-  Prints one line, a JSON object. Of a FIT image it has path, status, format, size,
+  Prints one line, a JSON object. For a FIT image it has path, status, format, size,
   totalsize, description, timestamp, default, reservations, images and
   configurations. An image has name, description, type, arch, os, compression, load,
   entry, offset and data-size of its payload, and hashes; without a payload in the

@@ -289,10 +289,10 @@ Listing and unpacking:
 Requests that fail:
 
   $ mkimage -A amd64 -d d out
-  mkimage: -A: unknown architecture 'amd64'; did you mean 'arm64'? mkimage -A list prints all
+  mkimage: -A: unknown architecture 'amd64'; did you mean 'arm64'? mkimage -A list prints all names
   [2]
   $ mkimage -O android -d d out
-  mkimage: -O: unknown operating system 'android'; mkimage -O list prints all
+  mkimage: -O: unknown operating system 'android'; mkimage -O list prints all names
   [2]
   $ mkimage -T kwbimage -d d out
   mkimage: -T kwbimage: not supported; use mkimage of u-boot-tools
@@ -307,7 +307,7 @@ Requests that fail:
   mkimage: -f auto needs -d
   [2]
   $ mkimage -x -T multi -d d:d out
-  mkimage: -x: not supported for several parts; use mkimage of u-boot-tools
+  mkimage: -x: not supported for several parts
   [2]
   $ mkimage -E -B 6 -f kernel.its out
   mkimage: -B: '6' is not a multiple of 4

@@ -30,7 +30,7 @@ extern "C" {
 /* The status of a call, like the exit status of the program. */
 enum uimg_status {
     UIMG_DONE = 0,      /* success; of a verification: every hash that the image has is right */
-    UIMG_NOT_RIGHT = 1, /* a checksum is wrong or, if fault is not 0, the image is refused */
+    UIMG_NOT_RIGHT = 1, /* a checksum or hash is wrong or too weak or, if fault is not 0, the image is refused */
     UIMG_NO_MEMORY = 3  /* memory was refused: nothing is known of the image, and no text was written */
 };
 
@@ -38,7 +38,7 @@ enum uimg_status {
    for the blob of a FIT image, and F for the images in it. */
 #define UIMG_FAULT(letter, number) ((uint32_t)(letter) * 256u + (uint32_t)(number))
 
-/* The result of a listing or a verification. */
+/* The result of a listing, a verification or a check. */
 typedef struct uimg_report {
     uint32_t status; /* UIMG_DONE, UIMG_NOT_RIGHT or UIMG_NO_MEMORY */
     uint32_t fault;  /* why the image is refused, or 0 */
@@ -92,7 +92,7 @@ enum uimg_need {
 /* Checks an image without printing, like `uimg check --need` (needed and written are 0). Returns report->status: 0 only
    if uimg_verify returns 0, the FIT has an image, each of its images has a right hash by the needed algorithm or a
    stronger one, and their payloads together are not longer than the file. Checks images in their order, and stops at
-   the first that is not right. So it reads no more bytes of payloads than the file has, and takes no memory for a text.
+   the first that is not right. Reads no more bytes of payloads than the file has, and takes no memory for a text.
    A legacy image has CRC-32 alone. No image meets a number that is not in the list above. */
 uint32_t uimg_check(const uint8_t *image, size_t image_size, uint32_t need, uimg_report *report);
 

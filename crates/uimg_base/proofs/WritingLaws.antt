@@ -36,8 +36,4 @@ pub written_then : (e : Bool) (s m t : Sink) (xs ys : List ℕ) → AppendsAll s
 written_then true s m t xs ys p q = record { all = q.all; prefix = prefix_then s m t xs ys p q.prefix }
 written_then false s m t xs ys p q = record { all = all_then s m t xs ys p q.all; prefix = prefix_then s m t xs ys p q.prefix }
 
--- however it ended, a prefix was written
-pub prefix_of : (e : Bool) (s t : Sink) (xs : List ℕ) → Writes e s t xs → AppendsPrefix s t xs
-prefix_of e s t xs p = p.prefix
-
 pub ruleset writing = (prefix_first, prefix_then, all_then)

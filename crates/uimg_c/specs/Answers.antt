@@ -64,7 +64,7 @@ end_of_found (Err fault) = refused fault
 abbrev pub end_of_check : Algo → List ℕ → End Fault
 end_of_check need image = end_of_found (check_of (is_fit form.Guess image) (Some need) image)
 
--- the same by its number; no image meets an unknown one
+-- the same, if the algorithm is known; else no image meets it
 abbrev pub check_by : Option Algo → List ℕ → End Fault
 check_by None image = not_right
 check_by (Some need) image = end_of_check need image

@@ -12,7 +12,7 @@ pub enum OldFault<'a> {
     Misused(Misuse<'a>),
 
     /// The word of -A, -O, -T or -C is not a name of its field.
-    #[error("-{letter}: unknown {title} '{word}'; mkimage -{letter} list prints all")]
+    #[error("-{letter}: unknown {title} '{word}'; mkimage -{letter} list prints all names")]
     UnknownName {
         letter: char,
         title: &'static str,
@@ -20,7 +20,7 @@ pub enum OldFault<'a> {
     },
 
     /// The word of -A, -O, -T or -C is not a name of its field, but near to one.
-    #[error("-{letter}: unknown {title} '{word}'; did you mean '{nearest}'? mkimage -{letter} list prints all")]
+    #[error("-{letter}: unknown {title} '{word}'; did you mean '{nearest}'? mkimage -{letter} list prints all names")]
     NearName {
         letter: char,
         title: &'static str,
@@ -87,6 +87,10 @@ pub enum OldFault<'a> {
     /// The option is for signing.
     #[error("-{0}: uimg does not sign; mkimage -F of u-boot-tools signs an existing image")]
     Signs(char),
+
+    /// The header of an image of several parts is to replace the beginning of the data.
+    #[error("-x: not supported for several parts")]
+    XipOfParts,
 
     /// The option is not supported.
     #[error("-{letter}: {what}; use mkimage of u-boot-tools")]

@@ -28,8 +28,8 @@ Usage: mkimage -l [-T type] image
   -i  --initramfs       with -f auto: the RAM disk
   -E  --external        with -f: place the data after the blob
   -p  --position        with -E: place the data at this offset, hexadecimal
-  -B  --alignment       with -E: align the end of the blob and of each payload to
-                        this many bytes, hexadecimal, a multiple of 4 [4]
+  -B  --alignment       with -E: pad the blob and each payload to a multiple of this
+                        many bytes, hexadecimal, a multiple of 4 itself [4]
   -q  --quiet           print no listing
   -h  --help            print this help
   -V  --version         print the version
@@ -50,7 +50,7 @@ Usage: dumpimage -l [-T type] image
   -l  list the image
   -o  write the part or payload to this file
   -p  extract the part or payload at this position, counted from 0 [0]
-  -T  read the image as a FIT image (flat_dt) or as a legacy image (other types);
+  -T  read the image as a FIT image (flat_dt) or as a legacy image (its types);
       without it the first four bytes decide
   -h  print this help
   -V  print the version

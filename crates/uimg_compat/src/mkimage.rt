@@ -255,10 +255,7 @@ impl<'a> Settings<'a> {
     ) -> Result<MakeRequest<'a>, OldFault<'a>> {
         let options = self.options();
         if self.is_xip && has_parts(options.kind) {
-            return Err(OldFault::NotDone {
-                letter: 'x',
-                what: "not supported for several parts",
-            });
+            return Err(OldFault::XipOfParts);
         }
         let data = if self.has_no_data { NO_DATA } else { data };
         let mut request = MakeRequest::of_parts(alloc, options, data, time, image)?;

@@ -11,7 +11,6 @@ use Rattle.uimg_blob_reading.specs.Spots.{Spot}
 use Rattle.uimg_fit_base.specs.declared.fault.Fault.{Fault}
 use Rattle.uimg_fit_base.specs.declared.fault.Fault.TheVariants as of
 use Rattle.uimg_fit_base.specs.declared.fault.FitFault.{FitFault}
-use Rattle.uimg_fit_base.specs.declared.verdicts.Verdict.{Verdict}
 use Rattle.uimg_fit_base.specs.Files.{images_of}
 use Rattle.uimg_fit_base.specs.Places.{payload}
 use Rattle.uimg_fit_base.specs.Report.{word_of, is_right}

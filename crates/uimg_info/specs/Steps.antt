@@ -1,5 +1,5 @@
 -- What the steps of writing an object do.
-use Rattle.std.specs.Prelude.{◌≡◌, ℕ, ⊤, List, false, Result, Ok, Err, OnOk, IfOk, IsTrue, Option}
+use Rattle.std.specs.Prelude.{◌≡◌, ℕ, ⊤, List, false, Result, Ok, Err, OnOk, IsTrue, Option}
 use Rattle.std.specs.Prelude.{Some, map, Vec}
 use Rattle.std.specs.Borrow.{Bor}
 use Rattle.json.specs.Json.{Json, document}

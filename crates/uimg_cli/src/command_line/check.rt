@@ -30,7 +30,7 @@ pub struct CheckRequest<'a> {
 
 pub(super) fn command<'a>(alloc: Global) -> Result<clap::Command<'a>, AllocError> {
     clap::Command::new(alloc, "check")
-        .about("Check many images, a line for each")
+        .about("Check many images, and print a line for each")
         .after_help(CHECK_NOTES)
         .arg(
             Arg::new(alloc, "need")
@@ -50,7 +50,7 @@ pub(super) fn command<'a>(alloc: Global) -> Result<clap::Command<'a>, AllocError
                 .long("files-from")
                 .action(ArgAction::Set)
                 .value_name("file")
-                .help("Also check the images in this file, one path a line"),
+                .help("Also check the images whose paths are in this file, one a line"),
         )?
         .arg(flag(
             alloc,

@@ -50,9 +50,10 @@ Exit status:
 
 /// The notes of verify.
 pub(super) const VERIFY_NOTES: &str =
-    "Prints a line for each checksum: of a legacy image those of the header and of
-the data, of a FIT image each hash node of each image. A line ends with ok, bad,
-malformed or unsupported, or with unhashed for an image without hash nodes.
+    "Prints a line for each checksum. A legacy image has one of the header and, if that
+is right, one of the data; a FIT image has one for each hash node of each image.
+A line ends with ok, bad, malformed or unsupported, or with unhashed for an image
+without hash nodes.
 The table of sizes of the types multi and script is not checked (dumpimage -l
 reads it), and neither are signatures and the hashes of configurations.
 
@@ -76,19 +77,20 @@ A line has the path of the image and the first finding:
                configurations, if any: 2 nodes of configurations unchecked
   unhashed     The same, but this image of the FIT has no hash
   bad          This hash of this image is wrong, or a checksum of a legacy image
-  malformed    This hash has no algorithm, or a value of the wrong length
+  malformed    This hash has no algorithm, no value, or one of the wrong length
   unsupported  This hash has an unknown algorithm
   weak         This image has no hash as strong as --need, or with --strict none;
                a legacy image has crc32
   empty        The FIT has no images (with --need or --strict)
   missing      With --strict: no image has this name, which this configuration
                gives by kernel, ramdisk, fdt, loadables, firmware, fpga, setup,
-               standalone or script; or no configuration is the default
+               standalone or script; or the default configuration does not
+               exist
   overlapping  With this image, the payloads to hash are longer than the file
   refused      The image is refused, with this fault
   failed       The file cannot be opened, a read failed, or memory ran out
-Names print control characters and \\ as \\xNN. --files-from - reads standard
-input. --json prints path, status and verdict (the word), and depending on it
+In names, control characters and \\ are printed as \\xNN. --files-from - reads
+standard input. --json prints path, status and verdict (the word), and depending on it
 format, images, hashes, unchecked, checksums, algo, image, hash, configuration,
 property, name, fault, message and offset.
 Signatures and the hashes of configurations are not checked.
@@ -108,7 +110,7 @@ pub(super) const UNPACK_NOTES: &str = "Algorithms, from the weakest to the stron
   <algo>  crc32 md5 sha1 sha256 sha384 sha512
 
 Each payload is read once, and hashed while it is written to .uimg-new1 in the
-folder. It gets its name only if each hash of its image is right and, with
+folder. The file gets its name only if each hash of the image is right and, with
 --need-hash, one of them is strong enough. A line for each payload:
   kernel: 3 bytes, sha256 ba7816..  Kept; its strongest hash, which is right
   kernel: 3 bytes, unhashed         Kept; its image has no hash
@@ -121,11 +123,11 @@ A file has the name of its image if that has only letters, digits and . _ - + @,
 does not begin with . or -, and differs from all earlier ones (a and A count as
 the same). Otherwise it is image-N, with N counted from 0 (kernel: 3 bytes as
 image-1, ..). If one of the files exists, nothing is written; with --force it is
-replaced, or removed if its new payload is refused. Names print control
-characters, \\, spaces, colons and commas as \\xNN.
+replaced, or removed if its new payload is refused. In names, control characters,
+\\, spaces, colons and commas are printed as \\xNN.
 Signatures and the hashes of configurations are not checked.
 
-Of a legacy image all parts are kept, or the data of one without parts, if the
+All parts of a legacy image, or its data if it has no parts, are kept if the
 checksum of the data is right. Until then they are in a folder .uimg-new1:
   image-0: 3 bytes, data crc32 352441c2  Kept; the checksum of the data is right
   kernel.img: weak crc32                 None is kept; --need-hash is stronger
@@ -139,7 +141,8 @@ Exit status:
   0  All requested payloads or parts are kept
   1  A payload is refused, the image or part does not exist, or the image is refused
   2  The command line is wrong, or a file would replace the image
-  3  A file cannot be opened, exists or cannot be written, or memory ran out";
+  3  The image cannot be opened, a file exists or cannot be written, or memory
+     ran out";
 
 /// The notes of map.
 pub(super) const MAP_NOTES: &str =
@@ -153,8 +156,8 @@ hexadecimal, size, a bar of the file, and what it is.
   fault B5 bad token ..  The fault that the image is refused with
 A refused image has a map too, of what its header says. The reservation block
 ends with its entry of zeros; without one it ends outside the file. Payloads and
-data are not read: verify checks them. Names print control characters, \\, spaces,
-colons and commas as \\xNN.
+data are not read: verify checks them. In names, control characters, \\, spaces,
+colons and commas are printed as \\xNN.
 
 Examples:
   uimg map kernel.itb
@@ -168,7 +171,7 @@ Exit status:
 
 /// The notes of info.
 pub(super) const INFO_NOTES: &str =
-    "Prints one line, a JSON object. Of a FIT image it has path, status, format, size,
+    "Prints one line, a JSON object. For a FIT image it has path, status, format, size,
 totalsize, description, timestamp, default, reservations, images and
 configurations. An image has name, description, type, arch, os, compression, load,
 entry, offset and data-size of its payload, and hashes; without a payload in the

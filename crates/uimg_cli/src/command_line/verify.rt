@@ -9,7 +9,7 @@ use uimg_requests::{Action, Command, Form, RunRequest};
 
 pub(super) fn command<'a>(alloc: Global) -> Result<clap::Command<'a>, AllocError> {
     clap::Command::new(alloc, "verify")
-        .about("Verify the checksums and hashes of an image, a line for each")
+        .about("Verify the checksums and hashes of an image, and print a line for each")
         .after_help(VERIFY_NOTES)
         .arg(image(alloc, "The image"))
 }
