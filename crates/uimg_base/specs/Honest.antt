@@ -10,4 +10,4 @@ HonestSource device source = IsTrue (device source.entry.now).honest
 -- a fact about the bytes of the source, if it is honest
 abbrev pub IfHonest : {S : Type 0} → (S → Device) → Lent S → (List ℕ → Type 0) → Type 0
 IfHonest device source Fact =
-    HonestSource device source → Fact (device source.entry.now).bytes
+    IsTrue (device source.entry.now).honest → Fact (device source.entry.now).bytes
