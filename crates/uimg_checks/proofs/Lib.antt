@@ -4,4 +4,3 @@ mod Examples
 pub mod SetLaws
 pub mod PieceLaws
 pub mod MissingLaws
-pub mod FindingLaws
