@@ -1,6 +1,6 @@
 //! What is in the file of a legacy image.
 
-ghost use Rattle.std.specs.Prelude.{◌≡◌, ◌≤◌, ◌<◌, ◌+◌, ◌*◌, ◌^◌, length, ℕ, List, nat_lt, true, Some, IfOk, is_err};
+ghost use Rattle.std.specs.Prelude.{◌≡◌, ◌≤◌, ◌<◌, ◌+◌, ◌*◌, ◌^◌, length, ℕ, List, nat_lt, true, Some, IfOk, IsTrue, is_err};
 ghost use Rattle.uimg_base.specs.Honest.{HonestSource};
 ghost use Rattle.uimg_base.specs.Using.{Asks, UsesAtMost};
 ghost use Rattle.uimg_legacy.specs.Image.{payload};
@@ -186,7 +186,7 @@ fn add_parts<S: Source>(
     size: u32,
     contents: &mut Contents,
 ) -> Result<(), MapFault>
-    requires { HonestSource S.device source →
+    requires { IsTrue (S.device source.old).honest →
         count_in (part_sizes (slice (S.device source.old).bytes 64 size)) ≡ Some count }
     ensures { Gathers (λ _. 4 * count)
         (λ file. parts_told (64 + size) (64 + 4 * (count + 1)) 0 (sizes (slice file 64 size))) result
