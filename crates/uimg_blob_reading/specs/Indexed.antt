@@ -1,9 +1,9 @@
 -- The result of indexing: entries and a blob that are those of a tree.
-use Rattle.std.specs.Prelude.{◌≡◌, ◌^◌, ◌<◌, ◌≤◌, ◌+◌, ℕ, List, length, map, Option, Some, None}
-use Rattle.std.specs.Prelude.{Result, Ok, IfErr, IsTrue, max, Bool, if◌then◌else◌}
+use Rattle.std.specs.Prelude.{◌≡◌, ◌^◌, ◌<◌, ◌≤◌, ◌+◌, ◌*◌, ℕ, List, length, map, Option, Some}
+use Rattle.std.specs.Prelude.{None, Result, Ok, IfErr, IsTrue, max, Bool, if◌then◌else◌}
 use Rattle.std.specs.List.{AllByRecursion, slice_get}
 use Rattle.std.specs.Option.{is_some}
-use Rattle.uimg_base.specs.Device.{Device}
+use Rattle.uimg_base.specs.Device.{Device, RisesIf}
 use Rattle.uimg_base.specs.Held.{Held, held_bytes}
 use Rattle.uimg_blob_reading.specs.declared.fault.IndexFault.{IndexFault}
 use Rattle.uimg_blob_reading.specs.declared.nodes.Blob.{Blob}
@@ -13,6 +13,7 @@ use Rattle.uimg_blob_reading.specs.declared.roles.Role.{Role}
 use Rattle.uimg_blob_reading.specs.Tokens.{Property}
 use Rattle.uimg_blob_reading.specs.Grammar.{Siblings}
 use Rattle.uimg_blob_reading.specs.Blob.{tree, blocks}
+use Rattle.uimg_blob_reading.specs.Counts.{nodes_met}
 use Rattle.uimg_blob_reading.specs.Roles.{is_images, is_configurations, keys_of}
 use Rattle.uimg_blob_reading.specs.Rows.{Row, table, child_number}
 use Rattle.uimg_blob_reading.specs.LookUps.{first}
@@ -55,17 +56,18 @@ OfRow blob es number P = (row : Row) → IsRow blob es number row → P row
 abbrev pub WhereIndexed : Blob → List (List ℕ) → Type 0 → Type 0
 WhereIndexed blob es P = (t : Siblings) → IsIndexed t blob es → P
 
--- At most `count` of its bytes were requested of an honest device.
-abbrev pub AsksWithin : (List ℕ → ℕ) → Device → Device → Type 0
-AsksWithin count d e = IsTrue d.honest → e.asked ≤ d.asked + count d.bytes
-
 -- Over an honest device there are at most `count` of its bytes entries.
 abbrev pub KeepsWithin : (List ℕ → ℕ) → Device → Held → Type 0
 KeepsWithin count d k = IsTrue d.honest → length k.entries ≤ count d.bytes
 
--- Over an honest device the room took memory for at most `count` of its bytes entries.
-abbrev pub TakesWithin : (List ℕ → ℕ) → Device → Held → Held → Type 0
-TakesWithin count d h k = IsTrue d.honest → k.peak ≤ max h.peak (held_bytes (count d.bytes))
+-- What indexing does to its room's memory.
+pub record TakesNodes (device : Device) (no_memory : Bool) (old new : Held) : Type 0 where
+  -- `OutOfMemory` of the blob is returned exactly if the refusals of the room rose
+  pub refused : RisesIf no_memory old.refused new.refused
+  -- 8192 bytes, and 128 for each node that was met
+  pub peak : IsTrue device.honest → new.peak ≤ max old.peak (held_bytes (nodes_met device.bytes))
+  -- over any device
+  pub most : new.peak ≤ max old.peak (8320 + 16 * length device.bytes)
 
 -- Over an honest device the entries are those of its tree, or the fault is the first.
 abbrev pub IndexesTree : {X : Type 0} → Device → Result X IndexFault → List (List ℕ) → Type 0

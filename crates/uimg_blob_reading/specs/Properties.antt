@@ -46,6 +46,13 @@ TellsPlaces file said (Err Read) = ⊤
 TellsPlaces file said (Err OutOfMemory) = ⊤
 TellsPlaces file said (Err Changed) = ⊥
 
+-- The spans end inside a blob of this size, which ends inside a file of that size. Each property
+-- takes at least 12 bytes.
+pub record LieInside (totalsize size : ℕ) (places : List PropertyPlace) : Type 0 where
+  pub ends : All (EndsBy totalsize) places
+  pub within : totalsize ≤ size
+  pub few : 12 * length places ≤ totalsize
+
 -- P holds for the node's row in the tree of an honest device's bytes, if that tree was indexed.
 abbrev pub OfRowRead : Device → Blob → List (List ℕ) → ℕ → (Row → Type 0) → Type 0
 OfRowRead d blob es number P =

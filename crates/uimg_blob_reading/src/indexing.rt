@@ -1,14 +1,13 @@
 //! The pass over the tokens that gives each node an entry.
 
-ghost use Rattle.std.specs.Prelude.{◌≡◌, [], ◌+◌, ◌*◌, ◌^◌, ◌<◌, ◌≤◌, max, length, IfOk, false};
+ghost use Rattle.std.specs.Prelude.{◌≡◌, [], ◌^◌, ◌<◌, length, IfOk, false};
 ghost use Rattle.uimg_base.specs.Honest.{HonestSource};
-ghost use Rattle.uimg_base.specs.Device.{RisesIf};
-ghost use Rattle.uimg_base.specs.Using.{Uses};
+ghost use Rattle.uimg_base.specs.Using.{UsesWithin};
 ghost use Rattle.uimg_texts.specs.Numbers.{be32};
 ghost use Rattle.uimg_blob_reading.specs.Counts.{index_cost, nodes_met};
 ghost use Rattle.uimg_blob_reading.specs.Extents.{IsInside};
 ghost use Rattle.uimg_blob_reading.specs.Faults.{is_read, is_out_of_memory, is_of_making};
-ghost use Rattle.uimg_blob_reading.specs.Indexed.{Finds, AsksWithin, KeepsWithin, TakesWithin, IndexesTree, LeavesPrefix, LeavesSoFar};
+ghost use Rattle.uimg_blob_reading.specs.Indexed.{Finds, KeepsWithin, TakesNodes, IndexesTree, LeavesPrefix, LeavesSoFar};
 ghost use Rattle.uimg_blob_reading.specs.Acting.{Suits, TakesStep, GoesOver};
 
 use crate::extent::{Extent, read_extent};
@@ -84,13 +83,9 @@ pub fn index<S: Source, A: Allocator>(
     source: &mut S,
     room: &mut Room<A>,
 ) -> Result<Blob, IndexFault>
-    ensures uses { Uses (is_read result) (S.device source.old) (S.device source.new) }
-    ensures refused { RisesIf (is_out_of_memory result) room.old.refused room.new.refused }
-    ensures asked { AsksWithin index_cost (S.device source.old) (S.device source.new) }
+    ensures uses { UsesWithin index_cost (is_read result) S.device source }
     ensures nodes { KeepsWithin nodes_met (S.device source.old) room.new }
-    ensures peak { TakesWithin nodes_met (S.device source.old) room.old room.new }
-    ensures most { room.new.peak ≤ max room.old.peak
-        (8320 + 16 * length (S.device source.old).bytes) }
+    ensures room { TakesNodes (S.device source.old) (is_out_of_memory result) room.old room.new }
     ensures prefix { LeavesPrefix (S.device source.old) result room.new.entries }
     ensures so_far { LeavesSoFar (S.device source.old) result room.new.entries }
     ensures no_making { is_of_making result ≡ false }

@@ -1,7 +1,6 @@
 //! The properties of a node, read again from the structure block.
 
 ghost use Rattle.std.specs.Prelude.{◌≡◌, ◌+◌, ◌*◌, ◌^◌, ◌<◌, ◌≤◌, length, Ok, IfOk};
-ghost use Rattle.std.specs.List.{All};
 ghost use Rattle.uimg_texts.specs.Numbers.{be32};
 ghost use Rattle.uimg_base.specs.Honest.{HonestSource};
 ghost use Rattle.uimg_base.specs.Using.{Asks, Uses};
@@ -9,8 +8,7 @@ ghost use Rattle.uimg_blob_reading.specs.Grammar.{Siblings};
 ghost use Rattle.uimg_blob_reading.specs.Blob.{tree};
 ghost use Rattle.uimg_blob_reading.specs.Counts.{nops_met};
 ghost use Rattle.uimg_blob_reading.specs.Extents.{IsInside};
-ghost use Rattle.uimg_blob_reading.specs.Places.{EndsBy};
-ghost use Rattle.uimg_blob_reading.specs.Properties.{is_unread, places_of, TellsPlaces, OfRowRead, TakesToken, TakesTokens, FindsBlocks};
+ghost use Rattle.uimg_blob_reading.specs.Properties.{is_unread, places_of, TellsPlaces, LieInside, OfRowRead, TakesToken, TakesTokens, FindsBlocks};
 
 use crate::extent::{Extent, read_extent};
 use crate::fault::IndexFault;
@@ -124,10 +122,8 @@ pub fn properties_of<S: Source, A: Allocator>(
     requires { node < length room.old.entries }
     ensures uses { Uses (is_unread result) (S.device source.old) (S.device source.new) }
     ensures room { room.new ≡ room.old }
-    ensures ends { IfOk result (λ places. All (EndsBy blob.now.totalsize) places.items) }
-    ensures within { IfOk result (λ places.
-        blob.now.totalsize ≤ length (S.device source.old).bytes) }
-    ensures few { IfOk result (λ places. 12 * length places.items ≤ blob.now.totalsize) }
+    ensures inside { IfOk result (λ places.
+        LieInside blob.now.totalsize (length (S.device source.old).bytes) places.items) }
     ensures asked { OfRowRead (S.device source.old) blob.now room.old.entries node (λ row.
         (S.device source.new).asked ≤ (S.device source.old).asked
         + (44 + 268 * length row.own + 4 * nops_met (S.device source.old).bytes)) }

@@ -12,7 +12,7 @@ use Rattle.uimg_base.specs.Sink.{Sink}
 use Rattle.uimg_base.specs.Using.{Uses}
 use Rattle.uimg_base.specs.declared.status.Status.{Status}
 use Rattle.uimg_fit_base.specs.Placements.{aligned_by}
-use Rattle.uimg_fit_reading.specs.Rooms.{TakesNodes}
+use Rattle.uimg_blob_reading.specs.Indexed.{TakesNodes}
 use Rattle.uimg_names.specs.declared.naming.Naming.{Naming}
 use Rattle.uimg_engine.specs.declared.fault.Fault.{Fault}
 use Rattle.uimg_engine.specs.declared.fault.Fault.TheVariants.{NoFile, Fit}

@@ -12,7 +12,7 @@ use Rattle.uimg_base.specs.Using.{UsesAtMost}
 use Rattle.uimg_base.specs.declared.status.Status.{Status}
 use Rattle.uimg_blob_reading.specs.Counts.{nodes_met}
 use Rattle.uimg_fit_base.specs.declared.fault.Fault.{Fault as FitEngineFault}
-use Rattle.uimg_fit_reading.specs.Rooms.{TakesNodes}
+use Rattle.uimg_blob_reading.specs.Indexed.{TakesNodes}
 use Rattle.uimg_fit_reading.specs.Listing as fit_listing
 use Rattle.uimg_fit_base.specs.Files.{begins_as_blob}
 use Rattle.uimg_fit_base.specs.Report as fit_report

@@ -25,7 +25,7 @@ use Rattle.uimg_fit_checking.specs.declared.unpacking.claims.Claim.TheVariants.{
 use Rattle.uimg_fit_checking.specs.declared.unpacking.requested.Requested.{Requested}
 use Rattle.uimg_fit_checking.specs.Checks.{wrong_in, or_weak}
 use Rattle.uimg_fit_checking.specs.Unpacking.{Take, GivenFirst, overlapping, is_asked, is_kept}
-use Rattle.uimg_fit_checking.specs.Unpacking.{told_of, bytes_of}
+use Rattle.uimg_fit_checking.specs.Unpacking.{told_of, bytes_of, take_of}
 
 -- The refusal of a payload was found, if any; at most 351 bytes were requested for each hash node.
 pub record FindsRefusalBetween (need : Option Algo) (image : NodeOf Spot) (message : List ℕ)
@@ -131,6 +131,13 @@ TakesTo false one (Err (of.Fit fault)) payload old new = ⊥
 TakesTo asked one (Err (of.Blob fault at)) payload old new = ⊥
 TakesTo asked one (Err of.Read) payload old new = new ≡ old
 TakesTo asked one (Err of.Put) payload old new = new ≡ old
+
+-- What a result says of the payload of an image that is requested, the bytes in its span.
+abbrev pub TakesRequested : Option Algo → NodeOf Spot → Requested → List ℕ → Result Bool Fault
+    → List Take → List Take → Type 0
+TakesRequested need image found file result old new =
+    bytes_of found.name ≡ image.name → (message : List ℕ) → message ≡ in_span file found.span
+    → TakesTo true (take_of need image message) result (Ok message) old new
 
 -- how many bytes of a payload are read: none if its image is not requested
 abbrev pub size_if : Bool → Result (List ℕ) FitFault → ℕ

@@ -29,7 +29,8 @@ use Rattle.uimg_fit_base.specs.Faults.{Gives, of_move, end_of, is_refused}
 use Rattle.uimg_fit_base.specs.Places.{payload, TellsPlace}
 use Rattle.uimg_fit_base.specs.Extraction.{of_images, payload_of, payload_at, extract_of}
 use Rattle.uimg_fit_reading.specs.Nodes.{IsNode, HasImage}
-use Rattle.uimg_fit_reading.specs.Rooms.{TakesNodes, InspectsBetween, DeliversBetween}
+use Rattle.uimg_blob_reading.specs.Indexed.{TakesNodes}
+use Rattle.uimg_fit_reading.specs.Rooms.{InspectsBetween, DeliversBetween}
 use Rattle.uimg_fit_reading.specs.Work.{list_work, extract_work}
 use Rattle.uimg_fit_base.proofs.FileLaws.{images_are}
 

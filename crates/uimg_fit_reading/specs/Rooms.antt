@@ -1,5 +1,5 @@
 -- What a command does to its source and to its room's memory.
-use Rattle.std.specs.Prelude.{◌≡◌, ◌≤◌, ◌+◌, ◌*◌, ℕ, List, length, max, Bool, false, Result, IsTrue}
+use Rattle.std.specs.Prelude.{◌≡◌, ◌≤◌, ℕ, List, max, false, Result, IsTrue}
 use Rattle.uimg_base.specs.Device.{Device, RisesIf}
 use Rattle.uimg_base.specs.Held.{Held, held_bytes}
 use Rattle.uimg_base.specs.Lent.{Lent}
@@ -9,23 +9,9 @@ use Rattle.uimg_base.specs.Sink.{Sink}
 use Rattle.uimg_base.specs.Using.{Uses, UsesAtMost}
 use Rattle.uimg_base.specs.declared.status.Status.{Status}
 use Rattle.uimg_blob_reading.specs.Counts.{nodes_met}
+use Rattle.uimg_blob_reading.specs.Indexed.{TakesNodes}
 use Rattle.uimg_fit_base.specs.Faults.{is_read, is_put, is_out_of_memory, is_of_making, end_of}
 use Rattle.uimg_fit_base.specs.declared.fault.Fault.{Fault}
-
--- What a command does to its room's memory.
-pub record TakesNodes (device : Device) (no_memory : Bool) (old new : Held) : Type 0 where
-  -- `OutOfMemory` of the blob is returned exactly if the refusals of the room rose
-  pub refused : RisesIf no_memory old.refused new.refused
-  -- 8192 bytes, and 128 for each node that was met
-  pub peak : IsTrue device.honest → new.peak ≤ max old.peak (held_bytes (nodes_met device.bytes))
-  -- over any device
-  pub most : new.peak ≤ max old.peak (8320 + 16 * length device.bytes)
-
--- The source is unchanged, and of an honest one at most `work` of its bytes more were requested.
-abbrev pub UsesWithin : {S : Type 0} → (List ℕ → ℕ) → Bool → (S → Device) → Lent S → Type 0
-UsesWithin work failed device source =
-    UsesAtMost (work (device source.entry.now).bytes) failed (device source.entry.now)
-    (device source.exit.now)
 
 -- A call that only reads. Of an honest source it requests at most `most` bytes; it takes memory for
 -- the image's nodes alone.

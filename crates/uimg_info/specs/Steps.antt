@@ -1,6 +1,6 @@
 -- What the steps of writing an object do.
-use Rattle.std.specs.Prelude.{◌≡◌, ℕ, ⊤, List, false, Result, Ok, Err, OnOk, IsTrue, Option}
-use Rattle.std.specs.Prelude.{Some, map, Vec}
+use Rattle.std.specs.Prelude.{◌≡◌, ℕ, ⊤, List, false, Result, Ok, Err, OnOk, IfOk, IsTrue}
+use Rattle.std.specs.Prelude.{Option, Some, map, Vec}
 use Rattle.std.specs.Borrow.{Bor}
 use Rattle.json.specs.Json.{Json, document}
 use Rattle.json.specs.Print.{print}
@@ -36,6 +36,11 @@ Prints j text = text.items ≡ print (json_tokens j)
 -- Read as JSON, the text is an object.
 abbrev pub ReadsAs : {Z : Type 0} → Json → Vec ℕ Z → Type 0
 ReadsAs j text = document text.items ≡ Some j
+
+-- P holds for the text of the object of a file of a size with these facts, if there is one.
+abbrev pub OfJson : {Z : Type 0} → (Json → Vec ℕ Z → Type 0) → List ℕ → ℕ → FullSurvey
+    → Result (Vec ℕ Z) SurveyFault → List ℕ → Type 0
+OfJson P path size full result file = IfOk result (P (read_json path size file full))
 
 -- At most `most` bytes were requested, and a failure of the device was counted exactly if a read
 -- failed; over an honest device the tokens were appended, unless the step failed.

@@ -6,11 +6,11 @@ ghost use Rattle.json.specs.Json.{document};
 ghost use Rattle.uimg_printing.specs.Objects.{is_one_line};
 ghost use Rattle.uimg_base.specs.Honest.{HonestSource, IfHonest};
 ghost use Rattle.uimg_base.specs.Using.{Asks, UsesAtMost};
-ghost use Rattle.uimg_fit_reading.specs.Rooms.{TakesNodes};
+ghost use Rattle.uimg_blob_reading.specs.Indexed.{TakesNodes};
 ghost use Rattle.uimg_fit_checking.specs.FullSurvey.{FullInside};
 ghost use Rattle.uimg_fit_checking.specs.SurveyParts.{is_unread, lacks_room, IsOwn};
 ghost use Rattle.uimg_info.specs.Fit.{info_of, ok_of};
-ghost use Rattle.uimg_info.specs.Steps.{Informs, Prints, ReadsAs, read_json};
+ghost use Rattle.uimg_info.specs.Steps.{Informs, Prints, ReadsAs, OfJson};
 ghost use Rattle.uimg_info.specs.Work.{full_size, info_work};
 
 use crate::fit::put_fit;
@@ -32,10 +32,8 @@ fn survey_text<S: Source>(
     ensures uses { Asks (full_size full.now) (is_unread result)
         (S.device source.old) (S.device source.new) }
     ensures own { IsOwn result }
-    ensures text { IfHonest S.device source (λ file.
-        IfOk result (Prints (read_json path.now size file full.now))) }
-    ensures reads_back { IfHonest S.device source (λ file.
-        IfOk result (ReadsAs (read_json path.now size file full.now))) }
+    ensures text { IfHonest S.device source (OfJson Prints path.now size full.now result) }
+    ensures reads_back { IfHonest S.device source (OfJson ReadsAs path.now size full.now result) }
     ensures utf8 { IfOk result (λ text. IsUtf8 text.items) }
     ensures one_line { IfHonest S.device source (λ file.
         IfOk result (λ text. is_one_line text.items ≡ true)) }

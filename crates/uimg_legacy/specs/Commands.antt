@@ -1,5 +1,5 @@
 -- What a call that reads an image does, writes and returns.
-use Rattle.std.specs.Prelude.{◌≡◌, ℕ, List, [], Bool, false, Result, IsTrue}
+use Rattle.std.specs.Prelude.{◌≡◌, ℕ, List, [], false, Result, IsTrue}
 use Rattle.uimg_base.specs.Lent.{Lent}
 use Rattle.uimg_base.specs.Device.{Device, RisesIf}
 use Rattle.uimg_base.specs.Held.{Held}
@@ -11,13 +11,6 @@ use Rattle.uimg_base.specs.declared.status.Status.{Status}
 use Rattle.uimg_legacy.specs.declared.fault.LegacyFault.{LegacyFault}
 use Rattle.uimg_legacy.specs.declared.fault.Fault.{Fault}
 use Rattle.uimg_legacy.specs.Faults.{is_read, is_put, is_of_making, end_of}
-
--- The source is unchanged, and its failures rose exactly if a read failed. Of an honest source at
--- most `work` of its bytes were requested.
-abbrev pub UsesWithin : {S : Type 0} → (List ℕ → ℕ) → Bool → (S → Device) → Lent S → Type 0
-UsesWithin work failed device source =
-    UsesAtMost (work (device source.entry.now).bytes) failed (device source.entry.now)
-    (device source.exit.now)
 
 -- A call that only reads. Of an honest device it requests at most `most` bytes.
 pub record InspectsBetween {X : Type 0} (most : ℕ) (result : Result X Fault) (old new : Device)

@@ -2,8 +2,7 @@
 
 ghost use Rattle.std.specs.Prelude.{◌≡◌, ◌+◌, ◌*◌, ◌≤◌, [], ◌∷◌, ◌++◌, length, IfOk, OnOk};
 ghost use Rattle.uimg_base.specs.Honest.{HonestSource};
-ghost use Rattle.uimg_base.specs.Using.{Asks};
-ghost use Rattle.uimg_legacy.specs.Commands.{UsesWithin};
+ghost use Rattle.uimg_base.specs.Using.{Asks, UsesWithin};
 ghost use Rattle.uimg_legacy.specs.Placing.{places_of, is_unread, GivesPlaces, TellsPlaces};
 ghost use Rattle.uimg_legacy.specs.Work.{table_work};
 

@@ -1,6 +1,6 @@
 //! Takes payloads one after the other: each is written while it is summed, then kept or refused.
 
-ghost use Rattle.std.specs.Prelude.{◌≡◌, ◌≤◌, ◌+◌, ◌*◌, ℕ, List, true, Some, Ok, length, IsTrue};
+ghost use Rattle.std.specs.Prelude.{◌≤◌, ◌+◌, ◌*◌, true, Some, Ok, length, IsTrue};
 ghost use Rattle.std.specs.List.{sum_by};
 ghost use Rattle.std.specs.Option.{option_map};
 ghost use Rattle.uimg_blob_reading.specs.LookUps.{hashes};
@@ -8,8 +8,7 @@ ghost use Rattle.uimg_blob_reading.specs.Roles.{in_images};
 ghost use Rattle.uimg_fit_base.specs.Places.{payload};
 ghost use Rattle.uimg_fit_reading.specs.Nodes.{OfNode, OfNodes, HasNode, HasNodes};
 ghost use Rattle.uimg_fit_checking.specs.Unpacking.{take_of, takes, bytes_of, bytes_or_none, is_asked};
-ghost use Rattle.uimg_fit_checking.specs.UnpackingParts.{LeavesImage, TakesTo, TakesAll, Fitting, size_if, take_allowance};
-ghost use Rattle.uimg_fit_reading.specs.Values.{in_span};
+ghost use Rattle.uimg_fit_checking.specs.UnpackingParts.{LeavesImage, TakesTo, TakesRequested, TakesAll, Fitting, size_if, take_allowance};
 ghost use Rattle.uimg_fit_reading.specs.Puts.{Pays};
 
 use crate::unpacking::copies::take_payload;
@@ -39,10 +38,8 @@ fn take_requested<S: Source, A: Allocator, T: Taker>(
     ensures paid { OfNode (S.device source.old) blob.now room.old in_images payload.image
         (λ found. Pays (payload.span.length + 383 * length (hashes found)) S.device source) }
     ensures told { IsTrue T.honest →
-        OfNode (S.device source.old) blob.now room.old in_images payload.image
-        (λ found. bytes_of payload.name ≡ found.name →
-        (message : List ℕ) → message ≡ in_span (S.device source.old).bytes payload.span →
-        TakesTo true (take_of need found message) result (Ok message)
+        OfNode (S.device source.old) blob.now room.old in_images payload.image (λ found.
+        TakesRequested need found payload (S.device source.old).bytes result
         (T.takes taker.old) (T.takes taker.new)) }
 {
     let shelf = taker.shelf(&payload.name)?;

@@ -1,4 +1,4 @@
-use Rattle.std.proofs.Common.{◌≤◌, ◌+◌, ◌∙◌, sym, ap, subst, Bool, IsTrue, length, refl, arith}
+use Rattle.std.proofs.Common.{rules, ◌≤◌, ◌+◌, ◌∙◌, sym, ap, subst, Bool, IsTrue, length, refl, arith}
 use Rattle.uimg_base.specs.Held.{Held}
 use Rattle.uimg_blob_reading.specs.Blob.{blocks}
 use Rattle.uimg_blob_reading.specs.Counts.{index_cost, nodes_met}
@@ -37,42 +37,58 @@ returns-in_err-state-clause-so_far g c =
     so_far_file _ _ c.in_ok-extent.extent c.in_err-state.field-0.0 c.from_residual-in_err-state.result c.pass.new.room.entries c.read_extent.ensures.uses.same c.in_ok-extent.ensures.gives
     (passed_on _ c.in_err-state.field-0.0 c.from_residual-in_err-state.ensures.1) c.in_err-state.ensures.stops
 
-pub returns-in_err-state-clause-asked : goal.returns-in_err-state-clause-asked
-returns-in_err-state-clause-asked g c = λ honest.
-    let w : (g.S.Source.device c.pass.new.source).asked + 40 ≤ (g.S.Source.device c.read_extent.new.source).asked + index_cost (g.S.Source.device c.args.source.now).bytes =
-    (within_cost _ _ c.in_ok-extent.extent _ _ c.read_extent.ensures.uses.same c.in_ok-extent.ensures.gives c.pass.ensures.within honest).0 in
-    omega (arith, w, c.read_extent.ensures.uses.asked)
+pub returns-in_err-state-clause-uses : goal.returns-in_err-state-clause-uses
+returns-in_err-state-clause-uses g c = record {
+  same = search rules;
+  asked = λ honest.
+        let w : (g.S.Source.device c.pass.new.source).asked + 40 ≤ (g.S.Source.device c.read_extent.new.source).asked + index_cost (g.S.Source.device c.args.source.now).bytes =
+        (within_cost _ _ c.in_ok-extent.extent _ _ c.read_extent.ensures.uses.same c.in_ok-extent.ensures.gives c.pass.ensures.within honest).0 in
+        omega (arith, w, c.read_extent.ensures.uses.asked);
+  failures = search rules;
+}
 
 pub returns-in_err-state-clause-nodes : goal.returns-in_err-state-clause-nodes
 returns-in_err-state-clause-nodes g c = λ honest.
     (within_cost _ _ c.in_ok-extent.extent _ _ c.read_extent.ensures.uses.same c.in_ok-extent.ensures.gives c.pass.ensures.within honest).1
 
-pub returns-in_err-state-clause-peak : goal.returns-in_err-state-clause-peak
-returns-in_err-state-clause-peak g c = λ honest.
-    let w : length c.pass.new.room.entries ≤ nodes_met (g.S.Source.device c.args.source.now).bytes =
-    (within_cost _ _ c.in_ok-extent.extent _ _ c.read_extent.ensures.uses.same c.in_ok-extent.ensures.gives c.pass.ensures.within honest).1 in
-    omega (arith, w, c.pass.ensures.room.peak, ap (λ (h : Held). h.peak) c.clear.ensures)
+pub returns-in_err-state-clause-room : goal.returns-in_err-state-clause-room
+returns-in_err-state-clause-room g c = record {
+  refused = search rules;
+  peak = λ honest.
+        let w : length c.pass.new.room.entries ≤ nodes_met (g.S.Source.device c.args.source.now).bytes =
+        (within_cost _ _ c.in_ok-extent.extent _ _ c.read_extent.ensures.uses.same c.in_ok-extent.ensures.gives c.pass.ensures.within honest).1 in
+        omega (arith, w, c.pass.ensures.room.peak, ap (λ (h : Held). h.peak) c.clear.ensures);
+  most = search rules;
+}
 
 pub returns-clause-indexes : goal.returns-clause-indexes
 returns-clause-indexes g c = λ honest.
     let t = c.in_ok-state.ensures.indexes (subst (λ (b : Bool). IsTrue b) (sym c.read_extent.ensures.uses.same.honest) honest) in
     (t.0, sym (tree_is _ _ c.in_ok-extent.extent (c.in_ok-extent.ensures.gives honest).0 c.read_extent.ensures.uses.same.bytes) ∙ t.1, t.2)
 
-pub returns-clause-asked : goal.returns-clause-asked
-returns-clause-asked g c = λ honest.
-    let w : (g.S.Source.device c.pass.new.source).asked + 40 ≤ (g.S.Source.device c.read_extent.new.source).asked + index_cost (g.S.Source.device c.args.source.now).bytes =
-    (within_cost _ _ c.in_ok-extent.extent _ _ c.read_extent.ensures.uses.same c.in_ok-extent.ensures.gives c.pass.ensures.within honest).0 in
-    omega (arith, w, c.read_extent.ensures.uses.asked)
+pub returns-clause-uses : goal.returns-clause-uses
+returns-clause-uses g c = record {
+  same = search rules;
+  asked = λ honest.
+        let w : (g.S.Source.device c.pass.new.source).asked + 40 ≤ (g.S.Source.device c.read_extent.new.source).asked + index_cost (g.S.Source.device c.args.source.now).bytes =
+        (within_cost _ _ c.in_ok-extent.extent _ _ c.read_extent.ensures.uses.same c.in_ok-extent.ensures.gives c.pass.ensures.within honest).0 in
+        omega (arith, w, c.read_extent.ensures.uses.asked);
+  failures = search rules;
+}
 
 pub returns-clause-nodes : goal.returns-clause-nodes
 returns-clause-nodes g c = λ honest.
     (within_cost _ _ c.in_ok-extent.extent _ _ c.read_extent.ensures.uses.same c.in_ok-extent.ensures.gives c.pass.ensures.within honest).1
 
-pub returns-clause-peak : goal.returns-clause-peak
-returns-clause-peak g c = λ honest.
-    let w : length c.pass.new.room.entries ≤ nodes_met (g.S.Source.device c.args.source.now).bytes =
-    (within_cost _ _ c.in_ok-extent.extent _ _ c.read_extent.ensures.uses.same c.in_ok-extent.ensures.gives c.pass.ensures.within honest).1 in
-    omega (arith, w, c.pass.ensures.room.peak, ap (λ (h : Held). h.peak) c.clear.ensures)
+pub returns-clause-room : goal.returns-clause-room
+returns-clause-room g c = record {
+  refused = search rules;
+  peak = λ honest.
+        let w : length c.pass.new.room.entries ≤ nodes_met (g.S.Source.device c.args.source.now).bytes =
+        (within_cost _ _ c.in_ok-extent.extent _ _ c.read_extent.ensures.uses.same c.in_ok-extent.ensures.gives c.pass.ensures.within honest).1 in
+        omega (arith, w, c.pass.ensures.room.peak, ap (λ (h : Held). h.peak) c.clear.ensures);
+  most = search rules;
+}
 
 pub returns-clause-found : goal.returns-clause-found
 returns-clause-found g c =
