@@ -1,5 +1,5 @@
 -- What the exports report of the outcome of a command.
-use Rattle.std.specs.Prelude.{◌≡◌, ℕ, min, List, ◌++◌, length, take, drop, Option, Some, None}
+use Rattle.std.specs.Prelude.{◌≡◌, ◌≢◌, ◌≤◌, ◌+◌, ℕ, min, List, ◌++◌, length, take, drop, Option, Some, None}
 use Rattle.std.specs.Prelude.{Result, Ok, Err}
 use Rattle.uimg_sums.specs.declared.algo.Algo.{Algo}
 use Rattle.uimg_texts.specs.Slices.{slice}
@@ -13,12 +13,19 @@ use Rattle.uimg_c.specs.declared.reports.UimgPayload.{UimgPayload}
 use Rattle.uimg_c.specs.declared.reports.UimgCount.{UimgCount}
 use Rattle.uimg_fit_base.specs.declared.fault.Fault.{Fault as FitEngineFault}
 use Rattle.uimg_base.specs.Held.{held_bytes}
+use Rattle.uimg_names.specs.declared.naming.Naming.TheVariants.{Profile}
+use Rattle.uimg_requests.specs.declared.command.Action.{Action}
 use Rattle.uimg_requests.specs.declared.command.Form.{Form}
 use Rattle.uimg_checks.specs.declared.finding.Checked.{Checked}
 use Rattle.uimg_checks.specs.Finding.{check_of, status_of}
 use Rattle.uimg_requests.specs.declared.command.Form.TheVariants as form
-use Rattle.uimg_engine.specs.Headline.{is_fit, nodes_in}
+use Rattle.uimg_engine.specs.Headline.{is_fit, nodes_in, outcome_of}
 use Rattle.uimg_c.specs.Codes.{code_of, code_of_answer, code_of_fault, code_of_found, strength}
+
+-- the most bytes that the table of an image's nodes takes: a window of 8192 bytes, and 128 for each
+-- node of a FIT image
+abbrev pub table_most : Form → List ℕ → ℕ
+table_most form image = held_bytes (nodes_in (is_fit form image) image)
 
 -- A report has the end of an outcome. The text is copied to the caller's memory, truncated to its
 -- length; the rest of that memory is unchanged.
@@ -37,6 +44,24 @@ pub record Reports (o : Outcome Fault) (old new : List ℕ) (report : UimgReport
 abbrev pub no_report : UimgReport
 no_report = record { status = 3; fault = 0; place = 0; needed = 0; written = 0; peak = 0 }
 
+-- A call that writes the text of an outcome of an image, read in a format, returns the status that
+-- it reports.
+pub record ReportsOn (o : Outcome Fault) (format : Form) (image : List ℕ) (returned : ℕ)
+    (old new : List ℕ) (report : UimgReport) : Type 0 where
+  pub told : returned ≢ 3 → Reports o old new report
+  pub status : returned ≡ report.status
+  -- no more than the caller has memory for
+  pub within : report.written ≤ length old
+  -- if memory was refused, nothing is written, and a report says nothing
+  pub nothing : returned ≡ 3 → report ≡ no_report
+  pub untouched : returned ≡ 3 → new ≡ old
+  pub peak : report.peak ≤ table_most format image
+
+-- the outcome of an action on an image of either format, with the names of the profile
+abbrev pub outcome_by : Action → List ℕ → Outcome Fault
+outcome_by action image =
+    outcome_of Profile (record { action = action; form = form.Guess }) image
+
 -- A payload has the end of an extraction's outcome, and the span of the bytes in the image.
 pub record Finds (o : Outcome Fault) (image : List ℕ) (payload : UimgPayload) : Type 0 where
   pub code : code_of o.end ≡ Some
@@ -50,6 +75,18 @@ pub record FindsNamed (found : Result (List ℕ) FitEngineFault) (image : List �
   pub code : code_of_found found ≡ Some
       (record { status = payload.status; fault = payload.fault; place = payload.place })
   pub bytes : payload.status ≡ 0 → found ≡ Ok (slice image payload.start payload.size)
+
+-- A call that locates bytes of an image, read in a format, returns the status that it reports.
+-- Unless memory was refused, P holds of the payload.
+pub record Locates (P : UimgPayload → Type 0) (format : Form) (image : List ℕ) (returned : ℕ)
+    (payload : UimgPayload) : Type 0 where
+  pub told : returned ≢ 3 → P payload
+  pub status : returned ≡ payload.status
+  -- it ends inside the image
+  pub inside : payload.start + payload.size ≤ length image
+  -- it has no bytes if none was found
+  pub nowhere : returned ≢ 0 → (payload.start ≡ 0) × (payload.size ≡ 0)
+  pub peak : payload.peak ≤ table_most format image
 
 -- the end that a finding means, or the fault that refuses the image
 abbrev pub end_of_status : Status → End Fault
@@ -74,11 +111,6 @@ pub record Checks (need : ℕ) (image : List ℕ) (report : UimgReport) : Type 0
   pub code : code_of (check_by (strength need) image) ≡ Some
       (record { status = report.status; fault = report.fault; place = report.place })
   pub no_text : (report.needed ≡ 0) × (report.written ≡ 0)
-
--- the most bytes that the table of an image's nodes takes: a window of 8192 bytes, and 128 for each
--- node of a FIT image
-abbrev pub table_most : Form → List ℕ → ℕ
-table_most form image = held_bytes (nodes_in (is_fit form image) image)
 
 -- the numbers of a count, or of its fault
 abbrev pub code_of_count : Result ℕ Fault → Option Code

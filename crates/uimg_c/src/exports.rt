@@ -6,14 +6,13 @@
 //! has no bytes if none was found. The reported memory is at most 8192 bytes and 128 for each node;
 //! tests show that it is not less than what was taken.
 
-ghost use Rattle.std.specs.Prelude.{◌≡◌, ◌≢◌, ◌+◌, ◌≤◌, length, false};
-ghost use Rattle.uimg_names.specs.declared.naming.Naming.TheVariants as naming;
+ghost use Rattle.std.specs.Prelude.{◌≡◌, ◌≢◌, ◌≤◌, length, false};
 ghost use Rattle.uimg_requests.specs.declared.command.Action.TheVariants as action;
 ghost use Rattle.uimg_requests.specs.declared.command.Form.TheVariants as form;
 ghost use Rattle.uimg_checks.specs.Counting.{count_of};
-ghost use Rattle.uimg_engine.specs.Headline.{outcome_of, is_fit};
+ghost use Rattle.uimg_engine.specs.Headline.{is_fit};
 ghost use Rattle.uimg_fit_checking.specs.Named.{name_at, payload_named};
-ghost use Rattle.uimg_c.specs.Answers.{Checks, Counts, Finds, FindsNamed, Reports, no_report, table_most};
+ghost use Rattle.uimg_c.specs.Answers.{Checks, Counts, Finds, FindsNamed, Locates, ReportsOn, no_report, outcome_by, table_most};
 
 use crate::checks::check;
 use crate::counts::payload_count;
@@ -33,15 +32,8 @@ pub extern "C" fn uimg_list(
     text: &mut [u8],
     report: &mut UimgReport,
 ) -> u32
-    ensures told { result ≢ 3 → Reports (outcome_of naming.Profile (record {
-      action = action.List;
-      form = form.Guess;
-    }) image.now) text.old text.new report.new }
-    ensures status { result ≡ report.new.status }
-    ensures within { report.new.written ≤ length text.old }
-    ensures peak { report.new.peak ≤ table_most form.Guess image.now }
-    ensures nothing { result ≡ 3 → report.new ≡ no_report }
-    ensures untouched { result ≡ 3 → text.new ≡ text.old }
+    ensures { ReportsOn (outcome_by action.List image.now) form.Guess image.now result
+        text.old text.new report.new }
 {
     let command = Command {
         action: Action::List,
@@ -58,15 +50,8 @@ pub extern "C" fn uimg_verify(
     text: &mut [u8],
     report: &mut UimgReport,
 ) -> u32
-    ensures told { result ≢ 3 → Reports (outcome_of naming.Profile (record {
-      action = action.Verify;
-      form = form.Guess;
-    }) image.now) text.old text.new report.new }
-    ensures status { result ≡ report.new.status }
-    ensures within { report.new.written ≤ length text.old }
-    ensures peak { report.new.peak ≤ table_most form.Guess image.now }
-    ensures nothing { result ≡ 3 → report.new ≡ no_report }
-    ensures untouched { result ≡ 3 → text.new ≡ text.old }
+    ensures { ReportsOn (outcome_by action.Verify image.now) form.Guess image.now result
+        text.old text.new report.new }
 {
     let command = Command {
         action: Action::Verify,
@@ -96,15 +81,9 @@ pub extern "C" fn uimg_payload_at(
     position: u32,
     payload: &mut UimgPayload,
 ) -> u32
-    ensures told { result ≢ 3 → Finds (outcome_of naming.Profile (record {
-      action = action.Extract position;
-      form = form.Guess;
-    }) image.now) image.now payload.new }
-    ensures status { result ≡ payload.new.status }
-    ensures inside { payload.new.start + payload.new.size ≤ length image.now }
-    ensures nowhere { result ≢ 0 → (payload.new.start ≡ 0) × (payload.new.size ≡ 0) }
+    ensures located { Locates (Finds (outcome_by (action.Extract position) image.now) image.now)
+        form.Guess image.now result payload.new }
     ensures legacy { is_fit form.Guess image.now ≡ false → result ≢ 3 }
-    ensures peak { payload.new.peak ≤ table_most form.Guess image.now }
 {
     payload_at(alloc, image, position, payload)
 }
@@ -117,11 +96,8 @@ pub extern "C" fn uimg_payload_named(
     name: &[u8],
     payload: &mut UimgPayload,
 ) -> u32
-    ensures told { result ≢ 3 → FindsNamed (payload_named image.now name.now) image.now payload.new }
-    ensures status { result ≡ payload.new.status }
-    ensures peak { payload.new.peak ≤ table_most form.Fit image.now }
-    ensures inside { payload.new.start + payload.new.size ≤ length image.now }
-    ensures nowhere { result ≢ 0 → (payload.new.start ≡ 0) × (payload.new.size ≡ 0) }
+    ensures { Locates (FindsNamed (payload_named image.now name.now) image.now)
+        form.Fit image.now result payload.new }
 {
     payload_named(alloc, image, name, payload)
 }
@@ -134,11 +110,8 @@ pub extern "C" fn uimg_payload_name(
     position: u32,
     name: &mut UimgPayload,
 ) -> u32
-    ensures told { result ≢ 3 → FindsNamed (name_at image.now position) image.now name.new }
-    ensures status { result ≡ name.new.status }
-    ensures peak { name.new.peak ≤ table_most form.Fit image.now }
-    ensures inside { name.new.start + name.new.size ≤ length image.now }
-    ensures nowhere { result ≢ 0 → (name.new.start ≡ 0) × (name.new.size ≡ 0) }
+    ensures { Locates (FindsNamed (name_at image.now position) image.now)
+        form.Fit image.now result name.new }
 {
     payload_name(alloc, image, position, name)
 }

@@ -1,12 +1,11 @@
 //! Where a payload is in an image in memory.
 
-ghost use Rattle.std.specs.Prelude.{◌≡◌, ◌≢◌, ◌+◌, ◌≤◌, length, false, Some, None};
-ghost use Rattle.uimg_names.specs.declared.naming.Naming.TheVariants as naming;
+ghost use Rattle.std.specs.Prelude.{◌≡◌, ◌≢◌, length, false, Some, None};
 ghost use Rattle.uimg_requests.specs.declared.command.Action.TheVariants as action;
 ghost use Rattle.uimg_requests.specs.declared.command.Form.TheVariants as form;
-ghost use Rattle.uimg_engine.specs.Headline.{outcome_of, is_fit};
+ghost use Rattle.uimg_engine.specs.Headline.{is_fit};
 ghost use Rattle.uimg_fit_checking.specs.Named.{name_at, payload_named};
-ghost use Rattle.uimg_c.specs.Answers.{Finds, FindsNamed, table_most};
+ghost use Rattle.uimg_c.specs.Answers.{Finds, FindsNamed, Locates, outcome_by};
 ghost use Rattle.uimg_c.specs.Codes.{code_of_fault};
 
 use crate::codes::{DONE, NO_MEMORY, fault_code};
@@ -71,15 +70,9 @@ pub(crate) fn payload_at(
     position: u32,
     payload: &mut UimgPayload,
 ) -> u32
-    ensures told { result ≢ 3 → Finds (outcome_of naming.Profile (record {
-      action = action.Extract position;
-      form = form.Guess;
-    }) image.now) image.now payload.new }
-    ensures status { result ≡ payload.new.status }
-    ensures inside { payload.new.start + payload.new.size ≤ length image.now }
-    ensures nowhere { result ≢ 0 → (payload.new.start ≡ 0) × (payload.new.size ≡ 0) }
+    ensures located { Locates (Finds (outcome_by (action.Extract position) image.now) image.now)
+        form.Guess image.now result payload.new }
     ensures legacy { is_fit form.Guess image.now ≡ false → result ≢ 3 }
-    ensures peak { payload.new.peak ≤ table_most form.Guess image.now }
 {
     let mut room = Room::new(alloc);
     let located = locate_in_memory(Form::Guess, position, image, &mut room);
@@ -98,11 +91,8 @@ pub(crate) fn payload_named(
     name: &[u8],
     payload: &mut UimgPayload,
 ) -> u32
-    ensures told { result ≢ 3 → FindsNamed (payload_named image.now name.now) image.now payload.new }
-    ensures status { result ≡ payload.new.status }
-    ensures peak { payload.new.peak ≤ table_most form.Fit image.now }
-    ensures inside { payload.new.start + payload.new.size ≤ length image.now }
-    ensures nowhere { result ≢ 0 → (payload.new.start ≡ 0) × (payload.new.size ≡ 0) }
+    ensures { Locates (FindsNamed (payload_named image.now name.now) image.now)
+        form.Fit image.now result payload.new }
 {
     let mut room = Room::new(alloc);
     let located = locate_named(name, image, &mut room);
@@ -121,11 +111,8 @@ pub(crate) fn payload_name(
     position: u32,
     name: &mut UimgPayload,
 ) -> u32
-    ensures told { result ≢ 3 → FindsNamed (name_at image.now position) image.now name.new }
-    ensures status { result ≡ name.new.status }
-    ensures peak { name.new.peak ≤ table_most form.Fit image.now }
-    ensures inside { name.new.start + name.new.size ≤ length image.now }
-    ensures nowhere { result ≢ 0 → (name.new.start ≡ 0) × (name.new.size ≡ 0) }
+    ensures { Locates (FindsNamed (name_at image.now position) image.now)
+        form.Fit image.now result name.new }
 {
     let mut room = Room::new(alloc);
     let located = locate_name(position, image, &mut room);

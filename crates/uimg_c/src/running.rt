@@ -1,8 +1,7 @@
 //! A command on an image in memory, whose text goes to the caller's memory.
 
-ghost use Rattle.std.specs.Prelude.{◌≡◌, ◌≢◌, ◌≤◌, length};
 ghost use Rattle.uimg_engine.specs.Headline.{outcome_of};
-ghost use Rattle.uimg_c.specs.Answers.{Reports, no_report, table_most};
+ghost use Rattle.uimg_c.specs.Answers.{ReportsOn};
 
 use crate::codes::{NO_MEMORY, answer_code};
 use crate::fronts::copy_front;
@@ -22,12 +21,8 @@ pub(crate) fn report_on(
     text: &mut [u8],
     report: &mut UimgReport,
 ) -> u32
-    ensures told { result ≢ 3 → Reports (outcome_of Naming.Profile command.now image.now) text.old text.new report.new }
-    ensures status { result ≡ report.new.status }
-    ensures within { report.new.written ≤ length text.old }
-    ensures peak { report.new.peak ≤ table_most command.now.form image.now }
-    ensures nothing { result ≡ 3 → report.new ≡ no_report }
-    ensures untouched { result ≡ 3 → text.new ≡ text.old }
+    ensures { ReportsOn (outcome_of Naming.Profile command.now image.now) command.now.form image.now
+        result text.old text.new report.new }
 {
     let mut room = Room::new(alloc);
     let (end, whole) = run_in_memory(alloc, Naming::Profile, command, image, &mut room);
