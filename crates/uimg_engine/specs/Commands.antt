@@ -1,7 +1,7 @@
 -- What the making of an image gives, by its command.
 use Rattle.std.specs.Borrow.{Bor}
-use Rattle.std.specs.Prelude.{◌≡◌, ℕ, List, [], map, Option, None, Result, Ok, Err, IsTrue, IfErr}
-use Rattle.std.specs.Prelude.{Bool, false, ⊤}
+use Rattle.std.specs.Prelude.{◌≡◌, ℕ, List, [], map, Option, Some, None, Result, Ok, Err, IsTrue}
+use Rattle.std.specs.Prelude.{IfOk, IfErr, Bool, false, ⊤}
 use Rattle.std.specs.Bool.{OnFalse}
 use Rattle.uimg_base.specs.Device.{Device, Rose, RisesIf}
 use Rattle.uimg_base.specs.Held.{Held}
@@ -21,8 +21,9 @@ use Rattle.uimg_requests.specs.declared.command.Form.TheVariants as Form
 use Rattle.uimg_requests.specs.declared.make_command.MakeCommand.{MakeCommand}
 use Rattle.uimg_requests.specs.declared.make_command.MakeCommand.TheVariants.{Parts, Tree}
 use Rattle.uimg_engine.specs.Faults.{end_of, is_read, is_put, is_no_memory, is_of_making}
-use Rattle.uimg_engine.specs.Faults.{is_no_text, is_no_payload, refuses_payload}
-use Rattle.uimg_engine.specs.Headline.{outcome_in, outcome_of, Takes}
+use Rattle.uimg_engine.specs.Faults.{is_no_text, is_no_payload, refuses_payload, is_unread}
+use Rattle.uimg_engine.specs.Faults.{is_lost_payload, is_keep}
+use Rattle.uimg_engine.specs.Headline.{outcome_in, outcome_of, Takes, Stays}
 use Rattle.uimg_engine.specs.Making.{timed, OpensNames, Lacks, BuildsNames, MakesAnswer}
 use Rattle.uimg_engine.specs.MakingTrees.{BuildsSource, MakesSource, HoldsSource}
 
@@ -168,7 +169,50 @@ Lists naming command result device source room out = ListsBetween naming command
     out.exit.now
 
 -- If what is kept is honest, exactly its listing was appended, with no fault.
+abbrev pub ListsKeptBetween : {K : Type 0} → (K → Device) → Naming → MakeCommand → Sink → Sink → K
+    → Type 0
+ListsKeptBetween device naming command s t kept = IsTrue (device kept).honest → (status : Status)
+    × Tells (end_of (Ok status)) (listing_of naming command (device kept).bytes) s t
+
 abbrev pub ListsKept : {K : Type 0} → (K → Device) → Naming → MakeCommand → Lent Sink → K → Type 0
-ListsKept device naming command out kept = IsTrue (device kept).honest → (status : Status)
-    × Tells (end_of (Ok status)) (listing_of naming command (device kept).bytes) out.entry.now
+ListsKept device naming command out kept =
+    ListsKeptBetween device naming command out.entry.now out.exit.now kept
+
+-- What making appends to the output: the listing comes last.
+pub record ListsLastBetween {X : Type 0} (result : Result X Fault) (s t : Sink) : Type 0 where
+  -- at a fault of making nothing was appended
+  pub quiet : IsTrue (is_of_making result) → t ≡ s
+  -- the faults of the output rise at `Put` alone
+  pub puts : is_put result ≡ false → t.faults ≡ s.faults
+  -- if they did not rise at `Put`, a write of the image failed, and nothing was appended
+  pub put : IsTrue (is_put result) → Stays s.faults t.faults → t ≡ s
+
+abbrev pub ListsLast : {X : Type 0} → Result X Fault → Lent Sink → Type 0
+ListsLast result out = ListsLastBetween result out.entry.now out.exit.now
+
+-- What making does at any exit, over files, a shelf and what it keeps that are steady or not: their
+-- reads, and keeping, never fail.
+pub record MakesBetween {K : Type 0} (device : K → Device) (naming : Naming) (command : MakeCommand)
+    (files_steady shelf_steady kept_steady : Bool) (result : Result K Fault)
+    (before after : FileMap) (old new : Held) (s t : Sink) : Type 0 where
+  pub files : OpensToBuild command result before after
+  pub output : ListsLastBetween result s t
+  -- `Read` and I6 are never returned
+  pub reads : IsTrue files_steady → IsTrue kept_steady → KeepsSizes command before
+      → is_unread result ≡ false
+  -- F10 is never returned
+  pub payloads : IsTrue files_steady → IsTrue before.honest → is_lost_payload result ≡ false
+  -- `Keep` is never returned
+  pub keeps : IsTrue shelf_steady → is_keep result ≡ false
+  pub listed : IfOk result (ListsKeptBetween device naming command s t)
+  -- no read of what was kept failed
+  pub kept_reads : IfOk result (λ kept. (device kept).failures ≡ 0)
+  pub room : LeavesRoomBetween device before.honest command result old new
+
+abbrev pub Makes : {K F : Type 0} → (K → Device) → (F → FileMap) → Naming → MakeCommand
+    → (files_steady shelf_steady kept_steady : Bool) → Result K Fault → Lent F → Lent Held
+    → Lent Sink → Type 0
+Makes device map naming command files_steady shelf_steady kept_steady result files room out =
+    MakesBetween device naming command files_steady shelf_steady kept_steady result
+    (map files.entry.now) (map files.exit.now) room.entry.now room.exit.now out.entry.now
     out.exit.now

@@ -1,11 +1,11 @@
 //! `run_by`, `locate` and `make_by` over images and files in memory.
-ghost use Rattle.std.specs.Prelude.{◌≡◌, true, false, IsTrue, IfOk, IfErr};
+ghost use Rattle.std.specs.Prelude.{◌≡◌, true, false, IfOk, IfErr};
 ghost use Rattle.std.specs.Io.{StartsWith};
-ghost use Rattle.uimg_engine.specs.Faults.{LosesNothing, is_put, is_refused, is_of_making, is_keep};
-ghost use Rattle.uimg_engine.specs.Headline.{outcome_of, is_fit, GivesOutcome, InMemory, NoWriteFails, TakesNone, WritesNone};
+ghost use Rattle.uimg_engine.specs.Faults.{LosesNothing, is_put, is_refused, is_keep};
+ghost use Rattle.uimg_engine.specs.Headline.{outcome_of, is_fit, GivesOutcome, InMemory, TakesNone, WritesNone};
 ghost use Rattle.uimg_engine.specs.Locating.{FindsSpan, StandsIn};
 ghost use Rattle.uimg_requests.specs.Commands.{HasFitNames};
-ghost use Rattle.uimg_engine.specs.Commands.{bytes_among, LacksFile, MakesCommand, LeavesRoom, HoldsCommand};
+ghost use Rattle.uimg_engine.specs.Commands.{bytes_among, LacksFile, MakesCommand, ListsLast, LeavesRoom, HoldsCommand};
 
 use crate::engine::run_by;
 use crate::fault::Fault;
@@ -94,9 +94,7 @@ pub fn make_in_memory<W: Write, A: Allocator + Copy, B: Allocator, H: Allocator>
     ensures missing { IfErr result (LacksFile command.now (bytes_among files.now)) }
     ensures reads { LosesNothing result }
     ensures keep { is_keep result ≡ false }
-    ensures quiet { IsTrue (is_of_making result) → out.new ≡ out.old }
-    ensures puts { is_put result ≡ false → out.new.faults ≡ out.old.faults }
-    ensures put { IsTrue (is_put result) → NoWriteFails out → out.new ≡ out.old }
+    ensures listed { ListsLast result out }
     ensures room { LeavesRoom (⟦<MemKept<H> as Source>⟧.device) true command.now result room }
     ensures peak { HoldsCommand command.now manner.time manner.align (bytes_among files.now) room }
 {

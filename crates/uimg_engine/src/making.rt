@@ -7,7 +7,7 @@ ghost use Rattle.uimg_engine.specs.Faults.{is_unread, is_lost_payload, is_put, i
 ghost use Rattle.uimg_engine.specs.Headline.{NoWriteFails};
 ghost use Rattle.uimg_engine.specs.Making.{KeepsBytes, WritesImage};
 ghost use Rattle.uimg_requests.specs.Commands.{HasFitNames};
-ghost use Rattle.uimg_engine.specs.Commands.{HonestFiles, KeepsSizes, OpensToBuild, BuildsCommand, MakesCommand, ListsKept, LeavesRoom, HoldsCommand};
+ghost use Rattle.uimg_engine.specs.Commands.{HonestFiles, KeepsSizes, OpensToBuild, BuildsCommand, MakesCommand, ListsKept, LeavesRoom, HoldsCommand, Makes};
 
 use crate::fault::Fault;
 use crate::making_lists::list_kept;
@@ -180,18 +180,8 @@ pub fn make_by<F: Files, H: Shelf, W: Write, A: Allocator + Copy, B: Allocator>(
     ensures made { HonestFiles F.map files → IsTrue H.honest → H.contents shelf ≡ Some [] →
         MakesCommand H.Kept.device manner.naming command.now manner.time manner.align
         (F.map files.old).bytes result out }
-    ensures files { OpensToBuild command.now result (F.map files.old) (F.map files.new) }
-    ensures quiet { IsTrue (is_of_making result) → out.new ≡ out.old }
-    ensures puts { is_put result ≡ false → out.new.faults ≡ out.old.faults }
-    ensures put { IsTrue (is_put result) → NoWriteFails out → out.new ≡ out.old }
-    ensures steady_reads { IsTrue F.Opened.steady → IsTrue H.Kept.steady →
-        KeepsSizes command.now (F.map files.old) → is_unread result ≡ false }
-    ensures steady_payloads { IsTrue F.Opened.steady → HonestFiles F.map files →
-        is_lost_payload result ≡ false }
-    ensures steady_keeps { IsTrue H.steady → is_keep result ≡ false }
-    ensures listed { IfOk result (ListsKept H.Kept.device manner.naming command.now out) }
-    ensures kept_reads { IfOk result (λ kept. (H.Kept.device kept).failures ≡ 0) }
-    ensures room { LeavesRoom H.Kept.device (F.map files.old).honest command.now result room }
+    ensures makes { Makes H.Kept.device F.map manner.naming command.now F.Opened.steady H.steady
+        H.Kept.steady result files room out }
     ensures peak { HonestFiles F.map files → IsTrue H.honest → H.contents shelf ≡ Some [] →
         HoldsCommand command.now manner.time manner.align (F.map files.old).bytes room }
 {

@@ -12,7 +12,7 @@ pub returns-clause-missing : goal.returns-clause-missing
 returns-clause-missing g c =
     subst (λ (files : List ℕ → Option (List ℕ)). IfErr c.make_by.result (LacksFile c.args.command.now files))
     (ap (λ (m : FileMap). m.bytes) c.new.ensures)
-    (lacks_file c.args.command.now c.make_by.result _ _ c.make_by.ensures.files (search rules) (search rules))
+    (lacks_file c.args.command.now c.make_by.result _ _ c.make_by.ensures.makes.files (search rules) (search rules))
 
 pub returns-clause-peak : goal.returns-clause-peak
 returns-clause-peak g c =

@@ -14,11 +14,6 @@ returns-in_err-build_image-clause-made g c = λ files shelf empty.
     let never = c.in_err-build_image.ensures.image.never_keep in
     rw (p.1, p.2) (building_stops_command _ g.H.Kept.Source.device c.args.manner.naming c.args.command.now c.args.manner.time c.args.manner.align _ c.in_err-build_image.field-0.0 _ _ _ never (c.in_err-build_image.ensures.built files))
 
-pub returns-in_err-build_image-clause-room : goal.returns-in_err-build_image-clause-room
-returns-in_err-build_image-clause-room g c =
-    let p = err_from_is_err_and c.from_residual.result c.from_residual.ensures.1 in
-    rw (p.1, p.2) (room_stays _ g.H.Kept.Source.device _ c.args.command.now c.args.manner.time c.args.manner.align _ c.in_err-build_image.field-0.0 _ _ _ _ c.clear.ensures c.in_err-build_image.ensures.built)
-
 pub returns-in_err-list_kept-clause-made : goal.returns-in_err-list_kept-clause-made
 returns-in_err-list_kept-clause-made g c = λ files shelf empty.
     let p = err_from_is_err_and c.from_residual-in_err-list_kept.result c.from_residual-in_err-list_kept.ensures.1 in
@@ -33,11 +28,6 @@ returns-clause-made g c = λ files shelf empty.
     let none : c.new-image.result.contents ≡ Some [] = search rules in
     let keeps = keeping_command c.args.command.now c.args.manner.time c.args.manner.align _ _ _ _ _ (g.H.Kept.Source.device c.in_ok-kept.kept) (c.in_ok-build_image.ensures.built files) none c.in_ok-shelf.ensures.written kept.0 kept.1 in
     listing_makes_command g.H.Kept.Source.device _ c.args.manner.naming c.args.command.now c.args.manner.time c.args.manner.align _ _ c.in_ok-list_kept.field-0 _ _ keeps c.list_kept.ensures.uses.same (c.in_ok-list_kept.ensures.told kept.1)
-
-pub returns-in_err-list_kept-clause-steady_payloads : goal.returns-in_err-list_kept-clause-steady_payloads
-returns-in_err-list_kept-clause-steady_payloads g c = λ steady files.
-    let p = err_from_is_err_and c.from_residual-in_err-list_kept.result c.from_residual-in_err-list_kept.ensures.1 in
-    rw (p.1, p.2) (listing_loses_none Status ⊤ c.in_err-list_kept.field-0.0 c.in_err-list_kept.ensures.not_making)
 
 pub returns-in_err-build_image-clause-peak : goal.returns-in_err-build_image-clause-peak
 returns-in_err-build_image-clause-peak g c = λ files shelf empty.
@@ -57,9 +47,46 @@ returns-clause-peak g c = λ files shelf empty.
     let keeps = keeping_command c.args.command.now c.args.manner.time c.args.manner.align _ _ _ _ _ (g.H.Kept.Source.device c.in_ok-kept.kept) (c.in_ok-build_image.ensures.built files) none c.in_ok-shelf.ensures.written kept.0 kept.1 in
     holds_listed c.args.command.now c.args.manner.time c.args.manner.align _ _ _ _ _ _ c.clear.ensures keeps c.in_ok-list_kept.ensures.room
 
-pub returns-clause-listed : goal.returns-clause-listed
-returns-clause-listed g c = λ honest. (
-  c.in_ok-list_kept.field-0,
-  subst (λ (b : List ℕ). Tells (end_of (Ok c.in_ok-list_kept.field-0)) (listing_of c.args.manner.naming c.args.command.now b) c.args.out.now c.list_kept.new.out)
-      (sym c.list_kept.ensures.uses.same.bytes) (c.in_ok-list_kept.ensures.told (subst (λ (b : Bool). IsTrue b) c.list_kept.ensures.uses.same.honest honest)),
-)
+pub returns-in_err-build_image-clause-makes : goal.returns-in_err-build_image-clause-makes
+returns-in_err-build_image-clause-makes g c = record {
+  files = search rules;
+  output = record { quiet = search rules; puts = search rules; put = search rules };
+  reads = search rules;
+  payloads = search rules;
+  keeps = search rules;
+  listed = search rules;
+  kept_reads = search rules;
+  room =
+      let p = err_from_is_err_and c.from_residual.result c.from_residual.ensures.1 in
+      rw (p.1, p.2) (room_stays _ g.H.Kept.Source.device _ c.args.command.now c.args.manner.time c.args.manner.align _ c.in_err-build_image.field-0.0 _ _ _ _ c.clear.ensures c.in_err-build_image.ensures.built);
+}
+
+pub returns-in_err-list_kept-clause-makes : goal.returns-in_err-list_kept-clause-makes
+returns-in_err-list_kept-clause-makes g c = record {
+  files = search rules;
+  output = record { quiet = search rules; puts = search rules; put = search rules };
+  reads = search rules;
+  payloads = λ steady files.
+      let p = err_from_is_err_and c.from_residual-in_err-list_kept.result c.from_residual-in_err-list_kept.ensures.1 in
+      rw (p.1, p.2) (listing_loses_none Status ⊤ c.in_err-list_kept.field-0.0 c.in_err-list_kept.ensures.not_making);
+  keeps = search rules;
+  listed = search rules;
+  kept_reads = search rules;
+  room = search rules;
+}
+
+pub returns-clause-makes : goal.returns-clause-makes
+returns-clause-makes g c = record {
+  files = search rules;
+  output = record { quiet = search rules; puts = search rules; put = search rules };
+  reads = search rules;
+  payloads = search rules;
+  keeps = search rules;
+  listed = λ honest. (
+    c.in_ok-list_kept.field-0,
+    subst (λ (b : List ℕ). Tells (end_of (Ok c.in_ok-list_kept.field-0)) (listing_of c.args.manner.naming c.args.command.now b) c.args.out.now c.list_kept.new.out)
+        (sym c.list_kept.ensures.uses.same.bytes) (c.in_ok-list_kept.ensures.told (subst (λ (b : Bool). IsTrue b) c.list_kept.ensures.uses.same.honest honest)),
+  );
+  kept_reads = search rules;
+  room = search rules;
+}
