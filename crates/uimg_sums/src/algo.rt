@@ -16,18 +16,14 @@ pub enum Algo {
     Sha512,
 }
 
-/// An algorithm, its name, and the length of its digests in bytes.
-pub type AlgoRow = (Algo, &'static str, usize);
-
-/// The algorithms in order, by names as in the `algo` property of a FIT hash node and in U-Boot's
-/// `hash.c`.
-pub const ALGOS: [AlgoRow; 6] = [
-    (Algo::Crc32, "crc32", 4),
-    (Algo::Md5, "md5", 16),
-    (Algo::Sha1, "sha1", 20),
-    (Algo::Sha256, "sha256", 32),
-    (Algo::Sha384, "sha384", 48),
-    (Algo::Sha512, "sha512", 64),
+/// The algorithms in order.
+pub const ALGOS: [Algo; 6] = [
+    Algo::Crc32,
+    Algo::Md5,
+    Algo::Sha1,
+    Algo::Sha256,
+    Algo::Sha384,
+    Algo::Sha512,
 ];
 
 impl Algo {
@@ -38,25 +34,40 @@ impl Algo {
     pub fn named(name: &[u8]) -> Option<Algo>
         ensures { result ≡ algo_named name.now }
     {
-        for (algo, known, _) in &ALGOS {
-            if name == known.as_bytes() {
-                return Some(*algo);
+        for algo in ALGOS {
+            if name == algo.name().as_bytes() {
+                return Some(algo);
             }
         }
         None
+    }
+
+    // Returns the name, and the length of a digest in bytes.
+    fn row(self) -> (&'static str, usize)
+        ensures name { result.0.now ≡ algo_name self }
+        ensures size { result.1 ≡ digest_size self }
+    {
+        match self {
+            Algo::Crc32 => ("crc32", 4),
+            Algo::Md5 => ("md5", 16),
+            Algo::Sha1 => ("sha1", 20),
+            Algo::Sha256 => ("sha256", 32),
+            Algo::Sha384 => ("sha384", 48),
+            Algo::Sha512 => ("sha512", 64),
+        }
     }
 
     /// Returns the algorithm's name.
     pub fn name(self) -> &'static str
         ensures { result.now ≡ algo_name self }
     {
-        ALGOS[self as usize].1
+        self.row().0
     }
 
     /// Returns the length of a digest in bytes.
     pub fn len(self) -> usize
         ensures { result ≡ digest_size self }
     {
-        ALGOS[self as usize].2
+        self.row().1
     }
 }
