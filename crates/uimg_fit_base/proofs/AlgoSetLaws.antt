@@ -3,7 +3,8 @@ use Rattle.std.proofs.Common.{◌≡◌, ◌≢◌, ℕ, zero, suc, ◌+◌, ◌
 use Rattle.std.specs.Int.{bit_at}
 use Rattle.std.specs.List.{filter, count_by, slice_get}
 use Rattle.std.specs.Prelude.{bit_or}
-use Rattle.std.proofs.lemmas.List.Sums.{sum_by-cons}
+use Rattle.std.proofs.lemmas.Bool.{eqb-true}
+use Rattle.std.proofs.lemmas.List.Sums.{sum_by-cons, length-filter, count_by-le-length}
 use Rattle.std.proofs.lemmas.Nat.Bits.{bit_at_or, bit_at-zero}
 use Rattle.uimg_sums.specs.Algorithms.{all_algos, number}
 use Rattle.uimg_sums.specs.declared.algo.Algo.{Algo}
@@ -28,19 +29,13 @@ at-number a = grind arith
 pub at-place : (set : AlgoSet) (a : Algo) → has set a ≡ true → slice_get (chosen set) (count_by (has set) (take (number a) all_algos)) ≡ Some a
 at-place set a is = place-among (has set) all_algos (number a) a (at-number a) is
 
-kept-few : (b : Bool) (x : Algo) (l : List Algo) (n : ℕ) → length l ≤ n → length (cond b (x ∷ l) l) ≤ n + 1
-kept-few true x l n h = omega (arith, h)
-kept-few false x l n h = omega (arith, h)
-
-filter-few : (f : Algo → Bool) (xs : List Algo) → length (filter f xs) ≤ length xs
-filter-few f [] = omega arith
-filter-few f (x ∷ xs) = omega (arith, kept-few (f x) x (filter f xs) (length xs) (filter-few f xs))
-
 pub chosen-few : (set : AlgoSet) → length (chosen set) ≤ 8
-chosen-few set = omega (arith, filter-few (has set) all_algos)
+chosen-few set = omega (arith, length-filter (has set) all_algos, count_by-le-length (has set) all_algos)
 
 pub first-few : (set : AlgoSet) (i : ℕ) → length (filter (has set) (take i all_algos)) < 8
-first-few set i = omega (arith, filter-few (has set) (take i all_algos), length-take i all_algos)
+first-few set i =
+    let first = take i all_algos in
+    omega (arith, length-filter (has set) first, count_by-le-length (has set) first, length-take i all_algos)
 
 -- what is marked is in use, and what was stays so
 own-bit : (a : Algo) → bit_at (2 ^ number a) (number a) ≡ 1
@@ -54,7 +49,7 @@ marked-has set a =
 pub marked-keeps : (set : AlgoSet) (a b : Algo) → has set b ≡ true → has (marked set a) b ≡ true
 unfolding has marked
 marked-keeps set a b h =
-    let bit : bit_at (bit_or set.bits (2 ^ number a)) (number b) ≡ 1 = omega (arith, bit_at_or set.bits (2 ^ number a) (number b), h) in rw bit refl
+    let bit : bit_at (bit_or set.bits (2 ^ number a)) (number b) ≡ 1 = omega (arith, bit_at_or set.bits (2 ^ number a) (number b), eqb-true _ 1 h) in rw bit refl
 
 -- no algorithm is in use
 pub has-none : (a : Algo) → has no_algos a ≡ false
@@ -63,7 +58,7 @@ has-none a = rw (bit_at-zero (number a)) refl
 
 pub empty-is : (s : AlgoSet) → is_empty s ≡ true → s ≡ no_algos
 unfolding is_empty
-empty-is s h = let zero_bits : s.bits ≡ 0 = omega (arith, h) in ap (λ (n : ℕ). let t : AlgoSet = record { bits = n } in t) zero_bits
+empty-is s h = let zero_bits : s.bits ≡ 0 = eqb-true s.bits 0 h in ap (λ (n : ℕ). let t : AlgoSet = record { bits = n } in t) zero_bits
 
 pub some-are : (s : AlgoSet) → is_empty s ≡ false → s ≢ no_algos
 unfolding is_empty

@@ -54,8 +54,8 @@ impl AlgoSet {
         ensures { Holds result (chosen self) [] }
     {
         let mut bundle = Bundle::new();
-        for (algo, _, _) in &ALGOS {
-            add_chosen(&mut bundle, self, *algo);
+        for algo in ALGOS {
+            add_chosen(&mut bundle, self, algo);
         }
         bundle
     }
@@ -76,7 +76,7 @@ fn place(set: AlgoSet, algo: Algo) -> usize
     ensures { result ≡ count_by (has set) (take (number algo) all_algos) }
 {
     let mut place = 0;
-    for (known, _, _) in &ALGOS[..algo as usize] {
+    for known in &ALGOS[..algo as usize] {
         if set.has(*known) {
             place += 1;
         }
