@@ -44,8 +44,8 @@ pub use source::{MemSource, Source, SourceFault};
 pub use spans::Span;
 pub use status::Status;
 pub use uimg_sums::{
-    Algo, Bundle, Crc, Md5Sum, Sha1Sum, Sha256Sum, Sha384Sum, Sha512Sum, Summer, Sums, crc_entry,
-    crc_of,
+    ALGOS, Algo, Bundle, Crc, Md5Sum, Sha1Sum, Sha256Sum, Sha384Sum, Sha512Sum, Summer, Sums,
+    crc_entry, crc_of,
 };
 pub use uimg_texts::{
     ARCHITECTURES, COMPRESSIONS, CodeRow, FLAT_DT, IMAGE_TYPES, MULTI, OPERATING_SYSTEMS, SCRIPT,

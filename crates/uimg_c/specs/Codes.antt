@@ -1,7 +1,7 @@
 -- The numbers by which callers in C see how a command ended.
-use Rattle.std.specs.Prelude.{ℕ, ◌+◌, ◌*◌, ◌==◌, if◌then◌else◌, Option, Some, None, Result, Ok, Err}
+use Rattle.std.specs.Prelude.{ℕ, ◌+◌, ◌*◌, ◌==◌, find, Option, Some, None, Result, Ok, Err}
+use Rattle.uimg_sums.specs.Algorithms.{all_algos, number}
 use Rattle.uimg_sums.specs.declared.algo.Algo.{Algo}
-use Rattle.uimg_sums.specs.declared.algo.Algo.TheVariants as algo
 use Rattle.uimg_base.specs.Outcome.{End, done, not_right, refused}
 use Rattle.uimg_base.specs.declared.status.Status.{Status}
 use Rattle.uimg_base.specs.declared.status.Status.TheVariants.{Done, NotRight}
@@ -88,9 +88,6 @@ code_of done = code_of_answer (Ok Done)
 code_of not_right = code_of_answer (Ok NotRight)
 code_of (refused fault) = code_of_fault fault
 
--- the algorithms, by the numbers of their strength
+-- the algorithm of a strength, which is its number counted from 1
 abbrev pub strength : ℕ → Option Algo
-strength n =
-    if n == 1 then Some algo.Crc32 else if n == 2 then Some algo.Md5 else if n == 3 then Some
-    algo.Sha1 else if n == 4 then Some algo.Sha256
-    else if n == 5 then Some algo.Sha384 else if n == 6 then Some algo.Sha512 else None
+strength n = find (λ algo. n == number algo + 1) all_algos

@@ -11,22 +11,19 @@ use crate::codes::{NO_MEMORY, answer_code};
 use crate::peaks::peak_of;
 use crate::reports::UimgReport;
 use std::alloc::{Allocator, Global};
-use uimg_base::{Algo, MemSource, Room, Status};
+use uimg_base::{ALGOS, Algo, MemSource, Room, Status};
 use uimg_engine::Fault;
 
 // Returns the algorithm of a strength.
 fn strength(need: u32) -> Option<Algo>
     ensures { result ≡ strength need }
 {
-    match need {
-        1 => Some(Algo::Crc32),
-        2 => Some(Algo::Md5),
-        3 => Some(Algo::Sha1),
-        4 => Some(Algo::Sha256),
-        5 => Some(Algo::Sha384),
-        6 => Some(Algo::Sha512),
-        _ => None,
+    for algo in ALGOS {
+        if need == algo as u32 + 1 {
+            return Some(algo);
+        }
     }
+    None
 }
 
 // Returns the report without a text on a result; `peak` is the memory that was taken.

@@ -1,33 +1,18 @@
 //! Sets of algorithms, and the digests by them of one pass over some bytes.
 ghost use Rattle.std.specs.Prelude.{◌≡◌, ◌<◌, ◌≤◌, ◌++◌, ◌∷◌, ℕ, [], List, length, take, true, Some, slice_get, if◌then◌else◌};
 ghost use Rattle.std.specs.List.{count_by};
-ghost use Rattle.uimg_sums.specs.Algorithms.{digest_by};
+ghost use Rattle.uimg_sums.specs.Algorithms.{all_algos, number, digest_by};
 ghost use Rattle.uimg_sums.specs.AnySum.{padded_digest};
 ghost use Rattle.uimg_sums.specs.declared.algo.Algo.{Algo};
 ghost use Rattle.uimg_sums.specs.Bundle.{Holds, padded_digests};
-ghost use Rattle.uimg_fit_base.specs.AlgoSets.{all_algos, rank, is_empty, has, marked, no_algos, chosen, set_of, AreDigests};
+ghost use Rattle.uimg_fit_base.specs.AlgoSets.{is_empty, has, marked, no_algos, chosen, set_of, AreDigests};
 
-use uimg_base::{Algo, Bundle};
+use uimg_base::{ALGOS, Algo, Bundle};
 
-// The six algorithms, in the order of their sums.
-const ALGOS: [Algo; 6] = [
-    Algo::Crc32,
-    Algo::Md5,
-    Algo::Sha1,
-    Algo::Sha256,
-    Algo::Sha384,
-    Algo::Sha512,
-];
-
-/// A set of the six algorithms.
+/// A set of algorithms: the bit of an algorithm's number says whether it is in it.
 #[derive(Clone, Copy, Debug, PartialEq, Eq)]
 pub struct AlgoSet {
-    crc32: bool,
-    md5: bool,
-    sha1: bool,
-    sha256: bool,
-    sha384: bool,
-    sha512: bool,
+    bits: u8,
 }
 
 impl AlgoSet {
@@ -35,14 +20,7 @@ impl AlgoSet {
     pub fn none() -> AlgoSet
         ensures { result ≡ no_algos }
     {
-        AlgoSet {
-            crc32: false,
-            md5: false,
-            sha1: false,
-            sha256: false,
-            sha384: false,
-            sha512: false,
-        }
+        AlgoSet { bits: 0 }
     }
 
     /// Returns whether the set is empty.
@@ -50,22 +28,7 @@ impl AlgoSet {
     pub fn is_empty(self) -> bool
         ensures { result ≡ is_empty self }
     {
-        if self.crc32 {
-            return false;
-        }
-        if self.md5 {
-            return false;
-        }
-        if self.sha1 {
-            return false;
-        }
-        if self.sha256 {
-            return false;
-        }
-        if self.sha384 {
-            return false;
-        }
-        !self.sha512
+        self.bits == 0
     }
 
     /// Returns whether an algorithm is in the set.
@@ -73,14 +36,7 @@ impl AlgoSet {
     pub fn has(self, algo: Algo) -> bool
         ensures { result ≡ has self algo }
     {
-        match algo {
-            Algo::Crc32 => self.crc32,
-            Algo::Md5 => self.md5,
-            Algo::Sha1 => self.sha1,
-            Algo::Sha256 => self.sha256,
-            Algo::Sha384 => self.sha384,
-            Algo::Sha512 => self.sha512,
-        }
+        (self.bits >> algo as u8) % 2 == 1
     }
 
     /// Returns the set with one more algorithm.
@@ -88,25 +44,8 @@ impl AlgoSet {
     pub fn marked(self, algo: Algo) -> AlgoSet
         ensures { result ≡ marked self algo }
     {
-        match algo {
-            Algo::Crc32 => AlgoSet {
-                crc32: true,
-                ..self
-            },
-            Algo::Md5 => AlgoSet { md5: true, ..self },
-            Algo::Sha1 => AlgoSet { sha1: true, ..self },
-            Algo::Sha256 => AlgoSet {
-                sha256: true,
-                ..self
-            },
-            Algo::Sha384 => AlgoSet {
-                sha384: true,
-                ..self
-            },
-            Algo::Sha512 => AlgoSet {
-                sha512: true,
-                ..self
-            },
+        AlgoSet {
+            bits: self.bits | 1 << algo as u8,
         }
     }
 
@@ -125,33 +64,19 @@ impl AlgoSet {
 // Adds a sum by an algorithm, if it is in the set.
 fn add_chosen(bundle: &mut Bundle, set: AlgoSet, algo: Algo)
     ensures { (algos : List Algo) → Holds bundle.old algos [] → length algos < 8 →
-        Holds bundle.new (if has set algo then algos ++ algo ∷ [] else algos) [] }
+        Holds bundle.new (algos ++ (if has set algo then algo ∷ [] else [])) [] }
 {
     if set.has(algo) {
         bundle.add(algo);
     }
 }
 
-// Returns the number of an algorithm among the six.
-fn rank(algo: Algo) -> usize
-    ensures { result ≡ rank algo }
-{
-    match algo {
-        Algo::Crc32 => 0,
-        Algo::Md5 => 1,
-        Algo::Sha1 => 2,
-        Algo::Sha256 => 3,
-        Algo::Sha384 => 4,
-        Algo::Sha512 => 5,
-    }
-}
-
 // Returns the number of an algorithm's sum in the bundle of a set.
 fn place(set: AlgoSet, algo: Algo) -> usize
-    ensures { result ≡ count_by (has set) (take (rank algo) all_algos) }
+    ensures { result ≡ count_by (has set) (take (number algo) all_algos) }
 {
     let mut place = 0;
-    for known in &ALGOS[..rank(algo)] {
+    for known in &ALGOS[..algo as usize] {
         if set.has(*known) {
             place += 1;
         }

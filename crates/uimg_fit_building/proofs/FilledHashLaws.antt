@@ -4,7 +4,6 @@ use Rattle.std.specs.List.{filter, AllByRecursion}
 use Rattle.std.specs.Option.{option_map_or, IfSome}
 use Rattle.std.proofs.lemmas.List.{take_at}
 use Rattle.uimg_sums.specs.declared.algo.Algo.{Algo}
-use Rattle.uimg_sums.specs.declared.algo.Algo.TheVariants.{Crc32, Md5, Sha1, Sha256, Sha384, Sha512}
 use Rattle.uimg_sums.specs.Algorithms.{algo_named, digest_by, digest_size}
 use Rattle.uimg_sums.specs.AnySum.{padded_digest}
 use Rattle.uimg_sums.proofs.DigestSizes.{length-digest_by}
@@ -30,12 +29,7 @@ front-digest algo message = take_at (digest_by algo message) (replicate _ 0) (di
 
 -- no digest is longer than that
 pub digest-fits : (algo : Algo) → digest_size algo ≤ 64
-digest-fits Crc32 = omega arith
-digest-fits Md5 = omega arith
-digest-fits Sha1 = omega arith
-digest-fits Sha256 = omega arith
-digest-fits Sha384 = omega arith
-digest-fits Sha512 = omega arith
+digest-fits algo = grind arith
 
 pub on-ok : {X F : Type 0} {P Q : Type 0} (r : Result X F) → (P → Q) → OnOk r P → OnOk r Q
 on-ok (Ok x) f h = f h

@@ -3,7 +3,6 @@ use Rattle.std.proofs.Common.{◌≡◌, ◌≢◌, ℕ, List, [], ◌∷◌, ma
 use Rattle.std.specs.List.{filter, list_all, AllByRecursion}
 use Rattle.std.specs.Option.{option_map, option_map_or, option_and_then, IfSome}
 use Rattle.uimg_sums.specs.declared.algo.Algo.{Algo}
-use Rattle.uimg_sums.specs.declared.algo.Algo.TheVariants.{Crc32, Md5, Sha1, Sha256, Sha384, Sha512}
 use Rattle.uimg_sums.specs.Algorithms.{algo_named}
 use Rattle.uimg_texts.specs.Nul.{text}
 use Rattle.uimg_blob_reading.specs.Roles.{is_hash}
@@ -22,6 +21,7 @@ use Rattle.uimg_fit_building.specs.Behind.{entry}
 use Rattle.uimg_fit_building.specs.ImageFillings.{hashed_in, filled_over, fault_in_memory, are_known, IsFileFault, StopsAtPayload, FillsHashes, StopsAtImage, FillsImage}
 use Rattle.uimg_fit_base.specs.AlgoSets.{has, no_algos}
 use Rattle.uimg_fit_building.specs.PayloadSums.{no_files, in_memory, all_marked, IsCovered}
+use Rattle.uimg_fit_base.proofs.AlgoSetLaws.{has-none}
 use Rattle.uimg_fit_building.proofs.AlgoSetLaws.{marks-all, marks-none}
 use Rattle.uimg_fit_building.proofs.LookUpLaws.{node_with, first-with, hashes-with}
 
@@ -60,15 +60,6 @@ unfolding each listed
 each-unhashed message no_node none_there = refl
 each-unhashed message (a_node name own below after) none_there =
     each-step (is_hash name) message name own below after (filter (λ h. is_hash h.name) (listed after)) refl none_there (λ gone. each-unhashed message after gone)
-
-has-none : (a : Algo) → has no_algos a ≡ false
-unfolding has
-has-none Crc32 = refl
-has-none Md5 = refl
-has-none Sha1 = refl
-has-none Sha256 = refl
-has-none Sha384 = refl
-has-none Sha512 = refl
 
 head-known : (o : Option Algo) (b : Bool) → IfSome o (λ algo. has no_algos algo ≡ true) → (is_some o && b) ≡ true → false ≡ true
 head-known None b covered known = absurd (cc)

@@ -1,10 +1,10 @@
 -- What vouches for a payload, and why one is refused.
-use Rattle.std.proofs.Common.{◌≡◌, ◌≤◌, ◌+◌, ◌*◌, ℕ, List, [], ◌∷◌, length, Option, Some, None, Bool, true, false, not, refl, ap, sym, ◌∙◌, subst, arith}
+use Rattle.std.proofs.Common.{◌≡◌, ◌≤◌, ◌+◌, ◌*◌, ℕ, List, [], ◌∷◌, length, Option, Some, None, Bool, true, false, cond, not, refl, ap, sym, ◌∙◌, subst, arith}
 use Rattle.std.specs.Prelude.{Result, Ok, is_err, if◌then◌else◌}
+use Rattle.std.specs.List.{filter, last_or}
 use Rattle.std.specs.Option.{option_map, option_map_or}
 use Rattle.uimg_sums.specs.declared.algo.Algo.{Algo}
-use Rattle.uimg_sums.specs.declared.algo.Algo.TheVariants.{Crc32, Md5, Sha1, Sha256, Sha384, Sha512}
-use Rattle.uimg_sums.specs.Algorithms.{digest_by}
+use Rattle.uimg_sums.specs.Algorithms.{all_algos, digest_by}
 use Rattle.uimg_sums.specs.AnySum.{padded_digest}
 use Rattle.uimg_base.specs.declared.source.SourceFault.{SourceFault}
 use Rattle.uimg_blob_reading.specs.LookUps.{NodeOf, hashes}
@@ -27,19 +27,17 @@ use Rattle.uimg_fit_checking.proofs.CheckLaws.{weak_by}
 use Rattle.uimg_fit_reading.proofs.PlanLaws.{if_err}
 
 -- the strongest of a set is in it
-picked : (set : AlgoSet) (x algo : Algo) (later : Option Algo) (b : Bool) → has set x ≡ b → (later ≡ Some algo → has set algo ≡ true) → (if b then Some x else later) ≡ Some algo → has set algo ≡ true
-picked set x algo later true is rest same = subst (λ (a : Algo). has set a ≡ true) (some_some x algo same) is
-picked set x algo later false is rest same = rest same
+last-step : (f : Algo → Bool) (found : Option Algo) (x : Algo) (more : List Algo) (algo : Algo) (b : Bool) → f x ≡ b → ((o : Option Algo) → (o ≡ Some algo → f algo ≡ true) → last_or o more ≡ Some algo → f algo ≡ true)
+    → (found ≡ Some algo → f algo ≡ true) → last_or found (cond b (x ∷ more) more) ≡ Some algo → f algo ≡ true
+last-step f found x more algo true is rest passes same = rest (Some x) (λ one. subst (λ (a : Algo). f a ≡ true) (some_some x algo one) is) same
+last-step f found x more algo false is rest passes same = rest found passes same
+
+last-passes : (f : Algo → Bool) (found : Option Algo) (xs : List Algo) (algo : Algo) → (found ≡ Some algo → f algo ≡ true) → last_or found (filter f xs) ≡ Some algo → f algo ≡ true
+last-passes f found [] algo passes same = passes same
+last-passes f found (x ∷ xs) algo passes same = last-step f found x (filter f xs) algo (f x) refl (λ o. last-passes f o xs algo) passes same
 
 pub has_strongest : (set : AlgoSet) (algo : Algo) → strongest set ≡ Some algo → has set algo ≡ true
-unfolding strongest
-has_strongest set algo =
-    picked set Sha512 algo _ (has set Sha512) refl
-    (picked set Sha384 algo _ (has set Sha384) refl
-    (picked set Sha256 algo _ (has set Sha256) refl
-    (picked set Sha1 algo _ (has set Sha1) refl
-    (picked set Md5 algo _ (has set Md5) refl
-    (picked set Crc32 algo None (has set Crc32) refl (λ is. absurd (some_none (sym is))))))))
+has_strongest set algo same = last-passes (has set) None all_algos algo (λ none. absurd (some_none (sym none))) same
 
 pub vouched_is : (set : AlgoSet) (algo : Algo) (message digest : List ℕ) → strongest set ≡ Some algo → digest ≡ (padded_digest (digest_by algo message)).0
     → ◌≡◌ {A = Option Vouched} (Some (record { algo = algo; digest = digest })) (vouched_by set message)

@@ -2,11 +2,10 @@
 use Rattle.std.specs.Prelude.{◌≡◌, ⊤, ℕ, ◌+◌, ◌-◌, List, [], ◌∷◌, ◌++◌, length, take, nat_lt, Bool}
 use Rattle.std.specs.Prelude.{true, false, if◌then◌else◌, Option, Some, None, Result, Ok, Err}
 use Rattle.std.specs.Prelude.{IfSome}
-use Rattle.std.specs.List.{list_all}
+use Rattle.std.specs.List.{last_or, list_all}
 use Rattle.std.specs.Option.{option_map}
 use Rattle.std.specs.Str.{bytes_eq}
 use Rattle.uimg_sums.specs.declared.algo.Algo.{Algo}
-use Rattle.uimg_sums.specs.declared.algo.Algo.TheVariants.{Crc32, Md5, Sha1, Sha256, Sha384, Sha512}
 use Rattle.uimg_sums.specs.Algorithms.{digest_by}
 use Rattle.uimg_sums.specs.AnySum.{padded_digest}
 use Rattle.uimg_base.specs.Results.{◌>>=◌}
@@ -16,7 +15,7 @@ use Rattle.uimg_fit_base.specs.declared.algo_sets.AlgoSet.{AlgoSet}
 use Rattle.uimg_fit_base.specs.declared.fault.Fault.{Fault}
 use Rattle.uimg_fit_base.specs.declared.fault.Fault.TheVariants as of
 use Rattle.uimg_fit_base.specs.declared.fault.FitFault.{FitFault}
-use Rattle.uimg_fit_base.specs.AlgoSets.{has, no_algos}
+use Rattle.uimg_fit_base.specs.AlgoSets.{no_algos, chosen}
 use Rattle.uimg_fit_base.specs.Files.{images_of}
 use Rattle.uimg_fit_base.specs.Places.{payload}
 use Rattle.uimg_fit_checking.specs.declared.unpacking.node_names.NodeName.{NodeName}
@@ -56,12 +55,8 @@ IsVouched bytes vouched =
     IfSome vouched (λ v. v.digest ≡ (padded_digest (digest_by v.algo bytes)).0)
 
 -- the strongest algorithm of a set
-unfoldable pub strongest : AlgoSet → Option Algo
-strongest set =
-    if has set Sha512 then Some Sha512 else if has set Sha384 then Some Sha384 else if has set
-    Sha256 then Some Sha256
-    else if has set Sha1 then Some Sha1 else if has set Md5 then Some Md5 else if has set
-    Crc32 then Some Crc32 else None
+abbrev pub strongest : AlgoSet → Option Algo
+strongest set = last_or None (chosen set)
 
 -- what vouches for bytes that are compared by the algorithms of a set
 abbrev pub vouched_by : AlgoSet → List ℕ → Option Vouched

@@ -1,8 +1,8 @@
 -- Which images their hash nodes vouch for.
-use Rattle.std.specs.Prelude.{List, [], ◌∷◌, Bool}
+use Rattle.std.specs.Prelude.{List, Bool, drop}
 use Rattle.std.specs.List.{list_any}
+use Rattle.uimg_sums.specs.Algorithms.{all_algos, number}
 use Rattle.uimg_sums.specs.declared.algo.Algo.{Algo}
-use Rattle.uimg_sums.specs.declared.algo.Algo.TheVariants.{Crc32, Md5, Sha1, Sha256, Sha384, Sha512}
 use Rattle.uimg_blob_reading.specs.LookUps.{NodeOf, hashes}
 use Rattle.uimg_blob_reading.specs.Spots.{Spot}
 use Rattle.uimg_fit_base.specs.declared.algo_sets.AlgoSet.{AlgoSet}
@@ -11,12 +11,7 @@ use Rattle.uimg_fit_reading.specs.Plans.{with_all}
 
 -- the algorithms that are at least as strong as this one
 abbrev pub from : Algo → List Algo
-from Crc32 = Crc32 ∷ Md5 ∷ Sha1 ∷ Sha256 ∷ Sha384 ∷ Sha512 ∷ []
-from Md5 = Md5 ∷ Sha1 ∷ Sha256 ∷ Sha384 ∷ Sha512 ∷ []
-from Sha1 = Sha1 ∷ Sha256 ∷ Sha384 ∷ Sha512 ∷ []
-from Sha256 = Sha256 ∷ Sha384 ∷ Sha512 ∷ []
-from Sha384 = Sha384 ∷ Sha512 ∷ []
-from Sha512 = Sha512 ∷ []
+from algo = drop (number algo) all_algos
 
 -- a set has one of them
 abbrev pub has_from : AlgoSet → Algo → Bool

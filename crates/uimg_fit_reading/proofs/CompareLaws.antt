@@ -4,7 +4,6 @@ use Rattle.std.specs.List.{list_any}
 use Rattle.std.specs.Option.{option_map}
 use Rattle.std.specs.Str.{bytes_eq}
 use Rattle.uimg_sums.specs.declared.algo.Algo.{Algo}
-use Rattle.uimg_sums.specs.declared.algo.Algo.TheVariants.{Crc32, Md5, Sha1, Sha256, Sha384, Sha512}
 use Rattle.uimg_sums.specs.Algorithms.{algo_named, digest_size, digest_by}
 use Rattle.uimg_blob_reading.specs.declared.keys.Key.TheVariants as key
 use Rattle.uimg_blob_reading.specs.Indexed.{keeps, value_span}
@@ -17,7 +16,7 @@ use Rattle.uimg_sums.specs.Bundle.{padded_digests}
 use Rattle.uimg_fit_base.specs.declared.algo_sets.Digests.{Digests}
 use Rattle.uimg_fit_base.specs.AlgoSets.{has, is_empty, no_algos, chosen, set_of, AreDigests}
 use Rattle.uimg_fit_base.specs.Report.{compared, by_algo, by_name, algo_of, word_of, is_compared}
-use Rattle.uimg_fit_base.proofs.AlgoSetLaws.{marked-has, marked-keeps, empty-is}
+use Rattle.uimg_fit_base.proofs.AlgoSetLaws.{marked-has, marked-keeps, has-none, empty-is}
 use Rattle.uimg_fit_reading.specs.declared.report.plans.Plan.{Plan}
 use Rattle.uimg_fit_reading.specs.declared.report.plans.Plan.TheVariants.{Malformed, Unsupported, Compared}
 use Rattle.uimg_fit_reading.specs.HashReports.{AllCovered}
@@ -107,18 +106,9 @@ read_where_compared hs size = by_bool (are_compared hs)
     (λ none. let empty : is_empty (with_all no_algos hs) ≡ true = ap is_empty (none_compared no_algos hs none) ∙ no_algo in rw none (rw empty (omega arith)))
 
 -- a set with an algorithm is not empty
-no_has : (a : Algo) → has no_algos a ≡ true → ⊥
-unfolding has
-no_has Crc32 h = true_false (sym h)
-no_has Md5 h = true_false (sym h)
-no_has Sha1 h = true_false (sym h)
-no_has Sha256 h = true_false (sym h)
-no_has Sha384 h = true_false (sym h)
-no_has Sha512 h = true_false (sym h)
-
 has_some : (set : AlgoSet) (a : Algo) → has set a ≡ true → is_empty set ≡ false
 has_some set a h = by_bool (is_empty set)
-    (λ empty. absurd (no_has a (ap (λ (s : AlgoSet). has s a) (sym (empty-is set empty)) ∙ h)))
+    (λ empty. absurd (true_false (sym h ∙ ap (λ (s : AlgoSet). has s a) (empty-is set empty) ∙ has-none a)))
     (λ some. some)
 
 some_plan : (set : AlgoSet) (plan : Plan) (hs : List (NodeOf Spot)) → (compares plan || are_compared hs) ≡ true

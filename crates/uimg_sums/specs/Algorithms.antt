@@ -1,8 +1,6 @@
--- The checksum and hash algorithms: names, digest lengths, and digests.
+-- The checksum and hash algorithms: order, names, digest lengths, and digests.
 use Rattle.std.specs.Prelude.{ℕ, List, [], ◌∷◌, Option, codes, find}
-use Rattle.std.specs.Borrow.{Bor}
 use Rattle.std.specs.Int.{to_be_bytes, w32}
-use Rattle.std.specs.Option.{option_map}
 use Rattle.std.specs.Str.{bytes_eq}
 use Rattle.md5.specs.Md5.{md5}
 use Rattle.sha1.specs.Sha1.{sha1}
@@ -12,52 +10,46 @@ use Rattle.uimg_sums.specs.Crc.{crc}
 use Rattle.uimg_sums.specs.declared.algo.Algo.{Algo}
 use Rattle.uimg_sums.specs.declared.algo.Algo.TheVariants.{Crc32, Md5, Sha1, Sha256, Sha384, Sha512}
 
--- a name and its algorithm
+-- an algorithm's number, name, digest length in bytes, and the digest of a message
 pub record AlgoRow : Type 0 where
+  pub number : ℕ
   pub name : List ℕ
-  pub algo : Algo
+  pub size : ℕ
+  pub digest : List ℕ → List ℕ
 
-abbrev algo_row : List ℕ → Algo → AlgoRow
-algo_row name algo = record { name = name; algo = algo }
+abbrev row : ℕ → List ℕ → ℕ → (List ℕ → List ℕ) → AlgoRow
+row number name size digest =
+    record { number = number; name = name; size = size; digest = digest }
 
--- the names, as in the hash nodes of a FIT image and in U-Boot's hash.c
-abbrev pub algo_table : List AlgoRow
-algo_table =
-    algo_row (codes "crc32") Crc32
-    ∷ algo_row (codes "md5") Md5
-    ∷ algo_row (codes "sha1") Sha1
-    ∷ algo_row (codes "sha256") Sha256
-    ∷ algo_row (codes "sha384") Sha384
-    ∷ algo_row (codes "sha512") Sha512
-    ∷ []
+-- the algorithms, from the weakest to the strongest
+abbrev pub all_algos : List Algo
+all_algos = Crc32 ∷ Md5 ∷ Sha1 ∷ Sha256 ∷ Sha384 ∷ Sha512 ∷ []
 
--- the algorithm in the first row with this name
-abbrev pub algo_of_name : List AlgoRow → List ℕ → Option Algo
-algo_of_name table name = option_map (λ r. r.algo) (find (λ r. bytes_eq name r.name) table)
+-- The names are those in the hash nodes of a FIT image and in U-Boot's hash.c. The digest of CRC-32
+-- is the number in four bytes, big-endian (RFC 1321; FIPS 180-4, sections 6.1, 6.2, 6.4 and 6.5).
+abbrev pub row_of : Algo → AlgoRow
+row_of Crc32 = row 0 (codes "crc32") 4 (λ message. to_be_bytes w32 (crc message))
+row_of Md5 = row 1 (codes "md5") 16 md5
+row_of Sha1 = row 2 (codes "sha1") 20 sha1
+row_of Sha256 = row 3 (codes "sha256") 32 sha256
+row_of Sha384 = row 4 (codes "sha384") 48 sha384
+row_of Sha512 = row 5 (codes "sha512") 64 sha512
 
--- the algorithm of this name in `algo_table`
+-- the number of an algorithm in their order, from 0
+abbrev pub number : Algo → ℕ
+number algo = (row_of algo).number
+
+abbrev pub algo_name : Algo → List ℕ
+algo_name algo = (row_of algo).name
+
+-- the first algorithm of this name
 abbrev pub algo_named : List ℕ → Option Algo
-algo_named name = algo_of_name algo_table name
-
--- a row of the table in the code
-abbrev pub algo_row_of : Bor (List ℕ) × Algo → AlgoRow
-algo_row_of r = algo_row r.0.now r.1
+algo_named name = find (λ algo. bytes_eq name (algo_name algo)) all_algos
 
 -- the length of a digest in bytes (RFC 1321, section 3.5; FIPS 180-4, section 1, figure 1)
 abbrev pub digest_size : Algo → ℕ
-digest_size Crc32 = 4
-digest_size Md5 = 16
-digest_size Sha1 = 20
-digest_size Sha256 = 32
-digest_size Sha384 = 48
-digest_size Sha512 = 64
+digest_size algo = (row_of algo).size
 
--- the digest of a message; for CRC-32 the number in four bytes, big-endian (RFC 1321; FIPS 180-4,
--- sections 6.1, 6.2, 6.4 and 6.5)
+-- the digest of a message
 abbrev pub digest_by : Algo → List ℕ → List ℕ
-digest_by Crc32 message = to_be_bytes w32 (crc message)
-digest_by Md5 message = md5 message
-digest_by Sha1 message = sha1 message
-digest_by Sha256 message = sha256 message
-digest_by Sha384 message = sha384 message
-digest_by Sha512 message = sha512 message
+digest_by algo message = (row_of algo).digest message

@@ -1,9 +1,11 @@
-//! Algorithms and their names.
+//! Algorithms: their names, and the lengths of their digests.
 
-ghost use Rattle.std.specs.Prelude.{◌≡◌, map};
-ghost use Rattle.uimg_sums.specs.Algorithms.{algo_of_name, algo_row_of, algo_named, digest_size};
+ghost use Rattle.std.specs.Prelude.{◌≡◌};
+ghost use Rattle.uimg_sums.specs.Algorithms.{algo_named, algo_name, digest_size};
 
 /// A checksum or hash algorithm: ITU-T V.42 (CRC-32), RFC 1321 (MD5) or FIPS 180-4 (SHA).
+///
+/// Their order is that of their strength; the weakest is first.
 #[derive(Clone, Copy, Debug, PartialEq, Eq)]
 pub enum Algo {
     Crc32,
@@ -14,27 +16,15 @@ pub enum Algo {
     Sha512,
 }
 
-// The names, as in the `algo` property of a FIT hash node and in U-Boot's `hash.c`.
-const NAMES: [(&str, Algo); 6] = [
-    ("crc32", Algo::Crc32),
-    ("md5", Algo::Md5),
-    ("sha1", Algo::Sha1),
-    ("sha256", Algo::Sha256),
-    ("sha384", Algo::Sha384),
-    ("sha512", Algo::Sha512),
+/// The algorithms in order.
+pub const ALGOS: [Algo; 6] = [
+    Algo::Crc32,
+    Algo::Md5,
+    Algo::Sha1,
+    Algo::Sha256,
+    Algo::Sha384,
+    Algo::Sha512,
 ];
-
-// Looks up the algorithm in the first row with this name.
-fn algo_in(rows: &[(&str, Algo)], name: &[u8]) -> Option<Algo>
-    ensures { result ≡ algo_of_name (map algo_row_of rows.now) name.now }
-{
-    for (known, algo) in rows {
-        if name == known.as_bytes() {
-            return Some(*algo);
-        }
-    }
-    None
-}
 
 impl Algo {
     /// Looks up an algorithm by its name. Returns `None` if the name is not in the table.
@@ -44,20 +34,40 @@ impl Algo {
     pub fn named(name: &[u8]) -> Option<Algo>
         ensures { result ≡ algo_named name.now }
     {
-        algo_in(&NAMES, name)
+        for algo in ALGOS {
+            if name == algo.name().as_bytes() {
+                return Some(algo);
+            }
+        }
+        None
+    }
+
+    // Returns the name, and the length of a digest in bytes.
+    fn row(self) -> (&'static str, usize)
+        ensures name { result.0.now ≡ algo_name self }
+        ensures size { result.1 ≡ digest_size self }
+    {
+        match self {
+            Algo::Crc32 => ("crc32", 4),
+            Algo::Md5 => ("md5", 16),
+            Algo::Sha1 => ("sha1", 20),
+            Algo::Sha256 => ("sha256", 32),
+            Algo::Sha384 => ("sha384", 48),
+            Algo::Sha512 => ("sha512", 64),
+        }
+    }
+
+    /// Returns the algorithm's name.
+    pub fn name(self) -> &'static str
+        ensures { result.now ≡ algo_name self }
+    {
+        self.row().0
     }
 
     /// Returns the length of a digest in bytes.
     pub fn len(self) -> usize
         ensures { result ≡ digest_size self }
     {
-        match self {
-            Algo::Crc32 => 4,
-            Algo::Md5 => 16,
-            Algo::Sha1 => 20,
-            Algo::Sha256 => 32,
-            Algo::Sha384 => 48,
-            Algo::Sha512 => 64,
-        }
+        self.row().1
     }
 }

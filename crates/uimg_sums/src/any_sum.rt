@@ -57,15 +57,22 @@ impl AnySum {
         ensures { (fed : List ℕ) → SumHolds self fed →
             result ≡ padded_digest (digest_by (algo_of self) fed) }
     {
-        let mut digest = [0; 64];
-        let length = match self {
-            AnySum::Crc32(sum) => sum.finish(&mut digest),
-            AnySum::Md5(sum) => sum.finish(&mut digest),
-            AnySum::Sha1(sum) => sum.finish(&mut digest),
-            AnySum::Sha256(sum) => sum.finish(&mut digest),
-            AnySum::Sha384(sum) => sum.finish(&mut digest),
-            AnySum::Sha512(sum) => sum.finish(&mut digest),
-        };
-        (digest, length)
+        match self {
+            AnySum::Crc32(sum) => finished(sum),
+            AnySum::Md5(sum) => finished(sum),
+            AnySum::Sha1(sum) => finished(sum),
+            AnySum::Sha256(sum) => finished(sum),
+            AnySum::Sha384(sum) => finished(sum),
+            AnySum::Sha512(sum) => finished(sum),
+        }
     }
+}
+
+// Returns the digest of a sum, padded with zeros, and its length in bytes.
+fn finished<M: Summer>(sum: M) -> ([u8; 64], usize)
+    ensures { (fed : List ℕ) → M.holds sum fed → result ≡ padded_digest (M.digest fed) }
+{
+    let mut digest = [0; 64];
+    let length = sum.finish(&mut digest);
+    (digest, length)
 }

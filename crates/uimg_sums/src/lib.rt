@@ -11,7 +11,7 @@ mod crc_table;
 mod digests;
 mod sums;
 
-pub use algo::Algo;
+pub use algo::{ALGOS, Algo};
 pub use bundle::Bundle;
 pub use crc::{Crc, crc_of};
 pub use crc_table::crc_entry;

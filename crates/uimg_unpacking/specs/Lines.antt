@@ -4,9 +4,7 @@ use Rattle.std.specs.Prelude.{Some, None}
 use Rattle.std.specs.Int.{to_be_bytes, w32}
 use Rattle.std.specs.List.{flat_map}
 use Rattle.std.specs.Str.{bytes_eq}
-use Rattle.uimg_sums.specs.Algorithms.{digest_size}
-use Rattle.uimg_sums.specs.declared.algo.Algo.{Algo}
-use Rattle.uimg_sums.specs.declared.algo.Algo.TheVariants.{Crc32, Md5, Sha1, Sha256, Sha384, Sha512}
+use Rattle.uimg_sums.specs.Algorithms.{algo_name, digest_size}
 use Rattle.uimg_fit_base.specs.Report.{word_text}
 use Rattle.uimg_fit_checking.specs.Unpacking.{bytes_of}
 use Rattle.uimg_fit_checking.specs.declared.unpacking.node_names.NodeName.{NodeName}
@@ -17,15 +15,6 @@ use Rattle.uimg_printing.specs.Counting.{counted}
 use Rattle.uimg_printing.specs.Printing.{digits_of, printed}
 use Rattle.uimg_unpacking.specs.declared.lines.Line.{Line}
 use Rattle.uimg_unpacking.specs.declared.lines.Line.TheVariants.{Kept, Refused, Overlapping, Part}
-
--- the name of an algorithm
-abbrev pub algo_name : Algo → List ℕ
-algo_name Crc32 = codes "crc32"
-algo_name Md5 = codes "md5"
-algo_name Sha1 = codes "sha1"
-algo_name Sha256 = codes "sha256"
-algo_name Sha384 = codes "sha384"
-algo_name Sha512 = codes "sha512"
 
 abbrev pub bytes_text : ℕ → List ℕ
 bytes_text n = counted n (codes "byte") (codes "bytes")

@@ -4,11 +4,10 @@ ghost use Rattle.std.specs.Prelude.{◌≡◌, Some};
 ghost use Rattle.std.specs.Fmt.{WritesOnOk};
 ghost use Rattle.uimg_fit_checking.specs.Unpacking.{bytes_of};
 ghost use Rattle.uimg_printing.specs.Counting.{counted};
-ghost use Rattle.uimg_unpacking.specs.Lines.{algo_name, bytes_text, as_text, vouched_text, crc_bytes, crc_text, kept_line, part_line, refusal_text, line_of};
+ghost use Rattle.uimg_unpacking.specs.Lines.{bytes_text, as_text, vouched_text, crc_bytes, crc_text, kept_line, part_line, refusal_text, line_of};
 
 use std::fmt;
 use std::fmt::{Display, Formatter, Write};
-use uimg_base::Algo;
 use uimg_fit_base::word_text;
 use uimg_fit_checking::{NodeName, Refusal, Vouched};
 use uimg_printing::{Counted, Hexadecimal, PrintedWord};
@@ -63,20 +62,6 @@ impl<'a> Display for Line<'a> {
     }
 }
 
-// Returns the name of an algorithm.
-fn algo_name(algo: Algo) -> &'static str
-    ensures { result.now ≡ algo_name algo }
-{
-    match algo {
-        Algo::Crc32 => "crc32",
-        Algo::Md5 => "md5",
-        Algo::Sha1 => "sha1",
-        Algo::Sha256 => "sha256",
-        Algo::Sha384 => "sha384",
-        Algo::Sha512 => "sha512",
-    }
-}
-
 // Returns a number of bytes, to print.
 fn bytes(count: u64) -> Counted
     ensures { counted result.count result.one.now result.many.now ≡ bytes_text count }
@@ -123,7 +108,7 @@ fn put_vouched<W: Write>(vouched: Option<Vouched>, f: &mut Formatter<W>) -> fmt:
     match vouched {
         Some(vouched) => {
             let digest = &vouched.digest[..vouched.algo.len()];
-            write!(f, ", {} {}", algo_name(vouched.algo), Hexadecimal(digest))
+            write!(f, ", {} {}", vouched.algo.name(), Hexadecimal(digest))
         }
         None => f.write_str(", unhashed"),
     }

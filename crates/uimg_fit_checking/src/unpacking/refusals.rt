@@ -17,35 +17,22 @@ use crate::unpacking::taker::{Refusal, Vouched};
 use crate::vouching::lacks;
 use crate::wrong_hashes::{WrongHash, first_wrong};
 use std::alloc::Allocator;
-use uimg_base::{Algo, Room, Source, SourceFault};
+use uimg_base::{ALGOS, Algo, Room, Source, SourceFault};
 use uimg_blob_reading::Blob;
 use uimg_fit_base::{AlgoSet, Digests};
 use uimg_fit_reading::nodes::first_hash;
 
 // Returns the strongest algorithm of a set.
-#[tactic(auto, unfolding(crate::specs::Unpacking::strongest))]
 fn strongest(set: AlgoSet) -> Option<Algo>
     ensures { result ≡ strongest set }
 {
-    if set.has(Algo::Sha512) {
-        return Some(Algo::Sha512);
+    let mut strongest = None;
+    for algo in ALGOS {
+        if set.has(algo) {
+            strongest = Some(algo);
+        }
     }
-    if set.has(Algo::Sha384) {
-        return Some(Algo::Sha384);
-    }
-    if set.has(Algo::Sha256) {
-        return Some(Algo::Sha256);
-    }
-    if set.has(Algo::Sha1) {
-        return Some(Algo::Sha1);
-    }
-    if set.has(Algo::Md5) {
-        return Some(Algo::Md5);
-    }
-    if set.has(Algo::Crc32) {
-        return Some(Algo::Crc32);
-    }
-    None
+    strongest
 }
 
 // Returns what vouches for bytes that are compared by these digests.

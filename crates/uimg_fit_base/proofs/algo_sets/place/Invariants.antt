@@ -1,11 +1,8 @@
-use Rattle.std.proofs.Common.{◌≡◌, ◌≤◌, ◌+◌, take, drop}
+use Rattle.std.proofs.Common.{◌≡◌, take}
 use Rattle.std.specs.List.{count_by}
-use Rattle.uimg_fit_base.specs.AlgoSets.{all_algos, rank, has}
+use Rattle.uimg_fit_base.specs.AlgoSets.{has}
 use Rattle.uimg_fit_base.proofs.algo_sets.place.Given as goal
 
--- those in use so far, and those among what is left
+-- those in use so far
 abbrev pub invariant-loop-known : goal.invariant-loop-known
-invariant-loop-known l = record {
-  few : l.place ≤ l.known-index;
-  joined : l.place + count_by (has l.set) (drop l.known-index (take (rank l.fn.algo) all_algos)) ≡ count_by (has l.set) (take (rank l.fn.algo) all_algos);
-}
+invariant-loop-known l = l.place ≡ count_by (has l.set) (take l.known-index l.known-items)

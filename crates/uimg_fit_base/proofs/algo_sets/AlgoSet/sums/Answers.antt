@@ -1,8 +1,13 @@
-use Rattle.std.proofs.Common.{arith}
-use Rattle.uimg_fit_base.specs.AlgoSets.{all_algos}
-use Rattle.uimg_fit_base.proofs.AlgoSetLaws.{sums-more}
+use Rattle.std.proofs.Common.{List, [], sym, subst, arith}
+use Rattle.std.proofs.lemmas.List.Elements.{filter_more}
+use Rattle.uimg_sums.specs.declared.algo.Algo.{Algo}
+use Rattle.uimg_sums.specs.Algorithms.{all_algos}
+use Rattle.uimg_sums.specs.Bundle.{Holds}
+use Rattle.uimg_fit_base.specs.AlgoSets.{has}
+use Rattle.uimg_fit_base.proofs.AlgoSetLaws.{first-few}
 use Rattle.uimg_fit_base.proofs.algo_sets.AlgoSet.sums.Goals as goal
 
 pub loop-algo-preserved : goal.loop-algo-preserved
 loop-algo-preserved c =
-    sums-more _ c.add_chosen.new.bundle c.args.self all_algos c.loop-algo.algo-index _ c.loop-algo.invariant (omega arith) (omega arith) (λ algos held few. c.add_chosen.ensures algos held few)
+    subst (λ (algos : List Algo). Holds c.add_chosen.new.bundle algos []) (sym (filter_more (has c.args.self) all_algos c.loop-algo.algo-index _ (omega arith)))
+    (c.add_chosen.ensures _ c.loop-algo.invariant (first-few c.args.self c.loop-algo.algo-index))

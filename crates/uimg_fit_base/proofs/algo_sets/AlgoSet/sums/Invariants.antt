@@ -1,6 +1,10 @@
-use Rattle.uimg_fit_base.specs.AlgoSets.{all_algos, SumsSoFar}
+use Rattle.std.proofs.Common.{[], take}
+use Rattle.std.specs.List.{filter}
+use Rattle.uimg_sums.specs.Algorithms.{all_algos}
+use Rattle.uimg_sums.specs.Bundle.{Holds}
+use Rattle.uimg_fit_base.specs.AlgoSets.{has}
 use Rattle.uimg_fit_base.proofs.algo_sets.AlgoSet.sums.Given as goal
 
--- the sums so far, and what is left of the algorithms
+-- the sums of the first algorithms
 abbrev pub invariant-loop-algo : goal.invariant-loop-algo
-invariant-loop-algo l = SumsSoFar l.bundle l.self all_algos l.algo-index
+invariant-loop-algo l = Holds l.bundle (filter (has l.self) (take l.algo-index all_algos)) []
