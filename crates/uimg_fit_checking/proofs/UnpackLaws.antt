@@ -37,6 +37,7 @@ last-passes f found [] algo passes same = passes same
 last-passes f found (x ∷ xs) algo passes same = last-step f found x (filter f xs) algo (f x) refl (λ o. last-passes f o xs algo) passes same
 
 pub has_strongest : (set : AlgoSet) (algo : Algo) → strongest set ≡ Some algo → has set algo ≡ true
+unfolding strongest
 has_strongest set algo same = last-passes (has set) None all_algos algo (λ none. absurd (some_none (sym none))) same
 
 pub vouched_is : (set : AlgoSet) (algo : Algo) (message digest : List ℕ) → strongest set ≡ Some algo → digest ≡ (padded_digest (digest_by algo message)).0

@@ -55,7 +55,7 @@ IsVouched bytes vouched =
     IfSome vouched (λ v. v.digest ≡ (padded_digest (digest_by v.algo bytes)).0)
 
 -- the strongest algorithm of a set
-abbrev pub strongest : AlgoSet → Option Algo
+unfoldable pub strongest : AlgoSet → Option Algo
 strongest set = last_or None (chosen set)
 
 -- what vouches for bytes that are compared by the algorithms of a set

@@ -23,6 +23,7 @@ use uimg_fit_base::{AlgoSet, Digests};
 use uimg_fit_reading::nodes::first_hash;
 
 // Returns the strongest algorithm of a set.
+#[tactic(auto, unfolding(crate::specs::Unpacking::strongest))]
 fn strongest(set: AlgoSet) -> Option<Algo>
     ensures { result ≡ strongest set }
 {

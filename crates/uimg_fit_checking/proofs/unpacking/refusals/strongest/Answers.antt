@@ -15,5 +15,6 @@ last-more f xs i d found new false within is same = rw (drop_more xs i d within)
 
 pub loop-algo-preserved : goal.loop-algo-preserved
 loop-algo-preserved c = elim c.if-has.branch [
-    then-has w ↦ last-more (has c.args.set) all_algos c.loop-algo.algo-index _ c.loop-algo.strongest _ true (omega arith) (sym c.has.ensures ∙ w.if-has.true) w.strongest-is ∙ c.loop-algo.invariant
-  | else-has w ↦ last-more (has c.args.set) all_algos c.loop-algo.algo-index _ c.loop-algo.strongest _ false (omega arith) (sym c.has.ensures ∙ w.if-has.false) w.strongest-is ∙ c.loop-algo.invariant ]
+  | then-has w ↦ last-more (has c.args.set) all_algos c.loop-algo.algo-index _ c.loop-algo.strongest _ true (omega arith) (sym c.has.ensures ∙ w.if-has.true) w.strongest-is ∙ c.loop-algo.invariant
+  | else-has w ↦ last-more (has c.args.set) all_algos c.loop-algo.algo-index _ c.loop-algo.strongest _ false (omega arith) (sym c.has.ensures ∙ w.if-has.false) w.strongest-is ∙ c.loop-algo.invariant
+]
