@@ -11,5 +11,6 @@ pub mod Layouts
 pub mod Measured
 pub mod Pieces
 pub mod ReadsBack
+pub mod TreeWriting
 pub mod Names
 pub mod LentFiles

@@ -1,18 +1,13 @@
 //! Writing of a tree's blob.
 
-ghost use Rattle.std.specs.Prelude.{◌≡◌, ◌<◌, ◌^◌, ◌++◌, length, replicate, IsTrue, OnOk, is_err, false};
-ghost use Rattle.uimg_base.specs.Device.{RisesIf};
-ghost use Rattle.uimg_base.specs.Writing.{Writes, Written};
-ghost use Rattle.uimg_blob_reading.specs.Plain.{AllValues, AreNamed};
-ghost use Rattle.uimg_blob_writing.specs.Content.{in_full, AreKept, IsBytes};
-ghost use Rattle.uimg_blob_writing.specs.Encoding.{ended, header, strings, encode_by};
-ghost use Rattle.uimg_blob_writing.specs.Faults.{is_put, is_no_file, is_read};
+ghost use Rattle.std.specs.Prelude.{◌≡◌, ◌<◌, ◌^◌, ◌++◌, length, replicate, is_err};
+ghost use Rattle.uimg_base.specs.Writing.{Writes};
+ghost use Rattle.uimg_blob_writing.specs.Encoding.{ended, header, strings};
 ghost use Rattle.uimg_blob_writing.specs.Layouts.{plan_of, totalsize};
 ghost use Rattle.uimg_blob_writing.specs.Names.{texts};
 ghost use Rattle.uimg_blob_writing.specs.Pieces.{blob_pieces, WritesPieces};
-ghost use Rattle.uimg_blob_writing.specs.ReadsBack.{ReadsBack};
+ghost use Rattle.uimg_blob_writing.specs.TreeWriting.{WritesTree};
 ghost use Rattle.uimg_blob_writing.specs.Trees.{node_of};
-ghost use Rattle.uimg_blob_writing.specs.UsingFiles.{UsesFiles};
 
 use crate::alignment::put_gap;
 use crate::fault::TreeFault;
@@ -131,22 +126,8 @@ pub fn write_tree<F: Files, W: Write, A: Allocator>(
     out: &mut Out<W>,
 ) -> Result<(), TreeFault>
     requires { layout.now ≡ plan_of layout.now.align (node_of tree.now.root) }
-    ensures files { UsesFiles (is_no_file result) (F.map files.old) (F.map files.new) }
-    ensures faults { RisesIf (is_put result) out.old.faults out.new.faults }
-    ensures found { IsTrue (F.map files.old).complete →
-        AreKept (F.map files.old).bytes (node_of tree.now.root) → is_no_file result ≡ false }
-    ensures steady { IsTrue F.Opened.steady → IsTrue (F.map files.old).honest →
-        AreKept (F.map files.old).bytes (node_of tree.now.root) → is_read result ≡ false }
-    ensures in_memory { AllValues IsBytes (node_of tree.now.root) → is_err result ≡ is_put result }
-    ensures kept { IsTrue (F.map files.old).honest →
-        OnOk result (AreKept (F.map files.old).bytes (node_of tree.now.root)) }
-    ensures written { IsTrue (F.map files.old).honest →
-        AreKept (F.map files.old).bytes (node_of tree.now.root) →
-        Written (is_err result) out.old out.new
-        (encode_by layout.now.align (in_full (F.map files.old).bytes (node_of tree.now.root))) }
-    ensures reads_back { AreKept (F.map files.old).bytes (node_of tree.now.root) →
-        AreNamed (node_of tree.now.root) →
-        ReadsBack layout.now.align (in_full (F.map files.old).bytes (node_of tree.now.root)) }
+    ensures { WritesTree F.Opened.steady F.map layout.now.align (node_of tree.now.root) result files
+        out }
 {
     put_blob(tree, layout, files, out)
 }

@@ -67,12 +67,19 @@ WritesText steady map t answer files out text =
 -- What building does to files and to an output.
 pub record BuildsBetween {X : Type 0} (steady : Bool) (t : Unread) (placement : AlignedPlacement)
     (answer : Result X Fault) (old new : FileMap) (s u : Sink) : Type 0 where
+  -- no call changes the files; `NoFile` is returned if and only if their refusals rose
   pub files : UsesFiles (is_no_file answer) old new
+  -- complete files of the stored sizes refuse no open
   pub found : IsTrue old.complete → AreKept old.bytes t → is_no_file answer ≡ false
+  -- no read fails over honest files of the stored sizes that are opened as steady sources
   pub reads : IsTrue steady → IsTrue old.honest → AreKept old.bytes t → is_read answer ≡ false
+  -- `Put` is returned if and only if the faults of the output rose
   pub faults : RisesIf (is_put answer) s.faults u.faults
+  -- a refusal of the tree, or of memory for it, comes before the first byte
   pub untouched : IsTrue (is_before_writing answer) → u ≡ s
+  -- at success over honest files each has its stored size
   pub kept : IsTrue old.honest → OnOk answer (AreKept old.bytes t)
+  -- over honest files of the stored sizes, what the result says of the file of the tree
   pub told : IsTrue old.honest → AreKept old.bytes t
       → BuildsAnswer (in_full old.bytes t) placement answer s u
 

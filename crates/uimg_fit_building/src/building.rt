@@ -1,16 +1,12 @@
 //! Building: the blob of a filled tree is written, and the payloads after it.
 
-ghost use Rattle.std.specs.Prelude.{◌≡◌, IsTrue, OnOk, false};
-ghost use Rattle.uimg_base.specs.Device.{RisesIf};
+ghost use Rattle.std.specs.Prelude.{◌≡◌, OnOk, false};
 ghost use Rattle.uimg_blob_writing.specs.Content.{AreKept, in_full};
 ghost use Rattle.uimg_blob_writing.specs.Layouts.{plan_of, totalsize};
 ghost use Rattle.uimg_blob_writing.specs.Trees.{node_of};
-ghost use Rattle.uimg_blob_writing.specs.UsingFiles.{UsesFiles};
-ghost use Rattle.uimg_blob_writing.specs.LentFiles.{IfHonest, IfComplete, IfSteady, IfInFull};
-ghost use Rattle.uimg_fit_building.specs.BuildAnswers.{is_no_file, is_before_writing, BuildsAnswer};
+ghost use Rattle.uimg_blob_writing.specs.LentFiles.{IfHonest, IfInFull};
 ghost use Rattle.uimg_fit_building.specs.BuildSteps.{of_measure, of_writing, MeasuresTree, WritesText, Builds};
 ghost use Rattle.uimg_fit_building.specs.Building.{built};
-ghost use Rattle.uimg_fit_base.specs.Faults.{is_put, is_read};
 ghost use Rattle.uimg_fit_base.specs.Placements.{align_of, aligned_by};
 ghost use Rattle.uimg_fit_building.specs.Filling.{IsFilled};
 ghost use Rattle.uimg_fit_building.specs.ReadsBack.{ReadsBack};
@@ -161,17 +157,9 @@ pub fn build<F: Files, W: Write, A: Allocator + Copy>(
     placement: Placement,
     out: &mut Out<W>,
 ) -> Result<(), Fault>
-    ensures files { UsesFiles (is_no_file result) (F.map files.old) (F.map files.new) }
-    ensures found { IfComplete F.map files (node_of tree.now.root) (is_no_file result ≡ false) }
-    ensures steady { IfSteady F.Opened.steady F.map files (node_of tree.now.root)
-        (is_read result ≡ false) }
-    ensures faults { RisesIf (is_put result) out.old.faults out.new.faults }
-    ensures untouched { IsTrue (is_before_writing result) → out.new ≡ out.old }
-    ensures kept { IfHonest F.map files (λ there.
-        OnOk result (AreKept there (node_of tree.now.root))) }
+    ensures builds { Builds F.Opened.steady F.map (node_of tree.now.root) (aligned_by placement 4)
+        result files out }
     // Here `t` is the tree with the bytes of its files.
-    ensures built { IfInFull F.map files (node_of tree.now.root) (λ t.
-        BuildsAnswer t (aligned_by placement 4) result out.old out.new) }
     ensures reads_back { IfInFull F.map files (node_of tree.now.root) (λ t.
         IsFilled t → OnOk result (ReadsBack (built t (aligned_by placement 4)) t)) }
 {

@@ -9,43 +9,24 @@ use Rattle.uimg_blob_writing.proofs.PieceLaws.{blob-holds, blob-held, blob-joine
 use Rattle.uimg_blob_writing.proofs.TotalLaws.{root-reads_back}
 use Rattle.uimg_blob_writing.proofs.writing.write_tree.Goals as goal
 
-pub returns-clause-found : goal.returns-clause-found
-returns-clause-found g c = λ complete kept.
+pub returns : goal.returns
+returns g c =
     let m = g.F.Files.map c.args.files.now in
-    let t = node_of c.args.tree.now.root in
-    let w = subst (λ (p : Plan). WritesPieces g.F.Opened.Source.steady c.put_blob.result m (g.F.Files.map c.put_blob.new.files) c.args.out.now c.put_blob.new.out (blob_pieces p t)) c.requires c.put_blob.ensures.writes in
-    w.found complete (blob-holds (IsKept m.bytes) (λ b. tt) c.args.layout.now.align t kept)
-
-pub returns-clause-steady : goal.returns-clause-steady
-returns-clause-steady g c = λ always honest kept.
-    let m = g.F.Files.map c.args.files.now in
-    let t = node_of c.args.tree.now.root in
-    let w = subst (λ (p : Plan). WritesPieces g.F.Opened.Source.steady c.put_blob.result m (g.F.Files.map c.put_blob.new.files) c.args.out.now c.put_blob.new.out (blob_pieces p t)) c.requires c.put_blob.ensures.writes in
-    w.reads always honest (blob-holds (IsKept m.bytes) (λ b. tt) c.args.layout.now.align t kept)
-
-pub returns-clause-in_memory : goal.returns-clause-in_memory
-returns-clause-in_memory g c = λ embedded.
-    let m = g.F.Files.map c.args.files.now in
-    let t = node_of c.args.tree.now.root in
-    let w = subst (λ (p : Plan). WritesPieces g.F.Opened.Source.steady c.put_blob.result m (g.F.Files.map c.put_blob.new.files) c.args.out.now c.put_blob.new.out (blob_pieces p t)) c.requires c.put_blob.ensures.writes in
-    w.in_memory (blob-holds IsBytes (λ b. tt) c.args.layout.now.align t embedded)
-
-pub returns-clause-kept : goal.returns-clause-kept
-returns-clause-kept g c = λ honest.
-    let m = g.F.Files.map c.args.files.now in
-    let t = node_of c.args.tree.now.root in
-    let w = subst (λ (p : Plan). WritesPieces g.F.Opened.Source.steady c.put_blob.result m (g.F.Files.map c.put_blob.new.files) c.args.out.now c.put_blob.new.out (blob_pieces p t)) c.requires c.put_blob.ensures.writes in
-    on-ok c.put_blob.result (blob-held (IsKept m.bytes) (λ b. tt) c.args.layout.now.align t) (w.kept honest)
-
-pub returns-clause-written : goal.returns-clause-written
-returns-clause-written g c = λ honest kept.
-    let m = g.F.Files.map c.args.files.now in
-    let t = node_of c.args.tree.now.root in
-    let w = subst (λ (p : Plan). WritesPieces g.F.Opened.Source.steady c.put_blob.result m (g.F.Files.map c.put_blob.new.files) c.args.out.now c.put_blob.new.out (blob_pieces p t)) c.requires c.put_blob.ensures.writes in
-    subst (λ (b : List ℕ). Written (is_err c.put_blob.result) c.args.out.now c.put_blob.new.out b) (blob-joined m.bytes c.args.layout.now.align t kept) (w.written honest)
-
-pub returns-clause-reads_back : goal.returns-clause-reads_back
-returns-clause-reads_back g c = λ kept named.
+    let s = c.args.out.now in
+    let u = c.put_blob.new.out in
+    let r = c.put_blob.result in
+    let align = c.args.layout.now.align in
     let node = c.args.tree.now.root in
-    let fits = subst (λ (p : Plan). totalsize p < 2 ^ 32) c.requires c.put_blob.ensures.fits in
-    root-reads_back (g.F.Files.map c.args.files.now).bytes c.args.layout.now.align node.name node.props node.children kept named fits
+    let t = node_of node in
+    let w = subst (λ (p : Plan). WritesPieces g.F.Opened.Source.steady r m (g.F.Files.map c.put_blob.new.files) s u (blob_pieces p t)) c.requires c.put_blob.ensures.writes in
+    record {
+      files = w.files;
+      faults = w.faults;
+      found = λ complete kept. w.found complete (blob-holds (IsKept m.bytes) (λ b. tt) align t kept);
+      steady = λ always honest kept. w.reads always honest (blob-holds (IsKept m.bytes) (λ b. tt) align t kept);
+      in_memory = λ embedded. w.in_memory (blob-holds IsBytes (λ b. tt) align t embedded);
+      kept = λ honest. on-ok r (blob-held (IsKept m.bytes) (λ b. tt) align t) (w.kept honest);
+      written = λ honest kept. subst (λ (b : List ℕ). Written (is_err r) s u b) (blob-joined m.bytes align t kept) (w.written honest);
+      reads_back = λ kept named.
+          root-reads_back m.bytes align node.name node.props node.children kept named (subst (λ (p : Plan). totalsize p < 2 ^ 32) c.requires c.put_blob.ensures.fits);
+    }
