@@ -5,7 +5,7 @@ use Rattle.std.proofs.Math.Seq.{take-append-add}
 use Rattle.std.proofs.lemmas.List.{take-take, length-take-le}
 use Rattle.std.proofs.lemmas.Slice.{take-put_mid}
 use borrow.Rule.Slice.PartMut.{put_mid}
-use Rattle.uimg_base.specs.Streams.{Stream, moved, ReadsOn, SameBytes}
+use Rattle.uimg_base.specs.Streams.{Stream, moved_to, ReadsOn, SameBytes}
 use Rattle.uimg_base.proofs.Slices.{slice-add}
 
 -- what was read keeps the bytes
@@ -16,7 +16,7 @@ reads_same n (Some s) new to r = ap (option_map (λ (s : Stream). s.bytes)) r.0
 -- nothing was read yet
 pub reads_none : (s : Option Stream) (to : List ℕ) → ReadsOn 0 s s to
 reads_none None to = refl
-reads_none (Some s) to = (ap (λ k. Some (moved k s)) (omega arith), refl)
+reads_none (Some s) to = (ap (λ k. Some (moved_to k s)) (omega arith), refl)
 
 -- a slice that is written behind `at` bytes: those, and its first n
 pub take-written : (at k n : ℕ) (to more : List ℕ) → at ≤ length to → length more ≡ k → n ≤ k → take (at + n) (put_mid at k to more) ≡ take at to ++ take n more
@@ -33,7 +33,7 @@ pub reads_more : (at k n : ℕ) (a b c : Option Stream) (to more : List ℕ) →
 reads_more at k n None b c to more inside long few first next = subst (λ (o : Option Stream). ReadsOn n o c more) first next
 reads_more at k n (Some s) b c to more inside long few first next =
     let second = subst (λ (o : Option Stream). ReadsOn n o c more) first.0 next in (
-      second.0 ∙ ap (λ p. Some (moved p s)) (omega arith),
+      second.0 ∙ ap (λ p. Some (moved_to p s)) (omega arith),
       take-written at k n to more inside long few
           ∙ (λ i. first.1 i ++ second.1 i)
           ∙ sym (slice-add s.bytes s.position at n),

@@ -3,9 +3,9 @@ use Rattle.std.specs.Prelude.{ℕ, List, take, Option, Some, None, Result, IfOk,
 use Rattle.std.specs.Io.KnownBytes.{Appends}
 
 -- the contents of its file with the buffered bytes, if known; unknown before there is a file
-abbrev pub contents_of : {F : Type 0} → (F → Option (List ℕ)) → Option F → Option (List ℕ)
-contents_of contents None = None
-contents_of contents (Some file) = contents file
+abbrev pub shelf_contents : {F : Type 0} → (F → Option (List ℕ)) → Option F → Option (List ℕ)
+shelf_contents contents None = None
+shelf_contents contents (Some file) = contents file
 
 -- Bytes were appended to a new file.
 pub record Begins {F : Type 0} (contents : F → Option (List ℕ)) (new : Option (List ℕ))

@@ -4,7 +4,7 @@ ghost use Rattle.std.specs.Prelude.{◌≡◌, [], false, IfSome, IsSome, OnOk};
 ghost use Rattle.std.specs.Io.{WritesAtMost};
 ghost use Rattle.std.specs.Io.Buffered.{writer_buffer, writer_contents};
 ghost use Rattle.std.specs.Io.KnownBytes.{Keeps, WriteAppends};
-ghost use Rattle.uimg_base.specs.Shelves.{contents_of, BeginsFirst};
+ghost use Rattle.uimg_base.specs.Shelves.{shelf_contents, BeginsFirst};
 
 use crate::file_source::FileSource;
 use crate::shelves::Shelf;
@@ -39,16 +39,17 @@ impl<'a, R: Files + AllocGlobal> FileShelf<'a, R> {
 }
 
 impl<'a, R: Files + AllocGlobal> Write for FileShelf<'a, R> {
-    ghost contents = { λ s. contents_of (writer_contents R.File.contents) s.file };
+    ghost contents = { λ s. shelf_contents (writer_contents R.File.contents) s.file };
 
     /// Writes to the file. The first write creates it.
     fn write(&mut self, buf: &[u8]) -> io::Result<usize>
         ensures bound { WritesAtMost result buf.now }
-        ensures bytes { WriteAppends (contents_of (writer_contents R.File.contents) self.old.file)
-            (contents_of (writer_contents R.File.contents) self.new.file) result buf.now }
+        ensures bytes { WriteAppends
+            (shelf_contents (writer_contents R.File.contents) self.old.file)
+            (shelf_contents (writer_contents R.File.contents) self.new.file) result buf.now }
         ensures made { OnOk result (IsSome self.new.file) }
         ensures first { BeginsFirst (writer_contents R.File.contents) self.old.file result
-            (contents_of (writer_contents R.File.contents) self.new.file) buf.now }
+            (shelf_contents (writer_contents R.File.contents) self.new.file) buf.now }
     {
         let mut file = match self.file.take() {
             Some(file) => file,
@@ -61,8 +62,8 @@ impl<'a, R: Files + AllocGlobal> Write for FileShelf<'a, R> {
 
     /// Writes the buffered bytes to the file.
     fn flush(&mut self) -> io::Result<()>
-        ensures bytes { Keeps (contents_of (writer_contents R.File.contents) self.old.file)
-            (contents_of (writer_contents R.File.contents) self.new.file) }
+        ensures bytes { Keeps (shelf_contents (writer_contents R.File.contents) self.old.file)
+            (shelf_contents (writer_contents R.File.contents) self.new.file) }
         ensures written { OnOk result (IfSome self.new.file (λ file. writer_buffer file ≡ [])) }
     {
         match &mut self.file {

@@ -5,7 +5,7 @@ ghost use Rattle.std.specs.Io.{ReadsAtMost};
 ghost use Rattle.std.specs.Io.Cursor.{cursor_inner, cursor_position};
 ghost use Rattle.std.specs.Io.KnownBytes.{ReadConsumes};
 ghost use Rattle.std.specs.Io.Seek.{SeekMoves};
-ghost use Rattle.uimg_base.specs.Streams.{Stream, Reads, MovesTo, MovesToEnd};
+ghost use Rattle.uimg_base.specs.Streams.{Stream, ReadsSome, MovesTo, MovesToEnd};
 
 use std::io;
 use std::io::{Cursor, Read, Seek, SeekFrom};
@@ -22,7 +22,7 @@ pub trait SeekRead: Drop {
     /// file or if `to` is empty. After an error the position is unchanged.
     fn read_on(&mut self, to: &mut [u8]) -> io::Result<usize>
         ensures bound { ReadsAtMost result to.new }
-        ensures reads { Reads result (stream self.old) (stream self.new) to.new };
+        ensures reads { ReadsSome result (stream self.old) (stream self.new) to.new };
 
     /// Moves to an offset from the start of the file. After an error the position is unchanged.
     fn move_to(&mut self, at: u64) -> io::Result<()>

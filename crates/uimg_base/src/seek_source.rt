@@ -5,7 +5,7 @@ ghost use Rattle.std.proofs.Common.{rules};
 ghost use Rattle.std.proofs.Props.{props};
 ghost use Rattle.uimg_base.specs.Device.{IsFresh};
 ghost use Rattle.uimg_base.specs.Ahead.{IsAhead};
-ghost use Rattle.uimg_base.specs.Streams.{StandsAt, HasLength, bytes_of, short_bytes};
+ghost use Rattle.uimg_base.specs.Streams.{StandsAt, HasLength, stream_bytes_of, short_bytes};
 
 use crate::reading::Reading;
 use crate::seek_read::SeekRead;
@@ -48,7 +48,7 @@ impl<F: SeekRead> SeekSource<F> {
 
 impl<F: SeekRead> Source for SeekSource<F> {
     ghost device = { λ s. record {
-      bytes = bytes_of s.reading.length (F.stream s.file);
+      bytes = stream_bytes_of s.reading.length (F.stream s.file);
       honest = is_some (F.stream s.file);
       asked = s.reading.asked;
       failures = s.reading.failures;

@@ -13,7 +13,7 @@ use Rattle.uimg_blob_reading.specs.Labels.{label_of}
 use Rattle.uimg_blob_reading.specs.Tokens.{Property, Token, Blocks, token_at, next}
 use Rattle.uimg_blob_reading.specs.ReadTokens.{IsReadAs, IsSound, Stands}
 use Rattle.uimg_blob_reading.specs.Entering.{Enters, IsKeyOf}
-use Rattle.uimg_blob_reading.specs.Passes.{Phase, Holds, Step, Steps, Acts, Refuses, TokenLies, on, step, begins_in, ends_in, prop_in, is_done, Goes}
+use Rattle.uimg_blob_reading.specs.Passes.{Phase, InPhase, PassStep, PassesToken, Acts, RefusesMemory, TokenLies, on, step, begins_in, ends_in, prop_in, is_done, Goes}
 use Rattle.uimg_blob_reading.specs.Acting.{Does}
 use Rattle.uimg_blob_reading.proofs.PhaseLaws.{true_false, done_goes}
 use Rattle.uimg_blob_reading.proofs.KeyLaws.{a_token}
@@ -21,7 +21,7 @@ use Rattle.uimg_blob_reading.proofs.LieLaws.{token_lies}
 
 -- a node begins
 pub begin_does : (s more : State) (size : ℕ) (label : Label) (old new : Held) → more.at ≡ s.at + 4 + up4 (size + 1) → AddsOne true false old new
-    → ((p : Phase) (name : List ℕ) → Holds p s old.entries → size ≡ length name → label ≡ label_of name → (q : Phase) × (begins_in p s.at (Ok name) ≡ on q) × Holds q more new.entries)
+    → ((p : Phase) (name : List ℕ) → InPhase p s old.entries → size ≡ length name → label ≡ label_of name → (q : Phase) × (begins_in p s.at (Ok name) ≡ on q) × InPhase q more new.entries)
     → Does (BeginNode size label) s (Ok more) old new
 begin_does s more size label old new at added goes = record {
   goes = λ p t holds is open_yet.
@@ -38,7 +38,7 @@ begin_does s more size label old new at added goes = record {
 
 -- a node ends
 pub end_does : (s more : State) (old new : Held) → more.at ≡ s.at + 4 → AddsOne false false old new
-    → ((p : Phase) → Holds p s old.entries → (q : Phase) × (ends_in p s.at ≡ on q) × Holds q more new.entries)
+    → ((p : Phase) → InPhase p s old.entries → (q : Phase) × (ends_in p s.at ≡ on q) × InPhase q more new.entries)
     → Does EndNode s (Ok more) old new
 end_does s more old new at same goes = record {
   goes = λ p t holds is open_yet.
@@ -53,7 +53,7 @@ end_does s more old new at same goes = record {
 
 -- the innermost node has a property
 pub property_does : (s more : State) (size : ℕ) (key : Option Key) (old new : Held) → more.at ≡ s.at + 12 + up4 size → AddsOne false false old new
-    → ((p : Phase) (x : Property) → Holds p s old.entries → x.place ≡ s.at + 12 → size ≡ length x.value → IsKeyOf key x.name → (q : Phase) × (prop_in p s.at (Ok x) ≡ on q) × Holds q more new.entries)
+    → ((p : Phase) (x : Property) → InPhase p s old.entries → x.place ≡ s.at + 12 → size ≡ length x.value → IsKeyOf key x.name → (q : Phase) × (prop_in p s.at (Ok x) ≡ on q) × InPhase q more new.entries)
     → Does (Prop size key) s (Ok more) old new
 property_does s more size key old new at same goes = record {
   goes = λ p t holds is open_yet.
@@ -90,11 +90,11 @@ abbrev pub going : Result State IndexFault → Result (Option State) IndexFault
 going (Ok s) = Ok (Some s)
 going (Err e) = Err e
 
-acts : (x : Step) (following : Option ℕ) (r : Result State IndexFault) (old new : List (List ℕ)) → Goes x following r old new → Acts x following (going r) old new
+acts : (x : PassStep) (following : Option ℕ) (r : Result State IndexFault) (old new : List (List ℕ)) → Goes x following r old new → Acts x following (going r) old new
 acts x following (Ok s) old new h = h
 acts x following (Err e) old new h = h
 
-going_refuses : (t : Token) (r : Result State IndexFault) → Refuses t r → Refuses t (going r)
+going_refuses : (t : Token) (r : Result State IndexFault) → RefusesMemory t r → RefusesMemory t (going r)
 going_refuses t (Ok s) h = tt
 going_refuses t (Err (Blob fault at)) h = h
 going_refuses t (Err Read) h = tt
@@ -117,9 +117,9 @@ found honest b at token read sound stands =
 
 -- a step of a token that does not end the tree
 pub step_goes : (honest : Bool) (b : Blocks) (p : Phase) (s : State) (token : ReadToken) (r : Result State IndexFault) (old mid new : Held) (f : Found honest b s.at token) → mid ≡ old
-    → (Holds p s mid.entries → is_done p f.token_is ≡ false) → Does token s r mid new → Holds p s old.entries → Steps honest b p s.at (going r) old.entries new.entries
+    → (InPhase p s mid.entries → is_done p f.token_is ≡ false) → Does token s r mid new → InPhase p s old.entries → PassesToken honest b p s.at (going r) old.entries new.entries
 step_goes honest b p s token r old mid new f same open_yet does h =
-    let now : Holds p s mid.entries = subst (λ (k : Held). Holds p s k.entries) (sym same) h in
+    let now : InPhase p s mid.entries = subst (λ (k : Held). InPhase p s k.entries) (sym same) h in
     record {
       token = f.token_is;
       is = f.is;
@@ -131,8 +131,8 @@ step_goes honest b p s token r old mid new f same open_yet does h =
 
 -- the last step, whose token ends the tree
 pub step_ends : (honest : Bool) (b : Blocks) (p : Phase) (s : State) (token : ReadToken) (old mid : Held) (f : Found honest b s.at token) → mid ≡ old
-    → (Holds p s mid.entries → is_done p f.token_is ≡ true) → Holds p s old.entries → Steps honest b p s.at (Ok None) old.entries mid.entries
+    → (InPhase p s mid.entries → is_done p f.token_is ≡ true) → InPhase p s old.entries → PassesToken honest b p s.at (Ok None) old.entries mid.entries
 step_ends honest b p s token old mid f same ended h =
-    let now : Holds p s mid.entries = subst (λ (k : Held). Holds p s k.entries) (sym same) h in
+    let now : InPhase p s mid.entries = subst (λ (k : Held). InPhase p s k.entries) (sym same) h in
     let r = done_goes p s mid.entries f.token_is now (ended now) in
     record { token = f.token_is; is = f.is; acts = (r.0, r.1, r.2, ap (λ (k : Held). k.entries) same); refuses = tt; lies = f.lies }

@@ -8,7 +8,7 @@ use Rattle.uimg_blob_reading.specs.declared.fault.BlobFault.{BlobFault}
 use Rattle.uimg_blob_reading.specs.declared.fault.BlobFault.TheVariants.{Truncated}
 use Rattle.uimg_blob_reading.specs.Reading.{Fault}
 use Rattle.uimg_texts.specs.Numbers.{be32, up4}
-use Rattle.uimg_blob_reading.specs.Tokens.{Property, Token, Blocks, begin_node, end_node, prop, nop, last, stray, offset, next, token_at, by_word, property, tokens_from}
+use Rattle.uimg_blob_reading.specs.Tokens.{Property, Token, Blocks, begin_node, end_node, prop, nop, last, stray, offset, next, token_at, by_word, property_at, tokens_from}
 use Rattle.uimg_blob_reading.specs.Grammar.{Siblings, none, node}
 use Rattle.uimg_blob_reading.specs.Blob.{met_in, up_to}
 use Rattle.uimg_blob_reading.specs.Counts.{is_begin, is_prop, is_nop, weight, begun_by}
@@ -16,8 +16,8 @@ use Rattle.uimg_blob_reading.specs.ReadTokens.{cost}
 use Rattle.uimg_blob_reading.specs.Walk.{opened, close}
 use Rattle.uimg_blob_reading.specs.Kept.{kept_of}
 use Rattle.uimg_blob_reading.specs.Roles.{top}
-use Rattle.uimg_blob_reading.specs.SoFar.{count}
-use Rattle.uimg_blob_reading.specs.Passes.{Phase, inside, after, left, Step, on, stop, step, then_left, stack, entries_at}
+use Rattle.uimg_blob_reading.specs.SoFar.{next_number}
+use Rattle.uimg_blob_reading.specs.Passes.{Phase, inside, after, left_after, PassStep, on, stop, step, then_left, stack, entries_at}
 use Rattle.uimg_blob_reading.proofs.SoFarLaws.{size_join, length_kept}
 use Rattle.uimg_blob_reading.proofs.EntryLaws.{length_entries}
 use Rattle.uimg_blob_reading.proofs.PhaseLaws.{left_is, count_is, some_none, some_some, by_bool}
@@ -67,7 +67,7 @@ to_on : (p : Phase) (t : Token) (x q : Phase) → on x ≡ on q → Moves p t x 
 to_on p t x q h m = subst (λ (k : Phase). Moves p t k) (on_same x q h) m
 
 pub moves : (p : Phase) (t : Token) (q : Phase) → step p t ≡ on q → Moves p t q
-unfolding count
+unfolding next_number
 moves (inside ls) (begin_node at (Ok name)) q h = to_on _ _ _ q h (record {
   place = at + 4 + up4 (length name + 1);
   following = refl;
@@ -111,8 +111,8 @@ moves (after o) (last at) q h = absurd (on_stop (sym h))
 moves p (stray at f) q h = absurd (on_stop (sym h))
 
 pick : {X : Type 0} (P : X → Type 0) (c : Bool) (x y : X) → P x → P y → P (if c then x else y)
-pick P true x y left right = left
-pick P false x y left right = right
+pick P true x y left_after right = left_after
+pick P false x y left_after right = right
 
 -- a token stands where it is read
 pub offset_at : (b : Blocks) (at : ℕ) → offset (token_at b at) ≡ at
@@ -139,7 +139,7 @@ ahead_word : (b : Blocks) (at word : ℕ) → Ahead at (by_word b at word)
 ahead_word b at word =
     pick (Ahead at) (word == 1) _ _ (ahead_begin at _)
     (pick (Ahead at) (word == 2) _ _ (λ place h. omega (arith, some_some _ _ h))
-    (pick (Ahead at) (word == 3) _ _ (ahead_prop at (property b at))
+    (pick (Ahead at) (word == 3) _ _ (ahead_prop at (property_at b at))
     (pick (Ahead at) (word == 4) _ _ (λ place h. omega (arith, some_some _ _ h))
     (pick (Ahead at) (word == 9) _ _ (λ place h. absurd (some_none (sym h))) (λ place h. absurd (some_none (sym h)))))))
 
@@ -150,12 +150,12 @@ ahead_at b at place h = by_bool (nat_lt b.structure_end (at + 4))
     (λ cut. absurd (some_none (sym h ∙ ap (λ (c : Bool). next (if c then stray at Truncated else by_word b at (be32 b.bytes at))) cut)))
     (λ whole. (ahead_word b at (be32 b.bytes at) place (sym (ap (λ (c : Bool). next (if c then stray at Truncated else by_word b at (be32 b.bytes at))) whole) ∙ h), ltb-false b.structure_end (at + 4) whole))
 
-by_step : {P : Type 0} (x : Step) → ((q : Phase) → x ≡ on q → P) → ((r : Result Siblings Fault) → x ≡ stop r → P) → P
+by_step : {P : Type 0} (x : PassStep) → ((q : Phase) → x ≡ on q → P) → ((r : Result Siblings Fault) → x ≡ stop r → P) → P
 by_step (on q) goes ends = goes q refl
 by_step (stop r) goes ends = ends r refl
 
 -- a fault stands where the tokens begin, or later
-pub fault_past : (n : ℕ) (b : Blocks) (p : Phase) (at : ℕ) (e : Fault) → b.structure_end - at < n → left p (tokens_from n b (Some at)) ≡ Err e → at ≤ e.1
+pub fault_past : (n : ℕ) (b : Blocks) (p : Phase) (at : ℕ) (e : Fault) → b.structure_end - at < n → left_after p (tokens_from n b (Some at)) ≡ Err e → at ≤ e.1
 unfolding tokens_from
 fault_past zero b p at e enough h = absurd (omega (arith, enough))
 fault_past (suc n) b p at e enough h =
@@ -165,11 +165,11 @@ fault_past (suc n) b p at e enough h =
     (λ q goes.
     let m : Moves p t q = moves p t q goes in
     let far = ahead_at b at m.place m.following in
-    let rest : left q (tokens_from n b (Some m.place)) ≡ Err e =
-    ap (λ (o : Option ℕ). left q (tokens_from n b o)) (sym m.following) ∙ ap (λ (x : Step). then_left x (tokens_from n b (next t))) (sym goes) ∙ all in
+    let rest : left_after q (tokens_from n b (Some m.place)) ≡ Err e =
+    ap (λ (o : Option ℕ). left_after q (tokens_from n b o)) (sym m.following) ∙ ap (λ (x : PassStep). then_left x (tokens_from n b (next t))) (sym goes) ∙ all in
     omega (arith, far.0, fault_past n b q m.place e (omega (arith, far.0, far.1, enough)) rest))
     (λ r ends.
-    let is : r ≡ Err e = ap (λ (x : Step). then_left x (tokens_from n b (next t))) (sym ends) ∙ all in
+    let is : r ≡ Err e = ap (λ (x : PassStep). then_left x (tokens_from n b (next t))) (sym ends) ∙ all in
     omega (arith, stop_at p t e (ends ∙ ap stop is), offset_at b at))
 
 -- a token before the first fault is met

@@ -11,7 +11,7 @@ use Rattle.uimg_blob_reading.specs.Roles.{role_at, keys_of}
 use Rattle.uimg_blob_reading.specs.Walk.{Open, opened, close, as_node}
 use Rattle.uimg_blob_reading.specs.Kept.{Kept, entry_of, entries, value_words, span_word, number_word, role_word}
 use Rattle.uimg_blob_reading.specs.Entering.{begun_entry, ended_entries}
-use Rattle.uimg_blob_reading.specs.SoFar.{count, innermost, next_level, open_row, so_far, entries_so_far}
+use Rattle.uimg_blob_reading.specs.SoFar.{next_number, innermost, next_level, open_row, so_far, entries_so_far}
 use Rattle.uimg_blob_reading.proofs.SoFarLaws.{Seam, begin_row, end_row, root_row, length_so_far}
 
 -- a node without properties has no values
@@ -64,15 +64,15 @@ entered ls at name parent role es more old outer is added =
 
 -- the entry of a node that ends inside its parent
 pub left_inner : (o parent : Open) (ls : List Open) (number : ℕ) (es : List (List ℕ)) (e : List ℕ)
-    → es ≡ entries_so_far (o ∷ parent ∷ ls) → number ≡ count (parent ∷ ls) → slice_get es number ≡ Some e
+    → es ≡ entries_so_far (o ∷ parent ∷ ls) → number ≡ next_number (parent ∷ ls) → slice_get es number ≡ Some e
     → ended_entries number es ≡ entries_so_far (close o parent ∷ ls)
 left_inner (opened at name own below) (opened parent_at parent_name parent_own parent_below) ls number es e old is read =
     let n : ℕ = length es in
     let stack : List Open = opened at name own below ∷ opened parent_at parent_name parent_own parent_below ∷ ls in
-    let all : n ≡ count stack = ap length old ∙ length_entries (so_far stack) ∙ length_so_far stack in
+    let all : n ≡ next_number stack = ap length old ∙ length_entries (so_far stack) ∙ length_so_far stack in
     ap (λ (x : List ℕ). set es number (set x 2 n)) (get_or_from_slice_get es number e [] read)
     ∙ ap (λ (i : ℕ). set es i (set e 2 n)) is
-    ∙ seam_set (count (opened parent_at parent_name parent_own parent_below ∷ ls)) _ _ _ es e (set e 2 n)
+    ∙ seam_set (next_number (opened parent_at parent_name parent_own parent_below ∷ ls)) _ _ _ es e (set e 2 n)
     (end_row at name own below parent_at parent_name parent_own parent_below ls) old (ap (λ (i : ℕ). slice_get es i) (sym is) ∙ read)
     (λ k entry. ap (λ (x : List ℕ). set x 2 n) entry ∙ ap (λ (i : ℕ). set (entry_of k) 2 i) all)
 
@@ -82,7 +82,7 @@ pub left_root : (o : Open) (number : ℕ) (es : List (List ℕ)) (e : List ℕ)
 left_root (opened at name own below) number es e old is read =
     let n : ℕ = length es in
     let stack : List Open = opened at name own below ∷ [] in
-    let all : n ≡ count stack = ap length old ∙ length_entries (so_far stack) ∙ length_so_far stack in
+    let all : n ≡ next_number stack = ap length old ∙ length_entries (so_far stack) ∙ length_so_far stack in
     ap (λ (x : List ℕ). set es number (set x 2 n)) (get_or_from_slice_get es number e [] read)
     ∙ ap (λ (i : ℕ). set es i (set e 2 n)) is
     ∙ seam_set 0 _ _ _ es e (set e 2 n) (root_row at name own below) old (ap (λ (i : ℕ). slice_get es i) (sym is) ∙ read)

@@ -10,12 +10,12 @@ use Rattle.uimg_texts.specs.Nul.{before_nul}
 use Rattle.uimg_blob_reading.specs.Tokens.{tokens_from, token_at, begin_node, end_node, prop, last}
 use Rattle.uimg_blob_reading.specs.Grammar.{Siblings, none, node, root, properties, children, without_nops}
 use Rattle.uimg_blob_reading.specs.Blob.{tree, blocks, up_to}
-use Rattle.uimg_blob_reading.specs.Counts.{nodes_met, nops_met, meta, before}
+use Rattle.uimg_blob_reading.specs.Counts.{nodes_met, nops_met, meta, tokens_before}
 use Rattle.uimg_blob_reading.specs.Keys.{key_named}
 use Rattle.uimg_blob_reading.specs.Rows.{rows, table}
 use Rattle.uimg_blob_reading.specs.Walk.{opened}
 use Rattle.uimg_blob_reading.specs.Kept.{kept, span_word}
-use Rattle.uimg_blob_reading.specs.SoFar.{so_far, next_level, count}
+use Rattle.uimg_blob_reading.specs.SoFar.{so_far, next_level, next_number}
 use Rattle.uimg_blob_reading.specs.Passes.{inside, IsSoFar}
 use Rattle.uimg_blob_reading.proofs.PhaseLaws.{true_false}
 
@@ -44,7 +44,7 @@ unfolding tree blocks tokens_from token_at before_nul root properties children w
 mixed-tree = refl
 
 mixed-meta : meta mixed ≡ 3136
-unfolding tree blocks tokens_from token_at before_nul root properties children without_nops be32 up_to before
+unfolding tree blocks tokens_from token_at before_nul root properties children without_nops be32 up_to tokens_before
 mixed-meta = refl
 
 -- a property after a child: the root, a child, its end, a property
@@ -62,7 +62,7 @@ late-tree = refl
 
 -- its entries so far: the root has no end yet, its child ends before the node of number 2
 late-entries : IsSoFar (blocks late) (Blob BadNesting 76) ((span_word 60 0 ∷ 0 ∷ 0 ∷ 0 ∷ replicate 12 0) ∷ (span_word 68 1 ∷ 1 ∷ 2 ∷ 6 ∷ replicate 12 0) ∷ [])
-unfolding blocks tokens_from token_at before_nul be32 so_far next_level count kept
+unfolding blocks tokens_from token_at before_nul be32 so_far next_level next_number kept
 late-entries = record {
   taken = begin_node 56 (Ok []) ∷ begin_node 64 (Ok (97 ∷ [])) ∷ end_node 72 ∷ [];
   token = prop 76 (Ok (record { name = 101 ∷ []; place = 88; value = [] }));

@@ -14,7 +14,7 @@ use Rattle.uimg_blob_reading.specs.Tokens.{Token, Blocks, token_at, tokens_from,
 use Rattle.uimg_blob_reading.specs.Grammar.{Siblings, root, without_nops}
 use Rattle.uimg_blob_reading.specs.Walk.{as_node, begun}
 use Rattle.uimg_blob_reading.specs.SoFar.{so_far}
-use Rattle.uimg_blob_reading.specs.Passes.{Phase, inside, left, Step, on, stop, step, then_left, then_step, in_turn, Steps, Indexes, Pass, IsRefused, StopsAt, IsSoFar}
+use Rattle.uimg_blob_reading.specs.Passes.{Phase, inside, left_after, PassStep, on, stop, step, then_left, then_step, in_turn, PassesToken, Indexes, Pass, IsRefused, StopsAt, IsSoFar}
 use Rattle.std.specs.List.{sum_by}
 use Rattle.uimg_blob_reading.specs.Blob.{met_in, met_from, met}
 use Rattle.uimg_blob_reading.specs.Counts.{weight, begun_by, index_cost, nodes_met}
@@ -37,7 +37,7 @@ use Rattle.uimg_blob_reading.proofs.PlaceLaws.{places_more}
 use Rattle.uimg_blob_reading.proofs.CostLaws.{Moves, moves, sum_more, fault_past, offset_at, cost_weight, weight_counts}
 
 by_fuel : (b : Blocks) (whole : Result Siblings Fault) (p : Phase) (at : ℕ) (t : Token) → t ≡ token_at b at → (fuel : ℕ) → b.structure_end - at < fuel
-    → whole ≡ left p (tokens_from fuel b (Some at))
+    → whole ≡ left_after p (tokens_from fuel b (Some at))
     → (n : ℕ) × (b.structure_end - at < suc n) × (whole ≡ then_left (step p t) (tokens_from n b (next t))) × (tokens_from fuel b (Some at) ≡ t ∷ tokens_from n b (next t))
 unfolding tokens_from
 by_fuel b whole p at t is zero enough all = absurd (omega (arith, enough))
@@ -47,7 +47,7 @@ by_fuel b whole p at t is (suc n) enough all =
 
 -- the sum over the tokens from a place on
 sum_at : (f : Token → ℕ) (b : Blocks) (whole : Result Siblings Fault) (p : Phase) (at fuel n : ℕ) (t : Token) → t ≡ token_at b at → b.structure_end - at < fuel
-    → whole ≡ left p (tokens_from fuel b (Some at)) → tokens_from fuel b (Some at) ≡ t ∷ tokens_from n b (next t)
+    → whole ≡ left_after p (tokens_from fuel b (Some at)) → tokens_from fuel b (Some at) ≡ t ∷ tokens_from n b (next t)
     → sum_from f whole (tokens_from fuel b (Some at)) ≡ f t + sum_from f whole (tokens_from n b (next t))
 sum_at f b whole p at fuel n t is enough all split =
     ap (λ (ts : List Token). sum_by f (met_in whole ts)) split
@@ -63,7 +63,7 @@ entries_nodes (after o) = refl
 
 -- memory was refused at the next node
 pub prefix_err : {X : Type 0} (honest : Bool) (b : Blocks) (whole : Result Siblings Fault) (s : State) (es new : List (List ℕ)) (e : IndexFault) (k : Result X IndexFault) (base asked : ℕ) (pass : Pass honest b whole s es base asked)
-    → k ≡ Err e → Steps honest b pass.phase s.at (Err e) es new → IsTrue honest → IsPrefix (tokens b) k new
+    → k ≡ Err e → PassesToken honest b pass.phase s.at (Err e) es new → IsTrue honest → IsPrefix (tokens b) k new
 prefix_err {X = X} honest b whole s es new (Blob fault at) k base asked pass is steps sure =
     subst (λ (q : Result X IndexFault). IsPrefix (tokens b) q new) (sym is) (λ refused.
     let r = pass.rest sure in
@@ -77,13 +77,13 @@ prefix_err {X = X} honest b whole s es new (Blob fault at) k base asked pass is 
 prefix_err {X = X} honest b whole s es new Read k base asked pass is steps sure = subst (λ (q : Result X IndexFault). IsPrefix (tokens b) q new) (sym is) tt
 
 -- a token more, in turn
-turn_more : (x : Step) (ts : List Token) (t : Token) → in_turn x (ts ++ t ∷ []) ≡ then_step (in_turn x ts) t
+turn_more : (x : PassStep) (ts : List Token) (t : Token) → in_turn x (ts ++ t ∷ []) ≡ then_step (in_turn x ts) t
 turn_more x [] t = refl
 turn_more x (k ∷ ts) t = turn_more (then_step x k) ts t
 
 -- a step goes on
 pub goes_on : (honest : Bool) (b : Blocks) (whole : Result Siblings Fault) (s more : State) (es new : List (List ℕ)) (base asked now : ℕ) (pass : Pass honest b whole s es base asked)
-    → Steps honest b pass.phase s.at (Ok (Some more)) es new → s.at + 4 ≤ more.at → more.at < b.structure_end + 4
+    → PassesToken honest b pass.phase s.at (Ok (Some more)) es new → s.at + 4 ≤ more.at → more.at < b.structure_end + 4
     → (IsTrue honest → now ≤ asked + cost (token_at b s.at)) → Pass honest b whole more new base now
 goes_on honest b whole s more es new base asked now pass steps ahead near paid = record {
   phase = steps.acts.0;
@@ -101,8 +101,8 @@ goes_on honest b whole s more es new base asked now pass steps ahead near paid =
         taken = r.taken ++ t ∷ [];
         all = r.all ∙ ap (λ (ts : List Token). r.taken ++ ts) (f.3 ∙ ap (λ (ts : List Token). t ∷ ts) there)
             ∙ sym (append_assoc r.taken (t ∷ []) (tokens_from f.0 b (Some more.at)));
-        reached = turn_more (on (inside [])) r.taken t ∙ ap (λ (x : Step). then_step x t) r.reached ∙ steps.acts.1;
-        is = f.2 ∙ ap (λ (x : Step). then_left x (tokens_from f.0 b (next t))) steps.acts.1 ∙ ap (left steps.acts.0) there;
+        reached = turn_more (on (inside [])) r.taken t ∙ ap (λ (x : PassStep). then_step x t) r.reached ∙ steps.acts.1;
+        is = f.2 ∙ ap (λ (x : PassStep). then_left x (tokens_from f.0 b (next t))) steps.acts.1 ∙ ap (left_after steps.acts.0) there;
         costs = omega (
           arith,
           r.costs,
@@ -134,7 +134,7 @@ pub stops : (honest : Bool) (b : Blocks) (whole : Result Siblings Fault) (s : St
 stops honest b whole s es base asked pass t result is ended sure =
     let r = pass.rest sure in
     let f = by_fuel b whole pass.phase s.at t (is sure) r.fuel r.enough r.is in
-    f.2 ∙ ap (λ (x : Step). then_left x (tokens_from f.0 b (next t))) ended
+    f.2 ∙ ap (λ (x : PassStep). then_left x (tokens_from f.0 b (next t))) ended
 
 -- the last step is paid for
 pub last_paid : (honest : Bool) (b : Blocks) (whole : Result Siblings Fault) (s : State) (es new : List (List ℕ)) (base asked now : ℕ) (pass : Pass honest b whole s es base asked)
@@ -154,17 +154,17 @@ last_paid honest b whole s es new base asked now pass paid same sure =
     }
 
 -- a fault leaves the entries
-pub stay_err : (honest : Bool) (b : Blocks) (p : Phase) (at : ℕ) (e : IndexFault) (old new : List (List ℕ)) → Steps honest b p at (Err e) old new → new ≡ old
+pub stay_err : (honest : Bool) (b : Blocks) (p : Phase) (at : ℕ) (e : IndexFault) (old new : List (List ℕ)) → PassesToken honest b p at (Err e) old new → new ≡ old
 stay_err honest b p at (Blob fault place) old new steps = steps.acts.0
 stay_err honest b p at Read old new steps = steps.acts
 
-refused_err : (honest : Bool) (b : Blocks) (p : Phase) (at : ℕ) (e : IndexFault) (old new : List (List ℕ)) (steps : Steps honest b p at (Err e) old new) → IsRefused p steps.token e
+refused_err : (honest : Bool) (b : Blocks) (p : Phase) (at : ℕ) (e : IndexFault) (old new : List (List ℕ)) (steps : PassesToken honest b p at (Err e) old new) → IsRefused p steps.token e
 refused_err honest b p at (Blob fault place) old new steps = (steps.acts.1, steps.refuses)
 refused_err honest b p at Read old new steps = tt
 
 -- a fault leaves the entries so far
 pub stops_at : (honest : Bool) (b : Blocks) (whole : Result Siblings Fault) (s : State) (es new : List (List ℕ)) (e : IndexFault) (base asked : ℕ) (pass : Pass honest b whole s es base asked)
-    → Steps honest b pass.phase s.at (Err e) es new → IsTrue honest → StopsAt (tokens b) e new
+    → PassesToken honest b pass.phase s.at (Err e) es new → IsTrue honest → StopsAt (tokens b) e new
 stops_at honest b whole s es new e base asked pass steps sure =
     let r = pass.rest sure in
     let f = by_fuel b whole pass.phase s.at steps.token (steps.is sure) r.fuel r.enough r.is in
@@ -181,13 +181,13 @@ stops_at honest b whole s es new e base asked pass steps sure =
 
 -- the tree ends
 pub ends_ok : {X : Type 0} (honest : Bool) (b : Blocks) (whole : Result Siblings Fault) (s : State) (es new : List (List ℕ)) (x : X) (base asked : ℕ) (pass : Pass honest b whole s es base asked)
-    → Steps honest b pass.phase s.at (Ok None) es new → IsTrue honest → Indexes whole (let y : Result X IndexFault = Ok x in y) new
+    → PassesToken honest b pass.phase s.at (Ok None) es new → IsTrue honest → Indexes whole (let y : Result X IndexFault = Ok x in y) new
 ends_ok honest b whole s es new x base asked pass steps sure =
     (as_node steps.acts.0, stops honest b whole s es base asked pass steps.token (Ok (as_node steps.acts.0)) steps.is steps.acts.1 sure, steps.acts.2)
 
 -- what is known when the tree ends, whichever the source
 pub ends_passed : (honest : Bool) (b : Blocks) (s : State) (es new : List (List ℕ)) (base asked : ℕ) (pass : Pass honest b (begun (tokens b)) s es base asked)
-    → Steps honest b pass.phase s.at (Ok None) es new → Passed honest b s new
+    → PassesToken honest b pass.phase s.at (Ok None) es new → Passed honest b s new
 ends_passed honest b s es new base asked pass steps =
     let o : Open = steps.acts.0 in
     let nodes : nodes_at pass.phase ≡ kept_of (as_node o) = last_nodes pass.phase steps.token (as_node o) steps.acts.1 in
@@ -202,7 +202,7 @@ ends_passed honest b s es new base asked pass steps =
 
 -- a fault
 pub ends_err : {X : Type 0} (honest : Bool) (b : Blocks) (whole : Result Siblings Fault) (s : State) (es new : List (List ℕ)) (e : IndexFault) (r : Result X IndexFault) (base asked : ℕ) (pass : Pass honest b whole s es base asked)
-    → r ≡ Err e → Steps honest b pass.phase s.at (Err e) es new → IsTrue honest → Indexes whole r new
+    → r ≡ Err e → PassesToken honest b pass.phase s.at (Err e) es new → IsTrue honest → Indexes whole r new
 ends_err {X = X} honest b whole s es new (Blob fault at) r base asked pass is steps sure =
     subst (λ (k : Result X IndexFault). Indexes whole k new) (sym is) (λ known. stops honest b whole s es base asked pass steps.token (Err (fault, at)) steps.is (steps.acts.1 known) sure)
 ends_err {X = X} honest b whole s es new Read r base asked pass is steps sure = subst (λ (k : Result X IndexFault). Indexes whole k new) (sym is) tt
@@ -230,10 +230,10 @@ begins honest b at base es empty start = record {
 
 -- a step over a source that is what it was
 pub steps_same : (d e : Device) (x : Extent) (p : Phase) (at : ℕ) (r : Result (Option State) IndexFault) (old new : List (List ℕ)) → SameDevice d e
-    → Steps e.honest (blocks_of e.bytes x) p at r old new → Steps d.honest (blocks_of d.bytes x) p at r old new
+    → PassesToken e.honest (blocks_of e.bytes x) p at r old new → PassesToken d.honest (blocks_of d.bytes x) p at r old new
 steps_same d e x p at r old new same steps =
-    subst (λ (h : Bool). Steps h (blocks_of d.bytes x) p at r old new) same.honest
-    (subst (λ (bytes : List ℕ). Steps e.honest (blocks_of bytes x) p at r old new) same.bytes steps)
+    subst (λ (h : Bool). PassesToken h (blocks_of d.bytes x) p at r old new) same.honest
+    (subst (λ (bytes : List ℕ). PassesToken e.honest (blocks_of bytes x) p at r old new) same.bytes steps)
 
 pub paid_same : (d e : Device) (x : Extent) (at now : ℕ) → SameDevice d e → (IsTrue e.honest → now ≤ e.asked + cost (token_at (blocks_of e.bytes x) at))
     → IsTrue d.honest → now ≤ e.asked + cost (token_at (blocks_of d.bytes x) at)

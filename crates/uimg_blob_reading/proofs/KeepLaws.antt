@@ -15,7 +15,7 @@ use Rattle.uimg_blob_reading.specs.Keys.{name_of}
 use Rattle.uimg_blob_reading.specs.Roles.{role_at, keys_of}
 use Rattle.uimg_blob_reading.specs.Walk.{Open, opened}
 use Rattle.uimg_blob_reading.specs.Kept.{property_named, Kept, kept, entry_of, slot, value_word, span_word, number_word, role_word}
-use Rattle.uimg_blob_reading.specs.SoFar.{count, next_level, open_row, so_far, entries_so_far}
+use Rattle.uimg_blob_reading.specs.SoFar.{next_number, next_level, open_row, so_far, entries_so_far}
 use Rattle.uimg_blob_reading.proofs.SoFarLaws.{Seam, length_so_far}
 use Rattle.uimg_blob_reading.proofs.ValueLaws.{words_of, are_apart, repeated, stored, word_at, slot_below}
 use Rattle.uimg_blob_reading.proofs.EntryLaws.{seam_put, length_entries}
@@ -76,7 +76,7 @@ first_placed (q ∷ own) name placed = at_first (bytes_eq name q.name) q own nam
 
 -- the value's place is kept
 pub changed : (ls : List Open) (at number j : ℕ) (name : List ℕ) (own : List Property) (p : Property) (es : List (List ℕ)) (e : List ℕ)
-    → es ≡ entries_so_far (opened at name own none ∷ ls) → number ≡ count ls → slice_get es number ≡ Some e
+    → es ≡ entries_so_far (opened at name own none ∷ ls) → number ≡ next_number ls → slice_get es number ≡ Some e
     → slot p.name (keys_of (role_at (next_level ls) name)) ≡ Some j → AllByRecursion (λ q. 0 < q.place) own → get_or e (j + 5) 0 ≡ 0
     → set es number (set e (j + 5) (span_word p.place (length p.value))) ≡ entries_so_far (opened at name (own ++ p ∷ []) none ∷ ls)
 changed ls at number j name own p es e old is read place placed zero =
@@ -84,7 +84,7 @@ changed ls at number j name own p es e old is read place placed zero =
     let row : Kept = open_row ls at name own in
     let w : ℕ = span_word p.place (length p.value) in
     let below : j < length (words_of (keys_of role) own) = omega (arith, slot_below (keys_of role) p.name j place, length_words (keys_of role) own) in
-    let s : Seam (count ls) (λ k. record k { own = k.own ++ p ∷ [] }) (so_far (opened at name own none ∷ ls)) (so_far (opened at name (own ++ p ∷ []) none ∷ ls)) = record {
+    let s : Seam (next_number ls) (λ k. record k { own = k.own ++ p ∷ [] }) (so_far (opened at name own none ∷ ls)) (so_far (opened at name (own ++ p ∷ []) none ∷ ls)) = record {
       before = so_far ls;
       row = row;
       after = [];
@@ -93,7 +93,7 @@ changed ls at number j name own p es e old is read place placed zero =
       new_is = last_row ls at name (own ++ p ∷ []);
     } in
     ap (λ (i : ℕ). set es i (set e (j + 5) w)) is
-    ∙ seam_put (count ls) _ _ _ es e (set e (j + 5) w) s old (ap (λ (i : ℕ). slice_get es i) (sym is) ∙ read) (λ entry.
+    ∙ seam_put (next_number ls) _ _ _ es e (set e (j + 5) w) s old (ap (λ (i : ℕ). slice_get es i) (sym is) ∙ read) (λ entry.
     let five : j + 5 ≡ suc (suc (suc (suc (suc j)))) = omega arith in
     let word : get_or (padded role (words_of (keys_of role) own)) j 0 ≡ 0 =
     ap (λ (i : ℕ). get_or (entry_of row) i 0) (sym five) ∙ sym (ap (λ (x : List ℕ). get_or x (j + 5) 0) entry) ∙ zero in
@@ -123,14 +123,14 @@ placed_at p role key o ls name same named place =
 
 -- the word of a value in the innermost node's entry
 pub kept_word : (ls : List Open) (at number j : ℕ) (name : List ℕ) (own : List Property) (p : Property) (es : List (List ℕ)) (e : List ℕ)
-    → es ≡ entries_so_far (opened at name own none ∷ ls) → number ≡ count ls → slice_get es number ≡ Some e
+    → es ≡ entries_so_far (opened at name own none ∷ ls) → number ≡ next_number ls → slice_get es number ≡ Some e
     → slot p.name (keys_of (role_at (next_level ls) name)) ≡ Some j → get_or e (j + 5) 0 ≡ value_word (property_named own p.name)
 kept_word ls at number j name own p es e old is read place =
     let role : Role = role_at (next_level ls) name in
     let row : Kept = open_row ls at name own in
     let below : j < length (words_of (keys_of role) own) = omega (arith, slot_below (keys_of role) p.name j place, length_words (keys_of role) own) in
     let five : j + 5 ≡ suc (suc (suc (suc (suc j)))) = omega arith in
-    let long : length (entries_so_far ls) ≡ count ls = length_entries (so_far ls) ∙ length_so_far ls in
+    let long : length (entries_so_far ls) ≡ next_number ls = length_entries (so_far ls) ∙ length_so_far ls in
     let entry : e ≡ entry_of row = sym (get_or_from_slice_get es number e [] read)
     ∙ ap (λ (x : List (List ℕ)). get_or x number []) (old ∙ ap (map entry_of) (last_row ls at name own) ∙ append_row ls row)
     ∙ ap (λ (i : ℕ). get_or (entries_so_far ls ++ entry_of row ∷ []) i []) (is ∙ sym long)

@@ -5,7 +5,7 @@ use Rattle.uimg_blob_reading.specs.Tokens.{Token, begin_node, end_node, prop, no
 use Rattle.uimg_blob_reading.specs.Grammar.{none, node}
 use Rattle.uimg_blob_reading.specs.Walk.{opened}
 use Rattle.uimg_blob_reading.specs.Kept.{Kept}
-use Rattle.uimg_blob_reading.specs.SoFar.{so_far, count, open_row}
+use Rattle.uimg_blob_reading.specs.SoFar.{so_far, next_number, open_row}
 use Rattle.uimg_blob_reading.specs.Passes.{Phase, inside, after, on, step, nodes_at, begin_places}
 use Rattle.uimg_blob_reading.proofs.SoFarLaws.{Seam, begin_row, property_row, end_row, root_row}
 use Rattle.uimg_blob_reading.proofs.CostLaws.{on_stop, on_same}
@@ -26,7 +26,7 @@ nothing (x ∷ xs) = ap (λ (l : List ℕ). x ∷ l) (nothing xs)
 
 -- a node is added to the nodes so far where a token begins one
 pub places_more : (p : Phase) (t : Token) (q : Phase) → step p t ≡ on q → places (nodes_at q) ≡ places (nodes_at p) ++ begin_places (t ∷ [])
-unfolding count
+unfolding next_number
 places_more (inside ls) (begin_node at (Ok name)) q h =
     subst (λ (k : Phase). places (nodes_at k) ≡ places (so_far ls) ++ at ∷ []) (on_same _ q h)
     (ap places (begin_row ls at name) ∙ map-append (λ k. k.at) (so_far ls) (open_row ls at name [] ∷ []))

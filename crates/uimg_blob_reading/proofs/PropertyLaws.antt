@@ -11,7 +11,7 @@ use Rattle.uimg_base.specs.Device.{Device, SameDevice}
 use Rattle.uimg_blob_reading.specs.declared.extent.Extent.{Extent}
 use Rattle.uimg_blob_reading.specs.declared.keys.Key.{Key}
 use Rattle.uimg_blob_reading.specs.declared.tokens.Head.{Head}
-use Rattle.uimg_blob_reading.specs.Tokens.{Blocks, prop, reach, named, property}
+use Rattle.uimg_blob_reading.specs.Tokens.{Blocks, prop, reach, property_with_name, property_at}
 use Rattle.uimg_blob_reading.specs.Keys.{key_named}
 use Rattle.uimg_blob_reading.specs.Extents.{blocks_of}
 use Rattle.uimg_blob_reading.specs.ReadTokens.{ReadsProp}
@@ -26,10 +26,10 @@ over d e P same told honest = subst P same.bytes (told (subst (λ (b : Bool). Is
 
 -- a property whose head is within the blocks
 pub head_is : (b : Blocks) (at size name : ℕ) → size ≡ be32 b.bytes (at + 4) → name ≡ be32 b.bytes (at + 4 + 4) → at + 12 + size ≤ b.structure_end → name < b.strings_size
-    → property b at ≡ named (before_nul (reach b.bytes (b.strings + name) (b.strings + b.strings_size))) (at + 12) (slice b.bytes (at + 12) size)
-head_is b at size name sized named within below =
+    → property_at b at ≡ property_with_name (before_nul (reach b.bytes (b.strings + name) (b.strings + b.strings_size))) (at + 12) (slice b.bytes (at + 12) size)
+head_is b at size name sized property_with_name within below =
     let eight : at + 4 + 4 ≡ at + 8 = omega arith in
-    let second : be32 b.bytes (at + 8) ≡ name = sym (named ∙ ap (be32 b.bytes) eight) in
+    let second : be32 b.bytes (at + 8) ≡ name = sym (property_with_name ∙ ap (be32 b.bytes) eight) in
     rw (← sized) (rw second
     (rw (le-ltb b.structure_end (at + 12) (omega (arith, within))) (rw (le-ltb b.structure_end (at + 12 + size) within)
     (rw (lt-ltb name b.strings_size below) refl))))
@@ -49,8 +49,8 @@ value_size : (bytes : List ℕ) (at size : ℕ) → at + size ≤ length bytes �
 value_size bytes at size within = omega (arith, within, length-take size (drop at bytes), length-drop at bytes)
 
 -- the key of a property
-keyed_by : (bytes : List ℕ) (x : Extent) (at : ℕ) (head : Head) (key : Option Key) (name : Option (List ℕ)) → property (blocks_of bytes x) at ≡ named name (at + 12) (slice bytes (at + 12) head.length)
-    → at + 12 + head.length ≤ length bytes → Some key ≡ option_map key_named name → ReadsProp at (prop at (property (blocks_of bytes x) at)) head.length key
+keyed_by : (bytes : List ℕ) (x : Extent) (at : ℕ) (head : Head) (key : Option Key) (name : Option (List ℕ)) → property_at (blocks_of bytes x) at ≡ property_with_name name (at + 12) (slice bytes (at + 12) head.length)
+    → at + 12 + head.length ≤ length bytes → Some key ≡ option_map key_named name → ReadsProp at (prop at (property_at (blocks_of bytes x) at)) head.length key
 keyed_by bytes x at head key None is within keyed = absurd (some_none keyed)
 keyed_by bytes x at head key (Some name) is within keyed = record {
   property = record { name = name; place = at + 12; value = slice bytes (at + 12) head.length };
@@ -61,17 +61,17 @@ keyed_by bytes x at head key (Some name) is within keyed = record {
 }
 
 pub key_read : (bytes : List ℕ) (x : Extent) (at : ℕ) (head : Head) (key : Option Key) → IsHead bytes x at (Ok head) → at + 12 + head.length ≤ length bytes
-    → Some key ≡ option_map key_named (before_nul (reach bytes head.name (x.strings + x.strings_size))) → ReadsProp at (prop at (property (blocks_of bytes x) at)) head.length key
+    → Some key ≡ option_map key_named (before_nul (reach bytes head.name (x.strings + x.strings_size))) → ReadsProp at (prop at (property_at (blocks_of bytes x) at)) head.length key
 key_read bytes x at head key is within keyed = keyed_by bytes x at head key (before_nul (reach bytes head.name (x.strings + x.strings_size))) is within keyed
 
 -- the place of a property
 pub place_found : (bytes : List ℕ) (x : Extent) (at : ℕ) (head : Head) (n : ℕ) → IsHead bytes x at (Ok head) → at + 12 + head.length ≤ length bytes
     → NameIs bytes head.name (x.strings + x.strings_size) (Some n)
-    → FindsPlace bytes (property (blocks_of bytes x) at) (Some (record { name = record { place = head.name; length = n }; value = record { place = at + 12; length = head.length } }))
+    → FindsPlace bytes (property_at (blocks_of bytes x) at) (Some (record { name = record { place = head.name; length = n }; value = record { place = at + 12; length = head.length } }))
 place_found bytes x at head n is within name =
     let value : List ℕ = slice bytes (at + 12) head.length in
     let size : head.length ≡ length value = value_size bytes (at + 12) head.length within in (
       record { name = slice bytes head.name n; place = at + 12; value = value },
-      is ∙ ap (λ (o : Option (List ℕ)). named o (at + 12) value) name,
+      is ∙ ap (λ (o : Option (List ℕ)). property_with_name o (at + 12) value) name,
       ap (λ (k : ℕ). let said : NamedOf Span = record { name = slice bytes head.name n; value = record { place = at + 12; length = k } } in said) size,
     )

@@ -11,7 +11,7 @@ use Rattle.uimg_blob_reading.specs.Grammar.{Siblings, none, node}
 use Rattle.uimg_blob_reading.specs.Roles.{Level, top, in_root, in_images, in_image, in_configurations, elsewhere, role_at, root_child, level_in, level_after, is_images, is_configurations, is_hash}
 use Rattle.uimg_blob_reading.specs.Walk.{Open, opened}
 use Rattle.uimg_blob_reading.specs.Kept.{Kept, kept, entry_of}
-use Rattle.uimg_blob_reading.specs.SoFar.{count, level_past, next_level, open_row, so_far, entries_so_far}
+use Rattle.uimg_blob_reading.specs.SoFar.{next_number, level_past, next_level, open_row, so_far, entries_so_far}
 use Rattle.uimg_blob_reading.specs.Passes.{root_level, child_level}
 use Rattle.uimg_blob_reading.proofs.SoFarLaws.{length_so_far}
 use Rattle.uimg_blob_reading.proofs.EntryLaws.{length_entries}
@@ -19,12 +19,12 @@ use Rattle.uimg_blob_reading.proofs.PhaseLaws.{true_false}
 
 -- the entry of the innermost node
 pub row_at : (ls : List Open) (at n : ℕ) (name : List ℕ) (own : List Property) (below : Siblings) (es : List (List ℕ)) (e : List ℕ)
-    → es ≡ entries_so_far (opened at name own below ∷ ls) → slice_get es n ≡ Some e → n ≡ count ls → e ≡ entry_of (open_row ls at name own)
+    → es ≡ entries_so_far (opened at name own below ∷ ls) → slice_get es n ≡ Some e → n ≡ next_number ls → e ≡ entry_of (open_row ls at name own)
 unfolding so_far
 row_at ls at n name own below es e old read is =
-    let under : List Kept = kept (level_in (role_at (next_level ls) name)) (Some (count ls)) (count ls + 1) below in
+    let under : List Kept = kept (level_in (role_at (next_level ls) name)) (Some (next_number ls)) (next_number ls + 1) below in
     let row : Kept = open_row ls at name own in
-    let long : length (entries_so_far ls) ≡ count ls = length_entries (so_far ls) ∙ length_so_far ls in
+    let long : length (entries_so_far ls) ≡ next_number ls = length_entries (so_far ls) ∙ length_so_far ls in
     sym (get_or_from_slice_get es n e [] read)
     ∙ ap (λ (x : List (List ℕ)). get_or x n []) (old ∙ map-append entry_of (so_far ls) (row ∷ under))
     ∙ ap (λ (i : ℕ). get_or (entries_so_far ls ++ entry_of row ∷ map entry_of under) i []) (is ∙ sym long)

@@ -7,7 +7,7 @@ use Rattle.uimg_blob_reading.specs.Walk.{Open, opened, join, close, as_node}
 use Rattle.uimg_blob_reading.specs.Roles.{Level, top, role_at, level_in, level_after}
 use Rattle.uimg_blob_reading.specs.Rows.{size}
 use Rattle.uimg_blob_reading.specs.Kept.{Kept, kept, kept_of}
-use Rattle.uimg_blob_reading.specs.SoFar.{level_past, next_level, count, open_row, so_far}
+use Rattle.uimg_blob_reading.specs.SoFar.{level_past, next_level, next_number, open_row, so_far}
 
 -- one row, at a place, is changed
 pub record Seam (i : ℕ) (change : Kept → Kept) (old new : List Kept) : Type 0 where
@@ -34,16 +34,16 @@ length_kept level parent i (node at name own below after) =
       length_kept (level_after level name) parent (i + (1 + size below)) after,
     )
 
-pub length_so_far : (ls : List Open) → length (so_far ls) ≡ count ls
-unfolding so_far count
+pub length_so_far : (ls : List Open) → length (so_far ls) ≡ next_number ls
+unfolding so_far next_number
 length_so_far [] = refl
 length_so_far (opened at name own below ∷ ls) =
-    let under = kept (level_in (role_at (next_level ls) name)) (Some (count ls)) (count ls + 1) below in
+    let under = kept (level_in (role_at (next_level ls) name)) (Some (next_number ls)) (next_number ls + 1) below in
     omega (
       arith,
       length-append (so_far ls) (open_row ls at name own ∷ under),
       length_so_far ls,
-      length_kept (level_in (role_at (next_level ls) name)) (Some (count ls)) (count ls + 1) below,
+      length_kept (level_in (role_at (next_level ls) name)) (Some (next_number ls)) (next_number ls + 1) below,
     )
 
 rows_none : (a : List Kept) → a ++ [] ≡ a
@@ -74,7 +74,7 @@ begin_row ls at name = refl
 
 -- a property of the innermost node, which has no child yet
 pub property_row : (ls : List Open) (at : ℕ) (name : List ℕ) (own : List Property) (p : Property)
-    → Seam (count ls) (λ k. record k { own = k.own ++ p ∷ [] }) (so_far (opened at name own none ∷ ls)) (so_far (opened at name (own ++ p ∷ []) none ∷ ls))
+    → Seam (next_number ls) (λ k. record k { own = k.own ++ p ∷ [] }) (so_far (opened at name own none ∷ ls)) (so_far (opened at name (own ++ p ∷ []) none ∷ ls))
 unfolding so_far kept
 property_row ls at name own p = record {
   before = so_far ls;
@@ -87,14 +87,14 @@ property_row ls at name own p = record {
 
 -- the innermost node ends
 pub end_row : (at : ℕ) (name : List ℕ) (own : List Property) (below : Siblings) (parent_at : ℕ) (parent_name : List ℕ) (parent_own : List Property) (parent_below : Siblings) (ls : List Open)
-    → Seam (count (opened parent_at parent_name parent_own parent_below ∷ ls))
-    (λ k. record k { end = count (opened at name own below ∷ opened parent_at parent_name parent_own parent_below ∷ ls) })
+    → Seam (next_number (opened parent_at parent_name parent_own parent_below ∷ ls))
+    (λ k. record k { end = next_number (opened at name own below ∷ opened parent_at parent_name parent_own parent_below ∷ ls) })
     (so_far (opened at name own below ∷ opened parent_at parent_name parent_own parent_below ∷ ls))
     (so_far (close (opened at name own below) (opened parent_at parent_name parent_own parent_below) ∷ ls))
-unfolding so_far next_level count
+unfolding so_far next_level next_number
 end_row at name own below parent_at parent_name parent_own parent_below ls =
     let level : Level = level_in (role_at (next_level ls) parent_name) in
-    let n : ℕ = count ls in
+    let n : ℕ = next_number ls in
     let i : ℕ = n + (1 + size parent_below) in
     let past : Level = level_past level parent_below in
     let outer : List Kept = so_far ls ++ (open_row ls parent_at parent_name parent_own ∷ kept level (Some n) (n + 1) parent_below) in
@@ -115,8 +115,8 @@ end_row at name own below parent_at parent_name parent_own parent_below ls =
 
 -- the root ends
 pub root_row : (at : ℕ) (name : List ℕ) (own : List Property) (below : Siblings)
-    → Seam 0 (λ k. record k { end = count (opened at name own below ∷ []) }) (so_far (opened at name own below ∷ [])) (kept_of (as_node (opened at name own below)))
-unfolding so_far next_level count
+    → Seam 0 (λ k. record k { end = next_number (opened at name own below ∷ []) }) (so_far (opened at name own below ∷ [])) (kept_of (as_node (opened at name own below)))
+unfolding so_far next_level next_number
 root_row at name own below = record {
   before = [];
   row = open_row [] at name own;

@@ -4,18 +4,18 @@ use Rattle.std.specs.Bool.{⊤}
 use Rattle.uimg_base.specs.Results.{◌>>=◌}
 use Rattle.uimg_blob_reading.specs.Reading.{Fault}
 use Rattle.uimg_blob_reading.specs.Tokens.{Property, Token, begin_node, end_node, prop, nop, last, stray}
-use Rattle.uimg_blob_reading.specs.Grammar.{Siblings, none, node, Reads, properties, end, inside, children, ended, root, without_nops}
+use Rattle.uimg_blob_reading.specs.Grammar.{Siblings, none, node, Parses, properties, end, inside, children, ended, root, without_nops}
 use Rattle.uimg_blob_reading.specs.Walk.{Open, opened, join, with_child, finished, walk, begun}
 
 -- the children from here and the END_NODE of a node with these properties and these children before
-abbrev pub closing : ℕ → List Property → Siblings → Reads (List Property × Siblings)
+abbrev pub closing : ℕ → List Property → Siblings → Parses (List Property × Siblings)
 closing n own before ts = do
   below ← children n ts
   left ← end below.1
   Ok ((own, join before below.0), left)
 
 -- what the tokens give for the rest of an open node, of at most n levels and nodes below it
-abbrev pub rest : ℕ → Open → Reads (List Property × Siblings)
+abbrev pub rest : ℕ → Open → Parses (List Property × Siblings)
 rest n (opened at name own none) ts = do
   more ← properties ts
   closing n (own ++ more.0) none more.1

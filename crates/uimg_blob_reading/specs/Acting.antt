@@ -16,7 +16,8 @@ use Rattle.uimg_blob_reading.specs.Extents.{blocks_of}
 use Rattle.uimg_blob_reading.specs.Tokens.{Token, token_at, tokens, next}
 use Rattle.uimg_blob_reading.specs.Walk.{begun}
 use Rattle.uimg_blob_reading.specs.ReadTokens.{IsReadAs, Stands, cost}
-use Rattle.uimg_blob_reading.specs.Passes.{Phase, Holds, step, is_done, Goes, Refuses, Steps}
+use Rattle.uimg_blob_reading.specs.Passes.{Phase, InPhase, step, is_done, Goes, RefusesMemory}
+use Rattle.uimg_blob_reading.specs.Passes.{PassesToken}
 use Rattle.uimg_blob_reading.specs.Passes.{Indexes, Passed, Within, IsPrefix, StopsAt}
 
 -- The innermost node has an entry, and each entry at least eight bytes before the state's offset.
@@ -45,10 +46,10 @@ adds_entry token (Err e) = false
 pub record Does (token : ReadToken) (s : State) (result : Result State IndexFault) (old new : Held)
     : Type 0 where
   -- what the token does in one pass
-  pub goes : (p : Phase) (t : Token) → Holds p s old.entries → IsReadAs s.at t token
+  pub goes : (p : Phase) (t : Token) → InPhase p s old.entries → IsReadAs s.at t token
       → is_done p t ≡ false → Goes (step p t) (next t) result old.entries new.entries
   -- a faulty token is refused with its own fault
-  pub refuses : (t : Token) → IsReadAs s.at t token → Refuses t result
+  pub refuses : (t : Token) → IsReadAs s.at t token → RefusesMemory t result
   -- the next offset is after this one
   pub ahead : (end : ℕ) → Stands end s.at token
       → IfOk result (λ n. (s.at + 4 ≤ n.at) × (n.at < end + 4))
@@ -62,8 +63,8 @@ pub record TakesStep (x : Extent) (s : State) (result : Result (Option State) In
     (d e : Device) (h k : Held) : Type 0 where
   pub uses : UsesAtMost (cost (token_at (blocks_of d.bytes x) s.at)) (is_read result) d e
   pub room : Grows (is_out_of_memory result) h k
-  pub steps : (p : Phase) → Holds p s h.entries
-      → Steps d.honest (blocks_of d.bytes x) p s.at result h.entries k.entries
+  pub steps : (p : Phase) → InPhase p s h.entries
+      → PassesToken d.honest (blocks_of d.bytes x) p s.at result h.entries k.entries
   pub no_making : is_of_making result ≡ false
   pub ahead : IfOk result (λ r. IfSome r (λ n. (s.at + 4 ≤ n.at) × (n.at < x.structure_end + 4)))
 

@@ -64,14 +64,14 @@ text_length (last at) = 0
 text_length (stray at fault) = 0
 
 -- the tokens before an offset
-unfoldable pub before : ℕ → List Token → List Token
-before at [] = []
-before at (t ∷ ts) = if nat_lt (offset t) at then t ∷ before at ts else []
+unfoldable pub tokens_before : ℕ → List Token → List Token
+tokens_before at [] = []
+tokens_before at (t ∷ ts) = if nat_lt (offset t) at then t ∷ tokens_before at ts else []
 
 -- the tokens that were read without fault
 abbrev pub sound_in : Result Siblings Fault → List Token → List Token
 sound_in (Ok t) ts = ts
-sound_in (Err e) ts = before e.1 ts
+sound_in (Err e) ts = tokens_before e.1 ts
 
 -- the bytes of all texts that were read without fault
 abbrev pub texts_met : List ℕ → ℕ

@@ -10,7 +10,7 @@ use Rattle.uimg_blob_reading.specs.Grammar.{none}
 use Rattle.uimg_blob_reading.specs.Keys.{key_named}
 use Rattle.uimg_blob_reading.specs.Walk.{Open, opened}
 use Rattle.uimg_blob_reading.specs.Kept.{span_word, number_word, role_word}
-use Rattle.uimg_blob_reading.specs.SoFar.{count, entries_so_far}
+use Rattle.uimg_blob_reading.specs.SoFar.{next_number, entries_so_far}
 
 -- the entry of a node that begins: its name, parent and role, without an end and values
 abbrev pub begun_entry : ℕ → ℕ → Option ℕ → Role → List ℕ
@@ -36,12 +36,12 @@ pub record IsKeyOf (key : Option Key) (name : List ℕ) : Type 0 where
 abbrev pub GainsProperty : ℕ → Property → List (List ℕ) → List (List ℕ) → Type 0
 GainsProperty number p old new =
     (at : ℕ) (name : List ℕ) (own : List Property) (ls : List Open)
-    → old ≡ entries_so_far (opened at name own none ∷ ls) → number ≡ count ls
+    → old ≡ entries_so_far (opened at name own none ∷ ls) → number ≡ next_number ls
     → AllByRecursion (λ q. 0 < q.place) own
     → new ≡ entries_so_far (opened at name (own ++ p ∷ []) none ∷ ls)
 
 -- The node gains any property with this key whose value has this offset and length.
-pub record Keeps (key : Option Key) (place bytes number : ℕ) (old new : Held) : Type 0 where
+pub record GainsValue (key : Option Key) (place bytes number : ℕ) (old new : Held) : Type 0 where
   -- of two properties with the same name, the first counts
   pub kept : (p : Property) → IsKeyOf key p.name → p.place ≡ place → bytes ≡ length p.value
       → GainsProperty number p old.entries new.entries

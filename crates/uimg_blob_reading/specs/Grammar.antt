@@ -12,8 +12,8 @@ pub data Siblings : Type 0 where
   node : ℕ → List ℕ → List Property → Siblings → Siblings → Siblings
 
 -- What is read at the start of a list of tokens, and the tokens after it.
-abbrev pub Reads : Type 0 → Type 0
-Reads A = List Token → Result (A × List Token) Fault
+abbrev pub Parses : Type 0 → Type 0
+Parses A = List Token → Result (A × List Token) Fault
 
 -- the fault of a token that is not allowed here; a stray token has its own fault
 abbrev pub misplaced : Token → Fault
@@ -30,7 +30,7 @@ misplaced_first [] = Err (BadNesting, 0)
 misplaced_first (t ∷ ts) = Err (misplaced t)
 
 -- properties: a property followed by properties, or nothing if the next token is not a property
-unfoldable pub properties : Reads (List Property)
+unfoldable pub properties : Parses (List Property)
 properties (prop at (Ok p) ∷ ts) = do
   more ← properties ts
   Ok (p ∷ more.0, more.1)
@@ -43,7 +43,7 @@ end (end_node at ∷ ts) = Ok ts
 end ts = misplaced_first ts
 
 -- the rest of a node after its name: properties, children, end
-abbrev pub inside : Reads Siblings → Reads (List Property × Siblings)
+abbrev pub inside : Parses Siblings → Parses (List Property × Siblings)
 inside children ts = do
   own ← properties ts
   below ← children own.1
@@ -51,7 +51,7 @@ inside children ts = do
   Ok ((own.0, below.0), rest)
 
 -- children: a node and children, or nothing if no node begins; n bounds their depth and number
-unfoldable pub children : ℕ → Reads Siblings
+unfoldable pub children : ℕ → Parses Siblings
 children (suc n) (begin_node at (Ok name) ∷ ts) = do
   first ← inside (children n) ts
   more ← children n first.1

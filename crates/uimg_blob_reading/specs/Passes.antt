@@ -26,7 +26,8 @@ use Rattle.uimg_blob_reading.specs.declared.roles.Role.TheVariants.{Configuratio
 use Rattle.uimg_blob_reading.specs.declared.roles.Role.TheVariants.{Other}
 use Rattle.uimg_blob_reading.specs.Walk.{Open, opened, close, as_node, walk, begun, finished}
 use Rattle.uimg_blob_reading.specs.Kept.{Kept, kept_of, entry_of, entries, LiesIn, number_of_role}
-use Rattle.uimg_blob_reading.specs.SoFar.{so_far, count, innermost, next_level, entries_so_far}
+use Rattle.uimg_blob_reading.specs.SoFar.{so_far, next_number, innermost, next_level}
+use Rattle.uimg_blob_reading.specs.SoFar.{entries_so_far}
 
 -- inside open nodes, at first none, or after the root
 pub data Phase : Type 0 where
@@ -34,10 +35,10 @@ pub data Phase : Type 0 where
   after : Open → Phase
 
 -- the result of the remaining tokens
-abbrev pub left : Phase → List Token → Result Siblings Fault
-left (inside []) ts = begun ts
-left (inside (o ∷ ls)) ts = walk o ls ts
-left (after o) ts = finished (as_node o) ts
+abbrev pub left_after : Phase → List Token → Result Siblings Fault
+left_after (inside []) ts = begun ts
+left_after (inside (o ∷ ls)) ts = walk o ls ts
+left_after (after o) ts = finished (as_node o) ts
 
 -- the entries so far
 abbrev pub entries_at : Phase → List (List ℕ)
@@ -69,22 +70,22 @@ stack (inside ls) = ls
 stack (after o) = []
 
 -- the pass goes on, or ends with a result
-pub data Step : Type 0 where
-  on : Phase → Step
-  stop : Result Siblings Fault → Step
+pub data PassStep : Type 0 where
+  on : Phase → PassStep
+  stop : Result Siblings Fault → PassStep
 
-abbrev pub begins_in : Phase → ℕ → Result (List ℕ) BlobFault → Step
+abbrev pub begins_in : Phase → ℕ → Result (List ℕ) BlobFault → PassStep
 begins_in (inside ls) at (Ok name) = on (inside (opened at name [] none ∷ ls))
 begins_in (inside ls) at (Err fault) = stop (Err (fault, at))
 begins_in (after o) at name = stop (Err (BadNesting, at))
 
-abbrev pub ends_in : Phase → ℕ → Step
+abbrev pub ends_in : Phase → ℕ → PassStep
 ends_in (inside []) at = stop (Err (BadNesting, at))
 ends_in (inside (o ∷ [])) at = on (after o)
 ends_in (inside (o ∷ parent ∷ ls)) at = on (inside (close o parent ∷ ls))
 ends_in (after o) at = stop (Err (BadNesting, at))
 
-abbrev pub prop_in : Phase → ℕ → Result Property BlobFault → Step
+abbrev pub prop_in : Phase → ℕ → Result Property BlobFault → PassStep
 prop_in (inside []) at p = stop (Err (BadNesting, at))
 prop_in (inside (opened place name own none ∷ ls)) at (Ok p) =
     on (inside (opened place name (own ++ p ∷ []) none ∷ ls))
@@ -92,12 +93,12 @@ prop_in (inside (opened place name own none ∷ ls)) at (Err fault) = stop (Err 
 prop_in (inside (opened place name own (node a b c d e) ∷ ls)) at p = stop (Err (BadNesting, at))
 prop_in (after o) at p = stop (Err (BadNesting, at))
 
-abbrev pub last_in : Phase → ℕ → Step
+abbrev pub last_in : Phase → ℕ → PassStep
 last_in (inside ls) at = stop (Err (BadNesting, at))
 last_in (after o) at = stop (Ok (as_node o))
 
 -- what a token does
-abbrev pub step : Phase → Token → Step
+abbrev pub step : Phase → Token → PassStep
 step p (begin_node at name) = begins_in p at name
 step p (end_node at) = ends_in p at
 step p (prop at x) = prop_in p at x
@@ -106,18 +107,18 @@ step p (last at) = last_in p at
 step p (stray at fault) = stop (Err (fault, at))
 
 -- a step followed by the next token's, if the pass goes on
-abbrev pub then_step : Step → Token → Step
+abbrev pub then_step : PassStep → Token → PassStep
 then_step (on p) t = step p t
 then_step (stop r) t = stop r
 
 -- a step followed by those of the tokens in turn
-abbrev pub in_turn : Step → List Token → Step
+abbrev pub in_turn : PassStep → List Token → PassStep
 in_turn x [] = x
 in_turn x (t ∷ ts) = in_turn (then_step x t) ts
 
 -- the result of a step and the tokens after it
-abbrev pub then_left : Step → List Token → Result Siblings Fault
-then_left (on p) ts = left p ts
+abbrev pub then_left : PassStep → List Token → Result Siblings Fault
+then_left (on p) ts = left_after p ts
 then_left (stop r) ts = r
 
 -- the root has ended
@@ -138,7 +139,7 @@ is_done (after o) (stray at fault) = false
 -- the number of the innermost node, if a property is allowed in it
 abbrev pub bare : Phase → Option ℕ
 bare (inside []) = None
-bare (inside (opened at name own none ∷ ls)) = Some (count ls)
+bare (inside (opened at name own none ∷ ls)) = Some (next_number ls)
 bare (inside (opened at name own (node a b c d e) ∷ ls)) = None
 bare (after o) = None
 
@@ -188,7 +189,7 @@ IsMarked (inside ls) s = root_level ls ≡ in_root (is_some s.images) (is_some s
 IsMarked (after o) s = ⊤
 
 -- The state and the entries are those of a phase.
-pub record Holds (p : Phase) (s : State) (es : List (List ℕ)) : Type 0 where
+pub record InPhase (p : Phase) (s : State) (es : List (List ℕ)) : Type 0 where
   pub entries : es ≡ entries_at p
   pub current : s.current ≡ innermost (stack p)
   pub marks : IsMarked p s
@@ -198,14 +199,17 @@ pub record Holds (p : Phase) (s : State) (es : List (List ℕ)) : Type 0 where
   pub configurations : s.configurations ≡ number_of_role is_configurations_role 0 (nodes_at p)
 
 -- The result is that of the step, unless memory was refused: then the entries are unchanged.
-abbrev pub Goes : Step → Option ℕ → Result State IndexFault → List (List ℕ) → List (List ℕ) → Type 0
-Goes x following (Ok s) old new = (q : Phase) × (x ≡ on q) × (following ≡ Some s.at) × Holds q s new
+abbrev pub Goes : PassStep → Option ℕ → Result State IndexFault → List (List ℕ) → List (List ℕ)
+    → Type 0
+Goes x following (Ok s) old new =
+    (q : Phase) × (x ≡ on q) × (following ≡ Some s.at) × InPhase q s new
 Goes x following (Err (Blob fault at)) old new =
     (new ≡ old) × (refuses_memory fault ≡ false → x ≡ stop (Err (fault, at)))
 Goes x following (Err Read) old new = new ≡ old
 
 -- As Goes, or the last token ends the pass.
-abbrev pub Acts : Step → Option ℕ → Result (Option State) IndexFault → List (List ℕ) → List (List ℕ)
+abbrev pub Acts : PassStep → Option ℕ → Result (Option State) IndexFault → List (List ℕ)
+    → List (List ℕ)
     → Type 0
 Acts x following (Ok (Some s)) old new = Goes x following (Ok s) old new
 Acts x following (Ok None) old new =
@@ -213,10 +217,10 @@ Acts x following (Ok None) old new =
 Acts x following (Err e) old new = Goes x following (Err e) old new
 
 -- Memory is refused only for a node that begins, at its offset.
-abbrev pub Refuses : {X : Type 0} → Token → Result X IndexFault → Type 0
-Refuses t (Ok x) = ⊤
-Refuses t (Err (Blob fault at)) = refuses_memory fault ≡ true → begin_place t ≡ at ∷ []
-Refuses t (Err Read) = ⊤
+abbrev pub RefusesMemory : {X : Type 0} → Token → Result X IndexFault → Type 0
+RefusesMemory t (Ok x) = ⊤
+RefusesMemory t (Err (Blob fault at)) = refuses_memory fault ≡ true → begin_place t ≡ at ∷ []
+RefusesMemory t (Err Read) = ⊤
 
 -- What a token names ends at `limit` or before; no value is at offset 0.
 abbrev pub TokenLies : ℕ → Token → Type 0
@@ -230,12 +234,12 @@ TokenLies limit (last at) = ⊤
 TokenLies limit (stray at fault) = ⊤
 
 -- What a token did; of a source that is not honest, some token.
-pub record Steps (honest : Bool) (b : Blocks) (p : Phase) (at : ℕ)
+pub record PassesToken (honest : Bool) (b : Blocks) (p : Phase) (at : ℕ)
     (result : Result (Option State) IndexFault) (old new : List (List ℕ)) : Type 0 where
   pub token : Token
   pub is : IsTrue honest → token ≡ token_at b at
   pub acts : Acts (step p token) (next token) result old new
-  pub refuses : Refuses token result
+  pub refuses : RefusesMemory token result
   pub lies : OnOk result (TokenLies b.structure_end token)
 
 -- The result is a tree with these entries, or its first fault, unless a read or a growth failed.
@@ -258,7 +262,7 @@ pub record Rest (b : Blocks) (whole : Result Siblings Fault) (p : Phase) (at bas
   pub taken : List Token
   pub all : tokens b ≡ taken ++ tokens_from fuel b (Some at)
   pub reached : in_turn (on (inside [])) taken ≡ on p
-  pub is : whole ≡ left p (tokens_from fuel b (Some at))
+  pub is : whole ≡ left_after p (tokens_from fuel b (Some at))
   pub costs : asked + 4 * length (stack p) + sum_from weight whole
       (tokens_from fuel b (Some at)) ≤ base + sum_from weight whole (tokens b)
   pub places : begin_places (tokens b) ≡ map (λ k. k.at) (nodes_at p) ++ begin_places
@@ -270,7 +274,7 @@ pub record Rest (b : Blocks) (whole : Result Siblings Fault) (p : Phase) (at bas
 pub record Pass (honest : Bool) (b : Blocks) (whole : Result Siblings Fault) (s : State)
     (es : List (List ℕ)) (base asked : ℕ) : Type 0 where
   pub phase : Phase
-  pub holds : Holds phase s es
+  pub holds : InPhase phase s es
   pub lies : AllByRecursion (LiesIn b.structure_end) (nodes_at phase)
   pub rest : IsTrue honest → Rest b whole phase s.at base asked (length es)
 

@@ -15,7 +15,7 @@ use Rattle.uimg_blob_reading.specs.declared.places.PropertyPlace.{PropertyPlace}
 use Rattle.uimg_blob_reading.specs.declared.places.Met.{Met}
 use Rattle.uimg_blob_reading.specs.declared.places.Met.TheVariants.{Place, Nop, Edge, Strange}
 use Rattle.uimg_blob_reading.specs.Tokens.{Property, Token, begin_node, end_node, prop, nop, last}
-use Rattle.uimg_blob_reading.specs.Tokens.{stray, reach, named, property, token_at}
+use Rattle.uimg_blob_reading.specs.Tokens.{stray, reach, property_with_name, property_at, token_at}
 use Rattle.uimg_blob_reading.specs.Counts.{is_prop}
 use Rattle.uimg_blob_reading.specs.Plain.{NamedOf}
 use Rattle.uimg_blob_reading.specs.Indexed.{property_span}
@@ -38,10 +38,10 @@ pub record EndsBy (limit : ℕ) (x : PropertyPlace) : Type 0 where
 -- The property has a value of this length and its name at this offset, or the token this fault.
 abbrev pub IsHead : List ℕ → Extent → ℕ → Result Head BlobFault → Type 0
 IsHead bytes x at (Ok h) =
-    property (blocks_of bytes x) at
-    ≡ named (before_nul (reach bytes h.name (x.strings + x.strings_size))) (at + 12)
+    property_at (blocks_of bytes x) at
+    ≡ property_with_name (before_nul (reach bytes h.name (x.strings + x.strings_size))) (at + 12)
     (slice bytes (at + 12) h.length)
-IsHead bytes x at (Err fault) = property (blocks_of bytes x) at ≡ Err fault
+IsHead bytes x at (Err fault) = property_at (blocks_of bytes x) at ≡ Err fault
 
 -- The property's value is inside the structure block, and its name begins inside the strings block.
 pub record HeadWithin (x : Extent) (at : ℕ) (h : Head) : Type 0 where
@@ -62,7 +62,7 @@ FindsPlace file found None = is_ok found ≡ false
 abbrev pub is_edge : Token → Bool
 is_edge (begin_node at name) = true
 is_edge (end_node at) = true
-is_edge (prop at property) = false
+is_edge (prop at property_at) = false
 is_edge (nop at) = false
 is_edge (last at) = false
 is_edge (stray at fault) = false
@@ -105,7 +105,8 @@ abbrev pub meeting_cost : Token → ℕ
 meeting_cost t = cond (is_prop t) 268 4
 
 -- What is met at an offset, and what that costs.
-pub record Meets (x : Extent) (at : ℕ) (result : Result Met SourceFault) (d e : Device) (h k : Held)
+pub record MeetsToken (x : Extent) (at : ℕ) (result : Result Met SourceFault) (d e : Device)
+    (h k : Held)
     : Type 0 where
   pub uses : UsesAtMost (meeting_cost (token_at (blocks_of d.bytes x) at)) (is_err result) d e
   pub room : k ≡ h

@@ -19,14 +19,14 @@ next_level (opened at name own below ∷ ls) =
     level_past (level_in (role_at (next_level ls) name)) below
 
 -- the number of the next node
-unfoldable pub count : List Open → ℕ
-count [] = 0
-count (opened at name own below ∷ ls) = count ls + (1 + size below)
+unfoldable pub next_number : List Open → ℕ
+next_number [] = 0
+next_number (opened at name own below ∷ ls) = next_number ls + (1 + size below)
 
 -- the number of the innermost open node, if there is one
 abbrev pub innermost : List Open → Option ℕ
 innermost [] = None
-innermost (o ∷ ls) = Some (count ls)
+innermost (o ∷ ls) = Some (next_number ls)
 
 -- what is kept of a node that is still open, inside other open nodes
 abbrev pub open_row : List Open → ℕ → List ℕ → List Property → Kept
@@ -46,7 +46,8 @@ so_far [] = []
 so_far (opened at name own below ∷ ls) =
     so_far ls
     ++ (open_row ls at name own
-    ∷ kept (level_in (role_at (next_level ls) name)) (Some (count ls)) (count ls + 1) below)
+    ∷ kept (level_in (role_at (next_level ls) name)) (Some (next_number ls))
+    (next_number ls + 1) below)
 
 -- the entries so far
 abbrev pub entries_so_far : List Open → List (List ℕ)

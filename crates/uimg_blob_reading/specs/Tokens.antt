@@ -28,7 +28,7 @@ pub data Token : Type 0 where
 abbrev pub offset : Token → ℕ
 offset (begin_node at name) = at
 offset (end_node at) = at
-offset (prop at property) = at
+offset (prop at property_at) = at
 offset (nop at) = at
 offset (last at) = at
 offset (stray at fault) = at
@@ -51,17 +51,18 @@ node_name (Some name) size = Ok name
 node_name None size = if size == 256 then Err BadNodeName else Err Truncated
 
 -- the property, if its name is in the strings block
-abbrev pub named : Option (List ℕ) → ℕ → List ℕ → Result Property BlobFault
-named (Some name) place value = Ok (record { name = name; place = place; value = value })
-named None place value = Err BadPropertyName
+abbrev pub property_with_name : Option (List ℕ) → ℕ → List ℕ → Result Property BlobFault
+property_with_name (Some name) place value =
+    Ok (record { name = name; place = place; value = value })
+property_with_name None place value = Err BadPropertyName
 
 -- The property of a token: a length, an offset in the strings block, and a value of that length.
-abbrev pub property : Blocks → ℕ → Result Property BlobFault
-property b at =
+abbrev pub property_at : Blocks → ℕ → Result Property BlobFault
+property_at b at =
     if nat_lt b.structure_end (at + 12) then Err Truncated
     else if nat_lt b.structure_end (at + 12 + be32 b.bytes (at + 4)) then Err Truncated
     else if nat_lt (be32 b.bytes (at + 8)) b.strings_size then
-    named (before_nul
+    property_with_name (before_nul
     (reach b.bytes (b.strings + be32 b.bytes (at + 8)) (b.strings + b.strings_size)))
     (at + 12) (slice b.bytes (at + 12) (be32 b.bytes (at + 4)))
     else Err BadPropertyName
@@ -75,7 +76,7 @@ abbrev pub by_word : Blocks → ℕ → ℕ → Token
 by_word b at word =
     if word == 1 then begins at (reach b.bytes (at + 4) b.structure_end)
     else if word == 2 then end_node at
-    else if word == 3 then prop at (property b at)
+    else if word == 3 then prop at (property_at b at)
     else if word == 4 then nop at
     else if word == 9 then last at
     else stray at BadToken

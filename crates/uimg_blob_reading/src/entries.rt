@@ -2,7 +2,7 @@
 
 ghost use Rattle.std.specs.Prelude.{◌≡◌, ◌+◌, ◌^◌, ◌<◌, length, IfSome, is_ok, is_err};
 ghost use Rattle.uimg_blob_reading.specs.Kept.{span_word, number_word, role_word};
-ghost use Rattle.uimg_blob_reading.specs.Entering.{Enters, Keeps, begun_entry, ended_entries};
+ghost use Rattle.uimg_blob_reading.specs.Entering.{Enters, GainsValue, begun_entry, ended_entries};
 
 use crate::keys::Key;
 use crate::roles::Role;
@@ -122,7 +122,7 @@ pub(crate) fn keep<A: Allocator>(
 )
     requires number { number < length room.old.entries }
     requires place { place < 2 ^ 32 }
-    ensures { Keeps key place value_length number room.old room.new }
+    ensures { GainsValue key place value_length number room.old room.new }
 {
     let Some(key) = key else {
         return;

@@ -2,9 +2,9 @@
 
 ghost use Rattle.std.specs.Prelude.{◌≡◌, ◌+◌, ◌^◌, ◌<◌, ◌≤◌, length, IfOk, IfSome};
 ghost use Rattle.uimg_blob_reading.specs.Extents.{IsInside, blocks_of};
-ghost use Rattle.uimg_blob_reading.specs.Tokens.{property};
+ghost use Rattle.uimg_blob_reading.specs.Tokens.{property_at};
 ghost use Rattle.uimg_blob_reading.specs.ReadTokens.{Answers};
-ghost use Rattle.uimg_blob_reading.specs.Places.{NameIs, FindsPlace, Lies, Meets};
+ghost use Rattle.uimg_blob_reading.specs.Places.{NameIs, FindsPlace, Lies, MeetsToken};
 
 use crate::extent::Extent;
 use crate::reads::{read_near, read_word};
@@ -63,7 +63,7 @@ fn find_place<S: Source, A: Allocator>(
     requires inside { IsInside extent (length (S.device source.old).bytes) }
     requires place { at < 2 ^ 40 }
     ensures place { Answers 264 result (λ bytes found.
-        FindsPlace bytes (property (blocks_of bytes extent) at) found)
+        FindsPlace bytes (property_at (blocks_of bytes extent) at) found)
         (S.device source.old) (S.device source.new) }
     ensures room { room.new ≡ room.old }
     ensures lies { IfOk result (λ found. IfSome found (λ x. Lies extent at x)) }
@@ -96,7 +96,7 @@ pub(crate) fn meet<S: Source, A: Allocator>(
 ) -> Result<Met, SourceFault>
     requires inside { IsInside extent (length (S.device source.old).bytes) }
     requires place { at < 2 ^ 40 }
-    ensures { Meets extent at result (S.device source.old) (S.device source.new)
+    ensures { MeetsToken extent at result (S.device source.old) (S.device source.new)
         room.old room.new }
 {
     if extent.structure_end < at + 4 {

@@ -6,7 +6,7 @@ ghost use Rattle.uimg_blob_reading.specs.Labels.{label_of};
 ghost use Rattle.uimg_blob_reading.specs.Roles.{role_at};
 ghost use Rattle.uimg_blob_reading.specs.SoFar.{next_level};
 ghost use Rattle.uimg_blob_reading.specs.ReadTokens.{IsReadAs, Stands, IsSound};
-ghost use Rattle.uimg_blob_reading.specs.Passes.{Phase, Holds, stack, is_done, bare, is_after, child_level, noted_images, noted_configurations};
+ghost use Rattle.uimg_blob_reading.specs.Passes.{Phase, InPhase, stack, is_done, bare, is_after, child_level, noted_images, noted_configurations};
 ghost use Rattle.uimg_blob_reading.specs.Acting.{Suits, Does};
 ghost use Rattle.uimg_blob_reading.specs.declared.tokens.ReadToken.TheVariants.{BeginNode, EndNode, Prop};
 
@@ -53,7 +53,8 @@ fn child_role(parent: Role, label: Label, had_images: bool, had_configurations: 
 // Returns the role of a node with this label that begins in the innermost node.
 fn role_for<A: Allocator>(room: &Room<A>, state: State, label: Label) -> Role
     requires { IfSome state.current (λ i. i < length room.now.entries) }
-    ensures { (p : Phase) (name : List ℕ) → Holds p state room.now.entries → label ≡ label_of name →
+    ensures { (p : Phase) (name : List ℕ) → InPhase p state room.now.entries → label ≡ label_of name
+        →
         result ≡ role_at (next_level (stack p)) name }
 {
     match state.current {
@@ -128,7 +129,7 @@ fn end_node<A: Allocator>(room: &mut Room<A>, state: State) -> Result<State, Ind
 
 // Returns the number of the innermost node if it has no child yet.
 fn bare<A: Allocator>(room: &Room<A>, state: State) -> Option<usize>
-    ensures bare { (p : Phase) → Holds p state room.now.entries → result ≡ bare p }
+    ensures bare { (p : Phase) → InPhase p state room.now.entries → result ≡ bare p }
     ensures within { IfSome result (λ i. i < length room.now.entries) }
 {
     match state.current {
@@ -139,7 +140,7 @@ fn bare<A: Allocator>(room: &Room<A>, state: State) -> Option<usize>
 
 // Returns whether the root has ended.
 fn is_after<A: Allocator>(room: &Room<A>, state: State) -> bool
-    ensures { (p : Phase) → Holds p state room.now.entries → result ≡ is_after p }
+    ensures { (p : Phase) → InPhase p state room.now.entries → result ≡ is_after p }
 {
     state.current.is_none() && room.count() > 0
 }
@@ -168,7 +169,8 @@ fn property<A: Allocator>(
 
 // Returns whether the token ends the tree.
 pub(crate) fn is_done<A: Allocator>(room: &Room<A>, state: State, token: ReadToken) -> bool
-    ensures { (p : Phase) (t : Token) → Holds p state room.now.entries → IsReadAs state.at t token →
+    ensures { (p : Phase) (t : Token) → InPhase p state room.now.entries → IsReadAs state.at t token
+        →
         result ≡ is_done p t }
 {
     match token {

@@ -5,7 +5,7 @@ ghost use Rattle.std.specs.Option.{option_map};
 ghost use Rattle.uimg_texts.specs.Nul.{before_nul};
 ghost use Rattle.uimg_blob_reading.specs.Extents.{IsInside, blocks_of};
 ghost use Rattle.uimg_blob_reading.specs.Keys.{key_named};
-ghost use Rattle.uimg_blob_reading.specs.Tokens.{reach, begins, property, prop};
+ghost use Rattle.uimg_blob_reading.specs.Tokens.{reach, begins, property_at, prop};
 ghost use Rattle.uimg_blob_reading.specs.Places.{IsHead, HeadWithin};
 ghost use Rattle.uimg_blob_reading.specs.ReadTokens.{IsReadAs, IsSound, IsOfToken, Stands, Answers, ReadsToken, ReadsTokenAt};
 
@@ -158,7 +158,7 @@ fn read_property<S: Source, A: Allocator>(
 ) -> Result<ReadToken, SourceFault>
     requires inside { IsInside extent (length (S.device source.old).bytes) }
     requires place { at < 2 ^ 40 }
-    ensures { ReadsToken 264 (λ bytes. prop at (property (blocks_of bytes extent) at))
+    ensures { ReadsToken 264 (λ bytes. prop at (property_at (blocks_of bytes extent) at))
         extent.structure_end at result (S.device source.old) (S.device source.new)
         room.old room.new }
 {

@@ -9,7 +9,7 @@ use Rattle.std.proofs.lemmas.List.Folds.{list_any-append}
 use Rattle.std.proofs.Math.Seq.{drop-append-add}
 use Rattle.std.specs.Result.{OnErr}
 use Rattle.uimg_blob_reading.specs.Plain.{Named, NamedOf, Nodes, NodesOf, no_node, a_node}
-use Rattle.uimg_blob_writing.specs.Encoding.{ended, strings, name_offset, with_name, with_names, with_names_in}
+use Rattle.uimg_blob_writing.specs.Encoding.{with_nul, strings, name_offset, with_name, with_names, with_names_in}
 
 -- a name is among names
 abbrev pub Has : List (List ℕ) → List ℕ → Type 0
@@ -22,17 +22,17 @@ pub record Stands (names : List (List ℕ)) (name : List ℕ) : Type 0 where
   pub here : drop (name_offset names name) (strings names) ≡ name ++ 0 ∷ rest
 
 stands_at : (first : List ℕ) (names : List (List ℕ)) (name : List ℕ) (same : Bool) → (same ≡ true → name ≡ first) → (same ≡ false → Stands names name) →
-    (rest : List ℕ) × ((if same then 0 else length (ended first) + name_offset names name) + (length name + 1) ≤ length (strings (first ∷ names)))
-    × (drop (if same then 0 else length (ended first) + name_offset names name) (strings (first ∷ names)) ≡ name ++ 0 ∷ rest)
+    (rest : List ℕ) × ((if same then 0 else length (with_nul first) + name_offset names name) + (length name + 1) ≤ length (strings (first ∷ names)))
+    × (drop (if same then 0 else length (with_nul first) + name_offset names name) (strings (first ∷ names)) ≡ name ++ 0 ∷ rest)
 stands_at first names name true same other =
     let e = same refl in
-    let all = length-append (ended first) (strings names) in
+    let all = length-append (with_nul first) (strings names) in
     let len : length first ≡ length name = ap (λ (w : List ℕ). length w) (sym e) in
     (strings names, omega (arith, all, len, length-append first (0 ∷ [])), append_assoc first (0 ∷ []) (strings names) ∙ ap (λ (w : List ℕ). w ++ 0 ∷ strings names) (sym e))
 stands_at first names name false same other =
     let s = other refl in
-    let all = length-append (ended first) (strings names) in
-    (s.rest, omega (arith, all, s.below), drop-append-add (ended first) (strings names) (name_offset names name) ∙ s.here)
+    let all = length-append (with_nul first) (strings names) in
+    (s.rest, omega (arith, all, s.below), drop-append-add (with_nul first) (strings names) (name_offset names name) ∙ s.here)
 
 pub stands : (names : List (List ℕ)) (name : List ℕ) → Has names name → Stands names name
 unfolding name_offset

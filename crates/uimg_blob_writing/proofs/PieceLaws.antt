@@ -2,9 +2,9 @@
 use Rattle.std.proofs.Common.{◌≡◌, ◌+◌, ◌++◌, ℕ, List, [], ◌∷◌, length, map, replicate, Option, refl, ap, sym, ◌∙◌, append_assoc, append-nil, length-append, arith}
 use Rattle.std.specs.List.{flat_map, AllByRecursion}
 use Rattle.uimg_blob_reading.specs.Plain.{NamedOf, no_node, a_node, with_value, with_values, AllValues}
-use Rattle.uimg_blob_writing.specs.Content.{Content, Unread, bytes, size_of, bytes_in, in_full, IsKept, AreKept}
+use Rattle.uimg_blob_writing.specs.Content.{Content, Unread, bytes, size_of, content_bytes, in_full, IsKept, AreKept}
 use Rattle.uimg_blob_writing.specs.Alignment.{padding_by}
-use Rattle.uimg_blob_writing.specs.Encoding.{word, padded, header, strings, blob_size, blob, encode_by, ended, names_of, name_offset, property_bytes, nodes_bytes}
+use Rattle.uimg_blob_writing.specs.Encoding.{word, padded, header, strings, blob_size, blob, encode_by, with_nul, names_of, name_offset, property_bytes, nodes_bytes}
 use Rattle.uimg_blob_writing.specs.Layouts.{nodes_size, plan_of}
 use Rattle.uimg_blob_writing.specs.Pieces.{padding, begin_bytes, head_bytes, property_pieces, nodes_pieces, blob_pieces}
 use Rattle.uimg_blob_writing.proofs.SizeLaws.{kept-size, length-nodes, names_of-values}
@@ -52,20 +52,20 @@ module _ (P : Content → Type 0) (of-bytes : (b : List ℕ) → P (bytes b)) (a
 
 module _ (files : List ℕ → Option (List ℕ)) where
   abbrev joined : List Content → List ℕ
-  joined pieces = flat_map (bytes_in files) pieces
+  joined pieces = flat_map (content_bytes files) pieces
 
   own-bytes : (names : List (List ℕ)) (own : List (NamedOf Content)) → AllByRecursion (λ p. IsKept files p.value) own
-      → joined (flat_map (property_pieces names) own) ≡ flat_map (property_bytes names) (map (with_value (bytes_in files)) own)
+      → joined (flat_map (property_pieces names) own) ≡ flat_map (property_bytes names) (map (with_value (content_bytes files)) own)
   unfolding property_pieces property_bytes
   own-bytes names [] kept = refl
   own-bytes names (p ∷ own) kept =
-      let value = bytes_in files p.value in
+      let value = content_bytes files p.value in
       let offset = name_offset names p.name in
-      let sized : ℕ → List ℕ = λ n. head_bytes n offset ++ (value ++ (padding n ++ flat_map (property_bytes names) (map (with_value (bytes_in files)) own))) in
+      let sized : ℕ → List ℕ = λ n. head_bytes n offset ++ (value ++ (padding n ++ flat_map (property_bytes names) (map (with_value (content_bytes files)) own))) in
       let rest = own-bytes names own kept.1 in
       ap (λ (w : List ℕ). head_bytes (size_of p.value) offset ++ (value ++ (padding (size_of p.value) ++ w))) rest
       ∙ ap sized (sym (kept-size files p.value kept.0))
-      ∙ ap (λ (w : List ℕ). head_bytes (length value) offset ++ w) (sym (append_assoc value (padding (length value)) (flat_map (property_bytes names) (map (with_value (bytes_in files)) own))))
+      ∙ ap (λ (w : List ℕ). head_bytes (length value) offset ++ w) (sym (append_assoc value (padding (length value)) (flat_map (property_bytes names) (map (with_value (content_bytes files)) own))))
 
   right : (a c d e f g : List ℕ) → a ++ c ++ d ++ e ++ f ++ g ≡ a ++ (c ++ (d ++ (e ++ (f ++ g))))
   right a c d e f g = simp append_assoc
@@ -77,17 +77,17 @@ module _ (files : List ℕ → Option (List ℕ)) where
       let own_pieces = flat_map (property_pieces names) own in
       let below_pieces = nodes_pieces names below in
       let end : List Content = bytes (word 2) ∷ nodes_pieces names after in
-      let own_bytes = flat_map (property_bytes names) (map (with_value (bytes_in files)) own) in
+      let own_bytes = flat_map (property_bytes names) (map (with_value (content_bytes files)) own) in
       let below_bytes = nodes_bytes names (in_full files below) in
       let after_bytes = nodes_bytes names (in_full files after) in
       let rest : joined (own_pieces ++ (below_pieces ++ end)) ≡ own_bytes ++ (below_bytes ++ (word 2 ++ after_bytes)) =
-      flat_map-both (bytes_in files) own_pieces (below_pieces ++ end)
+      flat_map-both (content_bytes files) own_pieces (below_pieces ++ end)
       ∙ ap (λ (w : List ℕ). w ++ joined (below_pieces ++ end)) (own-bytes names own kept.0)
-      ∙ ap (λ (w : List ℕ). own_bytes ++ w) (flat_map-both (bytes_in files) below_pieces end
+      ∙ ap (λ (w : List ℕ). own_bytes ++ w) (flat_map-both (content_bytes files) below_pieces end
       ∙ ap (λ (w : List ℕ). w ++ (word 2 ++ joined (nodes_pieces names after))) (nodes-joined names below kept.1)
       ∙ ap (λ (w : List ℕ). below_bytes ++ (word 2 ++ w)) (nodes-joined names after kept.2)) in
       ap (λ (w : List ℕ). begin_bytes name ++ w) rest
-      ∙ sym (right (word 1) (padded (ended name)) own_bytes below_bytes (word 2) after_bytes)
+      ∙ sym (right (word 1) (padded (with_nul name)) own_bytes below_bytes (word 2) after_bytes)
 
   -- the pieces of a blob
   blob-whole : (align : ℕ) (nodes strings : List ℕ) (size strings_size : ℕ) → length nodes + 4 ≡ size → length strings ≡ strings_size →
@@ -117,7 +117,7 @@ module _ (files : List ℕ → Option (List ℕ)) where
       let begin = header (blob_size align size (length (strings names))) size (length (strings names)) ++ replicate 16 0 in
       let end : List Content = bytes (word 9) ∷ bytes (strings names) ∷ bytes (padding_by align (56 + size + length (strings names))) ∷ [] in
       let sized : length nodes + 4 ≡ size = ap (λ (n : ℕ). n + 4) (length-nodes files names t kept) in
-      ap (λ (w : List ℕ). begin ++ w) (flat_map-both (bytes_in files) (nodes_pieces names t) end ∙ ap (λ (w : List ℕ). w ++ joined end) (nodes-joined names t kept))
+      ap (λ (w : List ℕ). begin ++ w) (flat_map-both (content_bytes files) (nodes_pieces names t) end ∙ ap (λ (w : List ℕ). w ++ joined end) (nodes-joined names t kept))
       ∙ nest begin nodes (word 9) (strings names) (padding_by align (56 + size + length (strings names)))
       ∙ blob-whole align nodes (strings names) size (length (strings names)) sized refl
-      ∙ ap (λ (ns : List (List ℕ)). blob align (nodes_bytes ns u ++ word 9) (strings ns)) (sym (names_of-values (bytes_in files) t))
+      ∙ ap (λ (ns : List (List ℕ)). blob align (nodes_bytes ns u ++ word 9) (strings ns)) (sym (names_of-values (content_bytes files) t))

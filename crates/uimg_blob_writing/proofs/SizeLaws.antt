@@ -3,13 +3,13 @@ use Rattle.std.proofs.Common.{◌≡◌, ◌<◌, ◌+◌, ◌++◌, ℕ, List, 
 use Rattle.std.specs.List.{flat_map, AllByRecursion}
 use Rattle.uimg_blob_reading.specs.Tokens.{Blocks}
 use Rattle.uimg_blob_reading.specs.Plain.{NamedOf, NodesOf, no_node, a_node, with_value, with_values, AllValues, AreNamed, IsName}
-use Rattle.uimg_blob_writing.specs.Content.{Content, Unread, bytes, file, bytes_in, size_of, IsKept}
-use Rattle.uimg_blob_writing.specs.Encoding.{word, padded, ended, names_of, with_name, with_names, with_names_in, property_bytes, nodes_bytes}
+use Rattle.uimg_blob_writing.specs.Content.{Content, Unread, bytes, file, content_bytes, size_of, IsKept}
+use Rattle.uimg_blob_writing.specs.Encoding.{word, padded, with_nul, names_of, with_name, with_names, with_names_in, property_bytes, nodes_bytes}
 use Rattle.uimg_blob_writing.specs.Layouts.{property_size, properties_size, nodes_size}
 use Rattle.uimg_blob_writing.proofs.TokenLaws.{length-padded, length-property_bytes, length-six}
 
 -- a value that is kept has its size
-pub kept-size : (files : List ℕ → Option (List ℕ)) (c : Content) → IsKept files c → length (bytes_in files c) ≡ size_of c
+pub kept-size : (files : List ℕ → Option (List ℕ)) (c : Content) → IsKept files c → length (content_bytes files c) ≡ size_of c
 kept-size files (bytes b) h = refl
 kept-size files (file name size) h = ap (λ (o : Option (List ℕ)). length (unwrap_or o [])) h.1 ∙ h.2
 
@@ -43,21 +43,21 @@ named-values f no_node h = tt
 named-values f (a_node name own below after) h = (h.0, named-properties f own h.1, named-values f below h.2, named-values f after h.3)
 
 module _ (files : List ℕ → Option (List ℕ)) (names : List (List ℕ)) where
-  length-properties : (own : List (NamedOf Content)) → AllByRecursion (λ p. IsKept files p.value) own → length (flat_map (property_bytes names) (map (with_value (bytes_in files)) own)) ≡ properties_size own
+  length-properties : (own : List (NamedOf Content)) → AllByRecursion (λ p. IsKept files p.value) own → length (flat_map (property_bytes names) (map (with_value (content_bytes files)) own)) ≡ properties_size own
   length-properties [] kept = refl
   length-properties (p ∷ own) kept =
-      let bytes = property_bytes names (with_value (bytes_in files) p) in
-      let step : length (flat_map (property_bytes names) (map (with_value (bytes_in files)) (p ∷ own))) ≡ length (bytes ++ flat_map (property_bytes names) (map (with_value (bytes_in files)) own)) = refl in
+      let bytes = property_bytes names (with_value (content_bytes files) p) in
+      let step : length (flat_map (property_bytes names) (map (with_value (content_bytes files)) (p ∷ own))) ≡ length (bytes ++ flat_map (property_bytes names) (map (with_value (content_bytes files)) own)) = refl in
       let total : properties_size (p ∷ own) ≡ property_size p + properties_size own = refl in
-      omega (arith, step, total, length-append bytes (flat_map (property_bytes names) (map (with_value (bytes_in files)) own)), length-property_bytes no_blocks names (with_value (bytes_in files) p), kept-size files p.value kept.0, length-properties own kept.1)
+      omega (arith, step, total, length-append bytes (flat_map (property_bytes names) (map (with_value (content_bytes files)) own)), length-property_bytes no_blocks names (with_value (content_bytes files) p), kept-size files p.value kept.0, length-properties own kept.1)
 
-  pub length-nodes : (t : Unread) → AllValues (IsKept files) t → length (nodes_bytes names (with_values (bytes_in files) t)) ≡ nodes_size t
+  pub length-nodes : (t : Unread) → AllValues (IsKept files) t → length (nodes_bytes names (with_values (content_bytes files) t)) ≡ nodes_size t
   unfolding with_values nodes_bytes nodes_size
   length-nodes no_node kept = refl
   length-nodes (a_node name own below after) kept =
-      let props = flat_map (property_bytes names) (map (with_value (bytes_in files)) own) in
-      let all = length-six no_blocks names (word 1) (padded (ended name)) props (nodes_bytes names (with_values (bytes_in files) below)) (word 2) (nodes_bytes names (with_values (bytes_in files) after)) in
-      omega (arith, all, length-padded (ended name), length-append name (0 ∷ []), length-properties own kept.0, length-nodes below kept.1, length-nodes after kept.2)
+      let props = flat_map (property_bytes names) (map (with_value (content_bytes files)) own) in
+      let all = length-six no_blocks names (word 1) (padded (with_nul name)) props (nodes_bytes names (with_values (content_bytes files) below)) (word 2) (nodes_bytes names (with_values (content_bytes files) after)) in
+      omega (arith, all, length-padded (with_nul name), length-append name (0 ∷ []), length-properties own kept.0, length-nodes below kept.1, length-nodes after kept.2)
 
 -- values fit where the nodes do
 small-properties : (n : ℕ) (own : List (NamedOf Content)) → properties_size own < n → AllByRecursion (λ p. size_of p.value < n) own

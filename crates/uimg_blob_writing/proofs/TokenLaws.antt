@@ -12,7 +12,7 @@ use Rattle.uimg_texts.specs.Numbers.{be32, up4}
 use Rattle.uimg_texts.specs.Nul.{before_nul}
 use Rattle.uimg_blob_reading.specs.Tokens.{Blocks, begin_node, end_node, prop, last, reach, node_name, by_word, token_at, tokens_from}
 use Rattle.uimg_blob_reading.specs.Plain.{Named, Nodes, no_node, a_node, IsName}
-use Rattle.uimg_blob_writing.specs.Encoding.{word, padded, ended, name_offset, property_bytes, nodes_bytes}
+use Rattle.uimg_blob_writing.specs.Encoding.{word, padded, with_nul, name_offset, property_bytes, nodes_bytes}
 use Rattle.uimg_blob_writing.proofs.Spelling.{placed_property, past_name, past_property, past_properties, past, spelled_properties, spelled, fuel_properties, fuel}
 
 -- what stands after a piece
@@ -41,10 +41,10 @@ before_nul-ended (suc b ∷ name) rest h = rw (before_nul-ended name rest (befor
 -- the front of a name, its NUL and what follows
 take-ended : (n : ℕ) (name rest : List ℕ) → length name + 1 ≤ n → take n (name ++ 0 ∷ rest) ≡ name ++ 0 ∷ take (n - (length name + 1)) rest
 take-ended n name rest h =
-    let all : n ≡ length (ended name) + (n - (length name + 1)) = omega (arith, length-append name (0 ∷ [])) in
+    let all : n ≡ length (with_nul name) + (n - (length name + 1)) = omega (arith, length-append name (0 ∷ [])) in
     ap (λ (w : List ℕ). take n w) (sym (append_assoc name (0 ∷ []) rest))
-    ∙ ap (λ (k : ℕ). take k (ended name ++ rest)) all
-    ∙ take-append-add (ended name) rest (n - (length name + 1))
+    ∙ ap (λ (k : ℕ). take k (with_nul name ++ rest)) all
+    ∙ take-append-add (with_nul name) rest (n - (length name + 1))
     ∙ append_assoc name (0 ∷ []) (take (n - (length name + 1)) rest)
 
 -- a name and its NUL are found below an end
@@ -71,12 +71,12 @@ module _ (b : Blocks) (names : List (List ℕ)) where
       let here : nat_lt b.structure_end (at + 4) ≡ false = le-ltb _ _ within in
       rw (here, be32-word b.bytes at n rest fits h) refl
 
-  token-begin : (at : ℕ) (name rest : List ℕ) → IsName name → past_name at name ≤ b.structure_end → drop at b.bytes ≡ word 1 ++ (padded (ended name) ++ rest) → token_at b at ≡ begin_node at (Ok name)
+  token-begin : (at : ℕ) (name rest : List ℕ) → IsName name → past_name at name ≤ b.structure_end → drop at b.bytes ≡ word 1 ++ (padded (with_nul name) ++ rest) → token_at b at ≡ begin_node at (Ok name)
   token-begin at name rest fit within h =
       let len = length-append name (0 ∷ []) in
-      let pad = replicate (up4 (length (ended name)) - length (ended name)) 0 in
-      let after = drop-piece b.bytes at (word 1) (padded (ended name) ++ rest) 4 refl h in
-      let split : padded (ended name) ++ rest ≡ name ++ 0 ∷ (pad ++ rest) = append_assoc (ended name) pad rest ∙ append_assoc name (0 ∷ []) (pad ++ rest) in
+      let pad = replicate (up4 (length (with_nul name)) - length (with_nul name)) 0 in
+      let after = drop-piece b.bytes at (word 1) (padded (with_nul name) ++ rest) 4 refl h in
+      let split : padded (with_nul name) ++ rest ≡ name ++ 0 ∷ (pad ++ rest) = append_assoc (with_nul name) pad rest ∙ append_assoc name (0 ∷ []) (pad ++ rest) in
       token-word at 1 _ (omega arith) (omega (arith, within)) h
       ∙ ap (λ (o : Option (List ℕ)). begin_node at (node_name o (length (reach b.bytes (at + 4) b.structure_end)))) (reach-name b.bytes (at + 4) b.structure_end name (pad ++ rest) fit (omega (arith, within)) (after ∙ split))
 
@@ -139,9 +139,9 @@ module _ (b : Blocks) (names : List (List ℕ)) where
   right a c d e f g rest = simp append_assoc
 
   nodes_bytes-node : (name : List ℕ) (own : List Named) (below after : Nodes) (rest : List ℕ) → nodes_bytes names (a_node name own below after) ++ rest
-      ≡ word 1 ++ (padded (ended name) ++ (flat_map (property_bytes names) own ++ (nodes_bytes names below ++ (word 2 ++ (nodes_bytes names after ++ rest)))))
+      ≡ word 1 ++ (padded (with_nul name) ++ (flat_map (property_bytes names) own ++ (nodes_bytes names below ++ (word 2 ++ (nodes_bytes names after ++ rest)))))
   unfolding nodes_bytes
-  nodes_bytes-node name own below after rest = right (word 1) (padded (ended name)) (flat_map (property_bytes names) own) (nodes_bytes names below) (word 2) (nodes_bytes names after) rest
+  nodes_bytes-node name own below after rest = right (word 1) (padded (with_nul name)) (flat_map (property_bytes names) own) (nodes_bytes names below) (word 2) (nodes_bytes names after) rest
 
   pub length-six : (a c d e f g : List ℕ) → length (a ++ c ++ d ++ e ++ f ++ g) ≡ length a + length c + length d + length e + length f + length g
   length-six a c d e f g = simp length-append
@@ -153,8 +153,8 @@ module _ (b : Blocks) (names : List (List ℕ)) where
       let at1 = past_name at name in
       let at2 = past_properties at1 own in
       let at3 = past at2 below in
-      let all = length-six (word 1) (padded (ended name)) (flat_map (property_bytes names) own) (nodes_bytes names below) (word 2) (nodes_bytes names after) in
-      omega (arith, all, length-append name (0 ∷ []), length-padded (ended name), past_properties-length at1 own, past-length at2 below, past-length (at3 + 4) after)
+      let all = length-six (word 1) (padded (with_nul name)) (flat_map (property_bytes names) own) (nodes_bytes names below) (word 2) (nodes_bytes names after) in
+      omega (arith, all, length-append name (0 ∷ []), length-padded (with_nul name), past_properties-length at1 own, past-length at2 below, past-length (at3 + 4) after)
 
   tokens-properties : (at : ℕ) (own : List Named) (m : ℕ) (rest : List ℕ) → AllByRecursion (λ p. IsFound p.name) own → past_properties at own ≤ b.structure_end
       → b.structure_end < 2 ^ 32 → b.strings_size < 2 ^ 32 → drop at b.bytes ≡ flat_map (property_bytes names) own ++ rest
@@ -183,14 +183,14 @@ module _ (b : Blocks) (names : List (List ℕ)) where
       let own_bytes = flat_map (property_bytes names) own in
       let below_bytes = nodes_bytes names below in
       let after_bytes = nodes_bytes names after in
-      let here : drop at b.bytes ≡ word 1 ++ (padded (ended name) ++ (own_bytes ++ (below_bytes ++ (word 2 ++ (after_bytes ++ rest))))) = h ∙ nodes_bytes-node name own below after rest in
+      let here : drop at b.bytes ≡ word 1 ++ (padded (with_nul name) ++ (own_bytes ++ (below_bytes ++ (word 2 ++ (after_bytes ++ rest))))) = h ∙ nodes_bytes-node name own below after rest in
       let own_length = past_properties-length at1 own in
       let below_length = past-length at2 below in
       let after_length = past-length (at3 + 4) after in
-      let name_length : length (padded (ended name)) ≡ up4 (length name + 1) = omega (arith, length-padded (ended name), length-append name (0 ∷ [])) in
+      let name_length : length (padded (with_nul name)) ≡ up4 (length name + 1) = omega (arith, length-padded (with_nul name), length-append name (0 ∷ [])) in
       let there4 = drop-piece b.bytes at (word 1) _ 4 refl here in
       let there1 : drop at1 b.bytes ≡ own_bytes ++ (below_bytes ++ (word 2 ++ (after_bytes ++ rest))) =
-      drop-piece b.bytes (at + 4) (padded (ended name)) _ (up4 (length name + 1)) name_length there4 in
+      drop-piece b.bytes (at + 4) (padded (with_nul name)) _ (up4 (length name + 1)) name_length there4 in
       let there2 : drop at2 b.bytes ≡ below_bytes ++ (word 2 ++ (after_bytes ++ rest)) =
       ap (λ (k : ℕ). drop k b.bytes) own_length ∙ drop-piece b.bytes at1 own_bytes _ (length own_bytes) refl there1 in
       let there3 : drop at3 b.bytes ≡ word 2 ++ (after_bytes ++ rest) =

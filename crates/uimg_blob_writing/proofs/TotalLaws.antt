@@ -1,7 +1,7 @@
 -- The size that a plan has is the blob's, and the blob reads back.
 use Rattle.std.proofs.Common.{◌≡◌, ◌<◌, ◌^◌, ◌+◌, ℕ, List, length, map, Option, ap, ◌∙◌, length-append, arith}
 use Rattle.uimg_blob_reading.specs.Plain.{NamedOf, no_node, a_node, with_value, with_values, AreNamed}
-use Rattle.uimg_blob_writing.specs.Content.{Content, Unread, bytes_in, in_full, AreKept}
+use Rattle.uimg_blob_writing.specs.Content.{Content, Unread, content_bytes, in_full, AreKept}
 use Rattle.uimg_blob_writing.specs.Encoding.{word, strings, structure, blob_size, encode_by, names_of, nodes_bytes}
 use Rattle.uimg_blob_writing.specs.Layouts.{nodes_size, totalsize, plan_of}
 use Rattle.uimg_blob_writing.specs.ReadsBack.{ReadsBack}
@@ -15,7 +15,7 @@ encode-size files align t kept =
     let sized : length (structure u) ≡ nodes_size t + 4 = length-append nodes (word 9) ∙ ap (λ (n : ℕ). n + 4) (length-nodes files (names_of u) t kept) in
     length-encode align u
     ∙ ap (λ (n : ℕ). blob_size align n (length (strings (names_of u)))) sized
-    ∙ ap (λ (l : List (List ℕ)). blob_size align (nodes_size t + 4) (length (strings l))) (names_of-values (bytes_in files) t)
+    ∙ ap (λ (l : List (List ℕ)). blob_size align (nodes_size t + 4) (length (strings l))) (names_of-values (content_bytes files) t)
 
 pub root-reads_back : (files : List ℕ → Option (List ℕ)) (align : ℕ) (name : List ℕ) (own : List (NamedOf Content)) (below : Unread) → (let t : Unread = a_node name own below no_node in AreKept files t) → (let t : Unread = a_node name own below no_node in AreNamed t)
     → (let t : Unread = a_node name own below no_node in totalsize (plan_of align t)) < 2 ^ 32
@@ -23,4 +23,4 @@ pub root-reads_back : (files : List ℕ → Option (List ℕ)) (align : ℕ) (na
 unfolding with_values
 root-reads_back files align name own below kept named fits more =
     let t : Unread = a_node name own below no_node in
-    reads_back align name (map (with_value (bytes_in files)) own) (with_values (bytes_in files) below) (named-values (bytes_in files) t named) (omega (arith, encode-size files align t kept, fits)) more
+    reads_back align name (map (with_value (content_bytes files)) own) (with_values (content_bytes files) below) (named-values (content_bytes files) t named) (omega (arith, encode-size files align t kept, fits)) more

@@ -12,7 +12,7 @@ use Rattle.uimg_base.proofs.SinkLaws.{prefix_first, prefix_none, Appends-none}
 use Rattle.uimg_base.proofs.WritingLaws.{written_then}
 use Rattle.uimg_blob_writing.specs.declared.fault.TreeFault.{TreeFault}
 use Rattle.uimg_blob_writing.specs.declared.fault.TreeFault.TheVariants.{Put}
-use Rattle.uimg_blob_writing.specs.Content.{Content, bytes, bytes_in, IsKept, IsBytes}
+use Rattle.uimg_blob_writing.specs.Content.{Content, bytes, content_bytes, IsKept, IsBytes}
 use Rattle.uimg_blob_writing.specs.Faults.{is_put, is_no_file, is_read}
 use Rattle.uimg_blob_writing.specs.Pieces.{WritesPieces}
 
@@ -71,9 +71,9 @@ module _ (steady : Bool) (r : Answer) (m n k : FileMap) (s t u : Sink) (xs ys : 
             let later = subst (λ (f : List ℕ → Option (List ℕ)). OnFalse (is_err r) (AllByRecursion (IsKept f) ys)) same.bytes (q.kept (subst IsTrue (sym same.honest) honest)) in
             kept-both (is_err r) (p.kept honest) later;
         written = λ honest.
-            let later = subst (λ (f : List ℕ → Option (List ℕ)). Written (is_err r) t u (flat_map (bytes_in f) ys)) same.bytes (q.written (subst IsTrue (sym same.honest) honest)) in
-            subst (λ (w : List ℕ). Written (is_err r) s u w) (sym (flat_map-both (bytes_in m.bytes) xs ys))
-            (written_then (is_err r) s t u (flat_map (bytes_in m.bytes) xs) (flat_map (bytes_in m.bytes) ys) (p.written honest).all later);
+            let later = subst (λ (f : List ℕ → Option (List ℕ)). Written (is_err r) t u (flat_map (content_bytes f) ys)) same.bytes (q.written (subst IsTrue (sym same.honest) honest)) in
+            subst (λ (w : List ℕ). Written (is_err r) s u w) (sym (flat_map-both (content_bytes m.bytes) xs ys))
+            (written_then (is_err r) s t u (flat_map (content_bytes m.bytes) xs) (flat_map (content_bytes m.bytes) ys) (p.written honest).all later);
       }
     where
       kept-both : (e : Bool) → AllByRecursion (IsKept m.bytes) xs → OnFalse e (AllByRecursion (IsKept m.bytes) ys) → OnFalse e (AllByRecursion (IsKept m.bytes) (xs ++ ys))
@@ -89,9 +89,9 @@ stops steady f m n s t xs ys p = record {
   reads = λ always honest kept. p.reads always honest (all-first (IsKept m.bytes) xs ys kept);
   in_memory = λ embedded. p.in_memory (all-first IsBytes xs ys embedded);
   kept = λ honest. p.kept honest;
-  written = λ honest. subst (λ (w : List ℕ). Written true s t w) (sym (flat_map-both (bytes_in m.bytes) xs ys)) (record {
+  written = λ honest. subst (λ (w : List ℕ). Written true s t w) (sym (flat_map-both (content_bytes m.bytes) xs ys)) (record {
     all = (p.written honest).all;
-    prefix = prefix_first s t (flat_map (bytes_in m.bytes) xs) (flat_map (bytes_in m.bytes) ys) (p.written honest).prefix;
+    prefix = prefix_first s t (flat_map (content_bytes m.bytes) xs) (flat_map (content_bytes m.bytes) ys) (p.written honest).prefix;
   });
 }
 

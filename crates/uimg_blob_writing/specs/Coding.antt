@@ -29,44 +29,45 @@ named_code =
     (λ q. record { name = q.0; value = q.1 }) (λ _. refl)
 
 -- A step that builds nodes: none, or a node over the last two.
-abbrev Step : Type 0
-Step = Option (List ℕ × List (NamedOf Content))
+abbrev BuildStep : Type 0
+BuildStep = Option (List ℕ × List (NamedOf Content))
 
 -- the steps that build nodes
-abbrev steps : Unread → List Step
+abbrev steps : Unread → List BuildStep
 steps no_node = None ∷ []
 steps (a_node name own below after) = steps below ++ (steps after ++ Some (name, own) ∷ [])
 
 -- what the steps build on a stack of trees
-abbrev built : List Step → List Unread → List Unread
-built [] ts = ts
-built (None ∷ ss) ts = built ss (no_node ∷ ts)
-built (Some s ∷ ss) (after ∷ below ∷ ts) = built ss (a_node s.0 s.1 below after ∷ ts)
-built (Some s ∷ ss) (after ∷ []) = built ss []
-built (Some s ∷ ss) [] = built ss []
+abbrev built_by : List BuildStep → List Unread → List Unread
+built_by [] ts = ts
+built_by (None ∷ ss) ts = built_by ss (no_node ∷ ts)
+built_by (Some s ∷ ss) (after ∷ below ∷ ts) = built_by ss (a_node s.0 s.1 below after ∷ ts)
+built_by (Some s ∷ ss) (after ∷ []) = built_by ss []
+built_by (Some s ∷ ss) [] = built_by ss []
 
-abbrev first : List Unread → Unread
-first [] = no_node
-first (t ∷ ts) = t
+abbrev first_tree : List Unread → Unread
+first_tree [] = no_node
+first_tree (t ∷ ts) = t
 
-pub built-steps : (t : Unread) (ss : List Step) (ts : List Unread)
-    → built (steps t ++ ss) ts ≡ built ss (t ∷ ts)
+pub built-steps : (t : Unread) (ss : List BuildStep) (ts : List Unread)
+    → built_by (steps t ++ ss) ts ≡ built_by ss (t ∷ ts)
 built-steps no_node ss ts = refl
 built-steps (a_node name own below after) ss ts =
-    ap (λ (l : List Step). built l ts)
+    ap (λ (l : List BuildStep). built_by l ts)
     (append_assoc (steps below) (steps after ++ Some (name, own) ∷ []) ss)
     ∙ built-steps below ((steps after ++ Some (name, own) ∷ []) ++ ss) ts
-    ∙ ap (λ (l : List Step). built l (below ∷ ts))
+    ∙ ap (λ (l : List BuildStep). built_by l (below ∷ ts))
     (append_assoc (steps after) (Some (name, own) ∷ []) ss)
     ∙ built-steps after (Some (name, own) ∷ ss) (below ∷ ts)
 
-pub back : (t : Unread) → first (built (steps t) []) ≡ t
+pub back : (t : Unread) → first_tree (built_by (steps t) []) ≡ t
 back t =
-    ap (λ (l : List Step). first (built l [])) (sym (append-nil (steps t))) ∙ ap first
+    ap (λ (l : List BuildStep). first_tree (built_by l []))
+    (sym (append-nil (steps t))) ∙ ap first_tree
     (built-steps t [] [])
 
 abbrev pub unread_code : Coded Unread
 unread_code =
-    code_by (List Step)
+    code_by (List BuildStep)
     (coded_list (coded_option (coded× (coded_list coded_ℕ) (coded_list named_code)))) steps
-    (λ ss. first (built ss [])) back
+    (λ ss. first_tree (built_by ss [])) back

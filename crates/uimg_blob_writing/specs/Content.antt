@@ -13,13 +13,13 @@ abbrev pub Unread : Type 0
 Unread = NodesOf Content
 
 -- the bytes of a value, for these bytes of files
-abbrev pub bytes_in : (List ℕ → Option (List ℕ)) → Content → List ℕ
-bytes_in files (bytes b) = b
-bytes_in files (file name size) = unwrap_or (files name) []
+abbrev pub content_bytes : (List ℕ → Option (List ℕ)) → Content → List ℕ
+content_bytes files (bytes b) = b
+content_bytes files (file name size) = unwrap_or (files name) []
 
 -- the nodes with each file replaced by its bytes
 abbrev pub in_full : (List ℕ → Option (List ℕ)) → Unread → Nodes
-in_full files t = with_values (bytes_in files) t
+in_full files t = with_values (content_bytes files) t
 
 -- the size of a value in bytes
 abbrev pub size_of : Content → ℕ

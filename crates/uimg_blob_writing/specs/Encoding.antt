@@ -17,8 +17,8 @@ abbrev pub padded : List ℕ → List ℕ
 padded bytes = bytes ++ replicate (up4 (length bytes) - length bytes) 0
 
 -- a name and its NUL
-abbrev pub ended : List ℕ → List ℕ
-ended name = name ++ 0 ∷ []
+abbrev pub with_nul : List ℕ → List ℕ
+with_nul name = name ++ 0 ∷ []
 
 -- the names with one more, if it is not among them
 abbrev pub with_name : List (List ℕ) → List ℕ → List (List ℕ)
@@ -41,13 +41,13 @@ names_of t = with_names_in [] t
 
 -- the strings block: each name with its NUL
 abbrev pub strings : List (List ℕ) → List ℕ
-strings names = flat_map ended names
+strings names = flat_map with_nul names
 
 -- the offset of a name in the strings block
 unfoldable pub name_offset : List (List ℕ) → List ℕ → ℕ
 name_offset [] name = 0
 name_offset (first ∷ names) name =
-    if bytes_eq name first then 0 else length (ended first) + name_offset names name
+    if bytes_eq name first then 0 else length (with_nul first) + name_offset names name
 
 -- FDT_PROP: the length of the value, the offset of the name, and the value
 unfoldable pub property_bytes : List (List ℕ) → Named → List ℕ
@@ -58,7 +58,8 @@ property_bytes names p =
 unfoldable pub nodes_bytes : List (List ℕ) → Nodes → List ℕ
 nodes_bytes names no_node = []
 nodes_bytes names (a_node name own below after) =
-    word 1 ++ padded (ended name) ++ flat_map (property_bytes names) own ++ nodes_bytes names below
+    word 1 ++ padded (with_nul name) ++ flat_map (property_bytes names) own
+    ++ nodes_bytes names below
     ++ word 2
     ++ nodes_bytes names after
 

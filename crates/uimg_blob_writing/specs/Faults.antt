@@ -6,9 +6,9 @@ use Rattle.uimg_blob_writing.specs.declared.fault.TreeFault.{TreeFault}
 use Rattle.uimg_blob_writing.specs.declared.fault.TreeFault.TheVariants.{Put, Read, NoFile}
 
 -- the fault of a copy that stopped
-abbrev pub moved : MoveFault → TreeFault
-moved move.Read = Read
-moved move.Put = Put
+abbrev pub copy_fault : MoveFault → TreeFault
+copy_fault move.Read = Read
+copy_fault move.Put = Put
 
 -- the result is a failed write
 abbrev pub is_put : {X : Type 0} → Result X TreeFault → Bool

@@ -7,14 +7,14 @@ use Rattle.uimg_blob_reading.specs.Plain.{Nodes}
 use Rattle.uimg_blob_writing.specs.Content.{Unread, AreKept, in_full}
 
 -- If the files were honest, the claim holds of their bytes.
-abbrev pub IfHonest : {F : Type 0} → (F → FileMap) → Lent F → ((List ℕ → Option (List ℕ)) → Type 0)
+abbrev pub OfHonest : {F : Type 0} → (F → FileMap) → Lent F → ((List ℕ → Option (List ℕ)) → Type 0)
     → Type 0
-IfHonest map files Fact = IsTrue (map files.entry.now).honest → Fact (map files.entry.now).bytes
+OfHonest map files Fact = IsTrue (map files.entry.now).honest → Fact (map files.entry.now).bytes
 
 -- If they were also those of a tree, with the stored sizes, the claim holds of their bytes.
 abbrev pub IfKept : {F : Type 0} → (F → FileMap) → Lent F → Unread
     → ((List ℕ → Option (List ℕ)) → Type 0) → Type 0
-IfKept map files t Fact = IfHonest map files (λ bytes. AreKept bytes t → Fact bytes)
+IfKept map files t Fact = OfHonest map files (λ bytes. AreKept bytes t → Fact bytes)
 
 -- The same for the tree with the bytes of its files.
 abbrev pub IfInFull : {F : Type 0} → (F → FileMap) → Lent F → Unread → (Nodes → Type 0) → Type 0

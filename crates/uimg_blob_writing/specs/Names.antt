@@ -3,5 +3,5 @@ use Rattle.std.specs.Prelude.{ℕ, List, map}
 use Rattle.std.specs.Borrow.{Bor}
 
 -- the bytes of the names
-abbrev pub texts : List (Bor (List ℕ)) → List (List ℕ)
-texts names = map (λ name. name.now) names
+abbrev pub name_texts : List (Bor (List ℕ)) → List (List ℕ)
+name_texts names = map (λ name. name.now) names

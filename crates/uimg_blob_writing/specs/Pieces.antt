@@ -10,9 +10,9 @@ use Rattle.uimg_base.specs.Named.{FileMap}
 use Rattle.uimg_base.specs.Writing.{Written}
 use Rattle.uimg_blob_reading.specs.Plain.{NamedOf, no_node, a_node}
 use Rattle.uimg_blob_writing.specs.declared.fault.TreeFault.{TreeFault}
-use Rattle.uimg_blob_writing.specs.Content.{Content, Unread, bytes, size_of, bytes_in, IsKept}
+use Rattle.uimg_blob_writing.specs.Content.{Content, Unread, bytes, size_of, content_bytes, IsKept}
 use Rattle.uimg_blob_writing.specs.Content.{IsBytes}
-use Rattle.uimg_blob_writing.specs.Encoding.{word, padded, ended, name_offset, strings, header}
+use Rattle.uimg_blob_writing.specs.Encoding.{word, padded, with_nul, name_offset, strings, header}
 use Rattle.uimg_blob_writing.specs.Alignment.{padding_by}
 use Rattle.uimg_blob_writing.specs.Layouts.{Plan, totalsize}
 use Rattle.uimg_blob_writing.specs.Faults.{is_put, is_no_file, is_read}
@@ -24,7 +24,7 @@ padding n = replicate (up4 n - n) 0
 
 -- FDT_BEGIN_NODE and the name of a node
 abbrev pub begin_bytes : List ℕ → List ℕ
-begin_bytes name = word 1 ++ padded (ended name)
+begin_bytes name = word 1 ++ padded (with_nul name)
 
 -- what comes before the value of a property: FDT_PROP, its size in bytes and its name's offset
 abbrev pub head_bytes : ℕ → ℕ → List ℕ
@@ -71,4 +71,4 @@ pub record WritesPieces {X : Type 0} (steady : Bool) (answer : Result X TreeFaul
   pub kept : IsTrue old.honest → OnFalse (is_err answer) (AllByRecursion (IsKept old.bytes) pieces)
   -- all pieces, or a prefix of them at a fault
   pub written : IsTrue old.honest
-      → Written (is_err answer) s t (flat_map (bytes_in old.bytes) pieces)
+      → Written (is_err answer) s t (flat_map (content_bytes old.bytes) pieces)

@@ -41,9 +41,9 @@ impl From<SourceFault> for TreeFault {
 
 impl From<MoveFault> for TreeFault {
     ghost use Rattle.std.specs.Prelude.{◌≡◌};
-    ghost use Rattle.uimg_blob_writing.specs.Faults.{moved};
+    ghost use Rattle.uimg_blob_writing.specs.Faults.{copy_fault};
 
-    ghost from_gives = { λ f e. e ≡ moved f };
+    ghost from_gives = { λ f e. e ≡ copy_fault f };
 
     fn from(fault: MoveFault) -> TreeFault {
         match fault {

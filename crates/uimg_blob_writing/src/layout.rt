@@ -32,17 +32,17 @@ impl<'a, A: Allocator> Model for Layout<'a, A> {
     ghost use Rattle.std.specs.Prelude.{◌≡◌, ◌+◌, ◌<◌, ◌^◌, length};
     ghost use Rattle.uimg_blob_writing.specs.Encoding.{strings};
     ghost use Rattle.uimg_blob_writing.specs.Layouts.{totalsize};
-    ghost use Rattle.uimg_blob_writing.specs.Names.{texts};
+    ghost use Rattle.uimg_blob_writing.specs.Names.{name_texts};
 
     ghost view = { λ l. record {
-      names = texts l.names.items;
+      names = name_texts l.names.items;
       structure = l.structure_size;
       align = l.align;
     } };
 
-    ghost invariant = { λ l. (l.strings_size ≡ length (strings (texts l.names.items)))
+    ghost invariant = { λ l. (l.strings_size ≡ length (strings (name_texts l.names.items)))
         × (totalsize (record {
-          names = texts l.names.items;
+          names = name_texts l.names.items;
           structure = l.structure_size;
           align = l.align;
         }) < 2 ^ 32)

@@ -4,7 +4,7 @@ ghost use Rattle.std.specs.Prelude.{◌≡◌, ◌^◌, ◌<◌, length, OnOk, O
 ghost use Rattle.std.specs.List.{list_any};
 ghost use Rattle.std.specs.Str.{bytes_eq};
 ghost use Rattle.uimg_blob_writing.specs.Encoding.{strings, name_offset, with_name, with_names, with_names_in};
-ghost use Rattle.uimg_blob_writing.specs.Names.{texts};
+ghost use Rattle.uimg_blob_writing.specs.Names.{name_texts};
 ghost use Rattle.uimg_blob_writing.specs.Trees.{node_of};
 
 use crate::nodes::ThisNode;
@@ -13,8 +13,8 @@ use std::alloc::{AllocError, Allocator};
 
 // Returns the offset of a name in the strings block.
 pub(crate) fn name_offset(names: &[&[u8]], name: &[u8]) -> u32
-    requires { length (strings (texts names.now)) < 2 ^ 32 }
-    ensures { result ≡ name_offset (texts names.now) name.now }
+    requires { length (strings (name_texts names.now)) < 2 ^ 32 }
+    ensures { result ≡ name_offset (name_texts names.now) name.now }
 {
     let mut at: u32 = 0;
     for other in names {
@@ -28,7 +28,7 @@ pub(crate) fn name_offset(names: &[&[u8]], name: &[u8]) -> u32
 
 // Returns whether a name is one of these names.
 fn has_name(names: &[&[u8]], name: &[u8]) -> bool
-    ensures { result ≡ list_any (bytes_eq name.now) (texts names.now) }
+    ensures { result ≡ list_any (bytes_eq name.now) (name_texts names.now) }
 {
     for other in names {
         if name == *other {
@@ -43,9 +43,9 @@ fn add_name<'a, A: Allocator>(
     names: &mut Vec<&'a [u8], A>,
     name: &'a [u8],
 ) -> Result<(), AllocError>
-    ensures added { OnOk result (texts names.new.items
-        ≡ with_name (texts names.old.items) name.now) }
-    ensures memory { OnErr result (0 < length (with_name (texts names.old.items) name.now)) }
+    ensures added { OnOk result (name_texts names.new.items
+        ≡ with_name (name_texts names.old.items) name.now) }
+    ensures memory { OnErr result (0 < length (with_name (name_texts names.old.items) name.now)) }
 {
     if has_name(names.as_slice(), name) {
         return Ok(());
@@ -59,9 +59,9 @@ fn add_names<'a, A: Allocator>(
     names: &mut Vec<&'a [u8], A>,
     props: &'a Props<A>,
 ) -> Result<(), AllocError>
-    ensures added { OnOk result (texts names.new.items
-        ≡ with_names (texts names.old.items) props.now) }
-    ensures memory { OnErr result (0 < length (with_names (texts names.old.items) props.now)) }
+    ensures added { OnOk result (name_texts names.new.items
+        ≡ with_names (name_texts names.old.items) props.now) }
+    ensures memory { OnErr result (0 < length (with_names (name_texts names.old.items) props.now)) }
 {
     for prop in props.items() {
         add_name(names, prop.name.items())?;
@@ -74,10 +74,10 @@ pub(crate) fn add_all_names<'a, A: Allocator>(
     names: &mut Vec<&'a [u8], A>,
     this: ThisNode<'a, A>,
 ) -> Result<(), AllocError>
-    ensures added { OnOk result (texts names.new.items
-        ≡ with_names_in (texts names.old.items) (node_of this.entry.node.now)) }
+    ensures added { OnOk result (name_texts names.new.items
+        ≡ with_names_in (name_texts names.old.items) (node_of this.entry.node.now)) }
     ensures memory { OnErr result
-        (0 < length (with_names_in (texts names.old.items) (node_of this.entry.node.now))) }
+        (0 < length (with_names_in (name_texts names.old.items) (node_of this.entry.node.now))) }
 {
     add_names(names, &this.node.props)?;
     for node in this.node.children.items() {

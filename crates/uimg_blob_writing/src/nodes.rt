@@ -4,7 +4,7 @@ ghost use Rattle.std.specs.Prelude.{◌≡◌, ◌^◌, ◌<◌, length};
 ghost use Rattle.uimg_blob_reading.specs.Plain.{AllValues};
 ghost use Rattle.uimg_blob_writing.specs.Content.{size_of};
 ghost use Rattle.uimg_blob_writing.specs.Encoding.{strings};
-ghost use Rattle.uimg_blob_writing.specs.Names.{texts};
+ghost use Rattle.uimg_blob_writing.specs.Names.{name_texts};
 ghost use Rattle.uimg_blob_writing.specs.Pieces.{nodes_pieces, WritesPieces};
 ghost use Rattle.uimg_blob_writing.specs.Trees.{node_of};
 
@@ -38,11 +38,11 @@ pub(crate) fn put_node<F: Files, W: Write, A: Allocator>(
     window: &mut [u8; WINDOW],
     out: &mut Out<W>,
 ) -> Result<(), TreeFault>
-    requires strings { length (strings (texts names.now)) < 2 ^ 32 }
+    requires strings { length (strings (name_texts names.now)) < 2 ^ 32 }
     requires fit { AllValues (λ c. size_of c < 2 ^ 32) (node_of this.node.now) }
     ensures { WritesPieces F.Opened.steady result (F.map files.old) (F.map files.new)
         out.old out.new
-        (nodes_pieces (texts names.now) (node_of this.entry.node.now)) }
+        (nodes_pieces (name_texts names.now) (node_of this.entry.node.now)) }
 {
     put_begin_node(this.node.name.items(), out)?;
     put_properties(&this.node.props, names, files, window, out)?;
@@ -63,11 +63,11 @@ fn put_nodes<F: Files, W: Write, A: Allocator>(
     window: &mut [u8; WINDOW],
     out: &mut Out<W>,
 ) -> Result<(), TreeFault>
-    requires strings { length (strings (texts names.now)) < 2 ^ 32 }
+    requires strings { length (strings (name_texts names.now)) < 2 ^ 32 }
     requires fit { AllValues (λ c. size_of c < 2 ^ 32) these.nodes.now }
     ensures { WritesPieces F.Opened.steady result (F.map files.old) (F.map files.new)
         out.old out.new
-        (nodes_pieces (texts names.now) these.entry.nodes.now) }
+        (nodes_pieces (name_texts names.now) these.entry.nodes.now) }
 {
     for node in these.nodes.items() {
         put_node(ThisNode { node }, names, files, window, out)?;

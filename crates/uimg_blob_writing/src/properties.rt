@@ -5,7 +5,7 @@ ghost use Rattle.std.specs.List.{flat_map, AllByRecursion};
 ghost use Rattle.uimg_base.specs.Writing.{Writes};
 ghost use Rattle.uimg_blob_writing.specs.Content.{bytes, file, size_of};
 ghost use Rattle.uimg_blob_writing.specs.Encoding.{strings};
-ghost use Rattle.uimg_blob_writing.specs.Names.{texts};
+ghost use Rattle.uimg_blob_writing.specs.Names.{name_texts};
 ghost use Rattle.uimg_blob_writing.specs.Pieces.{head_bytes, padding, property_pieces, WritesPieces};
 ghost use Rattle.uimg_blob_writing.specs.Properties.{content, property};
 
@@ -44,11 +44,11 @@ fn put_property<F: Files, W: Write, A: Allocator>(
     window: &mut [u8; WINDOW],
     out: &mut Out<W>,
 ) -> Result<(), TreeFault>
-    requires strings { length (strings (texts names.now)) < 2 ^ 32 }
+    requires strings { length (strings (name_texts names.now)) < 2 ^ 32 }
     requires fits { size_of (content prop.now.value) < 2 ^ 32 }
     ensures { WritesPieces F.Opened.steady result (F.map files.old) (F.map files.new)
         out.old out.new
-        (property_pieces (texts names.now) (property prop.now)) }
+        (property_pieces (name_texts names.now) (property prop.now)) }
 {
     let offset = name_offset(names, prop.name.items());
     match &prop.value {
@@ -69,11 +69,11 @@ pub(crate) fn put_properties<F: Files, W: Write, A: Allocator>(
     window: &mut [u8; WINDOW],
     out: &mut Out<W>,
 ) -> Result<(), TreeFault>
-    requires strings { length (strings (texts names.now)) < 2 ^ 32 }
+    requires strings { length (strings (name_texts names.now)) < 2 ^ 32 }
     requires fit { AllByRecursion (λ p. size_of p.value < 2 ^ 32) props.now }
     ensures { WritesPieces F.Opened.steady result (F.map files.old) (F.map files.new)
         out.old out.new
-        (flat_map (property_pieces (texts names.now)) props.now) }
+        (flat_map (property_pieces (name_texts names.now)) props.now) }
 {
     for prop in props.items() {
         put_property(prop, names, files, window, out)?;

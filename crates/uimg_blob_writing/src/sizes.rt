@@ -3,7 +3,7 @@
 ghost use Rattle.std.specs.Prelude.{◌≡◌, ◌^◌, min, length};
 ghost use Rattle.uimg_blob_writing.specs.Encoding.{strings};
 ghost use Rattle.uimg_blob_writing.specs.Layouts.{properties_size, nodes_size};
-ghost use Rattle.uimg_blob_writing.specs.Names.{texts};
+ghost use Rattle.uimg_blob_writing.specs.Names.{name_texts};
 ghost use Rattle.uimg_blob_writing.specs.Trees.{node_of};
 
 use crate::nodes::ThisNode;
@@ -41,7 +41,7 @@ pub(crate) fn node_size<A: Allocator>(this: ThisNode<A>) -> u64
 
 // Returns the size of the strings block of these names in bytes, at most 2^36.
 pub(crate) fn strings_size(names: &[&[u8]]) -> u64
-    ensures { result ≡ min (length (strings (texts names.now))) (2 ^ 36) }
+    ensures { result ≡ min (length (strings (name_texts names.now))) (2 ^ 36) }
 {
     let mut size: u64 = 0;
     for name in names {

@@ -2,9 +2,9 @@
 
 ghost use Rattle.std.specs.Prelude.{◌≡◌, ◌<◌, ◌^◌, ◌++◌, length, replicate, is_err};
 ghost use Rattle.uimg_base.specs.Writing.{Writes};
-ghost use Rattle.uimg_blob_writing.specs.Encoding.{ended, header, strings};
+ghost use Rattle.uimg_blob_writing.specs.Encoding.{with_nul, header, strings};
 ghost use Rattle.uimg_blob_writing.specs.Layouts.{plan_of, totalsize};
-ghost use Rattle.uimg_blob_writing.specs.Names.{texts};
+ghost use Rattle.uimg_blob_writing.specs.Names.{name_texts};
 ghost use Rattle.uimg_blob_writing.specs.Pieces.{blob_pieces, WritesPieces};
 ghost use Rattle.uimg_blob_writing.specs.TreeWriting.{WritesTree};
 ghost use Rattle.uimg_blob_writing.specs.Trees.{node_of};
@@ -58,14 +58,14 @@ fn put_header<W: Write, A: Allocator>(layout: &Layout<A>, out: &mut Out<W>) -> R
 
 // Writes a name and its NUL.
 fn put_name<W: Write>(name: &[u8], out: &mut Out<W>) -> Result<(), PutFault>
-    ensures { Writes (is_err result) out.old out.new (ended name.now) }
+    ensures { Writes (is_err result) out.old out.new (with_nul name.now) }
 {
     out.put_pieces(&[name, &[0]])
 }
 
 // Writes the strings block.
 fn put_strings<W: Write>(names: &[&[u8]], out: &mut Out<W>) -> Result<(), PutFault>
-    ensures { Writes (is_err result) out.old out.new (strings (texts names.now)) }
+    ensures { Writes (is_err result) out.old out.new (strings (name_texts names.now)) }
 {
     for name in names {
         put_name(name, out)?;

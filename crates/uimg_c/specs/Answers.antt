@@ -1,5 +1,6 @@
 -- What the exports report of the outcome of a command.
-use Rattle.std.specs.Prelude.{◌≡◌, ◌≢◌, ◌≤◌, ◌+◌, ℕ, min, List, ◌++◌, length, take, drop, Option, Some, None}
+use Rattle.std.specs.Prelude.{◌≡◌, ◌≢◌, ◌≤◌, ◌+◌, ℕ, min, List, ◌++◌, length, take, drop, Option}
+use Rattle.std.specs.Prelude.{Some, None}
 use Rattle.std.specs.Prelude.{Result, Ok, Err}
 use Rattle.uimg_sums.specs.declared.algo.Algo.{Algo}
 use Rattle.uimg_texts.specs.Slices.{slice}
@@ -20,7 +21,7 @@ use Rattle.uimg_checks.specs.declared.finding.Checked.{Checked}
 use Rattle.uimg_checks.specs.Finding.{check_of, status_of}
 use Rattle.uimg_requests.specs.declared.command.Form.TheVariants as form
 use Rattle.uimg_engine.specs.Headline.{is_fit, nodes_in, outcome_of}
-use Rattle.uimg_c.specs.Codes.{code_of, code_of_answer, code_of_fault, code_of_found, strength}
+use Rattle.uimg_c.specs.Codes.{code_of_end, code_of_answer, code_of_fault, code_of_found, strength}
 
 -- the most bytes that the table of an image's nodes takes: a window of 8192 bytes, and 128 for each
 -- node of a FIT image
@@ -29,9 +30,9 @@ table_most form image = held_bytes (nodes_in (is_fit form image) image)
 
 -- A report has the end of an outcome. The text is copied to the caller's memory, truncated to its
 -- length; the rest of that memory is unchanged.
-pub record Reports (o : Outcome Fault) (old new : List ℕ) (report : UimgReport) : Type 0 where
+pub record ReportsText (o : Outcome Fault) (old new : List ℕ) (report : UimgReport) : Type 0 where
   -- status, fault and offset are those of the outcome
-  pub code : code_of o.end ≡ Some
+  pub code : code_of_end o.end ≡ Some
       (record { status = report.status; fault = report.fault; place = report.place })
   -- the length of the whole text
   pub needed : report.needed ≡ length o.text
@@ -48,7 +49,7 @@ no_report = record { status = 3; fault = 0; place = 0; needed = 0; written = 0; 
 -- it reports.
 pub record ReportsOn (o : Outcome Fault) (format : Form) (image : List ℕ) (returned : ℕ)
     (old new : List ℕ) (report : UimgReport) : Type 0 where
-  pub told : returned ≢ 3 → Reports o old new report
+  pub told : returned ≢ 3 → ReportsText o old new report
   pub status : returned ≡ report.status
   -- no more than the caller has memory for
   pub within : report.written ≤ length old
@@ -63,8 +64,8 @@ outcome_by action image =
     outcome_of Profile (record { action = action; form = form.Guess }) image
 
 -- A payload has the end of an extraction's outcome, and the span of the bytes in the image.
-pub record Finds (o : Outcome Fault) (image : List ℕ) (payload : UimgPayload) : Type 0 where
-  pub code : code_of o.end ≡ Some
+pub record Extracts (o : Outcome Fault) (image : List ℕ) (payload : UimgPayload) : Type 0 where
+  pub code : code_of_end o.end ≡ Some
       (record { status = payload.status; fault = payload.fault; place = payload.place })
   -- exactly the bytes that an extraction writes
   pub bytes : payload.status ≡ 0 → o.text ≡ slice image payload.start payload.size
@@ -78,7 +79,7 @@ pub record FindsNamed (found : Result (List ℕ) FitEngineFault) (image : List �
 
 -- A call that locates bytes of an image, read in a format, returns the status that it reports.
 -- Unless memory was refused, P holds of the payload.
-pub record Locates (P : UimgPayload → Type 0) (format : Form) (image : List ℕ) (returned : ℕ)
+pub record Located (P : UimgPayload → Type 0) (format : Form) (image : List ℕ) (returned : ℕ)
     (payload : UimgPayload) : Type 0 where
   pub told : returned ≢ 3 → P payload
   pub status : returned ≡ payload.status
@@ -107,8 +108,8 @@ check_by None image = not_right
 check_by (Some need) image = end_of_check need image
 
 -- A report without a text has the end of a check.
-pub record Checks (need : ℕ) (image : List ℕ) (report : UimgReport) : Type 0 where
-  pub code : code_of (check_by (strength need) image) ≡ Some
+pub record ReportsCheck (need : ℕ) (image : List ℕ) (report : UimgReport) : Type 0 where
+  pub code : code_of_end (check_by (strength need) image) ≡ Some
       (record { status = report.status; fault = report.fault; place = report.place })
   pub no_text : (report.needed ≡ 0) × (report.written ≡ 0)
 
@@ -118,7 +119,7 @@ code_of_count (Ok count) = code_of_answer (Ok Done)
 code_of_count (Err fault) = code_of_fault fault
 
 -- A count has the number of payloads, or why they cannot be counted.
-pub record Counts (counted : Result ℕ Fault) (count : UimgCount) : Type 0 where
+pub record ReportsCount (counted : Result ℕ Fault) (count : UimgCount) : Type 0 where
   pub code : code_of_count counted ≡ Some
       (record { status = count.status; fault = count.fault; place = count.place })
   pub is : count.status ≡ 0 → counted ≡ Ok count.count

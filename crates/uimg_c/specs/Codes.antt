@@ -83,10 +83,10 @@ code_of_found (Ok x) = code_of_answer (Ok Done)
 code_of_found (Err fault) = code_of_fault (of_fit fault)
 
 -- the numbers of the end of an outcome
-abbrev pub code_of : End Fault → Option Code
-code_of done = code_of_answer (Ok Done)
-code_of not_right = code_of_answer (Ok NotRight)
-code_of (refused fault) = code_of_fault fault
+abbrev pub code_of_end : End Fault → Option Code
+code_of_end done = code_of_answer (Ok Done)
+code_of_end not_right = code_of_answer (Ok NotRight)
+code_of_end (refused fault) = code_of_fault fault
 
 -- the algorithm of a strength, which is its number counted from 1
 abbrev pub strength : ℕ → Option Algo

@@ -4,7 +4,7 @@ ghost use Rattle.std.specs.Prelude.{◌≡◌, ◌≢◌, ◌≤◌, Some, false
 ghost use Rattle.uimg_requests.specs.declared.command.Form.TheVariants as form;
 ghost use Rattle.uimg_engine.specs.Faults.{is_put, is_no_memory, end_of};
 ghost use Rattle.uimg_engine.specs.Headline.{InMemory};
-ghost use Rattle.uimg_c.specs.Answers.{Checks, end_of_check, no_report, table_most};
+ghost use Rattle.uimg_c.specs.Answers.{ReportsCheck, end_of_check, no_report, table_most};
 ghost use Rattle.uimg_c.specs.Codes.{code_of_answer, strength};
 
 use crate::codes::{NO_MEMORY, answer_code};
@@ -69,7 +69,7 @@ fn check_for<A: Allocator>(need: Algo, image: &[u8], room: &mut Room<A>) -> Resu
 
 /// Checks the bytes of an image, with `need` as the number of the needed strength.
 pub(crate) fn check(alloc: Global, image: &[u8], need: u32, report: &mut UimgReport) -> u32
-    ensures told { result ≢ 3 → Checks need image.now report.new }
+    ensures told { result ≢ 3 → ReportsCheck need image.now report.new }
     ensures status { result ≡ report.new.status }
     ensures nothing { result ≡ 3 → report.new ≡ no_report }
     ensures peak { report.new.peak ≤ table_most form.Guess image.now }

@@ -4,7 +4,7 @@ ghost use Rattle.std.specs.Prelude.{◌≡◌, ◌≢◌, ◌≤◌, false};
 ghost use Rattle.uimg_requests.specs.declared.command.Form.TheVariants as form;
 ghost use Rattle.uimg_checks.specs.Counting.{count_of};
 ghost use Rattle.uimg_engine.specs.Headline.{is_fit};
-ghost use Rattle.uimg_c.specs.Answers.{Counts, table_most};
+ghost use Rattle.uimg_c.specs.Answers.{ReportsCount, table_most};
 
 use crate::codes::{DONE, NO_MEMORY, fault_code};
 use crate::peaks::peak_of;
@@ -15,7 +15,7 @@ use uimg_checks::count_in_memory;
 
 /// Counts the parts or the images of an image's bytes.
 pub(crate) fn payload_count(alloc: Global, image: &[u8], count: &mut UimgCount) -> u32
-    ensures told { result ≢ 3 → Counts (count_of (is_fit form.Guess image.now) image.now) count.new }
+    ensures told { result ≢ 3 → ReportsCount (count_of (is_fit form.Guess image.now) image.now) count.new }
     ensures status { result ≡ count.new.status }
     ensures nothing { result ≢ 0 → count.new.count ≡ 0 }
     ensures legacy { is_fit form.Guess image.now ≡ false → result ≢ 3 }

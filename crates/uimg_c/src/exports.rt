@@ -12,7 +12,7 @@ ghost use Rattle.uimg_requests.specs.declared.command.Form.TheVariants as form;
 ghost use Rattle.uimg_checks.specs.Counting.{count_of};
 ghost use Rattle.uimg_engine.specs.Headline.{is_fit};
 ghost use Rattle.uimg_fit_checking.specs.Named.{name_at, payload_named};
-ghost use Rattle.uimg_c.specs.Answers.{Checks, Counts, Finds, FindsNamed, Locates, ReportsOn, no_report, outcome_by, table_most};
+ghost use Rattle.uimg_c.specs.Answers.{ReportsCheck, ReportsCount, Extracts, FindsNamed, Located, ReportsOn, no_report, outcome_by, table_most};
 
 use crate::checks::check;
 use crate::counts::payload_count;
@@ -64,7 +64,7 @@ pub extern "C" fn uimg_verify(
 /// strength `need`, from 1, CRC-32, to 6, SHA-512; a legacy image has CRC-32. Writes no text.
 #[unsafe(no_mangle)]
 pub extern "C" fn uimg_check(alloc: Global, image: &[u8], need: u32, report: &mut UimgReport) -> u32
-    ensures told { result ≢ 3 → Checks need image.now report.new }
+    ensures told { result ≢ 3 → ReportsCheck need image.now report.new }
     ensures status { result ≡ report.new.status }
     ensures peak { report.new.peak ≤ table_most form.Guess image.now }
     ensures nothing { result ≡ 3 → report.new ≡ no_report }
@@ -81,7 +81,7 @@ pub extern "C" fn uimg_payload_at(
     position: u32,
     payload: &mut UimgPayload,
 ) -> u32
-    ensures located { Locates (Finds (outcome_by (action.Extract position) image.now) image.now)
+    ensures located { Located (Extracts (outcome_by (action.Extract position) image.now) image.now)
         form.Guess image.now result payload.new }
     ensures legacy { is_fit form.Guess image.now ≡ false → result ≢ 3 }
 {
@@ -96,7 +96,7 @@ pub extern "C" fn uimg_payload_named(
     name: &[u8],
     payload: &mut UimgPayload,
 ) -> u32
-    ensures { Locates (FindsNamed (payload_named image.now name.now) image.now)
+    ensures { Located (FindsNamed (payload_named image.now name.now) image.now)
         form.Fit image.now result payload.new }
 {
     payload_named(alloc, image, name, payload)
@@ -110,7 +110,7 @@ pub extern "C" fn uimg_payload_name(
     position: u32,
     name: &mut UimgPayload,
 ) -> u32
-    ensures { Locates (FindsNamed (name_at image.now position) image.now)
+    ensures { Located (FindsNamed (name_at image.now position) image.now)
         form.Fit image.now result name.new }
 {
     payload_name(alloc, image, position, name)
@@ -119,7 +119,7 @@ pub extern "C" fn uimg_payload_name(
 /// Counts the parts of a legacy image, or the images of a FIT image.
 #[unsafe(no_mangle)]
 pub extern "C" fn uimg_payload_count(alloc: Global, image: &[u8], count: &mut UimgCount) -> u32
-    ensures told { result ≢ 3 → Counts (count_of (is_fit form.Guess image.now) image.now) count.new }
+    ensures told { result ≢ 3 → ReportsCount (count_of (is_fit form.Guess image.now) image.now) count.new }
     ensures status { result ≡ count.new.status }
     ensures nothing { result ≢ 0 → count.new.count ≡ 0 }
     ensures legacy { is_fit form.Guess image.now ≡ false → result ≢ 3 }

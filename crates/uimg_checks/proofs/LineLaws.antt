@@ -13,8 +13,8 @@ use Rattle.uimg_fit_checking.specs.declared.checking.Finding.TheVariants.{Right,
 use Rattle.uimg_checks.specs.declared.answer.Answer.TheVariants.{Found, Missing, Refused, Failed}
 use Rattle.uimg_checks.specs.declared.finding.Checked.{Checked}
 use Rattle.uimg_checks.specs.declared.finding.Checked.TheVariants as checked
-use Rattle.uimg_checks.specs.Answers.{finding_word, found_word, word_of}
-use Rattle.uimg_checks.specs.Lines.{nodes_text, some_unchecked, unchecked_text, named, named_if, finding_details, found_details, details_of, line_of, own_text}
+use Rattle.uimg_checks.specs.Answers.{finding_word, found_word, answer_word}
+use Rattle.uimg_checks.specs.Lines.{nodes_text, some_unchecked, unchecked_text, spaced_name, named_if, finding_details, found_details, details_of, answer_line, own_text}
 
 one_of : (b : Bool) (x y : List ℕ) → is_shown x ≡ true → is_shown y ≡ true → is_shown (if b then x else y) ≡ true
 one_of true x y p q = p
@@ -33,7 +33,7 @@ unchecked_shown : (unchecked : Option ℕ) → is_shown (unchecked_text unchecke
 unchecked_shown None = refl
 unchecked_shown (Some n) = some_shown n
 
-named_shown : (name : List ℕ) → is_shown (named name) ≡ true
+named_shown : (name : List ℕ) → is_shown (spaced_name name) ≡ true
 named_shown name = joined (codes " ") (printed false name) refl (shown false name)
 
 named_if_shown : (name : Option (Bor (List ℕ))) → is_shown (named_if name) ≡ true
@@ -48,7 +48,7 @@ finding_shown (Right images hashes) unchecked =
     let second = joined (codes " " ++ payloads ++ codes ", ") nodes (joined (codes " " ++ payloads) (codes ", ") first refl) (counted_shown hashes (codes "hash") (codes "hashes") refl refl) in
     joined (codes " " ++ payloads ++ codes ", " ++ nodes) (unchecked_text unchecked) second (unchecked_shown unchecked)
 finding_shown (Unhashed image) unchecked = named_shown image.now
-finding_shown (Wrong image hash verdict) unchecked = joined (named image.now) (named hash.now) (named_shown image.now) (named_shown hash.now)
+finding_shown (Wrong image hash verdict) unchecked = joined (spaced_name image.now) (spaced_name hash.now) (named_shown image.now) (named_shown hash.now)
 finding_shown (Weak image) unchecked = named_shown image.now
 finding_shown (Overlapping image) unchecked = named_shown image.now
 finding_shown NoImage unchecked = refl
@@ -63,7 +63,7 @@ details_shown : (answer : Answer) → is_shown (own_text answer) ≡ true → is
 details_shown (Found found unchecked) own = found_shown found unchecked
 details_shown (Missing configuration property name) own =
     let giver = joined (named_if configuration) (codes " ") (named_if_shown configuration) refl in
-    joined (named_if configuration ++ codes " " ++ property.now) (named name.now) (joined (named_if configuration ++ codes " ") property.now giver own) (named_shown name.now)
+    joined (named_if configuration ++ codes " " ++ property.now) (spaced_name name.now) (joined (named_if configuration ++ codes " ") property.now giver own) (named_shown name.now)
 details_shown (Refused stop) own = joined (codes " ") stop.message.now refl own
 details_shown (Failed stop) own = joined (codes " ") stop.message.now refl own
 
@@ -87,17 +87,17 @@ found_word_shown checked.Right = refl
 found_word_shown checked.Damaged = refl
 found_word_shown checked.Weak = refl
 
-word_shown : (answer : Answer) → is_shown (word_of answer) ≡ true
+word_shown : (answer : Answer) → is_shown (answer_word answer) ≡ true
 word_shown (Found found unchecked) = found_word_shown found
 word_shown (Missing configuration property name) = refl
 word_shown (Refused stop) = refl
 word_shown (Failed stop) = refl
 
-pub line_shown : (path : List ℕ) (answer : Answer) → is_shown (own_text answer) ≡ true → is_shown (line_of path answer) ≡ true
+pub line_shown : (path : List ℕ) (answer : Answer) → is_shown (own_text answer) ≡ true → is_shown (answer_line path answer) ≡ true
 line_shown path answer own =
     let first = joined (printed false path) (codes ": ") (shown false path) refl in
-    joined (printed false path ++ codes ": " ++ word_of answer) (details_of answer)
-    (joined (printed false path ++ codes ": ") (word_of answer) first (word_shown answer)) (details_shown answer own)
+    joined (printed false path ++ codes ": " ++ answer_word answer) (details_of answer)
+    (joined (printed false path ++ codes ": ") (answer_word answer) first (word_shown answer)) (details_shown answer own)
 
 -- a text that is made of a line
 pub shown_as : {X E : Type 0} (text_of : X → List ℕ) (r : Result X E) (line : List ℕ) → is_shown line ≡ true → IfOk r (λ text. text_of text ≡ line) → IfOk r (λ text. is_shown (text_of text) ≡ true)

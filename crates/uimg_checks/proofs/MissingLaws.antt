@@ -14,7 +14,7 @@ use Rattle.uimg_checks.specs.declared.references.missing.Missing.{Missing}
 use Rattle.uimg_checks.specs.declared.references.reference.Reference.{Reference}
 use Rattle.uimg_checks.specs.Given.{read_given}
 use Rattle.uimg_checks.specs.ReferenceNames.{image_name_in, configuration_name_in}
-use Rattle.uimg_checks.specs.References.{MissingSaid, read_missing, first_of, missing_under, missing_among, missing_of, first_missing}
+use Rattle.uimg_checks.specs.References.{MissingSaid, read_missing, earlier_missing, missing_under, missing_among, missing_of, first_missing}
 
 -- the names that images and configurations say
 pub image_names : (file : List ℕ) (images : List ImageFacts) → map (λ i. i.name) (map (read_image file) images) ≡ map (image_name_in file) images
@@ -31,12 +31,12 @@ none_read file None is = refl
 none_read file (Some found) is = absurd (false≢true (sym is))
 
 -- what is found first decides, and what is not there does not
-pub some_first : (file : List ℕ) (found : Option Missing) (later : Option MissingSaid) → is_some found ≡ true → first_of (option_map (read_missing file) found) later ≡ option_map (read_missing file) found
+pub some_first : (file : List ℕ) (found : Option Missing) (later : Option MissingSaid) → is_some found ≡ true → earlier_missing (option_map (read_missing file) found) later ≡ option_map (read_missing file) found
 some_first file (Some found) later is = refl
 some_first file None later is = absurd (false≢true is)
 
-pub none_first : (found later : Option MissingSaid) → found ≡ None → first_of found later ≡ later
-none_first found later is = ap (λ (o : Option MissingSaid). first_of o later) is
+pub none_first : (found later : Option MissingSaid) → found ≡ None → earlier_missing found later ≡ later
+none_first found later is = ap (λ (o : Option MissingSaid). earlier_missing o later) is
 
 -- one of some values, or of some configurations, that tells nothing is passed
 pub passed_value : (file now : List ℕ) (list : List (List ℕ)) (giver : Option Span) (gs : List (Reference × Option Span)) (i : ℕ) (d : Reference × Option Span) (found : Option Missing)

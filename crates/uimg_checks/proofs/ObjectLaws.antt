@@ -11,12 +11,12 @@ use Rattle.uimg_checks.specs.declared.finding.Checked.{Checked}
 use Rattle.uimg_checks.specs.declared.finding.Checked.TheVariants as checked
 use Rattle.uimg_checks.specs.declared.answer.Format.{Format}
 use Rattle.uimg_checks.specs.declared.answer.Stop.{Stop}
-use Rattle.uimg_checks.specs.Answers.{status_of, word_of}
-use Rattle.uimg_checks.specs.Objects.{name_of, format_if, string_if, name_if, format_of, stop_members, about_fit, about_found, about, head_members, check_json}
+use Rattle.uimg_checks.specs.Answers.{answer_status, answer_word}
+use Rattle.uimg_checks.specs.Objects.{format_name, format_if, string_if, name_if, format_of, stop_members, about_fit, about_found, about, first_members, check_json}
 
 format_sound : (format : Option Format) → AreSound 0 (format_if format)
 format_sound None = tt
-format_sound (Some format) = string_sound 0 (codes "format") (name_of format)
+format_sound (Some format) = string_sound 0 (codes "format") (format_name format)
 
 string_if_sound : (key : List ℕ) (text : Option (Bor (List ℕ))) → AreSound 0 (string_if key text)
 string_if_sound key None = tt
@@ -60,14 +60,14 @@ about_sound (Missing configuration property name) =
 about_sound (Refused stop) = stop_sound stop
 about_sound (Failed stop) = stop_sound stop
 
-head_sound : (path : List ℕ) (answer : Answer) → AreSound 0 (head_members path answer)
+head_sound : (path : List ℕ) (answer : Answer) → AreSound 0 (first_members path answer)
 head_sound path answer =
-    let status : List Member = number_member (codes "status") (status_of answer) in
-    let word : List Member = string_member (codes "verdict") (word_of answer) in
+    let status : List Member = number_member (codes "status") (answer_status answer) in
+    let word : List Member = string_member (codes "verdict") (answer_word answer) in
     let format : List Member = format_if (format_of answer) in
     append_sound 0 (text_members (codes "path") path) (status ++ (word ++ format)) (text_sound 0 (codes "path") path)
-    (append_sound 0 status (word ++ format) (number_sound 0 (codes "status") (status_of answer))
-    (append_sound 0 word format (string_sound 0 (codes "verdict") (word_of answer)) (format_sound (format_of answer))))
+    (append_sound 0 status (word ++ format) (number_sound 0 (codes "status") (answer_status answer))
+    (append_sound 0 word format (string_sound 0 (codes "verdict") (answer_word answer)) (format_sound (format_of answer))))
 
 pub check_sound : (path : List ℕ) (answer : Answer) → Sound 1 (check_json path answer)
-check_sound path answer = append_sound 0 (head_members path answer) (about answer) (head_sound path answer) (about_sound answer)
+check_sound path answer = append_sound 0 (first_members path answer) (about answer) (head_sound path answer) (about_sound answer)

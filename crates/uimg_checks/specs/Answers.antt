@@ -15,11 +15,11 @@ abbrev pub exit_status : Status → ℕ
 exit_status Done = 0
 exit_status NotRight = 1
 
-abbrev pub status_of : Answer → ℕ
-status_of (Found found unchecked) = exit_status (of.status_of found)
-status_of (Missing configuration property name) = 1
-status_of (Refused stop) = 1
-status_of (Failed stop) = 3
+abbrev pub answer_status : Answer → ℕ
+answer_status (Found found unchecked) = exit_status (of.status_of found)
+answer_status (Missing configuration property name) = 1
+answer_status (Refused stop) = 1
+answer_status (Failed stop) = 3
 
 abbrev pub finding_word : {N : Type 0} → Finding N → List ℕ
 finding_word (fit_finding.Right images nodes) = codes "ok"
@@ -35,8 +35,8 @@ found_word checked.Right = codes "ok"
 found_word checked.Damaged = codes "bad"
 found_word checked.Weak = codes "weak"
 
-abbrev pub word_of : Answer → List ℕ
-word_of (Found found unchecked) = found_word found
-word_of (Missing configuration property name) = codes "missing"
-word_of (Refused stop) = codes "refused"
-word_of (Failed stop) = codes "failed"
+abbrev pub answer_word : Answer → List ℕ
+answer_word (Found found unchecked) = found_word found
+answer_word (Missing configuration property name) = codes "missing"
+answer_word (Refused stop) = codes "refused"
+answer_word (Failed stop) = codes "failed"

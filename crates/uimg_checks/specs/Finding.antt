@@ -23,22 +23,22 @@ use Rattle.uimg_engine.specs.declared.fault.Fault.TheVariants.{Legacy}
 use Rattle.uimg_checks.specs.declared.finding.Checked.{Checked}
 use Rattle.uimg_checks.specs.declared.finding.Checked.TheVariants as checked
 use Rattle.uimg_engine.specs.Faults.{of_fit, is_read, is_put, is_no_memory, is_of_making}
-use Rattle.uimg_engine.specs.Headline.{is_fit, Takes}
+use Rattle.uimg_engine.specs.Headline.{is_fit, TakesTable}
 
 -- the most bytes that a check of a format requests
-abbrev pub work_in : Bool → List ℕ → ℕ
-work_in true file = fit.check_work file
-work_in false file = legacy.verify_work file
+abbrev pub check_work_in : Bool → List ℕ → ℕ
+check_work_in true file = fit.check_work file
+check_work_in false file = legacy.verify_work file
 
 -- the most bytes that a check requests: the four of the format, the metadata, and of all payloads
 -- together at most the file's length
 abbrev pub check_work : List ℕ → ℕ
-check_work file = 4 + work_in (is_fit form.Guess file) file
+check_work file = 4 + check_work_in (is_fit form.Guess file) file
 
 -- each span of a finding ends within a file of this size
-abbrev pub EndsInside : ℕ → Checked Span → Type 0
-EndsInside size (checked.Fit finding) = fit.EndsInside size finding
-EndsInside size _ = ⊤
+abbrev pub SpansInside : ℕ → Checked Span → Type 0
+SpansInside size (checked.Fit finding) = fit.EndsInside size finding
+SpansInside size _ = ⊤
 
 -- whether CRC-32, the checksum of a legacy image, is strong enough
 abbrev pub stands_by_crc32 : Option Algo → Bool
@@ -48,7 +48,7 @@ stands_by_crc32 (Some _) = false
 
 -- a finding with the names at its spans
 abbrev pub found_at : List ℕ → Checked Span → Checked (List ℕ)
-found_at file (checked.Fit finding) = checked.Fit (fit.told_of file finding)
+found_at file (checked.Fit finding) = checked.Fit (fit.named_finding file finding)
 found_at file checked.Right = checked.Right
 found_at file checked.Damaged = checked.Damaged
 found_at file checked.Weak = checked.Weak
@@ -77,7 +77,7 @@ found_by need not_right = Ok checked.Damaged
 found_by need (refused fault) = Err (Legacy fault)
 
 -- the finding about a FIT image, or the fault that refuses it
-abbrev pub found_in_fit : Result fit.Told FitEngineFault → Result (Checked (List ℕ)) Fault
+abbrev pub found_in_fit : Result fit.NamedFinding FitEngineFault → Result (Checked (List ℕ)) Fault
 found_in_fit (Ok told) = Ok (checked.Fit told)
 found_in_fit (Err fault) = Err (of_fit fault)
 
@@ -104,11 +104,11 @@ TellsCheck need file result = TellsCheckIn (is_fit form.Guess file) need file re
 -- What the check of an image of a format does, at any exit.
 pub record ChecksInBetween (fit : Bool) (need : Option Algo) (result : Result (Checked Span) Fault)
     (d e : Device) (old new : Held) : Type 0 where
-  pub uses : UsesAtMost (work_in fit d.bytes) (is_read result) d e
-  pub room : Takes fit d (is_no_memory result) old new
+  pub uses : UsesAtMost (check_work_in fit d.bytes) (is_read result) d e
+  pub room : TakesTable fit d (is_no_memory result) old new
   pub no_put : is_put result ≡ false
   pub not_making : is_of_making result ≡ false
-  pub inside : IfOk result (EndsInside (length d.bytes))
+  pub inside : IfOk result (SpansInside (length d.bytes))
   pub told : IsTrue d.honest → TellsCheckIn fit need d.bytes result
 
 abbrev pub ChecksIn : {S : Type 0} → Bool → Option Algo → Result (Checked Span) Fault → (S → Device)

@@ -10,7 +10,7 @@ use Rattle.uimg_checks.specs.declared.answer.Answer.{Answer}
 use Rattle.uimg_checks.specs.declared.answer.Answer.TheVariants.{Found, Missing, Refused, Failed}
 use Rattle.uimg_checks.specs.declared.finding.Checked.{Checked}
 use Rattle.uimg_checks.specs.declared.finding.Checked.TheVariants as checked
-use Rattle.uimg_checks.specs.Answers.{word_of}
+use Rattle.uimg_checks.specs.Answers.{answer_word}
 
 -- the number of unchecked nodes of configurations, if they were counted and there are any
 abbrev pub nodes_text : ℕ → List ℕ
@@ -25,12 +25,12 @@ unchecked_text None = []
 unchecked_text (Some n) = some_unchecked n
 
 -- a name after a space
-abbrev pub named : List ℕ → List ℕ
-named name = codes " " ++ printed false name
+abbrev pub spaced_name : List ℕ → List ℕ
+spaced_name name = codes " " ++ printed false name
 
 abbrev pub named_if : Option (Bor (List ℕ)) → List ℕ
 named_if None = []
-named_if (Some name) = named name.now
+named_if (Some name) = spaced_name name.now
 
 -- the details of a finding about a FIT image
 abbrev pub finding_details : Finding (Bor (List ℕ)) → Option ℕ → List ℕ
@@ -38,10 +38,11 @@ finding_details (fit_finding.Right images nodes) unchecked =
     codes " " ++ counted images (codes "payload") (codes "payloads") ++ codes ", "
     ++ counted nodes (codes "hash") (codes "hashes")
     ++ unchecked_text unchecked
-finding_details (fit_finding.Unhashed image) unchecked = named image.now
-finding_details (fit_finding.Wrong image hash word) unchecked = named image.now ++ named hash.now
-finding_details (fit_finding.Weak image) unchecked = named image.now
-finding_details (fit_finding.Overlapping image) unchecked = named image.now
+finding_details (fit_finding.Unhashed image) unchecked = spaced_name image.now
+finding_details (fit_finding.Wrong image hash word) unchecked =
+    spaced_name image.now ++ spaced_name hash.now
+finding_details (fit_finding.Weak image) unchecked = spaced_name image.now
+finding_details (fit_finding.Overlapping image) unchecked = spaced_name image.now
 finding_details fit_finding.NoImage unchecked = []
 
 -- the details of a finding
@@ -55,13 +56,14 @@ found_details checked.Weak unchecked = codes " crc32"
 abbrev pub details_of : Answer → List ℕ
 details_of (Found found unchecked) = found_details found unchecked
 details_of (Missing configuration property name) =
-    named_if configuration ++ codes " " ++ property.now ++ named name.now
+    named_if configuration ++ codes " " ++ property.now ++ spaced_name name.now
 details_of (Refused stop) = codes " " ++ stop.message.now
 details_of (Failed stop) = codes " " ++ stop.message.now
 
 -- the line, without its end
-abbrev pub line_of : List ℕ → Answer → List ℕ
-line_of path answer = printed false path ++ codes ": " ++ word_of answer ++ details_of answer
+abbrev pub answer_line : List ℕ → Answer → List ℕ
+answer_line path answer =
+    printed false path ++ codes ": " ++ answer_word answer ++ details_of answer
 
 -- the text of a fault, or a property's name, if there is one
 abbrev pub own_text : Answer → List ℕ

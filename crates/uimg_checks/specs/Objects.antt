@@ -13,15 +13,15 @@ use Rattle.uimg_checks.specs.declared.finding.Checked.TheVariants as checked
 use Rattle.uimg_checks.specs.declared.answer.Format.{Format}
 use Rattle.uimg_checks.specs.declared.answer.Format.TheVariants.{Fit, Legacy}
 use Rattle.uimg_checks.specs.declared.answer.Stop.{Stop}
-use Rattle.uimg_checks.specs.Answers.{status_of, word_of}
+use Rattle.uimg_checks.specs.Answers.{answer_status, answer_word}
 
-abbrev pub name_of : Format → List ℕ
-name_of Fit = codes "fit"
-name_of Legacy = codes "legacy"
+abbrev pub format_name : Format → List ℕ
+format_name Fit = codes "fit"
+format_name Legacy = codes "legacy"
 
 abbrev pub format_if : Option Format → List Member
 format_if None = []
-format_if (Some format) = string_member (codes "format") (name_of format)
+format_if (Some format) = string_member (codes "format") (format_name format)
 
 abbrev pub string_if : List ℕ → Option (Bor (List ℕ)) → List Member
 string_if key None = []
@@ -82,10 +82,10 @@ about (Refused stop) = stop_members stop
 about (Failed stop) = stop_members stop
 
 -- the first members of each object
-abbrev pub head_members : List ℕ → Answer → List Member
-head_members path answer =
-    text_members (codes "path") path ++ (number_member (codes "status") (status_of answer)
-    ++ (string_member (codes "verdict") (word_of answer) ++ format_if (format_of answer)))
+abbrev pub first_members : List ℕ → Answer → List Member
+first_members path answer =
+    text_members (codes "path") path ++ (number_member (codes "status") (answer_status answer)
+    ++ (string_member (codes "verdict") (answer_word answer) ++ format_if (format_of answer)))
 
 abbrev pub check_json : List ℕ → Answer → Json
-check_json path answer = object_of (head_members path answer ++ about answer)
+check_json path answer = object_of (first_members path answer ++ about answer)

@@ -11,16 +11,17 @@ use Rattle.uimg_fit_checking.specs.declared.surveying.facts.ImageFacts.{ImageFac
 use Rattle.uimg_fit_checking.specs.declared.surveying.facts.ConfigurationFacts.{ConfigurationFacts}
 
 -- whether a set has a name
-abbrev pub has : {Z : Type 0} → BTreeSet (Vec ℕ Z) → List ℕ → Bool
-has names name = list_any (λ known. bytes_eq name known.items) names.keys
+abbrev pub has_name : {Z : Type 0} → BTreeSet (Vec ℕ Z) → List ℕ → Bool
+has_name names name = list_any (λ known. bytes_eq name known.items) names.keys
 
 -- A set has exactly the names of a list.
 abbrev pub HasNames : {Z : Type 0} → BTreeSet (Vec ℕ Z) → List (List ℕ) → Type 0
-HasNames names list = (name : List ℕ) → has names name ≡ list_any (bytes_eq name) list
+HasNames names list = (name : List ℕ) → has_name names name ≡ list_any (bytes_eq name) list
 
 -- A name was added to a set.
 abbrev pub AddsName : {Z W : Type 0} → List ℕ → BTreeSet (Vec ℕ Z) → BTreeSet (Vec ℕ W) → Type 0
-AddsName added old new = (name : List ℕ) → has new name ≡ (bytes_eq name added || has old name)
+AddsName added old new =
+    (name : List ℕ) → has_name new name ≡ (bytes_eq name added || has_name old name)
 
 -- Over an honest source a set has exactly the names of a list, read from its bytes.
 abbrev pub TellsNames : {S Z E : Type 0} → (List ℕ → List (List ℕ)) → Result (BTreeSet (Vec ℕ Z)) E
@@ -33,11 +34,11 @@ abbrev pub is_lost : List (List ℕ) → List ℕ → Bool
 is_lost list name = not (list_any (bytes_eq name) list)
 
 -- the name at a span of a file
-abbrev pub name_in : List ℕ → Span → List ℕ
-name_in file span = slice file span.place span.length
+abbrev pub name_in_span : List ℕ → Span → List ℕ
+name_in_span file span = slice file span.place span.length
 
 abbrev pub image_name_in : List ℕ → ImageFacts → List ℕ
-image_name_in file image = name_in file image.name
+image_name_in file image = name_in_span file image.name
 
 abbrev pub configuration_name_in : List ℕ → ConfigurationFacts → List ℕ
-configuration_name_in file configuration = name_in file configuration.name
+configuration_name_in file configuration = name_in_span file configuration.name

@@ -43,16 +43,16 @@ missing_under names giver property value =
     }) (lost_in names value)
 
 -- the first of two, if there is one
-abbrev pub first_of : Option MissingSaid → Option MissingSaid → Option MissingSaid
-first_of (Some found) later = Some found
-first_of None later = later
+abbrev pub earlier_missing : Option MissingSaid → Option MissingSaid → Option MissingSaid
+earlier_missing (Some found) later = Some found
+earlier_missing None later = later
 
 -- the first in the values of several properties
 abbrev pub missing_among : List (List ℕ) → Option (List ℕ) → List (Reference × Option (List ℕ))
     → Option MissingSaid
 missing_among names giver [] = None
 missing_among names giver (given ∷ more) =
-    first_of (missing_under names giver given.0 given.1) (missing_among names giver more)
+    earlier_missing (missing_under names giver given.0 given.1) (missing_among names giver more)
 
 -- the first name in a configuration that no image has
 abbrev pub missing_of : List (List ℕ) → ConfigurationSaid → Option MissingSaid
@@ -61,12 +61,13 @@ missing_of images c = missing_among images (Some c.name) (given_by c)
 -- the first in several configurations
 abbrev pub first_missing : List (List ℕ) → List ConfigurationSaid → Option MissingSaid
 first_missing images [] = None
-first_missing images (c ∷ cs) = first_of (missing_of images c) (first_missing images cs)
+first_missing images (c ∷ cs) = earlier_missing (missing_of images c) (first_missing images cs)
 
 -- the default, if no configuration has its name, or else the first name that no image has
 abbrev pub missing_in : Said → Option MissingSaid
 missing_in said =
-    first_of (missing_under (map (λ c. c.name) said.configurations) None Default said.preferred)
+    earlier_missing
+    (missing_under (map (λ c. c.name) said.configurations) None Default said.preferred)
     (first_missing (map (λ i. i.name) said.images) said.configurations)
 
 -- a missing name, read in a file
@@ -103,7 +104,7 @@ of_configurations configurations images file =
 
 -- At most `most` bytes were requested; only failed reads, which are counted, and refused memory are
 -- faults. Over an honest source, with the names of a list as set, it finds what is missing.
-pub record FindsBetween {Z : Type 0} (most : ℕ) (said : List (List ℕ) → List ℕ → Option MissingSaid)
+pub record SeeksBetween {Z : Type 0} (most : ℕ) (said : List (List ℕ) → List ℕ → Option MissingSaid)
     (names : BTreeSet (Vec ℕ Z)) (result : Result (Option Missing) SurveyFault) (d e : Device)
     : Type 0 where
   pub uses : Asks most (is_unread result) d e
@@ -111,10 +112,10 @@ pub record FindsBetween {Z : Type 0} (most : ℕ) (said : List (List ℕ) → Li
   pub told : IsTrue d.honest → (list : List (List ℕ)) → HasNames names list
       → TellsMissing d.bytes (said list d.bytes) result
 
-abbrev pub Finds : {S Z : Type 0} → ℕ → (List (List ℕ) → List ℕ → Option MissingSaid)
+abbrev pub Seeks : {S Z : Type 0} → ℕ → (List (List ℕ) → List ℕ → Option MissingSaid)
     → BTreeSet (Vec ℕ Z) → Result (Option Missing) SurveyFault → (S → Device) → Lent S → Type 0
-Finds most said names result device source =
-    FindsBetween most said names result (device source.entry.now) (device source.exit.now)
+Seeks most said names result device source =
+    SeeksBetween most said names result (device source.entry.now) (device source.exit.now)
 
 -- Over an honest source the result is what is missing in a survey.
 abbrev pub TellsFirst : {S : Type 0} → Survey → Result (Option Missing) SurveyFault → (S → Device)

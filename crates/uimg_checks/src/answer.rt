@@ -1,7 +1,7 @@
 //! The result of a check.
 
 ghost use Rattle.std.specs.Prelude.{◌≡◌};
-ghost use Rattle.uimg_checks.specs.Answers.{status_of, exit_status, word_of, found_word, finding_word};
+ghost use Rattle.uimg_checks.specs.Answers.{answer_status, exit_status, answer_word, found_word, finding_word};
 
 use crate::finding::Checked;
 use uimg_base::Status;
@@ -93,7 +93,7 @@ fn exit_status(status: Status) -> u8
 impl<'a> Answer<'a> {
     /// Returns the exit status: 0 if the image is right, 3 if a check failed, else 1.
     pub fn status(&self) -> u8
-        ensures { result ≡ status_of self.now }
+        ensures { result ≡ answer_status self.now }
     {
         match self {
             Answer::Found(found, _) => exit_status(found.status()),
@@ -104,7 +104,7 @@ impl<'a> Answer<'a> {
 
     /// Returns the word of the finding.
     pub fn word(&self) -> &'static str
-        ensures { result.now ≡ word_of self.now }
+        ensures { result.now ≡ answer_word self.now }
     {
         match self {
             Answer::Found(found, _) => found_word(found),

@@ -3,7 +3,7 @@
 ghost use Rattle.std.specs.Prelude.{◌≡◌, true, false, length, IfOk};
 ghost use Rattle.uimg_base.specs.Honest.{HonestSource};
 ghost use Rattle.uimg_requests.specs.declared.command.Form.TheVariants as form;
-ghost use Rattle.uimg_checks.specs.Finding.{ChecksIn, EndsInside, TellsCheck, check_work, stands_by_crc32, status_of};
+ghost use Rattle.uimg_checks.specs.Finding.{ChecksIn, SpansInside, TellsCheck, check_work, stands_by_crc32, status_of};
 ghost use Rattle.uimg_engine.specs.Headline.{OnlyReads};
 
 use std::alloc::Allocator;
@@ -101,7 +101,7 @@ pub fn check<S: Source, A: Allocator>(
     room: &mut Room<A>,
 ) -> Result<Checked<Span>, Fault>
     ensures reads { OnlyReads form.Guess check_work result S.device source room }
-    ensures inside { IfOk result (EndsInside (length (S.device source.old).bytes)) }
+    ensures inside { IfOk result (SpansInside (length (S.device source.old).bytes)) }
     ensures told { HonestSource S.device source →
         TellsCheck need (S.device source.old).bytes result }
 {

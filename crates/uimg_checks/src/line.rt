@@ -4,7 +4,7 @@ ghost use Rattle.std.specs.Prelude.{◌≡◌, ◌++◌, Some, codes, true, IfOk
 ghost use Rattle.std.specs.String.{string_bytes};
 ghost use Rattle.uimg_printing.specs.Printing.{is_shown};
 ghost use Rattle.std.specs.Fmt.{WritesOnOk};
-ghost use Rattle.uimg_checks.specs.Lines.{unchecked_text, nodes_text, some_unchecked, named, named_if, finding_details, found_details, details_of, line_of, own_text};
+ghost use Rattle.uimg_checks.specs.Lines.{unchecked_text, nodes_text, some_unchecked, spaced_name, named_if, finding_details, found_details, details_of, answer_line, own_text};
 
 use crate::answer::Answer;
 use crate::finding::Checked;
@@ -26,7 +26,7 @@ pub struct Line<'a> {
 }
 
 impl<'a> Display for Line<'a> {
-    ghost output = { λ line. Some (line_of line.path.now line.answer) };
+    ghost output = { λ line. Some (answer_line line.path.now line.answer) };
 
     fn fmt<W: Write>(&self, f: &mut Formatter<W>) -> fmt::Result {
         write!(f, "{}: {}", Printed(self.path), self.answer.word())?;
@@ -140,7 +140,7 @@ fn put_unchecked<W: Write>(count: u64, f: &mut Formatter<W>) -> fmt::Result
 
 // Writes a name after a space.
 fn put_named<W: Write>(name: &[u8], f: &mut Formatter<W>) -> fmt::Result
-    ensures { WritesOnOk W.Write.write_str_gives f.old result (named name.now) f.new }
+    ensures { WritesOnOk W.Write.write_str_gives f.old result (spaced_name name.now) f.new }
 {
     write!(f, " {}", Printed(name))
 }
@@ -153,7 +153,7 @@ fn put_missing<W: Write>(
     f: &mut Formatter<W>,
 ) -> fmt::Result
     ensures { WritesOnOk W.Write.write_str_gives f.old result
-        (named_if configuration.entry ++ codes " " ++ property.now ++ named name.now) f.new }
+        (named_if configuration.entry ++ codes " " ++ property.now ++ spaced_name name.now) f.new }
 {
     if let Some(configuration) = configuration {
         put_named(configuration, f)?;
@@ -166,7 +166,7 @@ fn put_missing<W: Write>(
 /// character, whatever the path and the names are, unless the text of a fault has one: so it is one
 /// line. Fails if memory for it is refused.
 pub fn line_text(alloc: Global, path: &[u8], answer: &Answer<'_>) -> Result<String, AllocError>
-    ensures text { IfOk result (λ text. string_bytes text ≡ line_of path.now answer.now) }
+    ensures text { IfOk result (λ text. string_bytes text ≡ answer_line path.now answer.now) }
     ensures shown { is_shown (own_text answer.now) ≡ true →
         IfOk result (λ text. is_shown (string_bytes text) ≡ true) }
 {

@@ -8,7 +8,7 @@ ghost use Rattle.json.specs.Tree.{json_tokens};
 ghost use Rattle.uimg_printing.specs.Members.{tokens_of, string_member, text_members};
 ghost use Rattle.uimg_printing.specs.Objects.{is_one_line};
 ghost use Rattle.uimg_printing.specs.Steps.{Appends};
-ghost use Rattle.uimg_checks.specs.Objects.{name_of, format_if, string_if, name_if, found_format, format_of, stop_members, about_fit, about_found, about, head_members, check_json};
+ghost use Rattle.uimg_checks.specs.Objects.{format_name, format_if, string_if, name_if, found_format, format_of, stop_members, about_fit, about_found, about, first_members, check_json};
 
 use crate::answer::{Answer, Format, Stop};
 use crate::finding::Checked;
@@ -20,7 +20,7 @@ use uimg_printing::{put_number, put_number_if, put_string, put_text};
 impl Format {
     // Returns its name.
     fn name(self) -> &'static str
-        ensures { result.now ≡ name_of self }
+        ensures { result.now ≡ format_name self }
     {
         match self {
             Format::Fit => "fit",
@@ -204,7 +204,7 @@ fn put_head(
     path: &[u8],
     answer: &Answer<'_>,
 ) -> Result<(), AllocError>
-    ensures { Appends result writer.old writer.new (tokens_of (head_members path.now answer.now)) }
+    ensures { Appends result writer.old writer.new (tokens_of (first_members path.now answer.now)) }
 {
     put_text(alloc, writer, "path", path)?;
     put_number(writer, "status", answer.status() as u64)?;

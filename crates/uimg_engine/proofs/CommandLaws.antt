@@ -20,7 +20,7 @@ use Rattle.uimg_engine.specs.declared.fault.Fault.TheVariants.{Legacy, Blob, Fit
 use Rattle.uimg_requests.specs.declared.make_command.MakeCommand.{MakeCommand}
 use Rattle.uimg_requests.specs.declared.make_command.MakeCommand.TheVariants.{Parts, Tree}
 use Rattle.uimg_engine.specs.Faults.{end_of, is_lost_payload, loses_payload, is_keep, is_of_making, is_no_memory, is_no_payload}
-use Rattle.uimg_engine.specs.Making.{timed, Keeps}
+use Rattle.uimg_engine.specs.Making.{timed, KeepsBuilt}
 use Rattle.uimg_engine.specs.MakingTrees.{KeepsTree, only_cleared, for_nodes}
 use Rattle.uimg_engine.specs.Commands.{LacksSource, LacksPayload, LacksFile, OpensToBuild, BuildsCommand, MakesCommandBetween, LeavesRoomBetween, HoldsCommandBetween, listing_of, TakesListing}
 use Rattle.uimg_engine.proofs.MakingLaws.{building_stops, keeping, listing_makes, listing_stops}
@@ -28,7 +28,7 @@ use Rattle.uimg_engine.proofs.TreeListing.{building_stops_tree, keeping_tree, li
 
 -- what is kept
 abbrev KeepsCommand : MakeCommand → ℕ → ℕ → (List ℕ → Option (List ℕ)) → Device → Type 0
-KeepsCommand (Parts options names) time align files kept = Keeps (timed options time) files (map (λ name. name.items) names.items) kept
+KeepsCommand (Parts options names) time align files kept = KeepsBuilt (timed options time) files (map (λ name. name.items) names.items) kept
 KeepsCommand (Tree source placement) time align files kept = KeepsTree files source.items time (aligned_by placement align) kept
 
 -- why an image is not built, where nothing is listed

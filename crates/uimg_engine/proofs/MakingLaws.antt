@@ -23,7 +23,7 @@ use Rattle.uimg_legacy.specs.declared.fault.Fault.{Fault as LegacyEngineFault}
 use Rattle.uimg_legacy.specs.Faults.{is_read as legacy_is_read}
 use Rattle.uimg_engine.specs.Faults.{end_of, unless_memory, is_unread, is_keep, is_no_memory, is_of_making, of_legacy}
 use Rattle.uimg_engine.specs.Headline.{end_as, outcome_as}
-use Rattle.uimg_engine.specs.Making.{HaveParts, Keeps, Makes, Breaks, BuildsNames, StopsMaking}
+use Rattle.uimg_engine.specs.Making.{HaveParts, KeepsBuilt, MakesParts, Breaks, BuildsNames, StopsMaking}
 
 -- names that have parts have files
 pub have_files : (files : List ℕ → Option (List ℕ)) (names parts : List (List ℕ)) → HaveParts files names parts → All (λ name. IsSome (files name)) names
@@ -47,7 +47,7 @@ building_stops X naming options files names Keep image built s never stop = absu
 building_stops X naming options files names OutOfMemory image built s never stop = refl
 
 -- an image that was built on an empty shelf, and kept
-pub keeping : (X : Type 0) (options : Options) (files : List ℕ → Option (List ℕ)) (names : List (List ℕ)) (x : X) (image built : Sink) (kept : Device) → BuildsNames options files names (Ok x) image built → image.contents ≡ Some [] → built.contents ≡ Some kept.bytes → IsTrue kept.honest → Keeps options files names kept
+pub keeping : (X : Type 0) (options : Options) (files : List ℕ → Option (List ℕ)) (names : List (List ℕ)) (x : X) (image built : Sink) (kept : Device) → BuildsNames options files names (Ok x) image built → image.contents ≡ Some [] → built.contents ≡ Some kept.bytes → IsTrue kept.honest → KeepsBuilt options files names kept
 keeping X options files names x image built kept builds empty whole honest =
     record {
       parts = builds.parts;
@@ -66,7 +66,7 @@ all_told Done o s t told = told.1
 all_told NotRight o s t told = told.1
 
 -- what is kept, and then listed
-pub listing_makes : (naming : Naming) (options : Options) (files : List ℕ → Option (List ℕ)) (names : List (List ℕ)) (kept now : Device) (status : Status) (s t : Sink) → Keeps options files names kept → SameDevice kept now → Tells (end_of (Ok status)) (outcome_as Legacy (list_of naming kept.bytes)) s t → Makes naming options files names now s t
+pub listing_makes : (naming : Naming) (options : Options) (files : List ℕ → Option (List ℕ)) (names : List (List ℕ)) (kept now : Device) (status : Status) (s t : Sink) → KeepsBuilt options files names kept → SameDevice kept now → Tells (end_of (Ok status)) (outcome_as Legacy (list_of naming kept.bytes)) s t → MakesParts naming options files names now s t
 listing_makes naming options files names kept now status s t keeps same told =
     let listed = all_told status (outcome_as Legacy (list_of naming kept.bytes)) s t told in
     record {
@@ -92,10 +92,10 @@ no_blob : (b : Bool) (o : Outcome LegacyFault) (f : Fault) (s t : Sink) → o.en
 no_blob true o f s t ends is told = absurd (cc)
 no_blob false o f s t ends is told = not_done o f s t ends told
 
-broken : (naming : Naming) (options : Options) (files : List ℕ → Option (List ℕ)) (names : List (List ℕ)) (kept : Device) (s t : Sink) (keeps : Keeps options files names kept) → AppendsPrefix s t (list_of naming (legacy_built options keeps.parts)).text → Breaks naming options files names s t
+broken : (naming : Naming) (options : Options) (files : List ℕ → Option (List ℕ)) (names : List (List ℕ)) (kept : Device) (s t : Sink) (keeps : KeepsBuilt options files names kept) → AppendsPrefix s t (list_of naming (legacy_built options keeps.parts)).text → Breaks naming options files names s t
 broken naming options files names kept s t keeps prefix = record { parts = keeps.parts; have = keeps.have; prefix = prefix }
 
-listing_stops_by : (naming : Naming) (options : Options) (files : List ℕ → Option (List ℕ)) (names : List (List ℕ)) (kept : Device) (f : Fault) (s t : Sink) (keeps : Keeps options files names kept) → is_of_making {X = Status} (Err f) ≡ false → is_no_memory {X = Status} (Err f) ≡ false → Tells (end_of (Err f)) (outcome_as Legacy (list_of naming (legacy_built options keeps.parts))) s t → StopsMaking naming options files names f s t
+listing_stops_by : (naming : Naming) (options : Options) (files : List ℕ → Option (List ℕ)) (names : List (List ℕ)) (kept : Device) (f : Fault) (s t : Sink) (keeps : KeepsBuilt options files names kept) → is_of_making {X = Status} (Err f) ≡ false → is_no_memory {X = Status} (Err f) ≡ false → Tells (end_of (Err f)) (outcome_as Legacy (list_of naming (legacy_built options keeps.parts))) s t → StopsMaking naming options files names f s t
 listing_stops_by naming options files names kept (Legacy f) s t keeps not no_memory told = absurd (not_done _ _ s t (keeps.image.reads_back.listing naming) told)
 listing_stops_by naming options files names kept (Blob f at) s t keeps not no_memory told = absurd (no_blob (refuses_memory f) _ _ s t (keeps.image.reads_back.listing naming) no_memory told)
 listing_stops_by naming options files names kept (Fit f) s t keeps not no_memory told = absurd (not_done _ _ s t (keeps.image.reads_back.listing naming) told)
@@ -108,7 +108,7 @@ listing_stops_by naming options files names kept Keep s t keeps not no_memory to
 listing_stops_by naming options files names kept OutOfMemory s t keeps not no_memory told = absurd (not_done _ _ s t (keeps.image.reads_back.listing naming) told)
 
 -- why the listing of what was kept stops
-pub listing_stops : (naming : Naming) (options : Options) (files : List ℕ → Option (List ℕ)) (names : List (List ℕ)) (kept : Device) (f : Fault) (s t : Sink) → Keeps options files names kept → is_of_making {X = Status} (Err f) ≡ false → is_no_memory {X = Status} (Err f) ≡ false → Tells (end_of (Err f)) (outcome_as Legacy (list_of naming kept.bytes)) s t → StopsMaking naming options files names f s t
+pub listing_stops : (naming : Naming) (options : Options) (files : List ℕ → Option (List ℕ)) (names : List (List ℕ)) (kept : Device) (f : Fault) (s t : Sink) → KeepsBuilt options files names kept → is_of_making {X = Status} (Err f) ≡ false → is_no_memory {X = Status} (Err f) ≡ false → Tells (end_of (Err f)) (outcome_as Legacy (list_of naming kept.bytes)) s t → StopsMaking naming options files names f s t
 listing_stops naming options files names kept f s t keeps not no_memory told =
     listing_stops_by naming options files names kept f s t keeps not no_memory (subst (λ (image : List ℕ). Tells (end_of (Err f)) (outcome_as Legacy (list_of naming image)) s t) keeps.image.bytes told)
 

@@ -7,7 +7,7 @@ use Rattle.uimg_base.specs.Sink.{Sink, AppendsAll}
 use Rattle.uimg_blob_reading.specs.Plain.{Nodes}
 use Rattle.uimg_blob_writing.specs.Content.{Unread, AreKept, in_full}
 use Rattle.uimg_blob_writing.specs.UsingFiles.{UsesFiles}
-use Rattle.uimg_its.specs.Answers.{is_outside}
+use Rattle.uimg_its.specs.Answers.{is_outside_text}
 use Rattle.uimg_its.specs.Grammar.{Spells}
 use Rattle.uimg_its.specs.Words.{words}
 use Rattle.uimg_its.specs.declared.fault.FaultKind.{FaultKind}
@@ -43,11 +43,11 @@ none_by true P h = tt
 none_by false P h = λ t p. let e : false ≡ true = h t p in absurd (cc)
 
 -- a text that is refused
-pub refused_text : (a b : FileMap) (source text now : List ℕ) (kind : FaultKind) → SameFiles a b → now ≡ text → IsTrue a.honest → a.bytes source ≡ Some text → (IsTrue b.honest → (t : Nodes) → Spells (words now) b.bytes t → IsTrue (is_outside kind)) → RefusesText a.bytes source kind
+pub refused_text : (a b : FileMap) (source text now : List ℕ) (kind : FaultKind) → SameFiles a b → now ≡ text → IsTrue a.honest → a.bytes source ≡ Some text → (IsTrue b.honest → (t : Nodes) → Spells (words now) b.bytes t → IsTrue (is_outside_text kind)) → RefusesText a.bytes source kind
 refused_text a b source text now kind same is honest have accepted =
-    let at_text = subst (λ (bs : List ℕ). (t : Nodes) → Spells (words bs) b.bytes t → IsTrue (is_outside kind)) is (accepted (still_honest same honest)) in
-    let at_files = subst (λ (files : List ℕ → Option (List ℕ)). (t : Nodes) → Spells (words text) files t → IsTrue (is_outside kind)) same.bytes at_text in
-    record { text = text; have = have; none = none_by (is_outside kind) (λ (t : Nodes). Spells (words text) a.bytes t) at_files }
+    let at_text = subst (λ (bs : List ℕ). (t : Nodes) → Spells (words bs) b.bytes t → IsTrue (is_outside_text kind)) is (accepted (still_honest same honest)) in
+    let at_files = subst (λ (files : List ℕ → Option (List ℕ)). (t : Nodes) → Spells (words text) files t → IsTrue (is_outside_text kind)) same.bytes at_text in
+    record { text = text; have = have; none = none_by (is_outside_text kind) (λ (t : Nodes). Spells (words text) a.bytes t) at_files }
 
 -- a tree that is spelled
 pub spelled_tree : (a b : FileMap) (source text now : List ℕ) (t : Unread) → SameFiles a b → now ≡ text → IsTrue a.honest → a.bytes source ≡ Some text → (IsTrue b.honest → Spells (words now) b.bytes (in_full b.bytes t)) → SpellsTree a.bytes source (in_full a.bytes t)

@@ -23,7 +23,7 @@ use Rattle.uimg_requests.specs.declared.make_command.MakeCommand.TheVariants.{Pa
 use Rattle.uimg_engine.specs.Faults.{end_of, is_read, is_put, is_no_memory, is_of_making}
 use Rattle.uimg_engine.specs.Faults.{is_no_text, is_no_payload, refuses_payload, is_unread}
 use Rattle.uimg_engine.specs.Faults.{is_lost_payload, is_keep}
-use Rattle.uimg_engine.specs.Headline.{outcome_in, outcome_of, Takes, Stays}
+use Rattle.uimg_engine.specs.Headline.{outcome_in, outcome_of, TakesTable, Stays}
 use Rattle.uimg_engine.specs.Making.{timed, OpensNames, Lacks, BuildsNames, MakesAnswer}
 use Rattle.uimg_engine.specs.MakingTrees.{BuildsSource, MakesSource, HoldsSource}
 
@@ -149,12 +149,12 @@ listing_of naming (Tree source placement) file =
 
 -- what that listing does to a room
 abbrev pub TakesListing : MakeCommand → Device → Bool → (old new : Held) → Type 0
-TakesListing (Parts options files) kept no_memory old new = Takes false kept no_memory old new
+TakesListing (Parts options files) kept no_memory old new = TakesTable false kept no_memory old new
 TakesListing (Tree source placement) kept no_memory old new = TakesNodes kept no_memory old new
 
 -- What the listing of what was kept does at any exit: the source is unchanged, and each failure was
 -- counted exactly if it is returned; no fault of making is.
-pub record ListsBetween (naming : Naming) (command : MakeCommand) (result : Result Status Fault)
+pub record ListsMadeBetween (naming : Naming) (command : MakeCommand) (result : Result Status Fault)
     (d e : Device) (old new : Held) (s t : Sink) : Type 0 where
   pub uses : Uses (is_read result) d e
   pub room : TakesListing command d (is_no_memory result) old new
@@ -162,9 +162,10 @@ pub record ListsBetween (naming : Naming) (command : MakeCommand) (result : Resu
   pub not_making : is_of_making result ≡ false
   pub told : IsTrue d.honest → Tells (end_of result) (listing_of naming command d.bytes) s t
 
-abbrev pub Lists : {S : Type 0} → Naming → MakeCommand → Result Status Fault → (S → Device) → Lent S
+abbrev pub ListsMade : {S : Type 0} → Naming → MakeCommand → Result Status Fault → (S → Device)
+    → Lent S
     → Lent Held → Lent Sink → Type 0
-Lists naming command result device source room out = ListsBetween naming command result
+ListsMade naming command result device source room out = ListsMadeBetween naming command result
     (device source.entry.now) (device source.exit.now) room.entry.now room.exit.now out.entry.now
     out.exit.now
 

@@ -181,9 +181,10 @@ IsLegacy form.Legacy source = ⊤
 IsLegacy form.Fit source = ⊥
 
 -- What a command does to a room: it takes memory for a table of nodes, or none.
-abbrev pub Takes : Bool → Device → Bool → (old new : Held) → Type 0
-Takes true source no_memory old new = TakesNodes source no_memory old new
-Takes false source no_memory old new = (new ≡ record old { entries = [] }) × (no_memory ≡ false)
+abbrev pub TakesTable : Bool → Device → Bool → (old new : Held) → Type 0
+TakesTable true source no_memory old new = TakesNodes source no_memory old new
+TakesTable false source no_memory old new =
+    (new ≡ record old { entries = [] }) × (no_memory ≡ false)
 
 -- What the engine of a format does at any exit: what it requested and took, what it wrote of the
 -- outcome, and which failures it counted.
@@ -191,7 +192,7 @@ pub record CarriesOutBetween (naming : Naming) (fit : Bool) (what : Action)
     (result : Result Status Fault) (d e : Device) (old new : Held) (s t : Sink) : Type 0 where
   -- the source is unchanged; `Read` is returned exactly if its failures rose
   pub uses : UsesAtMost (work_in fit what d.bytes) (is_read result) d e
-  pub room : Takes fit d (is_no_memory result) old new
+  pub room : TakesTable fit d (is_no_memory result) old new
   -- the bytes that an extraction requested
   pub ahead : IsTrue d.honest
       → ExtractsAheadBetween (work_in fit action.List d.bytes) what
@@ -216,7 +217,7 @@ pub record RunsBetween (naming : Naming) (command : Command) (result : Result St
     (d e : Device) (old new : Held) (s t : Sink) : Type 0 where
   pub uses : UsesAtMost (work command d.bytes) (is_read result) d e
   pub room : TakesNodes d (is_no_memory result) old new
-  pub legacy : IsLegacy command.form d → Takes false d (is_no_memory result) old new
+  pub legacy : IsLegacy command.form d → TakesTable false d (is_no_memory result) old new
   pub ahead : IsTrue d.honest
       → ExtractsAheadBetween (listing_work command.form d.bytes) command.action
       (outcome_of naming command d.bytes) d e s t
@@ -257,7 +258,7 @@ pub record OnlyReadsBetween {X : Type 0} (form : Form) (most : ℕ) (result : Re
   -- `OutOfMemory` of the blob is returned exactly if the refusals of the room rose
   pub room : TakesNodes d (is_no_memory result) old new
   -- no memory is taken for a legacy image
-  pub legacy : IsLegacy form d → Takes false d (is_no_memory result) old new
+  pub legacy : IsLegacy form d → TakesTable false d (is_no_memory result) old new
   -- `Put` is never returned
   pub no_put : is_put result ≡ false
   -- a fault of making is never returned

@@ -13,18 +13,18 @@ use Rattle.uimg_requests.specs.declared.command.Action.TheVariants as action
 use Rattle.uimg_requests.specs.declared.command.Form.{Form}
 use Rattle.uimg_engine.specs.declared.fault.Fault.{Fault}
 use Rattle.uimg_engine.specs.Faults.{is_read, is_put, is_no_memory, is_of_making, end_of}
-use Rattle.uimg_engine.specs.Headline.{outcome_in, outcome_of, work_in, Takes}
+use Rattle.uimg_engine.specs.Headline.{outcome_in, outcome_of, work_in, TakesTable}
 
 -- the end of an extraction that a result means, unless a device failed or memory was refused
-abbrev pub ends : Result Span Fault → Option (End Fault)
-ends (Ok span) = Some done
-ends (Err fault) = end_of (Err fault)
+abbrev pub located_end : Result Span Fault → Option (End Fault)
+located_end (Ok span) = Some done
+located_end (Err fault) = end_of (Err fault)
 
 -- An extraction with this outcome writes just the bytes of the returned span, or ends with the
 -- returned fault.
 pub record TellsSpan (file : List ℕ) (o : Outcome Fault) (result : Result Span Fault) : Type 0 where
   -- its end, unless a read failed or memory was refused
-  pub end : IfSome (ends result) (λ e. o.end ≡ e)
+  pub end : IfSome (located_end result) (λ e. o.end ≡ e)
   -- just the bytes that the extraction writes
   pub text : IfOk result (λ span. o.text ≡ slice file span.place span.length)
 
@@ -43,7 +43,7 @@ StandsIn file span = span.place + span.length ≤ length file
 pub record LocatesBetween (fit : Bool) (position : ℕ) (result : Result Span Fault) (d e : Device)
     (old new : Held) : Type 0 where
   pub uses : UsesAtMost (work_in fit action.List d.bytes) (is_read result) d e
-  pub room : Takes fit d (is_no_memory result) old new
+  pub room : TakesTable fit d (is_no_memory result) old new
   pub no_put : is_put result ≡ false
   pub not_making : is_of_making result ≡ false
   pub inside : IfOk result (StandsIn d.bytes)

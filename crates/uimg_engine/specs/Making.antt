@@ -38,14 +38,16 @@ pub record Misses (files : List ℕ → Option (List ℕ)) (names : List (List �
   pub before : All (λ name. IsSome (files name)) (take i names)
 
 -- The parts of the names are refused.
-pub record Refuses (options : Options) (files : List ℕ → Option (List ℕ)) (names : List (List ℕ))
+pub record RefusesParts (options : Options) (files : List ℕ → Option (List ℕ))
+    (names : List (List ℕ))
     (fault : LegacyFault) : Type 0 where
   pub parts : List (List ℕ)
   pub have : HaveParts files names parts
   pub refused : data_to_build options.kind parts ≡ Err fault
 
 -- The names have parts that an image can be built from.
-pub record Accepts (options : Options) (files : List ℕ → Option (List ℕ)) (names : List (List ℕ))
+pub record AcceptsParts (options : Options) (files : List ℕ → Option (List ℕ))
+    (names : List (List ℕ))
     : Type 0 where
   pub parts : List (List ℕ)
   pub have : HaveParts files names parts
@@ -65,17 +67,17 @@ pub record KeepsImage (options : Options) (parts : List (List ℕ)) (kept : Devi
   pub reads_back : ReadsBack (legacy_built options parts) parts
 
 -- The image of the names' parts is kept, and reads back.
-pub record Keeps (options : Options) (files : List ℕ → Option (List ℕ)) (names : List (List ℕ))
+pub record KeepsBuilt (options : Options) (files : List ℕ → Option (List ℕ)) (names : List (List ℕ))
     (kept : Device) : Type 0 where
   pub parts : List (List ℕ)
   pub have : HaveParts files names parts
   pub image : KeepsImage options parts kept
 
 -- The image of the names' parts is kept, and its whole listing was appended, with no fault.
-pub record Makes (naming : Naming) (options : Options) (files : List ℕ → Option (List ℕ))
+pub record MakesParts (naming : Naming) (options : Options) (files : List ℕ → Option (List ℕ))
     (names : List (List ℕ)) (kept : Device) (s t : Sink) : Type 0 where
   -- the source that is kept is honest, and has the bytes of `legacy_built`
-  pub keeps : Keeps options files names kept
+  pub keeps : KeepsBuilt options files names kept
   -- exactly its listing was appended
   pub listed : AppendsAll s t (list_of naming (legacy_built options keeps.parts)).text
   pub done : (list_of naming (legacy_built options keeps.parts)).end ≡ done
@@ -130,22 +132,22 @@ BuildsNames options files names result s t = BuildsThese options files names res
 abbrev pub StopsMaking : Naming → Options → (List ℕ → Option (List ℕ)) → List (List ℕ) → Fault
     → Sink → Sink → Type 0
 StopsMaking naming options files names (Legacy fault) s t =
-    Refuses options files names fault × (t ≡ s)
+    RefusesParts options files names fault × (t ≡ s)
 StopsMaking naming options files names (Blob fault at) s t = ⊥
 StopsMaking naming options files names (Fit fault) s t = ⊥
 StopsMaking naming options files names (Its fault) s t = ⊥
 StopsMaking naming options files names Read s t = Breaks naming options files names s t
 StopsMaking naming options files names Put s t =
-    Accepts options files names × Breaks naming options files names s t
+    AcceptsParts options files names × Breaks naming options files names s t
 StopsMaking naming options files names (NoFile i) s t = Misses files names i × (t ≡ s)
-StopsMaking naming options files names Keep s t = Accepts options files names × (t ≡ s)
+StopsMaking naming options files names Keep s t = AcceptsParts options files names × (t ≡ s)
 StopsMaking naming options files names OutOfMemory s t = t ≡ s
 
 -- The result is the kept image, with its listing appended, or a fault of making it.
 abbrev pub MakesAnswer : {K : Type 0} → (K → Device) → Naming → Options → (List ℕ → Option (List ℕ))
     → List (List ℕ) → Result K Fault → Sink → Sink → Type 0
 MakesAnswer device naming options files names (Ok kept) s t =
-    Makes naming options files names (device kept) s t
+    MakesParts naming options files names (device kept) s t
 MakesAnswer device naming options files names (Err fault) s t =
     StopsMaking naming options files names fault s t
 

@@ -11,7 +11,7 @@ use Rattle.uimg_blob_reading.specs.Faults.{refuses_memory}
 use Rattle.uimg_blob_reading.specs.Plain.{Nodes}
 use Rattle.uimg_blob_reading.specs.declared.fault.BlobFault.{BlobFault}
 use Rattle.uimg_blob_writing.specs.Content.{Unread, AreKept, in_full}
-use Rattle.uimg_its.specs.Answers.{is_outside}
+use Rattle.uimg_its.specs.Answers.{is_outside_text}
 use Rattle.uimg_its.specs.Grammar.{Spells}
 use Rattle.uimg_its.specs.Words.{words}
 use Rattle.uimg_its.specs.declared.fault.FaultKind.{FaultKind}
@@ -45,7 +45,7 @@ pub record RefusesText (files : List ℕ → Option (List ℕ)) (source : List �
   pub text : List ℕ
   pub have : files source ≡ Some text
   -- of I5, I6 and I7 nothing is claimed
-  pub none : OnFalse (is_outside kind) ((t : Nodes) → Spells (words text) files t → ⊥)
+  pub none : OnFalse (is_outside_text kind) ((t : Nodes) → Spells (words text) files t → ⊥)
 
 -- A tree is the spelled one, filled at a time.
 pub record FillsTree (files : List ℕ → Option (List ℕ)) (source : List ℕ) (time : ℕ) (u : Nodes)
@@ -107,12 +107,12 @@ pub data StopsAtRead (files : List ℕ → Option (List ℕ)) (source : List ℕ
       → StopsAtRead files source time placement s t
 
 -- What the result says of the bytes of the source, if it exists: all of them, or why not.
-abbrev pub ReadsText : {X : Type 0} → (X → List ℕ) → Option (List ℕ) → Result X Fault → Type 0
-ReadsText view bytes (Ok x) = bytes ≡ Some (view x)
-ReadsText view bytes (Err Read) = IsSome bytes
-ReadsText view bytes (Err (NoFile i)) = i ≡ 0
-ReadsText view bytes (Err OutOfMemory) = ⊤
-ReadsText view bytes (Err _) = ⊥
+abbrev pub ReadsSourceText : {X : Type 0} → (X → List ℕ) → Option (List ℕ) → Result X Fault → Type 0
+ReadsSourceText view bytes (Ok x) = bytes ≡ Some (view x)
+ReadsSourceText view bytes (Err Read) = IsSome bytes
+ReadsSourceText view bytes (Err (NoFile i)) = i ≡ 0
+ReadsSourceText view bytes (Err OutOfMemory) = ⊤
+ReadsSourceText view bytes (Err _) = ⊥
 
 -- What the result says of the source: the filled tree, or why there is none.
 abbrev pub ReadsTree : {X : Type 0} → (X → Unread) → (List ℕ → Option (List ℕ)) → List ℕ → ℕ

@@ -1,5 +1,5 @@
 //! The listing of an image that was made.
-ghost use Rattle.uimg_engine.specs.Commands.{Lists};
+ghost use Rattle.uimg_engine.specs.Commands.{ListsMade};
 
 use crate::engine::{run_by, run_legacy};
 use crate::fault::Fault;
@@ -18,7 +18,7 @@ pub(crate) fn list_kept<S: Source, A: Allocator, W: Write>(
     room: &mut Room<A>,
     out: &mut Out<W>,
 ) -> Result<Status, Fault>
-    ensures { Lists naming command.now result S.device kept room out }
+    ensures { ListsMade naming command.now result S.device kept room out }
 {
     match command {
         MakeCommand::Parts { .. } => run_legacy(naming, Action::List, kept, room, out),

@@ -6,7 +6,7 @@ ghost use Rattle.uimg_blob_writing.specs.UsingFiles.{UsesFiles};
 ghost use Rattle.uimg_engine.specs.Faults.{LosesNothing, is_unread, is_lost_payload, is_put, is_keep, is_no_file, is_no_text, is_no_payload};
 ghost use Rattle.uimg_engine.specs.Commands.{HonestFiles, LacksSource, OpensSource};
 ghost use Rattle.uimg_engine.specs.Making.{WritesImage};
-ghost use Rattle.uimg_engine.specs.MakingTrees.{ReadsText, ReadsTree, BuildsSource};
+ghost use Rattle.uimg_engine.specs.MakingTrees.{ReadsSourceText, ReadsTree, BuildsSource};
 
 use crate::fault::Fault;
 use std::alloc::Allocator;
@@ -20,7 +20,7 @@ use uimg_its::compile;
 // Reads all bytes of a source.
 fn whole_text<S: Source, A: Allocator>(alloc: A, source: &mut S) -> Result<Vec<u8, A>, Fault>
     ensures text { HonestSource S.device source →
-        ReadsText (λ text. text.items) (Some (S.device source.old).bytes) result }
+        ReadsSourceText (λ text. text.items) (Some (S.device source.old).bytes) result }
     ensures steady { IsTrue S.steady → is_unread result ≡ false }
     ensures only_reads { (is_put result ≡ false) × (is_keep result ≡ false)
         × (is_no_file result ≡ false) × (is_no_text result ≡ false)
@@ -46,7 +46,7 @@ fn read_text<F: Files, A: Allocator>(
     ensures missing { IsTrue (F.map files.old).complete →
         IfErr result (LacksSource (F.map files.old).bytes name.now) }
     ensures text { HonestFiles F.map files →
-        ReadsText (λ text. text.items) ((F.map files.old).bytes name.now) result }
+        ReadsSourceText (λ text. text.items) ((F.map files.old).bytes name.now) result }
     ensures steady { IsTrue F.Opened.steady → is_unread result ≡ false }
     ensures only_opens { (is_put result ≡ false) × (is_keep result ≡ false)
         × (is_no_text result ≡ is_no_file result) × (is_no_payload result ≡ false)

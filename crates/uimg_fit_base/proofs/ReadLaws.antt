@@ -12,7 +12,7 @@ use Rattle.uimg_base.specs.Results.{◌>>=◌}
 use Rattle.uimg_blob_reading.specs.declared.fault.BlobFault.{BlobFault}
 use Rattle.uimg_blob_reading.specs.declared.fault.BlobFault.TheVariants.{TooShort, BadMagic, BadVersion, BlockOutside, BadNodeName, Truncated, BadPropertyName, BadToken}
 use Rattle.uimg_blob_reading.specs.Reading.{Fault}
-use Rattle.uimg_blob_reading.specs.Tokens.{Property, Token, Blocks, begin_node, end_node, prop, nop, last, stray, reach, node_name, named, property, token_at, next, tokens_from, tokens}
+use Rattle.uimg_blob_reading.specs.Tokens.{Property, Token, Blocks, begin_node, end_node, prop, nop, last, stray, reach, node_name, property_with_name, property_at, token_at, next, tokens_from, tokens}
 use Rattle.uimg_blob_reading.specs.Grammar.{Siblings, none, node, properties, end, inside, children, ended, root, without_nops}
 use Rattle.uimg_blob_reading.specs.Blob.{magic, ends_outside, blocks_named, blocks, tree}
 use Rattle.uimg_blob_reading.proofs.PhaseLaws.{some_none, some_some}
@@ -100,19 +100,19 @@ module _ (file : List ℕ) where
         here = ap (λ (k : ℕ). slice file at k) len;
       }
 
-  named-lies : (o : Option (List ℕ)) (at n : ℕ) → at + n ≤ length file → IfOk (named o at (slice file at n)) (ValueLies file)
+  named-lies : (o : Option (List ℕ)) (at n : ℕ) → at + n ≤ length file → IfOk (property_with_name o at (slice file at n)) (ValueLies file)
   named-lies None at n h = tt
   named-lies (Some name) at n h = part-lies name at n h
 
   last-step : (b1 b2 b3 : Bool) (f1 f2 : BlobFault) (o : Option (List ℕ)) (at n : ℕ) → (b2 ≡ false → at + n ≤ length file)
-      → IfOk (if b1 then Err f1 else if b2 then Err f2 else if b3 then named o at (slice file at n) else Err BadPropertyName) (ValueLies file)
+      → IfOk (if b1 then Err f1 else if b2 then Err f2 else if b3 then property_with_name o at (slice file at n) else Err BadPropertyName) (ValueLies file)
   last-step true b2 b3 f1 f2 o at n h = tt
   last-step false true b3 f1 f2 o at n h = tt
   last-step false false true f1 f2 o at n h = named-lies o at n (h refl)
   last-step false false false f1 f2 o at n h = tt
 
   property-lies : (structure structure_end strings strings_size : ℕ) → structure_end ≤ length file → (at : ℕ)
-      → IfOk (property (record { bytes = file; structure = structure; structure_end = structure_end; strings = strings; strings_size = strings_size }) at) (ValueLies file)
+      → IfOk (property_at (record { bytes = file; structure = structure; structure_end = structure_end; strings = strings; strings_size = strings_size }) at) (ValueLies file)
   property-lies structure structure_end strings strings_size within at =
       last-step _ _ _ _ _ _ (at + 12) (be32 file (at + 4))
       (λ e. let ends : at + 12 + be32 file (at + 4) ≤ structure_end = ltb-false _ _ e in omega (arith, ends, within))

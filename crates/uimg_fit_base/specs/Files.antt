@@ -52,12 +52,12 @@ unfoldable pub number : List ℕ → Option ℕ
 number value = if length value == 4 then Some (from_be_bytes w32 value) else None
 
 -- the bytes of the first property of a name
-abbrev pub bytes_of : List (NamedOf Spot) → List ℕ → Option (List ℕ)
-bytes_of own key = option_map (λ s. s.bytes) (first own key)
+abbrev pub value_bytes : List (NamedOf Spot) → List ℕ → Option (List ℕ)
+value_bytes own key = option_map (λ s. s.bytes) (first own key)
 
 -- the number in the first property of a name; a value of another length than 4 counts as missing
 abbrev pub cell : List (NamedOf Spot) → List ℕ → Option ℕ
-cell own key = option_and_then number (bytes_of own key)
+cell own key = option_and_then number (value_bytes own key)
 
 -- the bytes at a span of a file
 abbrev pub bytes_in : List ℕ → Option Span → Option (List ℕ)

@@ -17,7 +17,7 @@ use Rattle.uimg_fit_base.specs.declared.fault.FitFault.{FitFault}
 use Rattle.uimg_fit_base.specs.declared.verdicts.Verdict.{Verdict}
 use Rattle.uimg_fit_base.specs.declared.verdicts.Verdict.TheVariants.{Malformed, Unsupported, Right}
 use Rattle.uimg_fit_base.specs.declared.verdicts.Verdict.TheVariants.{Wrong}
-use Rattle.uimg_fit_base.specs.Files.{images_of, bytes_of}
+use Rattle.uimg_fit_base.specs.Files.{images_of, value_bytes}
 use Rattle.uimg_fit_base.specs.Places.{payload}
 
 -- the text of a word
@@ -61,18 +61,18 @@ by_name None value message = Malformed
 by_name (Some name) value message = by_algo (algo_named name) value message
 
 -- the name of a hash node's algorithm
-abbrev pub algo_of : NodeOf Spot → Option (List ℕ)
-algo_of hash = option_map text (bytes_of hash.own (codes "algo"))
+abbrev pub algo_name_of : NodeOf Spot → Option (List ℕ)
+algo_name_of hash = option_map text (value_bytes hash.own (codes "algo"))
 
 -- the word of a hash node
 abbrev pub word_of : List ℕ → NodeOf Spot → Verdict
-word_of message hash = by_name (algo_of hash) (bytes_of hash.own (codes "value")) message
+word_of message hash = by_name (algo_name_of hash) (value_bytes hash.own (codes "value")) message
 
 -- `<image> <hash> <algo> <word>`; `-` replaces a missing algorithm
 abbrev pub hash_line : List ℕ → List ℕ → NodeOf Spot → List ℕ
 hash_line name message hash =
     line (name ++ codes " " ++ hash.name ++ codes " "
-    ++ option_map_or (λ n. n) (algo_of hash) (codes "-") ++ codes " "
+    ++ option_map_or (λ n. n) (algo_name_of hash) (codes "-") ++ codes " "
     ++ word_text (word_of message hash))
 
 -- the lines of an image's hash nodes, or the one line of an image without any

@@ -9,7 +9,7 @@ use Rattle.uimg_fit_base.specs.declared.algo_sets.AlgoSet.{AlgoSet}
 use Rattle.uimg_fit_base.specs.AlgoSets.{has, marked}
 use Rattle.uimg_fit_base.proofs.AlgoSetLaws.{marked-has, marked-keeps}
 use Rattle.uimg_fit_building.specs.Filling.{algo_by}
-use Rattle.uimg_fit_building.specs.PayloadSums.{in_memory, all_marked, IsCovered}
+use Rattle.uimg_fit_building.specs.PayloadSums.{in_memory, all_marked, CoversHash}
 
 -- the algorithms of hash nodes that are all known are in use
 abbrev Includes : AlgoSet → AlgoSet → Type 0
@@ -17,7 +17,7 @@ Includes old new = (a : Algo) → has old a ≡ true → has new a ≡ true
 
 pub record Marks (old new : AlgoSet) (hs : List (NodeOf Content)) : Type 0 where
   pub includes : Includes old new
-  pub covered : AllByRecursion (IsCovered new) hs
+  pub covered : AllByRecursion (CoversHash new) hs
   pub known : list_all (λ h. is_some (algo_by in_memory h.own)) hs ≡ true
 
 known-step : (o : Option Algo) (b : Bool) → is_some o ≡ true → b ≡ true → cond (is_some o) b false ≡ true

@@ -6,7 +6,7 @@ use Rattle.std.proofs.lemmas.Bool.{le-ltb, ltb-false, ltb-true}
 use Rattle.std.proofs.lemmas.List.{length-replicate}
 use Rattle.uimg_blob_reading.specs.Plain.{with_value}
 use Rattle.uimg_blob_reading.specs.LookUps.{NodeOf, first, images}
-use Rattle.uimg_blob_writing.specs.Content.{Content, Unread, IsKept, AreKept, bytes_in, size_of, in_full}
+use Rattle.uimg_blob_writing.specs.Content.{Content, Unread, IsKept, AreKept, content_bytes, size_of, in_full}
 use Rattle.uimg_blob_writing.specs.Alignment.{padding_by, padded_by}
 use Rattle.uimg_blob_writing.proofs.AlignmentLaws.{aligned-none}
 use Rattle.uimg_blob_writing.proofs.SizeLaws.{kept-size}
@@ -24,7 +24,7 @@ use Rattle.uimg_fit_building.proofs.UnreadLaws.{padded-same}
 
 module _ (files : List ℕ → Option (List ℕ)) (align : ℕ) where
   abbrev read : Content → List ℕ
-  read = bytes_in files
+  read = content_bytes files
 
   abbrev kept_node : NodeOf Content → Type 0
   kept_node i = NodeHas (IsKept files) i
@@ -103,7 +103,7 @@ module _ (files : List ℕ → Option (List ℕ)) where
 
   -- what is written behind the blob of a tree
   pub behind-joined : (size : ℕ) (t : Unread) (placement : AlignedPlacement) → AreKept files t → length (placed_blob (in_full files t) placement) ≡ size
-      → flat_map (bytes_in files) (behind_pieces size t placement) ≡ behind (in_full files t) placement
+      → flat_map (content_bytes files) (behind_pieces size t placement) ≡ behind (in_full files t) placement
   behind-joined size t Inside kept is = refl
   behind-joined size t (After align) kept is = payloads-joined files align t kept
   behind-joined size t (At p align) kept is =

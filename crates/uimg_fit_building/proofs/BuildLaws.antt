@@ -10,7 +10,7 @@ use Rattle.uimg_blob_reading.specs.declared.fault.BlobFault.TheVariants as blob
 use Rattle.uimg_blob_reading.specs.Plain.{NamedOf, NodesOf, no_node, a_node}
 use Rattle.uimg_blob_writing.specs.declared.fault.TreeFault.{TreeFault}
 use Rattle.uimg_blob_writing.specs.declared.fault.TreeFault.TheVariants as tree
-use Rattle.uimg_blob_writing.specs.Content.{Unread, AreKept, IsKept, bytes_in, in_full}
+use Rattle.uimg_blob_writing.specs.Content.{Unread, AreKept, IsKept, content_bytes, in_full}
 use Rattle.uimg_blob_writing.specs.Encoding.{encode_by}
 use Rattle.uimg_blob_writing.specs.Layouts.{Plan, plan_of, totalsize}
 use Rattle.uimg_blob_writing.specs.Measured.{is_name, bad_property, bad_name, measured_with, measured, Measures}
@@ -113,7 +113,7 @@ measured-err align t blob.OutOfMemory e = tt
 -- a tree that is placed and one whose files are read, of the same tree
 module _ (t : Unread) (placement : AlignedPlacement) where
   names : (files : List ℕ → Option (List ℕ)) → bad_name (moved_unread t placement) ≡ bad_name (in_full files t)
-  names files = placed-names t placement ∙ sym (name-values (bytes_in files) t)
+  names files = placed-names t placement ∙ sym (name-values (content_bytes files) t)
 
   pub placed-kept : (files : List ℕ → Option (List ℕ)) → AreKept files t → AreKept files (moved_unread t placement)
   placed-kept files kept = placed-values (IsKept files) (λ b. tt) t placement kept

@@ -13,7 +13,7 @@ use Rattle.uimg_fit_base.specs.declared.fault.FitFault.{FitFault}
 use Rattle.uimg_fit_base.specs.declared.fault.FitFault.TheVariants.{NoData, UnknownAlgo}
 use Rattle.uimg_blob_reading.specs.LookUps.{NodeOf, listed, first, images, hashes}
 use Rattle.uimg_fit_building.specs.Filling.{with, external_names, without_external, each, algo_in, hashed, filled_image, filled, IsDigest, IsFilledImage, IsFilled}
-use Rattle.uimg_fit_building.specs.Refusing.{image_fault, first_fault, fault_of, fill_from, fill_of}
+use Rattle.uimg_fit_building.specs.Refusing.{image_fault, first_fault, filling_fault, fill_from, fill_of}
 use Rattle.uimg_fit_building.proofs.MovedLaws.{node_in, find-in_first}
 use Rattle.uimg_fit_building.proofs.WithLaws.{first-set, first-other, value-step}
 
@@ -131,7 +131,7 @@ images-of-filled time (a_node name own below after) =
     ap (λ (o : Option (NodeOf (List ℕ))). option_map (λ (c : NodeOf (List ℕ)). listed c.below) o) (find-in_first (codes "images") (each filled_image) below)
     ∙ below-each (find (λ c. bytes_eq (codes "images") c.name) (listed below))
 
-filled-from : (u : Nodes) (o : Option (List (NodeOf (List ℕ)))) → fault_of o ≡ None → images u ≡ option_map (λ (l : List (NodeOf (List ℕ))). map filled_image l) o → IsFilled u
+filled-from : (u : Nodes) (o : Option (List (NodeOf (List ℕ)))) → filling_fault o ≡ None → images u ≡ option_map (λ (l : List (NodeOf (List ℕ))). map filled_image l) o → IsFilled u
 filled-from u None ok are = absurd (cc)
 filled-from u (Some l) ok are = record { found = map filled_image l; are_images = are; each_filled = images-filled l ok }
 
@@ -142,5 +142,5 @@ no-fault (Some f) t u h = absurd (cc)
 -- what is filled without a fault is filled
 pub fill-filled : (time : ℕ) (t u : Nodes) → fill_of time t ≡ Ok u → IsFilled u
 fill-filled time t u h =
-    let s = no-fault (fault_of (images t)) (filled time t) u h in
+    let s = no-fault (filling_fault (images t)) (filled time t) u h in
     subst (λ (v : Nodes). IsFilled v) s.1 (filled-from (filled time t) (images t) s.0 (images-of-filled time t))

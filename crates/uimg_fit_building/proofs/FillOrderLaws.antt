@@ -15,7 +15,7 @@ use Rattle.uimg_fit_base.specs.declared.fault.FitFault.TheVariants.{NoImages, No
 use Rattle.uimg_fit_building.specs.Behind.{entry}
 use Rattle.uimg_fit_building.specs.FillAnswers.{opens_no_file, fails_to_read}
 use Rattle.uimg_fit_building.specs.ImageFillings.{fault_in_memory, IsKeptImage, StopsAtImage, FillsHashes}
-use Rattle.uimg_fit_building.specs.FillOrder.{CanBeRead, IsPassed, StopsAtFileOf, IsRefused, FillsNext, StopsInOrder, FillsInOrder}
+use Rattle.uimg_fit_building.specs.FillOrder.{CanBeRead, IsPassed, StopsAtFileOf, IsImageRefused, FillsNext, StopsInOrder, FillsInOrder}
 use Rattle.uimg_fit_building.proofs.ImageFillLaws.{sound-of, stops-image}
 use Rattle.uimg_fit_building.proofs.ImagesFillLaws.{split-at}
 
@@ -66,7 +66,7 @@ module _ (old new : FileMap) (same : SameFiles old new) (steady : Bool) (image :
     unread = λ alone kept. s.unread (subst (λ (b : Bool). IsTrue b) (sym is) alone) (subst (λ (b : List ℕ → Option (List ℕ)). IsKeptImage b image) (sym same.bytes) kept);
   }
 
-  pub refused-before : (fault : FitFault) → IsRefused new steady image fault → IsRefused old steady image fault
+  pub refused-before : (fault : FitFault) → IsImageRefused new steady image fault → IsImageRefused old steady image fault
   refused-before NoImages h = h
   refused-before NoData h = h
   refused-before DataOutside h = h
@@ -96,7 +96,7 @@ module _ {A : Type 0} (files : FileMap) (steady : Bool) (ns : List (Node A)) (i 
   abbrev at : NodeOf Content
   at = entry (get_or ns i d)
 
-  stops-here : (fault : FitFault) → IsRefused files steady at fault → StopsInOrder files steady (Some (map entry ns)) fault
+  stops-here : (fault : FitFault) → IsImageRefused files steady at fault → StopsInOrder files steady (Some (map entry ns)) fault
   stops-here fault h = record {
     before = map entry (take i ns);
     image = at;
@@ -106,7 +106,7 @@ module _ {A : Type 0} (files : FileMap) (steady : Bool) (ns : List (Node A)) (i 
     refused = h;
   }
 
-  pub order-refused : (X : Type 0) (fault : FitFault) → IsRefused files steady at fault → FillsInOrder {X = X} files steady (Some (map entry ns)) (Err fault)
+  pub order-refused : (X : Type 0) (fault : FitFault) → IsImageRefused files steady at fault → FillsInOrder {X = X} files steady (Some (map entry ns)) (Err fault)
   order-refused X NoImages h = absurd h
   order-refused X NoData h = stops-here NoData h
   order-refused X DataOutside h = absurd h

@@ -7,7 +7,7 @@ use Rattle.uimg_blob_reading.specs.Roles.{is_hash}
 use Rattle.uimg_blob_reading.specs.Plain.{NamedOf, Nodes, no_node, a_node}
 use Rattle.uimg_blob_reading.specs.LookUps.{NodeOf, listed, first, images}
 use Rattle.uimg_blob_writing.specs.declared.tree.Node.{Node}
-use Rattle.uimg_blob_writing.specs.Content.{Content, Unread, bytes, bytes_in, in_full, IsKept, AreKept, FilesAtData}
+use Rattle.uimg_blob_writing.specs.Content.{Content, Unread, bytes, content_bytes, in_full, IsKept, AreKept, FilesAtData}
 use Rattle.uimg_blob_writing.specs.Trees.{siblings}
 use Rattle.uimg_blob_writing.specs.Encoding.{word}
 use Rattle.uimg_fit_building.specs.Behind.{entry}
@@ -17,7 +17,7 @@ use Rattle.uimg_fit_building.specs.FillAnswers.{node_in_full, Fills, StopsAtFile
 use Rattle.uimg_fit_building.specs.Filling.{each, in_first, with, filled, filled_image_by, algo_by}
 use Rattle.uimg_fit_building.specs.ImageFillings.{filled_over, fault_in_memory, first_in_memory, StopsAmong, FillsImages, FillsParent, IsKeptImage, images_among, fault_among, StopsBelow, FillsBelow}
 use Rattle.uimg_fit_building.specs.PayloadSums.{no_files, in_memory}
-use Rattle.uimg_fit_building.specs.Refusing.{image_fault, first_fault, fault_of, fill_from, fill_of}
+use Rattle.uimg_fit_building.specs.Refusing.{image_fault, first_fault, filling_fault, fill_from, fill_of}
 use Rattle.uimg_fit_building.specs.UnreadTrees.{filled_unread}
 use Rattle.uimg_fit_building.proofs.FillLaw.{fill-filled}
 use Rattle.uimg_fit_building.proofs.FillUnreadLaws.{filled-read}
@@ -182,7 +182,7 @@ images-at t at = below-at (find (λ c. bytes_eq (codes "images") c.name) (listed
 
 module _ (files : List ℕ → Option (List ℕ)) where
   abbrev read : Content → List ℕ
-  read = bytes_in files
+  read = content_bytes files
 
   -- what filling decides is in memory
   known-step : (b : Bool) (h : NodeOf Content) (hs : List (NodeOf Content)) → algo_by in_memory h.own ≡ algo_by read h.own
@@ -213,7 +213,7 @@ module _ (files : List ℕ → Option (List ℕ)) where
       ap (λ (o : Option FitFault). option_or o (first_in_memory is)) (fault-same i at.0)
       ∙ ap (λ (o : Option FitFault). option_or (image_fault (node_in_full files i)) o) (faults-same is at.1)
 
-  among-same : (o : Option (List (NodeOf Content))) → IfSome o (AllByRecursion AtData) → fault_among o ≡ fault_of (option_map (λ (l : List (NodeOf Content)). map (node_in_full files) l) o)
+  among-same : (o : Option (List (NodeOf Content))) → IfSome o (AllByRecursion AtData) → fault_among o ≡ filling_fault (option_map (λ (l : List (NodeOf Content)). map (node_in_full files) l) o)
   among-same None at = refl
   among-same (Some is) at = faults-same is at
 
@@ -247,9 +247,9 @@ module _ (files : List ℕ → Option (List ℕ)) where
     kept-below kept =
         weaker-in (NodeHas (IsKept files)) (IsKeptImage files) (λ n h. first-has (IsKept files) n.own (codes "data") h.0) (images_among below) (images-has (IsKept files) t kept)
 
-    told-fault : FilesAtData t → fault_among (images_among below) ≡ fault_of (images (in_full files t))
+    told-fault : FilesAtData t → fault_among (images_among below) ≡ filling_fault (images (in_full files t))
     told-fault at =
-        among-same (images_among below) (images-at below at.1) ∙ sym (ap fault_of (images-with read t))
+        among-same (images_among below) (images-at below at.1) ∙ sym (ap filling_fault (images-with read t))
 
     pub told-filled : (time : ℕ) (more : List (NamedOf Content)) (new : Unread) → FilesAtData t → AreKept files t → more ≡ with (codes "timestamp") (bytes (word time)) own
         → fault_among (images_among below) ≡ None → new ≡ in_first (codes "images") (each (filled_over files)) below → Fills files time t (a_node name more new no_node)

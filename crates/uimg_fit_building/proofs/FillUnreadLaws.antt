@@ -10,7 +10,7 @@ use Rattle.uimg_blob_reading.specs.Roles.{is_hash}
 use Rattle.uimg_blob_reading.specs.Plain.{NamedOf, Named, Nodes, no_node, a_node, with_value, with_values}
 use Rattle.uimg_blob_reading.specs.LookUps.{NodeOf, first}
 use Rattle.uimg_blob_writing.specs.Encoding.{word}
-use Rattle.uimg_blob_writing.specs.Content.{Content, Unread, bytes, bytes_in}
+use Rattle.uimg_blob_writing.specs.Content.{Content, Unread, bytes, content_bytes}
 use Rattle.uimg_fit_building.specs.Filling.{with, external_names, without_external, each, in_first, with_images, with_root, algo_by, algo_in, with_digest_by, hashed_by, hashed, filled_image_by, filled_image, filled}
 use Rattle.uimg_fit_building.specs.UnreadTrees.{filled_unread}
 use Rattle.uimg_fit_building.specs.FillAnswers.{node_in_full}
@@ -18,7 +18,7 @@ use Rattle.uimg_fit_building.proofs.LookUpLaws.{first-with}
 
 module _ (files : List ℕ → Option (List ℕ)) where
   abbrev read : Content → List ℕ
-  read = bytes_in files
+  read = content_bytes files
 
   abbrev reads : List (NamedOf Content) → List Named
   reads own = map (with_value read) own

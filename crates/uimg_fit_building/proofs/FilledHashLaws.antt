@@ -16,7 +16,7 @@ use Rattle.uimg_fit_base.specs.declared.algo_sets.AlgoSet.{AlgoSet}
 use Rattle.uimg_fit_base.specs.AlgoSets.{has}
 use Rattle.uimg_fit_building.specs.Behind.{entry}
 use Rattle.uimg_fit_building.specs.Filling.{with, algo_by, with_digest_by}
-use Rattle.uimg_fit_building.specs.PayloadSums.{in_memory, IsCovered}
+use Rattle.uimg_fit_building.specs.PayloadSums.{in_memory, CoversHash}
 
 -- a value in a file names no algorithm
 pub no_name : algo_named (text []) ≡ None
@@ -36,7 +36,7 @@ on-ok (Ok x) f h = f h
 on-ok (Err e) f h = tt
 
 -- a hash node whose algorithm is in use, with the digest by it
-pub hash-filled : (set : AlgoSet) (h : NodeOf Content) (algo : Algo) (c : Content) (message : List ℕ) → algo_by in_memory h.own ≡ Some algo → IsCovered set h
+pub hash-filled : (set : AlgoSet) (h : NodeOf Content) (algo : Algo) (c : Content) (message : List ℕ) → algo_by in_memory h.own ≡ Some algo → CoversHash set h
     → (has set algo ≡ true → c ≡ bytes (digest_by algo message))
     → (let n : NodeOf Content = record h { own = with (codes "value") c h.own } in n) ≡ with_digest_by in_memory bytes message h
 hash-filled set h algo c message known covered is =
@@ -45,13 +45,13 @@ hash-filled set h algo c message known covered is =
     ∙ sym (ap (λ (o : Option Algo). option_map_or (λ a. valued (bytes (digest_by a message))) o h) known)
 
 -- a hash node among those whose algorithms are in use
-covered-step : (set : AlgoSet) (b : Bool) (h : NodeOf Content) (hs : List (NodeOf Content)) → b ≡ is_hash h.name → AllByRecursion (IsCovered set) (cond b (h ∷ hs) hs)
-    → (is_hash h.name ≡ true → IsCovered set h) × AllByRecursion (IsCovered set) hs
+covered-step : (set : AlgoSet) (b : Bool) (h : NodeOf Content) (hs : List (NodeOf Content)) → b ≡ is_hash h.name → AllByRecursion (CoversHash set) (cond b (h ∷ hs) hs)
+    → (is_hash h.name ≡ true → CoversHash set h) × AllByRecursion (CoversHash set) hs
 covered-step set true h hs e all = (λ is. all.0, all.1)
 covered-step set false h hs e all = ((λ is. absurd (let clash : false ≡ true = e ∙ is in cc)), all)
 
-pub covered-at : {A : Type 0} (set : AlgoSet) (ns : List (Node A)) (i : ℕ) (d : Node A) → i < length ns → AllByRecursion (IsCovered set) (filter (λ h. is_hash h.name) (map entry ns))
-    → is_hash (get_or ns i d).name ≡ true → IsCovered set (entry (get_or ns i d))
+pub covered-at : {A : Type 0} (set : AlgoSet) (ns : List (Node A)) (i : ℕ) (d : Node A) → i < length ns → AllByRecursion (CoversHash set) (filter (λ h. is_hash h.name) (map entry ns))
+    → is_hash (get_or ns i d).name ≡ true → CoversHash set (entry (get_or ns i d))
 covered-at set [] i d within all is = absurd (omega (arith, within))
 covered-at set (n ∷ ns) zero d within all is = (covered-step set (is_hash n.name) (entry n) (filter (λ h. is_hash h.name) (map entry ns)) refl all).0 is
 covered-at set (n ∷ ns) (suc i) d within all is =

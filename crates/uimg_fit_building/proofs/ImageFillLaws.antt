@@ -9,7 +9,7 @@ use Rattle.uimg_blob_reading.specs.Roles.{is_hash}
 use Rattle.uimg_blob_reading.specs.Plain.{NamedOf, no_node, a_node, with_value}
 use Rattle.uimg_blob_reading.specs.LookUps.{NodeOf, listed, first, hashes}
 use Rattle.uimg_blob_writing.specs.declared.tree.Node.{Node}
-use Rattle.uimg_blob_writing.specs.Content.{Content, Unread, bytes, file, bytes_in}
+use Rattle.uimg_blob_writing.specs.Content.{Content, Unread, bytes, file, content_bytes}
 use Rattle.uimg_blob_writing.specs.Trees.{siblings}
 use Rattle.uimg_fit_base.specs.declared.algo_sets.AlgoSet.{AlgoSet}
 use Rattle.uimg_fit_base.specs.declared.fault.FitFault.{FitFault}
@@ -20,7 +20,7 @@ use Rattle.uimg_fit_building.specs.FillAnswers.{node_in_full}
 use Rattle.uimg_fit_building.specs.Behind.{entry}
 use Rattle.uimg_fit_building.specs.ImageFillings.{hashed_in, filled_over, fault_in_memory, are_known, IsFileFault, StopsAtPayload, FillsHashes, StopsAtImage, FillsImage}
 use Rattle.uimg_fit_base.specs.AlgoSets.{has, no_algos}
-use Rattle.uimg_fit_building.specs.PayloadSums.{no_files, in_memory, all_marked, IsCovered}
+use Rattle.uimg_fit_building.specs.PayloadSums.{no_files, in_memory, all_marked, CoversHash}
 use Rattle.uimg_fit_base.proofs.AlgoSetLaws.{has-none}
 use Rattle.uimg_fit_building.proofs.AlgoSetLaws.{marks-all, marks-none}
 use Rattle.uimg_fit_building.proofs.LookUpLaws.{node_with, first-with, hashes-with}
@@ -65,7 +65,7 @@ head-known : (o : Option Algo) (b : Bool) → IfSome o (λ algo. has no_algos al
 head-known None b covered known = absurd (cc)
 head-known (Some a) b covered known = sym (has-none a) ∙ covered
 
-none-marked : (hs : List (NodeOf Content)) → AllByRecursion (IsCovered no_algos) hs → list_all (λ h. is_some (algo_by in_memory h.own)) hs ≡ true → hs ≡ []
+none-marked : (hs : List (NodeOf Content)) → AllByRecursion (CoversHash no_algos) hs → list_all (λ h. is_some (algo_by in_memory h.own)) hs ≡ true → hs ≡ []
 none-marked [] covered known = refl
 none-marked (h ∷ hs) covered known = absurd (let clash = head-known (algo_by in_memory h.own) (list_all (λ g. is_some (algo_by in_memory g.own)) hs) covered.0 known in cc)
 
@@ -83,7 +83,7 @@ module _ {A : Type 0} (ns : List (Node A)) (t : Unread) (is : siblings ns ≡ t)
   pub all-known : (set : AlgoSet) → all_marked no_algos found ≡ Some set → are_known t ≡ true
   all-known set h = ap (λ (l : List (NodeOf Content)). list_all (λ h. is_some (algo_by in_memory h.own)) l) (sym same) ∙ (marks-all no_algos set found h).known
 
-  pub all-covered : (set : AlgoSet) → all_marked no_algos found ≡ Some set → AllByRecursion (IsCovered set) found
+  pub all-covered : (set : AlgoSet) → all_marked no_algos found ≡ Some set → AllByRecursion (CoversHash set) found
   all-covered set h = (marks-all no_algos set found h).covered
 
   pub none-found : all_marked no_algos found ≡ Some no_algos → filter (λ h. is_hash h.name) (listed t) ≡ []
@@ -138,10 +138,10 @@ is-none-map f None = refl
 is-none-map f (Some c) = refl
 
 pub fault-with : (files : List ℕ → Option (List ℕ)) (image : NodeOf Content)
-    → image_fault (node_in_full files image) ≡ fault_by (first image.own (codes "data")) (list_all (λ h. is_some (algo_by (bytes_in files) h.own)) (hashes image))
+    → image_fault (node_in_full files image) ≡ fault_by (first image.own (codes "data")) (list_all (λ h. is_some (algo_by (content_bytes files) h.own)) (hashes image))
 unfolding image_fault
 fault-with files image =
-    let f = bytes_in files in
+    let f = content_bytes files in
     ap (λ (b : Bool). if b then Some NoData else if list_all (λ h. is_some (algo_in h.own)) (hashes (node_with f image)) then None else Some UnknownAlgo)
     (ap (λ (o : Option (List ℕ)). is_none o) (first-with f image.own (codes "data")) ∙ is-none-map f (first image.own (codes "data")))
     ∙ ap (λ (b : Bool). fault_by (first image.own (codes "data")) b)
@@ -174,12 +174,12 @@ image-refused Y view files image new c NoFile there h = stops-image image c ther
 image-refused Y view files image new c ReadFailed there h = stops-image image c there h
 
 image-filled : (files : List ℕ → Option (List ℕ)) (image : NodeOf Content) (c : Content) (below : Unread) → first image.own (codes "data") ≡ Some c
-    → are_known image.below ≡ true → below ≡ each (hashed_in (bytes_in files c)) image.below
+    → are_known image.below ≡ true → below ≡ each (hashed_in (content_bytes files c)) image.below
     → (fault_in_memory image ≡ None) × (record { name = image.name; own = without_external image.own; below = below } ≡ filled_over files image)
 image-filled files image c below there known is = (
   sound-of image c true there known,
   ap (λ (t : Unread). let n : NodeOf Content = record { name = image.name; own = without_external image.own; below = t } in n)
-      (is ∙ sym (ap (λ (o : Option Content). option_map_or (λ d. each (hashed_in (bytes_in files d)) image.below) o image.below) there)),
+      (is ∙ sym (ap (λ (o : Option Content). option_map_or (λ d. each (hashed_in (content_bytes files d)) image.below) o image.below) there)),
 )
 
 pub image-told : (X : Type 0) (r : Result X FitFault) (files : List ℕ → Option (List ℕ)) (image : NodeOf Content) (c : Content) (below : Unread) → first image.own (codes "data") ≡ Some c
@@ -196,6 +196,6 @@ pub content-some : {X : Type 0} (f : X → Content) (o : Option X) (x : X) → o
 content-some f o x is = rw is refl
 
 pub children-filled : {A X : Type 0} (r : Result X FitFault) (files : List ℕ → Option (List ℕ)) (c : Content) (old new : List (Node A)) → are_known (siblings old) ≡ true → IfErr r (λ fault. fault ≡ OutOfMemory)
-    → OnOk r (siblings new ≡ each (hashed_in (bytes_in files c)) (siblings old)) → FillsHashes (λ u. siblings new) files c (siblings old) r
+    → OnOk r (siblings new ≡ each (hashed_in (content_bytes files c)) (siblings old)) → FillsHashes (λ u. siblings new) files c (siblings old) r
 children-filled (Ok x) files c old new known memory is = (known, is)
 children-filled (Err fault) files c old new known memory is = rw memory tt

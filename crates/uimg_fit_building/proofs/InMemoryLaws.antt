@@ -9,14 +9,14 @@ use Rattle.uimg_texts.specs.Nul.{text}
 use Rattle.uimg_blob_reading.specs.Roles.{is_hash}
 use Rattle.uimg_blob_reading.specs.Plain.{NamedOf, no_node, a_node}
 use Rattle.uimg_blob_reading.specs.LookUps.{NodeOf, first}
-use Rattle.uimg_blob_writing.specs.Content.{Content, Unread, bytes, file, bytes_in, StandsAtData, FilesAtData}
+use Rattle.uimg_blob_writing.specs.Content.{Content, Unread, bytes, file, content_bytes, StandsAtData, FilesAtData}
 use Rattle.uimg_fit_building.specs.Filling.{with, without_external, each, algo_by, hashed_by, filled_image_by}
 use Rattle.uimg_fit_building.specs.ImageFillings.{hashed_in, filled_over}
 use Rattle.uimg_fit_building.specs.PayloadSums.{in_memory}
 
 module _ (files : List ℕ → Option (List ℕ)) where
   abbrev read : Content → List ℕ
-  read = bytes_in files
+  read = content_bytes files
 
   abbrev via : (Content → List ℕ) → Option (NamedOf Content) → Option Algo
   via f o = option_and_then (λ c. algo_named (text (f c))) (option_map (λ (p : NamedOf Content). p.value) o)

@@ -14,7 +14,7 @@ use Rattle.uimg_fit_building.specs.Building.{moved_from_by, moved_own_by}
 use Rattle.uimg_fit_building.specs.Behind.{entry}
 use Rattle.uimg_fit_building.specs.Filling.{in_first}
 use Rattle.uimg_fit_building.specs.UnreadTrees.{padded_size_of, unread_own, unread_from}
-use Rattle.uimg_fit_building.specs.Placing.{at_first, left_of, cells, is_data, placed_properties, placed_image, placed_images, is_images, with_placed, placed_children}
+use Rattle.uimg_fit_building.specs.Placing.{at_first, after_first, cells, is_data, placed_properties, placed_image, placed_images, is_images_node, with_placed, placed_children}
 
 module _ {X : Type 0} (test : X → Bool) (f : X → List X) (done rest whole : List X) (d : X) where
   first-step : (b : Bool) (more : List X) → test d ≡ b → at_first test f (d ∷ rest) ≡ (if b then f d ++ rest else d ∷ at_first test f rest)
@@ -22,46 +22,46 @@ module _ {X : Type 0} (test : X → Bool) (f : X → List X) (done rest whole : 
   first-step b more e = ap (λ (c : Bool). if c then f d ++ rest else d ∷ at_first test f rest) e
 
   -- an element behind the first is copied
-  pub behind-first : (xs : List X) → xs ≡ d ∷ rest → done ++ left_of test f true xs ≡ whole → (done ++ d ∷ []) ++ left_of test f true rest ≡ whole
+  pub behind-first : (xs : List X) → xs ≡ d ∷ rest → done ++ after_first test f true xs ≡ whole → (done ++ d ∷ []) ++ after_first test f true rest ≡ whole
   behind-first xs e h = append_assoc done (d ∷ []) rest ∙ ap (λ (l : List X). done ++ l) (sym e) ∙ h
 
   -- one before it too
-  pub before-first : (xs : List X) → xs ≡ d ∷ rest → test d ≡ false → done ++ left_of test f false xs ≡ whole → (done ++ d ∷ []) ++ left_of test f false rest ≡ whole
+  pub before-first : (xs : List X) → xs ≡ d ∷ rest → test d ≡ false → done ++ after_first test f false xs ≡ whole → (done ++ d ∷ []) ++ after_first test f false rest ≡ whole
   before-first xs e other h =
       append_assoc done (d ∷ []) (at_first test f rest)
       ∙ ap (λ (l : List X). done ++ l) (sym (first-step false rest other))
       ∙ ap (λ (l : List X). done ++ at_first test f l) (sym e) ∙ h
 
   -- and the first itself by the function
-  pub the-first : (xs : List X) → xs ≡ d ∷ rest → test d ≡ true → done ++ left_of test f false xs ≡ whole → (done ++ f d) ++ left_of test f true rest ≡ whole
+  pub the-first : (xs : List X) → xs ≡ d ∷ rest → test d ≡ true → done ++ after_first test f false xs ≡ whole → (done ++ f d) ++ after_first test f true rest ≡ whole
   the-first xs e here h =
       append_assoc done (f d) rest
       ∙ ap (λ (l : List X). done ++ l) (sym (first-step true rest here))
       ∙ ap (λ (l : List X). done ++ at_first test f l) (sym e) ∙ h
 
 -- the same for a loop: what the element is, what was copied, and whether the first was met
-module _ {X : Type 0} (test : X → Bool) (f : X → List X) (done rest whole xs copies : List X) (d copy : X) (moved met : Bool) (e : xs ≡ d ∷ rest) (h : done ++ left_of test f moved xs ≡ whole) where
-  pub behind-goes : moved ≡ true → met ≡ moved → copies ≡ done ++ copy ∷ [] → copy ≡ d → copies ++ left_of test f met rest ≡ whole
+module _ {X : Type 0} (test : X → Bool) (f : X → List X) (done rest whole xs copies : List X) (d copy : X) (moved met : Bool) (e : xs ≡ d ∷ rest) (h : done ++ after_first test f moved xs ≡ whole) where
+  pub behind-goes : moved ≡ true → met ≡ moved → copies ≡ done ++ copy ∷ [] → copy ≡ d → copies ++ after_first test f met rest ≡ whole
   behind-goes is_moved same added is =
-      ap (λ (l : List X). l ++ left_of test f met rest) (added ∙ ap (λ (x : X). done ++ x ∷ []) is)
-      ∙ ap (λ (b : Bool). (done ++ d ∷ []) ++ left_of test f b rest) (same ∙ is_moved)
-      ∙ behind-first test f done rest whole d xs e (ap (λ (b : Bool). done ++ left_of test f b xs) (sym is_moved) ∙ h)
+      ap (λ (l : List X). l ++ after_first test f met rest) (added ∙ ap (λ (x : X). done ++ x ∷ []) is)
+      ∙ ap (λ (b : Bool). (done ++ d ∷ []) ++ after_first test f b rest) (same ∙ is_moved)
+      ∙ behind-first test f done rest whole d xs e (ap (λ (b : Bool). done ++ after_first test f b xs) (sym is_moved) ∙ h)
 
-  pub before-goes : moved ≡ false → test d ≡ false → met ≡ moved → copies ≡ done ++ copy ∷ [] → copy ≡ d → copies ++ left_of test f met rest ≡ whole
+  pub before-goes : moved ≡ false → test d ≡ false → met ≡ moved → copies ≡ done ++ copy ∷ [] → copy ≡ d → copies ++ after_first test f met rest ≡ whole
   before-goes not_moved other same added is =
-      ap (λ (l : List X). l ++ left_of test f met rest) (added ∙ ap (λ (x : X). done ++ x ∷ []) is)
-      ∙ ap (λ (b : Bool). (done ++ d ∷ []) ++ left_of test f b rest) (same ∙ not_moved)
-      ∙ before-first test f done rest whole d xs e other (ap (λ (b : Bool). done ++ left_of test f b xs) (sym not_moved) ∙ h)
+      ap (λ (l : List X). l ++ after_first test f met rest) (added ∙ ap (λ (x : X). done ++ x ∷ []) is)
+      ∙ ap (λ (b : Bool). (done ++ d ∷ []) ++ after_first test f b rest) (same ∙ not_moved)
+      ∙ before-first test f done rest whole d xs e other (ap (λ (b : Bool). done ++ after_first test f b xs) (sym not_moved) ∙ h)
 
-  pub first-goes : moved ≡ false → test d ≡ true → met ≡ true → copies ≡ done ++ f d → copies ++ left_of test f met rest ≡ whole
+  pub first-goes : moved ≡ false → test d ≡ true → met ≡ true → copies ≡ done ++ f d → copies ++ after_first test f met rest ≡ whole
   first-goes not_moved here now_met added =
-      ap (λ (l : List X). l ++ left_of test f met rest) added
-      ∙ ap (λ (b : Bool). (done ++ f d) ++ left_of test f b rest) now_met
-      ∙ the-first test f done rest whole d xs e here (ap (λ (b : Bool). done ++ left_of test f b xs) (sym not_moved) ∙ h)
+      ap (λ (l : List X). l ++ after_first test f met rest) added
+      ∙ ap (λ (b : Bool). (done ++ f d) ++ after_first test f b rest) now_met
+      ∙ the-first test f done rest whole d xs e here (ap (λ (b : Bool). done ++ after_first test f b xs) (sym not_moved) ∙ h)
 
 module _ {X : Type 0} (test : X → Bool) (f : X → List X) (done whole : List X) where
   -- behind the last nothing is left
-  pub no-more : (b : Bool) (xs : List X) → xs ≡ [] → done ++ left_of test f b xs ≡ whole → done ≡ whole
+  pub no-more : (b : Bool) (xs : List X) → xs ≡ [] → done ++ after_first test f b xs ≡ whole → done ≡ whole
   unfolding at_first
   no-more true xs e h = sym (append-nil done) ∙ ap (λ (l : List X). done ++ l) (sym e) ∙ h
   no-more false xs e h = sym (append-nil done) ∙ ap (λ (l : List X). done ++ at_first test f l) (sym e) ∙ h
@@ -87,7 +87,7 @@ pub children-placed : {A : Type 0} (align : ℕ) (key : List ℕ) (at : ℕ) (ns
 unfolding at_first in_first
 children-placed align key at [] = refl
 children-placed align key at (n ∷ ns) =
-    children-step align (is_images n) key at n ns (placed_children align key at ns) (in_first (codes "images") (unread_from align key at) (siblings ns)) (children-placed align key at ns)
+    children-step align (is_images_node n) key at n ns (placed_children align key at ns) (in_first (codes "images") (unread_from align key at) (siblings ns)) (children-placed align key at ns)
 
 pub images-placed : {A : Type 0} (align : ℕ) (key : List ℕ) (at : ℕ) (ns : List (Node A)) → siblings (placed_images align key at ns) ≡ unread_from align key at (siblings ns)
 unfolding placed_images moved_from_by

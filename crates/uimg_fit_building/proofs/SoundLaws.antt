@@ -17,7 +17,7 @@ use Rattle.uimg_blob_reading.specs.LookUps.{NodeOf, images, hashes}
 use Rattle.uimg_blob_reading.specs.Spots.{Spot}
 use Rattle.uimg_fit_base.specs.declared.fault.Fault.{Fault}
 use Rattle.uimg_fit_base.specs.declared.fault.FitFault.{FitFault}
-use Rattle.uimg_fit_base.specs.Files.{images_of, bytes_of}
+use Rattle.uimg_fit_base.specs.Files.{images_of, value_bytes}
 use Rattle.uimg_fit_base.specs.Places.{payload}
 use Rattle.uimg_fit_base.specs.declared.verdicts.Verdict.TheVariants.{Right}
 use Rattle.uimg_fit_base.specs.Report.{compared, by_value, by_algo, by_name, word_of, are_right, report}
@@ -52,10 +52,10 @@ by_known (Some n) value message algo known is =
 -- the word of a hash node that has the digest
 word-right : (message : List ℕ) (h : NodeOf Spot) → IsDigest message (plain h) → word_of message h ≡ Right
 word-right message h d =
-    let name : option_and_then (λ n. algo_named (text n)) (bytes_of h.own (codes "algo")) ≡ Some d.algo =
+    let name : option_and_then (λ n. algo_named (text n)) (value_bytes h.own (codes "algo")) ≡ Some d.algo =
     ap (λ (o : Option (List ℕ)). option_and_then (λ n. algo_named (text n)) o) (sym (first-with (λ s. s.bytes) h.own (codes "algo"))) ∙ d.known in
-    let value : bytes_of h.own (codes "value") ≡ Some (digest_by d.algo message) = sym (first-with (λ s. s.bytes) h.own (codes "value")) ∙ d.value in
-    by_known (bytes_of h.own (codes "algo")) (bytes_of h.own (codes "value")) message d.algo name value
+    let value : value_bytes h.own (codes "value") ≡ Some (digest_by d.algo message) = sym (first-with (λ s. s.bytes) h.own (codes "value")) ∙ d.value in
+    by_known (value_bytes h.own (codes "algo")) (value_bytes h.own (codes "value")) message d.algo name value
 
 all-right : (message : List ℕ) (hs : List (NodeOf Spot)) → AllByRecursion (IsDigest message) (map plain hs) → are_right message hs ≡ true
 all-right message [] d = refl

@@ -6,7 +6,7 @@ use Rattle.std.specs.Str.{bytes_eq}
 use Rattle.uimg_blob_reading.specs.Plain.{NamedOf, Named, Nodes, no_node, a_node, with_value, with_values, AllValues}
 use Rattle.uimg_blob_writing.specs.Alignment.{aligned}
 use Rattle.uimg_blob_writing.specs.Encoding.{word}
-use Rattle.uimg_blob_writing.specs.Content.{Content, Unread, IsKept, bytes, bytes_in, size_of}
+use Rattle.uimg_blob_writing.specs.Content.{Content, Unread, IsKept, bytes, content_bytes, size_of}
 use Rattle.uimg_blob_writing.proofs.SizeLaws.{kept-size}
 use Rattle.uimg_fit_base.specs.declared.placement.AlignedPlacement.{AlignedPlacement}
 use Rattle.uimg_fit_base.specs.declared.placement.AlignedPlacement.TheVariants.{Inside, After, At}
@@ -18,7 +18,7 @@ use Rattle.uimg_fit_building.proofs.LookUpLaws.{first-with, first-has}
 
 module _ (files : List ℕ → Option (List ℕ)) where
   abbrev read : Content → List ℕ
-  read = bytes_in files
+  read = content_bytes files
 
   abbrev cells : List ℕ → ℕ → ℕ → List Named → List Named
   cells key at size own = record { name = key; value = word at } ∷ record { name = codes "data-size"; value = word size } ∷ own

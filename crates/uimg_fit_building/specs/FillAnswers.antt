@@ -6,7 +6,7 @@ use Rattle.uimg_base.specs.Named.{FileMap}
 use Rattle.uimg_blob_writing.specs.UsingFiles.{UsesFiles}
 use Rattle.uimg_blob_reading.specs.Plain.{with_value, with_values}
 use Rattle.uimg_blob_reading.specs.LookUps.{NodeOf, first, images, hashes}
-use Rattle.uimg_blob_writing.specs.Content.{Content, Unread, file, bytes_in, in_full, AreKept}
+use Rattle.uimg_blob_writing.specs.Content.{Content, Unread, file, content_bytes, in_full, AreKept}
 use Rattle.uimg_fit_base.specs.declared.fault.FitFault.{FitFault}
 use Rattle.uimg_fit_base.specs.declared.fault.FitFault.TheVariants.{OutOfMemory, NoFile, ReadFailed}
 use Rattle.uimg_fit_building.specs.Filling.{IsFilled}
@@ -42,8 +42,8 @@ OpensKept never_fails map AreThere result files =
 abbrev pub node_in_full : (List ℕ → Option (List ℕ)) → NodeOf Content → NodeOf (List ℕ)
 node_in_full files image = record {
   name = image.name;
-  own = map (with_value (bytes_in files)) image.own;
-  below = with_values (bytes_in files) image.below;
+  own = map (with_value (content_bytes files)) image.own;
+  below = with_values (content_bytes files) image.below;
 }
 
 -- A tree is filled, giving another: no file is read into it or replaced.

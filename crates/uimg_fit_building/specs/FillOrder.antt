@@ -32,18 +32,18 @@ pub record StopsAtFileOf (sole : Bool) (files : List ℕ → Option (List ℕ)) 
 -- Filling stops at an image with its fault in memory; or, if it has none, with a fault of its file.
 -- Only this file can be the reason of a refused open if the files are complete, and of a failed
 -- read if they are steady.
-abbrev pub IsRefused : FileMap → Bool → NodeOf Content → FitFault → Type 0
-IsRefused files steady image NoData = fault_in_memory image ≡ Some NoData
-IsRefused files steady image UnknownAlgo = fault_in_memory image ≡ Some UnknownAlgo
-IsRefused files steady image NoFile = StopsAtFileOf files.complete files.bytes image
-IsRefused files steady image ReadFailed = StopsAtFileOf steady files.bytes image
-IsRefused files steady image OutOfMemory = ⊤
-IsRefused files steady image fault = ⊥
+abbrev pub IsImageRefused : FileMap → Bool → NodeOf Content → FitFault → Type 0
+IsImageRefused files steady image NoData = fault_in_memory image ≡ Some NoData
+IsImageRefused files steady image UnknownAlgo = fault_in_memory image ≡ Some UnknownAlgo
+IsImageRefused files steady image NoFile = StopsAtFileOf files.complete files.bytes image
+IsImageRefused files steady image ReadFailed = StopsAtFileOf steady files.bytes image
+IsImageRefused files steady image OutOfMemory = ⊤
+IsImageRefused files steady image fault = ⊥
 
 -- the result of filling an image
 abbrev pub FillsNext : {X : Type 0} → FileMap → Bool → NodeOf Content → Result X FitFault → Type 0
 FillsNext files steady image (Ok x) = IsPassed files.bytes image
-FillsNext files steady image (Err fault) = IsRefused files steady image fault
+FillsNext files steady image (Err fault) = IsImageRefused files steady image fault
 
 -- Filling passes the images before one, and stops there.
 pub record StopsInOrder (files : FileMap) (steady : Bool) (found : Option (List (NodeOf Content)))
@@ -55,7 +55,7 @@ pub record StopsInOrder (files : FileMap) (steady : Bool) (found : Option (List 
   -- no image before it is refused
   pub passed : AllByRecursion (IsPassed files.bytes) before
   -- this image is
-  pub refused : IsRefused files steady image fault
+  pub refused : IsImageRefused files steady image fault
 
 -- The result of filling a root's images: all are passed, or there are none, or filling stops at the
 -- first that it cannot pass; or memory was refused.

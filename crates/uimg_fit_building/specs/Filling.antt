@@ -27,14 +27,14 @@ abbrev pub without_external : {V : Type 0} → List (NamedOf V) → List (NamedO
 without_external own = filter (λ p. not (list_any (bytes_eq p.name) external_names)) own
 
 -- a node and those that follow it
-abbrev pub before : {V : Type 0} → NodeOf V → NodesOf V → NodesOf V
-before n after = a_node n.name n.own n.below after
+abbrev pub followed_by : {V : Type 0} → NodeOf V → NodesOf V → NodesOf V
+followed_by n after = a_node n.name n.own n.below after
 
 -- a function applied to each of some nodes
 unfoldable pub each : {V : Type 0} → (NodeOf V → NodeOf V) → NodesOf V → NodesOf V
 each f no_node = no_node
 each f (a_node name own below after) =
-    before (f (record { name = name; own = own; below = below })) (each f after)
+    followed_by (f (record { name = name; own = own; below = below })) (each f after)
 
 -- nodes, with a function applied to the children of the first of a name
 unfoldable pub in_first : {V : Type 0} → List ℕ → (NodesOf V → NodesOf V) → NodesOf V → NodesOf V

@@ -14,7 +14,7 @@ use Rattle.uimg_fit_building.specs.Behind.{entry}
 use Rattle.uimg_fit_building.specs.DigestBytes.{zeroed_hash, zeroed_child}
 use Rattle.uimg_fit_building.specs.Filling.{each, with_digest_by}
 use Rattle.uimg_fit_building.specs.ImageFillings.{hashed_in}
-use Rattle.uimg_fit_building.specs.PayloadSums.{in_memory, IsCovered}
+use Rattle.uimg_fit_building.specs.PayloadSums.{in_memory, CoversHash}
 
 -- Digests were set. If they are those of a message, by the algorithms of all hash nodes, the nodes
 -- have them now; if not, only the bytes of digests differ from that. Only memory can have been
@@ -29,7 +29,7 @@ pub record SetsDigests {T X : Type 0} (digests : Digests) (AreCovered : Type 0)
 -- in a hash node
 abbrev pub SetsHash : {A X : Type 0} → Digests → Result X FitFault → Lent (Node A) → Type 0
 SetsHash digests result node =
-    SetsDigests digests (IsCovered (set_of digests) (entry node.entry.now))
+    SetsDigests digests (CoversHash (set_of digests) (entry node.entry.now))
     (λ message. with_digest_by in_memory bytes message (entry node.entry.now)) zeroed_hash
     (entry node.exit.now) result
 
@@ -37,14 +37,14 @@ SetsHash digests result node =
 abbrev pub SetsChild : {A X : Type 0} → Digests → Result X FitFault → Lent (Node A) → Type 0
 SetsChild digests result node =
     SetsDigests digests
-    (is_hash node.entry.now.name ≡ true → IsCovered (set_of digests) (entry node.entry.now))
+    (is_hash node.entry.now.name ≡ true → CoversHash (set_of digests) (entry node.entry.now))
     (λ message. hashed_in message (entry node.entry.now)) zeroed_child (entry node.exit.now) result
 
 -- in the hash nodes among the children of an image
 abbrev pub SetsChildren : {A X : Type 0} → Digests → Result X FitFault → Lent (List (Node A))
     → Type 0
 SetsChildren digests result nodes =
-    SetsDigests digests (AllByRecursion (IsCovered (set_of digests))
+    SetsDigests digests (AllByRecursion (CoversHash (set_of digests))
     (filter (λ h. is_hash h.name) (map entry nodes.entry.now)))
     (λ message. each (hashed_in message) (siblings nodes.entry.now)) (each zeroed_child)
     (siblings nodes.exit.now) result

@@ -7,7 +7,7 @@ use Rattle.std.specs.Str.{bytes_eq}
 use Rattle.uimg_blob_reading.specs.LookUps.{NodeOf, listed, first, hashes}
 use Rattle.uimg_blob_reading.specs.Roles.{is_hash}
 use Rattle.uimg_blob_writing.specs.declared.tree.Node.{Node}
-use Rattle.uimg_blob_writing.specs.Content.{Content, Unread, bytes, file, bytes_in, IsKept}
+use Rattle.uimg_blob_writing.specs.Content.{Content, Unread, bytes, file, content_bytes, IsKept}
 use Rattle.uimg_fit_base.specs.declared.fault.FitFault.{FitFault}
 use Rattle.uimg_fit_base.specs.declared.fault.FitFault.TheVariants.{NoImages, UnknownAlgo}
 use Rattle.uimg_fit_base.specs.declared.fault.FitFault.TheVariants.{OutOfMemory, NoFile, ReadFailed}
@@ -25,7 +25,7 @@ abbrev pub filled_over : (List ℕ → Option (List ℕ)) → NodeOf Content →
 filled_over files image = record image {
   own = without_external image.own;
   below =
-      option_map_or (λ c. each (hashed_in (bytes_in files c)) image.below)
+      option_map_or (λ c. each (hashed_in (content_bytes files c)) image.below)
       (first image.own (codes "data")) image.below;
 }
 
@@ -60,7 +60,7 @@ pub record StopsAtPayload (c : Content) (t : Unread) : Type 0 where
 abbrev pub FillsHashes : {X : Type 0} → (X → Unread) → (List ℕ → Option (List ℕ)) → Content → Unread
     → Result X FitFault → Type 0
 FillsHashes view files c t (Ok x) =
-    (are_known t ≡ true) × (view x ≡ each (hashed_in (bytes_in files c)) t)
+    (are_known t ≡ true) × (view x ≡ each (hashed_in (content_bytes files c)) t)
 FillsHashes view files c t (Err OutOfMemory) = ⊤
 FillsHashes view files c t (Err UnknownAlgo) = are_known t ≡ false
 FillsHashes view files c t (Err NoFile) = StopsAtPayload c t

@@ -2,7 +2,7 @@
 use Rattle.std.specs.Prelude.{◌≡◌, ℕ, List, [], ◌∷◌, true, Option, Some, None}
 use Rattle.std.specs.Option.{option_and_then, IfSome}
 use Rattle.uimg_blob_reading.specs.LookUps.{NodeOf}
-use Rattle.uimg_blob_writing.specs.Content.{Content, bytes_in}
+use Rattle.uimg_blob_writing.specs.Content.{Content, content_bytes}
 use Rattle.uimg_fit_base.specs.declared.algo_sets.AlgoSet.{AlgoSet}
 use Rattle.uimg_fit_base.specs.AlgoSets.{has, marked}
 use Rattle.uimg_fit_building.specs.Filling.{algo_by}
@@ -13,7 +13,7 @@ no_files name = None
 
 -- the bytes of a value in memory
 abbrev pub in_memory : Content → List ℕ
-in_memory c = bytes_in no_files c
+in_memory c = content_bytes no_files c
 
 -- a set with the algorithms of hash nodes, if all are known
 unfoldable pub all_marked : AlgoSet → List (NodeOf Content) → Option AlgoSet
@@ -22,5 +22,5 @@ all_marked set (h ∷ hs) =
     option_and_then (λ algo. all_marked (marked set algo) hs) (algo_by in_memory h.own)
 
 -- The algorithm of a hash node, if it is known, is in the set.
-abbrev pub IsCovered : AlgoSet → NodeOf Content → Type 0
-IsCovered set h = IfSome (algo_by in_memory h.own) (λ algo. has set algo ≡ true)
+abbrev pub CoversHash : AlgoSet → NodeOf Content → Type 0
+CoversHash set h = IfSome (algo_by in_memory h.own) (λ algo. has set algo ≡ true)

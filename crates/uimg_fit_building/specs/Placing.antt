@@ -15,17 +15,18 @@ at_first test f [] = []
 at_first test f (x ∷ xs) = if test x then f x ++ xs else x ∷ at_first test f xs
 
 -- the rest of a list: unchanged if such an element was met already, else treated the same
-abbrev pub left_of : {X : Type 0} → (X → Bool) → (X → List X) → Bool → List X → List X
-left_of test f true xs = xs
-left_of test f false xs = at_first test f xs
+abbrev pub after_first : {X : Type 0} → (X → Bool) → (X → List X) → Bool → List X → List X
+after_first test f true xs = xs
+after_first test f false xs = at_first test f xs
 
 -- a property of one cell
-abbrev pub cell : {A : Type 0} → List ℕ → ℕ → Prop A
-cell key n = record { name = key; value = Bytes (word n) }
+abbrev pub cell_property : {A : Type 0} → List ℕ → ℕ → Prop A
+cell_property key n = record { name = key; value = Bytes (word n) }
 
 -- the two cells that replace a payload
 abbrev pub cells : {A : Type 0} → List ℕ → ℕ → Prop A → List (Prop A)
-cells key at p = cell key at ∷ cell (codes "data-size") (size_of (content p.value)) ∷ []
+cells key at p =
+    cell_property key at ∷ cell_property (codes "data-size") (size_of (content p.value)) ∷ []
 
 abbrev pub is_data : {A : Type 0} → Prop A → Bool
 is_data p = bytes_eq (codes "data") p.name
@@ -44,8 +45,8 @@ placed_images align key at [] = []
 placed_images align key at (n ∷ ns) =
     placed_image key at n ∷ placed_images align key (at + padded_size_of align n.props) ns
 
-abbrev pub is_images : {A : Type 0} → Node A → Bool
-is_images n = bytes_eq (codes "images") n.name
+abbrev pub is_images_node : {A : Type 0} → Node A → Bool
+is_images_node n = bytes_eq (codes "images") n.name
 
 -- a node whose children are images, with cells in place of their payloads
 abbrev pub with_placed : {A : Type 0} → ℕ → List ℕ → ℕ → Node A → Node A
@@ -53,4 +54,4 @@ with_placed align key at n = record n { children = unread_from align key at n.ch
 
 -- the root's children, with cells in place of the images' payloads
 abbrev pub placed_children : {A : Type 0} → ℕ → List ℕ → ℕ → List (Node A) → List (Node A)
-placed_children align key at ns = at_first is_images (λ n. with_placed align key at n ∷ []) ns
+placed_children align key at ns = at_first is_images_node (λ n. with_placed align key at n ∷ []) ns

@@ -25,9 +25,9 @@ unfoldable pub first_fault : List (NodeOf (List ℕ)) → Option FitFault
 first_fault [] = None
 first_fault (image ∷ more) = option_or (image_fault image) (first_fault more)
 
-abbrev pub fault_of : Option (List (NodeOf (List ℕ))) → Option FitFault
-fault_of None = Some NoImages
-fault_of (Some found) = first_fault found
+abbrev pub filling_fault : Option (List (NodeOf (List ℕ))) → Option FitFault
+filling_fault None = Some NoImages
+filling_fault (Some found) = first_fault found
 
 abbrev pub fill_from : Option FitFault → Nodes → Result Nodes FitFault
 fill_from (Some f) t = Err f
@@ -36,7 +36,7 @@ fill_from None t = Ok t
 -- the filled tree, or the first fault: no `images`; then for each image no `data`, or a hash node
 -- of an unknown algorithm
 abbrev pub fill_of : ℕ → Nodes → Result Nodes FitFault
-fill_of time t = fill_from (fault_of (images t)) (filled time t)
+fill_of time t = fill_from (filling_fault (images t)) (filled time t)
 
 -- the payloads would begin before the blob's end
 abbrev pub is_low : ℕ → AlignedPlacement → Bool

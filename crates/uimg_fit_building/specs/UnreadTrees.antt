@@ -1,7 +1,7 @@
 -- Filling and placing if payloads stay in their files.
 use Rattle.std.specs.Prelude.{ℕ, List, Option}
 use Rattle.uimg_blob_reading.specs.Plain.{NamedOf}
-use Rattle.uimg_blob_writing.specs.Content.{Content, Unread, bytes, bytes_in, size_of}
+use Rattle.uimg_blob_writing.specs.Content.{Content, Unread, bytes, content_bytes, size_of}
 use Rattle.uimg_fit_base.specs.declared.placement.AlignedPlacement.{AlignedPlacement}
 use Rattle.uimg_fit_building.specs.Building.{padded_size_by, moved_own_by, moved_from_by, moved_by}
 use Rattle.uimg_fit_building.specs.Filling.{filled_by}
@@ -9,7 +9,7 @@ use Rattle.uimg_fit_building.specs.Filling.{filled_by}
 -- a tree with a timestamp and its images' digests, over files with these bytes; each file stays a
 -- file
 abbrev pub filled_unread : (List ℕ → Option (List ℕ)) → ℕ → Unread → Unread
-filled_unread files time t = filled_by (bytes_in files) bytes time t
+filled_unread files time t = filled_by (content_bytes files) bytes time t
 
 -- the size of an image's payload, rounded up to an alignment
 abbrev pub padded_size_of : ℕ → List (NamedOf Content) → ℕ

@@ -4,7 +4,7 @@ ghost use Rattle.std.specs.Prelude.{◌≡◌, OnOk, false};
 ghost use Rattle.uimg_blob_writing.specs.Content.{AreKept, in_full};
 ghost use Rattle.uimg_blob_writing.specs.Layouts.{plan_of, totalsize};
 ghost use Rattle.uimg_blob_writing.specs.Trees.{node_of};
-ghost use Rattle.uimg_blob_writing.specs.LentFiles.{IfHonest, IfInFull};
+ghost use Rattle.uimg_blob_writing.specs.LentFiles.{OfHonest, IfInFull};
 ghost use Rattle.uimg_fit_building.specs.BuildSteps.{of_measure, of_writing, MeasuresTree, WritesText, Builds};
 ghost use Rattle.uimg_fit_building.specs.Building.{built};
 ghost use Rattle.uimg_fit_base.specs.Placements.{align_of, aligned_by};
@@ -74,7 +74,7 @@ fn write_file<F: Files, W: Write, A: Allocator>(
     requires plan { layout.now ≡ plan_of (align_of placement) (node_of placed.now.root) }
     requires placed { node_of placed.now.root ≡ moved_unread (node_of tree.now.root) placement }
     requires high { is_low (totalsize layout.now) placement ≡ false }
-    ensures kept { IfHonest F.map files (λ there.
+    ensures kept { OfHonest F.map files (λ there.
         OnOk result (AreKept there (node_of tree.now.root))) }
     ensures sent { WritesText F.Opened.steady F.map (node_of tree.now.root) result files out
         (λ there. built (in_full there (node_of tree.now.root)) placement) }

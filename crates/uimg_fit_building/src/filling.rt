@@ -9,12 +9,12 @@ ghost use Rattle.uimg_blob_writing.specs.Encoding.{word};
 ghost use Rattle.uimg_fit_building.specs.Filling.{with, each, in_first};
 ghost use Rattle.uimg_blob_writing.specs.Trees.{node_of, siblings};
 ghost use Rattle.uimg_blob_writing.specs.UsingFiles.{UsesFiles};
-ghost use Rattle.uimg_blob_writing.specs.LentFiles.{IfHonest, IfKept, IfComplete, IfSteady};
+ghost use Rattle.uimg_blob_writing.specs.LentFiles.{OfHonest, IfKept, IfComplete, IfSteady};
 ghost use Rattle.uimg_fit_building.specs.FillAnswers.{opens_no_file, fails_to_read, FillsAnswer};
 ghost use Rattle.uimg_fit_building.specs.ImageFillings.{filled_over, FillsParent, FillsBelow, images_among};
 ghost use Rattle.uimg_fit_building.specs.ImageSteps.{OpensImages, AnswersInOrder};
 ghost use Rattle.uimg_fit_building.specs.PayloadSums.{no_files};
-ghost use Rattle.uimg_fit_building.specs.SettingSteps.{Makes};
+ghost use Rattle.uimg_fit_building.specs.SettingSteps.{MakesUnlessMemory};
 ghost use Rattle.uimg_fit_building.specs.UnreadTrees.{filled_unread};
 ghost use Rattle.uimg_fit_building.specs.DigestBytes.{zeroed_parent, zeroed_below, zeroed_tree};
 
@@ -37,7 +37,8 @@ fn with_time<A: Allocator + Copy>(
     props: Props<A>,
     time: u32,
 ) -> Result<Props<A>, FitFault>
-    ensures { Makes result (λ own. own ≡ with (codes "timestamp") (bytes (word time)) props) }
+    ensures { MakesUnlessMemory result
+        (λ own. own ≡ with (codes "timestamp") (bytes (word time)) props) }
 {
     let value = Value::Bytes(copied(alloc, &time.to_be_bytes())?);
     with_value(alloc, props, b"timestamp", value)
@@ -58,7 +59,7 @@ fn fill_parent<F: Files, A: Allocator + Copy>(
 ) -> Result<(), FitFault>
     ensures opens { OpensImages F.Opened.steady F.map (Some (listed parent.old.children))
         result files }
-    ensures filled { IfHonest F.map files (λ there. FillsParent there parent.old parent.new result) }
+    ensures filled { OfHonest F.map files (λ there. FillsParent there parent.old parent.new result) }
     ensures order { AnswersInOrder F.Opened.steady F.map (Some (listed parent.old.children))
         result files }
     ensures rest { OnOk result (zeroed_parent parent.new
@@ -79,7 +80,7 @@ fn fill_below<F: Files, A: Allocator + Copy>(
 ) -> Result<(), FitFault>
     ensures opens { OpensImages F.Opened.steady F.map (images_among (siblings nodes.old))
         result files }
-    ensures filled { IfHonest F.map files (λ there.
+    ensures filled { OfHonest F.map files (λ there.
         FillsBelow there (siblings nodes.old) (siblings nodes.new) result) }
     ensures order { AnswersInOrder F.Opened.steady F.map (images_among (siblings nodes.old))
         result files }

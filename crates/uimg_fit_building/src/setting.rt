@@ -8,7 +8,7 @@ ghost use Rattle.uimg_blob_reading.specs.LookUps.{first};
 ghost use Rattle.uimg_blob_writing.specs.Content.{Content};
 ghost use Rattle.uimg_blob_writing.specs.Properties.{content, property};
 ghost use Rattle.uimg_fit_building.specs.Filling.{with, external_names, without_external};
-ghost use Rattle.uimg_fit_building.specs.SettingSteps.{Makes};
+ghost use Rattle.uimg_fit_building.specs.SettingSteps.{MakesUnlessMemory};
 
 use std::alloc::Allocator;
 use uimg_blob_writing::{ByteList, Prop, Props, Value, copy_bytes};
@@ -16,7 +16,7 @@ use uimg_fit_base::FitFault;
 
 /// Copies bytes.
 pub(crate) fn copied<A: Allocator>(alloc: A, bytes: &[u8]) -> Result<ByteList<A>, FitFault>
-    ensures { Makes result (λ l. l ≡ bytes.now) }
+    ensures { MakesUnlessMemory result (λ l. l ≡ bytes.now) }
 {
     match copy_bytes(alloc, bytes) {
         Ok(copy) => Ok(copy),
@@ -54,7 +54,7 @@ fn place_of<A: Allocator>(props: &[Prop<A>], key: &[u8]) -> usize
 
 // Adds a property.
 fn push_property<A: Allocator>(list: &mut Vec<Prop<A>, A>, prop: Prop<A>) -> Result<(), FitFault>
-    ensures { Makes result (λ u. list.new.items ≡ list.old.items ++ prop ∷ []) }
+    ensures { MakesUnlessMemory result (λ u. list.new.items ≡ list.old.items ++ prop ∷ []) }
 {
     match list.push(prop) {
         Ok(()) => Ok(()),
@@ -64,7 +64,7 @@ fn push_property<A: Allocator>(list: &mut Vec<Prop<A>, A>, prop: Prop<A>) -> Res
 
 // Sets the first property of a name, or adds one.
 fn set_first<A: Allocator>(list: &mut Vec<Prop<A>, A>, prop: Prop<A>) -> Result<(), FitFault>
-    ensures { Makes result (λ u. map property list.new.items
+    ensures { MakesUnlessMemory result (λ u. map property list.new.items
         ≡ with prop.name (content prop.value) (map property list.old.items)) }
 {
     let at = place_of(list.as_slice(), prop.name.items());
@@ -82,7 +82,7 @@ pub(crate) fn with_value<A: Allocator + Copy>(
     key: &[u8],
     value: Value<A>,
 ) -> Result<Props<A>, FitFault>
-    ensures { Makes result (λ own. own ≡ with key.now (content value) props) }
+    ensures { MakesUnlessMemory result (λ own. own ≡ with key.now (content value) props) }
 {
     let name = copied(alloc, key)?;
     let mut list = props.into_vec();

@@ -34,13 +34,13 @@ use Rattle.uimg_fit_checking.specs.declared.checking.checked_payloads.Checked.{C
 use Rattle.uimg_fit_checking.specs.declared.checking.checked_payloads.Checked.TheVariants.{On, Ended}
 use Rattle.uimg_fit_checking.specs.declared.wrong_hashes.WrongHash.{WrongHash}
 use Rattle.uimg_fit_reading.specs.Allowances.{node_allowance, allowance}
-use Rattle.uimg_fit_checking.specs.Checks.{Told, check_work, told_of, wrong_in, is_weak, or_weak, found_of, image_told, or_later, first_told, images_told, some_told, check_of, or_right}
+use Rattle.uimg_fit_checking.specs.Checks.{NamedFinding, check_work, named_finding, wrong_in, is_weak, or_weak, found_of, image_told, or_later, first_told, images_told, some_told, check_of, or_right}
 use Rattle.uimg_fit_checking.specs.CheckParts.{FindsWrongBetween, IsChecked, TellsChecked, left_of, ChecksPayloadBetween, ChecksImageBetween, ChecksImagesBetween}
 use Rattle.uimg_fit_reading.specs.HashReports.{AllCovered}
 use Rattle.uimg_fit_reading.specs.Nodes.{AreFrom, HashesAt, FirstHash}
 use Rattle.uimg_fit_reading.specs.Plans.{are_compared, with_all}
 use Rattle.uimg_fit_checking.specs.Vouching.{has_from}
-use Rattle.uimg_fit_reading.specs.Work.{hashed}
+use Rattle.uimg_fit_reading.specs.Work.{hashed_size}
 use Rattle.uimg_fit_reading.proofs.AllowanceLaws.{tree-paid}
 use Rattle.uimg_fit_reading.proofs.CompareLaws.{compared_any, compared_size}
 use Rattle.uimg_fit_reading.proofs.HashReportLaws.{covered_first}
@@ -115,20 +115,20 @@ rights_all t set file message hs asked new next none k =
 
 -- what is read of a payload
 pub read_is : (image : NodeOf Spot) (message : List ℕ) (set : AlgoSet) (size : ℕ) → set ≡ with_all no_algos (hashes image) → length message ≡ size
-    → (if is_empty set then 0 else size) ≡ hashed image (Ok message)
+    → (if is_empty set then 0 else size) ≡ hashed_size image (Ok message)
 read_is image message set size is long =
     ap (λ (s : AlgoSet). if is_empty s then 0 else size) is ∙ compared_size (hashes image) size
     ∙ ap (λ (n : ℕ). if are_compared (hashes image) then n else 0) (sym long)
     ∙ ap (λ (b : Bool). if b then length message else 0) (sym (compared_any message (hashes image)))
 
 -- an image whose payload has more bytes than are left
-over : (need : Option Algo) (left size : ℕ) (image : NodeOf Spot) (message : List ℕ) → size ≡ hashed image (Ok message) → left < size → found_of need left image message ≡ Some (fit_finding.Overlapping image.name)
-over need left size image message is more = rw (lt-ltb left (hashed image (Ok message)) (omega (arith, is, more))) refl
+over : (need : Option Algo) (left size : ℕ) (image : NodeOf Spot) (message : List ℕ) → size ≡ hashed_size image (Ok message) → left < size → found_of need left image message ≡ Some (fit_finding.Overlapping image.name)
+over need left size image message is more = rw (lt-ltb left (hashed_size image (Ok message)) (omega (arith, is, more))) refl
 
 -- one whose payload has not
-within : (need : Option Algo) (left size : ℕ) (image : NodeOf Spot) (message : List ℕ) → size ≡ hashed image (Ok message) → size ≤ left
+within : (need : Option Algo) (left size : ℕ) (image : NodeOf Spot) (message : List ℕ) → size ≡ hashed_size image (Ok message) → size ≤ left
     → found_of need left image message ≡ or_weak (wrong_in image.name message (hashes image)) need image
-within need left size image message is few = rw (le-ltb left (hashed image (Ok message)) (omega (arith, is, few))) refl
+within need left size image message is few = rw (le-ltb left (hashed_size image (Ok message)) (omega (arith, is, few))) refl
 
 -- each hash node has its allowance
 pub some_nodes : (hs : List (NodeOf Spot)) → 760 * length hs ≤ sum_by node_allowance hs
@@ -138,7 +138,7 @@ some_nodes (h ∷ hs) = omega (arith, sum_by-cons node_allowance h hs, some_node
 nodes_paid : (image : NodeOf Spot) → 128 * length (hashes image) + 760 ≤ node_allowance image
 nodes_paid image = omega (arith, some_nodes (hashes image), hashes_allowed image)
 
-pub payload_over : (file : List ℕ) (need : Option Algo) (left size : ℕ) (image : NodeOf Spot) (message : List ℕ) (asked new : ℕ) (name : Span) → size ≡ hashed image (Ok message) → left < size
+pub payload_over : (file : List ℕ) (need : Option Algo) (left size : ℕ) (image : NodeOf Spot) (message : List ℕ) (asked new : ℕ) (name : Span) → size ≡ hashed_size image (Ok message) → left < size
     → slice file name.place name.length ≡ image.name → new ≤ asked + 32 * length (hashes image) → ChecksPayloadBetween file need left image message asked new (Ok (Ended (fit_finding.Overlapping name)))
 payload_over file need left size image message asked new name is more named paid = record {
   told = over need left size image message is more ∙ ap (λ (n : List ℕ). Some (fit_finding.Overlapping n)) (sym named);
@@ -158,11 +158,11 @@ payload_cut file need left image message asked new r failed paid = record {
 }
 
 -- a hash node is not right
-pub payload_wrong : (file : List ℕ) (need : Option Algo) (left size : ℕ) (image : NodeOf Spot) (message : List ℕ) (asked middle new : ℕ) (name : Span) (found : WrongHash) → size ≡ hashed image (Ok message) → size ≤ left
+pub payload_wrong : (file : List ℕ) (need : Option Algo) (left size : ℕ) (image : NodeOf Spot) (message : List ℕ) (asked middle new : ℕ) (name : Span) (found : WrongHash) → size ≡ hashed_size image (Ok message) → size ≤ left
     → middle ≤ asked + (size + 32 * length (hashes image)) → FindsWrongBetween file message (hashes image) middle new (Ok (Some found)) → slice file name.place name.length ≡ image.name
     → ChecksPayloadBetween file need left image message asked new (Ok (Ended (fit_finding.Wrong name found.hash found.word)))
 payload_wrong file need left size image message asked middle new name found is few paid w named = record {
-  told = within need left size image message is few ∙ ap (λ (o : Option Told). or_weak o need image) (sym (w.told image.name))
+  told = within need left size image message is few ∙ ap (λ (o : Option NamedFinding). or_weak o need image) (sym (w.told image.name))
       ∙ ap (λ (n : List ℕ). Some (fit_finding.Wrong n (slice file found.hash.place found.hash.length) found.word)) (sym named);
   paid = omega (arith, paid, w.paid, few, nodes_paid image);
 }
@@ -179,22 +179,22 @@ pub weak_by : (need : Option Algo) (image : NodeOf Spot) (set : AlgoSet) → set
 weak_by None image set is = refl
 weak_by (Some need) image set is = ap (λ (s : AlgoSet). not (has_from s need)) (sym is)
 
-pub payload_weak : (file : List ℕ) (need : Option Algo) (left size : ℕ) (image : NodeOf Spot) (message : List ℕ) (asked middle new : ℕ) (set : AlgoSet) (name : Span) → size ≡ hashed image (Ok message) → size ≤ left
+pub payload_weak : (file : List ℕ) (need : Option Algo) (left size : ℕ) (image : NodeOf Spot) (message : List ℕ) (asked middle new : ℕ) (set : AlgoSet) (name : Span) → size ≡ hashed_size image (Ok message) → size ≤ left
     → middle ≤ asked + (size + 32 * length (hashes image)) → FindsWrongBetween file message (hashes image) middle new (Ok None) → set ≡ with_all no_algos (hashes image)
     → option_map_or (λ algo. not (has_from set algo)) need false ≡ true → slice file name.place name.length ≡ image.name
     → ChecksPayloadBetween file need left image message asked new (Ok (Ended (fit_finding.Weak name)))
 payload_weak file need left size image message asked middle new set name is few paid w algos lacks named = record {
-  told = within need left size image message is few ∙ ap (λ (o : Option Told). or_weak o need image) (sym (w.told image.name))
+  told = within need left size image message is few ∙ ap (λ (o : Option NamedFinding). or_weak o need image) (sym (w.told image.name))
       ∙ ap (λ (b : Bool). if b then Some (fit_finding.Weak image.name) else None) (weak_by need image set algos ∙ lacks) ∙ ap (λ (n : List ℕ). Some (fit_finding.Weak n)) (sym named);
   paid = omega (arith, paid, w.paid, few, nodes_paid image);
 }
 
-pub payload_on : (file : List ℕ) (need : Option Algo) (left size : ℕ) (image : NodeOf Spot) (message : List ℕ) (asked middle new : ℕ) (set : AlgoSet) (rest : ℕ) → size ≡ hashed image (Ok message) → size ≤ left
+pub payload_on : (file : List ℕ) (need : Option Algo) (left size : ℕ) (image : NodeOf Spot) (message : List ℕ) (asked middle new : ℕ) (set : AlgoSet) (rest : ℕ) → size ≡ hashed_size image (Ok message) → size ≤ left
     → middle ≤ asked + (size + 32 * length (hashes image)) → FindsWrongBetween file message (hashes image) middle new (Ok None) → set ≡ with_all no_algos (hashes image)
     → option_map_or (λ algo. not (has_from set algo)) need false ≡ false → rest + size ≡ left → ChecksPayloadBetween file need left image message asked new (Ok (On rest))
 payload_on file need left size image message asked middle new set rest is few paid w algos lacks sum = record {
   told = (
-    within need left size image message is few ∙ ap (λ (o : Option Told). or_weak o need image) (sym (w.told image.name))
+    within need left size image message is few ∙ ap (λ (o : Option NamedFinding). or_weak o need image) (sym (w.told image.name))
         ∙ ap (λ (b : Bool). if b then Some (fit_finding.Weak image.name) else None) (weak_by need image set algos ∙ lacks),
     omega (arith, is, sum),
   );
@@ -203,11 +203,11 @@ payload_on file need left size image message asked middle new set rest is few pa
 
 -- an image whose payload is there
 checked_is : (file : List ℕ) (need : Option Algo) (left : ℕ) (image : NodeOf Spot) (message : List ℕ) (p : Result (List ℕ) FitFault) (step : Checked) → p ≡ Ok message
-    → IsChecked file left (hashed image (Ok message)) (found_of need left image message) step → TellsChecked file left (hashed image p) (image_told need left image p) (Ok step)
+    → IsChecked file left (hashed_size image (Ok message)) (found_of need left image message) step → TellsChecked file left (hashed_size image p) (image_told need left image p) (Ok step)
 checked_is file need left image message p (On rest) is checked =
-    (ap (image_told need left image) is ∙ ap (λ (o : Option Told). Ok o) checked.0, omega (arith, checked.1, ap (hashed image) is))
+    (ap (image_told need left image) is ∙ ap (λ (o : Option NamedFinding). Ok o) checked.0, omega (arith, checked.1, ap (hashed_size image) is))
 checked_is file need left image message p (Ended found) is checked =
-    ap (image_told need left image) is ∙ ap (λ (o : Option Told). Ok o) checked
+    ap (image_told need left image) is ∙ ap (λ (o : Option NamedFinding). Ok o) checked
 
 pub image_checked : (file : List ℕ) (need : Option Algo) (left : ℕ) (image : NodeOf Spot) (message : List ℕ) (asked middle new : ℕ) (step : Checked) → payload file image ≡ Ok message → middle ≤ asked + 12
     → ChecksPayloadBetween file need left image message middle new (Ok step) → ChecksImageBetween file need left image asked new (Ok step)
@@ -234,7 +234,7 @@ lacks_payload file need left size image of.Put tells = tt
 pub image_lacks : (file : List ℕ) (need : Option Algo) (left : ℕ) (image : NodeOf Spot) (asked new : ℕ) (fault : Fault) → TellsPlace file image (Err fault) → new ≤ asked + 12
     → ChecksImageBetween file need left image asked new (Err fault)
 image_lacks file need left image asked new fault tells paid = record {
-  told = lacks_payload file need left (hashed image (payload file image)) image fault tells;
+  told = lacks_payload file need left (hashed_size image (payload file image)) image fault tells;
   paid = omega (arith, paid);
 }
 
@@ -247,7 +247,7 @@ pub record LeftChecked (t : Siblings) (file : List ℕ) (need : Option Algo) (fo
 
 -- an image, and those after it
 told_more : (need : Option Algo) (file : List ℕ) (left : ℕ) (image : NodeOf Spot) (more : List (NodeOf Spot))
-    → first_told need file left (image ∷ more) ≡ or_later (image_told need left image (payload file image)) (first_told need file (left - hashed image (payload file image)) more)
+    → first_told need file left (image ∷ more) ≡ or_later (image_told need left image (payload file image)) (first_told need file (left - hashed_size image (payload file image)) more)
 unfolding first_told
 told_more need file left image more = refl
 
@@ -259,12 +259,12 @@ pub images_more : (t : Siblings) (file : List ℕ) (need : Option Algo) (found :
     → (image : NodeOf Spot) (more : List (NodeOf Spot)) → k.rest ≡ image ∷ more → (later rest : ℕ) (following : Option ℕ) → ChecksImageBetween file need left image new later (Ok (On rest))
     → AreFrom t in_images following more → LeftChecked t file need found asked later rest following
 images_more t file need found asked new left next k image more are later rest following c from =
-    let fewer : left - hashed image (payload file image) ≡ rest = omega (arith, c.told.1) in
+    let fewer : left - hashed_size image (payload file image) ≡ rest = omega (arith, c.told.1) in
     record {
       rest = more;
       from = from;
       same = k.same ∙ ap (first_told need file left) are ∙ told_more need file left image more
-          ∙ ap (λ (r : Result (Option Told) Fault). or_later r (first_told need file (left - hashed image (payload file image)) more)) c.told.0
+          ∙ ap (λ (r : Result (Option NamedFinding) Fault). or_later r (first_told need file (left - hashed_size image (payload file image)) more)) c.told.0
           ∙ ap (λ (n : ℕ). first_told need file n more) fewer;
       paid = omega (arith, k.paid, c.paid, ap (sum_by node_allowance) are, sum_by-cons node_allowance image more);
     }
@@ -274,15 +274,15 @@ pub images_end : (t : Siblings) (file : List ℕ) (need : Option Algo) (found : 
     → ChecksImagesBetween file need found asked later (Ok (Some ended))
 images_end t file need found asked new left next k image more are later ended c = record {
   told = k.same ∙ ap (first_told need file left) are ∙ told_more need file left image more
-      ∙ ap (λ (r : Result (Option Told) Fault). or_later r (first_told need file (left - hashed image (payload file image)) more)) c.told;
+      ∙ ap (λ (r : Result (Option NamedFinding) Fault). or_later r (first_told need file (left - hashed_size image (payload file image)) more)) c.told;
   paid = omega (arith, k.paid, c.paid, ap (sum_by node_allowance) are, sum_by-cons node_allowance image more);
 }
 
 -- a fault of an image is that of all
-fault_gives : (file : List ℕ) (left size : ℕ) (told all : Result (Option Told) Fault) (later : Result (Option Told) Fault) (fault : Fault) → all ≡ or_later told later → TellsChecked file left size told (Err fault)
-    → Gives (option_map (told_of file)) (let r : Result (Option (Finding Span)) Fault = Err fault in r) all
+fault_gives : (file : List ℕ) (left size : ℕ) (told all : Result (Option NamedFinding) Fault) (later : Result (Option NamedFinding) Fault) (fault : Fault) → all ≡ or_later told later → TellsChecked file left size told (Err fault)
+    → Gives (option_map (named_finding file)) (let r : Result (Option (Finding Span)) Fault = Err fault in r) all
 fault_gives file left size told all later (of.Blob fault at) is tells = absurd tells
-fault_gives file left size told all later (of.Fit fault) is tells = is ∙ ap (λ (r : Result (Option Told) Fault). or_later r later) tells
+fault_gives file left size told all later (of.Fit fault) is tells = is ∙ ap (λ (r : Result (Option NamedFinding) Fault). or_later r later) tells
 fault_gives file left size told all later of.Read is tells = tt
 fault_gives file left size told all later of.Put is tells = tt
 
@@ -290,8 +290,8 @@ pub images_cut : (t : Siblings) (file : List ℕ) (need : Option Algo) (found : 
     → (image : NodeOf Spot) (more : List (NodeOf Spot)) → k.rest ≡ image ∷ more → (later : ℕ) (fault : Fault) → ChecksImageBetween file need left image new later (Err fault)
     → ChecksImagesBetween file need found asked later (Err fault)
 images_cut t file need found asked new left next k image more are later fault c = record {
-  told = fault_gives file left (hashed image (payload file image)) (image_told need left image (payload file image)) _
-      (first_told need file (left - hashed image (payload file image)) more) fault (k.same ∙ ap (first_told need file left) are ∙ told_more need file left image more) c.told;
+  told = fault_gives file left (hashed_size image (payload file image)) (image_told need left image (payload file image)) _
+      (first_told need file (left - hashed_size image (payload file image)) more) fault (k.same ∙ ap (first_told need file left) are ∙ told_more need file left image more) c.told;
   paid = omega (arith, k.paid, c.paid, ap (sum_by node_allowance) are, sum_by-cons node_allowance image more);
 }
 
@@ -342,13 +342,13 @@ pub check_has : (file : List ℕ) (t : Siblings) (need : Option Algo) (found : L
 check_has file t need found first is has from some = check_is file t need found is has ∙ has_image file t need found first from some
 
 pub check_cut : (file : List ℕ) (need : Option Algo) (found : List (NodeOf Spot)) (fault : Fault) → check_of need file ≡ images_told need file found
-    → Gives (option_map (told_of file)) (let r : Result (Option (Finding Span)) Fault = Err fault in r) (first_told need file (length file) found)
-    → Gives (told_of file) (let r : Result (Finding Span) Fault = Err fault in r) (check_of need file)
-check_cut file need found (of.Blob fault at) is gives = λ m. is ∙ ap (λ (r : Result (Option Told) Fault). r >>= (λ o. Ok (or_right need found o))) (gives m)
-check_cut file need found (of.Fit fault) is gives = is ∙ ap (λ (r : Result (Option Told) Fault). r >>= (λ o. Ok (or_right need found o))) gives
+    → Gives (option_map (named_finding file)) (let r : Result (Option (Finding Span)) Fault = Err fault in r) (first_told need file (length file) found)
+    → Gives (named_finding file) (let r : Result (Finding Span) Fault = Err fault in r) (check_of need file)
+check_cut file need found (of.Blob fault at) is gives = λ m. is ∙ ap (λ (r : Result (Option NamedFinding) Fault). r >>= (λ o. Ok (or_right need found o))) (gives m)
+check_cut file need found (of.Fit fault) is gives = is ∙ ap (λ (r : Result (Option NamedFinding) Fault). r >>= (λ o. Ok (or_right need found o))) gives
 check_cut file need found of.Read is gives = tt
 check_cut file need found of.Put is gives = tt
 
-pub check_ends : (file : List ℕ) (need : Option Algo) (found : List (NodeOf Spot)) (o : Option Told) → check_of need file ≡ images_told need file found → first_told need file (length file) found ≡ Ok o
+pub check_ends : (file : List ℕ) (need : Option Algo) (found : List (NodeOf Spot)) (o : Option NamedFinding) → check_of need file ≡ images_told need file found → first_told need file (length file) found ≡ Ok o
     → check_of need file ≡ Ok (or_right need found o)
-check_ends file need found o is gives = is ∙ ap (λ (r : Result (Option Told) Fault). r >>= (λ o. Ok (or_right need found o))) gives
+check_ends file need found o is gives = is ∙ ap (λ (r : Result (Option NamedFinding) Fault). r >>= (λ o. Ok (or_right need found o))) gives

@@ -16,9 +16,9 @@ use Rattle.uimg_fit_base.specs.Places.{payload, TellsPlace}
 use Rattle.uimg_fit_checking.specs.declared.unpacking.claims.Claim.{Claim}
 use Rattle.uimg_fit_checking.specs.declared.unpacking.claims.Claim.TheVariants.{Fits, Overlaps}
 use Rattle.uimg_fit_checking.specs.declared.unpacking.node_names.NodeName.{NodeName}
-use Rattle.uimg_fit_checking.specs.Unpacking.{is_asked, overlapping, fits_before, bytes_of}
+use Rattle.uimg_fit_checking.specs.Unpacking.{is_asked, overlapping, fits_before, as_bytes}
 use Rattle.uimg_fit_checking.specs.declared.unpacking.requested.Requested.{Requested}
-use Rattle.uimg_fit_checking.specs.UnpackingParts.{IsOf, TellsFound, Claims, ClaimsAll, ClaimsImagesBetween, size_if}
+use Rattle.uimg_fit_checking.specs.UnpackingParts.{IsPayloadOf, TellsFound, Claims, ClaimsAll, ClaimsImagesBetween, size_if}
 use Rattle.uimg_fit_reading.specs.Nodes.{AreFrom}
 use Rattle.uimg_fit_reading.proofs.ImageLaws.{none_left}
 
@@ -56,7 +56,7 @@ rest_of (Overlaps name) = 0
 
 -- one that is not asked for, or fits
 fits : (number : ℕ) (only : Option (List ℕ)) (file : List ℕ) (left rest : ℕ) (image : NodeOf Spot) (found : Option Requested) (later : ℕ → Result (Option (List ℕ)) FitFault) → TellsFound only file image (Ok found)
-    → IfSome found (IsOf number (length file)) → Claims left found (Fits rest) → (if is_asked only image.name then fits_before image.name left (payload file image) later else later left) ≡ later rest
+    → IfSome found (IsPayloadOf number (length file)) → Claims left found (Fits rest) → (if is_asked only image.name then fits_before image.name left (payload file image) later else later left) ≡ later rest
 unfolding rest_of
 fits number only file left rest image None later tells inside same =
     ap (λ (b : Bool). if b then fits_before image.name left (payload file image) later else later left) tells ∙ ap later (sym (ap rest_of same))
@@ -68,12 +68,12 @@ fits number only file left rest image (Some it) later tells inside sum =
 
 -- one with which they overlap
 overlaps_here : (number : ℕ) (only : Option (List ℕ)) (file : List ℕ) (left : ℕ) (image : NodeOf Spot) (found : Option Requested) (its : NodeName) (later : ℕ → Result (Option (List ℕ)) FitFault) → TellsFound only file image (Ok found)
-    → IfSome found (IsOf number (length file)) → Claims left found (Overlaps its) → (if is_asked only image.name then fits_before image.name left (payload file image) later else later left) ≡ Ok (Some (bytes_of its))
+    → IfSome found (IsPayloadOf number (length file)) → Claims left found (Overlaps its) → (if is_asked only image.name then fits_before image.name left (payload file image) later else later left) ≡ Ok (Some (as_bytes its))
 overlaps_here number only file left image None its later tells inside same = absurd (cc)
 overlaps_here number only file left image (Some it) its later tells inside over =
     let message = slice file it.span.place it.span.length in
     let len = length-slice file it.span.place it.span.length inside.inside in
-    let named : image.name ≡ bytes_of its = sym (ap bytes_of over.1 ∙ tells.named) in
+    let named : image.name ≡ as_bytes its = sym (ap as_bytes over.1 ∙ tells.named) in
     ap (λ (b : Bool). if b then fits_before image.name left (payload file image) later else later left) tells.asked
     ∙ ap (λ (p : Result (List ℕ) FitFault). fits_before image.name left p later) tells.is
     ∙ rw (lt-ltb left (length message) (omega (arith, over.0, len))) (ap (λ (n : List ℕ). let r : Result (Option (List ℕ)) FitFault = Ok (Some n) in r) named)
@@ -90,7 +90,7 @@ refused_here only file left image of.Put later tells = tt
 
 pub claims_more : (t : Siblings) (file : List ℕ) (only : Option (List ℕ)) (found : List (NodeOf Spot)) (asked new left : ℕ) (next : Option ℕ) (k : LeftClaimed t file only found asked new left next)
     → (image : NodeOf Spot) (more : List (NodeOf Spot)) → k.rest ≡ image ∷ more → (later rest : ℕ) (following : Option ℕ) (number : ℕ) (it : Option Requested) → later ≤ new + 267 → TellsFound only file image (Ok it)
-    → IfSome it (IsOf number (length file)) → Claims left it (Fits rest)
+    → IfSome it (IsPayloadOf number (length file)) → Claims left it (Fits rest)
     → AreFrom t in_images following more → LeftClaimed t file only found asked later rest following
 claims_more t file only found asked new left next k image more are later rest following number it paid tells inside claims from = record {
   rest = more;
@@ -102,7 +102,7 @@ claims_more t file only found asked new left next k image more are later rest fo
 
 pub claims_end : (t : Siblings) (file : List ℕ) (only : Option (List ℕ)) (found : List (NodeOf Spot)) (asked new left : ℕ) (next : Option ℕ) (k : LeftClaimed t file only found asked new left next)
     → (image : NodeOf Spot) (more : List (NodeOf Spot)) → k.rest ≡ image ∷ more → (later : ℕ) (its : NodeName) (number : ℕ) (it : Option Requested) → later ≤ new + 267 → TellsFound only file image (Ok it)
-    → IfSome it (IsOf number (length file)) → Claims left it (Overlaps its)
+    → IfSome it (IsPayloadOf number (length file)) → Claims left it (Overlaps its)
     → ClaimsImagesBetween file only found asked later (Ok (Some its))
 claims_end t file only found asked new left next k image more are later its number it paid tells inside claims = record {
   told = k.same ∙ ap (overlapping only file left) are ∙ overlapping_more only file left image more

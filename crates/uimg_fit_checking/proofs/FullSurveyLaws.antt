@@ -24,7 +24,7 @@ use Rattle.uimg_blob_reading.specs.Spots.{Spot, spot_of, spots}
 use Rattle.uimg_blob_reading.specs.Reading.{Fault as BlobFaultAt}
 use Rattle.uimg_fit_base.specs.Files.{spots_in}
 use Rattle.uimg_fit_base.specs.declared.fault.Fault.TheVariants as of
-use Rattle.uimg_fit_checking.specs.FullSurvey.{properties_said, properties_in, properties_read, properties_of, read_properties, list_cost, properties_cost, ReadsAs, Tells, TellsProperties, TellsLists}
+use Rattle.uimg_fit_checking.specs.FullSurvey.{properties_said, properties_in, properties_read, properties_of, read_properties, list_cost, properties_cost, ReadsAs, TellsFacts, TellsProperties, TellsLists}
 use Rattle.uimg_fit_reading.specs.Nodes.{IsRead, IsNode, AreFrom, HasTree, Opened, OfNode}
 use Rattle.uimg_fit_checking.specs.declared.surveying.fault.SurveyFault.{SurveyFault}
 use Rattle.uimg_fit_checking.specs.declared.surveying.fault.SurveyFault.TheVariants as survey
@@ -64,13 +64,13 @@ list_told d e blob room number result asked told t opened found n =
 -- the same over a source that is what it was
 pub over_same : {Z : Type 0} (d e f : Device) (blob : Blob) (h k : Held) (t : Siblings) (number : ℕ) (found : NodeOf Spot) (result : Result (Vec PropertyPlace Z) SurveyFault) → SameDevice d e → k ≡ h
     → OfNode e blob k in_configurations number (λ node. TellsProperties e f node result) → Opened d blob h t → IsNode t in_configurations number found
-    → Tells (read_properties d.bytes) (properties_said found) (list_cost (nops_met d.bytes) (properties_said found)) result e f
+    → TellsFacts (read_properties d.bytes) (properties_said found) (list_cost (nops_met d.bytes) (properties_said found)) result e f
 over_same d e f blob h k t number found result same room told opened n =
     let there : Opened e blob k t = record {
       honest = subst (λ (b : Bool). IsTrue b) (sym same.honest) opened.honest;
       read = subst (λ (bytes : List ℕ). IsRead bytes blob k.entries t) (sym same.bytes) (subst (λ (r : Held). IsRead d.bytes blob r.entries t) (sym room) opened.read);
     } in
-    subst (λ (bytes : List ℕ). Tells (read_properties bytes) (properties_said found) (list_cost (nops_met bytes) (properties_said found)) result e f) same.bytes (told t there found n)
+    subst (λ (bytes : List ℕ). TellsFacts (read_properties bytes) (properties_said found) (list_cost (nops_met bytes) (properties_said found)) result e f) same.bytes (told t there found n)
 
 -- The properties of some configurations are listed and paid for, and the others stand from a number on.
 pub record Listed {Z : Type 0} (d : Device) (t : Siblings) (lists : List (Vec PropertyPlace Z)) (next : Option ℕ) (all : List (NodeOf Spot)) (asked : ℕ) : Type 0 where
@@ -80,7 +80,7 @@ pub record Listed {Z : Type 0} (d : Device) (t : Siblings) (lists : List (Vec Pr
 module _ {Z : Type 0} (d : Device) (t : Siblings) (all : List (NodeOf Spot)) where
   -- one more
   pub one_listed : (e f : Device) (lists grown : List (Vec PropertyPlace Z)) (places : Vec PropertyPlace Z) (next later : Option ℕ) (k : Listed d t lists next all e.asked) (x : NodeOf Spot) (more : List (NodeOf Spot))
-      → k.gathered.left ≡ x ∷ more → Tells (read_properties d.bytes) (properties_said x) (list_cost (nops_met d.bytes) (properties_said x)) (Ok places) e f
+      → k.gathered.left ≡ x ∷ more → TellsFacts (read_properties d.bytes) (properties_said x) (list_cost (nops_met d.bytes) (properties_said x)) (Ok places) e f
       → grown ≡ lists ++ places ∷ [] → AreFrom t in_configurations later more → Listed d t grown later all f.asked
   one_listed e f lists grown places next later k x more are tells grows at =
       let read = read_properties d.bytes in
@@ -96,7 +96,7 @@ module _ {Z : Type 0} (d : Device) (t : Siblings) (all : List (NodeOf Spot)) whe
 
   -- a stop in one
   pub cut_listed : {X Y : Type 0} (view : X → Y) (said : Y) (result : Result X SurveyFault) (e f : Device) (lists : List (Vec PropertyPlace Z)) (next : Option ℕ) (k : Listed d t lists next all e.asked) (x : NodeOf Spot) (more : List (NodeOf Spot))
-      → k.gathered.left ≡ x ∷ more → Tells view said (list_cost (nops_met d.bytes) (properties_said x)) result e f
+      → k.gathered.left ≡ x ∷ more → TellsFacts view said (list_cost (nops_met d.bytes) (properties_said x)) result e f
       → f.asked ≤ d.asked + sum_by (list_cost (nops_met d.bytes)) (map properties_said all)
   cut_listed view said result e f lists next k x more are tells =
       let read = read_properties d.bytes in

@@ -15,7 +15,7 @@ use Rattle.uimg_fit_base.specs.Extraction.{of_images, payload_of}
 use Rattle.uimg_fit_base.specs.Faults.{Gives}
 use Rattle.uimg_fit_base.specs.Places.{payload, TellsPlace}
 use Rattle.uimg_fit_base.proofs.FileLaws.{images_are}
-use Rattle.uimg_fit_checking.specs.Named.{named, payload_named, name_of, name_at, HasNamed, LacksNamed}
+use Rattle.uimg_fit_checking.specs.Named.{named, payload_named, image_name, name_at, HasNamed, LacksNamed}
 use Rattle.uimg_fit_reading.specs.Nodes.{IsNode, AreFrom, HasImages, HasImage}
 use Rattle.uimg_fit_reading.proofs.ExtractionLaws.{by_answer}
 use Rattle.uimg_fit_reading.proofs.ImageLaws.{front, none_left}
@@ -84,8 +84,8 @@ gives_named file t name number result is h tells =
 -- the name of the image at a position
 name_is : (file : List ℕ) (t : Siblings) (position number : ℕ) → tree file ≡ Ok t → (h : HasImage t position number) → name_at file position ≡ Ok h.image.name
 name_is file t position number is h =
-    ap (λ (r : Result (List (NodeOf Spot)) Fault). r >>= (λ found. of_images (name_of (slice_get found position)))) (images_are file t (Some h.found) is h.is)
-    ∙ ap (λ (o : Option (NodeOf Spot)). of_images (name_of o)) h.has
+    ap (λ (r : Result (List (NodeOf Spot)) Fault). r >>= (λ found. of_images (image_name (slice_get found position)))) (images_are file t (Some h.found) is h.is)
+    ∙ ap (λ (o : Option (NodeOf Spot)). of_images (image_name o)) h.has
 
 pub gives_name : (file : List ℕ) (t : Siblings) (position number : ℕ) (bytes : List ℕ) → tree file ≡ Ok t → HasImage t position number
     → ((found : NodeOf Spot) → IsNode t in_images number found → bytes ≡ found.name) → name_at file position ≡ Ok bytes

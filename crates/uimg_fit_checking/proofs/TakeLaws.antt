@@ -28,7 +28,7 @@ use Rattle.uimg_fit_base.specs.Places.{payload}
 use Rattle.uimg_fit_base.specs.AlgoSets.{no_algos}
 use Rattle.uimg_fit_checking.specs.declared.unpacking.taker.Refusal.{Refusal}
 use Rattle.uimg_fit_checking.specs.declared.unpacking.taker.Vouched.{Vouched}
-use Rattle.uimg_fit_checking.specs.Checks.{Told, wrong_in, or_weak}
+use Rattle.uimg_fit_checking.specs.Checks.{NamedFinding, wrong_in, or_weak}
 use Rattle.uimg_fit_reading.specs.Allowances.{node_allowance}
 use Rattle.uimg_fit_reading.specs.Nodes.{AreFrom}
 use Rattle.uimg_fit_reading.specs.Plans.{with_all}
@@ -61,8 +61,8 @@ pub refused_is : (need : Option Algo) (image : NodeOf Spot) (message name : List
     → Some (told_of image.name refusal) ≡ or_weak (wrong_in image.name message (hashes image)) need image → new ≡ old ++ refused name (told_of name refusal) ∷ []
     → TakesTo true (take_of need image message) (Ok false) p old new
 refused_is need image message name refusal p old new named told given = (
-  given ∙ ap (λ (n : List ℕ). old ++ refused n (told_of n refusal) ∷ []) named ∙ ap (λ (o : Option Told). old ++ take_by image message o ∷ []) told,
-  ap (λ (o : Option Told). is_kept (take_by image message o)) told,
+  given ∙ ap (λ (n : List ℕ). old ++ refused n (told_of n refusal) ∷ []) named ∙ ap (λ (o : Option NamedFinding). old ++ take_by image message o ∷ []) told,
+  ap (λ (o : Option NamedFinding). is_kept (take_by image message o)) told,
 )
 
 -- one that is kept
@@ -71,8 +71,8 @@ pub kept_is : (need : Option Algo) (image : NodeOf Spot) (message name : List �
     → TakesTo true (take_of need image message) (Ok true) p old new
 kept_is need image message name set vouched p old new named told algos is given = (
   given ∙ ap (λ (n : List ℕ). old ++ kept n message vouched ∷ []) named ∙ ap (λ (v : Option Vouched). old ++ kept image.name message v ∷ []) is
-      ∙ ap (λ (s : AlgoSet). old ++ kept image.name message (vouched_by s message) ∷ []) algos ∙ ap (λ (o : Option Told). old ++ take_by image message o ∷ []) told,
-  ap (λ (o : Option Told). is_kept (take_by image message o)) told,
+      ∙ ap (λ (s : AlgoSet). old ++ kept image.name message (vouched_by s message) ∷ []) algos ∙ ap (λ (o : Option NamedFinding). old ++ take_by image message o ∷ []) told,
+  ap (λ (o : Option NamedFinding). is_kept (take_by image message o)) told,
 )
 
 -- an image that is not asked for

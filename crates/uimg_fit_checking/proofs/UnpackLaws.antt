@@ -17,7 +17,7 @@ use Rattle.uimg_fit_checking.specs.declared.unpacking.taker.Refusal.{Refusal}
 use Rattle.uimg_fit_checking.specs.declared.unpacking.taker.Refusal.TheVariants.{Weak}
 use Rattle.uimg_fit_checking.specs.declared.unpacking.taker.Vouched.{Vouched}
 use Rattle.uimg_fit_checking.specs.declared.checking.Finding.TheVariants as fit_finding
-use Rattle.uimg_fit_checking.specs.Checks.{Told, wrong_in, or_weak}
+use Rattle.uimg_fit_checking.specs.Checks.{NamedFinding, wrong_in, or_weak}
 use Rattle.uimg_fit_checking.specs.CheckParts.{FindsWrongBetween, wrong_told}
 use Rattle.uimg_fit_reading.specs.Plans.{with_all}
 use Rattle.uimg_fit_checking.specs.Unpacking.{strongest, vouched_by, told_of}
@@ -47,7 +47,7 @@ vouched_is set algo message digest is same =
     ∙ sym (ap (λ (o : Option Algo). option_map (λ (a : Algo). let v : Vouched = record { algo = a; digest = (padded_digest (digest_by a message)).0 } in v) o) is)
 
 -- where a hash node is not right, there is one
-some_hash : (name message : List ℕ) (hs : List (NodeOf Spot)) (told : Told) → Some told ≡ wrong_in name message hs → 1 ≤ length hs
+some_hash : (name message : List ℕ) (hs : List (NodeOf Spot)) (told : NamedFinding) → Some told ≡ wrong_in name message hs → 1 ≤ length hs
 unfolding wrong_in
 some_hash name message [] told is = absurd (some_none is)
 some_hash name message (h ∷ hs) told is = omega arith
@@ -66,7 +66,7 @@ named_paid file image message asked middle new wrong w paid =
 pub refusal_found : (file : List ℕ) (need : Option Algo) (image : NodeOf Spot) (message : List ℕ) (asked middle new : ℕ) (wrong : WrongHash) (refusal : Refusal) → FindsWrongBetween file message (hashes image) asked middle (Ok (Some wrong))
     → told_of image.name refusal ≡ wrong_told file image.name wrong → new ≤ middle + 255 → FindsRefusalBetween need image message asked new (Ok (Some refusal))
 refusal_found file need image message asked middle new wrong refusal w is paid = record {
-  told = ap (λ (x : Told). Some x) is ∙ ap (λ (o : Option Told). or_weak o need image) (w.told image.name);
+  told = ap (λ (x : NamedFinding). Some x) is ∙ ap (λ (o : Option NamedFinding). or_weak o need image) (w.told image.name);
   paid = named_paid file image message asked middle new wrong w paid;
 }
 
@@ -74,7 +74,7 @@ refusal_found file need image message asked middle new wrong refusal w is paid =
 pub refusal_weak : (file : List ℕ) (need : Option Algo) (image : NodeOf Spot) (message : List ℕ) (asked new : ℕ) (set : AlgoSet) → FindsWrongBetween file message (hashes image) asked new (Ok None) → set ≡ with_all no_algos (hashes image)
     → option_map_or (λ algo. not (has_from set algo)) need false ≡ true → FindsRefusalBetween need image message asked new (Ok (Some Weak))
 refusal_weak file need image message asked new set w algos lacks = record {
-  told = sym (ap (λ (o : Option Told). or_weak o need image) (sym (w.told image.name)) ∙ ap (λ (b : Bool). if b then Some (fit_finding.Weak image.name) else None) (weak_by need image set algos ∙ lacks));
+  told = sym (ap (λ (o : Option NamedFinding). or_weak o need image) (sym (w.told image.name)) ∙ ap (λ (b : Bool). if b then Some (fit_finding.Weak image.name) else None) (weak_by need image set algos ∙ lacks));
   paid = omega (arith, w.paid);
 }
 
@@ -82,6 +82,6 @@ refusal_weak file need image message asked new set w algos lacks = record {
 pub refusal_none : (file : List ℕ) (need : Option Algo) (image : NodeOf Spot) (message : List ℕ) (asked new : ℕ) (set : AlgoSet) → FindsWrongBetween file message (hashes image) asked new (Ok None) → set ≡ with_all no_algos (hashes image)
     → option_map_or (λ algo. not (has_from set algo)) need false ≡ false → FindsRefusalBetween need image message asked new (Ok None)
 refusal_none file need image message asked new set w algos lacks = record {
-  told = sym (ap (λ (o : Option Told). or_weak o need image) (sym (w.told image.name)) ∙ ap (λ (b : Bool). if b then Some (fit_finding.Weak image.name) else None) (weak_by need image set algos ∙ lacks));
+  told = sym (ap (λ (o : Option NamedFinding). or_weak o need image) (sym (w.told image.name)) ∙ ap (λ (b : Bool). if b then Some (fit_finding.Weak image.name) else None) (weak_by need image set algos ∙ lacks));
   paid = omega (arith, w.paid);
 }

@@ -18,7 +18,7 @@ use Rattle.uimg_fit_base.proofs.FileLaws.{images_are}
 use Rattle.uimg_fit_checking.specs.declared.unpacking.Unpacked.{Unpacked}
 use Rattle.uimg_fit_checking.specs.declared.unpacking.Unpacked.TheVariants.{Taken, Overlapping}
 use Rattle.uimg_fit_checking.specs.declared.unpacking.node_names.NodeName.{NodeName}
-use Rattle.uimg_fit_checking.specs.Unpacking.{Take, Outcome, taken, overlaps, takes, overlapping, told_or_fault, images_unpacked, unpack_of, unpack_work, bytes_of, StopsIn, Unpacks}
+use Rattle.uimg_fit_checking.specs.Unpacking.{Take, UnpackOutcome, taken, overlaps, takes, overlapping, told_or_fault, images_unpacked, unpack_of, unpack_work, as_bytes, StopsIn, Unpacks}
 use Rattle.uimg_fit_checking.specs.UnpackingParts.{ClaimsAll, TakesAll, take_allowance}
 use Rattle.uimg_fit_checking.proofs.CheckLaws.{check_within}
 use Rattle.uimg_fit_checking.proofs.TakeLaws.{allowed}
@@ -30,40 +30,40 @@ unpack_is file t need only found is has =
     ap (λ (r : Result (List (NodeOf Spot)) Fault). r >>= images_unpacked need only file) (images_are file t (Some found) is has)
 
 -- a device failed before anything was given
-stops_none : (r : Result Outcome Fault) (old new : List Take) → new ≡ old → StopsIn r old new
+stops_none : (r : Result UnpackOutcome Fault) (old new : List Take) → new ≡ old → StopsIn r old new
 stops_none (Ok (taken ts)) old new same = record { count = 0; given = same ∙ sym (append-nil old) }
 stops_none (Ok (overlaps name)) old new same = same
 stops_none (Err fault) old new same = same
 
-refuses : (told : Result Outcome Fault) (o : Result (Option (List ℕ)) FitFault) (ts : List Take) (fault : Fault) (old new : List Take) → told ≡ told_or_fault o ts → ClaimsAll o (Err fault) → new ≡ old → Unpacks (Err fault) told old new
+refuses : (told : Result UnpackOutcome Fault) (o : Result (Option (List ℕ)) FitFault) (ts : List Take) (fault : Fault) (old new : List Take) → told ≡ told_or_fault o ts → ClaimsAll o (Err fault) → new ≡ old → Unpacks (Err fault) told old new
 refuses told o ts (of.Blob fault at) old new same claims none = absurd claims
 refuses told o ts (of.Fit fault) old new same claims none = (same ∙ ap (λ (x : Result (Option (List ℕ)) FitFault). told_or_fault x ts) claims, none)
 refuses told o ts of.Read old new same claims none = stops_none told old new none
 refuses told o ts of.Put old new same claims none = stops_none told old new none
 
 -- an image is refused
-pub unpack_refused : (told : Result Outcome Fault) (o : Result (Option (List ℕ)) FitFault) (ts : List Take) (fault : Fault) (r : Result Unpacked Fault) (old new : List Take) → r ≡ Err fault → told ≡ told_or_fault o ts
+pub unpack_refused : (told : Result UnpackOutcome Fault) (o : Result (Option (List ℕ)) FitFault) (ts : List Take) (fault : Fault) (r : Result Unpacked Fault) (old new : List Take) → r ≡ Err fault → told ≡ told_or_fault o ts
     → ClaimsAll o (Err fault) → new ≡ old → Unpacks r told old new
 unpack_refused told o ts fault r old new is same claims none =
     subst (λ (x : Result Unpacked Fault). Unpacks x told old new) (sym is) (refuses told o ts fault old new same claims none)
 
 -- payloads overlap
-pub unpack_overlaps : (told : Result Outcome Fault) (o : Result (Option (List ℕ)) FitFault) (ts : List Take) (name : NodeName) (found : Option NodeName) (old new : List Take) → told ≡ told_or_fault o ts → found ≡ Some name
-    → o ≡ Ok (option_map bytes_of found) → new ≡ old → Unpacks (Ok (Overlapping name)) told old new
+pub unpack_overlaps : (told : Result UnpackOutcome Fault) (o : Result (Option (List ℕ)) FitFault) (ts : List Take) (name : NodeName) (found : Option NodeName) (old new : List Take) → told ≡ told_or_fault o ts → found ≡ Some name
+    → o ≡ Ok (option_map as_bytes found) → new ≡ old → Unpacks (Ok (Overlapping name)) told old new
 unpack_overlaps told o ts name found old new same is claims none =
-    let all : told ≡ Ok (overlaps (bytes_of name)) =
-    same ∙ ap (λ (x : Result (Option (List ℕ)) FitFault). told_or_fault x ts) (claims ∙ ap (λ (f : Option NodeName). let r : Result (Option (List ℕ)) FitFault = Ok (option_map bytes_of f) in r) is) in
-    subst (λ (r : Result Outcome Fault). Unpacks (Ok (Overlapping name)) r old new) (sym all) (refl, none)
+    let all : told ≡ Ok (overlaps (as_bytes name)) =
+    same ∙ ap (λ (x : Result (Option (List ℕ)) FitFault). told_or_fault x ts) (claims ∙ ap (λ (f : Option NodeName). let r : Result (Option (List ℕ)) FitFault = Ok (option_map as_bytes f) in r) is) in
+    subst (λ (r : Result UnpackOutcome Fault). Unpacks (Ok (Overlapping name)) r old new) (sym all) (refl, none)
 
 -- they don't
-pub fitting : (o : Result (Option (List ℕ)) FitFault) (found : Option NodeName) → found ≡ None → o ≡ Ok (option_map bytes_of found) → o ≡ Ok None
-fitting o found is claims = claims ∙ ap (λ (f : Option NodeName). let r : Result (Option (List ℕ)) FitFault = Ok (option_map bytes_of f) in r) is
+pub fitting : (o : Result (Option (List ℕ)) FitFault) (found : Option NodeName) → found ≡ None → o ≡ Ok (option_map as_bytes found) → o ≡ Ok None
+fitting o found is claims = claims ∙ ap (λ (f : Option NodeName). let r : Result (Option (List ℕ)) FitFault = Ok (option_map as_bytes f) in r) is
 
-pub unpack_taken : (told : Result Outcome Fault) (o : Result (Option (List ℕ)) FitFault) (ts : List Take) (all : Bool) (old middle new : List Take) → told ≡ told_or_fault o ts → o ≡ Ok None → middle ≡ old
+pub unpack_taken : (told : Result UnpackOutcome Fault) (o : Result (Option (List ℕ)) FitFault) (ts : List Take) (all : Bool) (old middle new : List Take) → told ≡ told_or_fault o ts → o ≡ Ok None → middle ≡ old
     → TakesAll ts (Ok all) middle new → Unpacks (Ok (Taken all)) told old new
 unpack_taken told o ts all old middle new same fits none given =
     let whole : told ≡ Ok (taken ts) = same ∙ ap (λ (x : Result (Option (List ℕ)) FitFault). told_or_fault x ts) fits in
-    subst (λ (r : Result Outcome Fault). Unpacks (Ok (Taken all)) r old new) (sym whole)
+    subst (λ (r : Result UnpackOutcome Fault). Unpacks (Ok (Taken all)) r old new) (sym whole)
     (subst (λ (l : List Take). TakesAll ts (Ok all) l new) none given)
 
 stops : (ts : List Take) (fault : Fault) (old new : List Take) → TakesAll ts (Err fault) old new → Unpacks (Err fault) (Ok (taken ts)) old new
@@ -73,12 +73,12 @@ stops ts of.Read old new given = given
 stops ts of.Put old new given = given
 
 -- a device failed while they were taken
-pub unpack_stops : (told : Result Outcome Fault) (o : Result (Option (List ℕ)) FitFault) (ts : List Take) (fault : Fault) (r : Result Unpacked Fault) (old middle new : List Take) → r ≡ Err fault → told ≡ told_or_fault o ts → o ≡ Ok None
+pub unpack_stops : (told : Result UnpackOutcome Fault) (o : Result (Option (List ℕ)) FitFault) (ts : List Take) (fault : Fault) (r : Result Unpacked Fault) (old middle new : List Take) → r ≡ Err fault → told ≡ told_or_fault o ts → o ≡ Ok None
     → middle ≡ old → TakesAll ts (Err fault) middle new → Unpacks r told old new
 unpack_stops told o ts fault r old middle new is same fits none given =
     let whole : told ≡ Ok (taken ts) = same ∙ ap (λ (x : Result (Option (List ℕ)) FitFault). told_or_fault x ts) fits in
     subst (λ (x : Result Unpacked Fault). Unpacks x told old new) (sym is)
-    (subst (λ (x : Result Outcome Fault). Unpacks (Err fault) x old new) (sym whole)
+    (subst (λ (x : Result UnpackOutcome Fault). Unpacks (Err fault) x old new) (sym whole)
     (stops ts fault old new (subst (λ (l : List Take). TakesAll ts (Err fault) l new) none given)))
 
 -- what was asked for about the images is within the work

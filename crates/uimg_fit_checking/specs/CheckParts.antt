@@ -23,13 +23,15 @@ use Rattle.uimg_fit_checking.specs.declared.checking.checked_payloads.Checked.{C
 use Rattle.uimg_fit_checking.specs.declared.checking.checked_payloads.Checked.TheVariants.{On}
 use Rattle.uimg_fit_checking.specs.declared.checking.checked_payloads.Checked.TheVariants.{Ended}
 use Rattle.uimg_fit_reading.specs.Allowances.{node_allowance}
-use Rattle.uimg_fit_reading.specs.Work.{hashed}
-use Rattle.uimg_fit_checking.specs.Checks.{Told, told_of, EndsInside, wrong_in, found_of}
+use Rattle.uimg_fit_reading.specs.Work.{hashed_size}
+use Rattle.uimg_fit_checking.specs.Checks.{NamedFinding, named_finding, EndsInside, wrong_in}
+use Rattle.uimg_fit_checking.specs.Checks.{found_of}
 use Rattle.uimg_fit_checking.specs.Checks.{image_told, first_told}
 
 -- the finding about an image with a hash node that is not right
-abbrev pub wrong_told : List ℕ → List ℕ → WrongHash → Told
-wrong_told file name found = fit_finding.Wrong name (slice file found.hash.place found.hash.length) found.word
+abbrev pub wrong_told : List ℕ → List ℕ → WrongHash → NamedFinding
+wrong_told file name found =
+    fit_finding.Wrong name (slice file found.hash.place found.hash.length) found.word
 
 -- The first hash node that is not right was found; at most 96 bytes were requested for each node.
 pub record FindsWrongBetween (file message : List ℕ) (hs : List (NodeOf Spot)) (asked new : ℕ)
@@ -46,15 +48,16 @@ FindsWrong message hs result device source =
     (device source.exit.now).asked result
 
 -- the result for an image: that `size` bytes of its payload were read, or the finding
-abbrev pub IsChecked : List ℕ → ℕ → ℕ → Option Told → Checked → Type 0
+abbrev pub IsChecked : List ℕ → ℕ → ℕ → Option NamedFinding → Checked → Type 0
 IsChecked file left size told (On rest) = (told ≡ None) × (rest + size ≡ left)
-IsChecked file left size told (Ended finding) = told ≡ Some (told_of file finding)
+IsChecked file left size told (Ended finding) = told ≡ Some (named_finding file finding)
 
 -- the same, or the fault of its payload
-abbrev pub TellsChecked : List ℕ → ℕ → ℕ → Result (Option Told) Fault → Result Checked Fault
+abbrev pub TellsChecked : List ℕ → ℕ → ℕ → Result (Option NamedFinding) Fault → Result Checked Fault
     → Type 0
 TellsChecked file left size told (Ok (On rest)) = (told ≡ Ok None) × (rest + size ≡ left)
-TellsChecked file left size told (Ok (Ended finding)) = told ≡ Ok (Some (told_of file finding))
+TellsChecked file left size told (Ok (Ended finding)) =
+    told ≡ Ok (Some (named_finding file finding))
 TellsChecked file left size told (Err (of.Fit fault)) = told ≡ Err (of.Fit fault)
 TellsChecked file left size told (Err (of.Blob fault at)) = ⊥
 TellsChecked file left size told (Err _) = ⊤
@@ -75,7 +78,7 @@ pub record ChecksPayloadBetween (file : List ℕ) (need : Option Algo) (left : �
     (image : NodeOf Spot) (message : List ℕ) (asked new : ℕ) (result : Result Checked SourceFault)
     : Type 0 where
   pub told : IfOk result
-      (IsChecked file left (hashed image (Ok message)) (found_of need left image message))
+      (IsChecked file left (hashed_size image (Ok message)) (found_of need left image message))
   pub paid : new + left_of result + 12 ≤ asked + left + node_allowance image
 
 abbrev pub ChecksPayload : {S : Type 0} → Option Algo → ℕ → NodeOf Spot → Span
@@ -88,7 +91,7 @@ ChecksPayload need left found payload result device source =
 -- An image was checked.
 pub record ChecksImageBetween (file : List ℕ) (need : Option Algo) (left : ℕ) (image : NodeOf Spot)
     (asked new : ℕ) (result : Result Checked Fault) : Type 0 where
-  pub told : TellsChecked file left (hashed image (payload file image))
+  pub told : TellsChecked file left (hashed_size image (payload file image))
       (image_told need left image (payload file image)) result
   pub paid : new + left_of result ≤ asked + left + node_allowance image
 
@@ -101,7 +104,8 @@ ChecksImage need left image result device source =
 -- Images were checked, up to the first finding.
 pub record ChecksImagesBetween (file : List ℕ) (need : Option Algo) (found : List (NodeOf Spot))
     (asked new : ℕ) (result : Result (Option (Finding Span)) Fault) : Type 0 where
-  pub told : Gives (option_map (told_of file)) result (first_told need file (length file) found)
+  pub told : Gives (option_map (named_finding file)) result
+      (first_told need file (length file) found)
   pub paid : new ≤ asked + length file + sum_by node_allowance found
 
 abbrev pub ChecksImages : {S : Type 0} → Option Algo → List (NodeOf Spot)

@@ -19,25 +19,25 @@ use Rattle.uimg_fit_checking.specs.declared.checking.Finding.TheVariants.{Right,
 use Rattle.uimg_fit_checking.specs.declared.checking.Finding.TheVariants.{Weak, Overlapping}
 use Rattle.uimg_fit_checking.specs.declared.checking.Finding.TheVariants.{NoImage}
 use Rattle.uimg_fit_checking.specs.Vouching.{is_vouched}
-use Rattle.uimg_fit_reading.specs.Work.{own_meta, hashed}
+use Rattle.uimg_fit_reading.specs.Work.{own_meta, hashed_size}
 
 -- the most bytes that a check requests: of all payloads together at most the file's length
 abbrev pub check_work : List ℕ → ℕ
 check_work file = own_meta file + length file
 
 -- a finding with the names of nodes
-abbrev pub Told : Type 0
-Told = Finding (List ℕ)
+abbrev pub NamedFinding : Type 0
+NamedFinding = Finding (List ℕ)
 
 -- a finding with the names at its spans
-abbrev pub told_of : List ℕ → Finding Span → Told
-told_of file (Right images nodes) = Right images nodes
-told_of file (Unhashed image) = Unhashed (slice file image.place image.length)
-told_of file (Wrong image hash word) =
+abbrev pub named_finding : List ℕ → Finding Span → NamedFinding
+named_finding file (Right images nodes) = Right images nodes
+named_finding file (Unhashed image) = Unhashed (slice file image.place image.length)
+named_finding file (Wrong image hash word) =
     Wrong (slice file image.place image.length) (slice file hash.place hash.length) word
-told_of file (Weak image) = Weak (slice file image.place image.length)
-told_of file (Overlapping image) = Overlapping (slice file image.place image.length)
-told_of file NoImage = NoImage
+named_finding file (Weak image) = Weak (slice file image.place image.length)
+named_finding file (Overlapping image) = Overlapping (slice file image.place image.length)
+named_finding file NoImage = NoImage
 
 -- each span of a finding ends within a file of this size
 abbrev pub EndsInside : ℕ → Finding Span → Type 0
@@ -50,7 +50,7 @@ EndsInside size (Overlapping image) = image.place + image.length ≤ size
 EndsInside size NoImage = ⊤
 
 -- the first of these hash nodes of an image that is not right
-unfoldable pub wrong_in : List ℕ → List ℕ → List (NodeOf Spot) → Option Told
+unfoldable pub wrong_in : List ℕ → List ℕ → List (NodeOf Spot) → Option NamedFinding
 wrong_in image message [] = None
 wrong_in image message (h ∷ hs) =
     if is_right (word_of message h) then wrong_in image message hs else Some
@@ -62,37 +62,37 @@ is_weak None image = false
 is_weak (Some need) image = not (is_vouched need image)
 
 -- a finding, or else that the image is weak
-abbrev pub or_weak : Option Told → Option Algo → NodeOf Spot → Option Told
+abbrev pub or_weak : Option NamedFinding → Option Algo → NodeOf Spot → Option NamedFinding
 or_weak (Some told) need image = Some told
 or_weak None need image = if is_weak need image then Some (Weak image.name) else None
 
 -- the finding about an image with a payload, if `left` bytes may still be read: the payload is
 -- longer, or else a hash node is not right, or else the image is weak
-abbrev pub found_of : Option Algo → ℕ → NodeOf Spot → List ℕ → Option Told
+abbrev pub found_of : Option Algo → ℕ → NodeOf Spot → List ℕ → Option NamedFinding
 found_of need left image message =
-    if nat_lt left (hashed image (Ok message)) then Some (Overlapping image.name)
+    if nat_lt left (hashed_size image (Ok message)) then Some (Overlapping image.name)
     else or_weak (wrong_in image.name message (hashes image)) need image
 
 -- the same, or the fault of the payload
 abbrev pub image_told : Option Algo → ℕ → NodeOf Spot → Result (List ℕ) FitFault
-    → Result (Option Told) Fault
+    → Result (Option NamedFinding) Fault
 image_told need left image (Ok message) = Ok (found_of need left image message)
 image_told need left image (Err fault) = Err (of.Fit fault)
 
 -- the finding about an image, or else that about the others
-abbrev pub or_later : Result (Option Told) Fault → Result (Option Told) Fault
-    → Result (Option Told) Fault
+abbrev pub or_later : Result (Option NamedFinding) Fault → Result (Option NamedFinding) Fault
+    → Result (Option NamedFinding) Fault
 or_later (Ok None) later = later
 or_later (Ok (Some told)) later = Ok (Some told)
 or_later (Err fault) later = Err fault
 
 -- The first finding about images, or the first fault. A payload that is read leaves fewer bytes.
 unfoldable pub first_told : Option Algo → List ℕ → ℕ → List (NodeOf Spot)
-    → Result (Option Told) Fault
+    → Result (Option NamedFinding) Fault
 first_told need file left [] = Ok None
 first_told need file left (image ∷ more) =
     or_later (image_told need left image (payload file image))
-    (first_told need file (left - hashed image (payload file image)) more)
+    (first_told need file (left - hashed_size image (payload file image)) more)
 
 -- how many hash nodes these images have
 abbrev pub hash_count : List (NodeOf Spot) → ℕ
@@ -113,32 +113,32 @@ unhashed_of None found = unhashed_in found
 unhashed_of (Some need) found = None
 
 -- the finding about images whose hash nodes are all right
-abbrev pub right_or : Option (List ℕ) → List (NodeOf Spot) → Told
+abbrev pub right_or : Option (List ℕ) → List (NodeOf Spot) → NamedFinding
 right_or (Some name) found = Unhashed name
 right_or None found = Right (length found) (hash_count found)
 
-abbrev pub all_right : Option Algo → List (NodeOf Spot) → Told
+abbrev pub all_right : Option Algo → List (NodeOf Spot) → NamedFinding
 all_right need found = right_or (unhashed_of need found) found
 
 -- the first finding, or else that all are right
-abbrev pub or_right : Option Algo → List (NodeOf Spot) → Option Told → Told
+abbrev pub or_right : Option Algo → List (NodeOf Spot) → Option NamedFinding → NamedFinding
 or_right need found (Some told) = told
 or_right need found None = all_right need found
 
 -- the finding about images; of their payloads as many bytes may be read as the file has
-abbrev pub images_told : Option Algo → List ℕ → List (NodeOf Spot) → Result Told Fault
+abbrev pub images_told : Option Algo → List ℕ → List (NodeOf Spot) → Result NamedFinding Fault
 images_told need file found = do
   first ← first_told need file (length file) found
   Ok (or_right need found first)
 
 -- a needed strength requires an image
-abbrev pub some_told : Option Algo → List ℕ → List (NodeOf Spot) → Result Told Fault
+abbrev pub some_told : Option Algo → List ℕ → List (NodeOf Spot) → Result NamedFinding Fault
 some_told None file found = images_told None file found
 some_told (Some need) file [] = Ok NoImage
 some_told (Some need) file (image ∷ more) = images_told (Some need) file (image ∷ more)
 
 -- the finding about a file, or its first fault
-abbrev pub check_of : Option Algo → List ℕ → Result Told Fault
+abbrev pub check_of : Option Algo → List ℕ → Result NamedFinding Fault
 check_of need file = do
   found ← images_of file
   some_told need file found

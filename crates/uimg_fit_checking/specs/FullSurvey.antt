@@ -68,7 +68,8 @@ ReadsAs read said (Ok x) = read x ≡ said
 ReadsAs read said (Err fault) = is_own fault ≡ true
 
 -- The same, and at most `cost` bytes more were requested.
-pub record Tells {X Y : Type 0} (read : X → Y) (said : Y) (cost : ℕ) (result : Result X SurveyFault)
+pub record TellsFacts {X Y : Type 0} (read : X → Y) (said : Y) (cost : ℕ)
+    (result : Result X SurveyFault)
     (old new : Device) : Type 0 where
   pub told : ReadsAs read said result
   pub asked : new.asked ≤ old.asked + cost
@@ -77,12 +78,12 @@ pub record Tells {X Y : Type 0} (read : X → Y) (said : Y) (cost : ℕ) (result
 abbrev pub TellsProperties : {Z : Type 0} → Device → Device → NodeOf Spot
     → Result (Vec PropertyPlace Z) SurveyFault → Type 0
 TellsProperties d e node result =
-    Tells (read_properties d.bytes) (properties_said node)
+    TellsFacts (read_properties d.bytes) (properties_said node)
     (list_cost (nops_met d.bytes) (properties_said node)) result d e
 
 -- the same for several lists of properties
 abbrev pub TellsLists : {Z W : Type 0} → Device → Device → List (List (NamedOf Span))
     → Result (Vec (Vec PropertyPlace Z) W) SurveyFault → Type 0
 TellsLists d e said result =
-    Tells (λ lists. map (read_properties d.bytes) lists.items) said
+    TellsFacts (λ lists. map (read_properties d.bytes) lists.items) said
     (sum_by (list_cost (nops_met d.bytes)) said) result d e

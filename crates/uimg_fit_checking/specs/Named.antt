@@ -27,15 +27,15 @@ payload_named file name = do
   of_images (payload_of file (named name found))
 
 -- the name of an image, or `NoSuchImage`
-abbrev pub name_of : Option (NodeOf Spot) → Result (List ℕ) FitFault
-name_of (Some image) = Ok image.name
-name_of None = Err NoSuchImage
+abbrev pub image_name : Option (NodeOf Spot) → Result (List ℕ) FitFault
+image_name (Some image) = Ok image.name
+image_name None = Err NoSuchImage
 
 -- the name of the image at a position, or the first fault
 abbrev pub name_at : List ℕ → ℕ → Result (List ℕ) Fault
 name_at file position = do
   found ← images_of file
-  of_images (name_of (slice_get found position))
+  of_images (image_name (slice_get found position))
 
 -- The first image of a name has this number.
 pub record HasNamed (t : Siblings) (name : List ℕ) (number : ℕ) : Type 0 where

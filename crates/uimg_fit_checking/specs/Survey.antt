@@ -10,7 +10,7 @@ use Rattle.uimg_blob_reading.specs.LookUps.{NodeOf, listed, hashes, images, conf
 use Rattle.uimg_blob_reading.specs.Plain.{NodesOf}
 use Rattle.uimg_blob_reading.specs.Spots.{Spot}
 use Rattle.uimg_fit_base.specs.declared.fault.Fault.{Fault}
-use Rattle.uimg_fit_base.specs.Files.{tree_of, listed_or, root_own, bytes_of, bytes_in}
+use Rattle.uimg_fit_base.specs.Files.{tree_of, listed_or, root_own, value_bytes, bytes_in}
 use Rattle.uimg_fit_checking.specs.declared.surveying.facts.HashFacts.{HashFacts}
 use Rattle.uimg_fit_reading.specs.PayloadPlaces.{PayloadSaid, payload_said, read_payload}
 use Rattle.uimg_fit_checking.specs.declared.surveying.facts.ImageFacts.{ImageFacts}
@@ -64,48 +64,48 @@ pub record Said : Type 0 where
 abbrev pub hash_said : NodeOf Spot → HashSaid
 hash_said hash = record {
   name = hash.name;
-  algo = bytes_of hash.own (codes "algo");
-  value = bytes_of hash.own (codes "value");
+  algo = value_bytes hash.own (codes "algo");
+  value = value_bytes hash.own (codes "value");
 }
 
 -- the facts of an image
 abbrev pub image_said : NodeOf Spot → ImageSaid
 image_said image = record {
   name = image.name;
-  description = bytes_of image.own (codes "description");
-  kind = bytes_of image.own (codes "type");
-  arch = bytes_of image.own (codes "arch");
-  os = bytes_of image.own (codes "os");
-  compression = bytes_of image.own (codes "compression");
-  load = bytes_of image.own (codes "load");
-  entry = bytes_of image.own (codes "entry");
+  description = value_bytes image.own (codes "description");
+  kind = value_bytes image.own (codes "type");
+  arch = value_bytes image.own (codes "arch");
+  os = value_bytes image.own (codes "os");
+  compression = value_bytes image.own (codes "compression");
+  load = value_bytes image.own (codes "load");
+  entry = value_bytes image.own (codes "entry");
   payload = payload_said image;
   hashes = map hash_said (hashes image);
 }
 
-abbrev pub node_name : NodeOf Spot → List ℕ
-node_name node = node.name
+abbrev pub name_of_node : NodeOf Spot → List ℕ
+name_of_node node = node.name
 
 -- the facts of a configuration
 abbrev pub configuration_said : NodeOf Spot → ConfigurationSaid
 configuration_said configuration = record {
   name = configuration.name;
-  description = bytes_of configuration.own (codes "description");
-  kernel = bytes_of configuration.own (codes "kernel");
-  ramdisk = bytes_of configuration.own (codes "ramdisk");
-  fdt = bytes_of configuration.own (codes "fdt");
-  loadables = bytes_of configuration.own (codes "loadables");
-  firmware = bytes_of configuration.own (codes "firmware");
-  fpga = bytes_of configuration.own (codes "fpga");
-  setup = bytes_of configuration.own (codes "setup");
-  standalone = bytes_of configuration.own (codes "standalone");
-  script = bytes_of configuration.own (codes "script");
-  nodes = map node_name (listed configuration.below);
+  description = value_bytes configuration.own (codes "description");
+  kernel = value_bytes configuration.own (codes "kernel");
+  ramdisk = value_bytes configuration.own (codes "ramdisk");
+  fdt = value_bytes configuration.own (codes "fdt");
+  loadables = value_bytes configuration.own (codes "loadables");
+  firmware = value_bytes configuration.own (codes "firmware");
+  fpga = value_bytes configuration.own (codes "fpga");
+  setup = value_bytes configuration.own (codes "setup");
+  standalone = value_bytes configuration.own (codes "standalone");
+  script = value_bytes configuration.own (codes "script");
+  nodes = map name_of_node (listed configuration.below);
 }
 
 -- the facts of the node `configurations`, if there is one
 abbrev pub preferred_in : Option (NodeOf Spot) → Option (List ℕ)
-preferred_in (Some node) = bytes_of node.own (codes "default")
+preferred_in (Some node) = value_bytes node.own (codes "default")
 preferred_in None = None
 
 abbrev pub configurations_in : Option (NodeOf Spot) → List ConfigurationSaid
@@ -116,8 +116,8 @@ configurations_in None = []
 abbrev pub said_of : List ℕ → NodesOf Spot → List (NodeOf Spot) → Said
 said_of file t found = record {
   totalsize = be32 file 4;
-  description = bytes_of (root_own t) (codes "description");
-  timestamp = bytes_of (root_own t) (codes "timestamp");
+  description = value_bytes (root_own t) (codes "description");
+  timestamp = value_bytes (root_own t) (codes "timestamp");
   images = map image_said found;
   preferred = preferred_in (configurations t);
   configurations = configurations_in (configurations t);

@@ -26,22 +26,22 @@ use Rattle.uimg_fit_checking.specs.declared.unpacking.Unpacked.{Unpacked}
 use Rattle.uimg_fit_checking.specs.declared.unpacking.Unpacked.TheVariants.{Taken, Overlapping}
 use Rattle.uimg_blob_reading.specs.Faults.{refuses_memory}
 use Rattle.uimg_fit_reading.specs.Work.{own_meta}
-use Rattle.uimg_fit_checking.specs.Checks.{Told, wrong_in, or_weak}
+use Rattle.uimg_fit_checking.specs.Checks.{NamedFinding, wrong_in, or_weak}
 use Rattle.uimg_fit_checking.specs.declared.checking.Finding.TheVariants as fit_finding
 use Rattle.uimg_fit_reading.specs.Plans.{with_all}
 
 -- the bytes of a name
-abbrev pub bytes_of : NodeName → List ℕ
-bytes_of name = take name.length name.bytes
+abbrev pub as_bytes : NodeName → List ℕ
+as_bytes name = take name.length name.bytes
 
 -- What becomes of the payload of an image: it is kept, with what vouches for it, or refused.
 pub data Take : Type 0 where
   kept : List ℕ → List ℕ → Option Vouched → Take
-  refused : List ℕ → Told → Take
+  refused : List ℕ → NamedFinding → Take
 
 -- why an image is refused, with its name
-abbrev pub told_of : List ℕ → Refusal → Told
-told_of name (Wrong hash word) = fit_finding.Wrong name (bytes_of hash) word
+abbrev pub told_of : List ℕ → Refusal → NamedFinding
+told_of name (Wrong hash word) = fit_finding.Wrong name (as_bytes hash) word
 told_of name Weak = fit_finding.Weak name
 
 -- One more was given, unless a device failed.
@@ -67,7 +67,7 @@ vouched_by set bytes =
     }) (strongest set)
 
 -- a payload is kept if there is no finding, else refused
-abbrev pub take_by : NodeOf Spot → List ℕ → Option Told → Take
+abbrev pub take_by : NodeOf Spot → List ℕ → Option NamedFinding → Take
 take_by image message None =
     kept image.name message (vouched_by (with_all no_algos (hashes image)) message)
 take_by image message (Some told) = refused image.name told
@@ -113,26 +113,27 @@ overlapping only file left (image ∷ more) =
     else overlapping only file left more
 
 -- The outcome of unpacking a file: payloads overlap, or what becomes of each.
-pub data Outcome : Type 0 where
-  overlaps : List ℕ → Outcome
-  taken : List Take → Outcome
+pub data UnpackOutcome : Type 0 where
+  overlaps : List ℕ → UnpackOutcome
+  taken : List Take → UnpackOutcome
 
-abbrev pub outcome : Option (List ℕ) → List Take → Outcome
+abbrev pub outcome : Option (List ℕ) → List Take → UnpackOutcome
 outcome (Some name) ts = overlaps name
 outcome None ts = taken ts
 
-abbrev pub told_or_fault : Result (Option (List ℕ)) FitFault → List Take → Result Outcome Fault
+abbrev pub told_or_fault : Result (Option (List ℕ)) FitFault → List Take
+    → Result UnpackOutcome Fault
 told_or_fault (Ok found) ts = Ok (outcome found ts)
 told_or_fault (Err fault) ts = Err (of.Fit fault)
 
 -- the same for its images; as many bytes may be read as the file has
 abbrev pub images_unpacked : Option Algo → Option (List ℕ) → List ℕ → List (NodeOf Spot)
-    → Result Outcome Fault
+    → Result UnpackOutcome Fault
 images_unpacked need only file found =
     told_or_fault (overlapping only file (length file) found) (takes need only file found)
 
 -- the outcome for a file, or its first fault
-abbrev pub unpack_of : Option Algo → Option (List ℕ) → List ℕ → Result Outcome Fault
+abbrev pub unpack_of : Option Algo → Option (List ℕ) → List ℕ → Result UnpackOutcome Fault
 unpack_of need only file = do
   found ← images_of file
   images_unpacked need only file found
@@ -148,15 +149,16 @@ pub record GivenFirst (old new ts : List Take) : Type 0 where
   pub given : new ≡ old ++ take count ts
 
 -- What was given before a device failed: the first of the outcome; nothing if the file is refused.
-abbrev pub StopsIn : Result Outcome Fault → List Take → List Take → Type 0
+abbrev pub StopsIn : Result UnpackOutcome Fault → List Take → List Take → Type 0
 StopsIn (Ok (taken ts)) old new = GivenFirst old new ts
 StopsIn (Ok (overlaps name)) old new = new ≡ old
 StopsIn (Err fault) old new = new ≡ old
 
 -- What a result says of a file and of what was given. A refusal comes before anything is given.
-abbrev pub Unpacks : Result Unpacked Fault → Result Outcome Fault → List Take → List Take → Type 0
+abbrev pub Unpacks : Result Unpacked Fault → Result UnpackOutcome Fault → List Take → List Take
+    → Type 0
 Unpacks (Ok (Taken all)) (Ok (taken ts)) old new = (new ≡ old ++ ts) × (all ≡ list_all is_kept ts)
-Unpacks (Ok (Overlapping name)) (Ok (overlaps its)) old new = (bytes_of name ≡ its) × (new ≡ old)
+Unpacks (Ok (Overlapping name)) (Ok (overlaps its)) old new = (as_bytes name ≡ its) × (new ≡ old)
 Unpacks (Ok found) told old new = ⊥
 Unpacks (Err (of.Blob fault at)) told old new =
     (refuses_memory fault ≡ false → told ≡ Err (of.Blob fault at)) × (new ≡ old)

@@ -25,7 +25,7 @@ use Rattle.uimg_fit_checking.specs.declared.unpacking.claims.Claim.TheVariants.{
 use Rattle.uimg_fit_checking.specs.declared.unpacking.requested.Requested.{Requested}
 use Rattle.uimg_fit_checking.specs.Checks.{wrong_in, or_weak}
 use Rattle.uimg_fit_checking.specs.Unpacking.{Take, GivenFirst, overlapping, is_asked, is_kept}
-use Rattle.uimg_fit_checking.specs.Unpacking.{told_of, bytes_of, take_of}
+use Rattle.uimg_fit_checking.specs.Unpacking.{told_of, as_bytes, take_of}
 
 -- The refusal of a payload was found, if any; at most 351 bytes were requested for each hash node.
 pub record FindsRefusalBetween (need : Option Algo) (image : NodeOf Spot) (message : List ℕ)
@@ -71,21 +71,22 @@ ReadsOrRefuses result device source room =
     room.exit.now
 
 -- The payload is that of the image of this number, and ends within a file of this size.
-pub record IsOf (image size : ℕ) (found : Requested) : Type 0 where
+pub record IsPayloadOf (image size : ℕ) (found : Requested) : Type 0 where
   pub number : found.image ≡ image
   pub inside : found.span.place + found.span.length ≤ size
 
 -- The image is requested, and this is its payload.
-pub record Finds (only : Option (List ℕ)) (file : List ℕ) (image : NodeOf Spot) (found : Requested)
+pub record FindsPayload (only : Option (List ℕ)) (file : List ℕ) (image : NodeOf Spot)
+    (found : Requested)
     : Type 0 where
   pub asked : is_asked only image.name ≡ true
-  pub named : bytes_of found.name ≡ image.name
+  pub named : as_bytes found.name ≡ image.name
   pub is : payload file image ≡ Ok (in_span file found.span)
 
 -- What a result says of the payload of an image: where it is, if it is requested.
 abbrev pub TellsFound : Option (List ℕ) → List ℕ → NodeOf Spot → Result (Option Requested) Fault
     → Type 0
-TellsFound only file image (Ok (Some found)) = Finds only file image found
+TellsFound only file image (Ok (Some found)) = FindsPayload only file image found
 TellsFound only file image (Ok None) = is_asked only image.name ≡ false
 TellsFound only file image (Err (of.Fit fault)) =
     (is_asked only image.name ≡ true) × (payload file image ≡ Err fault)
@@ -100,7 +101,7 @@ Claims left (Some found) (Overlaps name) = (left < found.span.length) × (name �
 
 -- what claiming all images returns, by the definition
 abbrev pub ClaimsAll : Result (Option (List ℕ)) FitFault → Result (Option NodeName) Fault → Type 0
-ClaimsAll told (Ok found) = told ≡ Ok (option_map bytes_of found)
+ClaimsAll told (Ok found) = told ≡ Ok (option_map as_bytes found)
 ClaimsAll told (Err (of.Fit fault)) = told ≡ Err fault
 ClaimsAll told (Err (of.Blob fault at)) = ⊥
 ClaimsAll told (Err fault) = ⊤
@@ -136,7 +137,7 @@ TakesTo asked one (Err of.Put) payload old new = new ≡ old
 abbrev pub TakesRequested : Option Algo → NodeOf Spot → Requested → List ℕ → Result Bool Fault
     → List Take → List Take → Type 0
 TakesRequested need image found file result old new =
-    bytes_of found.name ≡ image.name → (message : List ℕ) → message ≡ in_span file found.span
+    as_bytes found.name ≡ image.name → (message : List ℕ) → message ≡ in_span file found.span
     → TakesTo true (take_of need image message) result (Ok message) old new
 
 -- how many bytes of a payload are read: none if its image is not requested

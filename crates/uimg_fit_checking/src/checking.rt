@@ -3,7 +3,7 @@
 ghost use Rattle.std.specs.Prelude.{length, IfOk};
 ghost use Rattle.uimg_base.specs.Honest.{IfHonest};
 ghost use Rattle.uimg_fit_base.specs.Faults.{Gives};
-ghost use Rattle.uimg_fit_checking.specs.Checks.{check_work, told_of, check_of, EndsInside};
+ghost use Rattle.uimg_fit_checking.specs.Checks.{check_work, named_finding, check_of, EndsInside};
 ghost use Rattle.uimg_fit_reading.specs.Rooms.{Inspects};
 
 mod all_right;
@@ -69,7 +69,7 @@ pub fn check<S: Source, A: Allocator>(
     ensures inspects { Inspects check_work result S.device source room }
     ensures inside { IfOk result (EndsInside (length (S.device source.old).bytes)) }
     ensures told { IfHonest S.device source
-        (λ file. Gives (told_of file) result (check_of need file)) }
+        (λ file. Gives (named_finding file) result (check_of need file)) }
 {
     let blob = read_tree(source, room)?;
     let first = first_image(&blob, room)?;

@@ -3,7 +3,7 @@
 ghost use Rattle.std.specs.Prelude.{IsTrue};
 ghost use Rattle.std.specs.Option.{option_map};
 ghost use Rattle.uimg_base.specs.Honest.{IfHonest};
-ghost use Rattle.uimg_fit_checking.specs.Unpacking.{Unpacks, unpack_of, unpack_work, bytes_of};
+ghost use Rattle.uimg_fit_checking.specs.Unpacking.{Unpacks, unpack_of, unpack_work, as_bytes};
 ghost use Rattle.uimg_fit_reading.specs.Rooms.{TakesOut};
 
 mod claims;
@@ -61,7 +61,7 @@ pub fn unpack<S: Source, A: Allocator, T: Taker>(
 ) -> Result<Unpacked, Fault>
     ensures takes { TakesOut unpack_work result S.device source room }
     ensures told { IfHonest S.device source (λ file. IsTrue T.honest → Unpacks result
-        (unpack_of need (option_map bytes_of only) file) (T.takes taker.old) (T.takes taker.new)) }
+        (unpack_of need (option_map as_bytes only) file) (T.takes taker.old) (T.takes taker.new)) }
 {
     let blob = read_tree(source, room)?;
     let first = first_image(&blob, room)?;

@@ -15,12 +15,12 @@ use Rattle.uimg_fit_base.specs.declared.algo_sets.AlgoSet.{AlgoSet}
 use Rattle.uimg_sums.specs.Bundle.{padded_digests}
 use Rattle.uimg_fit_base.specs.declared.algo_sets.Digests.{Digests}
 use Rattle.uimg_fit_base.specs.AlgoSets.{has, is_empty, no_algos, chosen, set_of, AreDigests}
-use Rattle.uimg_fit_base.specs.Report.{compared, by_algo, by_name, algo_of, word_of, is_compared}
+use Rattle.uimg_fit_base.specs.Report.{compared, by_algo, by_name, algo_name_of, word_of, is_compared}
 use Rattle.uimg_fit_base.proofs.AlgoSetLaws.{marked-has, marked-keeps, has-none, empty-is}
 use Rattle.uimg_fit_reading.specs.declared.report.plans.Plan.{Plan}
 use Rattle.uimg_fit_reading.specs.declared.report.plans.Plan.TheVariants.{Malformed, Unsupported, Compared}
 use Rattle.uimg_fit_reading.specs.HashReports.{AllCovered}
-use Rattle.uimg_fit_reading.specs.Plans.{plan_of, plan_for, plan_by_algo, plan_by_name, compares, are_compared, IsCovered, with_plan, with_all}
+use Rattle.uimg_fit_reading.specs.Plans.{hash_plan, plan_for, plan_by_algo, plan_by_name, compares, are_compared, IsCovered, with_plan, with_all}
 
 -- a hash node keeps the values of its algorithm and its digest
 pub keeps_algo : (name : List ℕ) → is_hash name ≡ true → IsTrue (keeps (role_at in_image name) key.Algo)
@@ -47,14 +47,14 @@ told_name : (name : Option (List ℕ)) (value : Option Spot) (message : List ℕ
 told_name None value message = refl
 told_name (Some name) value message = told_value (algo_named name) value message
 
-compared_one : (message : List ℕ) (hash : NodeOf Spot) → is_compared (word_of message hash) ≡ compares (plan_of hash)
-compared_one message hash = told_name (algo_of hash) (first hash.own (codes "value")) message
+compared_one : (message : List ℕ) (hash : NodeOf Spot) → is_compared (word_of message hash) ≡ compares (hash_plan hash)
+compared_one message hash = told_name (algo_name_of hash) (first hash.own (codes "value")) message
 
 pub compared_any : (message : List ℕ) (hs : List (NodeOf Spot)) → list_any (λ h. is_compared (word_of message h)) hs ≡ are_compared hs
 compared_any message [] = refl
 compared_any message (h ∷ hs) =
     ap (λ (b : Bool). b || list_any (λ n. is_compared (word_of message n)) hs) (compared_one message h)
-    ∙ ap (λ (b : Bool). compares (plan_of h) || b) (compared_any message hs)
+    ∙ ap (λ (b : Bool). compares (hash_plan h) || b) (compared_any message hs)
 
 -- what is in use stays so
 plan_keeps : (set : AlgoSet) (plan : Plan) (a : Algo) → has set a ≡ true → has (with_plan set plan) a ≡ true
@@ -65,7 +65,7 @@ plan_keeps set (Compared algo span) a h = marked-keeps set algo a h
 all_keep : (set : AlgoSet) (hs : List (NodeOf Spot)) (a : Algo) → has set a ≡ true → has (with_all set hs) a ≡ true
 unfolding with_all
 all_keep set [] a h = h
-all_keep set (n ∷ ns) a h = all_keep (with_plan set (plan_of n)) ns a (plan_keeps set (plan_of n) a h)
+all_keep set (n ∷ ns) a h = all_keep (with_plan set (hash_plan n)) ns a (plan_keeps set (hash_plan n) a h)
 
 plan_covers : (set more : AlgoSet) (plan : Plan) → ((a : Algo) → has (with_plan set plan) a ≡ true → has more a ≡ true) → IsCovered more plan
 plan_covers set more Malformed keep = tt
@@ -77,8 +77,8 @@ pub all_covered : (set : AlgoSet) (hs : List (NodeOf Spot)) → AllCovered (with
 unfolding with_all
 all_covered set [] = tt
 all_covered set (h ∷ hs) =
-    let more = with_plan set (plan_of h) in
-    (plan_covers set (with_all more hs) (plan_of h) (all_keep more hs), all_covered more hs)
+    let more = with_plan set (hash_plan h) in
+    (plan_covers set (with_all more hs) (hash_plan h) (all_keep more hs), all_covered more hs)
 
 -- where none is compared none is added
 none_added : (set : AlgoSet) (plan : Plan) (hs : List (NodeOf Spot)) → (compares plan || are_compared hs) ≡ false → (are_compared hs ≡ false → with_all set hs ≡ set) → with_all (with_plan set plan) hs ≡ set
@@ -89,7 +89,7 @@ none_added set (Compared algo span) hs none rest = absurd (true_false none)
 none_compared : (set : AlgoSet) (hs : List (NodeOf Spot)) → are_compared hs ≡ false → with_all set hs ≡ set
 unfolding with_all
 none_compared set [] none = refl
-none_compared set (h ∷ hs) none = none_added set (plan_of h) hs none (none_compared set hs)
+none_compared set (h ∷ hs) none = none_added set (hash_plan h) hs none (none_compared set hs)
 
 no_algo : is_empty no_algos ≡ true
 unfolding is_empty
@@ -120,7 +120,7 @@ some_plan set (Compared algo span) hs some rest = has_some _ algo (all_keep (wit
 some_compared : (set : AlgoSet) (hs : List (NodeOf Spot)) → are_compared hs ≡ true → is_empty (with_all set hs) ≡ false
 unfolding with_all
 some_compared set [] some = absurd (true_false (sym some))
-some_compared set (h ∷ hs) some = some_plan set (plan_of h) hs some (λ more. some_compared more hs)
+some_compared set (h ∷ hs) some = some_plan set (hash_plan h) hs some (λ more. some_compared more hs)
 
 -- a payload is read just where a value is compared
 pub compared_size : (hs : List (NodeOf Spot)) (size : ℕ) → (if is_empty (with_all no_algos hs) then 0 else size) ≡ (if are_compared hs then size else 0)

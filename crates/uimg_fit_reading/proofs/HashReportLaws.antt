@@ -16,7 +16,7 @@ use Rattle.uimg_fit_base.specs.AlgoSets.{no_algos}
 use Rattle.uimg_fit_base.specs.Report.{word_of, is_right, hash_line, are_right}
 use Rattle.uimg_fit_reading.specs.HashReports.{line_cost, hash_cost, AllCovered, FindsAlgosBetween, PutsHashesBetween}
 use Rattle.uimg_fit_reading.specs.Nodes.{HashesAt, FirstHash}
-use Rattle.uimg_fit_reading.specs.Plans.{plan_of, with_plan, with_all}
+use Rattle.uimg_fit_reading.specs.Plans.{hash_plan, with_plan, with_all}
 use Rattle.uimg_fit_reading.proofs.PlanLaws.{if_err}
 use Rattle.uimg_fit_reading.proofs.PutLaws.{◌▶◌, cut, nothing}
 
@@ -30,7 +30,7 @@ pub record AlgosLeft (t : Siblings) (hs : List (NodeOf Spot)) (asked new : ℕ) 
 pub algos_first : (t : Siblings) (hs : List (NodeOf Spot)) (asked : ℕ) (set : AlgoSet) (next : Option ℕ) → set ≡ no_algos → HashesAt t next hs → AlgosLeft t hs asked asked set next
 algos_first t hs asked set next none at = record { left = hs; at = at; gives = ap (λ (s : AlgoSet). with_all s hs) none; paid = omega arith }
 
-one_more : (set : AlgoSet) (h : NodeOf Spot) (hs : List (NodeOf Spot)) → with_all set (h ∷ hs) ≡ with_all (with_plan set (plan_of h)) hs
+one_more : (set : AlgoSet) (h : NodeOf Spot) (hs : List (NodeOf Spot)) → with_all set (h ∷ hs) ≡ with_all (with_plan set (hash_plan h)) hs
 unfolding with_all
 one_more set h hs = refl
 
@@ -39,7 +39,7 @@ unfolding with_all
 none_more set = refl
 
 pub algos_more : (t : Siblings) (hs : List (NodeOf Spot)) (asked new number : ℕ) (set : AlgoSet) (next : Option ℕ) (k : AlgosLeft t hs asked new set next) (f : FirstHash t number k.left)
-    (more : AlgoSet) (following : Option ℕ) (later : ℕ) → more ≡ with_plan set (plan_of f.hash) → later ≤ new + 32 → HashesAt t following f.more → AlgosLeft t hs asked later more following
+    (more : AlgoSet) (following : Option ℕ) (later : ℕ) → more ≡ with_plan set (hash_plan f.hash) → later ≤ new + 32 → HashesAt t following f.more → AlgosLeft t hs asked later more following
 algos_more t hs asked new number set next k f more following later is paid at = record {
   left = f.more;
   at = at;

@@ -24,12 +24,12 @@ use Rattle.uimg_fit_reading.specs.Allowances.{node_allowance}
 use Rattle.uimg_base.specs.declared.ranges.MoveFault.TheVariants as move
 use Rattle.uimg_fit_base.specs.Faults.{end_of, of_move, unless_memory}
 use Rattle.uimg_fit_reading.specs.HashReports.{hash_cost, ReportsHashesBetween}
-use Rattle.uimg_fit_reading.specs.ImageReports.{status_of, ReportsFoundBetween, image_work, ImageDone, ImageCut, ReportsImagesBetween}
+use Rattle.uimg_fit_reading.specs.ImageReports.{report_status, ReportsFoundBetween, image_work, ImageDone, ImageCut, ReportsImagesBetween}
 use Rattle.uimg_fit_reading.specs.Nodes.{AreFrom, HashesAt}
 use Rattle.uimg_fit_base.specs.Places.{payload, TellsPlace}
 use Rattle.uimg_fit_reading.specs.Plans.{are_compared}
 use Rattle.uimg_fit_base.specs.Report.{hash_line, hash_lines, are_right, end_after, report_step, report}
-use Rattle.uimg_fit_reading.specs.Work.{hashed}
+use Rattle.uimg_fit_reading.specs.Work.{hashed_size}
 use Rattle.uimg_fit_reading.proofs.ImageLaws.{none_left}
 use Rattle.uimg_fit_reading.proofs.PlanLaws.{of_answer}
 use Rattle.uimg_fit_reading.proofs.SharesLaws.{hashes_allowed, one_text}
@@ -74,9 +74,9 @@ some_found t image name message size n asked new (Some first) result old now nam
 
 -- the digests that are compared, and the payload's length
 hashed_is : (file message : List ℕ) (image : NodeOf Spot) (size : ℕ) → payload file image ≡ Ok message → length message ≡ size
-    → hashed image (payload file image) ≡ (if are_compared (hashes image) then size else 0)
+    → hashed_size image (payload file image) ≡ (if are_compared (hashes image) then size else 0)
 hashed_is file message image size is long =
-    ap (hashed image) is ∙ ap (λ (b : Bool). if b then length message else 0) (compared_any message (hashes image)) ∙ ap (λ (k : ℕ). if are_compared (hashes image) then k else 0) long
+    ap (hashed_size image) is ∙ ap (λ (b : Bool). if b then length message else 0) (compared_any message (hashes image)) ∙ ap (λ (k : ℕ). if are_compared (hashes image) then k else 0) long
 
 -- what a failed device tells of an image, whatever comes after it
 cut_tells : (fault : Fault) (image : NodeOf Spot) (message : List ℕ) (rest : Outcome Fault) (old now : Sink) → end_of (Err fault) ≡ None → AppendsPrefix old now (hash_lines image.name message (hashes image))
@@ -199,17 +199,17 @@ images_cut t file found asked new old now right next k image more are later faul
 }
 
 -- no image is left
-done_tells : (right : Bool) (s : Sink) → Tells (end_of (Ok (status_of right))) (judged_after right (told [] done)) s s
+done_tells : (right : Bool) (s : Sink) → Tells (end_of (Ok (report_status right))) (judged_after right (told [] done)) s s
 done_tells true s = (refl, record { appended = Appends-none s.contents })
 done_tells false s = (refl, record { appended = Appends-none s.contents })
 
-pub images_done : (t : Siblings) (file : List ℕ) (found : List (NodeOf Spot)) (asked new : ℕ) (old now : Sink) (right : Bool) (next : Option ℕ) → next ≡ None → (status : Status) → status ≡ status_of right
+pub images_done : (t : Siblings) (file : List ℕ) (found : List (NodeOf Spot)) (asked new : ℕ) (old now : Sink) (right : Bool) (next : Option ℕ) → next ≡ None → (status : Status) → status ≡ report_status right
     → ImagesLeft t file found asked new old now right next → ReportsImagesBetween file found asked new (Ok status) old now
 images_done t file found asked new old now right next none status is k =
     let nothing : k.left ≡ [] = none_left t in_images k.left (subst (λ (o : Option ℕ). AreFrom t in_images o k.left) none k.from) in
     record {
       told = subst (λ (s : Status). Tells (end_of (Ok s)) (report file found) old now) (sym is)
-          (k.told (end_of (Ok (status_of right))) now
-          (subst (λ (o : Outcome Fault). Tells (end_of (Ok (status_of right))) (judged_after right o) now now) (sym (ap (report file) nothing ∙ report_none file)) (done_tells right now)));
+          (k.told (end_of (Ok (report_status right))) now
+          (subst (λ (o : Outcome Fault). Tells (end_of (Ok (report_status right))) (judged_after right o) now now) (sym (ap (report file) nothing ∙ report_none file)) (done_tells right now)));
       paid = omega (arith, k.paid);
     }

@@ -21,7 +21,7 @@ use Rattle.uimg_blob_reading.specs.Spots.{Spot, spot_of, spots}
 use Rattle.uimg_blob_reading.specs.Plain.{NamedOf}
 use Rattle.uimg_blob_reading.proofs.PhaseLaws.{some_none, some_some, by_bool}
 use Rattle.uimg_blob_reading.proofs.StandLaws.{row_of, row_stands, tree_stands}
-use Rattle.uimg_fit_base.specs.Files.{bytes_of, bytes_in, root_own}
+use Rattle.uimg_fit_base.specs.Files.{value_bytes, bytes_in, root_own}
 use Rattle.uimg_fit_base.specs.Lying.{NameLies, ValueLies, Lie}
 use Rattle.uimg_fit_reading.specs.Nodes.{IsRead, IsNode, TellsConfigurations}
 use Rattle.uimg_fit_base.proofs.ReadLaws.{tree-lies}
@@ -85,7 +85,7 @@ name_stands file blob es t level number found span read n spans =
 
 -- the values of properties that lie in the file
 values_lie : (file key : List ℕ) (own : List Property) → AllByRecursion (ValueLies file) own
-    → bytes_of (map spot_of own) key ≡ bytes_in file (option_map value_span (first (map spot_of own) key))
+    → value_bytes (map spot_of own) key ≡ bytes_in file (option_map value_span (first (map spot_of own) key))
 values_lie file key [] h = refl
 values_lie file key (p ∷ own) h = by_bool (bytes_eq key p.name)
     (λ same. rw same (ap Some (sym h.0.here)))
@@ -104,11 +104,11 @@ value_spans blob es t level number found key span indexed n keeps_it spans =
 
 -- and so are its bytes
 pub value_stands : (file : List ℕ) (blob : Blob) (es : List (List ℕ)) (t : Siblings) (level : Level) (number : ℕ) (found : NodeOf Spot) (key : Key) (span : Option Span) → IsRead file blob es t → IsNode t level number found
-    → span ≡ option_map value_span (first found.own (name_of key)) → bytes_of found.own (name_of key) ≡ bytes_in file span
+    → span ≡ option_map value_span (first found.own (name_of key)) → value_bytes found.own (name_of key) ≡ bytes_in file span
 value_stands file blob es t level number found key span read n is =
     let r = node_row t level number found n in
     let lies : RowLies file r.row = all_get (RowLies file) (table t) number r.row (rows_lie file _ None 0 t (read_lies file t read.is)) r.is in
-    ap (λ (own : List (NamedOf Spot)). bytes_of own (name_of key)) (sym r.own) ∙ values_lie file (name_of key) r.row.own lies.own
+    ap (λ (own : List (NamedOf Spot)). value_bytes own (name_of key)) (sym r.own) ∙ values_lie file (name_of key) r.row.own lies.own
     ∙ ap (λ (own : List (NamedOf Spot)). bytes_in file (option_map value_span (first own (name_of key)))) r.own ∙ ap (bytes_in file) (sym is)
 
 -- The root of a tree is the node of number 0.

@@ -19,7 +19,7 @@ use Rattle.uimg_fit_base.specs.Files.{images_of}
 use Rattle.uimg_fit_reading.specs.ImageReports.{image_work}
 use Rattle.uimg_fit_base.specs.Places.{payload}
 use Rattle.uimg_fit_base.specs.Report.{report, verify_of}
-use Rattle.uimg_fit_reading.specs.Work.{hashed, all_hashed, verify_work}
+use Rattle.uimg_fit_reading.specs.Work.{hashed_size, all_hashed, verify_work}
 use Rattle.uimg_fit_reading.proofs.AllowanceLaws.{tree-paid}
 use Rattle.uimg_fit_base.proofs.FileLaws.{images_are}
 use Rattle.uimg_fit_reading.proofs.SharesLaws.{images_allowed}
@@ -34,13 +34,13 @@ pub found_told : (file : List ℕ) (t : Siblings) (found : List (NodeOf Spot)) (
 found_told file t found result s u is has tells =
     subst (λ (o : Outcome Fault). Tells (end_of result) o s u) (sym (report_is file (Ok found) (images_are file t (Some found) is has))) tells
 
-parted : (file : List ℕ) (found : List (NodeOf Spot)) → sum_by (image_work file) found ≡ sum_by (λ image. hashed image (payload file image)) found + sum_by node_allowance found
+parted : (file : List ℕ) (found : List (NodeOf Spot)) → sum_by (image_work file) found ≡ sum_by (λ image. hashed_size image (payload file image)) found + sum_by node_allowance found
 parted file [] = refl
 parted file (n ∷ ns) =
     omega (
       arith,
       sum_by-cons (image_work file) n ns,
-      sum_by-cons (λ (image : NodeOf Spot). hashed image (payload file image)) n ns,
+      sum_by-cons (λ (image : NodeOf Spot). hashed_size image (payload file image)) n ns,
       sum_by-cons node_allowance n ns,
       parted file ns,
     )

@@ -18,35 +18,35 @@ use Rattle.uimg_blob_reading.specs.LookUps.{first}
 use Rattle.uimg_blob_reading.specs.Plain.{NamedOf}
 use Rattle.uimg_blob_reading.specs.Roles.{in_image, is_hash}
 use Rattle.uimg_blob_reading.specs.Spots.{Spot}
-use Rattle.uimg_fit_base.specs.Files.{bytes_of, bytes_in}
+use Rattle.uimg_fit_base.specs.Files.{value_bytes, bytes_in}
 use Rattle.uimg_fit_reading.specs.declared.listing.shows.Show.{Show}
 use Rattle.uimg_fit_reading.specs.declared.listing.shows.Show.TheVariants.{Name, Address}
 use Rattle.uimg_names.specs.declared.field.Field.{Field}
 use Rattle.uimg_names.specs.declared.naming.Naming.{Naming}
 use Rattle.uimg_fit_reading.specs.Rows.{hash_rows, keeps_row}
-use Rattle.uimg_fit_reading.specs.Shows.{shown, value_cost, weight}
+use Rattle.uimg_fit_reading.specs.Shows.{shown, value_cost, show_weight}
 use Rattle.uimg_fit_reading.specs.Telling.{ListsBetween}
 use Rattle.uimg_fit_reading.proofs.TellingLaws.{then_lists}
 
-cost_by : (how : Show) (o : Option Spot) → option_map_or (λ s. value_cost how s.length) (option_map value_span o) 0 ≡ weight how (option_map (λ s. s.bytes) o)
+cost_by : (how : Show) (o : Option Spot) → option_map_or (λ s. value_cost how s.length) (option_map value_span o) 0 ≡ show_weight how (option_map (λ s. s.bytes) o)
 cost_by how None = refl
 cost_by how (Some s) = refl
 
 -- the lines of a property, by its value in the file
 pub property_told : (failed : Bool) (d f : Device) (s u : Sink) (file : List ℕ) (own : List (NamedOf Spot)) (key : Key) (label : List ℕ) (how : Show) (v : Option Span)
-    → v ≡ option_map value_span (first own (name_of key)) → bytes_of own (name_of key) ≡ bytes_in file v
+    → v ≡ option_map value_span (first own (name_of key)) → value_bytes own (name_of key) ≡ bytes_in file v
     → f.asked ≤ d.asked + option_map_or (λ s. value_cost how s.length) v 0 → Written failed s u (shown how label (bytes_in file v))
-    → ListsBetween failed (weight how (bytes_of own (name_of key))) d f s u (shown how label (bytes_of own (name_of key)))
+    → ListsBetween failed (show_weight how (value_bytes own (name_of key))) d f s u (shown how label (value_bytes own (name_of key)))
 property_told failed d f s u file own key label how v is are asked told = record {
   asked = omega (arith, asked, ap (λ (o : Option Span). option_map_or (λ s. value_cost how s.length) o 0) is, cost_by how (first own (name_of key)));
   written = subst (λ (o : Option (List ℕ)). Written failed s u (shown how label o)) (sym are) told;
 }
 
-pub name_cost : (naming : Naming) (field : Field) (value : Option (List ℕ)) → weight (Name naming field) value ≤ 32
+pub name_cost : (naming : Naming) (field : Field) (value : Option (List ℕ)) → show_weight (Name naming field) value ≤ 32
 name_cost naming field None = omega arith
 name_cost naming field (Some v) = omega arith
 
-pub address_cost : (value : Option (List ℕ)) → weight Address value ≤ 8
+pub address_cost : (value : Option (List ℕ)) → show_weight Address value ≤ 8
 address_cost None = omega arith
 address_cost (Some v) = omega arith
 

@@ -13,7 +13,7 @@ use Rattle.uimg_blob_reading.specs.Spots.{Spot}
 use Rattle.uimg_blob_reading.proofs.PhaseLaws.{some_none, some_some, by_bool, true_false}
 use Rattle.uimg_fit_base.specs.Files.{root_own}
 use Rattle.uimg_fit_reading.specs.Allowances.{text_size, text_sizes, allowance, node_allowance}
-use Rattle.uimg_fit_reading.specs.Rows.{size_of}
+use Rattle.uimg_fit_reading.specs.Rows.{length_of_value}
 
 -- one that is found
 found_le : {X : Type 0} (f : X → ℕ) (p : X → Bool) (xs : List X) (x : X) → find p xs ≡ Some x → f x ≤ sum_by f xs
@@ -126,14 +126,14 @@ named_size key p text same =
     ap (λ (b : Bool). if b then length p.value.bytes else 0) is
 
 -- a text is one of a node's
-pub one_text : (own : List (NamedOf Spot)) (key : List ℕ) → is_text key ≡ true → size_of own key ≤ text_sizes own
+pub one_text : (own : List (NamedOf Spot)) (key : List ℕ) → is_text key ≡ true → length_of_value own key ≤ text_sizes own
 one_text [] key text = omega arith
 one_text (p ∷ own) key text = by_bool (bytes_eq key p.name)
     (λ same. omega (arith, ap (λ (b : Bool). option_map_or length (option_map (λ (s : Spot). s.bytes) (option_map (λ (n : NamedOf Spot). n.value) (if b then Some p else find (λ n. bytes_eq key n.name) own))) 0) same, named_size key p text same, sum_by-cons text_size p own))
     (λ differs. omega (arith, ap (λ (b : Bool). option_map_or length (option_map (λ (s : Spot). s.bytes) (option_map (λ (n : NamedOf Spot). n.value) (if b then Some p else find (λ n. bytes_eq key n.name) own))) 0) differs, one_text own key text, sum_by-cons text_size p own))
 
 -- two texts of different names are two of them
-pub two_texts : (own : List (NamedOf Spot)) (key other : List ℕ) → is_text key ≡ true → is_text other ≡ true → bytes_eq key other ≡ false → size_of own key + size_of own other ≤ text_sizes own
+pub two_texts : (own : List (NamedOf Spot)) (key other : List ℕ) → is_text key ≡ true → is_text other ≡ true → bytes_eq key other ≡ false → length_of_value own key + length_of_value own other ≤ text_sizes own
 two_texts [] key other text two differ = omega arith
 two_texts (p ∷ own) key other text two differ =
     let size = λ (k : List ℕ) (b : Bool). option_map_or length (option_map (λ (s : Spot). s.bytes) (option_map (λ (n : NamedOf Spot). n.value) (if b then Some p else find (λ n. bytes_eq k n.name) own))) 0 in

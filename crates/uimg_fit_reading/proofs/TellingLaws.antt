@@ -13,7 +13,7 @@ use Rattle.uimg_fit_reading.specs.Allowances.{node_allowance}
 use Rattle.uimg_fit_reading.specs.Nodes.{IsRead}
 use Rattle.uimg_fit_reading.specs.declared.listing.listed_nodes.Listed.{Listed}
 use Rattle.uimg_fit_reading.specs.declared.listing.listed_nodes.Listed.TheVariants.{Image, Configuration}
-use Rattle.uimg_fit_reading.specs.Listing.{numbered}
+use Rattle.uimg_fit_reading.specs.Listing.{numbered_lines}
 use Rattle.uimg_fit_reading.specs.NodeLines.{level_of}
 use Rattle.uimg_fit_reading.specs.Telling.{ListsBetween}
 use Rattle.uimg_fit_reading.proofs.PutLaws.{◌▶◌, cut, nothing}
@@ -72,12 +72,12 @@ read_same file other blob es fs t same kept read =
     subst (λ (w : List ℕ). IsRead w blob fs t) (sym same) (subst (λ (w : List (List ℕ)). IsRead file blob w t) (sym kept) read)
 
 -- numbered lines, one more
-pub numbered_more : (lines : ℕ → NodeOf Spot → List ℕ) (i : ℕ) (n : NodeOf Spot) (ns : List (NodeOf Spot)) → numbered lines i (n ∷ ns) ≡ lines i n ++ numbered lines (i + 1) ns
-unfolding numbered
+pub numbered_more : (lines : ℕ → NodeOf Spot → List ℕ) (i : ℕ) (n : NodeOf Spot) (ns : List (NodeOf Spot)) → numbered_lines lines i (n ∷ ns) ≡ lines i n ++ numbered_lines lines (i + 1) ns
+unfolding numbered_lines
 numbered_more lines i n ns = rw add-one refl
 
-pub numbered_none : (lines : ℕ → NodeOf Spot → List ℕ) (i : ℕ) → numbered lines i [] ≡ []
-unfolding numbered
+pub numbered_none : (lines : ℕ → NodeOf Spot → List ℕ) (i : ℕ) → numbered_lines lines i [] ≡ []
+unfolding numbered_lines
 numbered_none lines i = refl
 
 -- the numbers of nodes grow with their count

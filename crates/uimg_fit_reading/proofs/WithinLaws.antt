@@ -18,11 +18,11 @@ use Rattle.uimg_blob_reading.specs.Spots.{Spot, spots}
 use Rattle.uimg_fit_base.specs.declared.fault.Fault.{Fault}
 use Rattle.uimg_fit_reading.specs.Allowances.{text_sizes, allowance}
 use Rattle.uimg_fit_base.specs.Faults.{of_move, end_of}
-use Rattle.uimg_fit_base.specs.Files.{bytes_of, bytes_in, root_own}
+use Rattle.uimg_fit_base.specs.Files.{value_bytes, bytes_in, root_own}
 use Rattle.uimg_fit_reading.specs.Heads.{span_size}
 use Rattle.uimg_fit_reading.specs.ListingParts.{configurations_allowance, body_allowance}
 use Rattle.uimg_fit_reading.proofs.AllowanceLaws.{tree-paid}
-use Rattle.uimg_fit_reading.specs.Rows.{size_of}
+use Rattle.uimg_fit_reading.specs.Rows.{length_of_value}
 use Rattle.uimg_fit_reading.proofs.SharesLaws.{images_allowed, both_allowed}
 
 size_by : (o : Option Spot) → span_size (option_map value_span o) ≡ option_map_or length (option_map (λ s. s.bytes) o) 0
@@ -30,7 +30,7 @@ size_by None = refl
 size_by (Some s) = refl
 
 -- the length of a span is that of its value
-pub value_size : (own : List (NamedOf Spot)) (key : List ℕ) (v : Option Span) → v ≡ option_map value_span (first own key) → span_size v ≡ size_of own key
+pub value_size : (own : List (NamedOf Spot)) (key : List ℕ) (v : Option Span) → v ≡ option_map value_span (first own key) → span_size v ≡ length_of_value own key
 value_size own key v is = ap span_size is ∙ size_by (first own key)
 
 -- the same of a value that ends in the file
@@ -38,7 +38,7 @@ bytes_size : (file : List ℕ) (v : Option Span) → IfSome v (λ s. s.place + s
 bytes_size file None inside = refl
 bytes_size file (Some s) inside = length-slice file s.place s.length inside
 
-pub read_size : (file : List ℕ) (own : List (NamedOf Spot)) (key : List ℕ) (v : Option Span) → IfSome v (λ s. s.place + s.length ≤ length file) → bytes_of own key ≡ bytes_in file v → span_size v ≡ size_of own key
+pub read_size : (file : List ℕ) (own : List (NamedOf Spot)) (key : List ℕ) (v : Option Span) → IfSome v (λ s. s.place + s.length ≤ length file) → value_bytes own key ≡ bytes_in file v → span_size v ≡ length_of_value own key
 read_size file own key v inside is = sym (bytes_size file v inside) ∙ ap (λ (o : Option (List ℕ)). option_map_or length o 0) (sym is)
 
 -- the root's texts, images and configurations

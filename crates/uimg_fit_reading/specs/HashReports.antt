@@ -17,12 +17,12 @@ use Rattle.uimg_fit_base.specs.declared.algo_sets.AlgoSet.{AlgoSet}
 use Rattle.uimg_fit_base.specs.declared.algo_sets.Digests.{Digests}
 use Rattle.uimg_fit_base.specs.declared.verdicts.Verdict.{Verdict}
 use Rattle.uimg_fit_base.specs.AlgoSets.{no_algos, set_of, AreDigests}
-use Rattle.uimg_fit_base.specs.Report.{algo_of, word_text, word_of, hash_line, are_right}
+use Rattle.uimg_fit_base.specs.Report.{algo_name_of, word_text, word_of, hash_line, are_right}
 use Rattle.uimg_fit_reading.specs.declared.open_fit.OpenFit.{OpenFit}
 use Rattle.uimg_fit_reading.specs.Nodes.{OfHash, OfHashes}
 use Rattle.uimg_fit_reading.specs.OpenFits.{file_of, InFit}
 use Rattle.uimg_fit_reading.specs.Values.{in_span}
-use Rattle.uimg_fit_reading.specs.Plans.{IsCovered, are_compared, with_all, plan_of, algo_length}
+use Rattle.uimg_fit_reading.specs.Plans.{IsCovered, are_compared, with_all, hash_plan, algo_length}
 
 -- the most bytes requested to write the line of a hash node of an image whose name has n bytes
 abbrev pub line_cost : ℕ → NodeOf Spot → ℕ
@@ -34,7 +34,7 @@ hash_cost n hash = n + 383 + algo_length hash
 
 -- The algorithm of each compared hash node is in a set.
 abbrev pub AllCovered : AlgoSet → List (NodeOf Spot) → Type 0
-AllCovered set hs = AllByRecursion (λ h. IsCovered set (plan_of h)) hs
+AllCovered set hs = AllByRecursion (λ h. IsCovered set (hash_plan h)) hs
 
 -- The algorithms of the compared hash nodes were found; 32 bytes a node were requested at most.
 pub record FindsAlgosBetween (hs : List (NodeOf Spot)) (asked new : ℕ)
@@ -62,10 +62,10 @@ FindsDigests payload first result device fit = InFit device fit.entry.now OfHash
     (device fit.entry.now.source.now).asked (device fit.exit.now.source.now).asked result)
 
 -- the line of a hash node with a word
-abbrev pub line_of : List ℕ → Verdict → NodeOf Spot → List ℕ
-line_of name word hash =
+abbrev pub verdict_line : List ℕ → Verdict → NodeOf Spot → List ℕ
+verdict_line name word hash =
     line (name ++ codes " " ++ hash.name ++ codes " "
-    ++ option_map_or (λ n. n) (algo_of hash) (codes "-") ++ codes " " ++ word_text word)
+    ++ option_map_or (λ n. n) (algo_name_of hash) (codes "-") ++ codes " " ++ word_text word)
 
 -- The line of a hash node was written; the result is its word.
 pub record PutsHashBetween (name message : List ℕ) (n : ℕ) (hash : NodeOf Spot) (asked new : ℕ)
@@ -79,7 +79,7 @@ abbrev pub PutsHash : {S A : Type 0} → Span → ℕ → Digests → Result Ver
     → (S → Device) → Lent (OpenFit S A) → Lent Sink → Type 0
 PutsHash image number digests result device fit out = InFit device fit.entry.now OfHash number
     (λ hash. (message : List ℕ) → AreDigests digests message
-    → IsCovered (set_of digests) (plan_of hash)
+    → IsCovered (set_of digests) (hash_plan hash)
     → PutsHashBetween (in_span (file_of device fit.entry.now) image) message image.length hash
     (device fit.entry.now.source.now).asked (device fit.exit.now.source.now).asked result
     out.entry.now out.exit.now)

@@ -24,12 +24,12 @@ use Rattle.uimg_fit_base.specs.Faults.{end_of}
 use Rattle.uimg_fit_base.specs.Places.{payload}
 use Rattle.uimg_fit_reading.specs.Plans.{are_compared}
 use Rattle.uimg_fit_base.specs.Report.{hash_lines, are_right, report_step, report}
-use Rattle.uimg_fit_reading.specs.Work.{hashed}
+use Rattle.uimg_fit_reading.specs.Work.{hashed_size}
 
 -- the status of a report
-abbrev pub status_of : Bool → Status
-status_of true = Done
-status_of false = NotRight
+abbrev pub report_status : Bool → Status
+report_status true = Done
+report_status false = NotRight
 
 -- an image whose payload was found was reported on; 12 bytes are left for finding the payload
 pub record ReportsFoundBetween (image : NodeOf Spot) (message : List ℕ) (size asked new : ℕ)
@@ -50,7 +50,7 @@ ReportsFound number payload result device fit out =
 
 -- the most bytes requested for an image
 abbrev pub image_work : List ℕ → NodeOf Spot → ℕ
-image_work file image = hashed image (payload file image) + node_allowance image
+image_work file image = hashed_size image (payload file image) + node_allowance image
 
 -- An image was reported on.
 pub record ImageDone (file : List ℕ) (image : NodeOf Spot) (asked new : ℕ) (right : Bool)

@@ -11,7 +11,7 @@ use Rattle.uimg_fit_base.specs.declared.fault.Fault.{Fault}
 use Rattle.uimg_fit_base.specs.declared.fault.Fault.TheVariants.{Fit}
 use Rattle.uimg_fit_base.specs.declared.fault.FitFault.{FitFault}
 use Rattle.uimg_fit_base.specs.declared.fault.FitFault.TheVariants.{NoImages}
-use Rattle.uimg_fit_base.specs.Files.{tree_of, root_own, bytes_of, cell}
+use Rattle.uimg_fit_base.specs.Files.{tree_of, root_own, value_bytes, cell}
 use Rattle.uimg_base.specs.declared.spans.Span.{Span}
 use Rattle.uimg_fit_base.specs.Places.{place}
 use Rattle.uimg_fit_reading.specs.Heads.{description_line, created_line, default_line}
@@ -25,7 +25,7 @@ time_of root = cell root (codes "timestamp")
 -- the two head lines
 abbrev pub head_lines : List (NamedOf Spot) → List ℕ
 head_lines root =
-    description_line (bytes_of root (codes "description")) ++ created_line (time_of root)
+    description_line (value_bytes root (codes "description")) ++ created_line (time_of root)
 
 -- the size of a payload, if its place is known
 abbrev pub size_in : Result Span FitFault → Option ℕ
@@ -33,15 +33,15 @@ size_in (Ok p) = Some p.length
 size_in (Err fault) = None
 
 -- the lines of a hash node
-abbrev pub hash_lines : NodeOf Spot → List ℕ
-hash_lines hash = rows_lines no_facts hash.own hash_rows
+abbrev pub hash_node_lines : NodeOf Spot → List ℕ
+hash_node_lines hash = rows_lines no_facts hash.own hash_rows
 
 -- the lines of an image, below its title
 abbrev pub image_fields : Naming → List ℕ → Option ℕ → NodeOf Spot → List ℕ
 image_fields naming file time image =
     rows_lines (record { time = time; size = size_in (place file image) }) image.own
     (image_rows naming)
-    ++ flat_map hash_lines (hashes image)
+    ++ flat_map hash_node_lines (hashes image)
 
 abbrev pub image_lines : Naming → List ℕ → Option ℕ → ℕ → NodeOf Spot → List ℕ
 image_lines naming file time i image =
@@ -53,21 +53,21 @@ configuration_lines i configuration =
     ++ rows_lines no_facts configuration.own configuration_rows
 
 -- the lines of nodes, numbered from i on
-unfoldable pub numbered : (ℕ → NodeOf Spot → List ℕ) → ℕ → List (NodeOf Spot) → List ℕ
-numbered lines i [] = []
-numbered lines i (n ∷ ns) = lines i n ++ numbered lines (suc i) ns
+unfoldable pub numbered_lines : (ℕ → NodeOf Spot → List ℕ) → ℕ → List (NodeOf Spot) → List ℕ
+numbered_lines lines i [] = []
+numbered_lines lines i (n ∷ ns) = lines i n ++ numbered_lines lines (suc i) ns
 
 -- the default configuration, and the configurations
 abbrev pub configurations_lines : Option (NodeOf Spot) → List ℕ
 configurations_lines None = []
 configurations_lines (Some c) =
-    default_line (bytes_of c.own (codes "default"))
-    ++ numbered configuration_lines 0 (listed c.below)
+    default_line (value_bytes c.own (codes "default"))
+    ++ numbered_lines configuration_lines 0 (listed c.below)
 
 -- the text after the head lines: images and configurations, or a refusal without a node `images`
 abbrev pub lists : Naming → List ℕ → NodesOf Spot → Option (List (NodeOf Spot)) → Outcome Fault
 lists naming file t (Some found) =
-    told (numbered (image_lines naming file (time_of (root_own t))) 0 found
+    told (numbered_lines (image_lines naming file (time_of (root_own t))) 0 found
     ++ configurations_lines (configurations t)) done
 lists naming file t None = told [] (refused (Fit NoImages))
 

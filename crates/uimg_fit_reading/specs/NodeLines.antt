@@ -14,7 +14,7 @@ use Rattle.uimg_fit_reading.specs.declared.listing.listed_nodes.Listed.TheVarian
 use Rattle.uimg_fit_reading.specs.declared.listing.titles.Numbered.{Numbered}
 use Rattle.uimg_fit_reading.specs.declared.open_fit.OpenFit.{OpenFit}
 use Rattle.uimg_fit_reading.specs.Allowances.{node_allowance}
-use Rattle.uimg_fit_reading.specs.Listing.{image_lines, configuration_lines, numbered}
+use Rattle.uimg_fit_reading.specs.Listing.{image_lines, configuration_lines, numbered_lines}
 use Rattle.uimg_fit_reading.specs.Nodes.{OfNode, OfNodes}
 use Rattle.uimg_fit_reading.specs.OpenFits.{file_of, InFit}
 use Rattle.uimg_fit_reading.specs.Telling.{Lists}
@@ -42,4 +42,4 @@ abbrev pub ListsNodes : {S A X : Type 0} → Listed → Option ℕ → Result X 
 ListsNodes kind first result device fit out =
     InFit device fit.entry.now OfNodes (level_of kind) first (λ found.
     Lists (sum_by node_allowance found) result device fit out
-    (numbered (node_lines (file_of device fit.entry.now) kind) 0 found))
+    (numbered_lines (node_lines (file_of device fit.entry.now) kind) 0 found))

@@ -9,7 +9,7 @@ use Rattle.uimg_blob_reading.specs.LookUps.{NodeOf, first}
 use Rattle.uimg_blob_reading.specs.Spots.{Spot}
 use Rattle.uimg_fit_base.specs.declared.fault.FitFault.{FitFault}
 use Rattle.uimg_fit_base.specs.Faults.{of_making}
-use Rattle.uimg_fit_base.specs.Files.{bytes_of, bytes_in, number}
+use Rattle.uimg_fit_base.specs.Files.{value_bytes, bytes_in, number}
 use Rattle.uimg_fit_base.specs.Places.{external, embedded, or_else}
 use Rattle.uimg_fit_reading.specs.declared.places.PayloadFacts.{PayloadFacts}
 
@@ -23,9 +23,9 @@ pub record PayloadSaid : Type 0 where
 abbrev pub payload_said : NodeOf Spot → PayloadSaid
 payload_said image = record {
   embedded = option_map value_span (first image.own (codes "data"));
-  size = bytes_of image.own (codes "data-size");
-  offset = bytes_of image.own (codes "data-offset");
-  position = bytes_of image.own (codes "data-position");
+  size = value_bytes image.own (codes "data-size");
+  offset = value_bytes image.own (codes "data-offset");
+  position = value_bytes image.own (codes "data-position");
 }
 
 -- the values in a file at given spans

@@ -20,9 +20,9 @@ use Rattle.uimg_fit_base.specs.declared.algo_sets.AlgoSet.{AlgoSet}
 use Rattle.uimg_fit_base.specs.AlgoSets.{has, marked}
 use Rattle.uimg_fit_base.specs.declared.verdicts.Verdict.{Verdict}
 use Rattle.uimg_fit_base.specs.declared.verdicts.Verdict.TheVariants as word
-use Rattle.uimg_fit_base.specs.Files.{bytes_in, bytes_of}
+use Rattle.uimg_fit_base.specs.Files.{bytes_in, value_bytes}
 use Rattle.uimg_fit_reading.specs.declared.report.hash_lines.HashLine.{HashLine}
-use Rattle.uimg_fit_base.specs.Report.{algo_of, word_text}
+use Rattle.uimg_fit_base.specs.Report.{algo_name_of, word_text}
 
 -- a value is compared by an algorithm if it has the length of its digests
 unfoldable pub plan_for : Algo → Span → Plan
@@ -42,8 +42,9 @@ plan_by_name None value = Malformed
 plan_by_name (Some name) value = plan_by_algo (algo_named name) value
 
 -- the plan for a hash node
-abbrev pub plan_of : NodeOf Spot → Plan
-plan_of hash = plan_by_name (algo_of hash) (option_map value_span (first hash.own (codes "value")))
+abbrev pub hash_plan : NodeOf Spot → Plan
+hash_plan hash =
+    plan_by_name (algo_name_of hash) (option_map value_span (first hash.own (codes "value")))
 
 -- whether a plan compares a value with a digest
 abbrev pub compares : Plan → Bool
@@ -53,7 +54,7 @@ compares (Compared algo span) = true
 
 -- whether the value of any of these hash nodes is compared
 abbrev pub are_compared : List (NodeOf Spot) → Bool
-are_compared hs = list_any (λ h. compares (plan_of h)) hs
+are_compared hs = list_any (λ h. compares (hash_plan h)) hs
 
 -- The algorithm of a plan that compares is in a set.
 abbrev pub IsCovered : AlgoSet → Plan → Type 0
@@ -77,7 +78,7 @@ with_plan set (Compared algo span) = marked set algo
 -- a set with the algorithms of the compared hash nodes
 unfoldable pub with_all : AlgoSet → List (NodeOf Spot) → AlgoSet
 with_all set [] = set
-with_all set (h ∷ hs) = with_all (with_plan set (plan_of h)) hs
+with_all set (h ∷ hs) = with_all (with_plan set (hash_plan h)) hs
 
 -- the text at a span of a file
 abbrev pub text_in : List ℕ → Option Span → Option (List ℕ)
@@ -133,4 +134,4 @@ word_by file message (Compared algo span) =
 
 -- the length of a hash node's `algo`, or 0 if it is missing
 abbrev pub algo_length : NodeOf Spot → ℕ
-algo_length hash = option_map_or (λ v. length v) (bytes_of hash.own (codes "algo")) 0
+algo_length hash = option_map_or (λ v. length v) (value_bytes hash.own (codes "algo")) 0

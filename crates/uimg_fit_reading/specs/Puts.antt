@@ -43,7 +43,7 @@ LeavesOrRefuses result device fit out =
     RefusesBetween result device fit.entry.now fit.exit.now out.entry.now out.exit.now
 
 -- Of faults, only a failed read and what is wrong with the image are returned.
-pub record OnlyReads {X : Type 0} (result : Result X Fault) : Type 0 where
+pub record OnlyReadFaults {X : Type 0} (result : Result X Fault) : Type 0 where
   pub no_put : of.is_put result ≡ false
   pub memory : of.is_out_of_memory result ≡ false
   pub no_making : of.is_of_making result ≡ false

@@ -15,14 +15,14 @@ use Rattle.uimg_blob_reading.specs.Plain.{NamedOf}
 use Rattle.uimg_blob_reading.specs.Spots.{Spot}
 use Rattle.uimg_names.specs.declared.field.Field.TheVariants as field
 use Rattle.uimg_names.specs.declared.naming.Naming.{Naming}
-use Rattle.uimg_fit_base.specs.Files.{bytes_of}
+use Rattle.uimg_fit_base.specs.Files.{value_bytes}
 use Rattle.uimg_fit_reading.specs.declared.listing.rows.Facts.{Facts}
 use Rattle.uimg_fit_reading.specs.declared.listing.rows.Row.{Row}
 use Rattle.uimg_fit_reading.specs.declared.listing.rows.Row.TheVariants.{Property, Time, Size}
 use Rattle.uimg_fit_reading.specs.declared.listing.shows.Show.TheVariants.{Text, Name, Address}
 use Rattle.uimg_fit_reading.specs.declared.listing.shows.Show.TheVariants.{Hexadecimal}
 use Rattle.uimg_fit_reading.specs.declared.listing.shows.Show.TheVariants.{List as AList}
-use Rattle.uimg_fit_reading.specs.Shows.{shown, weight, time_line, size_line}
+use Rattle.uimg_fit_reading.specs.Shows.{shown, show_weight, time_line, size_line}
 
 -- a label, padded with blanks to 16 bytes
 abbrev pub label : List ℕ → List ℕ
@@ -60,7 +60,7 @@ configuration_rows =
 
 -- the lines of a row, for a node with these properties
 abbrev pub row_lines : Facts → List (NamedOf Spot) → Row → List ℕ
-row_lines facts own (Property key label show) = shown show label (bytes_of own (name_of key))
+row_lines facts own (Property key label show) = shown show label (value_bytes own (name_of key))
 row_lines facts own (Time label) = time_line label facts.time
 row_lines facts own (Size label) = size_line label facts.size
 
@@ -78,7 +78,7 @@ title before i name = line (before ++ (decimal i ++ (codes " (" ++ (name ++ code
 
 -- the most bytes requested of a row's value
 abbrev pub row_cost : List (NamedOf Spot) → Row → ℕ
-row_cost own (Property key label show) = weight show (bytes_of own (name_of key))
+row_cost own (Property key label show) = show_weight show (value_bytes own (name_of key))
 row_cost own (Time label) = 0
 row_cost own (Size label) = 0
 
@@ -89,5 +89,5 @@ keeps_row level name (Time label) = true
 keeps_row level name (Size label) = true
 
 -- the length of a value, or 0 if it is missing
-abbrev pub size_of : List (NamedOf Spot) → List ℕ → ℕ
-size_of own key = option_map_or (λ v. length v) (bytes_of own key) 0
+abbrev pub length_of_value : List (NamedOf Spot) → List ℕ → ℕ
+length_of_value own key = option_map_or (λ v. length v) (value_bytes own key) 0

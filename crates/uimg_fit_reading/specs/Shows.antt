@@ -52,5 +52,5 @@ value_cost show.Hexadecimal n = n
 value_cost show.List n = n
 
 -- the same for a value that may be missing
-abbrev pub weight : Show → Option (List ℕ) → ℕ
-weight how value = option_map_or (λ v. value_cost how (length v)) value 0
+abbrev pub show_weight : Show → Option (List ℕ) → ℕ
+show_weight how value = option_map_or (λ v. value_cost how (length v)) value 0

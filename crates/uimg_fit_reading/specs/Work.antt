@@ -13,14 +13,14 @@ use Rattle.uimg_fit_base.specs.Extraction.{extract_of}
 
 -- the most bytes requested of a payload: each once, however many hash nodes it has, and none if no
 -- hash node is compared
-abbrev pub hashed : NodeOf Spot → Result (List ℕ) FitFault → ℕ
-hashed image (Ok message) =
+abbrev pub hashed_size : NodeOf Spot → Result (List ℕ) FitFault → ℕ
+hashed_size image (Ok message) =
     if list_any (λ h. is_compared (word_of message h)) (hashes image) then length message else 0
-hashed image (Err fault) = 0
+hashed_size image (Err fault) = 0
 
 -- the same for all images of a file
 abbrev pub all_hashed : List ℕ → Result (List (NodeOf Spot)) Fault → ℕ
-all_hashed file (Ok found) = sum_by (λ image. hashed image (payload file image)) found
+all_hashed file (Ok found) = sum_by (λ image. hashed_size image (payload file image)) found
 all_hashed file (Err fault) = 0
 
 -- the most bytes requested beside payloads: `meta` without the four bytes that the caller may have

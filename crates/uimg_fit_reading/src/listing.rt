@@ -6,7 +6,7 @@ ghost use Rattle.uimg_blob_reading.specs.LookUps.{NodeOf, images, configurations
 ghost use Rattle.uimg_blob_reading.specs.Roles.{in_images};
 ghost use Rattle.uimg_blob_reading.specs.Spots.{Spot, spots};
 ghost use Rattle.uimg_fit_base.specs.Files.{root_own, cell};
-ghost use Rattle.uimg_fit_reading.specs.Listing.{configurations_lines, image_lines, lists, list_of, numbered};
+ghost use Rattle.uimg_fit_reading.specs.Listing.{configurations_lines, image_lines, lists, list_of, numbered_lines};
 ghost use Rattle.uimg_fit_reading.specs.ListingParts.{configurations_allowance, body_allowance, TellsWithin};
 ghost use Rattle.uimg_fit_reading.specs.Nodes.{AreFrom, HasNodes, InFile, Opened};
 ghost use Rattle.uimg_fit_reading.specs.OpenFits.{file_of, InFit};
@@ -73,7 +73,7 @@ fn put_body<S: Source, A: Allocator, W: Write>(
     ensures told { (t : Siblings) → InFit S.device fit.old Opened t →
         (found : List (NodeOf Spot)) → AreFrom t in_images first found →
         Lists (body_allowance (spots t) (Some found)) result S.device fit out
-        (numbered (image_lines naming (file_of S.device fit.old) time) 0 found
+        (numbered_lines (image_lines naming (file_of S.device fit.old) time) 0 found
         ++ configurations_lines (configurations (spots t))) }
 {
     put_listed_nodes(fit, Listed::Image(naming, time), first, out)?;

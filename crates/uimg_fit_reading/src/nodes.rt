@@ -7,7 +7,7 @@ ghost use Rattle.uimg_blob_reading.specs.Keys.{name_of};
 ghost use Rattle.uimg_blob_reading.specs.LookUps.{NodeOf, first, hashes, listed};
 ghost use Rattle.uimg_blob_reading.specs.Roles.{Level, role_at, level_in, level_after, top, in_images};
 ghost use Rattle.uimg_blob_reading.specs.Spots.{Spot, spots};
-ghost use Rattle.uimg_fit_base.specs.Files.{bytes_of, bytes_in, root_own};
+ghost use Rattle.uimg_fit_base.specs.Files.{value_bytes, bytes_in, root_own};
 ghost use Rattle.uimg_fit_reading.specs.Nodes.{Indexed, IsRead, IsNode, AtNode, InTree, AreFrom, HashesFrom, HashAt, HashesAt, TellsConfigurations, IsEntry, IsEntryOrNone, InAnyFile};
 ghost use Rattle.uimg_fit_reading.specs.Values.{in_span};
 ghost use Rattle.uimg_fit_reading.specs.PayloadPlaces.{Ends};
@@ -36,7 +36,7 @@ pub fn value_of<A: Allocator>(blob: &Blob, room: &Room<A>, node: usize, key: Key
         result ≡ option_map value_span (first found.own (name_of key))) }
     ensures bytes { AtNode blob.now room.now node (λ file level found.
         IsTrue (keeps (role_at level found.name) key) →
-        bytes_of found.own (name_of key) ≡ bytes_in file result) }
+        value_bytes found.own (name_of key) ≡ bytes_in file result) }
 {
     blob.value(room, node, key)
 }
@@ -46,7 +46,7 @@ pub fn root_value<A: Allocator>(blob: &Blob, room: &Room<A>, key: Key) -> Option
     requires { IsTrue (keeps (role_at top []) key) }
     ensures inside { InAnyFile blob.now room.now (λ size. Ends size result) }
     ensures bytes { (file : List ℕ) (t : Siblings) → IsRead file blob.now room.now.entries t →
-        bytes_of (root_own (spots t)) (name_of key) ≡ bytes_in file result }
+        value_bytes (root_own (spots t)) (name_of key) ≡ bytes_in file result }
 {
     if room.count() == 0 {
         return None;

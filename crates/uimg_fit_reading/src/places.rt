@@ -10,7 +10,7 @@ ghost use Rattle.uimg_blob_reading.specs.Spots.{Spot};
 ghost use Rattle.uimg_fit_base.specs.Faults.{is_read, of_making};
 ghost use Rattle.uimg_fit_base.specs.Files.{number_in};
 ghost use Rattle.uimg_fit_reading.specs.Nodes.{IsRead, IsNode, HasNode, AtLevel, InAnyFile};
-ghost use Rattle.uimg_fit_reading.specs.Puts.{OnlyReads};
+ghost use Rattle.uimg_fit_reading.specs.Puts.{OnlyReadFaults};
 ghost use Rattle.uimg_fit_base.specs.Places.{external, or_else, embedded, place, TellsPlace};
 ghost use Rattle.uimg_fit_reading.specs.PayloadPlaces.{place_said, payload_said, read_payload, PayloadInside, Ends, PlaceOrFault};
 
@@ -159,7 +159,7 @@ pub fn payload_place<S: Source, A: Allocator>(
 ) -> Result<Span, Fault>
     requires { HasNode (S.device source.old) blob.now room.now image }
     ensures uses { Asks 12 (is_read result) (S.device source.old) (S.device source.new) }
-    ensures only { OnlyReads result }
+    ensures only { OnlyReadFaults result }
     ensures inside { IfOk result (λ p. p.place + p.length ≤ length (S.device source.old).bytes) }
     ensures told { HonestSource S.device source → (t : Siblings) →
         IsRead (S.device source.old).bytes blob.now room.now.entries t → (found : NodeOf Spot) →

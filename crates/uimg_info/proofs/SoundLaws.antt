@@ -2,14 +2,14 @@
 use Rattle.std.proofs.Common.{ℕ, suc, Bool, true, false, List, [], ◌∷◌, ◌++◌, map, Some, None, Option, codes, nat_lt, length, if◌then◌else◌}
 use Rattle.std.specs.List.{list_all}
 use Rattle.std.specs.Str.{is_utf8}
-use Rattle.uimg_printing.specs.Members.{Member, array_of, spelled}
+use Rattle.uimg_printing.specs.Members.{Member, array_of, text_json}
 use Rattle.uimg_printing.proofs.SoundLaws.{AreSound, append_sound, number_sound, number_if_sound, spelled_sound, items_sound, beside_sound, text_sound}
 use Rattle.uimg_info.specs.Members.{Fact, texts_members, told_as, length_of, value_members, fact_members, facts_members, cell_number, address_number, most}
 use Rattle.uimg_info.specs.declared.forms.Form.{Form}
 use Rattle.uimg_info.specs.declared.forms.Form.TheVariants.{Text, Texts, Digest, Cell, Address}
 
 texts_sound : (d : ℕ) (name : List ℕ) (ts : List (List ℕ)) → AreSound (suc d) (texts_members name ts)
-texts_sound d name ts = (items_sound d (spelled false) (spelled_sound d false) ts, beside_sound (suc d) (list_all is_utf8 ts) name (array_of (map (spelled true) ts)) (items_sound d (spelled true) (spelled_sound d true) ts))
+texts_sound d name ts = (items_sound d (text_json false) (spelled_sound d false) ts, beside_sound (suc d) (list_all is_utf8 ts) name (array_of (map (text_json true) ts)) (items_sound d (text_json true) (spelled_sound d true) ts))
 
 told_sound : (d : ℕ) (form : Form) (name value : List ℕ) → AreSound (suc d) (told_as form name value)
 told_sound d Text name value = text_sound (suc d) name _

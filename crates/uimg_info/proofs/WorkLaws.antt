@@ -20,7 +20,7 @@ use Rattle.uimg_fit_checking.specs.declared.surveying.facts.ImageFacts.{ImageFac
 use Rattle.uimg_fit_checking.specs.declared.surveying.facts.ConfigurationFacts.{ConfigurationFacts}
 use Rattle.uimg_fit_checking.specs.declared.surveying.facts.Survey.{Survey}
 use Rattle.uimg_fit_checking.specs.declared.surveying.facts.FullSurvey.{FullSurvey}
-use Rattle.uimg_info.specs.Work.{value_size, hash_said_size, image_said_size, configuration_said_size, said_size, hash_size, image_size, node_size, configuration_size, survey_size, names_size, property_size, list_size}
+use Rattle.uimg_info.specs.Work.{value_size, hash_said_size, image_said_size, configuration_said_size, said_size, hash_size, image_size, node_size, configuration_size, survey_size, names_size, place_size, list_size}
 use Rattle.uimg_info.proofs.InsideLaws.{ends_more, image_more, configuration_more, places_more}
 
 -- one read after another
@@ -109,7 +109,7 @@ survey_sized file s inside =
 
 list_sized : {Z : Type 0} (file : List ℕ) (places : Vec PropertyPlace Z) → PlacesInside (length file) places → names_size (read_properties file places) ≡ list_size places
 list_sized file places inside =
-    summed (EndsBy (length file)) (read_place file) (λ property. length property.name) property_size (λ place e. length-slice file place.name.place place.name.length e.name) places.items inside
+    summed (EndsBy (length file)) (read_place file) (λ property. length property.name) place_size (λ place e. length-slice file place.name.place place.name.length e.name) places.items inside
 
 -- and so have the names of the properties
 pub names_sized : (file : List ℕ) (full : FullSurvey) → FullInside (length file) full → sum_by names_size (map (read_properties file) full.properties.items) ≡ sum_by list_size full.properties.items

@@ -10,13 +10,14 @@ use Rattle.uimg_texts.specs.Nul.{text}
 use Rattle.uimg_fit_reading.specs.Values.{pieces}
 use Rattle.uimg_info.specs.declared.forms.Form.{Form}
 use Rattle.uimg_info.specs.declared.forms.Form.TheVariants.{Text, Texts, Digest, Cell, Address}
-use Rattle.uimg_printing.specs.Members.{Member, array_of, number_member, number_if, spelled, beside}
+use Rattle.uimg_printing.specs.Members.{Member, array_of, number_member, number_if, text_json}
+use Rattle.uimg_printing.specs.Members.{beside}
 use Rattle.uimg_printing.specs.Members.{text_members}
 
 abbrev pub texts_members : List ℕ → List (List ℕ) → List Member
 texts_members name ts =
-    (name, array_of (map (spelled false) ts))
-    ∷ beside (list_all is_utf8 ts) name (array_of (map (spelled true) ts))
+    (name, array_of (map (text_json false) ts))
+    ∷ beside (list_all is_utf8 ts) name (array_of (map (text_json true) ts))
 
 -- the number of a cell
 unfoldable pub cell_number : List ℕ → Option ℕ

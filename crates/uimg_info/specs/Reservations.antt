@@ -11,8 +11,8 @@ use Rattle.uimg_info.specs.declared.reservations.Reservation.{Reservation}
 use Rattle.uimg_printing.specs.Members.{Member, object_of, array_of, number_member}
 
 -- the entry at the beginning of bytes: an address and a size
-abbrev pub entry_of : List ℕ → Reservation
-entry_of bytes =
+abbrev pub reservation_at : List ℕ → Reservation
+reservation_at bytes =
     record {
       address = from_be_bytes w64 (take 8 bytes);
       size = from_be_bytes w64
@@ -20,8 +20,8 @@ entry_of bytes =
     }
 
 -- whether an entry ends the list
-abbrev pub is_end : Reservation → Bool
-is_end entry = entry.address == 0 && entry.size == 0
+abbrev pub ends_list : Reservation → Bool
+ends_list entry = entry.address == 0 && entry.size == 0
 
 -- the collected items, if there are any
 abbrev pub items_in : {X Z : Type 0} → Option (Vec X Z) → Option (List X)
@@ -31,7 +31,8 @@ items_in gathered = option_map (λ entries. entries.items) gathered
 unfoldable pub entries_of : ℕ → List ℕ → Option (List Reservation)
 entries_of zero bytes = None
 entries_of (suc n) bytes =
-    if is_end (entry_of bytes) then Some [] else option_map (λ es. entry_of bytes ∷ es)
+    if ends_list (reservation_at bytes) then Some []
+    else option_map (λ es. reservation_at bytes ∷ es)
     (entries_of n (drop 16 bytes))
 
 abbrev pub entries_in : List ℕ → Option (List Reservation)

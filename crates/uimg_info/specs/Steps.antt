@@ -34,8 +34,8 @@ abbrev pub Prints : {Z : Type 0} → Json → Vec ℕ Z → Type 0
 Prints j text = text.items ≡ print (json_tokens j)
 
 -- Read as JSON, the text is an object.
-abbrev pub ReadsAs : {Z : Type 0} → Json → Vec ℕ Z → Type 0
-ReadsAs j text = document text.items ≡ Some j
+abbrev pub IsJson : {Z : Type 0} → Json → Vec ℕ Z → Type 0
+IsJson j text = document text.items ≡ Some j
 
 -- P holds for the text of the object of a file of a size with these facts, if there is one.
 abbrev pub OfJson : {Z : Type 0} → (Json → Vec ℕ Z → Type 0) → List ℕ → ℕ → FullSurvey
@@ -44,7 +44,7 @@ OfJson P path size full result file = IfOk result (P (read_json path size file f
 
 -- At most `most` bytes were requested, and a failure of the device was counted exactly if a read
 -- failed; over an honest device the tokens were appended, unless the step failed.
-pub record PutsBetween {X : Type 0} (most : ℕ) (result : Result X SurveyFault) (d e : Device)
+pub record PutsTokensBetween {X : Type 0} (most : ℕ) (result : Result X SurveyFault) (d e : Device)
     (old new : Written) (tokens : List Token) : Type 0 where
   pub uses : Asks most (is_unread result) d e
   pub own : IsOwn result
@@ -52,26 +52,27 @@ pub record PutsBetween {X : Type 0} (most : ℕ) (result : Result X SurveyFault)
   pub told : IsTrue d.honest → Appends result old new tokens
 
 -- the same for tokens that depend on the source's bytes
-abbrev pub Puts : {S X : Type 0} → ℕ → Result X SurveyFault → (S → Device) → Lent S → Lent Written
+abbrev pub PutsTokens : {S X : Type 0} → ℕ → Result X SurveyFault → (S → Device) → Lent S
+    → Lent Written
     → (List ℕ → List Token) → Type 0
-Puts most result device source writer tokens = PutsBetween most result
+PutsTokens most result device source writer tokens = PutsTokensBetween most result
     (device source.entry.now) (device source.exit.now) writer.entry.now writer.exit.now
     (tokens (device source.entry.now).bytes)
 
 -- Tokens were appended, unless memory was refused.
-abbrev pub Adds : {X E : Type 0} → Result X E → Lent Written → List Token → Type 0
-Adds result writer tokens = Appends result writer.entry.now writer.exit.now tokens
+abbrev pub AddsTokens : {X E : Type 0} → Result X E → Lent Written → List Token → Type 0
+AddsTokens result writer tokens = Appends result writer.entry.now writer.exit.now tokens
 
 -- a row of the program: the name of a fact's member, the form of its value, and the value's span
-abbrev pub Row : Type 0
-Row = Bor (List ℕ) × Form × Option Span
+abbrev pub MemberRow : Type 0
+MemberRow = Bor (List ℕ) × Form × Option Span
 
 -- Its value, if it is present, ends within a file of this size.
-abbrev pub RowInside : ℕ → Row → Type 0
+abbrev pub RowInside : ℕ → MemberRow → Type 0
 RowInside size row = Ends size row.2
 
 -- the fact of a row, read in a file
-abbrev pub read_row : List ℕ → Row → Fact
+abbrev pub read_row : List ℕ → MemberRow → Fact
 read_row file row = record { name = row.0.now; form = row.1; value = bytes_in file row.2 }
 
 -- The result is the text of the object of a file at a path, or its fault, unless a call failed.

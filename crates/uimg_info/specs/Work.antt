@@ -18,7 +18,7 @@ use Rattle.uimg_fit_checking.specs.declared.surveying.facts.Survey.{Survey}
 use Rattle.uimg_fit_checking.specs.declared.surveying.facts.FullSurvey.{FullSurvey}
 use Rattle.uimg_info.specs.Fit.{hash_facts, image_facts, configuration_facts, root_facts}
 use Rattle.uimg_info.specs.Members.{Fact}
-use Rattle.uimg_info.specs.Steps.{Row}
+use Rattle.uimg_info.specs.Steps.{MemberRow}
 
 -- the length of a value, or 0
 abbrev pub value_size : Option (List ℕ) → ℕ
@@ -28,7 +28,7 @@ abbrev pub fact_size : Fact → ℕ
 fact_size fact = value_size fact.value
 
 -- the same for the rows of the program
-abbrev pub row_size : Row → ℕ
+abbrev pub row_size : MemberRow → ℕ
 row_size row = span_size row.2
 
 -- the length of the facts of hash nodes, images and configurations, and of all
@@ -54,15 +54,16 @@ abbrev pub names_size : List (NamedOf Span) → ℕ
 names_size properties = sum_by (λ property. length property.name) properties
 
 -- the same by the spans of the values
-abbrev pub sizes : List (Option Span) → ℕ
-sizes spans = sum_by span_size spans
+abbrev pub span_sizes : List (Option Span) → ℕ
+span_sizes spans = sum_by span_size spans
 
 abbrev pub hash_size : HashFacts → ℕ
-hash_size hash = sizes (Some hash.name ∷ hash.algo ∷ hash.value ∷ [])
+hash_size hash = span_sizes (Some hash.name ∷ hash.algo ∷ hash.value ∷ [])
 
 abbrev pub image_rows_size : ImageFacts → ℕ
 image_rows_size i =
-    sizes (Some i.name ∷ i.description ∷ i.kind ∷ i.arch ∷ i.os ∷ i.compression ∷ i.load ∷ i.entry
+    span_sizes
+    (Some i.name ∷ i.description ∷ i.kind ∷ i.arch ∷ i.os ∷ i.compression ∷ i.load ∷ i.entry
     ∷ [])
 
 unfoldable pub image_size : ImageFacts → ℕ
@@ -70,7 +71,8 @@ image_size image = image_rows_size image + (12 + sum_by hash_size image.hashes.i
 
 abbrev pub configuration_rows_size : ConfigurationFacts → ℕ
 configuration_rows_size c =
-    sizes (Some c.name ∷ c.description ∷ c.kernel ∷ c.ramdisk ∷ c.fdt ∷ c.loadables ∷ c.firmware
+    span_sizes
+    (Some c.name ∷ c.description ∷ c.kernel ∷ c.ramdisk ∷ c.fdt ∷ c.loadables ∷ c.firmware
     ∷ c.fpga ∷ c.setup ∷ c.standalone ∷ c.script ∷ [])
 
 abbrev pub node_size : Span → ℕ
@@ -80,7 +82,8 @@ unfoldable pub configuration_size : ConfigurationFacts → ℕ
 configuration_size c = configuration_rows_size c + sum_by node_size c.nodes.items
 
 abbrev pub root_size : Survey → ℕ
-root_size survey = sizes (survey.description ∷ survey.timestamp ∷ survey.preferred ∷ []) + 65540
+root_size survey =
+    span_sizes (survey.description ∷ survey.timestamp ∷ survey.preferred ∷ []) + 65540
 
 abbrev pub survey_size : Survey → ℕ
 survey_size survey =
@@ -88,22 +91,22 @@ survey_size survey =
     + (sum_by image_size survey.images.items
     + sum_by configuration_size survey.configurations.items)
 
-abbrev pub property_size : PropertyPlace → ℕ
-property_size place = place.name.length
+abbrev pub place_size : PropertyPlace → ℕ
+place_size place = place.name.length
 
 abbrev pub list_size : {Z : Type 0} → Vec PropertyPlace Z → ℕ
-list_size places = sum_by property_size places.items
+list_size places = sum_by place_size places.items
 
 abbrev pub full_size : FullSurvey → ℕ
 full_size full = survey_size full.survey + sum_by list_size full.properties.items
 
 -- the most bytes requested after the index, or 0 for a refused file
-abbrev pub size_if : Result Said Fault → ℕ
-size_if (Ok said) = said_size said
-size_if (Err fault) = 0
+abbrev pub facts_size : Result Said Fault → ℕ
+facts_size (Ok said) = said_size said
+facts_size (Err fault) = 0
 
 -- the most bytes requested: the index, the configurations' properties and their names, each value
 abbrev pub info_work : List ℕ → ℕ
 info_work file =
     index_cost file + properties_cost file + sum_by names_size (properties_of file)
-    + size_if (survey_of file)
+    + facts_size (survey_of file)

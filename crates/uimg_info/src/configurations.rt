@@ -10,8 +10,8 @@ ghost use Rattle.uimg_fit_checking.specs.SurveyParts.{NameInside, ConfigurationI
 ghost use Rattle.uimg_info.specs.Fit.{configuration_facts, node_json, property_json, configuration_json, configurations_json};
 ghost use Rattle.uimg_printing.specs.Members.{array_of, tokens_of};
 ghost use Rattle.uimg_info.specs.Members.{facts_members};
-ghost use Rattle.uimg_info.specs.Steps.{Puts};
-ghost use Rattle.uimg_info.specs.Work.{node_size, configuration_rows_size, configuration_size, property_size, list_size};
+ghost use Rattle.uimg_info.specs.Steps.{PutsTokens};
+ghost use Rattle.uimg_info.specs.Work.{node_size, configuration_rows_size, configuration_size, place_size, list_size};
 
 use crate::facts::{put_object, put_rows};
 use crate::forms::Form::{Text, Texts};
@@ -30,7 +30,7 @@ fn put_node<S: Source>(
     name: Span,
 ) -> Result<(), SurveyFault>
     requires { NameInside (length (S.device source.old).bytes) name }
-    ensures { Puts (node_size name) result S.device source writer
+    ensures { PutsTokens (node_size name) result S.device source writer
         (λ file. json_tokens (node_json (read_name file name))) }
 {
     put_object(alloc, source, writer, &[("name", Text, Some(name))])
@@ -44,7 +44,7 @@ fn put_nodes<S: Source>(
     nodes: &[Span],
 ) -> Result<(), SurveyFault>
     requires { All (NameInside (length (S.device source.old).bytes)) nodes.now }
-    ensures { Puts (sum_by node_size nodes.now) result S.device source writer
+    ensures { PutsTokens (sum_by node_size nodes.now) result S.device source writer
         (λ file. json_tokens (array_of (map node_json (map (read_name file) nodes.now)))) }
 {
     writer.begin_array()?;
@@ -63,7 +63,7 @@ fn put_property<S: Source>(
     place: PropertyPlace,
 ) -> Result<(), SurveyFault>
     requires { EndsBy (length (S.device source.old).bytes) place }
-    ensures { Puts (property_size place) result S.device source writer
+    ensures { PutsTokens (place_size place) result S.device source writer
         (λ file. json_tokens (property_json (read_place file place))) }
 {
     writer.begin_object()?;
@@ -81,7 +81,7 @@ fn put_properties<S: Source>(
     properties: &[PropertyPlace],
 ) -> Result<(), SurveyFault>
     requires { All (EndsBy (length (S.device source.old).bytes)) properties.now }
-    ensures { Puts (sum_by property_size properties.now) result S.device source writer
+    ensures { PutsTokens (sum_by place_size properties.now) result S.device source writer
         (λ file. json_tokens (array_of
         (map property_json (map (read_place file) properties.now)))) }
 {
@@ -101,7 +101,7 @@ fn put_configuration_rows<S: Source>(
     facts: &ConfigurationFacts,
 ) -> Result<(), SurveyFault>
     requires { ConfigurationInside (length (S.device source.old).bytes) facts.now }
-    ensures { Puts (configuration_rows_size facts.now) result S.device source writer
+    ensures { PutsTokens (configuration_rows_size facts.now) result S.device source writer
         (λ file. tokens_of (facts_members
         (configuration_facts (read_configuration file facts.now)))) }
 {
@@ -132,7 +132,7 @@ fn put_configuration<S: Source>(
 ) -> Result<(), SurveyFault>
     requires facts { ConfigurationInside (length (S.device source.old).bytes) facts.now }
     requires properties { All (EndsBy (length (S.device source.old).bytes)) properties.now }
-    ensures { Puts (configuration_size facts.now + sum_by property_size properties.now)
+    ensures { PutsTokens (configuration_size facts.now + sum_by place_size properties.now)
         result S.device source writer (λ file. json_tokens (configuration_json
         (read_configuration file facts.now) (map (read_place file) properties.now))) }
 {
@@ -157,7 +157,8 @@ pub(crate) fn put_configurations<S: Source>(
     requires facts { All (ConfigurationInside (length (S.device source.old).bytes))
         configurations.now }
     requires properties { All (PlacesInside (length (S.device source.old).bytes)) properties.now }
-    ensures { Puts (sum_by configuration_size configurations.now + sum_by list_size properties.now)
+    ensures { PutsTokens
+        (sum_by configuration_size configurations.now + sum_by list_size properties.now)
         result S.device source writer (λ file. json_tokens (array_of (configurations_json
         (map (read_configuration file) configurations.now)
         (map (read_properties file) properties.now)))) }

@@ -6,7 +6,7 @@ ghost use Rattle.uimg_texts.specs.Slices.{slice};
 ghost use Rattle.json.specs.Tree.{json_tokens};
 ghost use Rattle.uimg_printing.specs.Members.{object_of, tokens_of};
 ghost use Rattle.uimg_info.specs.Members.{value_members, fact_members, facts_members};
-ghost use Rattle.uimg_info.specs.Steps.{Puts, RowInside, read_row};
+ghost use Rattle.uimg_info.specs.Steps.{PutsTokens, RowInside, read_row};
 ghost use Rattle.uimg_info.specs.Work.{row_size};
 
 use crate::forms::Form;
@@ -33,7 +33,7 @@ fn put_span<S: Source>(
     span: Span,
 ) -> Result<(), SurveyFault>
     requires { span.place + span.length ≤ length (S.device source.old).bytes }
-    ensures { Puts span.length result S.device source writer
+    ensures { PutsTokens span.length result S.device source writer
         (λ file. tokens_of (value_members form name.now (slice file span.place span.length))) }
 {
     if span.length > MOST {
@@ -54,7 +54,7 @@ fn put_row<S: Source>(
     row: &Row<'_>,
 ) -> Result<(), SurveyFault>
     requires { RowInside (length (S.device source.old).bytes) row.now }
-    ensures { Puts (row_size row.now) result S.device source writer
+    ensures { PutsTokens (row_size row.now) result S.device source writer
         (λ file. tokens_of (fact_members (read_row file row.now))) }
 {
     let (name, form, value) = *row;
@@ -72,7 +72,7 @@ pub(crate) fn put_rows<S: Source>(
     rows: &[Row<'_>],
 ) -> Result<(), SurveyFault>
     requires { All (RowInside (length (S.device source.old).bytes)) rows.now }
-    ensures { Puts (sum_by row_size rows.now) result S.device source writer
+    ensures { PutsTokens (sum_by row_size rows.now) result S.device source writer
         (λ file. tokens_of (facts_members (map (read_row file) rows.now))) }
 {
     for row in rows {
@@ -89,7 +89,7 @@ pub(crate) fn put_object<S: Source>(
     rows: &[Row<'_>],
 ) -> Result<(), SurveyFault>
     requires { All (RowInside (length (S.device source.old).bytes)) rows.now }
-    ensures { Puts (sum_by row_size rows.now) result S.device source writer
+    ensures { PutsTokens (sum_by row_size rows.now) result S.device source writer
         (λ file. json_tokens (object_of (facts_members (map (read_row file) rows.now)))) }
 {
     writer.begin_object()?;

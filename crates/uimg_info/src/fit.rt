@@ -13,7 +13,7 @@ ghost use Rattle.uimg_info.specs.Fit.{fault_members, span_members, place_members
 ghost use Rattle.uimg_printing.specs.Members.{array_of, tokens_of};
 ghost use Rattle.uimg_info.specs.Members.{facts_members};
 ghost use Rattle.uimg_info.specs.Reservations.{reservations_of};
-ghost use Rattle.uimg_info.specs.Steps.{Puts, Adds, read_json};
+ghost use Rattle.uimg_info.specs.Steps.{PutsTokens, AddsTokens, read_json};
 ghost use Rattle.uimg_info.specs.Work.{hash_size, image_rows_size, image_size, root_size, full_size};
 
 use crate::configurations::put_configurations;
@@ -36,7 +36,7 @@ fn put_hash<S: Source>(
     facts: &HashFacts,
 ) -> Result<(), SurveyFault>
     requires { HashInside (length (S.device source.old).bytes) facts.now }
-    ensures { Puts (hash_size facts.now) result S.device source writer
+    ensures { PutsTokens (hash_size facts.now) result S.device source writer
         (λ file. json_tokens (hash_json (read_hash file facts.now))) }
 {
     let rows = [
@@ -55,7 +55,7 @@ fn put_hashes<S: Source>(
     hashes: &[HashFacts],
 ) -> Result<(), SurveyFault>
     requires { All (HashInside (length (S.device source.old).bytes)) hashes.now }
-    ensures { Puts (sum_by hash_size hashes.now) result S.device source writer
+    ensures { PutsTokens (sum_by hash_size hashes.now) result S.device source writer
         (λ file. json_tokens (array_of (map hash_json (map (read_hash file) hashes.now)))) }
 {
     writer.begin_array()?;
@@ -68,7 +68,7 @@ fn put_hashes<S: Source>(
 
 // Writes a fault of a payload.
 fn put_fault(writer: &mut Writer, code: &str, message: &str) -> Result<(), AllocError>
-    ensures { Adds result writer (tokens_of (fault_members code.now message.now)) }
+    ensures { AddsTokens result writer (tokens_of (fault_members code.now message.now)) }
 {
     put_string(writer, "fault", code)?;
     put_string(writer, "message", message)?;
@@ -78,7 +78,7 @@ fn put_fault(writer: &mut Writer, code: &str, message: &str) -> Result<(), Alloc
 // Writes where a payload is, and `F3` if it ends after a file of `size` bytes.
 fn put_span(writer: &mut Writer, size: u64, place: Span) -> Result<(), AllocError>
     requires { place.place + place.length < 2 ^ 64 }
-    ensures { Adds result writer (tokens_of (span_members size place)) }
+    ensures { AddsTokens result writer (tokens_of (span_members size place)) }
 {
     put_number(writer, "offset", place.place)?;
     put_number(writer, "data-size", place.length)?;
@@ -96,7 +96,7 @@ fn put_place(
     found: Result<Span, FitFault>,
 ) -> Result<(), AllocError>
     requires { IfOk found (λ p. p.place + p.length < 2 ^ 64) }
-    ensures { Adds result writer (tokens_of (place_members size found)) }
+    ensures { AddsTokens result writer (tokens_of (place_members size found)) }
 {
     match found {
         Ok(place) => put_span(writer, size, place),
@@ -112,7 +112,7 @@ fn put_image_rows<S: Source>(
     facts: &ImageFacts,
 ) -> Result<(), SurveyFault>
     requires { ImageInside (length (S.device source.old).bytes) facts.now }
-    ensures { Puts (image_rows_size facts.now) result S.device source writer
+    ensures { PutsTokens (image_rows_size facts.now) result S.device source writer
         (λ file. tokens_of (facts_members (image_facts (read_image file facts.now)))) }
 {
     let rows = [
@@ -160,7 +160,7 @@ fn put_image<S: Source>(
 ) -> Result<(), SurveyFault>
     requires inside { ImageInside totalsize facts.now }
     requires blob { totalsize ≤ length (S.device source.old).bytes }
-    ensures { Puts (image_size facts.now) result S.device source writer
+    ensures { PutsTokens (image_size facts.now) result S.device source writer
         (λ file. json_tokens (image_json size totalsize (read_image file facts.now))) }
 {
     writer.begin_object()?;
@@ -184,7 +184,7 @@ fn put_images<S: Source>(
 ) -> Result<(), SurveyFault>
     requires inside { All (ImageInside totalsize) images.now }
     requires blob { totalsize ≤ length (S.device source.old).bytes }
-    ensures { Puts (sum_by image_size images.now) result S.device source writer
+    ensures { PutsTokens (sum_by image_size images.now) result S.device source writer
         (λ file. json_tokens (array_of
         (map (image_json size totalsize) (map (read_image file) images.now)))) }
 {
@@ -198,7 +198,7 @@ fn put_images<S: Source>(
 
 // Writes the first members of each image.
 fn put_head(writer: &mut Writer, path: &str, size: u64, totalsize: u32) -> Result<(), AllocError>
-    ensures { Adds result writer (tokens_of (head_members path.now size totalsize)) }
+    ensures { AddsTokens result writer (tokens_of (head_members path.now size totalsize)) }
 {
     put_string(writer, "path", path)?;
     put_number(writer, "status", 0)?;
@@ -216,7 +216,7 @@ fn put_root<S: Source>(
     survey: &Survey,
 ) -> Result<(), SurveyFault>
     requires { SurveyInside (length (S.device source.old).bytes) survey.now }
-    ensures { Puts (root_size survey.now) result S.device source writer
+    ensures { PutsTokens (root_size survey.now) result S.device source writer
         (λ file. tokens_of (root_members
         (reservations_of file survey.now.totalsize) (read_survey file survey.now))) }
 {
@@ -240,7 +240,7 @@ pub(crate) fn put_fit<S: Source>(
     full: &FullSurvey,
 ) -> Result<(), SurveyFault>
     requires { FullInside (length (S.device source.old).bytes) full.now }
-    ensures { Puts (full_size full.now) result S.device source writer
+    ensures { PutsTokens (full_size full.now) result S.device source writer
         (λ file. json_tokens (read_json path.now size file full.now)) }
 {
     let survey = &full.survey;

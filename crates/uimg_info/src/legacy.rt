@@ -8,7 +8,7 @@ ghost use Rattle.uimg_texts.specs.Numbers.{be32};
 ghost use Rattle.uimg_legacy.specs.Header.{spelled};
 ghost use Rattle.uimg_info.specs.Legacy.{code_members, numbers_members, codes_members, header_members, part_json, legacy_head, legacy_json};
 ghost use Rattle.uimg_printing.specs.Members.{array_of, number_member, tokens_of};
-ghost use Rattle.uimg_info.specs.Steps.{Adds, Prints, ReadsAs};
+ghost use Rattle.uimg_info.specs.Steps.{AddsTokens, Prints, IsJson};
 
 use json::Writer;
 use std::alloc::{AllocError, Global};
@@ -25,7 +25,7 @@ fn put_code(
     of_code: &str,
     code: u8,
 ) -> Result<(), AllocError>
-    ensures { Adds result writer (tokens_of (code_members field name.now of_code.now code)) }
+    ensures { AddsTokens result writer (tokens_of (code_members field name.now of_code.now code)) }
 {
     put_string(writer, name, Naming::Profile.code_text(field, code))?;
     put_number(writer, of_code, code as u64)?;
@@ -34,7 +34,7 @@ fn put_code(
 
 // Writes the checksum of a header.
 fn put_crc(writer: &mut Writer, header: &Header) -> Result<(), AllocError>
-    ensures { Adds result writer
+    ensures { AddsTokens result writer
         (tokens_of (number_member (codes "header-crc") (be32 (spelled header.now) 4))) }
 {
     let crc = be32_at(&header_bytes(header), 4);
@@ -43,7 +43,7 @@ fn put_crc(writer: &mut Writer, header: &Header) -> Result<(), AllocError>
 
 // Writes the numbers of a header.
 fn put_numbers(writer: &mut Writer, header: &Header) -> Result<(), AllocError>
-    ensures { Adds result writer (tokens_of (numbers_members header.now)) }
+    ensures { AddsTokens result writer (tokens_of (numbers_members header.now)) }
 {
     put_number(writer, "time", header.time as u64)?;
     put_number(writer, "load", header.load as u64)?;
@@ -55,7 +55,7 @@ fn put_numbers(writer: &mut Writer, header: &Header) -> Result<(), AllocError>
 
 // Writes the codes of a header.
 fn put_codes(writer: &mut Writer, header: &Header) -> Result<(), AllocError>
-    ensures { Adds result writer (tokens_of (codes_members header.now)) }
+    ensures { AddsTokens result writer (tokens_of (codes_members header.now)) }
 {
     put_code(writer, Field::System, "os", "os-code", header.os)?;
     put_code(
@@ -78,7 +78,7 @@ fn put_codes(writer: &mut Writer, header: &Header) -> Result<(), AllocError>
 
 // Writes the members of a header after its name.
 fn put_header(writer: &mut Writer, header: &Header) -> Result<(), AllocError>
-    ensures { Adds result writer (tokens_of (header_members header.now)) }
+    ensures { AddsTokens result writer (tokens_of (header_members header.now)) }
 {
     put_numbers(writer, header)?;
     put_codes(writer, header)?;
@@ -88,7 +88,7 @@ fn put_header(writer: &mut Writer, header: &Header) -> Result<(), AllocError>
 
 // Writes where a part is.
 fn put_part(writer: &mut Writer, part: Span) -> Result<(), AllocError>
-    ensures { Adds result writer (json_tokens (part_json part)) }
+    ensures { AddsTokens result writer (json_tokens (part_json part)) }
 {
     writer.begin_object()?;
     put_number(writer, "offset", part.place)?;
@@ -99,7 +99,7 @@ fn put_part(writer: &mut Writer, part: Span) -> Result<(), AllocError>
 
 // Writes the array of the parts.
 fn put_parts(writer: &mut Writer, parts: &[Span]) -> Result<(), AllocError>
-    ensures { Adds result writer (json_tokens (array_of (map part_json parts.now))) }
+    ensures { AddsTokens result writer (json_tokens (array_of (map part_json parts.now))) }
 {
     writer.begin_array()?;
     for part in parts {
@@ -111,7 +111,7 @@ fn put_parts(writer: &mut Writer, parts: &[Span]) -> Result<(), AllocError>
 
 // Writes the first members of each image.
 fn put_head(writer: &mut Writer, path: &str, size: u64) -> Result<(), AllocError>
-    ensures { Adds result writer (tokens_of (legacy_head path.now size)) }
+    ensures { AddsTokens result writer (tokens_of (legacy_head path.now size)) }
 {
     put_string(writer, "path", path)?;
     put_number(writer, "status", 0)?;
@@ -129,7 +129,8 @@ fn put_legacy(
     header: &Header,
     parts: &[Span],
 ) -> Result<(), AllocError>
-    ensures { Adds result writer (json_tokens (legacy_json path.now size header.now parts.now)) }
+    ensures { AddsTokens result writer
+        (json_tokens (legacy_json path.now size header.now parts.now)) }
 {
     writer.begin_object()?;
     put_head(writer, path, size)?;
@@ -152,7 +153,7 @@ pub fn legacy_text(
     parts: &[Span],
 ) -> Result<Vec<u8>, AllocError>
     ensures text { IfOk result (Prints (legacy_json path.now size header.now parts.now)) }
-    ensures reads_back { IfOk result (ReadsAs (legacy_json path.now size header.now parts.now)) }
+    ensures reads_back { IfOk result (IsJson (legacy_json path.now size header.now parts.now)) }
     ensures utf8 { IfOk result (λ text. IsUtf8 text.items) }
     ensures one_line { IfOk result (λ text. is_one_line text.items ≡ true) }
 {

@@ -6,9 +6,9 @@ ghost use Rattle.std.specs.Str.{is_utf8};
 ghost use Rattle.json.specs.Token.{Token};
 ghost use Rattle.json.specs.Tree.{json_tokens};
 ghost use Rattle.uimg_fit_reading.specs.Values.{pieces};
-ghost use Rattle.uimg_printing.specs.Members.{spelled, array_of, of_bytes, tokens_of, string_member, number_member, number_if, text_members};
+ghost use Rattle.uimg_printing.specs.Members.{text_json, array_of, of_bytes, tokens_of, string_member, number_member, number_if, text_members};
 ghost use Rattle.uimg_info.specs.Members.{texts_members, told_as, length_of, cell_number, address_number};
-ghost use Rattle.uimg_info.specs.Steps.{Adds};
+ghost use Rattle.uimg_info.specs.Steps.{AddsTokens};
 
 use crate::forms::Form;
 use base64::engine::general_purpose::STANDARD;
@@ -62,7 +62,7 @@ fn put_piece(
     piece: &[u8],
     as_bytes: bool,
 ) -> Result<(), AllocError>
-    ensures { Adds result writer (json_tokens (spelled as_bytes piece.now)) }
+    ensures { AddsTokens result writer (json_tokens (text_json as_bytes piece.now)) }
 {
     let text = if as_bytes {
         STANDARD.encode(alloc, piece)?
@@ -80,8 +80,8 @@ fn put_pieces(
     bytes: &[u8],
     as_bytes: bool,
 ) -> Result<(), AllocError>
-    ensures { Adds result writer
-        (json_tokens (array_of (map (spelled as_bytes) (pieces bytes.now)))) }
+    ensures { AddsTokens result writer
+        (json_tokens (array_of (map (text_json as_bytes) (pieces bytes.now)))) }
 {
     writer.begin_array()?;
     let mut rest = bytes;
@@ -96,7 +96,7 @@ fn put_pieces(
 
 // Writes texts, and also their bytes if one is not UTF-8.
 fn put_texts(alloc: Global, writer: &mut Writer, name: &str, bytes: &[u8]) -> Result<(), AllocError>
-    ensures { Adds result writer (tokens_of (texts_members name.now (pieces bytes.now))) }
+    ensures { AddsTokens result writer (tokens_of (texts_members name.now (pieces bytes.now))) }
 {
     writer.key(name)?;
     put_pieces(alloc, writer, bytes, false)?;
@@ -115,7 +115,7 @@ fn put_digest(
     name: &str,
     value: &[u8],
 ) -> Result<(), AllocError>
-    ensures { Adds result writer (tokens_of (told_as Form.Digest name.now value.now)) }
+    ensures { AddsTokens result writer (tokens_of (told_as Form.Digest name.now value.now)) }
 {
     let digits = hex::encode(alloc, value)?;
     writer.key(name)?;
@@ -156,7 +156,7 @@ pub(crate) fn put_value(
     name: &str,
     value: &[u8],
 ) -> Result<(), AllocError>
-    ensures { Adds result writer (tokens_of (told_as form name.now value.now)) }
+    ensures { AddsTokens result writer (tokens_of (told_as form name.now value.now)) }
 {
     match form {
         Form::Text => put_text(alloc, writer, name, before_nul(value)),
@@ -175,7 +175,7 @@ pub(crate) fn put_length(
     name: &str,
     length: u64,
 ) -> Result<(), AllocError>
-    ensures { Adds result writer (tokens_of (length_of form name.now length)) }
+    ensures { AddsTokens result writer (tokens_of (length_of form name.now length)) }
 {
     if matches!(form, Form::Cell | Form::Address) {
         return Ok(());

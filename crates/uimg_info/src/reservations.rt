@@ -7,9 +7,9 @@ ghost use Rattle.uimg_base.specs.Using.{Asks};
 ghost use Rattle.uimg_texts.specs.Numbers.{be32};
 ghost use Rattle.uimg_texts.specs.Slices.{slice};
 ghost use Rattle.uimg_printing.specs.Members.{array_of, tokens_of};
-ghost use Rattle.uimg_info.specs.Reservations.{entry_of, is_end, items_in, entries_in, reservations_of, reservation_json, reservations_members};
+ghost use Rattle.uimg_info.specs.Reservations.{reservation_at, ends_list, items_in, entries_in, reservations_of, reservation_json, reservations_members};
 ghost use Rattle.uimg_fit_checking.specs.SurveyParts.{IsOwn, is_unread};
-ghost use Rattle.uimg_info.specs.Steps.{Puts, Adds};
+ghost use Rattle.uimg_info.specs.Steps.{PutsTokens, AddsTokens};
 
 use byteorder::{BigEndian, ByteOrder};
 use json::Writer;
@@ -35,7 +35,7 @@ pub(crate) struct Reservation {
 // Reads the entry at the beginning of bytes.
 fn entry_of(bytes: &[u8]) -> Reservation
     requires { 16 ≤ length bytes.now }
-    ensures { result ≡ entry_of bytes.now }
+    ensures { result ≡ reservation_at bytes.now }
 {
     Reservation {
         address: BigEndian::read_u64(&bytes[..8]),
@@ -45,7 +45,7 @@ fn entry_of(bytes: &[u8]) -> Reservation
 
 // Returns whether an entry ends the list.
 fn is_end(entry: Reservation) -> bool
-    ensures { result ≡ is_end entry }
+    ensures { result ≡ ends_list entry }
 {
     entry.address == 0 && entry.size == 0
 }
@@ -119,7 +119,7 @@ fn read_reservations<S: Source>(
 
 // Writes an entry.
 fn put_reservation(writer: &mut Writer, entry: Reservation) -> Result<(), AllocError>
-    ensures { Adds result writer (json_tokens (reservation_json entry)) }
+    ensures { AddsTokens result writer (json_tokens (reservation_json entry)) }
 {
     writer.begin_object()?;
     put_number(writer, "address", entry.address)?;
@@ -130,7 +130,7 @@ fn put_reservation(writer: &mut Writer, entry: Reservation) -> Result<(), AllocE
 
 // Writes the array of the entries.
 fn put_entries(writer: &mut Writer, entries: &[Reservation]) -> Result<(), AllocError>
-    ensures { Adds result writer (json_tokens (array_of (map reservation_json entries.now))) }
+    ensures { AddsTokens result writer (json_tokens (array_of (map reservation_json entries.now))) }
 {
     writer.begin_array()?;
     for entry in entries {
@@ -142,7 +142,7 @@ fn put_entries(writer: &mut Writer, entries: &[Reservation]) -> Result<(), Alloc
 
 // Writes the entries under their name.
 fn put_list(writer: &mut Writer, entries: &[Reservation]) -> Result<(), AllocError>
-    ensures { Adds result writer (tokens_of (reservations_members (Some entries.now))) }
+    ensures { AddsTokens result writer (tokens_of (reservations_members (Some entries.now))) }
 {
     writer.key("reservations")?;
     put_entries(writer, entries)?;
@@ -151,7 +151,7 @@ fn put_list(writer: &mut Writer, entries: &[Reservation]) -> Result<(), AllocErr
 
 // Does the same, if the block has an end.
 fn put_found(writer: &mut Writer, found: Option<Vec<Reservation>>) -> Result<(), AllocError>
-    ensures { Adds result writer (tokens_of (reservations_members (items_in found))) }
+    ensures { AddsTokens result writer (tokens_of (reservations_members (items_in found))) }
 {
     match found {
         Some(entries) => put_list(writer, entries.as_slice()),
@@ -168,7 +168,7 @@ pub(crate) fn put_reservations<S: Source>(
     totalsize: u32,
 ) -> Result<(), SurveyFault>
     requires { totalsize ≤ length (S.device source.old).bytes }
-    ensures { Puts 65540 result S.device source writer
+    ensures { PutsTokens 65540 result S.device source writer
         (λ file. tokens_of (reservations_members (reservations_of file totalsize))) }
 {
     let found = read_reservations(alloc, source, totalsize)?;

@@ -10,7 +10,7 @@ ghost use Rattle.uimg_blob_reading.specs.Indexed.{TakesNodes};
 ghost use Rattle.uimg_fit_checking.specs.FullSurvey.{FullInside};
 ghost use Rattle.uimg_fit_checking.specs.SurveyParts.{is_unread, lacks_room, IsOwn};
 ghost use Rattle.uimg_info.specs.Fit.{info_of, ok_of};
-ghost use Rattle.uimg_info.specs.Steps.{Informs, Prints, ReadsAs, OfJson};
+ghost use Rattle.uimg_info.specs.Steps.{Informs, Prints, IsJson, OfJson};
 ghost use Rattle.uimg_info.specs.Work.{full_size, info_work};
 
 use crate::fit::put_fit;
@@ -33,7 +33,7 @@ fn survey_text<S: Source>(
         (S.device source.old) (S.device source.new) }
     ensures own { IsOwn result }
     ensures text { IfHonest S.device source (OfJson Prints path.now size full.now result) }
-    ensures reads_back { IfHonest S.device source (OfJson ReadsAs path.now size full.now result) }
+    ensures reads_back { IfHonest S.device source (OfJson IsJson path.now size full.now result) }
     ensures utf8 { IfOk result (λ text. IsUtf8 text.items) }
     ensures one_line { IfHonest S.device source (λ file.
         IfOk result (λ text. is_one_line text.items ≡ true)) }

@@ -6,7 +6,7 @@ use Rattle.uimg_blob_writing.specs.declared.tree.Node.{Node}
 use Rattle.uimg_blob_writing.specs.Content.{in_full}
 use Rattle.uimg_blob_writing.specs.Trees.{node_of}
 use Rattle.uimg_its.specs.Words.{Word}
-use Rattle.uimg_its.specs.Parts.{FileBytes, NodeParts, parts_of, single}
+use Rattle.uimg_its.specs.Parts.{FileBytes, NodeParts, parts_of, one_node}
 use Rattle.uimg_its.specs.Reader.{source}
 use Rattle.uimg_its.specs.Grammar.{Spells}
 use Rattle.uimg_its.proofs.Shrinking.{some_is}
@@ -18,7 +18,7 @@ pub only_spelled : {A : Type 0} (ws : List Word) (files : FileBytes) (root : Nod
 only_spelled ws files root h = subst (λ (t : Nodes). Spells ws files t) (sym (in_full_node files root)) (source_found ws files (parts_of files root) h)
 
 pub accepted : {A : Type 0} (ws : List Word) (files : FileBytes) (root : Node A) (t : Nodes) → source files ws ≡ Some (parts_of files root) → Spells ws files t → in_full files (node_of root) ≡ t
-accepted ws files root t h s = in_full_node files root ∙ ap single (some_is _ _ (sym h ∙ source_again ws files t s)) ∙ sym s.root
+accepted ws files root t h s = in_full_node files root ∙ ap one_node (some_is _ _ (sym h ∙ source_again ws files t s)) ∙ sym s.root
 
 outside_by : (b : Bool) (r : Option NodeParts) (x : NodeParts) → r ≡ Some x → OnFalse b (r ≡ None) → IsTrue b
 outside_by true r x is h = search
@@ -30,4 +30,4 @@ refused_outside b ws files t h s = outside_by b (source files ws) _ (source_agai
 
 -- A list of words spells at most one tree.
 pub one_tree : (ws : List Word) (files : FileBytes) (t u : Nodes) → Spells ws files t → Spells ws files u → t ≡ u
-one_tree ws files t u a b = a.root ∙ ap single (some_is _ _ (sym (source_again ws files t a) ∙ source_again ws files u b)) ∙ sym b.root
+one_tree ws files t u a b = a.root ∙ ap one_node (some_is _ _ (sym (source_again ws files t a) ∙ source_again ws files u b)) ∙ sym b.root

@@ -5,12 +5,12 @@ use Rattle.uimg_its.specs.declared.tokens.Mark.TheVariants.{Colon}
 use Rattle.uimg_its.specs.Words.{Word, name, mark, stray}
 use Rattle.uimg_its.specs.Options.{◌>>=◌}
 use Rattle.uimg_its.specs.Answers.{Refuses}
-use Rattle.uimg_its.specs.Reader.{Item, named, labelled, item_of}
+use Rattle.uimg_its.specs.Reader.{Item, unlabelled, label_first, item_of}
 use Rattle.std.specs.Prelude.{cond}
 use Rattle.uimg_its.proofs.StepLaws.{refuses_on}
 
 abbrev behind : Option Item → List Word → Option (Item × List Word)
-behind None ws = named ws
+behind None ws = unlabelled ws
 behind (Some i) ws = Some (i, ws)
 
 item_same : (b : Bool) (o : Option Item) (ws : List Word)
@@ -20,8 +20,8 @@ item_same true o ws = refl
 item_same false None ws = refl
 item_same false (Some i) ws = refl
 
-named_step : (ws : List Word) → named ws ≡ (labelled ws >>= λ x. behind x.0 x.1)
-unfolding named labelled
+named_step : (ws : List Word) → unlabelled ws ≡ (label_first ws >>= λ x. behind x.0 x.1)
+unfolding unlabelled label_first
 named_step [] = refl
 named_step (name n ∷ []) = refl
 named_step (name n ∷ mark Colon ∷ ws) = refl
@@ -30,11 +30,11 @@ named_step (name n ∷ w ∷ ws) = item_same (nat_lt 255 (length n)) (item_of n 
 named_step (w ∷ ws) = refl
 
 -- labels are passed over
-pub label_passed : (ws after : List Word) (total : Option (Item × List Word)) → labelled ws ≡ Some (None, after) → named ws ≡ total → named after ≡ total
+pub label_passed : (ws after : List Word) (total : Option (Item × List Word)) → label_first ws ≡ Some (None, after) → unlabelled ws ≡ total → unlabelled after ≡ total
 label_passed ws after total e h = sym (ap (λ r. r >>= λ x. behind x.0 x.1) e) ∙ sym (named_step ws) ∙ h
 
-pub item_found : (ws after : List Word) (i : Item) (total : Option (Item × List Word)) → labelled ws ≡ Some (Some i, after) → named ws ≡ total → total ≡ Some (i, after)
+pub item_found : (ws after : List Word) (i : Item) (total : Option (Item × List Word)) → label_first ws ≡ Some (Some i, after) → unlabelled ws ≡ total → total ≡ Some (i, after)
 item_found ws after i total e h = sym h ∙ named_step ws ∙ ap (λ r. r >>= λ x. behind x.0 x.1) e
 
-pub item_refused : (k : FaultKind) (ws : List Word) (total : Option (Item × List Word)) → Refuses k (labelled ws) → named ws ≡ total → Refuses k total
-item_refused k ws total e h = refuses_on k (labelled ws) total (λ none. sym h ∙ named_step ws ∙ ap (λ r. r >>= λ x. behind x.0 x.1) none) e
+pub item_refused : (k : FaultKind) (ws : List Word) (total : Option (Item × List Word)) → Refuses k (label_first ws) → unlabelled ws ≡ total → Refuses k total
+item_refused k ws total e h = refuses_on k (label_first ws) total (λ none. sym h ∙ named_step ws ∙ ap (λ r. r >>= λ x. behind x.0 x.1) none) e

@@ -4,7 +4,7 @@ use Rattle.std.specs.Prelude.{cond, codes}
 use Rattle.uimg_its.specs.declared.tokens.Mark.TheVariants.{Semicolon, ParenOpen, ParenClose}
 use Rattle.uimg_its.specs.Parts.{FileBytes}
 use Rattle.uimg_its.specs.Words.{Word, directive, text, mark}
-use Rattle.uimg_its.specs.Reader.{next, expect, string, is_incbin, lone_file, values}
+use Rattle.uimg_its.specs.Reader.{take_word, expect, string, is_incbin, lone_file, values}
 use Rattle.uimg_its.specs.Grammar.{incbin, one}
 use Rattle.uimg_its.proofs.Shrinking.{bind_some, some_is, pair_leads}
 use Rattle.uimg_its.proofs.ValuesAreSpelled.{string_is, expect_is, next_is, guard, bytes_same}
@@ -20,7 +20,7 @@ pair_first {X = X} x y ws after e = ap (λ (p : X × List Word). p.0) (some_is _
 lone_is : (ws after : List Word) (n : List ℕ) → lone_file ws ≡ Some (n, after) → ws ≡ directive (codes "incbin") ∷ mark ParenOpen ∷ text n ∷ mark ParenClose ∷ mark Semicolon ∷ after
 unfolding lone_file
 lone_is ws after n e =
-    let w = bind_some (next ws) _ (n, after) e in
+    let w = bind_some (take_word ws) _ (n, after) e in
     let opened = bind_some (cond (is_incbin w.0.0) (Some w.0.1) None) _ (n, after) w.2 in
     let inner = bind_some (expect ParenOpen opened.0) _ (n, after) opened.2 in
     let s = bind_some (string inner.0) _ (n, after) inner.2 in

@@ -6,17 +6,17 @@ use Rattle.uimg_blob_reading.specs.Plain.{Named}
 use Rattle.uimg_its.specs.Parts.{FileBytes, NodeParts, chain}
 use Rattle.uimg_its.specs.Words.{Word, name, mark}
 use Rattle.uimg_its.specs.Options.{◌>>=◌}
-use Rattle.uimg_its.specs.Steps.{Reads, Step, with_front, all}
-use Rattle.uimg_its.specs.Reader.{next, Item, empty, assigned, opens, closes, is_mark, name_in, item_after, labelled, named, item, expect, values, property_named, property_step, properties, inside, child_named, child_step, node_within, children}
+use Rattle.uimg_its.specs.Steps.{Parses, Step, with_front, all}
+use Rattle.uimg_its.specs.Reader.{take_word, Item, empty, assigned, opens, closes, is_mark, word_name, item_after, label_first, unlabelled, item, expect, values, named_property, property_step, properties, inside, child_named, child_step, node_within, children}
 use Rattle.uimg_its.proofs.StepLaws.{Shrinks}
 use Rattle.uimg_its.proofs.Shrinking.{Within, all_within, bind_some, next_shrinks, expect_shrinks, values_within, leads_to, pair_leads, some_is}
 
-labelled_shrinks : (ws after : List Word) (x : Option Item) → labelled ws ≡ Some (x, after) → length after < length ws
-unfolding labelled
+labelled_shrinks : (ws after : List Word) (x : Option Item) → label_first ws ≡ Some (x, after) → length after < length ws
+unfolding label_first
 labelled_shrinks ws after x e =
-    let first = bind_some (next ws) _ (x, after) e in
-    let n = bind_some (name_in first.0.0) _ (x, after) first.2 in
-    let second = bind_some (next first.0.1) _ (x, after) n.2 in
+    let first = bind_some (take_word ws) _ (x, after) e in
+    let n = bind_some (word_name first.0.0) _ (x, after) first.2 in
+    let second = bind_some (take_word first.0.1) _ (x, after) n.2 in
     let i = bind_some (item_after n.0 second.0.0) (λ i. Some (i, second.0.1)) (x, after) second.2 in
     let same = pair_leads i.0 x second.0.1 after i.2 in
     let a = next_shrinks ws first.0.1 first.0.0 first.1 in
@@ -28,29 +28,29 @@ found_leads None i ws after e = absurd (cc)
 found_leads (Some j) i ws after e = pair_leads j i ws after e
 
 found_shrinks : (ws after : List Word) (i : Item)
-    → (labelled ws >>= λ x. elim x.0 as (λ _. Option (Item × List Word)) [ None ↦ None | Some i ↦ Some (i, x.1) ]) ≡ Some (i, after) → length after < length ws
+    → (label_first ws >>= λ x. elim x.0 as (λ _. Option (Item × List Word)) [ None ↦ None | Some i ↦ Some (i, x.1) ]) ≡ Some (i, after) → length after < length ws
 found_shrinks ws after i e =
-    let p = bind_some (labelled ws) _ (i, after) e in
+    let p = bind_some (label_first ws) _ (i, after) e in
     let same = found_leads p.0.0 i p.0.1 after p.2 in
     let less = labelled_shrinks ws p.0.1 p.0.0 p.1 in
     omega (arith, less, ap length same)
 
-named_shrinks : (ws after : List Word) (i : Item) → named ws ≡ Some (i, after) → length after < length ws
-unfolding named
+named_shrinks : (ws after : List Word) (i : Item) → unlabelled ws ≡ Some (i, after) → length after < length ws
+unfolding unlabelled
 named_shrinks [] after i e = absurd (cc)
 named_shrinks (name n ∷ []) after i e = absurd (cc)
 named_shrinks (name n ∷ mark Colon ∷ ws) after i e = let less = named_shrinks ws after i e in omega (arith, less)
 named_shrinks (name n ∷ w ∷ ws) after i e = found_shrinks (name n ∷ w ∷ ws) after i e
 named_shrinks (w ∷ ws) after i e = absurd (cc)
 
-item_by : (b : Bool) (ws rest after : List Word) (i : Item) → length rest < length ws → cond b (Some (closes, rest)) (named ws) ≡ Some (i, after) → length after < length ws
+item_by : (b : Bool) (ws rest after : List Word) (i : Item) → length rest < length ws → cond b (Some (closes, rest)) (unlabelled ws) ≡ Some (i, after) → length after < length ws
 item_by true ws rest after i less e = let same = pair_leads closes i rest after e in omega (arith, less, ap length same)
 item_by false ws rest after i less e = named_shrinks ws after i e
 
 pub item_shrinks : (ws after : List Word) (i : Item) → item ws ≡ Some (i, after) → length after < length ws
 unfolding item
 item_shrinks ws after i e =
-    let p = bind_some (next ws) _ (i, after) e in
+    let p = bind_some (take_word ws) _ (i, after) e in
     item_by (is_mark BraceClose p.0.0) ws p.0.1 after i (next_shrinks ws p.0.1 p.0.0 p.1) p.2
 
 -- A step that isn't the last takes a word, and the last leaves no more than there were.
@@ -70,7 +70,7 @@ falls false ws after n less same = omega (arith, less, ap length same)
 last_is : {X : Type 0} → (b c : Bool) (xs ys : List X) (ws after : List Word) → ◌≡◌ {A = Step X} (Some (b, xs, ws)) (Some (c, ys, after)) → c ≡ b
 last_is {X = X} b c xs ys ws after e = sym (ap (λ (x : Bool × List X × List Word). x.0) (some_is _ _ e))
 
-property_falls : (files : FileBytes) (it : Item) (ws rest after : List Word) (b : Bool) (xs : List Named) → length rest < length ws → property_named files ws it rest ≡ Some (b, xs, after) → Falls b (length after) (length ws)
+property_falls : (files : FileBytes) (it : Item) (ws rest after : List Word) (b : Bool) (xs : List Named) → length rest < length ws → named_property files ws it rest ≡ Some (b, xs, after) → Falls b (length after) (length ws)
 property_falls files (empty n) ws rest after b xs less e = falls b rest after (length ws) less (leads_to false b _ xs rest after e)
 property_falls files (assigned n) ws rest after b xs less e =
     let v = bind_some (values files rest) (λ v. Some (false, record { name = n; value = v.0 } ∷ [], v.1)) (b, xs, after) e in
@@ -82,7 +82,7 @@ property_falls files closes ws rest after b xs less e = stays b ws after (length
 property_step_falls : (files : FileBytes) (ws after : List Word) (b : Bool) (xs : List Named) → property_step files ws ≡ Some (b, xs, after) → Falls b (length after) (length ws)
 unfolding property_step
 property_step_falls files ws after b xs e =
-    let p = bind_some (item ws) (λ it. property_named files ws it.0 it.1) (b, xs, after) e in
+    let p = bind_some (item ws) (λ it. named_property files ws it.0 it.1) (b, xs, after) e in
     property_falls files p.0.0 ws p.0.1 after b xs (item_shrinks ws p.0.1 p.0.0 p.1) p.2
 
 pub property_shrinks : (files : FileBytes) → Shrinks (property_step files)
@@ -91,7 +91,7 @@ property_shrinks files ws after xs e = property_step_falls files ws after false 
 pub properties_within : (files : FileBytes) → Within (properties files)
 properties_within files = all_within (property_step files) (property_shrinks files) (λ ws after xs e. property_step_falls files ws after true xs e)
 
-child_falls : (node : List ℕ → Reads NodeParts) → ((n : List ℕ) → Within (node n)) → (it : Item) (ws rest after : List Word) (b : Bool) (xs : List NodeParts) → length rest < length ws → child_named node it rest ≡ Some (b, xs, after) → Falls b (length after) (length ws)
+child_falls : (node : List ℕ → Parses NodeParts) → ((n : List ℕ) → Within (node n)) → (it : Item) (ws rest after : List Word) (b : Bool) (xs : List NodeParts) → length rest < length ws → child_named node it rest ≡ Some (b, xs, after) → Falls b (length after) (length ws)
 child_falls node within (opens n) ws rest after b xs less e =
     let t = bind_some (node n rest) (λ t. expect Semicolon t.1 >>= λ behind. Some (false, t.0 ∷ [], behind)) (b, xs, after) e in
     let behind = bind_some (expect Semicolon t.0.1) (λ behind. Some (false, t.0.0 ∷ [], behind)) (b, xs, after) t.2 in
@@ -101,13 +101,13 @@ child_falls node within (opens n) ws rest after b xs less e =
 child_falls node within closes ws rest after b xs less e = falls b rest after (length ws) less (leads_to true b _ xs rest after e)
 child_falls node within it ws rest after b xs less e = absurd (cc)
 
-child_step_falls : (node : List ℕ → Reads NodeParts) → ((n : List ℕ) → Within (node n)) → (ws after : List Word) (b : Bool) (xs : List NodeParts) → child_step node ws ≡ Some (b, xs, after) → Falls b (length after) (length ws)
+child_step_falls : (node : List ℕ → Parses NodeParts) → ((n : List ℕ) → Within (node n)) → (ws after : List Word) (b : Bool) (xs : List NodeParts) → child_step node ws ≡ Some (b, xs, after) → Falls b (length after) (length ws)
 unfolding child_step
 child_step_falls node within ws after b xs e =
     let p = bind_some (item ws) (λ it. child_named node it.0 it.1) (b, xs, after) e in
     child_falls node within p.0.0 ws p.0.1 after b xs (item_shrinks ws p.0.1 p.0.0 p.1) p.2
 
-inside_within : (files : FileBytes) (below : Reads (List NodeParts)) → Within below → (n : List ℕ) → Within (inside files below n)
+inside_within : (files : FileBytes) (below : Parses (List NodeParts)) → Within below → (n : List ℕ) → Within (inside files below n)
 unfolding inside
 inside_within files below within n ws after t e =
     let own = bind_some (properties files ws) _ (t, after) e in
@@ -146,7 +146,7 @@ no_front None = refl
 no_front (Some x) = refl
 
 -- what is inside a node, by its properties and its children
-pub inside_is : (files : FileBytes) (below : Reads (List NodeParts)) (n : List ℕ) (ws behind rest : List Word) (own : List Named) (kids : List NodeParts)
+pub inside_is : (files : FileBytes) (below : Parses (List NodeParts)) (n : List ℕ) (ws behind rest : List Word) (own : List Named) (kids : List NodeParts)
     → properties files ws ≡ Some (own, behind) → below behind ≡ Some (kids, rest) → inside files below n ws ≡ Some (record { name = n; props = own; children = chain kids }, rest)
 unfolding inside
 inside_is files below n ws behind rest own kids p k = rw (p, k) refl

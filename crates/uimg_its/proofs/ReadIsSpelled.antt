@@ -5,10 +5,10 @@ use Rattle.std.proofs.lemmas.Bool.{ltb-false}
 use Rattle.uimg_its.specs.declared.tokens.Mark.TheVariants.{Slash, BraceOpen, BraceClose, Semicolon, Equals, Colon}
 use Rattle.uimg_its.specs.Options.{◌>>=◌}
 use Rattle.uimg_blob_reading.specs.Plain.{Named, no_node, a_node}
-use Rattle.uimg_its.specs.Parts.{FileBytes, NodeParts, chain, single}
+use Rattle.uimg_its.specs.Parts.{FileBytes, NodeParts, chain, one_node}
 use Rattle.uimg_its.specs.Words.{Word, name, directive, mark, stray}
-use Rattle.uimg_its.specs.Steps.{Reads, Step, all}
-use Rattle.uimg_its.specs.Reader.{next, Item, empty as no_value, assigned as has_value, opens, closes, is_mark, labelled, named, item, expect, values, property_named, property_step, properties, inside, child_named, child_step, node_within, children, is_version, version, alone, source}
+use Rattle.uimg_its.specs.Steps.{Parses, Step, all}
+use Rattle.uimg_its.specs.Reader.{take_word, Item, empty as no_value, assigned as has_value, opens, closes, is_mark, label_first, unlabelled, item, expect, values, named_property, property_step, properties, inside, child_named, child_step, node_within, children, is_version, version, alone, source}
 use Rattle.uimg_its.specs.Grammar.{Names, IsProperty, empty, assigned, AreProperties, AreNodes, body, Spells}
 use Rattle.uimg_its.proofs.Shrinking.{some_is, bind_some, pair_leads}
 use Rattle.uimg_its.proofs.SpelledIsRead.{tail, whole_more}
@@ -50,8 +50,8 @@ found_none false i ws after e = absurd (cc)
 abbrev NamedIs : Item → List Word → List Word → Type 0
 NamedIs i ws after = (i ≡ closes → ⊥) × ItemIs i ws after
 
-named_found : (ws after : List Word) (i : Item) → named ws ≡ Some (i, after) → NamedIs i ws after
-unfolding named labelled
+named_found : (ws after : List Word) (i : Item) → unlabelled ws ≡ Some (i, after) → NamedIs i ws after
+unfolding unlabelled label_first
 named_found [] after i e = absurd (cc)
 named_found (name n ∷ []) after i e = absurd (cc)
 named_found (name n ∷ mark Colon ∷ ws) after i e = let h = named_found ws after i e in (h.0, labels_before n i ws after h.0 h.1)
@@ -68,7 +68,7 @@ named_found (name n ∷ stray ∷ ws) after i e = absurd (cc)
 named_found (name n ∷ w ∷ ws) after i e = absurd (found_none (nat_lt 255 (length n)) i ws after e)
 named_found (w ∷ ws) after i e = absurd (cc)
 
-item_by : (b : Bool) (w : Word) (ws rest after : List Word) (i : Item) → (b ≡ true → w ≡ mark BraceClose) → ws ≡ w ∷ rest → cond b (Some (closes, rest)) (named ws) ≡ Some (i, after) → ItemIs i ws after
+item_by : (b : Bool) (w : Word) (ws rest after : List Word) (i : Item) → (b ≡ true → w ≡ mark BraceClose) → ws ≡ w ∷ rest → cond b (Some (closes, rest)) (unlabelled ws) ≡ Some (i, after) → ItemIs i ws after
 item_by true w ws rest after i is whole e =
     subst (λ (j : Item). ItemIs j ws after) (pair_is _ _ _ _ e) (whole ∙ ap (λ (v : Word). v ∷ rest) (is refl) ∙ ap (λ (l : List Word). mark BraceClose ∷ l) (pair_leads _ _ _ _ e))
 item_by false w ws rest after i is whole e = (named_found ws after i e).1
@@ -76,7 +76,7 @@ item_by false w ws rest after i is whole e = (named_found ws after i e).1
 item_found : (ws after : List Word) (i : Item) → item ws ≡ Some (i, after) → ItemIs i ws after
 unfolding item
 item_found ws after i e =
-    let p = bind_some (next ws) (λ w. cond (is_mark BraceClose w.0) (Some (closes, w.1)) (named ws)) (i, after) e in
+    let p = bind_some (take_word ws) (λ w. cond (is_mark BraceClose w.0) (Some (closes, w.1)) (unlabelled ws)) (i, after) e in
     item_by (is_mark BraceClose p.0.0) p.0.0 ws p.0.1 after i (mark_is BraceClose p.0.0) (next_is ws p.0.1 p.0.0 p.1) p.2
 
 -- properties in front of words
@@ -86,7 +86,7 @@ PropertiesAre files ws ps after = (front : List Word) × AreProperties files fro
 no_properties : (files : FileBytes) (ws after : List Word) (xs ps : List Named) → ◌≡◌ {A = Step Named} (Some (true, xs, ws)) (Some (true, ps, after)) → xs ≡ [] → PropertiesAre files ws ps after
 no_properties files ws after xs ps e nothing = ([], subst (λ (l : List Named). AreProperties files [] l) (sym (triple_is _ _ _ _ _ _ e ∙ nothing)) refl, triple_leads _ _ _ _ _ _ e)
 
-properties_last_by : (files : FileBytes) (it : Item) (ws rest after : List Word) (ps : List Named) → property_named files ws it rest ≡ Some (true, ps, after) → PropertiesAre files ws ps after
+properties_last_by : (files : FileBytes) (it : Item) (ws rest after : List Word) (ps : List Named) → named_property files ws it rest ≡ Some (true, ps, after) → PropertiesAre files ws ps after
 properties_last_by files (no_value n) ws rest after ps e = absurd (triple_last _ _ _ _ e)
 properties_last_by files (has_value n) ws rest after ps e = let v = bind_some (values files rest) _ (true, ps, after) e in absurd (triple_last _ _ _ _ v.2)
 properties_last_by files (opens n) ws rest after ps e = no_properties files ws after [] ps e refl
@@ -95,13 +95,13 @@ properties_last_by files closes ws rest after ps e = no_properties files ws afte
 properties_last : (files : FileBytes) (ws after : List Word) (ps : List Named) → property_step files ws ≡ Some (true, ps, after) → PropertiesAre files ws ps after
 unfolding property_step
 properties_last files ws after ps e =
-    let p = bind_some (item ws) (λ it. property_named files ws it.0 it.1) (true, ps, after) e in
+    let p = bind_some (item ws) (λ it. named_property files ws it.0 it.1) (true, ps, after) e in
     properties_last_by files p.0.0 ws p.0.1 after ps p.2
 
 abbrev PropertyIs : FileBytes → List Word → List Named → List Word → Type 0
 PropertyIs files ws ps after = (front : List Word) × (p : Named) × IsProperty files front p × (ps ≡ p ∷ []) × (ws ≡ front ++ after)
 
-property_by : (files : FileBytes) (it : Item) (ws rest after : List Word) (ps : List Named) → ItemIs it ws rest → property_named files ws it rest ≡ Some (false, ps, after) → PropertyIs files ws ps after
+property_by : (files : FileBytes) (it : Item) (ws rest after : List Word) (ps : List Named) → ItemIs it ws rest → named_property files ws it rest ≡ Some (false, ps, after) → PropertyIs files ws ps after
 property_by files (no_value n) ws rest after ps h e = (
   h.0 ++ mark Semicolon ∷ [],
   record { name = n; value = [] },
@@ -125,7 +125,7 @@ property_by files closes ws rest after ps h e = absurd (triple_more _ _ _ _ e)
 properties_more : (files : FileBytes) (ws then after : List Word) (ps qs : List Named) → property_step files ws ≡ Some (false, ps, then) → PropertiesAre files then qs after → PropertiesAre files ws (ps ++ qs) after
 unfolding property_step
 properties_more files ws then after ps qs e t =
-    let p = bind_some (item ws) (λ it. property_named files ws it.0 it.1) (false, ps, then) e in
+    let p = bind_some (item ws) (λ it. named_property files ws it.0 it.1) (false, ps, then) e in
     let h = property_by files p.0.0 ws p.0.1 then ps (item_found ws p.0.1 p.0.0 p.1) p.2 in
     (h.0 ++ t.0, subst (λ (l : List Named). AreProperties files (h.0 ++ t.0) (l ++ qs)) (sym h.3) (h.0, t.0, h.2, t.1, refl), h.4 ∙ ap (λ (l : List Word). h.0 ++ l) t.2 ∙ sym (append_assoc h.0 t.0 after))
 
@@ -137,7 +137,7 @@ properties_found files ws after ps e = all_found (property_step files) (Properti
 abbrev NodesAre : FileBytes → ℕ → List Word → List NodeParts → List Word → Type 0
 NodesAre files l ws ts after = (front : List Word) × AreNodes files l front (chain ts) × (ws ≡ front ++ mark BraceClose ∷ after)
 
-nodes_last_by : (files : FileBytes) (l : ℕ) (read : List ℕ → Reads NodeParts) (it : Item) (ws rest after : List Word) (ts : List NodeParts) → ItemIs it ws rest → child_named read it rest ≡ Some (true, ts, after) → NodesAre files l ws ts after
+nodes_last_by : (files : FileBytes) (l : ℕ) (read : List ℕ → Parses NodeParts) (it : Item) (ws rest after : List Word) (ts : List NodeParts) → ItemIs it ws rest → child_named read it rest ≡ Some (true, ts, after) → NodesAre files l ws ts after
 nodes_last_by files l read (opens n) ws rest after ts h e =
     let t = bind_some (read n rest) (λ t. expect Semicolon t.1 >>= λ behind. (let x : Bool × List NodeParts × List Word = (false, t.0 ∷ [], behind) in Some x)) (true, ts, after) e in
     let s = bind_some (expect Semicolon t.0.1) (λ behind. (let x : Bool × List NodeParts × List Word = (false, t.0.0 ∷ [], behind) in Some x)) (true, ts, after) t.2 in
@@ -146,19 +146,19 @@ nodes_last_by files l read closes ws rest after ts h e =
     ([], subst (λ (x : List NodeParts). AreNodes files l [] (chain x)) (sym (triple_is _ _ _ _ _ _ e)) refl, h ∙ ap (λ (w : List Word). mark BraceClose ∷ w) (triple_leads _ _ _ _ _ _ e))
 nodes_last_by files l read it ws rest after ts h e = absurd (cc)
 
-nodes_last : (files : FileBytes) (l : ℕ) (read : List ℕ → Reads NodeParts) (ws after : List Word) (ts : List NodeParts) → child_step read ws ≡ Some (true, ts, after) → NodesAre files l ws ts after
+nodes_last : (files : FileBytes) (l : ℕ) (read : List ℕ → Parses NodeParts) (ws after : List Word) (ts : List NodeParts) → child_step read ws ≡ Some (true, ts, after) → NodesAre files l ws ts after
 unfolding child_step
 nodes_last files l read ws after ts e =
     let p = bind_some (item ws) (λ it. child_named read it.0 it.1) (true, ts, after) e in
     nodes_last_by files l read p.0.0 ws p.0.1 after ts (item_found ws p.0.1 p.0.0 p.1) p.2
 
 -- a child: its name, and what is read behind its opening brace
-abbrev ChildIs : (List ℕ → Reads NodeParts) → List Word → List NodeParts → List Word → Type 0
+abbrev ChildIs : (List ℕ → Parses NodeParts) → List Word → List NodeParts → List Word → Type 0
 ChildIs read ws ts after =
     (head : List Word) × (n : List ℕ) × (t : NodeParts) × (rest : List Word) × Names head n
     × (read n rest ≡ Some (t, mark Semicolon ∷ after)) × (ts ≡ t ∷ []) × (ws ≡ head ++ mark BraceOpen ∷ rest)
 
-child_by : (read : List ℕ → Reads NodeParts) (it : Item) (ws rest after : List Word) (ts : List NodeParts) → ItemIs it ws rest → child_named read it rest ≡ Some (false, ts, after) → ChildIs read ws ts after
+child_by : (read : List ℕ → Parses NodeParts) (it : Item) (ws rest after : List Word) (ts : List NodeParts) → ItemIs it ws rest → child_named read it rest ≡ Some (false, ts, after) → ChildIs read ws ts after
 child_by read (opens n) ws rest after ts h e =
     let t = bind_some (read n rest) (λ t. expect Semicolon t.1 >>= λ behind. (let x : Bool × List NodeParts × List Word = (false, t.0 ∷ [], behind) in Some x)) (false, ts, after) e in
     let s = bind_some (expect Semicolon t.0.1) (λ behind. (let x : Bool × List NodeParts × List Word = (false, t.0.0 ∷ [], behind) in Some x)) (false, ts, after) t.2 in
@@ -167,7 +167,7 @@ child_by read (opens n) ws rest after ts h e =
 child_by read closes ws rest after ts h e = absurd (triple_more _ _ _ _ e)
 child_by read it ws rest after ts h e = absurd (cc)
 
-child_is : (read : List ℕ → Reads NodeParts) (ws after : List Word) (ts : List NodeParts) → child_step read ws ≡ Some (false, ts, after) → ChildIs read ws ts after
+child_is : (read : List ℕ → Parses NodeParts) (ws after : List Word) (ts : List NodeParts) → child_step read ws ≡ Some (false, ts, after) → ChildIs read ws ts after
 unfolding child_step
 child_is read ws after ts e =
     let p = bind_some (item ws) (λ it. child_named read it.0 it.1) (false, ts, after) e in
@@ -222,7 +222,7 @@ alone_is t u [] e = (some_is t u e, refl)
 alone_is t u (w ∷ ws) e = absurd (cc)
 
 -- What is read is spelled.
-pub source_found : (ws : List Word) (files : FileBytes) (t : NodeParts) → source files ws ≡ Some t → Spells ws files (single t)
+pub source_found : (ws : List Word) (files : FileBytes) (t : NodeParts) → source files ws ≡ Some t → Spells ws files (one_node t)
 unfolding source node_within
 source_found ws files t e =
     let v = bind_some (version ws) _ t e in
@@ -233,7 +233,7 @@ source_found ws files t e =
     let closed = bind_some (expect Semicolon root.0.1) (λ rest. alone root.0.0 rest) t root.2 in
     let end = alone_is root.0.0 t closed.0 closed.2 in
     let i = inside_found files 63 (children_found files 63) [] opened.0 root.0.1 root.0.0 root.1 in
-    let w = bind_some (next ws) (λ w. cond (is_version w.0) (Some w.1) None) v.0 v.1 in
+    let w = bind_some (take_word ws) (λ w. cond (is_version w.0) (Some w.1) None) v.0 v.1 in
     let g = guard (is_version w.0.0) w.0.1 v.0 w.2 in
     let first = next_is ws w.0.1 w.0.0 w.1 ∙ ap (λ (x : Word). x ∷ w.0.1) (version_is w.0.0 g.0) ∙ ap (λ (x : List Word). directive (codes "dts-v1") ∷ x) g.1 in
     let last : root.0.1 ≡ mark Semicolon ∷ [] = expect_is Semicolon root.0.1 closed.0 closed.1 ∙ ap (λ (x : List Word). mark Semicolon ∷ x) end.1 in
@@ -241,7 +241,7 @@ source_found ws files t e =
     let behind_slash : slash.0 ≡ body i.0 i.1 (mark Semicolon ∷ []) = expect_is BraceOpen slash.0 opened.0 opened.1 ∙ ap (λ (x : List Word). mark BraceOpen ∷ x) inner in
     let behind_semi : semi.0 ≡ mark Slash ∷ body i.0 i.1 (mark Semicolon ∷ []) = expect_is Slash semi.0 slash.0 slash.1 ∙ ap (λ (x : List Word). mark Slash ∷ x) behind_slash in
     let behind_version : v.0 ≡ mark Semicolon ∷ mark Slash ∷ body i.0 i.1 (mark Semicolon ∷ []) = expect_is Semicolon v.0 semi.0 semi.1 ∙ ap (λ (x : List Word). mark Semicolon ∷ x) behind_semi in
-    subst (λ (x : NodeParts). Spells ws files (single x)) end.0 (record {
+    subst (λ (x : NodeParts). Spells ws files (one_node x)) end.0 (record {
       props = root.0.0.props;
       children = root.0.0.children;
       own = i.0;

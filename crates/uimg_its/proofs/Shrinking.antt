@@ -9,9 +9,9 @@ use Rattle.uimg_its.specs.Words.{Word, directive, text, mark, stray}
 use Rattle.uimg_its.specs.declared.lists.Listed.{Listed}
 use Rattle.uimg_its.specs.declared.lists.Listed.TheVariants.{Cells, Bytes}
 use Rattle.uimg_its.specs.Options.{◌>>=◌}
-use Rattle.uimg_its.specs.Steps.{Reads, Step, Steps, with_front, and_on, at_most, all}
+use Rattle.uimg_its.specs.Steps.{Parses, Step, Steps, with_front, and_on, at_most, all}
 use Rattle.uimg_its.specs.Cells.{element}
-use Rattle.uimg_its.specs.Reader.{next, element_word, element_step, listed, expect, is_mark, string, string_in, file, value_of, value, value_step, values, ends}
+use Rattle.uimg_its.specs.Reader.{take_word, element_word, element_step, list_items, expect, is_mark, string, string_in, file, spelled_value, value, value_step, values, is_last_value}
 use Rattle.uimg_its.proofs.StepLaws.{Shrinks}
 
 -- both steps of a reading were there
@@ -22,7 +22,7 @@ bind_some (Some x) f y e = (x, refl, e)
 pub some_is : {A : Type 0} (x y : A) → Some x ≡ Some y → x ≡ y
 some_is x y e = cc
 
-pub next_shrinks : (ws after : List Word) (w : Word) → next ws ≡ Some (w, after) → length after < length ws
+pub next_shrinks : (ws after : List Word) (w : Word) → take_word ws ≡ Some (w, after) → length after < length ws
 next_shrinks [] after w e = absurd (cc)
 next_shrinks (stray ∷ ws) after w e = absurd (cc)
 next_shrinks (w' ∷ ws) after w e = let same : ws ≡ after = ap (λ (x : Word × List Word). x.1) (some_is _ _ e) in omega (arith, ap length same)
@@ -43,7 +43,7 @@ element_leads_by l (Some n) b ws after xs e = let p = bind_some (element l n) (�
 element_leads : (l : Listed) (ws after : List Word) (b : Bool) (xs : List ℕ) → element_step l ws ≡ Some (b, xs, after) → length after < length ws
 unfolding element_step
 element_leads l ws after b xs e =
-    let first = bind_some (next ws) _ (b, xs, after) e in
+    let first = bind_some (take_word ws) _ (b, xs, after) e in
     let found = bind_some (element_word l first.0.0) _ (b, xs, after) first.2 in
     let same = element_leads_by l found.0 b first.0.1 after xs found.2 in
     let less = next_shrinks ws first.0.1 first.0.0 first.1 in
@@ -53,7 +53,7 @@ pub element_shrinks : (l : Listed) → Shrinks (element_step l)
 element_shrinks l ws after xs e = element_leads l ws after false xs e
 
 -- Reading never leaves more words than there were.
-abbrev pub Within : {X : Type 0} → Reads X → Type 0
+abbrev pub Within : {X : Type 0} → Parses X → Type 0
 Within {X = X} read = (ws after : List Word) (x : X) → read ws ≡ Some (x, after) → length after ≤ length ws
 
 -- The last step leaves no more words than there were.
@@ -64,7 +64,7 @@ front_leads : {X : Type 0} → (front xs : List X) (r : Option (List X × List W
 front_leads {X = X} front xs None after e = absurd (cc)
 front_leads {X = X} front xs (Some x) after e = (x.0, ap (λ (l : List Word). Some (x.0, l)) (ap (λ (y : List X × List Word). y.1) (some_is _ _ e)))
 
-on_within : {X : Type 0} → (r : Step X) (on : Reads (List X)) (most : ℕ) (xs : List X) (after : List Word)
+on_within : {X : Type 0} → (r : Step X) (on : Parses (List X)) (most : ℕ) (xs : List X) (after : List Word)
     → ((ys : List X) (then : List Word) → r ≡ Some (true, ys, then) → length then ≤ most)
     → ((ys zs : List X) (then rest : List Word) → r ≡ Some (false, ys, then) → on then ≡ Some (zs, rest) → length rest ≤ most)
     → and_on r on ≡ Some (xs, after) → length after ≤ most
@@ -85,7 +85,7 @@ pub all_within : {X : Type 0} → (step : Steps X) → Shrinks step → LastWith
 unfolding all
 all_within step shrinks last ws after xs e = most_within step shrinks last (suc (length ws)) ws after xs e
 
-listed_within : (l : Listed) → Within (listed l)
+listed_within : (l : Listed) → Within (list_items l)
 listed_within l = all_within (element_step l) (element_shrinks l) (λ ws after xs e. let less = element_leads l ws after true xs e in omega (arith, less))
 
 chosen : {A : Type 0} (b : Bool) (x y : A) → cond b (Some x) None ≡ Some y → x ≡ y
@@ -94,7 +94,7 @@ chosen false x y e = absurd (cc)
 
 pub expect_shrinks : (m : Mark) (ws after : List Word) → expect m ws ≡ Some after → length after < length ws
 expect_shrinks m ws after e =
-    let p = bind_some (next ws) (λ w. cond (is_mark m w.0) (Some w.1) None) after e in
+    let p = bind_some (take_word ws) (λ w. cond (is_mark m w.0) (Some w.1) None) after e in
     let same = chosen (is_mark m p.0.0) p.0.1 after p.2 in
     let less = next_shrinks ws p.0.1 p.0.0 p.1 in
     omega (arith, less, ap length same)
@@ -105,7 +105,7 @@ pair_leads {X = X} x y ws after e = ap (λ (p : X × List Word). p.1) (some_is _
 
 string_shrinks : (ws after : List Word) (s : List ℕ) → string ws ≡ Some (s, after) → length after < length ws
 string_shrinks ws after s e =
-    let p = bind_some (next ws) _ (s, after) e in
+    let p = bind_some (take_word ws) _ (s, after) e in
     let q = bind_some (string_in p.0.0) (λ s. Some (s, p.0.1)) (s, after) p.2 in
     let same = pair_leads q.0 s p.0.1 after q.2 in
     let less = next_shrinks ws p.0.1 p.0.0 p.1 in
@@ -128,8 +128,8 @@ directive_within : (files : FileBytes) (b : Bool) (ws after : List Word) (x : Li
 directive_within files true ws after x e = file_within files ws after x e
 directive_within files false ws after x e = absurd (cc)
 
-value_of_within : (files : FileBytes) (w : Word) → Within (value_of files w)
-unfolding value_of
+value_of_within : (files : FileBytes) (w : Word) → Within (spelled_value files w)
+unfolding spelled_value
 value_of_within files (mark Less) ws after x e = listed_within Cells ws after x e
 value_of_within files (text s) ws after x e = let same = pair_leads _ x ws after e in omega (arith, ap length same)
 value_of_within files (mark BracketOpen) ws after x e = listed_within Bytes ws after x e
@@ -140,10 +140,10 @@ value_leads : (files : FileBytes) (ws after : List Word) (b : Bool) (xs : List �
 unfolding value_step value
 value_leads files ws after b xs e =
     let v = bind_some (value files ws) _ (b, xs, after) e in
-    let w = bind_some (next v.0.1) _ (b, xs, after) v.2 in
-    let last = bind_some (ends w.0.0) (λ last. Some (last, v.0.0, w.0.1)) (b, xs, after) w.2 in
+    let w = bind_some (take_word v.0.1) _ (b, xs, after) v.2 in
+    let last = bind_some (is_last_value w.0.0) (λ last. Some (last, v.0.0, w.0.1)) (b, xs, after) w.2 in
     let same = leads_to last.0 b v.0.0 xs w.0.1 after last.2 in
-    let first = bind_some (next ws) (λ w. value_of files w.0 w.1) v.0 v.1 in
+    let first = bind_some (take_word ws) (λ w. spelled_value files w.0 w.1) v.0 v.1 in
     let a = next_shrinks ws first.0.1 first.0.0 first.1 in
     let b = value_of_within files first.0.0 first.0.1 v.0.1 v.0.0 first.2 in
     let c = next_shrinks v.0.1 w.0.1 w.0.0 w.1 in

@@ -7,8 +7,8 @@ use Rattle.uimg_blob_reading.specs.Plain.{NamedOf, Nodes, no_node, a_node, with_
 use Rattle.uimg_blob_writing.specs.declared.tree.Node.{Node}
 use Rattle.uimg_blob_writing.specs.Content.{Content, Unread, bytes, file, IsKept, AreKept, in_full, StandsAtData, FilesAtData}
 use Rattle.uimg_blob_writing.specs.Trees.{siblings, node_of}
-use Rattle.uimg_its.specs.Parts.{FileBytes, parts_of, all_parts_of, chain, single, props_in_full}
-use Rattle.uimg_its.specs.FileValues.{IsSound, AreSound, IsSoundTree, IsSoundNode, AreSoundNodes}
+use Rattle.uimg_its.specs.Parts.{FileBytes, parts_of, all_parts_of, chain, one_node, props_in_full}
+use Rattle.uimg_its.specs.FileValues.{IsSoundValue, AreSound, IsSoundTree, IsSoundNode, AreSoundNodes}
 
 -- one more
 pub all_push : {X : Type 0} (P : X → Type 0) (xs : List X) (x : X) → AllByRecursion P xs → P x → AllByRecursion P (xs ++ x ∷ [])
@@ -25,10 +25,10 @@ still P Q {a = a} {b = b} same f = subst (λ (h : Bool). P h a.bytes → Q h a.b
 
 pub still_sound : {a b : FileMap} (old new : List (NamedOf Content)) → SameFiles a b → (AreSound b old → AreSound b new) → AreSound a old → AreSound a new
 still_sound old new same f =
-    still (λ h m. AllByRecursion (λ (p : NamedOf Content). IsSound h m p.name p.value) old) (λ h m. AllByRecursion (λ (p : NamedOf Content). IsSound h m p.name p.value) new) same f
+    still (λ h m. AllByRecursion (λ (p : NamedOf Content). IsSoundValue h m p.name p.value) old) (λ h m. AllByRecursion (λ (p : NamedOf Content). IsSoundValue h m p.name p.value) new) same f
 
-pub props_push : (m : FileMap) (ps : List (NamedOf Content)) (p : NamedOf Content) (more : List (NamedOf Content)) → more ≡ ps ++ p ∷ [] → AreSound m ps → IsSound m.honest m.bytes p.name p.value → AreSound m more
-props_push m ps p more is all s = rw is (all_push (λ (q : NamedOf Content). IsSound m.honest m.bytes q.name q.value) ps p all s)
+pub props_push : (m : FileMap) (ps : List (NamedOf Content)) (p : NamedOf Content) (more : List (NamedOf Content)) → more ≡ ps ++ p ∷ [] → AreSound m ps → IsSoundValue m.honest m.bytes p.name p.value → AreSound m more
+props_push m ps p more is all s = rw is (all_push (λ (q : NamedOf Content). IsSoundValue m.honest m.bytes q.name q.value) ps p all s)
 
 -- the nodes of the code, and those that contracts see
 pub in_full_siblings : {A : Type 0} (files : FileBytes) (ns : List (Node A)) → in_full files (siblings ns) ≡ chain (all_parts_of files ns)
@@ -36,7 +36,7 @@ unfolding with_values
 in_full_siblings files [] = refl
 in_full_siblings files (n ∷ ns) = ap (λ (t : Nodes). a_node n.name (props_in_full files n.props) (in_full files n.children) t) (in_full_siblings files ns)
 
-pub in_full_node : {A : Type 0} (files : FileBytes) (n : Node A) → in_full files (node_of n) ≡ single (parts_of files n)
+pub in_full_node : {A : Type 0} (files : FileBytes) (n : Node A) → in_full files (node_of n) ≡ one_node (parts_of files n)
 unfolding with_values
 in_full_node files n = refl
 
@@ -44,7 +44,7 @@ pub siblings_sound : {A : Type 0} (m : FileMap) (ns : List (Node A)) → AreSoun
 siblings_sound m [] all = tt
 siblings_sound m (n ∷ ns) all = (all.0.0, all.0.1, siblings_sound m ns all.1)
 
-at_data : (h : Bool) (m : FileBytes) (n : List ℕ) (c : Content) → IsSound h m n c → StandsAtData n c
+at_data : (h : Bool) (m : FileBytes) (n : List ℕ) (c : Content) → IsSoundValue h m n c → StandsAtData n c
 at_data h m n (bytes b) s = tt
 at_data h m n (file name size) s = s.0
 
@@ -53,7 +53,7 @@ files_at_data m no_node s = tt
 files_at_data m (a_node name own below after) s =
     (all_weaker _ _ (λ p s. at_data m.honest m.bytes p.name p.value s) own s.0, files_at_data m below s.1, files_at_data m after s.2)
 
-is_kept : (h : Bool) (m : FileBytes) (n : List ℕ) (c : Content) → IsTrue h → IsSound h m n c → IsKept m c
+is_kept : (h : Bool) (m : FileBytes) (n : List ℕ) (c : Content) → IsTrue h → IsSoundValue h m n c → IsKept m c
 is_kept h m n (bytes b) honest s = tt
 is_kept h m n (file name size) honest s = s.1 honest
 
@@ -62,11 +62,11 @@ are_kept m no_node honest s = tt
 are_kept m (a_node name own below after) honest s =
     (all_weaker _ _ (λ p s. is_kept m.honest m.bytes p.name p.value honest s) own s.0, are_kept m below honest s.1, are_kept m after honest s.2)
 
-value_same : (a b : FileMap) (n : List ℕ) (c : Content) → SameFiles a b → IsSound b.honest b.bytes n c → IsSound a.honest a.bytes n c
-value_same a b n c same s = subst (λ (h : Bool). IsSound h a.bytes n c) same.honest (subst (λ (m : FileBytes). IsSound b.honest m n c) same.bytes s)
+value_same : (a b : FileMap) (n : List ℕ) (c : Content) → SameFiles a b → IsSoundValue b.honest b.bytes n c → IsSoundValue a.honest a.bytes n c
+value_same a b n c same s = subst (λ (h : Bool). IsSoundValue h a.bytes n c) same.honest (subst (λ (m : FileBytes). IsSoundValue b.honest m n c) same.bytes s)
 
 props_same : (a b : FileMap) (ps : List (NamedOf Content)) → SameFiles a b → AreSound b ps → AreSound a ps
-props_same a b ps same all = all_weaker (λ (p : NamedOf Content). IsSound b.honest b.bytes p.name p.value) (λ (p : NamedOf Content). IsSound a.honest a.bytes p.name p.value) (λ p s. value_same a b p.name p.value same s) ps all
+props_same a b ps same all = all_weaker (λ (p : NamedOf Content). IsSoundValue b.honest b.bytes p.name p.value) (λ (p : NamedOf Content). IsSoundValue a.honest a.bytes p.name p.value) (λ p s. value_same a b p.name p.value same s) ps all
 
 tree_same : (a b : FileMap) (t : Unread) → SameFiles a b → IsSoundTree b t → IsSoundTree a t
 tree_same a b no_node same s = tt

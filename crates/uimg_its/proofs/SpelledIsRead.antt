@@ -9,9 +9,9 @@ use Rattle.uimg_its.specs.Options.{◌>>=◌}
 use Rattle.uimg_blob_reading.specs.Plain.{Named, Nodes, no_node, a_node}
 use Rattle.uimg_its.specs.Parts.{FileBytes, NodeParts, chain}
 use Rattle.uimg_its.specs.Words.{Word, name, mark}
-use Rattle.uimg_its.specs.Steps.{Reads, Step, Steps, with_front, and_on, all}
+use Rattle.uimg_its.specs.Steps.{Parses, Step, Steps, with_front, and_on, all}
 use Rattle.uimg_its.specs.Cells.{element}
-use Rattle.uimg_its.specs.Reader.{Item, empty as no_value, assigned as has_value, opens, labelled, named, item, element_step, listed, file, value_of, value, value_step, values, property_step, properties, inside, child_step, node_within, children, source}
+use Rattle.uimg_its.specs.Reader.{Item, empty as no_value, assigned as has_value, opens, label_first, unlabelled, item, element_step, list_items, file, spelled_value, value, value_step, values, property_step, properties, inside, child_step, node_within, children, source}
 use Rattle.uimg_its.specs.Grammar.{AreLabels, Names, AreElements, IsValue, cells, bytes, string, incbin, AreValues, one, more, IsProperty, empty, assigned, AreProperties, AreNodes, body, Spells}
 use Rattle.uimg_its.proofs.StepLaws.{Shrinks, all_step}
 use Rattle.uimg_its.proofs.Shrinking.{element_shrinks, value_shrinks}
@@ -35,7 +35,7 @@ list_more Bytes n first ws e = ap (λ (r : Option (List ℕ)). r >>= λ b. (let 
 begins : {X : Type 0} → (step : Steps X) → Shrinks step → (ws : List Word) (s : Step X) → step ws ≡ s → all step ws ≡ and_on s (all step)
 begins {X = X} step shrinks ws s e = all_step step shrinks ws ∙ ap (λ (r : Step X). and_on r (all step)) e
 
-list_again : (l : Listed) (inner : List Word) (v : List ℕ) (rest : List Word) → AreElements l inner v → listed l (inner ++ mark (closing l) ∷ rest) ≡ Some (v, rest)
+list_again : (l : Listed) (inner : List Word) (v : List ℕ) (rest : List Word) → AreElements l inner v → list_items l (inner ++ mark (closing l) ∷ rest) ≡ Some (v, rest)
 list_again l [] v rest h = begins (element_step l) (element_shrinks l) _ _ (list_end l rest) ∙ ap (λ (x : List ℕ). Some (x, rest)) (sym h)
 list_again l (name n ∷ ws) v rest h =
     begins (element_step l) (element_shrinks l) _ _ (list_more l n h.0 (ws ++ mark (closing l) ∷ rest) h.2)
@@ -43,9 +43,9 @@ list_again l (name n ∷ ws) v rest h =
 list_again l (w ∷ ws) v rest h = absurd h
 
 value_again : (files : FileBytes) (ws : List Word) (v : List ℕ) (rest : List Word) → IsValue files ws v → value files (ws ++ rest) ≡ Some (v, rest)
-unfolding value value_of file
-value_again files ws v rest (cells inner are e) = ap (λ (l : List Word). value files (l ++ rest)) e ∙ ap (listed Cells) (append_assoc inner (mark Greater ∷ []) rest) ∙ list_again Cells inner v rest are
-value_again files ws v rest (bytes inner are e) = ap (λ (l : List Word). value files (l ++ rest)) e ∙ ap (listed Bytes) (append_assoc inner (mark BracketClose ∷ []) rest) ∙ list_again Bytes inner v rest are
+unfolding value spelled_value file
+value_again files ws v rest (cells inner are e) = ap (λ (l : List Word). value files (l ++ rest)) e ∙ ap (list_items Cells) (append_assoc inner (mark Greater ∷ []) rest) ∙ list_again Cells inner v rest are
+value_again files ws v rest (bytes inner are e) = ap (λ (l : List Word). value files (l ++ rest)) e ∙ ap (list_items Bytes) (append_assoc inner (mark BracketClose ∷ []) rest) ∙ list_again Bytes inner v rest are
 value_again files ws v rest (string s e is) = ap (λ (l : List Word). value files (l ++ rest)) e ∙ ap (λ (x : List ℕ). Some (x, rest)) (sym is)
 value_again files ws v rest (incbin n there e) = ap (λ (l : List Word). value files (l ++ rest)) e ∙ ap (λ (r : Option (List ℕ)). r >>= λ b. (let x : List ℕ × List Word = (b, rest) in Some x)) there
 
@@ -65,34 +65,34 @@ values_again files ws v rest (more {first = first} {rest = others} {u = u} {w = 
     ∙ ap (with_front u) (values_again files others w rest hs) ∙ ap (λ (x : List ℕ). Some (x, rest)) (sym f)
 
 -- labels are passed over
-labels_passed : (labels ws : List Word) → AreLabels labels → named (labels ++ ws) ≡ named ws
-unfolding named
+labels_passed : (labels ws : List Word) → AreLabels labels → unlabelled (labels ++ ws) ≡ unlabelled ws
+unfolding unlabelled
 labels_passed [] ws h = refl
 labels_passed (name n ∷ mark Colon ∷ ls) ws h = labels_passed ls ws h
 labels_passed (name n ∷ []) ws h = absurd h
 labels_passed (name n ∷ w ∷ ls) ws h = absurd h
 labels_passed (w ∷ ls) ws h = absurd h
 
-item_is_named : (labels : List Word) (n : List ℕ) (rest : List Word) → AreLabels labels → item (labels ++ name n ∷ rest) ≡ named (labels ++ name n ∷ rest)
+item_is_named : (labels : List Word) (n : List ℕ) (rest : List Word) → AreLabels labels → item (labels ++ name n ∷ rest) ≡ unlabelled (labels ++ name n ∷ rest)
 unfolding item
 item_is_named [] n rest h = refl
 item_is_named (name m ∷ ls) n rest h = refl
 item_is_named (w ∷ ls) n rest h = absurd h
 
-named_ends : (n : List ℕ) (rest : List Word) → length n ≤ 255 → named (name n ∷ mark Semicolon ∷ rest) ≡ Some (no_value n, rest)
-unfolding named labelled
+named_ends : (n : List ℕ) (rest : List Word) → length n ≤ 255 → unlabelled (name n ∷ mark Semicolon ∷ rest) ≡ Some (no_value n, rest)
+unfolding unlabelled label_first
 named_ends n rest short = rw (le-ltb 255 (length n) short) refl
 
-named_has : (n : List ℕ) (rest : List Word) → length n ≤ 255 → named (name n ∷ mark Equals ∷ rest) ≡ Some (has_value n, rest)
-unfolding named labelled
+named_has : (n : List ℕ) (rest : List Word) → length n ≤ 255 → unlabelled (name n ∷ mark Equals ∷ rest) ≡ Some (has_value n, rest)
+unfolding unlabelled label_first
 named_has n rest short = rw (le-ltb 255 (length n) short) refl
 
-named_opens : (n : List ℕ) (rest : List Word) → length n ≤ 255 → named (name n ∷ mark BraceOpen ∷ rest) ≡ Some (opens n, rest)
-unfolding named labelled
+named_opens : (n : List ℕ) (rest : List Word) → length n ≤ 255 → unlabelled (name n ∷ mark BraceOpen ∷ rest) ≡ Some (opens n, rest)
+unfolding unlabelled label_first
 named_opens n rest short = rw (le-ltb 255 (length n) short) refl
 
 -- an item behind its labels
-item_again : (head : List Word) (n : List ℕ) (i : Item) (m : Mark) (rest : List Word) → Names head n → named (name n ∷ mark m ∷ rest) ≡ Some (i, rest) → item (head ++ mark m ∷ rest) ≡ Some (i, rest)
+item_again : (head : List Word) (n : List ℕ) (i : Item) (m : Mark) (rest : List Word) → Names head n → unlabelled (name n ∷ mark m ∷ rest) ≡ Some (i, rest) → item (head ++ mark m ∷ rest) ≡ Some (i, rest)
 item_again head n i m rest h e =
     ap (λ (l : List Word). item (l ++ mark m ∷ rest)) h.whole ∙ ap item (append_assoc h.labels (name n ∷ []) (mark m ∷ rest))
     ∙ item_is_named h.labels n (mark m ∷ rest) h.are_labels ∙ labels_passed h.labels (name n ∷ mark m ∷ rest) h.are_labels ∙ e
@@ -125,7 +125,7 @@ stop_at_node : (files : FileBytes) (head : List Word) (n : List ℕ) (rest : Lis
 unfolding property_step
 stop_at_node files head n rest names = rw (item_again head n (opens n) BraceOpen rest names (named_opens n rest names.short)) refl
 
-child_ends : (read : List ℕ → Reads NodeParts) (rest : List Word) → child_step read (mark BraceClose ∷ rest) ≡ Some (true, [], rest)
+child_ends : (read : List ℕ → Parses NodeParts) (rest : List Word) → child_step read (mark BraceClose ∷ rest) ≡ Some (true, [], rest)
 unfolding child_step item
 child_ends read rest = refl
 
@@ -157,14 +157,14 @@ stop_at_nodes files (suc l) kids (a_node n props below after) rest h =
     ap (λ (k : List Word). k ++ mark BraceClose ∷ rest) h.8 ∙ append_assoc h.0 (body h.1 h.2 (mark Semicolon ∷ h.3)) (mark BraceClose ∷ rest) in
     subst (λ (k : List Word). property_step files k ≡ Some (true, [], k)) (sym same) (stop_at_node files h.0 n behind h.4)
 
-inside_again : (files : FileBytes) (below : Reads (List NodeParts)) (n : List ℕ) (own kids after : List Word) (props : List Named) (s : Nodes)
+inside_again : (files : FileBytes) (below : Parses (List NodeParts)) (n : List ℕ) (own kids after : List Word) (props : List Named) (s : Nodes)
     → properties files (tail own kids after) ≡ Some (props, kids ++ mark BraceClose ∷ after)
     → below (kids ++ mark BraceClose ∷ after) ≡ Some (unchain s, after)
     → inside files below n (tail own kids after) ≡ Some (record { name = n; props = props; children = s }, after)
 unfolding inside
 inside_again files below n own kids after props s p b = rw (p, b) (ap (λ (x : Nodes). (let t : NodeParts × List Word = (record { name = n; props = props; children = x }, after) in Some t)) (chain_unchain s))
 
-child_again : (read : List ℕ → Reads NodeParts) (head : List Word) (n : List ℕ) (t : NodeParts) (after rest : List Word) → Names head n → read n after ≡ Some (t, mark Semicolon ∷ rest)
+child_again : (read : List ℕ → Parses NodeParts) (head : List Word) (n : List ℕ) (t : NodeParts) (after rest : List Word) → Names head n → read n after ≡ Some (t, mark Semicolon ∷ rest)
     → child_step read (head ++ mark BraceOpen ∷ after) ≡ Some (false, t ∷ [], rest)
 unfolding child_step
 child_again read head n t after rest names e = rw (item_again head n (opens n) BraceOpen after names (named_opens n after names.short), e) refl

@@ -4,15 +4,15 @@ use Rattle.std.proofs.lemmas.List.{append-nil}
 use Rattle.std.specs.Bool.{OnFalse}
 use Rattle.uimg_its.specs.declared.fault.FaultKind.{FaultKind}
 use Rattle.uimg_its.specs.Words.{Word}
-use Rattle.uimg_its.specs.Answers.{Refuses, is_outside}
-use Rattle.uimg_its.specs.Steps.{Reads, Step, Steps, with_front, and_on, step_front, at_most, all}
+use Rattle.uimg_its.specs.Answers.{Refuses, is_outside_text}
+use Rattle.uimg_its.specs.Steps.{Parses, Step, Steps, with_front, and_on, step_front, at_most, all}
 
 -- Each step but the last takes a word.
 abbrev pub Shrinks : {X : Type 0} → Steps X → Type 0
 Shrinks {X = X} step = (ws after : List Word) (xs : List X) → step ws ≡ Some (false, xs, after) → length after < length ws
 
 -- what follows may be exchanged for what is the same there
-on_same : {X : Type 0} (r : Step X) (f g : Reads (List X)) → ((xs : List X) (after : List Word) → r ≡ Some (false, xs, after) → f after ≡ g after) → and_on r f ≡ and_on r g
+on_same : {X : Type 0} (r : Step X) (f g : Parses (List X)) → ((xs : List X) (after : List Word) → r ≡ Some (false, xs, after) → f after ≡ g after) → and_on r f ≡ and_on r g
 on_same None f g h = refl
 on_same (Some (true, xs, ws)) f g h = refl
 on_same (Some (false, xs, ws)) f g h = ap (with_front xs) (h xs ws refl)
@@ -33,7 +33,7 @@ regroup : {X : Type 0} (front xs : List X) (r : Option (List X × List Word)) �
 regroup front xs None = refl
 regroup front xs (Some x) = ap (λ l. Some (l, x.1)) (sym (append_assoc front xs x.0))
 
-front_on : {X : Type 0} (front : List X) (r : Step X) (on : Reads (List X)) → with_front front (and_on r on) ≡ and_on (step_front front r) on
+front_on : {X : Type 0} (front : List X) (r : Step X) (on : Parses (List X)) → with_front front (and_on r on) ≡ and_on (step_front front r) on
 front_on front None on = refl
 front_on front (Some (true, xs, ws)) on = refl
 front_on front (Some (false, xs, ws)) on = regroup front xs (on ws)
@@ -62,10 +62,10 @@ any false p = p
 
 -- where there is nothing to read, any refusal is right
 pub refused : {X : Type 0} (k : FaultKind) (r : Option X) → r ≡ None → Refuses k r
-refused k r e = any (is_outside k) e
+refused k r e = any (is_outside_text k) e
 
 pub refuses_on : {X Y : Type 0} (k : FaultKind) (r : Option X) (total : Option Y) → (r ≡ None → total ≡ None) → Refuses k r → Refuses k total
-refuses_on k r total h e = on_false (is_outside k) h e
+refuses_on k r total h e = on_false (is_outside_text k) h e
 
 -- a step is refused
 pub is_refused : {X : Type 0} (k : FaultKind) (step : Steps X) → Shrinks step → (front : List X) (ws : List Word) (total : Option (List X × List Word))

@@ -2,19 +2,19 @@
 use Rattle.std.proofs.Common.{◌≡◌, ℕ, suc, ◌+◌, ◌<◌, ◌≤◌, List, [], ◌∷◌, ◌++◌, Option, Some, None, length, drop, get_or, refl, sym, ap, ◌∙◌, arith, drop-cons, append_assoc}
 use Rattle.std.proofs.lemmas.List.{drop_all, append-nil}
 use Rattle.uimg_its.specs.Options.{◌>>=◌}
-use Rattle.uimg_its.specs.Steps.{before}
+use Rattle.uimg_its.specs.Steps.{without_rest}
 use Rattle.uimg_its.specs.Cells.{hex_bytes}
 use Rattle.uimg_its.specs.Digits.{hex_pair}
 
 -- nothing before
-pub before_none : {X : Type 0} (front : List X) (r total : Option (List X)) → r ≡ None → before front r ≡ total → total ≡ None
-before_none front r total e h = sym h ∙ ap (before front) e
+pub before_none : {X : Type 0} (front : List X) (r total : Option (List X)) → r ≡ None → without_rest front r ≡ total → total ≡ None
+before_none front r total e h = sym h ∙ ap (without_rest front) e
 
 -- all was before
-pub before_end : {X : Type 0} (front : List X) (r total : Option (List X)) → r ≡ Some [] → before front r ≡ total → total ≡ Some front
-before_end front r total e h = sym h ∙ ap (before front) e ∙ ap Some (append-nil front)
+pub before_end : {X : Type 0} (front : List X) (r total : Option (List X)) → r ≡ Some [] → without_rest front r ≡ total → total ≡ Some front
+before_end front r total e h = sym h ∙ ap (without_rest front) e ∙ ap Some (append-nil front)
 
-before_cons : (front : List ℕ) (b : ℕ) (r : Option (List ℕ)) → before front (r >>= λ more. Some (b ∷ more)) ≡ before (front ++ b ∷ []) r
+before_cons : (front : List ℕ) (b : ℕ) (r : Option (List ℕ)) → without_rest front (r >>= λ more. Some (b ∷ more)) ≡ without_rest (front ++ b ∷ []) r
 before_cons front b None = refl
 before_cons front b (Some more) = ap Some (sym (append_assoc front (b ∷ []) more))
 
@@ -47,13 +47,13 @@ hex_step word i lt =
     ∙ ap (λ (j : ℕ). hex_pair (get_or word i 0) (get_or word (i + 1) 0) >>= λ first. hex_bytes (drop j word) >>= λ more. Some (first ∷ more)) m
 
 pub hex_more : (front word : List ℕ) (i b : ℕ) (total : Option (List ℕ)) → i + 1 < length word → Some b ≡ hex_pair (get_or word i 0) (get_or word (i + 1) 0)
-    → before front (hex_bytes (drop i word)) ≡ total → before (front ++ b ∷ []) (hex_bytes (drop (i + 2) word)) ≡ total
+    → without_rest front (hex_bytes (drop i word)) ≡ total → without_rest (front ++ b ∷ []) (hex_bytes (drop (i + 2) word)) ≡ total
 hex_more front word i b total lt e h =
     sym (before_cons front b (hex_bytes (drop (i + 2) word)))
-    ∙ ap (λ (r : Option ℕ). before front (r >>= λ first. hex_bytes (drop (i + 2) word) >>= λ more. Some (first ∷ more))) e
-    ∙ ap (before front) (sym (hex_step word i lt)) ∙ h
+    ∙ ap (λ (r : Option ℕ). without_rest front (r >>= λ first. hex_bytes (drop (i + 2) word) >>= λ more. Some (first ∷ more))) e
+    ∙ ap (without_rest front) (sym (hex_step word i lt)) ∙ h
 
 pub hex_bad : (front word : List ℕ) (i : ℕ) (total : Option (List ℕ)) → i + 1 < length word → None ≡ hex_pair (get_or word i 0) (get_or word (i + 1) 0)
-    → before front (hex_bytes (drop i word)) ≡ total → total ≡ None
+    → without_rest front (hex_bytes (drop i word)) ≡ total → total ≡ None
 hex_bad front word i total lt e h =
-    sym h ∙ ap (before front) (hex_step word i lt ∙ ap (λ (r : Option ℕ). r >>= λ first. hex_bytes (drop (i + 2) word) >>= λ more. Some (first ∷ more)) (sym e))
+    sym h ∙ ap (without_rest front) (hex_step word i lt ∙ ap (λ (r : Option ℕ). r >>= λ first. hex_bytes (drop (i + 2) word) >>= λ more. Some (first ∷ more)) (sym e))

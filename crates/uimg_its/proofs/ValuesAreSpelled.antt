@@ -10,9 +10,9 @@ use Rattle.uimg_its.specs.declared.lists.Listed.TheVariants.{Cells, Bytes}
 use Rattle.uimg_its.specs.Options.{◌>>=◌}
 use Rattle.uimg_its.specs.Parts.{FileBytes}
 use Rattle.uimg_its.specs.Words.{Word, name, directive, text, mark, stray}
-use Rattle.uimg_its.specs.Steps.{Reads, Step, Steps, with_front, and_on, at_most, all}
+use Rattle.uimg_its.specs.Steps.{Parses, Step, Steps, with_front, and_on, at_most, all}
 use Rattle.uimg_its.specs.Cells.{element}
-use Rattle.uimg_its.specs.Reader.{next, is_mark, element_step, listed, expect, string as string_at, file, value_of, value, ends, value_step, values}
+use Rattle.uimg_its.specs.Reader.{take_word, is_mark, element_step, list_items, expect, string as string_at, file, spelled_value, value, is_last_value, value_step, values}
 use Rattle.uimg_its.specs.Grammar.{AreElements, IsValue, cells, bytes, string, incbin, AreValues, one, more}
 use Rattle.uimg_its.proofs.Shrinking.{some_is, bind_some, pair_leads}
 use Rattle.uimg_its.proofs.SpelledIsRead.{closing}
@@ -39,7 +39,7 @@ front_found {X = X} R ys xs (Some x) after others e =
     subst (λ (l : List X). R l after) a (others x.0 (ap (λ (w : List Word). (let s : List X × List Word = (x.0, w) in Some s)) b))
 
 -- a step and what follows
-on_found : {X : Type 0} → (R : List X → List Word → Type 0) → (r : Step X) (on : Reads (List X)) (xs : List X) (after : List Word)
+on_found : {X : Type 0} → (R : List X → List Word → Type 0) → (r : Step X) (on : Parses (List X)) (xs : List X) (after : List Word)
     → (r ≡ Some (true, xs, after) → R xs after)
     → ((ys zs : List X) (then : List Word) → r ≡ Some (false, ys, then) → on then ≡ Some (zs, after) → R (ys ++ zs) after)
     → and_on r on ≡ Some (xs, after) → R xs after
@@ -62,7 +62,7 @@ all_found step R last others (suc n) ws after xs e =
     (λ ys zs then h on. others ws then after ys zs h (all_found step R last others n then after zs on)) e
 
 -- the first word
-pub next_is : (ws after : List Word) (w : Word) → next ws ≡ Some (w, after) → ws ≡ w ∷ after
+pub next_is : (ws after : List Word) (w : Word) → take_word ws ≡ Some (w, after) → ws ≡ w ∷ after
 next_is [] after w e = absurd (cc)
 next_is (stray ∷ ws) after w e = absurd (cc)
 next_is (v ∷ ws) after w e = ap (λ (p : Word × List Word). p.0 ∷ p.1) (some_is _ _ e)
@@ -82,7 +82,7 @@ guard false x y e = absurd (cc)
 
 pub expect_is : (m : Mark) (ws after : List Word) → expect m ws ≡ Some after → ws ≡ mark m ∷ after
 expect_is m ws after e =
-    let p = bind_some (next ws) (λ w. cond (is_mark m w.0) (Some w.1) None) after e in
+    let p = bind_some (take_word ws) (λ w. cond (is_mark m w.0) (Some w.1) None) after e in
     let q = guard (is_mark m p.0.0) p.0.1 after p.2 in
     next_is ws p.0.1 p.0.0 p.1 ∙ ap (λ (w : Word). w ∷ p.0.1) (mark_is m p.0.0 q.0) ∙ ap (λ (l : List Word). mark m ∷ l) q.1
 
@@ -123,7 +123,7 @@ element_false l (w ∷ ws) after v e = absurd (cc)
 list_more : (l : Listed) (ws then after : List Word) (v u : List ℕ) → ElementIs l ws v then → ListIs l then u after → ListIs l ws (v ++ u) after
 list_more l ws then after v u h t = (name h.0 ∷ t.0, (v, u, h.1, t.1, refl), h.2 ∙ ap (λ (w : List Word). name h.0 ∷ w) t.2)
 
-list_found : (l : Listed) (ws after : List Word) (v : List ℕ) → listed l ws ≡ Some (v, after) → ListIs l ws v after
+list_found : (l : Listed) (ws after : List Word) (v : List ℕ) → list_items l ws ≡ Some (v, after) → ListIs l ws v after
 unfolding all
 list_found l ws after v e =
     all_found (element_step l) (ListIs l) (element_true l) (λ ws then after v u h t. list_more l ws then after v u (element_false l ws then v h) t) (suc (length ws)) ws after v e
@@ -164,8 +164,8 @@ directive_found files d ws after v e =
     let is : d ≡ codes "incbin" = bytes_same d (codes "incbin") p.0 in
     (directive (codes "incbin") ∷ mark ParenOpen ∷ text f.0 ∷ mark ParenClose ∷ [], incbin f.0 f.1 refl, ap (λ (n : List ℕ). directive n ∷ ws) is ∙ ap (λ (l : List Word). directive (codes "incbin") ∷ l) f.2)
 
-value_of_found : (files : FileBytes) (w : Word) (ws after : List Word) (v : List ℕ) → value_of files w ws ≡ Some (v, after) → ValueIs files (w ∷ ws) v after
-unfolding value_of
+value_of_found : (files : FileBytes) (w : Word) (ws after : List Word) (v : List ℕ) → spelled_value files w ws ≡ Some (v, after) → ValueIs files (w ∷ ws) v after
+unfolding spelled_value
 value_of_found files (mark Less) ws after v e =
     let p = list_found Cells ws after v e in
     (mark Less ∷ (p.0 ++ mark Greater ∷ []), cells p.0 p.1 refl, ap (λ (l : List Word). mark Less ∷ l) (p.2 ∙ sym (append_assoc p.0 (mark Greater ∷ []) after)))
@@ -179,30 +179,30 @@ value_of_found files w ws after v e = absurd (cc)
 value_found : (files : FileBytes) (ws after : List Word) (v : List ℕ) → value files ws ≡ Some (v, after) → ValueIs files ws v after
 unfolding value
 value_found files ws after v e =
-    let p = bind_some (next ws) (λ w. value_of files w.0 w.1) (v, after) e in
+    let p = bind_some (take_word ws) (λ w. spelled_value files w.0 w.1) (v, after) e in
     let f = value_of_found files p.0.0 p.0.1 after v p.2 in
     (f.0, f.1, next_is ws p.0.1 p.0.0 p.1 ∙ f.2)
 
-ends_true : (w : Word) → ends w ≡ Some true → w ≡ mark Semicolon
+ends_true : (w : Word) → is_last_value w ≡ Some true → w ≡ mark Semicolon
 ends_true (mark Semicolon) e = refl
 ends_true (mark Comma) e = absurd (cc)
 ends_true w e = absurd (cc)
 
-ends_false : (w : Word) → ends w ≡ Some false → w ≡ mark Comma
+ends_false : (w : Word) → is_last_value w ≡ Some false → w ≡ mark Comma
 ends_false (mark Semicolon) e = absurd (cc)
 ends_false (mark Comma) e = refl
 ends_false w e = absurd (cc)
 
 -- a value, and the word behind it
 abbrev StepIs : FileBytes → List Word → Bool → List ℕ → List Word → Type 0
-StepIs files ws b v after = (front : List Word) × (w : Word) × IsValue files front v × (ends w ≡ Some b) × (ws ≡ front ++ w ∷ after)
+StepIs files ws b v after = (front : List Word) × (w : Word) × IsValue files front v × (is_last_value w ≡ Some b) × (ws ≡ front ++ w ∷ after)
 
 value_step_is : (files : FileBytes) (ws after : List Word) (b : Bool) (v : List ℕ) → value_step files ws ≡ Some (b, v, after) → StepIs files ws b v after
 unfolding value_step
 value_step_is files ws after b v e =
     let first = bind_some (value files ws) _ (b, v, after) e in
-    let second = bind_some (next first.0.1) _ (b, v, after) first.2 in
-    let last = bind_some (ends second.0.0) (λ last. (let x : Bool × List ℕ × List Word = (last, first.0.0, second.0.1) in Some x)) (b, v, after) second.2 in
+    let second = bind_some (take_word first.0.1) _ (b, v, after) first.2 in
+    let last = bind_some (is_last_value second.0.0) (λ last. (let x : Bool × List ℕ × List Word = (last, first.0.0, second.0.1) in Some x)) (b, v, after) second.2 in
     let f = value_found files ws first.0.1 first.0.0 first.1 in (
       f.0,
       second.0.0,

@@ -12,14 +12,14 @@ use Rattle.uimg_its.specs.declared.fault.FaultKind.TheVariants.{OutOfMemory}
 use Rattle.uimg_its.specs.declared.stop.Stop.{Stop}
 
 -- the reason is outside the text: a file or memory
-abbrev pub is_outside : FaultKind → Bool
-is_outside BadToken = false
-is_outside BadSyntax = false
-is_outside (OutOfProfile construct) = false
-is_outside BadNumber = false
-is_outside NoFile = true
-is_outside ReadFailed = true
-is_outside OutOfMemory = true
+abbrev pub is_outside_text : FaultKind → Bool
+is_outside_text BadToken = false
+is_outside_text BadSyntax = false
+is_outside_text (OutOfProfile construct) = false
+is_outside_text BadNumber = false
+is_outside_text NoFile = true
+is_outside_text ReadFailed = true
+is_outside_text OutOfMemory = true
 
 -- the reason is a refused open
 abbrev pub tells_no_file : FaultKind → Bool
@@ -62,7 +62,7 @@ NeverInFile result = (is_no_file result ≡ false) × (is_unread result ≡ fals
 -- A refusal for a reason in the text means that reading finds nothing; any other says nothing of
 -- it.
 abbrev pub Refuses : {Y : Type 0} → FaultKind → Option Y → Type 0
-Refuses kind read = OnFalse (is_outside kind) (read ≡ None)
+Refuses kind read = OnFalse (is_outside_text kind) (read ≡ None)
 
 -- The returned value, as `view` shows it, is what reading gives.
 abbrev pub Gives : {X Y : Type 0} → (X → Y) → Result X Stop → Option Y → Type 0
@@ -72,11 +72,11 @@ Gives view (Err stop) read = Refuses stop.kind read
 -- A refusal is for a reason outside the text.
 abbrev pub IsOutside : {X : Type 0} → Result X Stop → Type 0
 IsOutside (Ok x) = ⊤
-IsOutside (Err stop) = is_outside stop.kind ≡ true
+IsOutside (Err stop) = is_outside_text stop.kind ≡ true
 
 -- The reason is in the text, so not in a file.
 pub record IsInText (kind : FaultKind) : Type 0 where
-  pub in_text : is_outside kind ≡ false
+  pub in_text : is_outside_text kind ≡ false
   pub no_file : NotInFile kind
 
 -- A refusal is only for refused memory: outside the text, and not in a file.

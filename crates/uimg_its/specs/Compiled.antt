@@ -6,7 +6,7 @@ use Rattle.uimg_blob_writing.specs.Content.{in_full}
 use Rattle.uimg_blob_writing.specs.Trees.{node_of}
 use Rattle.uimg_its.specs.declared.fault.ItsFault.{ItsFault}
 use Rattle.uimg_its.specs.Parts.{FileBytes}
-use Rattle.uimg_its.specs.Answers.{is_outside, tells_no_file, tells_unread}
+use Rattle.uimg_its.specs.Answers.{is_outside_text, tells_no_file, tells_unread}
 
 -- the result is a refused open
 abbrev pub finds_no_file : {X : Type 0} → Result X ItsFault → Bool
@@ -14,11 +14,11 @@ finds_no_file (Ok x) = false
 finds_no_file (Err fault) = tells_no_file fault.kind
 
 -- the result is a failed read of a file
-abbrev pub fails_to_read : {X : Type 0} → Result X ItsFault → Bool
-fails_to_read (Ok x) = false
-fails_to_read (Err fault) = tells_unread fault.kind
+abbrev pub is_file_unread : {X : Type 0} → Result X ItsFault → Bool
+is_file_unread (Ok x) = false
+is_file_unread (Err fault) = tells_unread fault.kind
 
 -- If the words spell a tree, the result is that tree, or a refusal for a reason outside the text.
 abbrev pub Accepts : {A : Type 0} → FileBytes → Result (Tree A) ItsFault → Nodes → Type 0
 Accepts files (Ok tree) t = in_full files (node_of tree.root) ≡ t
-Accepts files (Err fault) t = IsTrue (is_outside fault.kind)
+Accepts files (Err fault) t = IsTrue (is_outside_text fault.kind)

@@ -7,8 +7,8 @@ use Rattle.std.specs.Str.Parse.{digits_value}
 use Rattle.uimg_its.specs.Options.{◌>>=◌}
 
 -- The number with these digits in a base, highest first, if all are digits and it fits in 32 bits.
-unfoldable pub number : ℕ → List ℕ → Option ℕ
-number base ds =
+unfoldable pub number_in_base : ℕ → List ℕ → Option ℕ
+number_in_base base ds =
     if list_all (λ d. is_digit d base) ds
     && nat_lt (digits_value base ds) (2 ^ 32) then Some (digits_value base ds) else None
 

@@ -8,17 +8,17 @@ use Rattle.uimg_blob_writing.specs.Content.{Content, Unread, bytes, file, IsKept
 use Rattle.uimg_its.specs.Parts.{FileBytes}
 
 -- Only the value of `data` is a file, and honest files have it, with the stored size.
-abbrev pub IsSound : Bool → FileBytes → List ℕ → Content → Type 0
-IsSound honest files n (bytes b) = ⊤
-IsSound honest files n (file name size) =
+abbrev pub IsSoundValue : Bool → FileBytes → List ℕ → Content → Type 0
+IsSoundValue honest files n (bytes b) = ⊤
+IsSoundValue honest files n (file name size) =
     (n ≡ codes "data") × (IsTrue honest → IsKept files (file name size))
 
 abbrev pub IsSoundIn : FileMap → List ℕ → Content → Type 0
-IsSoundIn map n c = IsSound map.honest map.bytes n c
+IsSoundIn map n c = IsSoundValue map.honest map.bytes n c
 
 -- the same for properties
 abbrev pub AreSound : FileMap → List (NamedOf Content) → Type 0
-AreSound map ps = AllByRecursion (λ p. IsSound map.honest map.bytes p.name p.value) ps
+AreSound map ps = AllByRecursion (λ p. IsSoundValue map.honest map.bytes p.name p.value) ps
 
 -- the same for all nodes
 abbrev pub IsSoundTree : FileMap → Unread → Type 0

@@ -3,7 +3,7 @@ use Rattle.std.specs.Prelude.{ℕ, Bool, true, false, List, [], ◌∷◌, map, 
 use Rattle.uimg_its.specs.Words.{Word}
 use Rattle.uimg_blob_reading.specs.Plain.{Named, NamedOf, Nodes, no_node, a_node, with_value}
 use Rattle.uimg_blob_writing.specs.declared.tree.Node.{Node}
-use Rattle.uimg_blob_writing.specs.Content.{Content, bytes_in, in_full}
+use Rattle.uimg_blob_writing.specs.Content.{Content, content_bytes, in_full}
 
 -- the bytes at each name
 abbrev pub FileBytes : Type 0
@@ -21,12 +21,12 @@ chain [] = no_node
 chain (t ∷ ts) = a_node t.name t.props t.children (chain ts)
 
 -- one node
-abbrev pub single : NodeParts → Nodes
-single t = a_node t.name t.props t.children no_node
+abbrev pub one_node : NodeParts → Nodes
+one_node t = a_node t.name t.props t.children no_node
 
 -- properties with each file replaced by its bytes
 abbrev pub props_in_full : FileBytes → List (NamedOf Content) → List Named
-props_in_full files ps = map (with_value (bytes_in files)) ps
+props_in_full files ps = map (with_value (content_bytes files)) ps
 
 -- the same for a node of the code
 abbrev pub parts_of : {A : Type 0} → FileBytes → Node A → NodeParts

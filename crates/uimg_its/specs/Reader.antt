@@ -12,15 +12,15 @@ use Rattle.uimg_its.specs.declared.lists.Listed.{Listed}
 use Rattle.uimg_its.specs.declared.lists.Listed.TheVariants.{Cells, Bytes}
 use Rattle.uimg_its.specs.Words.{Word, name, directive, text, mark, stray}
 use Rattle.uimg_its.specs.Options.{◌>>=◌}
-use Rattle.uimg_its.specs.Steps.{Reads, Step, Steps, all}
+use Rattle.uimg_its.specs.Steps.{Parses, Step, Steps, all}
 use Rattle.uimg_its.specs.Cells.{element}
 use Rattle.uimg_its.specs.Parts.{FileBytes, NodeParts, chain}
 
 -- the next word, which must exist
-abbrev pub next : Reads Word
-next [] = None
-next (stray ∷ ws) = None
-next (w ∷ ws) = Some (w, ws)
+abbrev pub take_word : Parses Word
+take_word [] = None
+take_word (stray ∷ ws) = None
+take_word (w ∷ ws) = Some (w, ws)
 
 -- whether a word is this mark
 abbrev pub is_mark : Mark → Word → Bool
@@ -35,7 +35,7 @@ is_mark m w = false
 -- the words after a mark that must come next
 abbrev pub expect : Mark → List Word → Option (List Word)
 expect m ws = do
-  w ← next ws
+  w ← take_word ws
   if is_mark m w.0 then Some w.1 else None
 
 -- the bytes of a string
@@ -43,9 +43,9 @@ abbrev pub string_in : Word → Option (List ℕ)
 string_in (text s) = Some s
 string_in w = None
 
-abbrev pub string : Reads (List ℕ)
+abbrev pub string : Parses (List ℕ)
 string ws = do
-  w ← next ws
+  w ← take_word ws
   s ← string_in w.0
   Some (s, w.1)
 
@@ -64,37 +64,37 @@ item_of n (mark BraceOpen) = Some (opens n)
 item_of n w = None
 
 -- the name of a name word
-abbrev pub name_in : Word → Option (List ℕ)
-name_in (name n) = Some n
-name_in w = None
+abbrev pub word_name : Word → Option (List ℕ)
+word_name (name n) = Some n
+word_name w = None
 
 -- A name before a colon is a label. Otherwise it names an item and has at most 255 bytes.
 abbrev pub item_after : List ℕ → Word → Option (Option Item)
 item_after n (mark Colon) = Some None
 item_after n w = if nat_lt 255 (length n) then None else (item_of n w >>= λ i. Some (Some i))
 
-unfoldable pub labelled : List Word → Option (Option Item × List Word)
-labelled ws = do
-  first ← next ws
-  n ← name_in first.0
-  second ← next first.1
+unfoldable pub label_first : List Word → Option (Option Item × List Word)
+label_first ws = do
+  first ← take_word ws
+  n ← word_name first.0
+  second ← take_word first.1
   i ← item_after n second.0
   Some (i, second.1)
 
 -- an item after any number of labels, which have no effect
-unfoldable pub named : Reads Item
-named (name n ∷ mark Colon ∷ ws) = named ws
-named (name n ∷ w ∷ ws) =
-    labelled (name n ∷ w ∷ ws)
+unfoldable pub unlabelled : Parses Item
+unlabelled (name n ∷ mark Colon ∷ ws) = unlabelled ws
+unlabelled (name n ∷ w ∷ ws) =
+    label_first (name n ∷ w ∷ ws)
     >>= λ x. elim x.0 as (λ _. Option (Item × List Word))
     [ None ↦ None | Some i ↦ Some (i, x.1) ]
-named ws = None
+unlabelled ws = None
 
 -- an item of a body, or its end
-unfoldable pub item : Reads Item
+unfoldable pub item : Parses Item
 item ws = do
-  w ← next ws
-  if is_mark BraceClose w.0 then Some (closes, w.1) else named ws
+  w ← take_word ws
+  if is_mark BraceClose w.0 then Some (closes, w.1) else unlabelled ws
 
 -- the name of an element, or the end of a list
 abbrev pub element_word : Listed → Word → Option (Option (List ℕ))
@@ -106,17 +106,17 @@ element_word l w = None
 -- a cell or bytes of a list, or its end
 unfoldable pub element_step : Listed → Steps ℕ
 element_step l ws = do
-  w ← next ws
+  w ← take_word ws
   e ← element_word l w.0
   elim e as (λ _. Step ℕ)
       [ None ↦ Some (true, [], w.1) | Some n ↦ element l n >>= λ b. Some (false, b, w.1) ]
 
 -- cells up to >, bytes up to ]
-abbrev pub listed : Listed → Reads (List ℕ)
-listed l = all (element_step l)
+abbrev pub list_items : Listed → Parses (List ℕ)
+list_items l = all (element_step l)
 
 -- the bytes of a file whose name is in parentheses
-unfoldable pub file : FileBytes → Reads (List ℕ)
+unfoldable pub file : FileBytes → Parses (List ℕ)
 file files ws = do
   after ← expect ParenOpen ws
   n ← string after
@@ -125,60 +125,60 @@ file files ws = do
   Some (b, rest)
 
 -- < cells >, a string and its NUL, [ bytes ], or /incbin/ and a file
-unfoldable pub value_of : FileBytes → Word → Reads (List ℕ)
-value_of files (mark Less) ws = listed Cells ws
-value_of files (text s) ws = Some (s ++ 0 ∷ [], ws)
-value_of files (mark BracketOpen) ws = listed Bytes ws
-value_of files (directive d) ws = if bytes_eq d (codes "incbin") then file files ws else None
-value_of files w ws = None
+unfoldable pub spelled_value : FileBytes → Word → Parses (List ℕ)
+spelled_value files (mark Less) ws = list_items Cells ws
+spelled_value files (text s) ws = Some (s ++ 0 ∷ [], ws)
+spelled_value files (mark BracketOpen) ws = list_items Bytes ws
+spelled_value files (directive d) ws = if bytes_eq d (codes "incbin") then file files ws else None
+spelled_value files w ws = None
 
-unfoldable pub value : FileBytes → Reads (List ℕ)
+unfoldable pub value : FileBytes → Parses (List ℕ)
 value files ws = do
-  w ← next ws
-  value_of files w.0 w.1
+  w ← take_word ws
+  spelled_value files w.0 w.1
 
 -- whether a value is the last, from the word after it
-abbrev pub ends : Word → Option Bool
-ends (mark Comma) = Some false
-ends (mark Semicolon) = Some true
-ends w = None
+abbrev pub is_last_value : Word → Option Bool
+is_last_value (mark Comma) = Some false
+is_last_value (mark Semicolon) = Some true
+is_last_value w = None
 
 unfoldable pub value_step : FileBytes → Steps ℕ
 value_step files ws = do
   v ← value files ws
-  w ← next v.1
-  last ← ends w.0
+  w ← take_word v.1
+  last ← is_last_value w.0
   Some (last, v.0, w.1)
 
 -- values separated by commas, up to the semicolon
-abbrev pub values : FileBytes → Reads (List ℕ)
+abbrev pub values : FileBytes → Parses (List ℕ)
 values files = all (value_step files)
 
-abbrev pub property_named : FileBytes → List Word → Item → List Word → Step Named
-property_named files ws (empty n) after = Some (false, record { name = n; value = [] } ∷ [], after)
-property_named files ws (assigned n) after =
+abbrev pub named_property : FileBytes → List Word → Item → List Word → Step Named
+named_property files ws (empty n) after = Some (false, record { name = n; value = [] } ∷ [], after)
+named_property files ws (assigned n) after =
     values files after >>= λ v. Some (false, record { name = n; value = v.0 } ∷ [], v.1)
-property_named files ws (opens n) after = Some (true, [], ws)
-property_named files ws closes after = Some (true, [], ws)
+named_property files ws (opens n) after = Some (true, [], ws)
+named_property files ws closes after = Some (true, [], ws)
 
 unfoldable pub property_step : FileBytes → Steps Named
 property_step files ws = do
   it ← item ws
-  property_named files ws it.0 it.1
+  named_property files ws it.0 it.1
 
 -- all properties that come next
-abbrev pub properties : FileBytes → Reads (List Named)
+abbrev pub properties : FileBytes → Parses (List Named)
 properties files = all (property_step files)
 
 -- a node after its opening brace: properties, and children up to its closing brace
-unfoldable pub inside : FileBytes → Reads (List NodeParts) → List ℕ → Reads NodeParts
+unfoldable pub inside : FileBytes → Parses (List NodeParts) → List ℕ → Parses NodeParts
 inside files children n ws = do
   own ← properties files ws
   below ← children own.1
   Some (record { name = n; props = own.0; children = chain below.0 }, below.1)
 
 -- a child and its semicolon, or the end of the body
-abbrev pub child_named : (List ℕ → Reads NodeParts) → Item → List Word → Step NodeParts
+abbrev pub child_named : (List ℕ → Parses NodeParts) → Item → List Word → Step NodeParts
 child_named node (opens n) after = do
   t ← node n after
   rest ← expect Semicolon t.1
@@ -186,19 +186,19 @@ child_named node (opens n) after = do
 child_named node closes after = Some (true, [], after)
 child_named node i after = None
 
-unfoldable pub child_step : (List ℕ → Reads NodeParts) → Steps NodeParts
+unfoldable pub child_step : (List ℕ → Parses NodeParts) → Steps NodeParts
 child_step node ws = do
   it ← item ws
   child_named node it.0 it.1
 
 -- a node with at most this many levels, its own included
-unfoldable pub node_within : ℕ → FileBytes → List ℕ → Reads NodeParts
+unfoldable pub node_within : ℕ → FileBytes → List ℕ → Parses NodeParts
 node_within zero files n ws = None
 node_within (suc levels) files n ws =
     inside files (all (child_step (node_within levels files))) n ws
 
 -- the children of a node, up to its closing brace
-abbrev pub children : ℕ → FileBytes → Reads (List NodeParts)
+abbrev pub children : ℕ → FileBytes → Parses (List NodeParts)
 children levels files = all (child_step (node_within levels files))
 
 -- the directive that begins a source
@@ -208,7 +208,7 @@ is_version w = false
 
 abbrev pub version : List Word → Option (List Word)
 version ws = do
-  w ← next ws
+  w ← take_word ws
   if is_version w.0 then Some w.1 else None
 
 -- what was read, if no word is left
@@ -233,9 +233,9 @@ is_incbin (directive d) = bytes_eq d (codes "incbin")
 is_incbin w = false
 
 -- the name of a file that is the whole value of a property
-unfoldable pub lone_file : Reads (List ℕ)
+unfoldable pub lone_file : Parses (List ℕ)
 lone_file ws = do
-  w ← next ws
+  w ← take_word ws
   opened ← (if is_incbin w.0 then Some w.1 else None)
   inner ← expect ParenOpen opened
   n ← string inner

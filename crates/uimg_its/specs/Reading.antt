@@ -5,7 +5,7 @@ use Rattle.uimg_its.specs.declared.stop.Stop.{Stop}
 use Rattle.uimg_its.specs.declared.tokens.Mark.{Mark}
 use Rattle.uimg_its.specs.Answers.{Gives, NeverInFile}
 use Rattle.uimg_its.specs.Reader.{expect}
-use Rattle.uimg_its.specs.Steps.{Reads}
+use Rattle.uimg_its.specs.Steps.{Parses}
 use Rattle.uimg_its.specs.Words.{words}
 
 -- The returned value, seen by `view`, is what reading gives; no refusal is for a reason in a file.
@@ -16,7 +16,7 @@ pub record ReadsText {X Y : Type 0} (view : X → Y) (result : Result X Stop) (r
 
 -- The same for a reader of the words at the start of a text; the remaining text is shorter.
 pub record ReadsFront {X Y : Type 0} (view : X → Y) (rest : X → List ℕ) (result : Result X Stop)
-    (reader : Reads Y) (text : List ℕ) : Type 0 where
+    (reader : Parses Y) (text : List ℕ) : Type 0 where
   pub gives : Gives (λ x. (view x, words (rest x))) result (reader (words text))
   pub no_file : NeverInFile result
   pub shorter : IfOk result (λ x. length (rest x) < length text)

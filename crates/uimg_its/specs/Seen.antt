@@ -14,22 +14,22 @@ use Rattle.uimg_its.specs.Strings.{string_bytes}
 use Rattle.uimg_its.specs.Words.{Word, name, directive, text, mark, stray, Piece, gap, word, words}
 
 -- a word from its bytes
-abbrev pub word_of : Found → Word
-word_of (found.Name bytes) = name bytes.now
-word_of (found.Directive bytes) = directive bytes.now
-word_of (found.Text bytes) = text (string_bytes 0 bytes.now)
-word_of (found.Mark m) = mark m
+abbrev pub seen_word : Found → Word
+seen_word (found.Name bytes) = name bytes.now
+seen_word (found.Directive bytes) = directive bytes.now
+seen_word (found.Text bytes) = text (string_bytes 0 bytes.now)
+seen_word (found.Mark m) = mark m
 
 -- the found piece is this piece, and its length is within the text
-abbrev pub IsPiece : FoundPiece → Piece → ℕ → Type 0
-IsPiece (found_piece.Gap n) p most = (p ≡ gap n) × (n ≤ most)
-IsPiece (found_piece.Word w n) p most = (p ≡ word (word_of w) n) × (n ≤ most)
-IsPiece found_piece.Stray p most = p ≡ word stray 0
+abbrev pub IsFoundPiece : FoundPiece → Piece → ℕ → Type 0
+IsFoundPiece (found_piece.Gap n) p most = (p ≡ gap n) × (n ≤ most)
+IsFoundPiece (found_piece.Word w n) p most = (p ≡ word (seen_word w) n) × (n ≤ most)
+IsFoundPiece found_piece.Stray p most = p ≡ word stray 0
 
 -- the first word of a text with the words after it, no word, or a start that is not a word
 abbrev pub Sees : Result (Option (Token × Bor (List ℕ))) Stop → List Word → Type 0
 Sees (Ok None) ws = ws ≡ []
-Sees (Ok (Some x)) ws = ws ≡ word_of x.0.word ∷ words x.1.now
+Sees (Ok (Some x)) ws = ws ≡ seen_word x.0.word ∷ words x.1.now
 Sees (Err stop) ws = (rest : List Word) × (ws ≡ stray ∷ rest)
 
 -- an item from the bytes of its name

@@ -5,14 +5,14 @@ ghost use Rattle.uimg_blob_reading.specs.Plain.{Nodes};
 ghost use Rattle.uimg_blob_writing.specs.Content.{AreKept, FilesAtData, in_full};
 ghost use Rattle.uimg_blob_writing.specs.Trees.{node_of};
 ghost use Rattle.uimg_blob_writing.specs.UsingFiles.{UsesFiles};
-ghost use Rattle.uimg_blob_writing.specs.LentFiles.{IfHonest};
+ghost use Rattle.uimg_blob_writing.specs.LentFiles.{OfHonest};
 ghost use Rattle.uimg_its.specs.Words.{Word, words};
 ghost use Rattle.uimg_its.specs.Answers.{Gives, NeverInFile, IsInText, OpensFiles};
 ghost use Rattle.uimg_its.specs.Reading.{ReadsText};
 ghost use Rattle.uimg_its.specs.Parts.{FileBytes, parts_of};
 ghost use Rattle.uimg_its.specs.FileValues.{IsSoundNode};
-ghost use Rattle.uimg_its.specs.Seen.{word_of};
-ghost use Rattle.uimg_its.specs.Compiled.{Accepts, finds_no_file, fails_to_read};
+ghost use Rattle.uimg_its.specs.Seen.{seen_word};
+ghost use Rattle.uimg_its.specs.Compiled.{Accepts, finds_no_file, is_file_unread};
 ghost use Rattle.uimg_its.specs.Reader.{version, is_version, alone, source};
 ghost use Rattle.uimg_its.specs.Grammar.{Spells};
 
@@ -31,7 +31,7 @@ const MOST_LEVELS: u8 = 64;
 
 // Returns whether a word is the directive that begins a source.
 fn is_version(word: Found<'_>) -> bool
-    ensures { result ≡ is_version (word_of word.entry) }
+    ensures { result ≡ is_version (seen_word word.entry) }
 {
     match word {
         Found::Directive(name) => name == b"dts-v1".as_slice(),
@@ -86,7 +86,7 @@ fn source<F: Files, A: Allocator + Copy>(
     text: &[u8],
 ) -> Result<Node<A>, Stop>
     ensures opens { OpensFiles F.Opened.steady F.map result files }
-    ensures gives { IfHonest F.map files (λ there.
+    ensures gives { OfHonest F.map files (λ there.
         Gives (parts_of there) result (source there (words text.now))) }
     ensures sound { IfOk result (λ root. IsSoundNode (F.map files.old) root) }
 {
@@ -127,18 +127,18 @@ pub fn compile<F: Files, A: Allocator + Copy>(
     // The files are unchanged, and `NoFile` is returned if and only if they refused an open.
     ensures files { UsesFiles (finds_no_file result) (F.map files.old) (F.map files.new) }
     // If opened files never fail, `ReadFailed` is never returned.
-    ensures steady { IsTrue F.Opened.steady → fails_to_read result ≡ false }
+    ensures steady { IsTrue F.Opened.steady → is_file_unread result ≡ false }
     // Only properties named `data` are files.
     ensures at_data { IfOk result (λ tree. FilesAtData (node_of tree.root)) }
     // Each of these files exists, with the stored size.
-    ensures kept { IfHonest F.map files (λ there.
+    ensures kept { OfHonest F.map files (λ there.
         IfOk result (λ tree. AreKept there (node_of tree.root))) }
     // The text spells the tree.
-    ensures only { IfHonest F.map files (λ there. IfOk result (λ tree.
+    ensures only { OfHonest F.map files (λ there. IfOk result (λ tree.
         Spells (words text.now) there (in_full there (node_of tree.root)))) }
     // If the text spells a tree, that tree is returned, unless a file or memory is missing. So any
     // other fault means that the text spells none.
-    ensures accepted { IfHonest F.map files (λ there.
+    ensures accepted { OfHonest F.map files (λ there.
         (t : Nodes) → Spells (words text.now) there t → Accepts there result t) }
 {
     match source(alloc, files, text) {

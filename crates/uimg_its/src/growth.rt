@@ -2,7 +2,7 @@
 
 ghost use Rattle.std.specs.Prelude.{◌≡◌, ◌++◌, OnOk, IfOk, true};
 ghost use Rattle.uimg_its.specs.Strings.{string_bytes};
-ghost use Rattle.uimg_its.specs.Answers.{is_outside, NotInFile, OnlyMemory};
+ghost use Rattle.uimg_its.specs.Answers.{is_outside_text, NotInFile, OnlyMemory};
 
 use crate::fault::FaultKind;
 use crate::stop::Stop;
@@ -12,7 +12,7 @@ use uimg_blob_writing::ByteList;
 
 /// Returns the fault of refused memory at a word.
 pub(crate) fn out_of_memory(left: usize) -> Stop
-    ensures outside { is_outside result.kind ≡ true }
+    ensures outside { is_outside_text result.kind ≡ true }
     ensures no_file { NotInFile result.kind }
 {
     Stop {

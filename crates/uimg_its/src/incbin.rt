@@ -2,9 +2,9 @@
 
 ghost use Rattle.std.specs.Prelude.{◌≡◌, ◌<◌, Some, IfOk, IsTrue, length, codes, false};
 ghost use Rattle.uimg_base.specs.Honest.{HonestSource};
-ghost use Rattle.uimg_blob_writing.specs.Content.{bytes_in};
+ghost use Rattle.uimg_blob_writing.specs.Content.{content_bytes};
 ghost use Rattle.uimg_blob_writing.specs.Properties.{content};
-ghost use Rattle.uimg_blob_writing.specs.LentFiles.{IfHonest};
+ghost use Rattle.uimg_blob_writing.specs.LentFiles.{OfHonest};
 ghost use Rattle.uimg_its.specs.Strings.{string_bytes};
 ghost use Rattle.uimg_its.specs.Words.{words};
 ghost use Rattle.uimg_its.specs.Answers.{Gives, IsOutside, is_no_file, is_unread, IsInText, OpensFiles};
@@ -12,7 +12,7 @@ ghost use Rattle.uimg_its.specs.Reading.{ReadsText, ReadsFront, PassesMark};
 ghost use Rattle.uimg_its.specs.Steps.{with_front};
 ghost use Rattle.uimg_its.specs.Reader.{string, string_in, file, expect, is_incbin, lone_file};
 ghost use Rattle.uimg_its.specs.FileValues.{IsSoundIn};
-ghost use Rattle.uimg_its.specs.Seen.{word_of};
+ghost use Rattle.uimg_its.specs.Seen.{seen_word};
 ghost use Rattle.uimg_its.specs.declared.tokens.Mark.TheVariants.{ParenClose};
 
 use crate::fault::{Construct, FaultKind};
@@ -62,7 +62,7 @@ fn read_file<F: Files, A: Allocator>(
     left: usize,
 ) -> Result<Vec<u8, A>, Stop>
     ensures opens { OpensFiles F.Opened.steady F.map result files }
-    ensures gives { IfHonest F.map files (λ there. Gives (λ v. v.items) result (there name.now)) }
+    ensures gives { OfHonest F.map files (λ there. Gives (λ v. v.items) result (there name.now)) }
 {
     match files.open(name) {
         Ok(mut source) => read_whole(alloc, &mut source, left),
@@ -75,7 +75,8 @@ fn read_file<F: Files, A: Allocator>(
 
 // Returns the text after the opening quote of a string.
 fn string_in(token: Token<'_>) -> Result<&[u8], Stop>
-    ensures { ReadsText (λ s. string_bytes 0 s.now) result (string_in (word_of token.entry.word)) }
+    ensures { ReadsText (λ s. string_bytes 0 s.now) result
+        (string_in (seen_word token.entry.word)) }
 {
     match token.word {
         Word::Text(string) => Ok(string),
@@ -128,7 +129,7 @@ pub(crate) fn file<'a, F: Files, A: Allocator + Copy>(
     text: &'a [u8],
 ) -> Result<&'a [u8], Stop>
     ensures opens { OpensFiles F.Opened.steady F.map result files }
-    ensures gives { IfHonest F.map files (λ there. Gives (λ rest. (out.new.items, words rest.now))
+    ensures gives { OfHonest F.map files (λ there. Gives (λ rest. (out.new.items, words rest.now))
         result (with_front out.old.items (file there (words text.now)))) }
     ensures shorter { IfOk result (λ rest. length rest.now < length text.now) }
 {
@@ -144,7 +145,7 @@ pub(crate) fn file<'a, F: Files, A: Allocator + Copy>(
 
 // Returns whether a word is the directive `/incbin/`.
 fn is_incbin(word: Word<'_>) -> bool
-    ensures { result ≡ is_incbin (word_of word.entry) }
+    ensures { result ≡ is_incbin (seen_word word.entry) }
 {
     match word {
         Word::Directive(name) => name == b"incbin".as_slice(),
@@ -196,8 +197,8 @@ pub(crate) fn kept<F: Files, A: Allocator>(
 ) -> Result<Value<A>, Stop>
     ensures opens { OpensFiles F.Opened.steady F.map result files }
     ensures outside { IsOutside result }
-    ensures there { IfHonest F.map files (λ there.
-        IfOk result (λ v. there name.items ≡ Some (bytes_in there (content v)))) }
+    ensures there { OfHonest F.map files (λ there.
+        IfOk result (λ v. there name.items ≡ Some (content_bytes there (content v)))) }
     ensures sound { IfOk result (λ v. IsSoundIn (F.map files.old) (codes "data") (content v)) }
 {
     let Ok(mut source) = files.open(&name) else {

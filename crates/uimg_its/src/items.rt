@@ -4,8 +4,8 @@ ghost use Rattle.std.specs.Prelude.{◌<◌};
 ghost use Rattle.std.specs.Option.{option_map};
 ghost use Rattle.uimg_its.specs.Answers.{IsInText};
 ghost use Rattle.uimg_its.specs.Reading.{ReadsText, ReadsFront};
-ghost use Rattle.uimg_its.specs.Reader.{item_of, item_after, name_in, labelled, item, named};
-ghost use Rattle.uimg_its.specs.Seen.{word_of, item_is};
+ghost use Rattle.uimg_its.specs.Reader.{item_of, item_after, word_name, label_first, item, unlabelled};
+ghost use Rattle.uimg_its.specs.Seen.{seen_word, item_is};
 
 use crate::fault::FaultKind;
 use crate::lexer::{is_mark, need_word};
@@ -37,7 +37,7 @@ pub(crate) struct Head<'a> {
 }
 
 fn item_of<'a>(name: &'a [u8], token: Token<'a>) -> Result<Item<'a>, Stop>
-    ensures { ReadsText item_is result (item_of name.now (word_of token.entry.word)) }
+    ensures { ReadsText item_is result (item_of name.now (seen_word token.entry.word)) }
 {
     match token.word {
         Word::Mark(Mark::Semicolon) => Ok(Item::Empty(name)),
@@ -60,7 +60,7 @@ fn long_name(left: usize) -> Stop
 // Returns the item that a name begins, from the word after it, or `None` if the name is a label.
 fn item_after<'a>(name: &'a [u8], left: usize, token: Token<'a>) -> Result<Option<Item<'a>>, Stop>
     ensures { ReadsText (option_map item_is) result
-        (item_after name.now (word_of token.entry.word)) }
+        (item_after name.now (seen_word token.entry.word)) }
 {
     match token.word {
         Word::Mark(Mark::Colon) => Ok(None),
@@ -70,7 +70,7 @@ fn item_after<'a>(name: &'a [u8], left: usize, token: Token<'a>) -> Result<Optio
 }
 
 fn name_in(token: Token<'_>) -> Result<&[u8], Stop>
-    ensures { ReadsText (λ n. n.now) result (name_in (word_of token.entry.word)) }
+    ensures { ReadsText (λ n. n.now) result (word_name (seen_word token.entry.word)) }
 {
     match token.word {
         Word::Name(name) => Ok(name),
@@ -80,9 +80,9 @@ fn name_in(token: Token<'_>) -> Result<&[u8], Stop>
 
 // Reads a label, or a name and what it begins. Returns also the word after it, and the text after
 // that.
-#[tactic(auto, unfolding(crate::specs::Reader::labelled))]
+#[tactic(auto, unfolding(crate::specs::Reader::label_first))]
 fn labelled(text: &[u8]) -> Result<(Option<Item<'_>>, Token<'_>, &[u8]), Stop>
-    ensures { ReadsFront (λ x. option_map item_is x.0) (λ x. x.2.now) result labelled text.now }
+    ensures { ReadsFront (λ x. option_map item_is x.0) (λ x. x.2.now) result label_first text.now }
 {
     let (first, behind) = need_word(text)?;
     let name = name_in(first)?;
@@ -93,7 +93,7 @@ fn labelled(text: &[u8]) -> Result<(Option<Item<'_>>, Token<'_>, &[u8]), Stop>
 
 // Reads labels, then a name and what it begins.
 fn named(text: &[u8]) -> Result<Head<'_>, Stop>
-    ensures { ReadsFront (λ h. item_is h.item) (λ h. h.rest.now) result named text.now }
+    ensures { ReadsFront (λ h. item_is h.item) (λ h. h.rest.now) result unlabelled text.now }
 {
     let mut left = text;
     loop {

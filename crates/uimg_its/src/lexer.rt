@@ -2,10 +2,10 @@
 
 ghost use Rattle.std.specs.Prelude.{◌≡◌, ◌<◌, length, IfSome, IfOk, false};
 ghost use Rattle.uimg_its.specs.Words.{words};
-ghost use Rattle.uimg_its.specs.Seen.{word_of, Sees};
+ghost use Rattle.uimg_its.specs.Seen.{seen_word, Sees};
 ghost use Rattle.uimg_its.specs.Answers.{NeverInFile, IsInText};
 ghost use Rattle.uimg_its.specs.Reading.{ReadsFront, PassesMark};
-ghost use Rattle.uimg_its.specs.Reader.{next, is_mark, expect};
+ghost use Rattle.uimg_its.specs.Reader.{take_word, is_mark, expect};
 
 use crate::bytes::after;
 use crate::fault::FaultKind;
@@ -55,7 +55,7 @@ pub(crate) fn next_word(text: &[u8]) -> Result<Option<(Token<'_>, &[u8])>, Stop>
 
 /// Reads the next word, which must exist. Returns it with the text after it.
 pub(crate) fn need_word(text: &[u8]) -> Result<(Token<'_>, &[u8]), Stop>
-    ensures { ReadsFront (λ x. word_of x.0.word) (λ x. x.1.now) result next text.now }
+    ensures { ReadsFront (λ x. seen_word x.0.word) (λ x. x.1.now) result take_word text.now }
 {
     match next_word(text)? {
         Some(found) => Ok(found),
@@ -65,7 +65,7 @@ pub(crate) fn need_word(text: &[u8]) -> Result<(Token<'_>, &[u8]), Stop>
 
 /// Returns whether a word is this mark: a slash, a semicolon, a brace or a parenthesis.
 pub(crate) fn is_mark(mark: Mark, word: Word<'_>) -> bool
-    ensures { result ≡ is_mark mark (word_of word.entry) }
+    ensures { result ≡ is_mark mark (seen_word word.entry) }
 {
     match (mark, word) {
         (Mark::Slash, Word::Mark(Mark::Slash)) => true,

@@ -6,9 +6,9 @@ ghost use Rattle.uimg_its.specs.Words.{words};
 ghost use Rattle.uimg_its.specs.Cells.{element};
 ghost use Rattle.uimg_its.specs.Answers.{IsInText};
 ghost use Rattle.uimg_its.specs.Reading.{ReadsText, ReadsFront};
-ghost use Rattle.uimg_its.specs.Steps.{with_front, step_front, before};
-ghost use Rattle.uimg_its.specs.Reader.{element_word, element_step, listed};
-ghost use Rattle.uimg_its.specs.Seen.{word_of};
+ghost use Rattle.uimg_its.specs.Steps.{with_front, step_front, without_rest};
+ghost use Rattle.uimg_its.specs.Reader.{element_word, element_step, list_items};
+ghost use Rattle.uimg_its.specs.Seen.{seen_word};
 ghost use Rattle.uimg_its.specs.declared.lists.Listed.TheVariants.{Cells, Bytes};
 
 use crate::fault::FaultKind;
@@ -29,7 +29,7 @@ pub(crate) enum Listed {
 // Returns the name word of a list's element, or `None` at the end of the list.
 fn element_word(list: Listed, token: Token<'_>) -> Result<Option<&[u8]>, Stop>
     ensures { ReadsText (option_map (λ n. n.now)) result
-        (element_word list (word_of token.entry.word)) }
+        (element_word list (seen_word token.entry.word)) }
 {
     match (list, token.word) {
         (Listed::Cells, Word::Mark(Mark::Greater)) => Ok(None),
@@ -53,7 +53,7 @@ fn bad_number(left: usize) -> Stop
 // Appends a cell.
 fn push_cell<A: Allocator>(out: &mut Vec<u8, A>, name: &[u8], left: usize) -> Result<(), Stop>
     ensures { ReadsText (λ _. out.new.items) result
-        (before out.old.items (element Cells name.now)) }
+        (without_rest out.old.items (element Cells name.now)) }
 {
     match cell(name) {
         Some(n) => append(out, &n.to_be_bytes(), left),
@@ -64,7 +64,7 @@ fn push_cell<A: Allocator>(out: &mut Vec<u8, A>, name: &[u8], left: usize) -> Re
 // Appends bytes.
 fn push_bytes<A: Allocator>(out: &mut Vec<u8, A>, name: &[u8], left: usize) -> Result<(), Stop>
     ensures { ReadsText (λ _. out.new.items) result
-        (before out.old.items (element Bytes name.now)) }
+        (without_rest out.old.items (element Bytes name.now)) }
 {
     let mut i = 0;
     while i < name.len() {
@@ -88,7 +88,7 @@ fn push_element<A: Allocator>(
     left: usize,
 ) -> Result<(), Stop>
     ensures { ReadsText (λ _. out.new.items) result
-        (before out.old.items (element list name.now)) }
+        (without_rest out.old.items (element list name.now)) }
 {
     match list {
         Listed::Cells => push_cell(out, name, left),
@@ -124,7 +124,7 @@ pub(crate) fn read_list<'a, A: Allocator>(
     text: &'a [u8],
 ) -> Result<&'a [u8], Stop>
     ensures { ReadsFront (λ rest. out.new.items) (λ rest. rest.now) result
-        (λ front. with_front out.old.items (listed list front)) text.now }
+        (λ front. with_front out.old.items (list_items list front)) text.now }
 {
     let mut rest = text;
     loop {

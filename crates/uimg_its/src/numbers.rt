@@ -1,15 +1,15 @@
 //! Numbers of cells.
 
 ghost use Rattle.std.specs.Prelude.{◌≡◌, ◌≤◌, ◌<◌, ◌+◌, ◌*◌, IfSome};
-ghost use Rattle.uimg_its.specs.Digits.{number, hex_digit, hex_pair};
-ghost use Rattle.uimg_its.specs.Cells.{cell};
+ghost use Rattle.uimg_its.specs.Digits.{number_in_base, hex_digit, hex_pair};
+ghost use Rattle.uimg_its.specs.Cells.{number_of_cell};
 
 // Returns the number with these digits in a base, or `None` if one is no digit or 32 bits overflow.
-#[tactic(auto, unfolding(crate::specs::Digits::number))]
+#[tactic(auto, unfolding(crate::specs::Digits::number_in_base))]
 fn number(base: u32, digits: &[u8]) -> Option<u32>
     requires low { 2 ≤ base }
     requires high { base ≤ 16 }
-    ensures { result ≡ number base digits.now }
+    ensures { result ≡ number_in_base base digits.now }
 {
     let mut value = 0u32;
     'digits: for byte in digits {
@@ -24,9 +24,9 @@ fn number(base: u32, digits: &[u8]) -> Option<u32>
 }
 
 /// Returns a cell's number, or `None` if the word is not a number or has more than 32 bits.
-#[tactic(auto, unfolding(crate::specs::Cells::cell))]
+#[tactic(auto, unfolding(crate::specs::Cells::number_of_cell))]
 pub(crate) fn cell(word: &[u8]) -> Option<u32>
-    ensures { result ≡ cell word.now }
+    ensures { result ≡ number_of_cell word.now }
 {
     match word {
         [] => None,

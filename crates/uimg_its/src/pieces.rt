@@ -3,7 +3,7 @@
 ghost use Rattle.std.specs.Prelude.{◌≡◌, ◌≤◌, ◌<◌, ◌-◌, length, drop, slice_index, IfSome};
 ghost use Rattle.uimg_its.specs.Strings.{string_end};
 ghost use Rattle.uimg_its.specs.Words.{comment, slash_piece, string_piece, name_word, piece};
-ghost use Rattle.uimg_its.specs.Seen.{word_of, IsPiece};
+ghost use Rattle.uimg_its.specs.Seen.{seen_word, IsFoundPiece};
 
 use crate::bytes::{
     after, directive_length, is_blank, is_name_byte, line_length, mark_of, name_length,
@@ -38,7 +38,7 @@ fn comment_length(text: &[u8]) -> Option<usize>
 
 // Reads what begins with a slash, given the text after the slash.
 fn slash_piece(text: &[u8]) -> Piece<'_>
-    ensures { IsPiece result (slash_piece text.now) (length text.now) }
+    ensures { IsFoundPiece result (slash_piece text.now) (length text.now) }
 {
     match text.first() {
         Some(b'*') => match comment_length(after(text, 1)) {
@@ -59,7 +59,8 @@ fn slash_piece(text: &[u8]) -> Piece<'_>
 
 // Reads what begins with a quote, given the text after the quote.
 fn string_piece(text: &[u8]) -> Piece<'_>
-    ensures { IsPiece result (string_piece text.now (string_end 0 text.now)) (length text.now) }
+    ensures { IsFoundPiece result (string_piece text.now (string_end 0 text.now))
+        (length text.now) }
 {
     match string_length(text) {
         Some(n) => Piece::Word(Word::Text(text), n),
@@ -69,7 +70,7 @@ fn string_piece(text: &[u8]) -> Piece<'_>
 
 // Returns a name word, or the mark of a comma.
 fn name_word(name: &[u8]) -> Word<'_>
-    ensures { word_of result ≡ name_word name.now }
+    ensures { seen_word result ≡ name_word name.now }
 {
     match name {
         [b','] => Word::Mark(Mark::Comma),
@@ -81,7 +82,7 @@ fn name_word(name: &[u8]) -> Word<'_>
 #[tactic(auto, unfolding(crate::specs::Words::piece))]
 pub(crate) fn first_piece(text: &[u8]) -> Piece<'_>
     requires { 0 < length text.now }
-    ensures { IsPiece result (piece (slice_index text.now 0) (drop 1 text.now))
+    ensures { IsFoundPiece result (piece (slice_index text.now 0) (drop 1 text.now))
         (length text.now - 1) }
 {
     let b = text[0];

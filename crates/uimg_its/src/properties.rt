@@ -3,7 +3,7 @@
 ghost use Rattle.std.specs.Prelude.{◌≡◌, ◌<◌, ◌≤◌, ◌++◌, ◌∷◌, [], false, IfOk, OnOk, length, map};
 ghost use Rattle.uimg_base.specs.Named.{FileMap};
 ghost use Rattle.uimg_blob_writing.specs.Properties.{property, content};
-ghost use Rattle.uimg_blob_writing.specs.LentFiles.{IfHonest};
+ghost use Rattle.uimg_blob_writing.specs.LentFiles.{OfHonest};
 ghost use Rattle.uimg_its.specs.Words.{words};
 ghost use Rattle.uimg_its.specs.Answers.{Gives, OnlyMemory, OpensFiles};
 ghost use Rattle.uimg_its.specs.Steps.{step_front};
@@ -49,7 +49,7 @@ fn property_step<'a, F: Files, A: Allocator + Copy>(
     text: &'a [u8],
 ) -> Result<(bool, &'a [u8]), Stop>
     ensures opens { OpensFiles F.Opened.steady F.map result files }
-    ensures gives { IfHonest F.map files (λ there.
+    ensures gives { OfHonest F.map files (λ there.
         Gives (λ x. (x.0, props_in_full there (map property props.new.items), words x.1.now)) result
         (step_front (props_in_full there (map property props.old.items))
         (property_step there (words text.now)))) }
@@ -81,7 +81,7 @@ pub(crate) fn properties<'a, F: Files, A: Allocator + Copy>(
     text: &'a [u8],
 ) -> Result<(Props<A>, &'a [u8]), Stop>
     ensures opens { OpensFiles F.Opened.steady F.map result files }
-    ensures gives { IfHonest F.map files (λ there.
+    ensures gives { OfHonest F.map files (λ there.
         Gives (λ x. (props_in_full there x.0, words x.1.now)) result
         (properties there (words text.now))) }
     ensures sound { IfOk result (λ x. AreSound (F.map files.old) x.0) }

@@ -1,16 +1,16 @@
 //! Values, some of which stay files.
 
 ghost use Rattle.std.specs.Prelude.{◌≡◌, ◌<◌, ◌≤◌, Some, IfSome, IfOk, length, codes, false};
-ghost use Rattle.uimg_blob_writing.specs.Content.{bytes_in};
+ghost use Rattle.uimg_blob_writing.specs.Content.{content_bytes};
 ghost use Rattle.uimg_blob_writing.specs.Properties.{content};
-ghost use Rattle.uimg_blob_writing.specs.LentFiles.{IfHonest};
+ghost use Rattle.uimg_blob_writing.specs.LentFiles.{OfHonest};
 ghost use Rattle.uimg_its.specs.Words.{words};
 ghost use Rattle.uimg_its.specs.Answers.{Gives, IsOutside, OpensFiles};
 ghost use Rattle.uimg_its.specs.Reading.{ReadsText};
 ghost use Rattle.uimg_its.specs.Steps.{with_front, step_front};
-ghost use Rattle.uimg_its.specs.Reader.{ends, value_of, value_step, values};
+ghost use Rattle.uimg_its.specs.Reader.{is_last_value, spelled_value, value_step, values};
 ghost use Rattle.uimg_its.specs.FileValues.{IsSoundIn};
-ghost use Rattle.uimg_its.specs.Seen.{word_of};
+ghost use Rattle.uimg_its.specs.Seen.{seen_word};
 
 use crate::growth::{append, append_string};
 use crate::incbin::{file, kept, lone_file};
@@ -24,7 +24,7 @@ use uimg_blob_writing::{ByteList, Value};
 
 // Returns whether a value is the last, from the word after it.
 fn ends(token: Token<'_>) -> Result<bool, Stop>
-    ensures { ReadsText (λ x. x) result (ends (word_of token.entry.word)) }
+    ensures { ReadsText (λ x. x) result (is_last_value (seen_word token.entry.word)) }
 {
     match token.word {
         Word::Mark(Mark::Comma) => Ok(false),
@@ -34,7 +34,7 @@ fn ends(token: Token<'_>) -> Result<bool, Stop>
 }
 
 // Appends the value that a word begins. Returns the text after it.
-#[tactic(auto, unfolding(crate::specs::Reader::value_of))]
+#[tactic(auto, unfolding(crate::specs::Reader::spelled_value))]
 fn value_of<'a, F: Files, A: Allocator + Copy>(
     alloc: A,
     files: &mut F,
@@ -43,9 +43,9 @@ fn value_of<'a, F: Files, A: Allocator + Copy>(
     text: &'a [u8],
 ) -> Result<&'a [u8], Stop>
     ensures opens { OpensFiles F.Opened.steady F.map result files }
-    ensures gives { IfHonest F.map files (λ there.
+    ensures gives { OfHonest F.map files (λ there.
         Gives (λ rest. (out.new.items, words rest.now)) result (with_front out.old.items
-        (value_of there (word_of token.entry.word) (words text.now)))) }
+        (spelled_value there (seen_word token.entry.word) (words text.now)))) }
     ensures within { IfOk result (λ rest. length rest.now ≤ length text.now) }
 {
     match token.word {
@@ -72,7 +72,7 @@ fn value_step<'a, F: Files, A: Allocator + Copy>(
     text: &'a [u8],
 ) -> Result<(bool, &'a [u8]), Stop>
     ensures opens { OpensFiles F.Opened.steady F.map result files }
-    ensures gives { IfHonest F.map files (λ there. Gives (λ x. (x.0, out.new.items, words x.1.now))
+    ensures gives { OfHonest F.map files (λ there. Gives (λ x. (x.0, out.new.items, words x.1.now))
         result (step_front out.old.items (value_step there (words text.now)))) }
     ensures shorter { IfOk result (λ x. length x.1.now < length text.now) }
 {
@@ -91,7 +91,7 @@ fn values<'a, F: Files, A: Allocator + Copy>(
     text: &'a [u8],
 ) -> Result<&'a [u8], Stop>
     ensures opens { OpensFiles F.Opened.steady F.map result files }
-    ensures gives { IfHonest F.map files (λ there. Gives (λ rest. (out.new.items, words rest.now))
+    ensures gives { OfHonest F.map files (λ there. Gives (λ rest. (out.new.items, words rest.now))
         result (with_front out.old.items (values there (words text.now)))) }
     ensures shorter { IfOk result (λ rest. length rest.now < length text.now) }
 {
@@ -113,8 +113,8 @@ fn data_file<'a, F: Files, A: Allocator>(
     text: &'a [u8],
 ) -> Result<Option<(Value<A>, &'a [u8])>, Stop>
     ensures opens { OpensFiles F.Opened.steady F.map result files }
-    ensures gives { IfHonest F.map files (λ there. IfOk result (λ found. IfSome found (λ x.
-        values there (words text.now) ≡ Some (bytes_in there (content x.0), words x.1.now)))) }
+    ensures gives { OfHonest F.map files (λ there. IfOk result (λ found. IfSome found (λ x.
+        values there (words text.now) ≡ Some (content_bytes there (content x.0), words x.1.now)))) }
     ensures outside { IsOutside result }
     ensures sound { IfOk result (λ found. IfSome found (λ x.
         IsSoundIn (F.map files.old) (codes "data") (content x.0))) }
@@ -138,8 +138,8 @@ pub(crate) fn assigned<'a, F: Files, A: Allocator + Copy>(
     text: &'a [u8],
 ) -> Result<(Value<A>, &'a [u8]), Stop>
     ensures opens { OpensFiles F.Opened.steady F.map result files }
-    ensures gives { IfHonest F.map files (λ there.
-        Gives (λ x. (bytes_in there (content x.0), words x.1.now)) result
+    ensures gives { OfHonest F.map files (λ there.
+        Gives (λ x. (content_bytes there (content x.0), words x.1.now)) result
         (values there (words text.now))) }
     ensures sound { IfOk result (λ x. IsSoundIn (F.map files.old) name.now (content x.0)) }
     ensures shorter { IfOk result (λ x. length x.1.now < length text.now) }

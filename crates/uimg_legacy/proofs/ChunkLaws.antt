@@ -7,7 +7,7 @@ use Rattle.std.proofs.lemmas.List.{take-take, drop-drop}
 use Rattle.std.proofs.lemmas.List.Sums.{prefix_len-le-length, sum_by-append}
 use Rattle.uimg_texts.specs.Slices.{slice}
 use Rattle.uimg_texts.specs.Numbers.{be32, up4}
-use Rattle.uimg_legacy.specs.Words.{words}
+use Rattle.uimg_legacy.specs.Words.{whole_words}
 use Rattle.uimg_legacy.specs.Parts.{sizes, start}
 use Rattle.uimg_legacy.specs.Reading.{window}
 use Rattle.uimg_legacy.proofs.PartsLaws.{cond_le, slice-slice, length-sizes, table_words}
@@ -16,8 +16,8 @@ four : (n : ℕ) → 4 * suc n ≡ suc (suc (suc (suc (4 * n))))
 four n = omega arith
 
 -- the words from a place on
-words-drop : (d : List ℕ) (i : ℕ) → words (drop (4 * i) d) ≡ drop i (words d)
-unfolding words
+words-drop : (d : List ℕ) (i : ℕ) → whole_words (drop (4 * i) d) ≡ drop i (whole_words d)
+unfolding whole_words
 words-drop d zero = refl
 words-drop [] (suc i) = rw (four i) refl
 words-drop (a ∷ []) (suc i) = rw (four i) refl
@@ -26,8 +26,8 @@ words-drop (a ∷ b ∷ c ∷ []) (suc i) = rw (four i) refl
 words-drop (a ∷ b ∷ c ∷ d ∷ rest) (suc i) = rw (four i) (words-drop rest i)
 
 -- the first words
-words-take : (d : List ℕ) (n : ℕ) → words (take (4 * n) d) ≡ take n (words d)
-unfolding words
+words-take : (d : List ℕ) (n : ℕ) → whole_words (take (4 * n) d) ≡ take n (whole_words d)
+unfolding whole_words
 words-take d zero = refl
 words-take [] (suc n) = rw (four n) refl
 words-take (a ∷ []) (suc n) = rw (four n) refl
@@ -36,7 +36,7 @@ words-take (a ∷ b ∷ c ∷ []) (suc n) = rw (four n) refl
 words-take (a ∷ b ∷ c ∷ d ∷ rest) (suc n) = rw (four n) (ap (λ (ws : List ℕ). be32 (a ∷ b ∷ c ∷ d ∷ []) 0 ∷ ws) (words-take rest n))
 
 -- the words of a window
-pub words-slice : (d : List ℕ) (i n : ℕ) → words (slice d (4 * i) (4 * n)) ≡ take n (drop i (words d))
+pub words-slice : (d : List ℕ) (i n : ℕ) → whole_words (slice d (4 * i) (4 * n)) ≡ take n (drop i (whole_words d))
 words-slice d i n = words-take (drop (4 * i) d) n ∙ ap (λ (ws : List ℕ). take n ws) (words-drop d i)
 
 -- a prefix after some of its elements
@@ -66,47 +66,47 @@ sizes_window image size i n inside h =
     let d = slice image 64 size in
     let all = length-sizes d in
     let window : slice image (64 + 4 * i) (4 * n) ≡ slice d (4 * i) (4 * n) = sym (slice-slice image 64 size (4 * i) (4 * n) (omega arith)) in
-    let prefix = prefix_len-take p (drop i (words d)) n in
-    let rest = prefix_len-rest p (words d) i (omega arith) in
+    let prefix = prefix_len-take p (drop i (whole_words d)) n in
+    let rest = prefix_len-rest p (whole_words d) i (omega arith) in
     ap (λ (w : List ℕ). length (sizes w)) window
     ∙ length-sizes (slice d (4 * i) (4 * n))
     ∙ ap (λ (ws : List ℕ). prefix_len p ws) (words-slice d i n)
     ∙ omega (arith, prefix, rest, all)
 
 -- no more sizes than words
-pub sizes-le-words : (d : List ℕ) → length (sizes d) ≤ length (words d)
+pub sizes-le-words : (d : List ℕ) → length (sizes d) ≤ length (whole_words d)
 sizes-le-words d =
-    let most = prefix_len-le-length (λ w. not (w == 0)) (words d) in
+    let most = prefix_len-le-length (λ w. not (w == 0)) (whole_words d) in
     omega (arith, length-sizes d, most)
 
 -- the words of a window, of all the words behind the header
-words-window : (image : List ℕ) (first count : ℕ) → words (window image first count) ≡ take count (drop first (words (drop 64 image)))
+words-window : (image : List ℕ) (first count : ℕ) → whole_words (window image first count) ≡ take count (drop first (whole_words (drop 64 image)))
 words-window image first count =
-    ap (λ (w : List ℕ). words (take (4 * count) w)) (sym (drop-drop (4 * first) 64 image)) ∙ words-slice (drop 64 image) first count
+    ap (λ (w : List ℕ). whole_words (take (4 * count) w)) (sym (drop-drop (4 * first) 64 image)) ∙ words-slice (drop 64 image) first count
 
 -- no words
-pub sum_none : (image : List ℕ) → 0 ≡ sum_by up4 (words (window image 0 0))
-unfolding words
+pub sum_none : (image : List ℕ) → 0 ≡ sum_by up4 (whole_words (window image 0 0))
+unfolding whole_words
 sum_none image = refl
 
 -- the sum of the first words and of those in the window behind them
-pub sum_more_words : (image : List ℕ) (i n : ℕ) → sum_by up4 (words (window image 0 (i + n))) ≡ sum_by up4 (words (window image 0 i)) + sum_by up4 (words (window image i n))
+pub sum_more_words : (image : List ℕ) (i n : ℕ) → sum_by up4 (whole_words (window image 0 (i + n))) ≡ sum_by up4 (whole_words (window image 0 i)) + sum_by up4 (whole_words (window image i n))
 sum_more_words image i n =
-    let all = words (drop 64 image) in
+    let all = whole_words (drop 64 image) in
     rw (words-window image 0 (i + n), words-window image 0 i, words-window image i n)
     (ap (λ (w : List ℕ). sum_by up4 w) (take-add i n all) ∙ sum_by-append up4 (take i all) (take n (drop i all)))
 
 -- where a part starts
-pub start_sum : (image : List ℕ) (size position : ℕ) → 4 * position ≤ size → position ≤ length (sizes (slice image 64 size)) → start (sizes (slice image 64 size)) position ≡ 4 * (length (sizes (slice image 64 size)) + 1) + sum_by up4 (words (window image 0 position))
+pub start_sum : (image : List ℕ) (size position : ℕ) → 4 * position ≤ size → position ≤ length (sizes (slice image 64 size)) → start (sizes (slice image 64 size)) position ≡ 4 * (length (sizes (slice image 64 size)) + 1) + sum_by up4 (whole_words (window image 0 position))
 unfolding start sizes
 start_sum image size position inside h =
     let d = slice image 64 size in
     let len = length-sizes d in
-    let first : words (window image 0 position) ≡ take position (words d) = ap (λ (w : List ℕ). words w) (sym (slice-slice image 64 size 0 (4 * position) (omega arith))) ∙ words-slice d 0 position in
-    let same : take position (sizes d) ≡ words (window image 0 position) = take-take position _ (words d) (omega arith) ∙ sym first in
+    let first : whole_words (window image 0 position) ≡ take position (whole_words d) = ap (λ (w : List ℕ). whole_words w) (sym (slice-slice image 64 size 0 (4 * position) (omega arith))) ∙ words-slice d 0 position in
+    let same : take position (sizes d) ≡ whole_words (window image 0 position) = take-take position _ (whole_words d) (omega arith) ∙ sym first in
     ap (λ (w : List ℕ). 4 * (length (sizes d) + 1) + sum_by up4 w) same
 
 -- what is read of a part in the table: where it starts, and its size
-pub part_read : (image : List ℕ) (size count position sum n : ℕ) → 64 + size ≤ length image → 4 * (count + 1) ≤ size → count ≡ length (sizes (slice image 64 size)) → position < count → sum ≡ sum_by up4 (words (window image 0 position)) → n ≡ be32 image (64 + 4 * position) → (4 * (count + 1) + sum ≡ start (sizes (slice image 64 size)) position) × (n ≡ get_or (sizes (slice image 64 size)) position 0)
+pub part_read : (image : List ℕ) (size count position sum n : ℕ) → 64 + size ≤ length image → 4 * (count + 1) ≤ size → count ≡ length (sizes (slice image 64 size)) → position < count → sum ≡ sum_by up4 (whole_words (window image 0 position)) → n ≡ be32 image (64 + 4 * position) → (4 * (count + 1) + sum ≡ start (sizes (slice image 64 size)) position) × (n ≡ get_or (sizes (slice image 64 size)) position 0)
 part_read image size count position sum n inside fits counts there e word =
     (omega (arith, counts, e, start_sum image size position (omega arith) (omega (arith, counts))), word ∙ sym (table_words image size inside position (omega (arith, counts))))

@@ -8,11 +8,11 @@ use Rattle.std.proofs.lemmas.List.Sums.{sum_by-cons}
 use Rattle.uimg_texts.specs.Numbers.{be32, up4}
 use Rattle.uimg_legacy.specs.declared.fault.LegacyFault.{LegacyFault}
 use Rattle.uimg_legacy.specs.declared.fault.LegacyFault.TheVariants.{PartOutside}
-use Rattle.uimg_legacy.specs.Words.{words}
-use Rattle.uimg_legacy.specs.Unpacking.{Part, before, parts_by, part_if, is_asked, chosen}
+use Rattle.uimg_legacy.specs.Words.{whole_words}
+use Rattle.uimg_legacy.specs.Unpacking.{Part, part_before, parts_by, part_if, is_part_asked, chosen_parts}
 
 -- a part before others
-before_ok : (part : List ℕ) (r : Result (List (List ℕ)) LegacyFault) (parts : List (List ℕ)) → before part r ≡ Ok parts → (rest : List (List ℕ)) × (r ≡ Ok rest) × (part ∷ rest ≡ parts)
+before_ok : (part : List ℕ) (r : Result (List (List ℕ)) LegacyFault) (parts : List (List ℕ)) → part_before part r ≡ Ok parts → (rest : List (List ℕ)) × (r ≡ Ok rest) × (part ∷ rest ≡ parts)
 before_ok part (Ok rest) parts e = (rest, refl, cc)
 before_ok part (Err fault) parts e = absurd (cc)
 
@@ -85,7 +85,7 @@ cut_longer (w ∷ ws) bytes parts next e =
     ∙ ap (λ (ps : List (List ℕ)). Ok ps) f.3
 
 -- a part that ends after the bytes
-outside_if : (b : Bool) (part : List ℕ) (r : Result (List (List ℕ)) LegacyFault) → r ≡ Err PartOutside → (if b then Err PartOutside else before part r) ≡ Err PartOutside
+outside_if : (b : Bool) (part : List ℕ) (r : Result (List (List ℕ)) LegacyFault) → r ≡ Err PartOutside → (if b then Err PartOutside else part_before part r) ≡ Err PartOutside
 outside_if true part r e = refl
 outside_if false part r e = rw e refl
 
@@ -100,25 +100,25 @@ cut_outside (w ∷ ws) size more bytes some far =
     outside_if (nat_lt (length bytes) w) (take w bytes) _ (cut_outside ws size more (drop (up4 w) bytes) some (omega (arith, left, far, sum)))
 
 -- no parts, and one more part
-pub chosen_none : (only : Option ℕ) (number : ℕ) → chosen only number [] ≡ []
-unfolding chosen
+pub chosen_none : (only : Option ℕ) (number : ℕ) → chosen_parts only number [] ≡ []
+unfolding chosen_parts
 chosen_none only number = refl
 
-pub chosen_more : (only : Option ℕ) (number : ℕ) (parts : List (List ℕ)) (part : List ℕ) → chosen only number (parts ++ part ∷ []) ≡ chosen only number parts ++ part_if (is_asked only (number + length parts)) (number + length parts) part
-unfolding chosen
+pub chosen_more : (only : Option ℕ) (number : ℕ) (parts : List (List ℕ)) (part : List ℕ) → chosen_parts only number (parts ++ part ∷ []) ≡ chosen_parts only number parts ++ part_if (is_part_asked only (number + length parts)) (number + length parts) part
+unfolding chosen_parts
 chosen_more only number [] part =
     let same : number + 0 ≡ number = omega arith in
-    rw same (append-nil (part_if (is_asked only number) number part))
+    rw same (append-nil (part_if (is_part_asked only number) number part))
 chosen_more only number (first ∷ parts) part =
     let same : suc number + length parts ≡ number + length (first ∷ parts) = omega arith in
-    let one = part_if (is_asked only number) number first in
+    let one = part_if (is_part_asked only number) number first in
     ap (λ (ps : List Part). one ++ ps) (chosen_more only (suc number) parts part)
-    ∙ ap (λ (n : ℕ). one ++ (chosen only (suc number) parts ++ part_if (is_asked only n) n part)) same
-    ∙ sym (append_assoc one (chosen only (suc number) parts) (part_if (is_asked only (number + length (first ∷ parts))) (number + length (first ∷ parts)) part))
+    ∙ ap (λ (n : ℕ). one ++ (chosen_parts only (suc number) parts ++ part_if (is_part_asked only n) n part)) same
+    ∙ sym (append_assoc one (chosen_parts only (suc number) parts) (part_if (is_part_asked only (number + length (first ∷ parts))) (number + length (first ∷ parts)) part))
 
 -- words behind words
-pub words_then : (xs ys : List ℕ) (n : ℕ) → length xs ≡ 4 * n → words (xs ++ ys) ≡ words xs ++ words ys
-unfolding words
+pub words_then : (xs ys : List ℕ) (n : ℕ) → length xs ≡ 4 * n → whole_words (xs ++ ys) ≡ whole_words xs ++ whole_words ys
+unfolding whole_words
 words_then [] ys n h = refl
 words_then (a ∷ []) ys n h = absurd (omega (arith, h))
 words_then (a ∷ b ∷ []) ys n h = absurd (omega (arith, h))
@@ -127,8 +127,8 @@ words_then (a ∷ b ∷ c ∷ d ∷ rest) ys n h =
     ap (λ (ws : List ℕ). be32 (a ∷ b ∷ c ∷ d ∷ []) 0 ∷ ws) (words_then rest ys (n - 1) (omega (arith, h)))
 
 -- the one word of four bytes
-pub word_of : (xs : List ℕ) → length xs ≡ 4 → words xs ≡ be32 xs 0 ∷ []
-unfolding words
+pub word_of : (xs : List ℕ) → length xs ≡ 4 → whole_words xs ≡ be32 xs 0 ∷ []
+unfolding whole_words
 word_of [] h = absurd (omega (arith, h))
 word_of (a ∷ []) h = absurd (omega (arith, h))
 word_of (a ∷ b ∷ []) h = absurd (omega (arith, h))
@@ -136,13 +136,13 @@ word_of (a ∷ b ∷ c ∷ []) h = absurd (omega (arith, h))
 word_of (a ∷ b ∷ c ∷ d ∷ []) h = refl
 word_of (a ∷ b ∷ c ∷ d ∷ e ∷ rest) h = absurd (omega (arith, h))
 
-pub words_none : words [] ≡ []
-unfolding words
+pub words_none : whole_words [] ≡ []
+unfolding whole_words
 words_none = refl
 
 -- how many words there are
-pub count_words : (xs : List ℕ) (n : ℕ) → length xs ≡ 4 * n → length (words xs) ≡ n
-unfolding words
+pub count_words : (xs : List ℕ) (n : ℕ) → length xs ≡ 4 * n → length (whole_words xs) ≡ n
+unfolding whole_words
 count_words [] n h = omega (arith, h)
 count_words (a ∷ []) n h = absurd (omega (arith, h))
 count_words (a ∷ b ∷ []) n h = absurd (omega (arith, h))

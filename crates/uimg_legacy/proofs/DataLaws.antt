@@ -17,10 +17,10 @@ use Rattle.uimg_legacy.specs.declared.fault.LegacyFault.{LegacyFault}
 use Rattle.uimg_legacy.specs.declared.fault.Fault.{Fault}
 use Rattle.uimg_legacy.specs.declared.fault.Fault.TheVariants.{Legacy, Read, Put}
 use Rattle.uimg_legacy.specs.declared.unpacking.takes.Walk.{Walk}
-use Rattle.uimg_legacy.specs.Words.{words}
+use Rattle.uimg_legacy.specs.Words.{whole_words}
 use Rattle.uimg_legacy.specs.Image.{payload}
 use Rattle.uimg_legacy.specs.Parts.{has_parts, sizes, part_sizes}
-use Rattle.uimg_legacy.specs.Unpacking.{Part, part_if, is_asked, is_there, chosen, parts_by, parts_in}
+use Rattle.uimg_legacy.specs.Unpacking.{Part, part_if, is_part_asked, is_there, chosen_parts, parts_by, parts_in}
 use Rattle.uimg_legacy.specs.UnpackingSteps.{SumsPieceBetween, TakesPartBetween, Walked, RefusesBy, HoldsParts, IsWrong, TakesDataBetween}
 use Rattle.uimg_legacy.proofs.PartsLaws.{length-sizes, length-words, words-at, slice-slice}
 use Rattle.uimg_legacy.proofs.TakingLaws.{word_at}
@@ -32,13 +32,13 @@ taken_by only honest h d from to true right wrong = right refl
 taken_by only honest h d from to false right wrong = wrong refl
 
 -- a first part that is asked for
-asked_first : (only : Option ℕ) → is_there only 1 ≡ true → is_asked only 0 ≡ true
+asked_first : (only : Option ℕ) → is_there only 1 ≡ true → is_part_asked only 0 ≡ true
 asked_first None e = refl
 asked_first (Some n) e = eq-eqb n 0 (omega (arith, ltb-true n 1 e))
 
 -- data of a type without parts
 pub whole_data : (only : Option ℕ) (honest : Bool) (h : Header) (d : Device) (from mid to : List Part) (a sum : Crc) (v : ℕ) → has_parts h.kind ≡ false → is_there only 1 ≡ true → Holds a [] → TakesPartBetween true honest 0 d 64 h.size a sum mid to → (IsTrue honest → mid ≡ from) → ((fed : List ℕ) → Holds sum fed → v ≡ crc fed) → TakesDataBetween only honest h d (Ok (v == h.dcrc)) from to
-unfolding chosen
+unfolding chosen_parts
 whole_data only honest h d from mid to a sum v kind there begun p before value =
     let piece = p.sums.piece in
     let right : v ≡ crc piece = value piece (p.sums.summed [] begun) in
@@ -50,7 +50,7 @@ whole_data only honest h d from mid to a sum v kind there begun p before value =
       sum = sym right ∙ eqb-true v h.dcrc e;
       cut = rw (kind, there) refl;
       right = p.sums.right;
-      held = λ known. p.held known ∙ ap (λ (ps : List Part). ps ++ part_if true 0 piece) (before known) ∙ ap (λ (b : Bool). from ++ part_if b 0 piece) (sym (asked_first only there)) ∙ ap (λ (ps : List Part). from ++ ps) (sym (append-nil (part_if (is_asked only 0) 0 piece)));
+      held = λ known. p.held known ∙ ap (λ (ps : List Part). ps ++ part_if true 0 piece) (before known) ∙ ap (λ (b : Bool). from ++ part_if b 0 piece) (sym (asked_first only there)) ∙ ap (λ (ps : List Part). from ++ ps) (sym (append-nil (part_if (is_part_asked only 0) 0 piece)));
     })
     (λ e true_one. record {
       parts = payload d.bytes h ∷ [];
@@ -82,16 +82,16 @@ first_words (w ∷ ws) more all = rw (zero_next w all.0) (take_one _ w (ws ++ 0 
 abbrev pub zeros : List ℕ
 zeros = 0 ∷ 0 ∷ 0 ∷ 0 ∷ []
 
-words_zeros : (more : List ℕ) → words (zeros ++ more) ≡ 0 ∷ words more
-unfolding words be32
+words_zeros : (more : List ℕ) → whole_words (zeros ++ more) ≡ 0 ∷ whole_words more
+unfolding whole_words be32
 words_zeros more = refl
 
 -- the sizes of data that begin with such words
-pub table_first : (table more : List ℕ) (n : ℕ) → length table ≡ 4 * n → AllByRecursion (λ w. w ≢ 0) (words table) → part_sizes (table ++ (zeros ++ more)) ≡ Ok (words table)
+pub table_first : (table more : List ℕ) (n : ℕ) → length table ≡ 4 * n → AllByRecursion (λ w. w ≢ 0) (whole_words table) → part_sizes (table ++ (zeros ++ more)) ≡ Ok (whole_words table)
 unfolding part_sizes sizes
 table_first table more n long some =
-    let split : words (table ++ (zeros ++ more)) ≡ words table ++ 0 ∷ words more = words_then table (zeros ++ more) n long ∙ ap (λ (ws : List ℕ). words table ++ ws) (words_zeros more) in
-    rw (split, has_zero (words table) (words more)) (ap (λ (ws : List ℕ). Ok ws) (first_words (words table) (words more) some))
+    let split : whole_words (table ++ (zeros ++ more)) ≡ whole_words table ++ 0 ∷ whole_words more = words_then table (zeros ++ more) n long ∙ ap (λ (ws : List ℕ). whole_words table ++ ws) (words_zeros more) in
+    rw (split, has_zero (whole_words table) (whole_words more)) (ap (λ (ws : List ℕ). Ok ws) (first_words (whole_words table) (whole_words more) some))
 
 -- the zero word behind the sizes of an honest device
 zero_word : (xs : List ℕ) → length xs ≡ 4 → be32 xs 0 ≡ 0 → xs ≡ zeros
@@ -115,10 +115,10 @@ after_table image size n inside fits counts =
     let long = length-slice image 64 size inside in
     let few = length-words file in
     let len = length-sizes file in
-    let there : prefix_len p (words file) < length (words file) = omega (arith, few.1, long, fits, len, counts) in
-    let stop : not (get_or (words file) (prefix_len p (words file)) 0 == 0) ≡ false = prefix_len_stops p (words file) 0 there in
-    let place : n ≡ prefix_len p (words file) = counts ∙ len in
-    let is : get_or (words file) n 0 ≡ 0 = ap (λ (k : ℕ). get_or (words file) k 0) place ∙ eqb-true _ 0 (not-false _ stop) in
+    let there : prefix_len p (whole_words file) < length (whole_words file) = omega (arith, few.1, long, fits, len, counts) in
+    let stop : not (get_or (whole_words file) (prefix_len p (whole_words file)) 0 == 0) ≡ false = prefix_len_stops p (whole_words file) 0 there in
+    let place : n ≡ prefix_len p (whole_words file) = counts ∙ len in
+    let is : get_or (whole_words file) n 0 ≡ 0 = ap (λ (k : ℕ). get_or (whole_words file) k 0) place ∙ eqb-true _ 0 (not-false _ stop) in
     let word = words-at file n (omega (arith, long, fits)) in
     let here : slice file (4 * n) 4 ≡ zeros = zero_word (slice file (4 * n) 4) (length-slice file (4 * n) 4 (omega (arith, long, fits))) (word_at file (slice file (4 * n) 4) (4 * n) refl ∙ sym word ∙ is) in
     sym (slice-slice image 64 size (4 * n) 4 (omega (arith, fits))) ∙ here
@@ -128,12 +128,12 @@ abbrev pub all_of : List ℕ → List ℕ → List ℕ → List ℕ
 all_of table bytes rest = table ++ (zeros ++ (bytes ++ rest))
 
 -- they have the parts that were taken
-all_cut : (only : Option ℕ) (table bytes rest : List ℕ) (parts : List (List ℕ)) (n : ℕ) → length table ≡ 4 * n → AllByRecursion (λ w. w ≢ 0) (words table) → parts_by (words table) bytes ≡ Ok parts → is_there only n ≡ true → parts_in only true (all_of table bytes rest) ≡ Ok parts
+all_cut : (only : Option ℕ) (table bytes rest : List ℕ) (parts : List (List ℕ)) (n : ℕ) → length table ≡ 4 * n → AllByRecursion (λ w. w ≢ 0) (whole_words table) → parts_by (whole_words table) bytes ≡ Ok parts → is_there only n ≡ true → parts_in only true (all_of table bytes rest) ≡ Ok parts
 all_cut only table bytes rest parts n long some cut there =
-    let count : length (words table) ≡ n = count_words table n long in
+    let count : length (whole_words table) ≡ n = count_words table n long in
     let size : length (table ++ zeros) ≡ 4 * (n + 1) = length-append table zeros ∙ omega (arith, long) in
     let behind : drop (4 * (n + 1)) (all_of table bytes rest) ≡ bytes ++ rest = ap (λ (xs : List ℕ). drop (4 * (n + 1)) xs) (sym (append_assoc table zeros (bytes ++ rest))) ∙ drop_at (table ++ zeros) (bytes ++ rest) (4 * (n + 1)) size in
-    rw (table_first table (bytes ++ rest) n long some, count, there, behind) (cut_longer (words table) bytes parts rest cut)
+    rw (table_first table (bytes ++ rest) n long some, count, there, behind) (cut_longer (whole_words table) bytes parts rest cut)
 
 -- those of an honest device
 all_right : (d e f : Device) (table bytes rest : List ℕ) (n size at : ℕ) → SameDevice d e → SameDevice d f → 64 + size ≤ length d.bytes → 4 * (n + 1) ≤ size → n ≡ length (sizes (slice d.bytes 64 size)) → at ≡ 4 * (n + 1) + length bytes → at ≤ size → table ≡ slice e.bytes 64 (4 * n) → bytes ≡ slice e.bytes (64 + 4 * (n + 1)) (length bytes) → rest ≡ slice f.bytes (64 + at) (size - at) → all_of table bytes rest ≡ slice d.bytes 64 size
@@ -196,7 +196,7 @@ listed_data only honest h n d e f w m from mid to a b z last same v kind there i
       sum = sym (value bytes (ending holds)) ∙ eqb-true v h.dcrc each.1;
       cut = rw kind cut;
       right = right;
-      held = λ known. p.held known ∙ ap (λ (ps : List Part). ps ++ chosen only 0 p.parts) (before known);
+      held = λ known. p.held known ∙ ap (λ (ps : List Part). ps ++ chosen_parts only 0 p.parts) (before known);
     })
     (λ one_fails true_one.
     let at_e = subst (λ (x : Bool). IsTrue x) (sym de.honest) true_one in

@@ -9,7 +9,7 @@ use Rattle.uimg_texts.specs.Times.{time_text}
 use Rattle.uimg_legacy.specs.declared.fault.LegacyFault.TheVariants.{NoTableEnd, PartOutside, NoSuchPart, EmptyPart}
 use Rattle.uimg_texts.specs.Numbers.{be32}
 use Rattle.uimg_texts.specs.Nul.{before_nul, text}
-use Rattle.uimg_legacy.specs.Words.{words}
+use Rattle.uimg_legacy.specs.Words.{whole_words}
 use Rattle.uimg_legacy.specs.Header.{head, has_right_crc, fields, header, spelled_with}
 use Rattle.uimg_legacy.specs.Image.{has_right_data}
 use Rattle.uimg_legacy.specs.Parts.{has_parts, sizes, part_sizes, start, is_outside}
@@ -25,7 +25,7 @@ abbrev three : List ℕ
 three = 0 ∷ 0 ∷ 0 ∷ 3 ∷ 0 ∷ 0 ∷ 0 ∷ 4 ∷ 0 ∷ 0 ∷ 0 ∷ 5 ∷ 0 ∷ 0 ∷ 0 ∷ 0 ∷ 97 ∷ 98 ∷ 99 ∷ 0 ∷ 100 ∷ 101 ∷ 102 ∷ 103 ∷ 104 ∷ 105 ∷ 106 ∷ 107 ∷ 108 ∷ []
 
 pub three_parts : (part_sizes three ≡ Ok (3 ∷ 4 ∷ 5 ∷ [])) × (start (3 ∷ 4 ∷ 5 ∷ []) 0 ≡ 16) × (start (3 ∷ 4 ∷ 5 ∷ []) 1 ≡ 20) × (start (3 ∷ 4 ∷ 5 ∷ []) 2 ≡ 24)
-unfolding part_sizes sizes words be32 start
+unfolding part_sizes sizes whole_words be32 start
 three_parts = (refl, refl, refl, refl)
 
 pub three_listed : (listed_part three (3 ∷ 4 ∷ 5 ∷ []) 1 ≡ Ok (codes "defg")) × (listed_part three (3 ∷ 4 ∷ 5 ∷ []) 2 ≡ Ok (codes "hijkl")) × (listed_part three (3 ∷ 4 ∷ 5 ∷ []) 3 ≡ Err NoSuchPart)
@@ -37,12 +37,12 @@ abbrev outside : List ℕ
 outside = 0 ∷ 0 ∷ 0 ∷ 3 ∷ 0 ∷ 0 ∷ 0 ∷ 100 ∷ 0 ∷ 0 ∷ 0 ∷ 0 ∷ 97 ∷ 98 ∷ 99 ∷ 0 ∷ 100 ∷ []
 
 pub part_outside : (part_sizes outside ≡ Ok (3 ∷ 100 ∷ [])) × (part_lines outside (3 ∷ 100 ∷ []) 2 0 ≡ after (part_line 0 3) (told [] (refused PartOutside)))
-unfolding part_sizes sizes words be32 part_lines is_outside start
+unfolding part_sizes sizes whole_words be32 part_lines is_outside start
 part_outside = (refl, refl)
 
 -- a table without a zero word
 pub no_table_end : part_sizes (0 ∷ 0 ∷ 0 ∷ 3 ∷ []) ≡ Err NoTableEnd
-unfolding part_sizes sizes words be32
+unfolding part_sizes sizes whole_words be32
 no_table_end = refl
 
 -- the 67 bytes of a kernel of `abc`
@@ -66,7 +66,7 @@ abbrev outside_image : List ℕ
 outside_image = 39 ∷ 5 ∷ 25 ∷ 86 ∷ 70 ∷ 56 ∷ 204 ∷ 175 ∷ 0 ∷ 0 ∷ 0 ∷ 0 ∷ 0 ∷ 0 ∷ 0 ∷ 17 ∷ 0 ∷ 0 ∷ 0 ∷ 0 ∷ 0 ∷ 0 ∷ 0 ∷ 0 ∷ 88 ∷ 177 ∷ 193 ∷ 33 ∷ 5 ∷ 7 ∷ 4 ∷ 1 ∷ 0 ∷ 0 ∷ 0 ∷ 0 ∷ 0 ∷ 0 ∷ 0 ∷ 0 ∷ 0 ∷ 0 ∷ 0 ∷ 0 ∷ 0 ∷ 0 ∷ 0 ∷ 0 ∷ 0 ∷ 0 ∷ 0 ∷ 0 ∷ 0 ∷ 0 ∷ 0 ∷ 0 ∷ 0 ∷ 0 ∷ 0 ∷ 0 ∷ 0 ∷ 0 ∷ 0 ∷ 0 ∷ 0 ∷ 0 ∷ 0 ∷ 3 ∷ 0 ∷ 0 ∷ 0 ∷ 100 ∷ 0 ∷ 0 ∷ 0 ∷ 0 ∷ 97 ∷ 98 ∷ 99 ∷ 0 ∷ 100 ∷ []
 
 pub outside_listing : list_of Profile outside_image ≡ after (head_text Profile (fields outside_image)) (after (line (codes "Contents:")) (after (part_line 0 3) (told [] (refused PartOutside))))
-unfolding head has_right_crc has_right_data has_parts part_sizes sizes words be32 start is_outside part_lines crc bits number_of xor_bits polynomial rem_by rem dividend invert_prefix
+unfolding head has_right_crc has_right_data has_parts part_sizes sizes whole_words be32 start is_outside part_lines crc bits number_of xor_bits polynomial rem_by rem dividend invert_prefix
 outside_listing = refl
 
 -- lines of the kernel, and of an image of the first second of 1970

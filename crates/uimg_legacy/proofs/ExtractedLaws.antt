@@ -14,12 +14,12 @@ use Rattle.uimg_legacy.specs.declared.header.Header.{Header}
 use Rattle.uimg_legacy.specs.declared.fault.LegacyFault.{LegacyFault}
 use Rattle.uimg_legacy.specs.declared.fault.LegacyFault.TheVariants.{NoTableEnd, NoSuchPart, Truncated}
 use Rattle.uimg_legacy.specs.declared.fault.Fault.{Fault}
-use Rattle.uimg_legacy.specs.Words.{words}
+use Rattle.uimg_legacy.specs.Words.{whole_words}
 use Rattle.uimg_legacy.specs.Header.{header}
 use Rattle.uimg_legacy.specs.Image.{payload, has_right_data, legacy}
 use Rattle.uimg_legacy.specs.Parts.{has_parts, sizes, part_sizes, start, is_outside}
 use Rattle.uimg_legacy.specs.Extraction.{listed_part, single, part_of_data, extract_of}
-use Rattle.uimg_legacy.specs.Unpacking.{Part, parts_by, parts_in, part_if, is_asked, is_there, chosen, kept_if, data_there, unpacked, unpack_of, UnpacksBetween, ExtractsBetween}
+use Rattle.uimg_legacy.specs.Unpacking.{Part, parts_by, parts_in, part_if, is_part_asked, is_there, chosen_parts, kept_if, data_there, unpacked, unpack_of, UnpacksBetween, ExtractsBetween}
 use Rattle.uimg_legacy.proofs.PartsLaws.{sizes-at, sizes_end}
 use Rattle.uimg_legacy.proofs.ChunkLaws.{sizes-le-words}
 use Rattle.uimg_legacy.proofs.CuttingLaws.{cut_first, positive}
@@ -75,7 +75,7 @@ unless false r fault y e = (refl, e)
 
 table_is : (d table : List ℕ) → part_sizes d ≡ Ok table → sizes d ≡ table
 unfolding part_sizes
-table_is d table e = let found = if_ok (list_any (λ w. w == 0) (words d)) (Ok (sizes d)) NoTableEnd table e in cc
+table_is d table e = let found = if_ok (list_any (λ w. w == 0) (whole_words d)) (Ok (sizes d)) NoTableEnd table e in cc
 
 -- a part by its position
 listed : (d table : List ℕ) (parts : List (List ℕ)) (i : ℕ) → part_sizes d ≡ Ok table → parts_by table (drop (4 * (length table + 1)) d) ≡ Ok parts → i < length table → listed_part d table i ≡ Ok (get_or parts i [])
@@ -109,13 +109,13 @@ part_all : (P : Part → Type 0) (b : Bool) (number : ℕ) (bytes : List ℕ) (r
 part_all P true number bytes rest p all = (p, all)
 part_all P false number bytes rest p all = all
 
-chosen_all : (P : Part → Type 0) (only : Option ℕ) (number : ℕ) (parts : List (List ℕ)) → ((i : ℕ) → i < length parts → P (record { number = number + i; bytes = get_or parts i [] })) → AllByRecursion P (chosen only number parts)
-unfolding chosen
+chosen_all : (P : Part → Type 0) (only : Option ℕ) (number : ℕ) (parts : List (List ℕ)) → ((i : ℕ) → i < length parts → P (record { number = number + i; bytes = get_or parts i [] })) → AllByRecursion P (chosen_parts only number parts)
+unfolding chosen_parts
 chosen_all P only number [] each = tt
 chosen_all P only number (bytes ∷ more) each =
     let here : number + 0 ≡ number = omega arith in
     let first = subst (λ (n : ℕ). P (record { number = n; bytes = bytes })) here (each 0 (omega arith)) in
-    part_all P (is_asked only number) number bytes (chosen only (suc number) more) first
+    part_all P (is_part_asked only number) number bytes (chosen_parts only (suc number) more) first
     (chosen_all P only (suc number) more (λ i h.
     let next : number + suc i ≡ suc number + i = omega arith in
     subst (λ (n : ℕ). P (record { number = n; bytes = get_or more i [] })) next (each (suc i) (omega (arith, h)))))
@@ -147,7 +147,7 @@ are_extracted only image parts e =
     let h = then_ok (header image) _ (Some parts) e in
     let d = then_ok (data_there image h.0) _ (Some parts) h.2 in
     let ps = then_ok (parts_in only (has_parts h.0.kind) d.0) _ (Some parts) d.2 in
-    let kept = kept_cases (crc d.0 == h.0.dcrc) (chosen only 0 ps.0) parts ps.2 in
+    let kept = kept_cases (crc d.0 == h.0.dcrc) (chosen_parts only 0 ps.0) parts ps.2 in
     let there = there_ok image h.0 d.0 d.1 in
     let right : (crc (payload image h.0) == h.0.dcrc) ≡ true = ap (λ (xs : List ℕ). crc xs == h.0.dcrc) there.1 ∙ kept.0 in
     let cut : parts_in only (has_parts h.0.kind) (payload image h.0) ≡ Ok ps.0 = ap (λ (xs : List ℕ). parts_in only (has_parts h.0.kind) xs) there.1 ∙ ps.1 in

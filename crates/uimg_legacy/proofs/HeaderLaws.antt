@@ -12,7 +12,7 @@ use Rattle.uimg_sums.proofs.CrcLaw.{crc_fits}
 use Rattle.uimg_legacy.specs.declared.header.Header.{Header}
 use Rattle.uimg_legacy.specs.declared.fault.LegacyFault.TheVariants.{TooShort, BadMagic}
 use Rattle.uimg_texts.specs.Numbers.{be32}
-use Rattle.uimg_legacy.specs.Header.{magic, head, has_right_crc, without_crc, fields, header, spelled_with, spelled, name_of}
+use Rattle.uimg_legacy.specs.Header.{magic, head, has_right_crc, without_crc, fields, header, spelled_with, spelled, padded_name}
 
 -- a part of a list, and what stands after it
 pub slice-drop : (xs : List ℕ) (at n : ℕ) → drop at xs ≡ slice xs at n ++ drop (at + n) xs
@@ -126,7 +126,7 @@ head-ok image bytes e =
     (both.0, rw both.0 (eqb-true _ _ both.1))
 
 -- a short name before what is left of the zeros
-name_padded : (name field : List ℕ) (n : ℕ) → n ≡ length name → n ≤ 32 → field ≡ take n name → field ++ drop {A = ℕ} n (replicate 32 0) ≡ name_of name
+name_padded : (name field : List ℕ) (n : ℕ) → n ≡ length name → n ≤ 32 → field ≡ take n name → field ++ drop {A = ℕ} n (replicate 32 0) ≡ padded_name name
 name_padded name field n all few cut =
     let zeros : List ℕ = replicate 32 0 in
     let whole : field ≡ name = cut ∙ take_all n name (omega arith) in
@@ -137,7 +137,7 @@ name_padded name field n all few cut =
     rw (whole, left, sym prefix, sym fill, count) refl
 
 -- a cut name before what is left of the zeros
-pub name_cut : (name field : List ℕ) (n : ℕ) → n ≡ min (length name) 32 → field ≡ take n name → field ++ drop n (replicate 32 0) ≡ name_of name
+pub name_cut : (name field : List ℕ) (n : ℕ) → n ≡ min (length name) 32 → field ≡ take n name → field ++ drop n (replicate 32 0) ≡ padded_name name
 name_cut name field n few cut = elim (cases_lt (length name) 32) [
   | inl short ↦ name_padded name field n (omega arith) (omega arith) cut
   | inr long ↦

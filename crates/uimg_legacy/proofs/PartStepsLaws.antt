@@ -12,7 +12,7 @@ use Rattle.uimg_base.specs.Ranges.{Copies}
 use Rattle.uimg_base.specs.declared.source.SourceFault.{SourceFault}
 use Rattle.uimg_legacy.specs.declared.fault.Fault.{Fault}
 use Rattle.uimg_legacy.specs.Devices.{AreHonest, UsesAll, bytes_of}
-use Rattle.uimg_legacy.specs.PartSteps.{FeedsBetween, PutsBetween, numbered}
+use Rattle.uimg_legacy.specs.PartSteps.{FeedsBetween, PutsPartsBetween, numbered}
 use Rattle.uimg_legacy.specs.Faults.{is_read, is_put, is_refused}
 use Rattle.uimg_legacy.proofs.DevicesLaws.{bytes_at, honest_at, uses_after}
 
@@ -31,9 +31,9 @@ feeds_after r device holds xs i x z s t within uses fed = record {
 }
 
 -- a step that writes, by what it did
-pub puts_by : {X P : Type 0} {sure : List Device → Type 0} {text : List (List ℕ) → List ℕ} {r : Result X Fault} {device : P → Device} {old new : List P} {s t : Sink} → UsesAll (is_read r) (map device old) (map device new) → RisesIf (is_put r) s.faults t.faults → is_refused r ≡ false → (sure (map device old) → Written (is_err r) s t (text (bytes_of (map device old)))) → PutsBetween sure text r device old new s t
+pub puts_by : {X P : Type 0} {sure : List Device → Type 0} {text : List (List ℕ) → List ℕ} {r : Result X Fault} {device : P → Device} {old new : List P} {s t : Sink} → UsesAll (is_read r) (map device old) (map device new) → RisesIf (is_put r) s.faults t.faults → is_refused r ≡ false → (sure (map device old) → Written (is_err r) s t (text (bytes_of (map device old)))) → PutsPartsBetween sure text r device old new s t
 puts_by uses faults accepted written = record { uses = uses; faults = faults; accepted = accepted; written = written }
 
-pub puts_after : {X P : Type 0} (r : Result X Fault) (device : P → Device) (xs : List P) (i : ℕ) (x z : P) (s t : Sink) → i < length xs → Uses (is_read r) (device (get_or xs i x)) (device z) → RisesIf (is_put r) s.faults t.faults → is_refused r ≡ false → (IsTrue (device (get_or xs i x)).honest → Written (is_err r) s t (device (get_or xs i x)).bytes) → PutsBetween AreHonest (numbered i) r device xs (set xs i z) s t
+pub puts_after : {X P : Type 0} (r : Result X Fault) (device : P → Device) (xs : List P) (i : ℕ) (x z : P) (s t : Sink) → i < length xs → Uses (is_read r) (device (get_or xs i x)) (device z) → RisesIf (is_put r) s.faults t.faults → is_refused r ≡ false → (IsTrue (device (get_or xs i x)).honest → Written (is_err r) s t (device (get_or xs i x)).bytes) → PutsPartsBetween AreHonest (numbered i) r device xs (set xs i z) s t
 puts_after r device xs i x z s t within uses faults accepted written =
     puts_by (uses_after device (is_read r) xs i x z within uses.same uses.failures) faults accepted (λ honest. rw (bytes_at device xs i x within) (written (honest_at device xs i x within honest)))

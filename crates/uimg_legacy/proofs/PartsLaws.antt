@@ -13,13 +13,13 @@ use Rattle.uimg_texts.specs.Slices.{slice}
 use Rattle.uimg_base.proofs.Slices.{length-slice}
 use Rattle.uimg_legacy.specs.declared.fault.LegacyFault.TheVariants.{NoTableEnd, PartOutside, NoSuchPart}
 use Rattle.uimg_texts.specs.Numbers.{be32, up4}
-use Rattle.uimg_legacy.specs.Words.{words}
+use Rattle.uimg_legacy.specs.Words.{whole_words}
 use Rattle.uimg_legacy.specs.Parts.{sizes, part_sizes, start, is_outside}
 use Rattle.uimg_legacy.specs.Extraction.{listed_part}
 
 -- word i is the number at its place
-pub words-at : (d : List ℕ) (i : ℕ) → 4 * i + 4 ≤ length d → get_or (words d) i 0 ≡ be32 d (4 * i)
-unfolding words be32
+pub words-at : (d : List ℕ) (i : ℕ) → 4 * i + 4 ≤ length d → get_or (whole_words d) i 0 ≡ be32 d (4 * i)
+unfolding whole_words be32
 words-at [] i h = absurd (omega arith)
 words-at (a ∷ []) i h = absurd (omega arith)
 words-at (a ∷ b ∷ []) i h = absurd (omega arith)
@@ -30,8 +30,8 @@ words-at (a ∷ b ∷ c ∷ d ∷ rest) (suc i) h =
     words-at rest i (omega arith) ∙ ap (λ (n : ℕ). be32 (a ∷ b ∷ c ∷ d ∷ rest) n) e
 
 -- there are as many words as fit
-pub length-words : (d : List ℕ) → (4 * length (words d) ≤ length d) × (length d < 4 * length (words d) + 4)
-unfolding words
+pub length-words : (d : List ℕ) → (4 * length (whole_words d) ≤ length d) × (length d < 4 * length (whole_words d) + 4)
+unfolding whole_words
 length-words [] = (omega arith, omega arith)
 length-words (a ∷ []) = (omega arith, omega arith)
 length-words (a ∷ b ∷ []) = (omega arith, omega arith)
@@ -46,7 +46,7 @@ slice-slice xs at n from m h =
     ap (λ (w : List ℕ). take m w) back ∙ take-take m (n - from) (drop from (drop at xs)) (omega arith) ∙ ap (λ (w : List ℕ). take m w) (drop-drop from at xs)
 
 -- word i of the data, in the image
-pub payload_word : (image : List ℕ) (size i : ℕ) → 64 + size ≤ length image → 4 * i + 4 ≤ size → get_or (words (slice image 64 size)) i 0 ≡ be32 image (64 + 4 * i)
+pub payload_word : (image : List ℕ) (size i : ℕ) → 64 + size ≤ length image → 4 * i + 4 ≤ size → get_or (whole_words (slice image 64 size)) i 0 ≡ be32 image (64 + 4 * i)
 unfolding be32
 payload_word image size i inside h =
     words-at (slice image 64 size) i (omega (arith, length-slice image 64 size inside))
@@ -89,49 +89,49 @@ not_zero zero h = absurd (h refl)
 not_zero (suc w) h = ap not (eqb-suc-zero w)
 
 -- as many sizes as words before the first zero word
-pub length-sizes : (d : List ℕ) → length (sizes d) ≡ prefix_len (λ w. not (w == 0)) (words d)
+pub length-sizes : (d : List ℕ) → length (sizes d) ≡ prefix_len (λ w. not (w == 0)) (whole_words d)
 unfolding sizes
-length-sizes d = let h = prefix_len-le-length (λ w. not (w == 0)) (words d) in simp length-take (omega arith)
+length-sizes d = let h = prefix_len-le-length (λ w. not (w == 0)) (whole_words d) in simp length-take (omega arith)
 
 -- a word that is not zero is one more size
-pub sizes_more : (d : List ℕ) (i : ℕ) → i ≤ length (sizes d) → i < length (words d) → get_or (words d) i 0 ≢ 0 → i + 1 ≤ length (sizes d)
+pub sizes_more : (d : List ℕ) (i : ℕ) → i ≤ length (sizes d) → i < length (whole_words d) → get_or (whole_words d) i 0 ≢ 0 → i + 1 ≤ length (sizes d)
 sizes_more d i h l word =
     let len = length-sizes d in
-    let test : not (get_or (words d) i 0 == 0) ≡ true = not_zero _ word in
-    let more : suc i ≤ prefix_len (λ w. not (w == 0)) (words d) = prefix_more (λ w. not (w == 0)) (words d) i (omega arith) l test in
+    let test : not (get_or (whole_words d) i 0 == 0) ≡ true = not_zero _ word in
+    let more : suc i ≤ prefix_len (λ w. not (w == 0)) (whole_words d) = prefix_more (λ w. not (w == 0)) (whole_words d) i (omega arith) l test in
     omega arith
 
 -- the sizes end at a zero word
-pub sizes_end : (d : List ℕ) (i : ℕ) → i ≤ length (sizes d) → i < length (words d) → get_or (words d) i 0 ≡ 0 → i ≡ length (sizes d)
+pub sizes_end : (d : List ℕ) (i : ℕ) → i ≤ length (sizes d) → i < length (whole_words d) → get_or (whole_words d) i 0 ≡ 0 → i ≡ length (sizes d)
 sizes_end d i h l word =
     let len = length-sizes d in
-    let test : not (get_or (words d) i 0 == 0) ≡ false = rw word refl in
-    let end : prefix_len (λ w. not (w == 0)) (words d) ≡ i = prefix_end (λ w. not (w == 0)) (words d) i (omega arith) l test in
+    let test : not (get_or (whole_words d) i 0 == 0) ≡ false = rw word refl in
+    let end : prefix_len (λ w. not (w == 0)) (whole_words d) ≡ i = prefix_end (λ w. not (w == 0)) (whole_words d) i (omega arith) l test in
     omega arith
 
 -- a word is zero where there are fewer sizes than words
-pub parts_some : (d : List ℕ) → length (sizes d) < length (words d) → part_sizes d ≡ Ok (sizes d)
+pub parts_some : (d : List ℕ) → length (sizes d) < length (whole_words d) → part_sizes d ≡ Ok (sizes d)
 unfolding part_sizes
 parts_some d h =
     let p = λ (w : ℕ). not (w == 0) in
-    let i = prefix_len p (words d) in
+    let i = prefix_len p (whole_words d) in
     let len = length-sizes d in
-    let stop : not (get_or (words d) i 0 == 0) ≡ false = prefix_len_stops p (words d) 0 (omega arith) in
-    let some : list_any (λ w. w == 0) (words d) ≡ true = list_any_at (λ w. w == 0) (words d) i 0 (omega arith) (not-false _ stop) in
+    let stop : not (get_or (whole_words d) i 0 == 0) ≡ false = prefix_len_stops p (whole_words d) 0 (omega arith) in
+    let some : list_any (λ w. w == 0) (whole_words d) ≡ true = list_any_at (λ w. w == 0) (whole_words d) i 0 (omega arith) (not-false _ stop) in
     rw some refl
 
 -- no word is zero
-pub parts_none : (d : List ℕ) → length (words d) ≤ length (sizes d) → part_sizes d ≡ Err NoTableEnd
+pub parts_none : (d : List ℕ) → length (whole_words d) ≤ length (sizes d) → part_sizes d ≡ Err NoTableEnd
 unfolding part_sizes
 parts_none d h =
     let len = length-sizes d in
-    let none : list_any (λ w. w == 0) (words d) ≡ false = any_none (λ w. w == 0) (words d) (omega arith) in
+    let none : list_any (λ w. w == 0) (whole_words d) ≡ false = any_none (λ w. w == 0) (whole_words d) (omega arith) in
     rw none refl
 
 -- a size is the word at its place
-pub sizes-at : (d : List ℕ) (i : ℕ) → i < length (sizes d) → get_or (sizes d) i 0 ≡ get_or (words d) i 0
+pub sizes-at : (d : List ℕ) (i : ℕ) → i < length (sizes d) → get_or (sizes d) i 0 ≡ get_or (whole_words d) i 0
 unfolding sizes
-sizes-at d i h = let len = length-sizes d in get_or-take _ (words d) i 0 (omega arith)
+sizes-at d i h = let len = length-sizes d in get_or-take _ (whole_words d) i 0 (omega arith)
 
 -- where the parts start
 pub start_first : (table : List ℕ) → start table 0 ≡ 4 * (length table + 1)
@@ -155,7 +155,7 @@ up4_bound n h = omega arith
 pub table_words : (image : List ℕ) (size : ℕ) → 64 + size ≤ length image → (i : ℕ) → i < length (sizes (slice image 64 size)) → get_or (sizes (slice image 64 size)) i 0 ≡ be32 image (64 + 4 * i)
 table_words image size inside i h =
     let len = length-sizes (slice image 64 size) in
-    let most = prefix_len-le-length (λ w. not (w == 0)) (words (slice image 64 size)) in
+    let most = prefix_len-le-length (λ w. not (w == 0)) (whole_words (slice image 64 size)) in
     let few = length-words (slice image 64 size) in
     sizes-at (slice image 64 size) i h
     ∙ payload_word image size i inside (omega (arith, few.0, length-slice image 64 size inside))

@@ -5,7 +5,7 @@ use Rattle.std.specs.List.{flat_map, list_any, before_first}
 use Rattle.std.proofs.lemmas.Nat.{from_be_bytes-to_be_bytes_4}
 use Rattle.std.proofs.lemmas.Bool.{or_parts}
 use Rattle.uimg_texts.specs.Numbers.{be32}
-use Rattle.uimg_legacy.specs.Words.{words}
+use Rattle.uimg_legacy.specs.Words.{whole_words}
 use Rattle.uimg_legacy.specs.Parts.{sizes, part_sizes}
 use Rattle.uimg_legacy.specs.Building.{padding, joined, size_table, has_empty}
 use Rattle.uimg_legacy.proofs.PartsLaws.{parts_some}
@@ -15,9 +15,9 @@ abbrev pub size_words : List (List ℕ) → List ℕ
 size_words ps = flat_map (λ part. to_be_bytes w32 (length part)) ps
 
 -- a word before other bytes
-words-word : (n : ℕ) (rest : List ℕ) → n < 2 ^ 32 → words (to_be_bytes w32 n ++ rest) ≡ n ∷ words rest
-unfolding words be32
-words-word n rest h = ap (λ (m : ℕ). m ∷ words rest) (from_be_bytes-to_be_bytes_4 n h)
+words-word : (n : ℕ) (rest : List ℕ) → n < 2 ^ 32 → whole_words (to_be_bytes w32 n ++ rest) ≡ n ∷ whole_words rest
+unfolding whole_words be32
+words-word n rest h = ap (λ (m : ℕ). m ∷ whole_words rest) (from_be_bytes-to_be_bytes_4 n h)
 
 -- the first part is no longer than the whole, and nor are the others together
 pub joined_first : (p q : List ℕ) (more : List (List ℕ)) → (length p ≤ length (joined (p ∷ q ∷ more))) × (length (joined (q ∷ more)) ≤ length (joined (p ∷ q ∷ more)))
@@ -29,7 +29,7 @@ joined_first p q more =
     (omega (arith, all, prefix), omega (arith, all, prefix))
 
 -- the words of the sizes of parts that are short together
-words-sizes : (ps : List (List ℕ)) (rest : List ℕ) → length (joined ps) < 2 ^ 32 → words (size_words ps ++ rest) ≡ map length ps ++ words rest
+words-sizes : (ps : List (List ℕ)) (rest : List ℕ) → length (joined ps) < 2 ^ 32 → whole_words (size_words ps ++ rest) ≡ map length ps ++ whole_words rest
 unfolding joined
 words-sizes [] rest h = refl
 words-sizes (p ∷ []) rest h = words-word (length p) rest h
@@ -39,10 +39,10 @@ words-sizes (p ∷ q ∷ more) rest h =
     ∙ ap (λ (ws : List ℕ). length p ∷ ws) (words-sizes (q ∷ more) rest (omega (arith, few.1)))
 
 -- the words of the whole table and of what stands after it
-pub words-table : (ps : List (List ℕ)) (rest : List ℕ) → length (joined ps) < 2 ^ 32 → words (size_table ps ++ rest) ≡ map length ps ++ (0 ∷ words rest)
+pub words-table : (ps : List (List ℕ)) (rest : List ℕ) → length (joined ps) < 2 ^ 32 → whole_words (size_table ps ++ rest) ≡ map length ps ++ (0 ∷ whole_words rest)
 unfolding size_table
 words-table ps rest h =
-    ap (λ (w : List ℕ). words w) (append_assoc (size_words ps) (to_be_bytes w32 0) rest)
+    ap (λ (w : List ℕ). whole_words w) (append_assoc (size_words ps) (to_be_bytes w32 0) rest)
     ∙ words-sizes ps (to_be_bytes w32 0 ++ rest) h
     ∙ ap (λ (ws : List ℕ). map length ps ++ ws) (words-word 0 rest (omega arith))
 
@@ -68,9 +68,9 @@ unfolding sizes
 parts-table ps rest none h =
     let d = size_table ps ++ rest in
     let all = words-table ps rest h in
-    let same : sizes d ≡ map length ps = rw all (before_first-append (λ w. w == 0) (map length ps) 0 (words rest) (lengths_above ps none) refl) in
+    let same : sizes d ≡ map length ps = rw all (before_first-append (λ w. w == 0) (map length ps) 0 (whole_words rest) (lengths_above ps none) refl) in
     let prefix = ap (λ (w : List ℕ). length w) same in
-    let whole = ap (λ (w : List ℕ). length w) all ∙ length-append (map length ps) (0 ∷ words rest) in
+    let whole = ap (λ (w : List ℕ). length w) all ∙ length-append (map length ps) (0 ∷ whole_words rest) in
     parts_some d (omega (arith, prefix, whole)) ∙ ap (λ (w : List ℕ). Ok w) same
 
 -- four bytes for each part

@@ -13,7 +13,7 @@ use Rattle.uimg_legacy.specs.Header.{header, spelled, spelled_with}
 use Rattle.uimg_legacy.specs.Image.{payload}
 use Rattle.uimg_legacy.specs.Parts.{has_parts}
 use Rattle.uimg_legacy.specs.Work.{data_read, sizes_read_with}
-use Rattle.uimg_legacy.specs.Unpacking.{Part, chosen, parts_in, data_there, unpacked, unpack_of, AreRight, UnpacksBetween, KeepsRightBetween}
+use Rattle.uimg_legacy.specs.Unpacking.{Part, chosen_parts, parts_in, data_there, unpacked, unpack_of, AreRight, UnpacksBetween, KeepsRightBetween}
 use Rattle.uimg_legacy.specs.UnpackingSteps.{TakesDataBetween, SettlesBetween, unpack_work}
 use Rattle.uimg_legacy.proofs.HeaderLaws.{fields-spelled, header-spelled, length-spelled}
 use Rattle.uimg_legacy.proofs.ReadsBackLaw.{head-append, header_from}
@@ -45,13 +45,13 @@ unpack_truncated only image h read short =
     rw (read, cut) refl
 
 -- data whose sum is right
-right_data : (only : Option ℕ) (h : Header) (bytes : List ℕ) (parts : List (List ℕ)) → crc bytes ≡ h.dcrc → parts_in only (has_parts h.kind) bytes ≡ Ok parts → unpacked only h bytes ≡ Ok (Some (chosen only 0 parts))
+right_data : (only : Option ℕ) (h : Header) (bytes : List ℕ) (parts : List (List ℕ)) → crc bytes ≡ h.dcrc → parts_in only (has_parts h.kind) bytes ≡ Ok parts → unpacked only h bytes ≡ Ok (Some (chosen_parts only 0 parts))
 right_data only h bytes parts sum cut =
     let right : (crc bytes == h.dcrc) ≡ true = eq-eqb _ _ sum in
     rw (cut, right) refl
 
 -- the image of a header and such data
-pub image_of : (only : Option ℕ) (h : Header) (bytes : List ℕ) (parts : List (List ℕ)) → IsSpelled h → length bytes ≡ h.size → crc bytes ≡ h.dcrc → parts_in only (has_parts h.kind) bytes ≡ Ok parts → (header (spelled h ++ bytes) ≡ Ok h) × (unpack_of only (spelled h ++ bytes) ≡ Ok (Some (chosen only 0 parts)))
+pub image_of : (only : Option ℕ) (h : Header) (bytes : List ℕ) (parts : List (List ℕ)) → IsSpelled h → length bytes ≡ h.size → crc bytes ≡ h.dcrc → parts_in only (has_parts h.kind) bytes ≡ Ok parts → (header (spelled h ++ bytes) ≡ Ok h) × (unpack_of only (spelled h ++ bytes) ≡ Ok (Some (chosen_parts only 0 parts)))
 image_of only h bytes parts is long sum cut =
     let read : header (spelled h ++ bytes) ≡ Ok h = ap (λ (r : Result (List ℕ) LegacyFault). header_from r) (head-append (spelled h) bytes is.long) ∙ is.read in
     let all = length-append (spelled h) bytes in
@@ -68,7 +68,7 @@ are_right only honest h d true from to is known none p yes_right =
       h = h;
       read = image.0;
       sum = refl;
-      told = image.1 ∙ ap (λ (ps : List Part). Ok (Some ps)) (sym (p.held known ∙ ap (λ (ps : List Part). ps ++ chosen only 0 p.parts) none));
+      told = image.1 ∙ ap (λ (ps : List Part). Ok (Some ps)) (sym (p.held known ∙ ap (λ (ps : List Part). ps ++ chosen_parts only 0 p.parts) none));
     }
 are_right only honest h d false from to is known none p yes_right = absurd (true≢false (sym yes_right))
 
@@ -76,10 +76,10 @@ are_right only honest h d false from to is known none p yes_right = absurd (true
 pub keeps_right : {E : Type 0} (made : Result Bool E) (only : Option ℕ) (honest : Bool) (h : Header) (d : Device) (right kept : Bool) (from to old mid new : List Part) → IsSpelled h → IsTrue honest → from ≡ [] → TakesDataBetween only honest h d (Ok right) from to → mid ≡ old → SettlesBetween {E = E} right (Ok kept) to mid new → KeepsRightBetween only (Ok kept) old new
 keeps_right made only honest h d true kept from to old mid new is known none p before s =
     let image = image_of only h p.bytes p.parts is p.long p.sum p.cut in
-    let held : to ≡ chosen only 0 p.parts = p.held known ∙ ap (λ (ps : List Part). ps ++ chosen only 0 p.parts) none in
+    let held : to ≡ chosen_parts only 0 p.parts = p.held known ∙ ap (λ (ps : List Part). ps ++ chosen_parts only 0 p.parts) none in
     subst (λ (b : Bool). KeepsRightBetween only (Ok b) old new) (sym s.0) (record {
       image = spelled h ++ p.bytes;
-      keeps = record { parts = chosen only 0 p.parts; is = image.1; kept = s.1 ∙ ap (λ (ps : List Part). ps ++ to) before ∙ ap (λ (ps : List Part). old ++ ps) held };
+      keeps = record { parts = chosen_parts only 0 p.parts; is = image.1; kept = s.1 ∙ ap (λ (ps : List Part). ps ++ to) before ∙ ap (λ (ps : List Part). old ++ ps) held };
     })
 keeps_right made only honest h d false kept from to old mid new is known none p before s =
     subst (λ (b : Bool). KeepsRightBetween only (Ok b) old new) (sym s.0) (s.1 ∙ before)
@@ -89,9 +89,9 @@ pub unpacks : {E : Type 0} (made : Result Bool E) (only : Option ℕ) (honest : 
 unpacks made only honest h d e true kept from to old mid new same true_one read inside known none p before s =
     let at_e = subst (λ (b : Bool). IsTrue b) (sym same.honest) true_one in
     let body : p.bytes ≡ payload d.bytes h = p.right at_e ∙ ap (λ (xs : List ℕ). payload xs h) same.bytes in
-    let held : to ≡ chosen only 0 p.parts = p.held known ∙ ap (λ (ps : List Part). ps ++ chosen only 0 p.parts) none in
+    let held : to ≡ chosen_parts only 0 p.parts = p.held known ∙ ap (λ (ps : List Part). ps ++ chosen_parts only 0 p.parts) none in
     subst (λ (b : Bool). UnpacksBetween (Ok b) (unpack_of only d.bytes) old new) (sym s.0) (record {
-      parts = chosen only 0 p.parts;
+      parts = chosen_parts only 0 p.parts;
       is = unpack_known only d.bytes h read inside ∙ ap (λ (xs : List ℕ). unpacked only h xs) (sym body) ∙ right_data only h p.bytes p.parts p.sum p.cut;
       kept = s.1 ∙ ap (λ (ps : List Part). ps ++ to) before ∙ ap (λ (ps : List Part). old ++ ps) held;
     })

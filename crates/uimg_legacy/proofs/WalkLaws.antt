@@ -14,9 +14,9 @@ use Rattle.uimg_legacy.specs.declared.fault.LegacyFault.{LegacyFault}
 use Rattle.uimg_legacy.specs.declared.fault.LegacyFault.TheVariants as of
 use Rattle.uimg_legacy.specs.declared.fault.Fault.{Fault}
 use Rattle.uimg_legacy.specs.declared.fault.Fault.TheVariants.{Legacy, Read, Put}
-use Rattle.uimg_legacy.specs.Words.{words}
+use Rattle.uimg_legacy.specs.Words.{whole_words}
 use Rattle.uimg_legacy.specs.Parts.{sizes}
-use Rattle.uimg_legacy.specs.Unpacking.{Part, part_if, is_asked, chosen, parts_by}
+use Rattle.uimg_legacy.specs.Unpacking.{Part, part_if, is_part_asked, chosen_parts, parts_by}
 use Rattle.uimg_legacy.specs.UnpackingSteps.{TakesNextBetween, Walked, RefusesNext, RefusesBy}
 use Rattle.uimg_legacy.proofs.PartsLaws.{slice-slice, length-sizes, table_words, sizes-at, sizes_end}
 use Rattle.uimg_legacy.proofs.ChunkLaws.{words-slice, sizes-le-words}
@@ -24,7 +24,7 @@ use Rattle.uimg_legacy.proofs.CuttingLaws.{cut_none, cut_more, cut_outside, chos
 
 -- none were taken
 pub walked_none : (only : Option ℕ) (honest : Bool) (size : ℕ) (d : Device) (w : Walk) (from : List Part) → w.at ≤ size → Walked only honest 0 size d w w from from
-unfolding words
+unfolding whole_words
 walked_none only honest size d w from inside = record {
   table = [];
   bytes = [];
@@ -48,20 +48,20 @@ walked_more only honest n size d e w m x from mid to same p q =
     let s = be32 q.word 0 in
     let piece = q.taken.sums.piece in
     let some = positive s q.some in
-    let sized : words (p.table ++ q.word) ≡ words p.table ++ s ∷ [] = words_then p.table q.word n p.long ∙ ap (λ (ws : List ℕ). words p.table ++ ws) (word_of q.word q.long) in
-    let sum = sum_by_push up4 (words p.table) s in
+    let sized : whole_words (p.table ++ q.word) ≡ whole_words p.table ++ s ∷ [] = words_then p.table q.word n p.long ∙ ap (λ (ws : List ℕ). whole_words p.table ++ ws) (word_of q.word q.long) in
+    let sum = sum_by_push up4 (whole_words p.table) s in
     let both = length-append p.bytes piece in
-    let whole : length p.bytes ≡ sum_by up4 (words p.table) = omega (arith, p.place, p.ends, q.fits, some) in
+    let whole : length p.bytes ≡ sum_by up4 (whole_words p.table) = omega (arith, p.place, p.ends, q.fits, some) in
     let fits : s ≤ length piece = omega (arith, q.taken.sums.size, q.place, q.fits) in
     record {
       table = p.table ++ q.word;
       bytes = p.bytes ++ piece;
       parts = p.parts ++ take s piece ∷ [];
       long = length-append p.table q.word ∙ omega (arith, p.long, q.long);
-      some = rw sized (some_more (words p.table) s p.some q.some);
+      some = rw sized (some_more (whole_words p.table) s p.some q.some);
       place = omega (arith, both, p.place, q.taken.sums.size, q.place, q.fits);
       ends = rw (sized, sum) (omega (arith, whole, p.place, q.place));
-      cut = rw sized (cut_more (words p.table) p.bytes p.parts s piece p.cut whole fits);
+      cut = rw sized (cut_more (whole_words p.table) p.bytes p.parts s piece p.cut whole fits);
       number = length-append p.parts (take s piece ∷ []) ∙ omega (arith, p.number);
       sizes = λ fed holds. subst (λ (xs : List ℕ). Holds x.sizes xs) (append_assoc fed p.table q.word) (q.sizes (fed ++ p.table) (p.sizes fed holds));
       summed = λ fed holds. subst (λ (xs : List ℕ). Holds x.sum xs) (append_assoc fed p.bytes piece) (q.taken.sums.summed (fed ++ p.bytes) (p.summed fed holds));
@@ -77,23 +77,23 @@ walked_more only honest n size d e w m x from mid to same p q =
           ap (λ (xs : List ℕ). xs ++ piece) (p.right true_one) ∙ ap (λ (xs : List ℕ). slice d.bytes (64 + w.at) (length p.bytes) ++ xs) next ∙ sym (slice-add d.bytes (64 + w.at) (length p.bytes) (length piece)) ∙ ap (λ (k : ℕ). slice d.bytes (64 + w.at) k) (sym both);
       held = λ known.
           let number : 0 + length p.parts ≡ n = omega (arith, p.number) in
-          let last : chosen only 0 (p.parts ++ take s piece ∷ []) ≡ chosen only 0 p.parts ++ part_if (is_asked only n) n (take s piece) = chosen_more only 0 p.parts (take s piece) ∙ ap (λ (k : ℕ). chosen only 0 p.parts ++ part_if (is_asked only k) k (take s piece)) number in
-          q.taken.held known ∙ ap (λ (ps : List Part). ps ++ part_if (is_asked only n) n (take s piece)) (p.held known)
-          ∙ append_assoc from (chosen only 0 p.parts) (part_if (is_asked only n) n (take s piece)) ∙ ap (λ (ps : List Part). from ++ ps) (sym last);
+          let last : chosen_parts only 0 (p.parts ++ take s piece ∷ []) ≡ chosen_parts only 0 p.parts ++ part_if (is_part_asked only n) n (take s piece) = chosen_more only 0 p.parts (take s piece) ∙ ap (λ (k : ℕ). chosen_parts only 0 p.parts ++ part_if (is_part_asked only k) k (take s piece)) number in
+          q.taken.held known ∙ ap (λ (ps : List Part). ps ++ part_if (is_part_asked only n) n (take s piece)) (p.held known)
+          ∙ append_assoc from (chosen_parts only 0 p.parts) (part_if (is_part_asked only n) n (take s piece)) ∙ ap (λ (ps : List Part). from ++ ps) (sym last);
     }
 
 -- the first sizes of an honest device are the words that were read, and then stands the next one
-sizes_split : (image table : List ℕ) (size n : ℕ) → 64 + size ≤ length image → 4 * (n + 1) ≤ size → n < length (sizes (slice image 64 size)) → table ≡ slice image 64 (4 * n) → (more : List ℕ) × (sizes (slice image 64 size) ≡ words table ++ be32 image (64 + 4 * n) ∷ more)
+sizes_split : (image table : List ℕ) (size n : ℕ) → 64 + size ≤ length image → 4 * (n + 1) ≤ size → n < length (sizes (slice image 64 size)) → table ≡ slice image 64 (4 * n) → (more : List ℕ) × (sizes (slice image 64 size) ≡ whole_words table ++ be32 image (64 + 4 * n) ∷ more)
 unfolding sizes
 sizes_split image table size n inside fits there e =
     let d = slice image 64 size in
     let len = length-sizes d in
-    let first : take n (sizes d) ≡ words table = take-take n _ (words d) (omega (arith, len, there)) ∙ sym (words-slice d 0 n) ∙ ap words (slice-slice image 64 size 0 (4 * n) (omega (arith, fits)) ∙ sym e) in
+    let first : take n (sizes d) ≡ whole_words table = take-take n _ (whole_words d) (omega (arith, len, there)) ∙ sym (words-slice d 0 n) ∙ ap whole_words (slice-slice image 64 size 0 (4 * n) (omega (arith, fits)) ∙ sym e) in
     let next : suc n ≡ n + 1 = omega arith in
     let here : get_or (sizes d) n 0 ≡ be32 image (64 + 4 * n) = table_words image size inside n there in (
       drop (n + 1) (sizes d),
       sym (take-append-drop n (sizes d)) ∙ ap (λ (ws : List ℕ). ws ++ drop n (sizes d)) first
-          ∙ ap (λ (ws : List ℕ). words table ++ ws) (drop-cons (sizes d) n 0 there ∙ ap (λ (w : ℕ). w ∷ drop (suc n) (sizes d)) here ∙ ap (λ (k : ℕ). be32 image (64 + 4 * n) ∷ drop k (sizes d)) next),
+          ∙ ap (λ (ws : List ℕ). whole_words table ++ ws) (drop-cons (sizes d) n 0 there ∙ ap (λ (w : ℕ). w ∷ drop (suc n) (sizes d)) here ∙ ap (λ (k : ℕ). be32 image (64 + 4 * n) ∷ drop k (sizes d)) next),
     )
 
 -- by the fault
@@ -121,7 +121,7 @@ refused_next {X} only honest n count size d e w m from mid r fault is same true_
     let bytes = slice d.bytes (64 + w.at) (size - w.at) in
     let len : length bytes ≡ size - w.at = length-slice d.bytes (64 + w.at) (size - w.at) (omega (arith, inside, start, fits)) in
     subst (λ (x : Result X Fault). RefusesBy (parts_by (sizes file) bytes) x) (sym is)
-    (by_fault X fault m.at size s _ refused (λ far. rw split.1 (cut_outside (words p.table) s split.0 bytes (omega (arith, far, p.ends)) (omega (arith, far, p.ends, len))))
+    (by_fault X fault m.at size s _ refused (λ far. rw split.1 (cut_outside (whole_words p.table) s split.0 bytes (omega (arith, far, p.ends)) (omega (arith, far, p.ends, len))))
     (λ none.
     let few = sizes-le-words file in
     let most = table_words d.bytes size inside n (omega (arith, there, counts)) in

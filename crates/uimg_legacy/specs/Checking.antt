@@ -26,12 +26,12 @@ abbrev pub Checks : List ℕ → Result Bool Fault → Type 0
 Checks image result = Gives (λ right. right) result (checked image)
 
 -- the end of a report with this result
-abbrev pub end_of : Result Bool Fault → Option (End LegacyFault)
-end_of (Ok true) = Some done
-end_of (Ok false) = Some not_right
-end_of (Err (Legacy fault)) = Some (refused fault)
-end_of (Err _) = None
+abbrev pub check_end : Result Bool Fault → Option (End LegacyFault)
+check_end (Ok true) = Some done
+check_end (Ok false) = Some not_right
+check_end (Err (Legacy fault)) = Some (refused fault)
+check_end (Err _) = None
 
 -- The result is the end of the report, unless a device failed.
 abbrev pub ChecksAs : List ℕ → Result Bool Fault → Type 0
-ChecksAs image result = IfSome (end_of result) (λ end. (verify_of image).end ≡ end)
+ChecksAs image result = IfSome (check_end result) (λ end. (verify_of image).end ≡ end)

@@ -67,5 +67,5 @@ abbrev pub spelled : Header → List ℕ
 spelled h = spelled_with (crc (spelled_with 0 h)) h
 
 -- a name, cut or padded with zeros to 32 bytes
-abbrev pub name_of : List ℕ → List ℕ
-name_of name = take 32 (name ++ replicate 32 0)
+abbrev pub padded_name : List ℕ → List ℕ
+padded_name name = take 32 (name ++ replicate 32 0)

@@ -4,10 +4,10 @@ use Rattle.uimg_legacy.specs.declared.unpacking.mem_parts.MemPart.{MemPart}
 use Rattle.uimg_legacy.specs.Unpacking.{Part}
 
 -- a part as its number and its bytes
-abbrev pub part_at : {A : Type 0} → MemPart A → Part
-part_at part = record { number = part.number; bytes = part.bytes.items }
+abbrev pub mem_part : {A : Type 0} → MemPart A → Part
+mem_part part = record { number = part.number; bytes = part.bytes.items }
 
 -- the parts if a test holds, else none
 abbrev pub parts_if : {A : Type 0} → Bool → List (MemPart A) → List Part
-parts_if true parts = map part_at parts
+parts_if true parts = map mem_part parts
 parts_if false parts = []

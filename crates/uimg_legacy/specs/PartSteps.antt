@@ -32,15 +32,16 @@ abbrev pub Learns : {X P : Type 0} → (List (List ℕ) → X → Type 0) → Re
 Learns fact result device parts = LearnsBetween fact result device parts.entry.now parts.exit.now
 
 -- A step that reads the parts. Over honest parts its result is about their bytes.
-pub record FindsBetween {X P : Type 0} (fact : List (List ℕ) → X → Type 0)
+pub record FindsInPartsBetween {X P : Type 0} (fact : List (List ℕ) → X → Type 0)
     (result : Result X SourceFault) (device : P → Device) (old new : List P) : Type 0 where
   pub uses : UsesAll (is_err result) (map device old) (map device new)
   pub answer : AreHonest (map device old) → IfOk result (fact (bytes_of (map device old)))
 
 -- the same for borrowed parts
-abbrev pub Finds : {X P : Type 0} → (List (List ℕ) → X → Type 0) → Result X SourceFault
+abbrev pub FindsInParts : {X P : Type 0} → (List (List ℕ) → X → Type 0) → Result X SourceFault
     → (P → Device) → Lent (List P) → Type 0
-Finds fact result device parts = FindsBetween fact result device parts.entry.now parts.exit.now
+FindsInParts fact result device parts =
+    FindsInPartsBetween fact result device parts.entry.now parts.exit.now
 
 -- A step that feeds bytes of the parts to a sum: exactly `text` of them, if the devices are `sure`.
 pub record FeedsBetween {X P M : Type 0} (sure : List Device → Type 0) (holds : M → List ℕ → Type 0)
@@ -53,15 +54,16 @@ pub record FeedsBetween {X P M : Type 0} (sure : List Device → Type 0) (holds 
       → holds after (fed ++ text (bytes_of (map device old))))
 
 -- the same for borrowed parts and a borrowed sum
-abbrev pub Feeds : {X P M : Type 0} → (List Device → Type 0) → (M → List ℕ → Type 0)
+abbrev pub FeedsParts : {X P M : Type 0} → (List Device → Type 0) → (M → List ℕ → Type 0)
     → (List (List ℕ) → List ℕ) → Result X SourceFault → (P → Device) → Lent (List P) → Lent M
     → Type 0
-Feeds sure holds text result device parts sum = FeedsBetween sure holds text result device
+FeedsParts sure holds text result device parts sum = FeedsBetween sure holds text result device
     parts.entry.now parts.exit.now sum.entry.now sum.exit.now
 
 -- A step that writes bytes of the parts and refuses nothing. If the devices are `sure`, it writes
 -- `text` of them, or a prefix of that if a device failed.
-pub record PutsBetween {X P : Type 0} (sure : List Device → Type 0) (text : List (List ℕ) → List ℕ)
+pub record PutsPartsBetween {X P : Type 0} (sure : List Device → Type 0) (text : List (List ℕ)
+    → List ℕ)
     (result : Result X Fault) (device : P → Device) (old new : List P) (from to : Sink)
     : Type 0 where
   pub uses : UsesAll (is_read result) (map device old) (map device new)
@@ -71,9 +73,9 @@ pub record PutsBetween {X P : Type 0} (sure : List Device → Type 0) (text : Li
       → Written (is_err result) from to (text (bytes_of (map device old)))
 
 -- the same for borrowed parts and a borrowed output
-abbrev pub Puts : {X P : Type 0} → (List Device → Type 0) → (List (List ℕ) → List ℕ)
+abbrev pub PutsParts : {X P : Type 0} → (List Device → Type 0) → (List (List ℕ) → List ℕ)
     → Result X Fault → (P → Device) → Lent (List P) → Lent Sink → Type 0
-Puts sure text result device parts out = PutsBetween sure text result device
+PutsParts sure text result device parts out = PutsPartsBetween sure text result device
     parts.entry.now parts.exit.now out.entry.now out.exit.now
 
 -- devices of any kind

@@ -5,7 +5,7 @@ use Rattle.std.specs.List.{before_first, list_any}
 use Rattle.uimg_legacy.specs.declared.fault.LegacyFault.{LegacyFault}
 use Rattle.uimg_legacy.specs.declared.fault.LegacyFault.TheVariants.{NoTableEnd}
 use Rattle.uimg_texts.specs.Numbers.{up4}
-use Rattle.uimg_legacy.specs.Words.{words}
+use Rattle.uimg_legacy.specs.Words.{whole_words}
 
 -- whether an image of this type has parts: multi (4) and script (6) do
 unfoldable pub has_parts : ℕ → Bool
@@ -13,12 +13,12 @@ has_parts kind = kind == 4 || kind == 6
 
 -- the words of the data before the first zero word, or all if none is zero
 unfoldable pub sizes : List ℕ → List ℕ
-sizes payload = before_first (λ w. w == 0) (words payload)
+sizes payload = before_first (λ w. w == 0) (whole_words payload)
 
 -- the sizes of the parts, if their table ends with a zero word
 unfoldable pub part_sizes : List ℕ → Result (List ℕ) LegacyFault
 part_sizes payload =
-    if list_any (λ w. w == 0) (words payload) then Ok (sizes payload) else Err NoTableEnd
+    if list_any (λ w. w == 0) (whole_words payload) then Ok (sizes payload) else Err NoTableEnd
 
 -- Part i starts after the table, its zero word and the earlier parts, each rounded up to 4 bytes.
 unfoldable pub start : List ℕ → ℕ → ℕ

@@ -16,25 +16,26 @@ use Rattle.uimg_legacy.specs.Image.{payload}
 use Rattle.uimg_legacy.specs.Parts.{has_parts, sizes, part_sizes, start, is_outside}
 
 -- the span of a part in the file
-abbrev pub place_of : List ℕ → ℕ → Span
-place_of table i = record { place = 64 + start table i; length = slice_index table i }
+abbrev pub span_of_part : List ℕ → ℕ → Span
+span_of_part table i = record { place = 64 + start table i; length = slice_index table i }
 
 -- spans before others, unless these are refused
-abbrev pub before : List Span → Result (List Span) LegacyFault → Result (List Span) LegacyFault
-before ps (Ok qs) = Ok (ps ++ qs)
-before ps (Err fault) = Err fault
+abbrev pub spans_before : List Span → Result (List Span) LegacyFault
+    → Result (List Span) LegacyFault
+spans_before ps (Ok qs) = Ok (ps ++ qs)
+spans_before ps (Err fault) = Err fault
 
 -- a span, unless its part ends after the data
 abbrev pub place_step : Bool → Span → Result (List Span) LegacyFault
     → Result (List Span) LegacyFault
 place_step true p rest = Err PartOutside
-place_step false p rest = before (p ∷ []) rest
+place_step false p rest = spans_before (p ∷ []) rest
 
 -- the spans of n parts from part i on, unless one ends after the data
 unfoldable pub places : List ℕ → List ℕ → ℕ → ℕ → Result (List Span) LegacyFault
 places payload table zero i = Ok []
 places payload table (suc n) i =
-    place_step (is_outside payload table i) (place_of table i) (places payload table n (i + 1))
+    place_step (is_outside payload table i) (span_of_part table i) (places payload table n (i + 1))
 
 -- for a type with parts the spans of its table, for any other that of the data
 abbrev pub places_in : Bool → List ℕ → ℕ → Result (List Span) LegacyFault
@@ -44,8 +45,8 @@ places_in true payload size = do
 places_in false payload size = Ok (record { place = 64; length = size } ∷ [])
 
 -- the spans for an image with this header, if it has all its data
-unfoldable pub places_of : List ℕ → Header → Result (List Span) LegacyFault
-places_of image h =
+unfoldable pub spans_of_parts : List ℕ → Header → Result (List Span) LegacyFault
+spans_of_parts image h =
     if nat_lt (length image) (64 + h.size) then Err Truncated else places_in (has_parts h.kind)
     (payload image h) h.size
 
@@ -64,9 +65,9 @@ GivesPlaces view (Err (Stopped of.Put)) r = ⊥
 GivesPlaces view (Err OutOfMemory) r = ⊤
 
 -- Over an honest source whose table has `count` sizes: the spans of its parts, or their fault.
-abbrev pub TellsPlaces : {S X : Type 0} → (X → List Span) → ℕ → ℕ → Result X PartsFault
+abbrev pub TellsSpans : {S X : Type 0} → (X → List Span) → ℕ → ℕ → Result X PartsFault
     → (S → Device) → Lent S → Type 0
-TellsPlaces view size count result device source = IsTrue (device source.entry.now).honest
+TellsSpans view size count result device source = IsTrue (device source.entry.now).honest
     → count ≡ length (sizes (slice (device source.entry.now).bytes 64 size))
     → GivesPlaces view result (places (slice (device source.entry.now).bytes 64 size)
     (sizes (slice (device source.entry.now).bytes 64 size)) count 0)

@@ -16,7 +16,7 @@ use Rattle.uimg_legacy.specs.declared.fault.Fault.{Fault}
 use Rattle.uimg_legacy.specs.declared.header.Header.{Header}
 use Rattle.uimg_base.specs.declared.spans.Span.{Span}
 use Rattle.uimg_legacy.specs.Image.{payload, has_right_data, legacy}
-use Rattle.uimg_legacy.specs.Words.{words}
+use Rattle.uimg_legacy.specs.Words.{whole_words}
 use Rattle.uimg_legacy.specs.Header.{spelled}
 use Rattle.uimg_legacy.specs.Parts.{has_parts, sizes}
 use Rattle.uimg_legacy.specs.Extraction.{part_of_data, part_at}
@@ -105,7 +105,7 @@ sizes_from first count image = length (sizes (window image first count))
 
 -- their sum, each rounded up to a multiple of 4
 abbrev pub rounded_from : ℕ → ℕ → List ℕ → ℕ
-rounded_from first count image = sum_by up4 (words (window image first count))
+rounded_from first count image = sum_by up4 (whole_words (window image first count))
 
 -- the result is the word at an offset
 abbrev pub IsWordAt : ℕ → List ℕ → Result ℕ SourceFault → Type 0

@@ -26,16 +26,17 @@ pub record Part : Type 0 where
   pub bytes : List ℕ
 
 -- a part before others, unless these are refused
-abbrev pub before : List ℕ → Result (List (List ℕ)) LegacyFault → Result (List (List ℕ)) LegacyFault
-before part (Ok parts) = Ok (part ∷ parts)
-before part (Err fault) = Err fault
+abbrev pub part_before : List ℕ → Result (List (List ℕ)) LegacyFault
+    → Result (List (List ℕ)) LegacyFault
+part_before part (Ok parts) = Ok (part ∷ parts)
+part_before part (Err fault) = Err fault
 
 -- Parts of these sizes, each padded to a multiple of 4, unless one ends after the bytes.
 unfoldable pub parts_by : List ℕ → List ℕ → Result (List (List ℕ)) LegacyFault
 parts_by [] bytes = Ok []
 parts_by (size ∷ more) bytes =
     if nat_lt (length bytes) size then Err PartOutside
-    else before (take size bytes) (parts_by more (drop (up4 size) bytes))
+    else part_before (take size bytes) (parts_by more (drop (up4 size) bytes))
 
 -- whether the requested part exists, if one is requested
 abbrev pub is_there : Option ℕ → ℕ → Bool
@@ -53,9 +54,9 @@ parts_in only true bytes = do
 parts_in only false bytes = if_there only 1 (Ok (bytes ∷ []))
 
 -- whether a part is requested: all are, or one by its number
-abbrev pub is_asked : Option ℕ → ℕ → Bool
-is_asked None number = true
-is_asked (Some asked) number = asked == number
+abbrev pub is_part_asked : Option ℕ → ℕ → Bool
+is_part_asked None number = true
+is_part_asked (Some asked) number = asked == number
 
 -- a part if it is requested, else none
 abbrev pub part_if : Bool → ℕ → List ℕ → List Part
@@ -63,10 +64,10 @@ part_if true number bytes = record { number = number; bytes = bytes } ∷ []
 part_if false number bytes = []
 
 -- the requested parts, numbered from `number` on
-unfoldable pub chosen : Option ℕ → ℕ → List (List ℕ) → List Part
-chosen only number [] = []
-chosen only number (bytes ∷ more) =
-    part_if (is_asked only number) number bytes ++ chosen only (suc number) more
+unfoldable pub chosen_parts : Option ℕ → ℕ → List (List ℕ) → List Part
+chosen_parts only number [] = []
+chosen_parts only number (bytes ∷ more) =
+    part_if (is_part_asked only number) number bytes ++ chosen_parts only (suc number) more
 
 -- the data after the header, if the image has them
 unfoldable pub data_there : List ℕ → Header → Result (List ℕ) LegacyFault
@@ -82,7 +83,7 @@ kept_if false parts = None
 abbrev pub unpacked : Option ℕ → Header → List ℕ → Result (Option (List Part)) LegacyFault
 unpacked only h bytes = do
   parts ← parts_in only (has_parts h.kind) bytes
-  Ok (kept_if (crc bytes == h.dcrc) (chosen only 0 parts))
+  Ok (kept_if (crc bytes == h.dcrc) (chosen_parts only 0 parts))
 
 -- The unpacked parts, or a fault: too short, bad magic, bad header CRC, truncated, of the data.
 abbrev pub unpack_of : Option ℕ → List ℕ → Result (Option (List Part)) LegacyFault
@@ -92,7 +93,7 @@ unpack_of only image = do
   unpacked only h bytes
 
 -- Parts of an image were kept, after those before.
-pub record Keeps (told : Result (Option (List Part)) LegacyFault) (old new : List Part)
+pub record KeepsParts (told : Result (Option (List Part)) LegacyFault) (old new : List Part)
     : Type 0 where
   pub parts : List Part
   pub is : told ≡ Ok (Some parts)
@@ -102,7 +103,7 @@ pub record Keeps (told : Result (Option (List Part)) LegacyFault) (old new : Lis
 -- its data's CRC is wrong or a device failed.
 abbrev pub UnpacksBetween : Result Bool Fault → Result (Option (List Part)) LegacyFault → List Part
     → List Part → Type 0
-UnpacksBetween (Ok true) told old new = Keeps told old new
+UnpacksBetween (Ok true) told old new = KeepsParts told old new
 UnpacksBetween (Ok false) told old new = (told ≡ Ok None) × (new ≡ old)
 UnpacksBetween (Err (Legacy fault)) told old new = (told ≡ Err fault) × (new ≡ old)
 UnpacksBetween (Err Read) told old new = new ≡ old
@@ -119,7 +120,7 @@ Unpacks only result device source honest kept taker =
 -- What is kept, whatever the source returned: the parts of some image with right checksums.
 pub record KeepsSome (only : Option ℕ) (old new : List Part) : Type 0 where
   pub image : List ℕ
-  pub keeps : Keeps (unpack_of only image) old new
+  pub keeps : KeepsParts (unpack_of only image) old new
 
 -- The held parts are those of some image with right checksums; `dcrc` is that of its data.
 pub record AreRight (dcrc : ℕ) (held : List Part) : Type 0 where

@@ -22,12 +22,13 @@ use Rattle.uimg_legacy.specs.declared.unpacking.takes.Parts.{Parts}
 use Rattle.uimg_legacy.specs.declared.unpacking.takes.PlacedPart.{PlacedPart}
 use Rattle.uimg_legacy.specs.declared.unpacking.takes.Walk.{Walk}
 use Rattle.uimg_legacy.specs.Faults.{is_read, is_of_making}
-use Rattle.uimg_legacy.specs.Words.{words}
+use Rattle.uimg_legacy.specs.Words.{whole_words}
 use Rattle.uimg_legacy.specs.Image.{payload}
 use Rattle.uimg_legacy.specs.Header.{header}
 use Rattle.uimg_legacy.specs.Parts.{has_parts, sizes}
 use Rattle.uimg_legacy.specs.Work.{data_read, sizes_read_with}
-use Rattle.uimg_legacy.specs.Unpacking.{Part, part_if, is_asked, chosen, parts_by, parts_in}
+use Rattle.uimg_legacy.specs.Unpacking.{Part, part_if, is_part_asked, chosen_parts, parts_by}
+use Rattle.uimg_legacy.specs.Unpacking.{parts_in}
 
 -- A step that takes parts. An honest taker keeps nothing new.
 pub record TakesBetween {X : Type 0} (used : Bool → Device → Device → Type 0)
@@ -84,7 +85,8 @@ pub record TakesNextBetween (only : Option ℕ) (honest : Bool) (number size : �
   pub place : new.at ≡ min (old.at + up4 (be32 word 0)) size
   pub sizes : (fed : List ℕ) → Holds old.sizes fed → Holds new.sizes (fed ++ word)
   pub read : IsTrue d.honest → word ≡ slice d.bytes (64 + 4 * number) 4
-  pub taken : TakesPaddedBetween (is_asked only number) honest number d (64 + old.at) (be32 word 0)
+  pub taken : TakesPaddedBetween (is_part_asked only number) honest number d (64 + old.at)
+      (be32 word 0)
       (new.at - old.at) old.sum new.sum from to
 
 -- the same at `Ok`
@@ -96,8 +98,9 @@ TakesNext parts number result device source walk honest held taker =
     (held taker.exit.now))
 
 -- At `Ok` at most the bytes that the walk passed, and `more`, were requested.
-abbrev pub Pays : {X S : Type 0} → ℕ → Result X Fault → (S → Device) → Lent S → Lent Walk → Type 0
-Pays more result device source walk = OnOk result
+abbrev pub PaysWalked : {X S : Type 0} → ℕ → Result X Fault → (S → Device) → Lent S → Lent Walk
+    → Type 0
+PaysWalked more result device source walk = OnOk result
     ((device source.exit.now).asked + walk.entry.now.at
     ≤ (device source.entry.now).asked + (more + walk.exit.now.at))
 
@@ -120,16 +123,16 @@ pub record Walked (only : Option ℕ) (honest : Bool) (count size : ℕ) (d : De
   pub bytes : List ℕ
   pub parts : List (List ℕ)
   pub long : length table ≡ 4 * count
-  pub some : AllByRecursion (λ w. w ≢ 0) (words table)
+  pub some : AllByRecursion (λ w. w ≢ 0) (whole_words table)
   pub place : old.at + length bytes ≡ new.at
-  pub ends : new.at ≡ min (old.at + sum_by up4 (words table)) size
-  pub cut : parts_by (words table) bytes ≡ Ok parts
+  pub ends : new.at ≡ min (old.at + sum_by up4 (whole_words table)) size
+  pub cut : parts_by (whole_words table) bytes ≡ Ok parts
   pub number : length parts ≡ count
   pub sizes : (fed : List ℕ) → Holds old.sizes fed → Holds new.sizes (fed ++ table)
   pub summed : (fed : List ℕ) → Holds old.sum fed → Holds new.sum (fed ++ bytes)
   pub read : IsTrue d.honest → table ≡ slice d.bytes 64 (4 * count)
   pub right : IsTrue d.honest → bytes ≡ slice d.bytes (64 + old.at) (length bytes)
-  pub held : IsTrue honest → to ≡ from ++ chosen only 0 parts
+  pub held : IsTrue honest → to ≡ from ++ chosen_parts only 0 parts
 
 -- the same at `Ok`
 abbrev pub Walks : {X S T : Type 0} → Parts → Result X Fault → (S → Device) → Lent S → Lent Walk
@@ -159,7 +162,7 @@ pub record HoldsParts (only : Option ℕ) (honest : Bool) (h : Header) (d : Devi
   pub sum : crc bytes ≡ h.dcrc
   pub cut : parts_in only (has_parts h.kind) bytes ≡ Ok parts
   pub right : IsTrue d.honest → bytes ≡ payload d.bytes h
-  pub held : IsTrue honest → to ≡ from ++ chosen only 0 parts
+  pub held : IsTrue honest → to ≡ from ++ chosen_parts only 0 parts
 
 -- The data have parts, but another CRC.
 pub record IsWrong (only : Option ℕ) (h : Header) (image : List ℕ) : Type 0 where

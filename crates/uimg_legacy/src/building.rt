@@ -5,7 +5,7 @@ ghost use Rattle.uimg_sums.specs.Crc.{crc};
 ghost use Rattle.uimg_legacy.specs.Parts.{has_parts};
 ghost use Rattle.uimg_legacy.specs.Building.{data_of, data_for, header_for};
 ghost use Rattle.uimg_legacy.specs.BuildingSteps.{IsHeadFor};
-ghost use Rattle.uimg_legacy.specs.PartSteps.{FitWords, Puts, Finds};
+ghost use Rattle.uimg_legacy.specs.PartSteps.{FitWords, PutsParts, FindsInParts};
 ghost use Rattle.uimg_legacy.specs.Builds.{Builds, Decides, TellsBuilt, BuildsReadable};
 ghost use Rattle.uimg_legacy.specs.Devices.{bytes_of, AreHonest};
 
@@ -46,7 +46,7 @@ fn head_of<S: Source>(
 ) -> Result<[u8; HEADER_LEN], SourceFault>
     requires small { FitWords (bytes_of (map S.device parts.old)) }
     requires size { size ≡ length (data_for options.now.kind (bytes_of (map S.device parts.old))) }
-    ensures { Finds (IsHeadFor options.now) result S.device parts }
+    ensures { FindsInParts (IsHeadFor options.now) result S.device parts }
 {
     let dcrc = data_crc(parts, window, has_parts(options.kind))?;
     Ok(header_bytes(&header_for(options, size, dcrc)))
@@ -61,7 +61,8 @@ fn put_image<S: Source, W: Write>(
     out: &mut Out<W>,
 ) -> Result<(), Fault>
     requires small { FitWords (bytes_of (map S.device parts.old)) }
-    ensures { Puts AreHonest (λ ps. head.now ++ data_of has_parts ps) result S.device parts out }
+    ensures { PutsParts AreHonest
+        (λ ps. head.now ++ data_of has_parts ps) result S.device parts out }
 {
     out.put_all(head)?;
     put_data(parts, window, has_parts, out)

@@ -4,7 +4,7 @@ ghost use Rattle.std.specs.Prelude.{◌≡◌, map};
 ghost use Rattle.uimg_sums.specs.Crc.{crc};
 ghost use Rattle.uimg_legacy.specs.Building.{size_table, joined, data_of};
 ghost use Rattle.uimg_legacy.specs.Devices.{bytes_of, AreHonest};
-ghost use Rattle.uimg_legacy.specs.PartSteps.{FitWords, Finds, Feeds, Puts, AnyDevices};
+ghost use Rattle.uimg_legacy.specs.PartSteps.{FitWords, FindsInParts, FeedsParts, PutsParts, AnyDevices};
 
 use crate::fault::Fault;
 use crate::one_part::{feed_part, put_part, size_word, zeros_after};
@@ -14,7 +14,7 @@ use uimg_base::{Crc, Out, Source, SourceFault, Summer, WINDOW};
 // Feeds the table of sizes to a sum.
 fn feed_table<M: Summer, S: Source>(parts: &mut [S], sum: &mut M) -> Result<(), SourceFault>
     requires small { FitWords (bytes_of (map S.device parts.old)) }
-    ensures { Feeds AnyDevices M.holds size_table result S.device parts sum }
+    ensures { FeedsParts AnyDevices M.holds size_table result S.device parts sum }
 {
     for i in 0..parts.len() {
         sum.feed(&size_word(parts, i)?);
@@ -29,7 +29,7 @@ fn feed_joined<M: Summer, S: Source>(
     window: &mut [u8; WINDOW],
     sum: &mut M,
 ) -> Result<(), SourceFault>
-    ensures { Feeds AreHonest M.holds joined result S.device parts sum }
+    ensures { FeedsParts AreHonest M.holds joined result S.device parts sum }
 {
     let mut remainder = 0;
     for i in 0..parts.len() {
@@ -47,7 +47,7 @@ fn feed_data<M: Summer, S: Source>(
     sum: &mut M,
 ) -> Result<(), SourceFault>
     requires small { FitWords (bytes_of (map S.device parts.old)) }
-    ensures { Feeds AreHonest M.holds (data_of has_parts) result S.device parts sum }
+    ensures { FeedsParts AreHonest M.holds (data_of has_parts) result S.device parts sum }
 {
     if !has_parts {
         return feed_joined(parts, window, sum);
@@ -63,7 +63,7 @@ pub(crate) fn data_crc<S: Source>(
     has_parts: bool,
 ) -> Result<u32, SourceFault>
     requires small { FitWords (bytes_of (map S.device parts.old)) }
-    ensures { Finds (λ ps n. n ≡ crc (data_of has_parts ps)) result S.device parts }
+    ensures { FindsInParts (λ ps n. n ≡ crc (data_of has_parts ps)) result S.device parts }
 {
     let mut sum = Crc::start();
     feed_data(parts, window, has_parts, &mut sum)?;
@@ -73,7 +73,7 @@ pub(crate) fn data_crc<S: Source>(
 // Writes the table of sizes.
 fn put_table<S: Source, W: Write>(parts: &mut [S], out: &mut Out<W>) -> Result<(), Fault>
     requires small { FitWords (bytes_of (map S.device parts.old)) }
-    ensures { Puts AnyDevices size_table result S.device parts out }
+    ensures { PutsParts AnyDevices size_table result S.device parts out }
 {
     for i in 0..parts.len() {
         out.put_all(&size_word(parts, i)?)?;
@@ -88,7 +88,7 @@ fn put_joined<S: Source, W: Write>(
     window: &mut [u8; WINDOW],
     out: &mut Out<W>,
 ) -> Result<(), Fault>
-    ensures { Puts AreHonest joined result S.device parts out }
+    ensures { PutsParts AreHonest joined result S.device parts out }
 {
     let mut remainder = 0;
     for i in 0..parts.len() {
@@ -106,7 +106,7 @@ pub(crate) fn put_data<S: Source, W: Write>(
     out: &mut Out<W>,
 ) -> Result<(), Fault>
     requires small { FitWords (bytes_of (map S.device parts.old)) }
-    ensures { Puts AreHonest (data_of has_parts) result S.device parts out }
+    ensures { PutsParts AreHonest (data_of has_parts) result S.device parts out }
 {
     if !has_parts {
         return put_joined(parts, window, out);

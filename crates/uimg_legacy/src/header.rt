@@ -3,7 +3,7 @@
 ghost use Rattle.std.specs.Prelude.{◌≡◌, true, Ok};
 ghost use Rattle.uimg_base.specs.Honest.{IfHonest};
 ghost use Rattle.uimg_texts.specs.Numbers.{be32};
-ghost use Rattle.uimg_legacy.specs.Header.{magic, head, has_right_crc, fields, header as header_of, spelled_with, spelled, name_of};
+ghost use Rattle.uimg_legacy.specs.Header.{magic, head, has_right_crc, fields, header as header_of, spelled_with, spelled, padded_name};
 ghost use Rattle.uimg_legacy.specs.Faults.{GivesBy};
 ghost use Rattle.uimg_legacy.specs.Reading.{ReadsHead, IsSpelledIn};
 
@@ -152,7 +152,7 @@ pub fn header_bytes(header: &Header) -> [u8; HEADER_LEN]
 
 /// Returns the field of a name: the name cut or padded with zeros to 32 bytes.
 pub fn name_field(name: &[u8]) -> [u8; 32]
-    ensures { result ≡ name_of name.now }
+    ensures { result ≡ padded_name name.now }
 {
     let mut field = [0; 32];
     let len = usize::min(name.len(), 32);

@@ -3,7 +3,7 @@
 ghost use Rattle.std.specs.Prelude.{◌≡◌, ◌+◌, ◌%◌, ◌&&◌, length, map, false};
 ghost use Rattle.uimg_legacy.specs.Parts.{has_parts};
 ghost use Rattle.uimg_legacy.specs.Building.{joined, data_of, has_empty};
-ghost use Rattle.uimg_legacy.specs.BuildingSteps.{Measures};
+ghost use Rattle.uimg_legacy.specs.BuildingSteps.{MeasuresParts};
 ghost use Rattle.uimg_legacy.specs.Devices.{bytes_of, AsksNone};
 ghost use Rattle.uimg_legacy.specs.PartSteps.{Learns, SumsTo};
 ghost use Rattle.uimg_legacy.specs.Faults.{is_read, is_put};
@@ -68,7 +68,7 @@ fn data_size<S: Source>(parts: &mut [S], kind: u8) -> Result<u128, SourceFault>
 pub(crate) fn measure<S: Source>(parts: &mut [S], kind: u8) -> Result<u32, Fault>
     ensures uses { AsksNone (is_read result) (map S.device parts.old) (map S.device parts.new) }
     ensures no_put { is_put result ≡ false }
-    ensures measures { Measures kind (bytes_of (map S.device parts.old)) result }
+    ensures measures { MeasuresParts kind (bytes_of (map S.device parts.old)) result }
 {
     if has_empty_part(parts, kind)? {
         return Err(Fault::Legacy(LegacyFault::EmptyPart));

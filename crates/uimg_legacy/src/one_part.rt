@@ -4,7 +4,7 @@ ghost use Rattle.std.specs.Prelude.{◌≡◌, ℕ, ◌%◌, ◌^◌, ◌<◌, l
 ghost use Rattle.std.specs.Int.{to_be_bytes, w32};
 ghost use Rattle.uimg_legacy.specs.Building.{padding};
 ghost use Rattle.uimg_legacy.specs.Devices.{bytes_of, AreHonest};
-ghost use Rattle.uimg_legacy.specs.PartSteps.{Learns, Feeds, Puts, numbered};
+ghost use Rattle.uimg_legacy.specs.PartSteps.{Learns, FeedsParts, PutsParts, numbered};
 
 use crate::fault::Fault;
 use std::io::Write;
@@ -49,7 +49,7 @@ pub(crate) fn feed_part<M: Summer, S: Source>(
     sum: &mut M,
 ) -> Result<u64, SourceFault>
     requires { i < length parts.old }
-    ensures feeds { Feeds AreHonest M.holds (numbered i) result S.device parts sum }
+    ensures feeds { FeedsParts AreHonest M.holds (numbered i) result S.device parts sum }
     ensures size { IfOk result (λ n. n ≡ length (numbered i (bytes_of (map S.device parts.old)))) }
 {
     let source = &mut parts[i];
@@ -66,7 +66,7 @@ pub(crate) fn put_part<S: Source, W: Write>(
     out: &mut Out<W>,
 ) -> Result<u64, Fault>
     requires { i < length parts.old }
-    ensures puts { Puts AreHonest (numbered i) result S.device parts out }
+    ensures puts { PutsParts AreHonest (numbered i) result S.device parts out }
     ensures size { IfOk result (λ n. n ≡ length (numbered i (bytes_of (map S.device parts.old)))) }
 {
     let source = &mut parts[i];

@@ -3,7 +3,7 @@
 ghost use Rattle.std.specs.Prelude.{◌≡◌, ◌+◌, ◌*◌, ◌≤◌, [], ◌∷◌, ◌++◌, length, IfOk, OnOk};
 ghost use Rattle.uimg_base.specs.Honest.{HonestSource};
 ghost use Rattle.uimg_base.specs.Using.{Asks, UsesWithin};
-ghost use Rattle.uimg_legacy.specs.Placing.{places_of, is_unread, GivesPlaces, TellsPlaces};
+ghost use Rattle.uimg_legacy.specs.Placing.{spans_of_parts, is_unread, GivesPlaces, TellsSpans};
 ghost use Rattle.uimg_legacy.specs.Work.{table_work};
 
 use crate::fault::{Fault, LegacyFault};
@@ -76,7 +76,7 @@ fn place_parts<S: Source>(
     requires data { 64 + size ≤ length (S.device source.old).bytes }
     requires table { 4 * (count + 1) ≤ size }
     ensures uses { Asks (4 * count) (is_unread result) (S.device source.old) (S.device source.new) }
-    ensures told { TellsPlaces (λ parts. parts.items) size count result S.device source }
+    ensures told { TellsSpans (λ parts. parts.items) size count result S.device source }
 {
     let mut parts = Vec::new(alloc);
     let mut start = 4 * (count as u64 + 1);
@@ -113,7 +113,7 @@ fn only_part(alloc: Global, size: u32) -> Result<Vec<Span>, AllocError>
 /// of `Truncated`, `NoTableEnd` and `PartOutside`; `Read` exactly if a read failed, `OutOfMemory`
 /// if memory for the spans was refused, 16 bytes for each. Of an honest source at most 12 bytes for
 /// each size in the table and 12 more are requested. Of the room only the window changes.
-#[tactic(auto, unfolding(crate::specs::Placing::places_of))]
+#[tactic(auto, unfolding(crate::specs::Placing::spans_of_parts))]
 pub fn locate_parts<S: Source, A: Allocator>(
     alloc: Global,
     source: &mut S,
@@ -123,7 +123,7 @@ pub fn locate_parts<S: Source, A: Allocator>(
     ensures uses { UsesWithin (table_work header.now) (is_unread result) S.device source }
     ensures room { room.new ≡ room.old }
     ensures told { HonestSource S.device source → GivesPlaces (λ parts. parts.items) result
-        (places_of (S.device source.old).bytes header.now) }
+        (spans_of_parts (S.device source.old).bytes header.now) }
 {
     if source.size()? < 64 + header.size as u64 {
         return Err(PartsFault::Stopped(Fault::Legacy(LegacyFault::Truncated)));

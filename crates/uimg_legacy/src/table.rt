@@ -2,7 +2,7 @@
 
 ghost use Rattle.std.specs.Prelude.{◌≡◌, ◌+◌, ◌*◌, ◌/◌, ◌^◌, ◌≤◌, length, sum_by};
 ghost use Rattle.uimg_texts.specs.Numbers.{up4};
-ghost use Rattle.uimg_legacy.specs.Words.{words};
+ghost use Rattle.uimg_legacy.specs.Words.{whole_words};
 ghost use Rattle.uimg_legacy.specs.Parts.{sizes};
 ghost use Rattle.uimg_legacy.specs.Reading.{ReadsWords, sizes_from, rounded_from};
 
@@ -43,7 +43,7 @@ pub(crate) fn count_window<S: Source, A: Allocator>(
 fn rounded_sum(bytes: &[u8]) -> u64
     requires { length bytes.now ≤ 8192 }
     ensures bound { result ≤ 2 ^ 32 * (length bytes.now / 4) }
-    ensures sum { result ≡ sum_by up4 (words bytes.now) }
+    ensures sum { result ≡ sum_by up4 (whole_words bytes.now) }
 {
     let mut sum = 0;
     for i in 0..bytes.len() / 4 {

@@ -8,7 +8,7 @@ use Rattle.uimg_map.specs.declared.row.Row.{Row}
 use Rattle.uimg_map.specs.Rows.{rows_from, things_in}
 use Rattle.uimg_map.specs.Order.{InOrder}
 use Rattle.uimg_map.specs.Arranging.{Arranges}
-use Rattle.uimg_map.specs.Cover.{has, has_free, contains}
+use Rattle.uimg_map.specs.Cover.{is_in_row, has_free, contains}
 use Rattle.uimg_map.proofs.RowsLaws.{things_in-rows, length-rows}
 use Rattle.uimg_map.proofs.OrderLaws.{thing_cmp, in_order}
 use Rattle.uimg_map.proofs.CoverLaws.{covered, free}
@@ -35,6 +35,6 @@ module _ (size : ℕ) (given sorted : List Thing) (p : IsPermutation given sorte
     sorted = subst InOrder (sym things_are) (in_order sorted s);
     told = are ∙ ap (rows_from size None) (sym things_are);
     count = count_is;
-    covered = λ i h. ap (list_any (has i)) are ∙ covered size i h None sorted (omega arith);
+    covered = λ i h. ap (list_any (is_in_row i)) are ∙ covered size i h None sorted (omega arith);
     free = none_has;
   }

@@ -8,29 +8,29 @@ use Rattle.uimg_map.specs.declared.contents.Label.{Label}
 use Rattle.uimg_map.specs.declared.fault.MapFault.{MapFault}
 use Rattle.uimg_map.specs.declared.fault.MapFault.TheVariants.{OutOfMemory}
 use Rattle.uimg_map.specs.declared.thing.Thing.{Thing}
-use Rattle.uimg_map.specs.Contents.{numbered, Grows, Adds, Gathers}
+use Rattle.uimg_map.specs.Contents.{numbered_things, GrowsBy, AddsFound, Gathers}
 use Rattle.uimg_map.specs.Faults.{is_read, stops}
-use Rattle.uimg_map.specs.Found.{What, Found, Told, read_label, first_of, joined, nothing, thing}
+use Rattle.uimg_map.specs.Found.{What, Found, Told, read_label, earlier_fault, found_then, nothing, thing}
 
 -- things behind others have the numbers behind theirs
-numbered-append : (n : ℕ) (fs gs : List Found) → numbered n (fs ++ gs) ≡ numbered n fs ++ numbered (n + length fs) gs
-numbered-append n [] gs = ap (λ (k : ℕ). numbered k gs) (sym (add-zero n))
+numbered-append : (n : ℕ) (fs gs : List Found) → numbered_things n (fs ++ gs) ≡ numbered_things n fs ++ numbered_things (n + length fs) gs
+numbered-append n [] gs = ap (λ (k : ℕ). numbered_things k gs) (sym (add-zero n))
 numbered-append n (f ∷ fs) gs =
     let next : (n + 1) + length fs ≡ n + length (f ∷ fs) = omega arith in
-    let more : numbered (n + 1) (fs ++ gs) ≡ numbered (n + 1) fs ++ numbered (n + length (f ∷ fs)) gs =
-    numbered-append (n + 1) fs gs ∙ ap (λ (k : ℕ). numbered (n + 1) fs ++ numbered k gs) next in
+    let more : numbered_things (n + 1) (fs ++ gs) ≡ numbered_things (n + 1) fs ++ numbered_things (n + length (f ∷ fs)) gs =
+    numbered-append (n + 1) fs gs ∙ ap (λ (k : ℕ). numbered_things (n + 1) fs ++ numbered_things k gs) next in
     ap (λ (ts : List Thing). record { place = f.place; end = f.end; number = n } ∷ ts) more
 
-first_of-assoc : (a b c : Option MapFault) → first_of (first_of a b) c ≡ first_of a (first_of b c)
+first_of-assoc : (a b c : Option MapFault) → earlier_fault (earlier_fault a b) c ≡ earlier_fault a (earlier_fault b c)
 first_of-assoc (Some fault) b c = refl
 first_of-assoc None b c = refl
 
-first_of-none : (a : Option MapFault) → a ≡ first_of a None
+first_of-none : (a : Option MapFault) → a ≡ earlier_fault a None
 first_of-none (Some fault) = refl
 first_of-none None = refl
 
 -- contents grow by nothing
-pub grows_none : (file : List ℕ) (a : Contents) → Grows file nothing a a
+pub grows_none : (file : List ℕ) (a : Contents) → GrowsBy file nothing a a
 grows_none file a = record {
   size = refl;
   things = sym (append-nil a.things.items);
@@ -39,7 +39,7 @@ grows_none file a = record {
 }
 
 -- by this and then by that
-pub grows_then : {file : List ℕ} {m n : Told} {a b c : Contents} → Grows file m a b → Grows file n b c → Grows file (joined m n) a c
+pub grows_then : {file : List ℕ} {m n : Told} {a b c : Contents} → GrowsBy file m a b → GrowsBy file n b c → GrowsBy file (found_then m n) a c
 grows_then {file} {m} {n} {a} {b} {c} p q =
     let names : List Found → List What = map (λ (f : Found). f.what) in
     let count : length b.labels.items ≡ length a.labels.items + length m.found =
@@ -50,19 +50,19 @@ grows_then {file} {m} {n} {a} {b} {c} p q =
     record {
       size = q.size ∙ p.size;
       things = q.things
-          ∙ ap (λ (ts : List Thing). ts ++ numbered (length b.labels.items) n.found) p.things
-          ∙ append_assoc a.things.items (numbered (length a.labels.items) m.found) (numbered (length b.labels.items) n.found)
-          ∙ ap (λ (k : ℕ). a.things.items ++ (numbered (length a.labels.items) m.found ++ numbered k n.found)) count
+          ∙ ap (λ (ts : List Thing). ts ++ numbered_things (length b.labels.items) n.found) p.things
+          ∙ append_assoc a.things.items (numbered_things (length a.labels.items) m.found) (numbered_things (length b.labels.items) n.found)
+          ∙ ap (λ (k : ℕ). a.things.items ++ (numbered_things (length a.labels.items) m.found ++ numbered_things k n.found)) count
           ∙ ap (λ (ts : List Thing). a.things.items ++ ts) (sym (numbered-append (length a.labels.items) m.found n.found));
       labels = q.labels
           ∙ ap (λ (ws : List What). ws ++ names n.found) p.labels
           ∙ append_assoc (map (read_label file) a.labels.items) (names m.found) (names n.found)
           ∙ ap (λ (ws : List What). map (read_label file) a.labels.items ++ ws) (sym (map-append (λ (f : Found). f.what) m.found n.found));
-      first = q.first ∙ ap (λ (f : Option MapFault). first_of f n.fault) p.first ∙ first_of-assoc a.fault m.fault n.fault;
+      first = q.first ∙ ap (λ (f : Option MapFault). earlier_fault f n.fault) p.first ∙ first_of-assoc a.fault m.fault n.fault;
     }
 
 -- by a label and a thing, whose number is the label's
-pub grows_by : (file : List ℕ) (label : Label) (place end : ℕ) (a b : Contents) → b.size ≡ a.size → b.labels.items ≡ a.labels.items ++ label ∷ [] → b.things.items ≡ a.things.items ++ record { place = place; end = end; number = length a.labels.items } ∷ [] → b.fault ≡ a.fault → Grows file (thing (read_label file label) place end) a b
+pub grows_by : (file : List ℕ) (label : Label) (place end : ℕ) (a b : Contents) → b.size ≡ a.size → b.labels.items ≡ a.labels.items ++ label ∷ [] → b.things.items ≡ a.things.items ++ record { place = place; end = end; number = length a.labels.items } ∷ [] → b.fault ≡ a.fault → GrowsBy file (thing (read_label file label) place end) a b
 grows_by file label place end a b size labels things first = record {
   size = size;
   things = things;
@@ -70,13 +70,13 @@ grows_by file label place end a b size labels things first = record {
   first = first ∙ first_of-none a.fault;
 }
 
-then_grows : {Y : Type 0} {file : List ℕ} {m : Told} {a b : Contents} (n : Told) (c : Contents) (r : Result Y MapFault) → Grows file m a b → OnOk r (Grows file n b c) → OnOk r (Grows file (joined m n) a c)
+then_grows : {Y : Type 0} {file : List ℕ} {m : Told} {a b : Contents} (n : Told) (c : Contents) (r : Result Y MapFault) → GrowsBy file m a b → OnOk r (GrowsBy file n b c) → OnOk r (GrowsBy file (found_then m n) a c)
 then_grows n c (Ok y) p q = grows_then p q
 then_grows n c (Err e) p q = q
 
 -- a step that gathers and the next
 pub gathers_then : {X Y : Type 0} {x : X} {r : Result Y MapFault} {v w : List ℕ → ℕ} {m n : List ℕ → Told} {d e f : Device} {a b c : Contents}
-    → Gathers v m (Ok x) d e a b → Gathers w n r e f b c → Gathers (λ file. v file + w file) (λ file. joined (m file) (n file)) r d f a c
+    → Gathers v m (Ok x) d e a b → Gathers w n r e f b c → Gathers (λ file. v file + w file) (λ file. found_then (m file) (n file)) r d f a c
 gathers_then {X} {Y} {x} {r} {v} {w} {m} {n} {d} {e} {f} {a} {b} {c} p q =
     let bytes : e.bytes ≡ d.bytes = p.uses.same.bytes in
     let honest : IsTrue d.honest → IsTrue e.honest = λ h. subst IsTrue (sym p.uses.same.honest) h in
@@ -90,7 +90,7 @@ gathers_then {X} {Y} {x} {r} {v} {w} {m} {n} {d} {e} {f} {a} {b} {c} p q =
         failures = subst (λ (k : ℕ). RisesIf (is_read r) k f.failures) p.uses.failures q.uses.failures;
       };
       size = q.size ∙ p.size;
-      grows = λ h. then_grows (n d.bytes) c r (p.grows h) (subst (λ (file : List ℕ). OnOk r (Grows file (n file) b c)) bytes (q.grows (honest h)));
+      grows = λ h. then_grows (n d.bytes) c r (p.grows h) (subst (λ (file : List ℕ). OnOk r (GrowsBy file (n file) b c)) bytes (q.grows (honest h)));
       stops = λ h. q.stops (honest h);
     }
 
@@ -110,13 +110,13 @@ reads_then {Y} {r} {w} {n} {d} {e} {f} {a} {b} v p q =
         failures = subst (λ (k : ℕ). RisesIf (is_read r) k f.failures) p.failures q.uses.failures;
       };
       size = q.size;
-      grows = λ h. subst (λ (file : List ℕ). OnOk r (Grows file (n file) a b)) bytes (q.grows (honest h));
+      grows = λ h. subst (λ (file : List ℕ). OnOk r (GrowsBy file (n file) a b)) bytes (q.grows (honest h));
       stops = λ h. q.stops (honest h);
     }
 
 -- contents that grow, and a step that gathers
 pub adds_then : {Y : Type 0} {r : Result Y MapFault} {w : List ℕ → ℕ} {m n : List ℕ → Told} {d e : Device} {a b c : Contents}
-    → b.size ≡ a.size → ((file : List ℕ) → Grows file (m file) a b) → Gathers w n r d e b c → Gathers w (λ file. joined (m file) (n file)) r d e a c
+    → b.size ≡ a.size → ((file : List ℕ) → GrowsBy file (m file) a b) → Gathers w n r d e b c → Gathers w (λ file. found_then (m file) (n file)) r d e a c
 adds_then {Y} {r} {w} {m} {n} {d} {e} {a} {b} {c} size p q = record {
   uses = q.uses;
   size = q.size ∙ size;
@@ -133,12 +133,12 @@ adds_stops : {X : Type 0} (r : Result X MapFault) → IfErr r (λ fault. fault �
 adds_stops (Ok x) h = tt
 adds_stops (Err fault) h = subst (λ (e : MapFault). IsTrue (stops e)) (sym h) refl
 
-adds_grow : {X : Type 0} (n : List ℕ → Told) (a b : Contents) (file : List ℕ) (r : Result X MapFault) → OnOk r ((file : List ℕ) → Grows file (n file) a b) → OnOk r (Grows file (n file) a b)
+adds_grow : {X : Type 0} (n : List ℕ → Told) (a b : Contents) (file : List ℕ) (r : Result X MapFault) → OnOk r ((file : List ℕ) → GrowsBy file (n file) a b) → OnOk r (GrowsBy file (n file) a b)
 adds_grow n a b file (Ok x) h = h file
 adds_grow n a b file (Err fault) h = h
 
 pub reads_and_adds : {Y : Type 0} {r : Result Y MapFault} {v : List ℕ → ℕ} {n : List ℕ → Told} {d e : Device} {a b : Contents}
-    → UsesAtMost (v d.bytes) false d e → Adds n r a b → Gathers v n r d e a b
+    → UsesAtMost (v d.bytes) false d e → AddsFound n r a b → Gathers v n r d e a b
 reads_and_adds {Y} {r} {v} {n} {d} {e} {a} {b} p q = record {
   uses = record {
     same = p.same;
@@ -160,7 +160,7 @@ gathers_as {Y} {r} {v} {w} {m} {n} {d} {e} {a} {b} less is q = record {
     failures = q.uses.failures;
   };
   size = q.size;
-  grows = λ h. subst (λ (t : Told). OnOk r (Grows d.bytes t a b)) (is h) (q.grows h);
+  grows = λ h. subst (λ (t : Told). OnOk r (GrowsBy d.bytes t a b)) (is h) (q.grows h);
   stops = q.stops;
 }
 
@@ -174,7 +174,7 @@ none_asked d = record { same = record { bytes = refl; honest = refl }; asked = �
 
 -- a read, and contents that grow
 pub reads_and_grows : {Y : Type 0} {y : Y} {v : List ℕ → ℕ} {n : List ℕ → Told} {d e : Device} {a b : Contents}
-    → UsesAtMost (v d.bytes) false d e → ((file : List ℕ) → Grows file (n file) a b) → Gathers v n (Ok y) d e a b
+    → UsesAtMost (v d.bytes) false d e → ((file : List ℕ) → GrowsBy file (n file) a b) → Gathers v n (Ok y) d e a b
 reads_and_grows {Y} {y} {v} {n} {d} {e} {a} {b} p q = record {
   uses = record { same = p.same; asked = p.asked; failures = p.failures };
   size = (q d.bytes).size;

@@ -12,10 +12,10 @@ use Rattle.uimg_fit_checking.specs.Survey.{read_image, survey_of}
 use Rattle.uimg_fit_checking.specs.SurveyParts.{is_unread, Surveys}
 use Rattle.uimg_map.specs.declared.contents.Contents.{Contents}
 use Rattle.uimg_map.specs.declared.fault.MapFault.{MapFault}
-use Rattle.uimg_map.specs.Contents.{Grows, Gathers}
+use Rattle.uimg_map.specs.Contents.{GrowsBy, Gathers}
 use Rattle.uimg_map.specs.Faults.{is_read, stops}
-use Rattle.uimg_map.specs.FitContents.{blocks_named, blocks_told, image_told, images_told, survey_told}
-use Rattle.uimg_map.specs.Work.{images_in}
+use Rattle.uimg_map.specs.FitContents.{header_and_blocks, blocks_told, image_found, images_found, survey_told}
+use Rattle.uimg_map.specs.Work.{image_count}
 use Rattle.uimg_map.specs.declared.fdt_header.FdtHeader.{FdtHeader}
 use Rattle.uimg_map.specs.FdtHeader.{fdt_header_of}
 use Rattle.uimg_map.specs.Reservations.{EndsBlock, block_end}
@@ -23,21 +23,21 @@ use Rattle.uimg_map.proofs.ContentsLaws.{grows_none, grows_then, reads_then, rea
 use Rattle.uimg_map.proofs.ReservationsLaws.{end_is}
 
 module _ (file : List ℕ) (size totalsize : ℕ) (images : List ImageFacts) (i : ℕ) where
-  pub image_then : (image : ImageFacts) (a b c : Contents) → i < length images → image ≡ get_or images i image → Grows file (image_told size totalsize (read_image file image)) a b → Grows file (images_told size totalsize (map (read_image file) (drop (i + 1) images))) b c → Grows file (images_told size totalsize (map (read_image file) (drop i images))) a c
+  pub image_then : (image : ImageFacts) (a b c : Contents) → i < length images → image ≡ get_or images i image → GrowsBy file (image_found size totalsize (read_image file image)) a b → GrowsBy file (images_found size totalsize (map (read_image file) (drop (i + 1) images))) b c → GrowsBy file (images_found size totalsize (map (read_image file) (drop i images))) a c
   image_then image a b c there is p q =
       let from : drop i images ≡ image ∷ drop (i + 1) images = drop_more images i image there ∙ ap (λ (x : ImageFacts). x ∷ drop (i + 1) images) (sym is) in
-      subst (λ (xs : List ImageFacts). Grows file (images_told size totalsize (map (read_image file) xs)) a c) (sym from) (grows_then p q)
+      subst (λ (xs : List ImageFacts). GrowsBy file (images_found size totalsize (map (read_image file) xs)) a c) (sym from) (grows_then p q)
 
-  pub images_end : (a : Contents) → length images ≤ i → Grows file (images_told size totalsize (map (read_image file) (drop i images))) a a
-  images_end a h = subst (λ (xs : List ImageFacts). Grows file (images_told size totalsize (map (read_image file) xs)) a a) (sym (drop_of_length-le images h)) (grows_none file a)
+  pub images_end : (a : Contents) → length images ≤ i → GrowsBy file (images_found size totalsize (map (read_image file) (drop i images))) a a
+  images_end a h = subst (λ (xs : List ImageFacts). GrowsBy file (images_found size totalsize (map (read_image file) xs)) a a) (sym (drop_of_length-le images h)) (grows_none file a)
 
 -- why there are no payloads
 module _ {X : Type 0} {r : Result X MapFault} {d e : Device} {a b : Contents} where
   pub refused_by : (fault : SurveyFault) → UsesAtMost (index_cost d.bytes) (is_unread {X = Survey} (Err fault)) d e → (IsTrue d.honest → Surveys d.bytes (Err fault)) → a.size ≡ length d.bytes
       → b.size ≡ a.size → is_read r ≡ is_unread {X = Survey} (Err fault)
-      → ((file : List ℕ) → Surveys file (Err fault) → OnOk r (Grows file (survey_told a.size (survey_of file)) a b))
+      → ((file : List ℕ) → Surveys file (Err fault) → OnOk r (GrowsBy file (survey_told a.size (survey_of file)) a b))
       → ((file : List ℕ) → Surveys file (Err fault) → IfErr r (λ fault. IsTrue (stops fault)))
-      → Gathers (λ file. index_cost file + 12 * images_in (survey_of file)) (λ file. survey_told (length file) (survey_of file)) r d e a b
+      → Gathers (λ file. index_cost file + 12 * image_count (survey_of file)) (λ file. survey_told (length file) (survey_of file)) r d e a b
   refused_by fault p told is size read grows stopped = record {
     uses = record {
       same = p.same;
@@ -45,7 +45,7 @@ module _ {X : Type 0} {r : Result X MapFault} {d e : Device} {a b : Contents} wh
       failures = subst (λ failed. RisesIf failed d.failures e.failures) (sym read) p.failures;
     };
     size = size;
-    grows = λ h. subst (λ (n : ℕ). OnOk r (Grows d.bytes (survey_told n (survey_of d.bytes)) a b)) is (grows d.bytes (told h));
+    grows = λ h. subst (λ (n : ℕ). OnOk r (GrowsBy d.bytes (survey_told n (survey_of d.bytes)) a b)) is (grows d.bytes (told h));
     stops = λ h. stopped d.bytes (told h);
   }
 
@@ -53,12 +53,12 @@ module _ {X : Type 0} {r : Result X MapFault} {d e : Device} {a b : Contents} wh
 module _ {X : Type 0} {x : X} {d e f : Device} {a b : Contents} where
   pub blocks_then : (n : FdtHeader) (end : Option ℕ) → Asks 40 false d e → Asks (length e.bytes) false e f → (IsTrue d.honest → Some n ≡ fdt_header_of d.bytes)
       → (IsTrue e.honest → EndsBlock e.bytes n.off_mem_rsvmap end) → a.size ≡ length d.bytes
-      → ((file : List ℕ) → Grows file (blocks_named n end a.size) a b) → Gathers (λ file. 40 + length file) (λ file. blocks_told file (fdt_header_of file)) (Ok x) d f a b
+      → ((file : List ℕ) → GrowsBy file (header_and_blocks n end a.size) a b) → Gathers (λ file. 40 + length file) (λ file. blocks_told file (fdt_header_of file)) (Ok x) d f a b
   blocks_then n end p q are ends is grows =
-      let named_at : IsTrue d.honest → blocks_named n end a.size ≡ blocks_told d.bytes (fdt_header_of d.bytes) = λ h.
+      let named_at : IsTrue d.honest → header_and_blocks n end a.size ≡ blocks_told d.bytes (fdt_header_of d.bytes) = λ h.
       let there : EndsBlock d.bytes n.off_mem_rsvmap end = subst (λ (file : List ℕ). EndsBlock file n.off_mem_rsvmap end) p.same.bytes (ends (subst IsTrue (sym p.same.honest) h)) in
-      ap (λ (k : Option ℕ). blocks_named n k a.size) (end_is d.bytes n.off_mem_rsvmap end there)
-      ∙ ap (λ (k : ℕ). blocks_named n (block_end d.bytes n.off_mem_rsvmap) k) is
+      ap (λ (k : Option ℕ). header_and_blocks n k a.size) (end_is d.bytes n.off_mem_rsvmap end there)
+      ∙ ap (λ (k : ℕ). header_and_blocks n (block_end d.bytes n.off_mem_rsvmap) k) is
       ∙ ap (λ (found : Option FdtHeader). blocks_told d.bytes found) (are h) in
       gathers_as (λ h. le_refl _) named_at
-      (reads_then (λ _. 40) (at_most p) (reads_and_grows {v = λ file. length file} {n = λ _. blocks_named n end a.size} (at_most q) grows))
+      (reads_then (λ _. 40) (at_most p) (reads_and_grows {v = λ file. length file} {n = λ _. header_and_blocks n end a.size} (at_most q) grows))

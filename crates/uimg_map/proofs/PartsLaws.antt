@@ -5,8 +5,8 @@ use Rattle.std.proofs.lemmas.List.{drop_more}
 use Rattle.std.proofs.Math.ListN.{drop_of_length-le}
 use Rattle.uimg_texts.specs.Numbers.{up4}
 use Rattle.uimg_map.specs.declared.contents.Contents.{Contents}
-use Rattle.uimg_map.specs.Contents.{Grows}
-use Rattle.uimg_map.specs.Found.{Told, joined, nothing}
+use Rattle.uimg_map.specs.Contents.{GrowsBy}
+use Rattle.uimg_map.specs.Found.{Told, found_then, nothing}
 use Rattle.uimg_map.specs.LegacyContents.{is_end, part_told, parts_told}
 use Rattle.uimg_map.proofs.ContentsLaws.{grows_none, grows_then}
 
@@ -25,11 +25,11 @@ is_end-drop (size ∷ sizes) zero = sym (lt-leb (length (size ∷ sizes)) 0 (ome
 is_end-drop (size ∷ sizes) (suc n) = is_end-drop sizes n ∙ leb_suc (length sizes) n
 
 -- a part that ends behind the data is the last
-told_outside : (end at number size : ℕ) (sizes : List ℕ) → nat_lt end (at + size) ≡ true → parts_told end at number (size ∷ sizes) ≡ joined (part_told true at number size (is_end sizes)) nothing
+told_outside : (end at number size : ℕ) (sizes : List ℕ) → nat_lt end (at + size) ≡ true → parts_told end at number (size ∷ sizes) ≡ found_then (part_told true at number size (is_end sizes)) nothing
 unfolding parts_told
 told_outside end at number size sizes e = rw e refl
 
-told_inside : (end at number size : ℕ) (sizes : List ℕ) → nat_lt end (at + size) ≡ false → parts_told end at number (size ∷ sizes) ≡ joined (part_told false at number size (is_end sizes)) (parts_told end (up4 (at + size)) (number + 1) sizes)
+told_inside : (end at number size : ℕ) (sizes : List ℕ) → nat_lt end (at + size) ≡ false → parts_told end at number (size ∷ sizes) ≡ found_then (part_told false at number size (is_end sizes)) (parts_told end (up4 (at + size)) (number + 1) sizes)
 unfolding parts_told
 told_inside end at number size sizes e = rw e refl
 
@@ -43,24 +43,24 @@ module _ (file table : List ℕ) (end at i w : ℕ) (there : i < length table) (
   from_here = drop_more table i 0 there ∙ ap (λ (x : ℕ). x ∷ drop (i + 1) table) (sym word)
 
   -- what the step adds
-  step : (a b : Contents) (outside : Bool) → nat_lt end (at + w) ≡ outside → Grows file (part_told (nat_lt end (at + w)) at i w (nat_le (length table) (i + 1))) a b → Grows file (part_told outside at i w (is_end (drop (i + 1) table))) a b
+  step : (a b : Contents) (outside : Bool) → nat_lt end (at + w) ≡ outside → GrowsBy file (part_told (nat_lt end (at + w)) at i w (nat_le (length table) (i + 1))) a b → GrowsBy file (part_told outside at i w (is_end (drop (i + 1) table))) a b
   step a b outside e p =
       let last : nat_le (length table) (i + 1) ≡ is_end (drop (i + 1) table) = sym (is_end-drop table (i + 1)) in
-      subst (λ (x : Bool). Grows file (part_told outside at i w x) a b) last
-      (subst (λ (x : Bool). Grows file (part_told x at i w (nat_le (length table) (i + 1))) a b) e p)
+      subst (λ (x : Bool). GrowsBy file (part_told outside at i w x) a b) last
+      (subst (λ (x : Bool). GrowsBy file (part_told x at i w (nat_le (length table) (i + 1))) a b) e p)
 
-  pub part_then : (a b c : Contents) → nat_lt end (at + w) ≡ false → Grows file (part_told (nat_lt end (at + w)) at i w (nat_le (length table) (i + 1))) a b → Grows file (parts_told end (up4 (at + w)) (i + 1) (drop (i + 1) table)) b c → Grows file (parts_told end at i (drop i table)) a c
+  pub part_then : (a b c : Contents) → nat_lt end (at + w) ≡ false → GrowsBy file (part_told (nat_lt end (at + w)) at i w (nat_le (length table) (i + 1))) a b → GrowsBy file (parts_told end (up4 (at + w)) (i + 1) (drop (i + 1) table)) b c → GrowsBy file (parts_told end at i (drop i table)) a c
   part_then a b c e p q =
       let told = ap (λ (ws : List ℕ). parts_told end at i ws) from_here ∙ told_inside end at i w (drop (i + 1) table) e in
-      subst (λ (t : Told). Grows file t a c) (sym told) (grows_then (step a b false e p) q)
+      subst (λ (t : Told). GrowsBy file t a c) (sym told) (grows_then (step a b false e p) q)
 
-  pub part_ends : (a b : Contents) → nat_lt end (at + w) ≡ true → Grows file (part_told (nat_lt end (at + w)) at i w (nat_le (length table) (i + 1))) a b → Grows file (parts_told end at i (drop i table)) a b
+  pub part_ends : (a b : Contents) → nat_lt end (at + w) ≡ true → GrowsBy file (part_told (nat_lt end (at + w)) at i w (nat_le (length table) (i + 1))) a b → GrowsBy file (parts_told end at i (drop i table)) a b
   part_ends a b e p =
       let told = ap (λ (ws : List ℕ). parts_told end at i ws) from_here ∙ told_outside end at i w (drop (i + 1) table) e in
-      subst (λ (t : Told). Grows file t a b) (sym told) (grows_then (step a b true e p) (grows_none file b))
+      subst (λ (t : Told). GrowsBy file t a b) (sym told) (grows_then (step a b true e p) (grows_none file b))
 
 -- no part is left
-pub parts_end : (file table : List ℕ) (end at i : ℕ) (a : Contents) → length table ≤ i → Grows file (parts_told end at i (drop i table)) a a
+pub parts_end : (file table : List ℕ) (end at i : ℕ) (a : Contents) → length table ≤ i → GrowsBy file (parts_told end at i (drop i table)) a a
 parts_end file table end at i a h =
     let told = ap (λ (ws : List ℕ). parts_told end at i ws) (drop_of_length-le table h) ∙ told_none end at i in
-    subst (λ (t : Told). Grows file t a a) (sym told) (grows_none file a)
+    subst (λ (t : Told). GrowsBy file t a a) (sym told) (grows_none file a)

@@ -5,7 +5,7 @@ use Rattle.std.proofs.lemmas.Bool.{ltb-true, ltb-false}
 use Rattle.uimg_texts.specs.Slices.{slice}
 use Rattle.std.specs.Prelude.{IsTrue}
 use Rattle.uimg_base.specs.Device.{Device, SameDevice}
-use Rattle.uimg_map.specs.Reservations.{zeros, GoesOn, EndsBehind, EndsBlock, end_among, block_end}
+use Rattle.uimg_map.specs.Reservations.{is_zero_entry, GoesOn, EndsBehind, EndsBlock, end_among, block_end}
 
 -- the entries up to a place do not end the block
 pub record Passed (file : List ℕ) (place at : ℕ) : Type 0 where
@@ -17,27 +17,27 @@ pub begun : (file : List ℕ) (place : ℕ) → Passed file place place
 begun file place = record { count = 0; at_is = omega arith; goes_on = λ j h. absurd (omega arith) }
 
 -- one more entry
-more_by : (file : List ℕ) (place count j : ℕ) → GoesOn file place count → zeros (slice file (place + 16 * count) 16) ≡ false → (b : Bool) → nat_lt j count ≡ b → j < count + 1 → zeros (slice file (place + 16 * j) 16) ≡ false
+more_by : (file : List ℕ) (place count j : ℕ) → GoesOn file place count → is_zero_entry (slice file (place + 16 * count) 16) ≡ false → (b : Bool) → nat_lt j count ≡ b → j < count + 1 → is_zero_entry (slice file (place + 16 * j) 16) ≡ false
 more_by file place count j on e true is h = on j (ltb-true j count is)
 more_by file place count j on e false is h =
     let from : count ≤ j = ltb-false j count is in
     let same : j ≡ count = omega (arith, from, h) in
-    subst (λ (n : ℕ). zeros (slice file (place + 16 * n) 16) ≡ false) (sym same) e
+    subst (λ (n : ℕ). is_zero_entry (slice file (place + 16 * n) 16) ≡ false) (sym same) e
 
-pub passed_more : (file : List ℕ) (place at : ℕ) → Passed file place at → zeros (slice file at 16) ≡ false → Passed file place (at + 16)
+pub passed_more : (file : List ℕ) (place at : ℕ) → Passed file place at → is_zero_entry (slice file at 16) ≡ false → Passed file place (at + 16)
 passed_more file place at p e =
-    let here : zeros (slice file (place + 16 * p.count) 16) ≡ false = subst (λ (n : ℕ). zeros (slice file n 16) ≡ false) p.at_is e in
+    let here : is_zero_entry (slice file (place + 16 * p.count) 16) ≡ false = subst (λ (n : ℕ). is_zero_entry (slice file n 16) ≡ false) p.at_is e in
     record {
       count = p.count + 1;
       at_is = omega (arith, p.at_is);
       goes_on = λ j h. more_by file place p.count j p.goes_on here (nat_lt j p.count) refl h;
     }
 
-pub ends_behind : (file : List ℕ) (place at : ℕ) → Passed file place at → zeros (slice file at 16) ≡ true → at + 16 ≤ length file → EndsBehind file place (at + 16)
+pub ends_behind : (file : List ℕ) (place at : ℕ) → Passed file place at → is_zero_entry (slice file at 16) ≡ true → at + 16 ≤ length file → EndsBehind file place (at + 16)
 ends_behind file place at p e inside = record {
   count = p.count;
   goes_on = p.goes_on;
-  last = subst (λ (n : ℕ). zeros (slice file n 16) ≡ true) p.at_is e;
+  last = subst (λ (n : ℕ). is_zero_entry (slice file n 16) ≡ true) p.at_is e;
   end_is = omega (arith, p.at_is);
   inside = inside;
 }
@@ -48,26 +48,26 @@ ends_nowhere file place at p out = λ count inside j h.
     p.goes_on j fewer
 
 -- the same of devices, where the entry was read
-pub passed_by : (d e : Device) (place at : ℕ) (is : Bool) → SameDevice d e → (IsTrue e.honest → is ≡ zeros (slice e.bytes at 16)) → is ≡ false → (IsTrue d.honest → Passed d.bytes place at) → IsTrue d.honest → Passed d.bytes place (at + 16)
+pub passed_by : (d e : Device) (place at : ℕ) (is : Bool) → SameDevice d e → (IsTrue e.honest → is ≡ is_zero_entry (slice e.bytes at 16)) → is ≡ false → (IsTrue d.honest → Passed d.bytes place at) → IsTrue d.honest → Passed d.bytes place (at + 16)
 passed_by d e place at is same last not_last p honest =
     let there : IsTrue e.honest = subst IsTrue (sym same.honest) honest in
-    let here : zeros (slice d.bytes at 16) ≡ false = subst (λ (bytes : List ℕ). zeros (slice bytes at 16) ≡ false) same.bytes (sym (last there) ∙ not_last) in
+    let here : is_zero_entry (slice d.bytes at 16) ≡ false = subst (λ (bytes : List ℕ). is_zero_entry (slice bytes at 16) ≡ false) same.bytes (sym (last there) ∙ not_last) in
     passed_more d.bytes place at (p honest) here
 
 -- an end is the one that the definition computes
-ends_among : (count n : ℕ) (file : List ℕ) (place : ℕ) → count < n → GoesOn file place count → zeros (slice file (place + 16 * count) 16) ≡ true → end_among n file place ≡ Some (place + 16 * count + 16)
+ends_among : (count n : ℕ) (file : List ℕ) (place : ℕ) → count < n → GoesOn file place count → is_zero_entry (slice file (place + 16 * count) 16) ≡ true → end_among n file place ≡ Some (place + 16 * count + 16)
 unfolding end_among
 ends_among count zero file place fits on last = absurd (omega arith)
 ends_among zero (suc n) file place fits on last =
-    let here : zeros (slice file place 16) ≡ true = subst (λ (at : ℕ). zeros (slice file at 16) ≡ true) (omega arith) last in
+    let here : is_zero_entry (slice file place 16) ≡ true = subst (λ (at : ℕ). is_zero_entry (slice file at 16) ≡ true) (omega arith) last in
     let end : place + 16 ≡ place + 16 * 0 + 16 = omega arith in
     rw here (ap Some end)
 ends_among (suc count) (suc n) file place fits on last =
     let first : place + 16 * 0 ≡ place = omega arith in
-    let here : zeros (slice file place 16) ≡ false = subst (λ (at : ℕ). zeros (slice file at 16) ≡ false) first (on 0 (omega arith)) in
+    let here : is_zero_entry (slice file place 16) ≡ false = subst (λ (at : ℕ). is_zero_entry (slice file at 16) ≡ false) first (on 0 (omega arith)) in
     let next : (j : ℕ) → place + 16 * (j + 1) ≡ place + 16 + 16 * j = λ j. omega arith in
-    let goes : GoesOn file (place + 16) count = λ j h. subst (λ (at : ℕ). zeros (slice file at 16) ≡ false) (next j) (on (j + 1) (omega arith)) in
-    let still : zeros (slice file (place + 16 + 16 * count) 16) ≡ true = subst (λ (at : ℕ). zeros (slice file at 16) ≡ true) (omega arith) last in
+    let goes : GoesOn file (place + 16) count = λ j h. subst (λ (at : ℕ). is_zero_entry (slice file at 16) ≡ false) (next j) (on (j + 1) (omega arith)) in
+    let still : is_zero_entry (slice file (place + 16 + 16 * count) 16) ≡ true = subst (λ (at : ℕ). is_zero_entry (slice file at 16) ≡ true) (omega arith) last in
     let end : place + 16 + 16 * count + 16 ≡ place + 16 * suc count + 16 = omega arith in
     rw here (ends_among count n file (place + 16) (omega arith) goes still ∙ ap Some end)
 
@@ -76,9 +76,9 @@ unfolding end_among
 ends_not zero file place on = refl
 ends_not (suc n) file place on =
     let first : place + 16 * 0 ≡ place = omega arith in
-    let here : zeros (slice file place 16) ≡ false = subst (λ (at : ℕ). zeros (slice file at 16) ≡ false) first (on 0 (omega arith)) in
+    let here : is_zero_entry (slice file place 16) ≡ false = subst (λ (at : ℕ). is_zero_entry (slice file at 16) ≡ false) first (on 0 (omega arith)) in
     let next : (j : ℕ) → place + 16 * (j + 1) ≡ place + 16 + 16 * j = λ j. omega arith in
-    rw here (ends_not n file (place + 16) (λ j h. subst (λ (at : ℕ). zeros (slice file at 16) ≡ false) (next j) (on (j + 1) (omega arith))))
+    rw here (ends_not n file (place + 16) (λ j h. subst (λ (at : ℕ). is_zero_entry (slice file at 16) ≡ false) (next j) (on (j + 1) (omega arith))))
 
 -- the entries of a file behind a place: none where the place is behind the file
 ends_not_within : (place : ℕ) (file : List ℕ) (n : ℕ) → 16 * n ≤ length file - place → EndsBlock file place None → end_among n file place ≡ None

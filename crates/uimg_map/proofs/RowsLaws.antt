@@ -4,7 +4,7 @@ use Rattle.std.specs.Prelude.{if◌then◌else◌}
 use Rattle.uimg_map.specs.declared.thing.Thing.{Thing}
 use Rattle.uimg_map.specs.declared.row.Row.{Row}
 use Rattle.uimg_map.specs.declared.row.Row.TheVariants.{Taken, Gap, Rest}
-use Rattle.uimg_map.specs.Rows.{end_of, further, overlapped, gap, rest, step, rows_from, thing_of, things_in}
+use Rattle.uimg_map.specs.Rows.{thing_end, further, overlapped, gap, rest, rows_of_thing, rows_from, thing_of, things_in}
 
 things_in-append : (rs qs : List Row) → things_in (rs ++ qs) ≡ things_in rs ++ things_in qs
 things_in-append [] qs = refl
@@ -44,27 +44,27 @@ unfolding rest
 length-rest size end = rest_length end size (nat_lt end size)
 
 -- the rows of a thing have that thing
-things_in-step : (size : ℕ) (last : Option Thing) (t : Thing) → things_in (step size last t) ≡ t ∷ []
+things_in-step : (size : ℕ) (last : Option Thing) (t : Thing) → things_in (rows_of_thing size last t) ≡ t ∷ []
 things_in-step size last t =
-    things_in-append (gap (end_of last) (min t.place size)) (Taken t (overlapped last t) ∷ [])
-    ∙ ap (λ (ts : List Thing). ts ++ t ∷ []) (things_in-gap (end_of last) (min t.place size))
+    things_in-append (gap (thing_end last) (min t.place size)) (Taken t (overlapped last t) ∷ [])
+    ∙ ap (λ (ts : List Thing). ts ++ t ∷ []) (things_in-gap (thing_end last) (min t.place size))
 
 -- the rows of things have these things, and in their order
 pub things_in-rows : (size : ℕ) (last : Option Thing) (ts : List Thing) → things_in (rows_from size last ts) ≡ ts
-things_in-rows size last [] = things_in-rest size (end_of last)
+things_in-rows size last [] = things_in-rest size (thing_end last)
 things_in-rows size last (t ∷ ts) =
-    things_in-append (step size last t) (rows_from size (further last t) ts)
+    things_in-append (rows_of_thing size last t) (rows_from size (further last t) ts)
     ∙ ap (λ (us : List Thing). us ++ things_in (rows_from size (further last t) ts)) (things_in-step size last t)
     ∙ ap (λ (us : List Thing). t ∷ us) (things_in-rows size (further last t) ts)
 
 -- there are at most twice as many rows as things, and one
 pub length-rows : (size : ℕ) (last : Option Thing) (ts : List Thing) → length (rows_from size last ts) ≤ 2 * length ts + 1
-length-rows size last [] = length-rest size (end_of last)
+length-rows size last [] = length-rest size (thing_end last)
 length-rows size last (t ∷ ts) =
-    let before : List Row = gap (end_of last) (min t.place size) in
+    let before : List Row = gap (thing_end last) (min t.place size) in
     let own : List Row = Taken t (overlapped last t) ∷ [] in
     let both = length-append (before ++ own) (rows_from size (further last t) ts) in
     let first = length-append before own in
-    let less = length-gap (end_of last) (min t.place size) in
+    let less = length-gap (thing_end last) (min t.place size) in
     let more = length-rows size (further last t) ts in
     omega (arith, both, first, less, more)

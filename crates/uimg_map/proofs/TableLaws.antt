@@ -7,7 +7,7 @@ use Rattle.uimg_base.specs.Device.{Device, SameDevice}
 use Rattle.uimg_texts.specs.Numbers.{be32}
 use Rattle.uimg_texts.specs.Slices.{slice}
 use Rattle.uimg_legacy.specs.declared.fault.LegacyFault.TheVariants.{NoTableEnd}
-use Rattle.uimg_legacy.specs.Words.{words}
+use Rattle.uimg_legacy.specs.Words.{whole_words}
 use Rattle.uimg_legacy.specs.Parts.{sizes, part_sizes}
 use Rattle.uimg_legacy.proofs.PartsLaws.{words-at, length-words, slice-slice, sizes_more, sizes_end, parts_some, parts_none, sizes-at}
 use Rattle.uimg_legacy.proofs.ChunkLaws.{sizes-le-words}
@@ -45,7 +45,7 @@ unfolding be32
 word_of file size i h = ap (λ (w : List ℕ). from_be_bytes w32 w) (slice-slice file 64 size (4 * i) 4 (omega arith))
 
 module _ (file : List ℕ) (size i : ℕ) where
-  is_word : (w : ℕ) → 4 * i + 4 ≤ size → word_at file i ≡ Some w → (i < length (words (slice file 64 size))) × (get_or (words (slice file 64 size)) i 0 ≡ w)
+  is_word : (w : ℕ) → 4 * i + 4 ≤ size → word_at file i ≡ Some w → (i < length (whole_words (slice file 64 size))) × (get_or (whole_words (slice file 64 size)) i 0 ≡ w)
   is_word w h e =
       let has = there file i w e in
       let most = length-data file size in
@@ -54,14 +54,14 @@ module _ (file : List ℕ) (size i : ℕ) where
       (omega (arith, fits, count.1), words-at (slice file 64 size) i fits ∙ word_of file size i h ∙ has.1)
 
   -- no word is there from this one on
-  pub lacks_words : word_at file i ≡ None → length (words (slice file 64 size)) ≤ i
+  pub lacks_words : word_at file i ≡ None → length (whole_words (slice file 64 size)) ≤ i
   lacks_words e =
       let short = lacking file i e in
       let most = length-data file size in
       let count = length-words (slice file 64 size) in
       omega (arith, short, most, count.0)
 
-  pub all_words : size / 4 ≤ i → length (words (slice file 64 size)) ≤ i
+  pub all_words : size / 4 ≤ i → length (whole_words (slice file 64 size)) ≤ i
   all_words h =
       let most = length-data file size in
       let count = length-words (slice file 64 size) in
@@ -80,7 +80,7 @@ module _ (file : List ℕ) (size i : ℕ) where
       let some : part_sizes (slice file 64 size) ≡ Ok (sizes (slice file 64 size)) = parts_some (slice file 64 size) (omega (arith, end, word.0)) in
       ap Some end ∙ ap count_in (sym some)
 
-  pub uncounted : i ≤ length (sizes (slice file 64 size)) → length (words (slice file 64 size)) ≤ i → None ≡ count_in (part_sizes (slice file 64 size))
+  pub uncounted : i ≤ length (sizes (slice file 64 size)) → length (whole_words (slice file 64 size)) ≤ i → None ≡ count_in (part_sizes (slice file 64 size))
   uncounted le all = ap count_in (sym (parts_none (slice file 64 size) (omega (arith, le, all))))
 
   -- a size is the word of its number
@@ -95,7 +95,7 @@ module _ (file : List ℕ) (size i : ℕ) where
       found file i (omega (arith, fits, most)) ∙ ap Some (sym word)
 
 -- a table that has an end, and one that has none
-counted_by : (d : List ℕ) (count : ℕ) (b : Bool) → nat_lt (length (sizes d)) (length (words d)) ≡ b → count_in (part_sizes d) ≡ Some count → (part_sizes d ≡ Ok (sizes d)) × (count ≡ length (sizes d))
+counted_by : (d : List ℕ) (count : ℕ) (b : Bool) → nat_lt (length (sizes d)) (length (whole_words d)) ≡ b → count_in (part_sizes d) ≡ Some count → (part_sizes d ≡ Ok (sizes d)) × (count ≡ length (sizes d))
 counted_by d count true is e =
     let some : part_sizes d ≡ Ok (sizes d) = parts_some d (ltb-true _ _ is) in
     let counts : Some (length (sizes d)) ≡ Some count = ap count_in (sym some) ∙ e in
@@ -106,9 +106,9 @@ counted_by d count false is e =
     absurd (cc)
 
 pub is_counted : (d : List ℕ) (count : ℕ) → count_in (part_sizes d) ≡ Some count → (part_sizes d ≡ Ok (sizes d)) × (count ≡ length (sizes d))
-is_counted d count e = counted_by d count (nat_lt (length (sizes d)) (length (words d))) refl e
+is_counted d count e = counted_by d count (nat_lt (length (sizes d)) (length (whole_words d))) refl e
 
-endless_by : (d : List ℕ) (b : Bool) → nat_lt (length (sizes d)) (length (words d)) ≡ b → count_in (part_sizes d) ≡ None → part_sizes d ≡ Err NoTableEnd
+endless_by : (d : List ℕ) (b : Bool) → nat_lt (length (sizes d)) (length (whole_words d)) ≡ b → count_in (part_sizes d) ≡ None → part_sizes d ≡ Err NoTableEnd
 endless_by d true is e =
     let some : part_sizes d ≡ Ok (sizes d) = parts_some d (ltb-true _ _ is) in
     let counts : Some (length (sizes d)) ≡ None = ap count_in (sym some) ∙ e in
@@ -116,7 +116,7 @@ endless_by d true is e =
 endless_by d false is e = parts_none d (ltb-false _ _ is)
 
 pub is_endless : (d : List ℕ) → count_in (part_sizes d) ≡ None → part_sizes d ≡ Err NoTableEnd
-is_endless d e = endless_by d (nat_lt (length (sizes d)) (length (words d))) refl e
+is_endless d e = endless_by d (nat_lt (length (sizes d)) (length (whole_words d))) refl e
 
 -- a word that was read of a device that is what it was
 pub read_word : (d e : Device) (i : ℕ) (word found : Option ℕ) → SameDevice d e → (IsTrue e.honest → word ≡ word_at e.bytes i) → word ≡ found → IsTrue d.honest → word_at d.bytes i ≡ found

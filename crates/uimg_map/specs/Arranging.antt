@@ -6,7 +6,7 @@ use Rattle.uimg_map.specs.declared.thing.Thing.{Thing}
 use Rattle.uimg_map.specs.declared.row.Row.{Row}
 use Rattle.uimg_map.specs.Rows.{rows_from, things_in}
 use Rattle.uimg_map.specs.Order.{InOrder}
-use Rattle.uimg_map.specs.Cover.{has, has_free, contains}
+use Rattle.uimg_map.specs.Cover.{is_in_row, has_free, contains}
 
 -- these are the rows of these things in a file of `size` bytes
 pub record Arranges (size : ℕ) (things : List Thing) (rows : List Row) : Type 0 where
@@ -19,6 +19,6 @@ pub record Arranges (size : ℕ) (things : List Thing) (rows : List Row) : Type 
   -- at most two rows a thing, and one more
   pub count : length rows ≤ 2 * length things + 1
   -- each byte of the file is in a row; a row without a thing has bytes of the file in no thing
-  pub covered : (i : ℕ) → i < size → list_any (has i) rows ≡ true
+  pub covered : (i : ℕ) → i < size → list_any (is_in_row i) rows ≡ true
   pub free : (i : ℕ) → list_any (has_free i) rows ≡ true
       → (i < size) × (list_any (contains i) things ≡ false)

@@ -7,8 +7,8 @@ use Rattle.uimg_map.specs.declared.thing.Thing.{Thing}
 -- The header and the three blocks by its numbers, in a file of `size` bytes; `end` is the end of
 -- the reservation block inside the file. Without one the block ends 16 bytes after its start or
 -- after the file's end, whichever is later, so outside the file.
-abbrev pub blocks_of : FdtHeader → Option ℕ → ℕ → List Thing
-blocks_of n end size =
+abbrev pub blocks_by : FdtHeader → Option ℕ → ℕ → List Thing
+blocks_by n end size =
     record { place = 0; end = 40; number = 0 }
     ∷ record {
       place = n.off_mem_rsvmap;

@@ -18,16 +18,16 @@ place_of (Taken t over) = t.place
 place_of (Gap place end) = place
 place_of (Rest place end) = place
 
-abbrev pub end_of : Row → ℕ
-end_of (Taken t over) = t.end
-end_of (Gap place end) = end
-end_of (Rest place end) = end
+abbrev pub row_end : Row → ℕ
+row_end (Taken t over) = t.end
+row_end (Gap place end) = end
+row_end (Rest place end) = end
 
 -- whether it is in a row
-abbrev pub has : ℕ → Row → Bool
-has i (Taken t over) = contains i t
-has i (Gap place end) = within i place end
-has i (Rest place end) = within i place end
+abbrev pub is_in_row : ℕ → Row → Bool
+is_in_row i (Taken t over) = contains i t
+is_in_row i (Gap place end) = within i place end
+is_in_row i (Rest place end) = within i place end
 
 -- whether it is in a row without a thing
 abbrev pub has_free : ℕ → Row → Bool

@@ -11,31 +11,31 @@ use Rattle.uimg_fit_reading.specs.PayloadPlaces.{place_said}
 use Rattle.uimg_map.specs.declared.fault.MapFault.TheVariants.{Fit}
 use Rattle.uimg_map.specs.declared.fdt_header.FdtHeader.{FdtHeader}
 use Rattle.uimg_map.specs.declared.thing.Thing.{Thing}
-use Rattle.uimg_map.specs.Blocks.{blocks_of}
+use Rattle.uimg_map.specs.Blocks.{blocks_by}
 use Rattle.uimg_map.specs.Found.{What, the_header, the_reservations, the_structure, the_strings}
-use Rattle.uimg_map.specs.Found.{payload_of, embedded_of, Found, Told, joined, nothing, thing}
+use Rattle.uimg_map.specs.Found.{payload_of, embedded_of, Found, Told, found_then, nothing, thing}
 use Rattle.uimg_map.specs.Found.{refused, refused_at, refused_behind}
 use Rattle.uimg_map.specs.FdtHeader.{fdt_header_of}
 use Rattle.uimg_map.specs.Reservations.{block_end}
 
 -- things with what they are
-abbrev pub named : List What → List Thing → List Found
-named (w ∷ ws) (t ∷ ts) = record { what = w; place = t.place; end = t.end } ∷ named ws ts
-named _ _ = []
+abbrev pub found_as : List What → List Thing → List Found
+found_as (w ∷ ws) (t ∷ ts) = record { what = w; place = t.place; end = t.end } ∷ found_as ws ts
+found_as _ _ = []
 
 -- the header of a blob, and the three blocks by its numbers
-abbrev pub blocks_named : FdtHeader → Option ℕ → ℕ → Told
-blocks_named n end size = record {
+abbrev pub header_and_blocks : FdtHeader → Option ℕ → ℕ → Told
+header_and_blocks n end size = record {
   found =
-      named (the_header ∷ the_reservations ∷ the_structure ∷ the_strings ∷ [])
-      (blocks_of n end size);
+      found_as (the_header ∷ the_reservations ∷ the_structure ∷ the_strings ∷ [])
+      (blocks_by n end size);
   fault = None;
 }
 
 -- the same for a file, if it has a header
 abbrev pub blocks_told : List ℕ → Option FdtHeader → Told
 blocks_told file None = nothing
-blocks_told file (Some n) = blocks_named n (block_end file n.off_mem_rsvmap) (length file)
+blocks_told file (Some n) = header_and_blocks n (block_end file n.off_mem_rsvmap) (length file)
 
 -- whether a payload at this span is the value of `data`
 unfoldable pub is_value : Option Span → Span → Bool
@@ -48,27 +48,27 @@ what_payload image span =
     if is_value image.payload.embedded span then embedded_of image.name else payload_of image.name
 
 abbrev pub payload_told : ℕ → ImageSaid → Result Span FitFault → Told
-payload_told size image (Ok span) = joined
+payload_told size image (Ok span) = found_then
     (thing (what_payload image span) span.place (span.place + span.length))
     (refused_behind size (span.place + span.length) (Fit (of.Fit DataOutside)))
 payload_told size image (Err fault) = refused (Fit (of.Fit fault))
 
 -- the payloads of images, in a file of `size` bytes whose blob has this total size
-abbrev pub image_told : ℕ → ℕ → ImageSaid → Told
-image_told size totalsize image = payload_told size image (place_said totalsize image.payload)
+abbrev pub image_found : ℕ → ℕ → ImageSaid → Told
+image_found size totalsize image = payload_told size image (place_said totalsize image.payload)
 
-abbrev pub images_told : ℕ → ℕ → List ImageSaid → Told
-images_told size totalsize [] = nothing
-images_told size totalsize (image ∷ images) =
-    joined (image_told size totalsize image) (images_told size totalsize images)
+abbrev pub images_found : ℕ → ℕ → List ImageSaid → Told
+images_found size totalsize [] = nothing
+images_found size totalsize (image ∷ images) =
+    found_then (image_found size totalsize image) (images_found size totalsize images)
 
 -- the payloads of a file with these facts, or its fault: a fault of the blob has an offset
 abbrev pub survey_told : ℕ → Result Said Fault → Told
-survey_told size (Ok said) = images_told size said.totalsize said.images
+survey_told size (Ok said) = images_found size said.totalsize said.images
 survey_told size (Err (of.Blob fault at)) = refused_at at (Fit (of.Blob fault at))
 survey_told size (Err fault) = refused (Fit fault)
 
 -- the header and the blocks, then the payloads
 unfoldable pub fit_contents : List ℕ → Told
 fit_contents file =
-    joined (blocks_told file (fdt_header_of file)) (survey_told (length file) (survey_of file))
+    found_then (blocks_told file (fdt_header_of file)) (survey_told (length file) (survey_of file))

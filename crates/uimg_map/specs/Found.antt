@@ -45,13 +45,13 @@ pub record Told : Type 0 where
   pub fault : Option MapFault
 
 -- the first of two faults
-abbrev pub first_of : Option MapFault → Option MapFault → Option MapFault
-first_of (Some fault) later = Some fault
-first_of None later = later
+abbrev pub earlier_fault : Option MapFault → Option MapFault → Option MapFault
+earlier_fault (Some fault) later = Some fault
+earlier_fault None later = later
 
 -- what is found first, then what is found next
-abbrev pub joined : Told → Told → Told
-joined a b = record { found = a.found ++ b.found; fault = first_of a.fault b.fault }
+abbrev pub found_then : Told → Told → Told
+found_then a b = record { found = a.found ++ b.found; fault = earlier_fault a.fault b.fault }
 
 -- nothing is found
 abbrev pub nothing : Told
@@ -68,7 +68,7 @@ refused fault = record { found = []; fault = Some fault }
 
 -- a fault with an offset
 abbrev pub refused_at : ℕ → MapFault → Told
-refused_at at fault = joined (thing (fault_of fault) at at) (refused fault)
+refused_at at fault = found_then (thing (fault_of fault) at at) (refused fault)
 
 -- a fault if something ends after a file of `size` bytes
 unfoldable pub refused_behind : ℕ → ℕ → MapFault → Told

@@ -13,7 +13,7 @@ use Rattle.uimg_legacy.specs.Parts.{has_parts, part_sizes}
 use Rattle.uimg_map.specs.declared.fault.MapFault.{MapFault}
 use Rattle.uimg_map.specs.declared.fault.MapFault.TheVariants.{Legacy}
 use Rattle.uimg_map.specs.Found.{the_header, the_table, the_data, part_at, the_padding, Told}
-use Rattle.uimg_map.specs.Found.{joined, nothing, thing, refused_at, refused_behind}
+use Rattle.uimg_map.specs.Found.{found_then, nothing, thing, refused_at, refused_behind}
 
 -- the fault of a legacy image
 abbrev pub legacy_fault : LegacyFault → MapFault
@@ -26,7 +26,7 @@ is_bad_crc _ = false
 
 -- a refused header is still one if its CRC is wrong, with the fault there, else at the start
 abbrev pub refused_with : Bool → LegacyFault → Told
-refused_with true fault = joined (thing the_header 0 64) (refused_at 4 (legacy_fault fault))
+refused_with true fault = found_then (thing the_header 0 64) (refused_at 4 (legacy_fault fault))
 refused_with false fault = refused_at 0 (legacy_fault fault)
 
 abbrev pub refused_header : LegacyFault → Told
@@ -35,7 +35,7 @@ refused_header fault = refused_with (is_bad_crc fault) fault
 -- the header of `count` bytes of data in a file of `size`; data that end after it are a fault
 abbrev pub header_told : ℕ → ℕ → Told
 header_told size count =
-    joined (thing the_header 0 64) (refused_behind size (64 + count) (legacy_fault Truncated))
+    found_then (thing the_header 0 64) (refused_behind size (64 + count) (legacy_fault Truncated))
 
 -- the bytes from the end of a part up to the next one, if there are any and it is not the last
 abbrev pub padding_told : ℕ → Bool → Told
@@ -46,9 +46,9 @@ padding_told stop false =
 -- a part and the padding after it; a part that ends after the data is a fault
 abbrev pub part_told : Bool → ℕ → ℕ → ℕ → Bool → Told
 part_told true at number size last =
-    joined (thing (part_at number) at (at + size)) (refused_at at (legacy_fault PartOutside))
+    found_then (thing (part_at number) at (at + size)) (refused_at at (legacy_fault PartOutside))
 part_told false at number size last =
-    joined (thing (part_at number) at (at + size)) (padding_told (at + size) last)
+    found_then (thing (part_at number) at (at + size)) (padding_told (at + size) last)
 
 -- whether no more sizes follow
 abbrev pub is_end : List ℕ → Bool
@@ -59,7 +59,7 @@ is_end (size ∷ sizes) = false
 -- begins after the one before, rounded up to a multiple of 4; one that ends after the data is last.
 unfoldable pub parts_told : ℕ → ℕ → ℕ → List ℕ → Told
 parts_told end at number [] = nothing
-parts_told end at number (size ∷ sizes) = joined
+parts_told end at number (size ∷ sizes) = found_then
     (part_told (nat_lt end (at + size)) at number size (is_end sizes))
     (if nat_lt end (at + size) then nothing else parts_told end (up4 (at + size)) (number + 1)
     sizes)
@@ -67,12 +67,12 @@ parts_told end at number (size ∷ sizes) = joined
 -- The table of sizes with its zero word, and the parts. A table without an end takes all the data,
 -- and is a fault unless the data are truncated.
 abbrev pub endless_told : ℕ → ℕ → LegacyFault → Told
-endless_told size count fault = joined
+endless_told size count fault = found_then
     (thing the_table 64 (64 + count))
     (if nat_lt size (64 + count) then nothing else refused_at (64 + count) (legacy_fault fault))
 
 abbrev pub table_told : ℕ → ℕ → Result (List ℕ) LegacyFault → Told
-table_told size count (Ok sizes) = joined
+table_told size count (Ok sizes) = found_then
     (thing the_table 64 (64 + 4 * (length sizes + 1)))
     (parts_told (64 + count) (64 + 4 * (length sizes + 1)) 0 sizes)
 table_told size count (Err fault) = endless_told size count fault
@@ -84,7 +84,7 @@ data_told file h false = thing the_data 64 (64 + h.size)
 
 abbrev pub legacy_told : List ℕ → Result Header LegacyFault → Told
 legacy_told file (Ok h) =
-    joined (header_told (length file) h.size) (data_told file h (has_parts h.kind))
+    found_then (header_told (length file) h.size) (data_told file h (has_parts h.kind))
 legacy_told file (Err fault) = refused_header fault
 
 -- the header, then the data

@@ -4,7 +4,7 @@ use Rattle.uimg_fit_base.specs.Files.{begins_as_blob}
 use Rattle.uimg_map.specs.declared.map.Map.{Map}
 use Rattle.uimg_map.specs.declared.thing.Thing.{Thing}
 use Rattle.uimg_map.specs.Arranging.{Arranges}
-use Rattle.uimg_map.specs.Contents.{numbered}
+use Rattle.uimg_map.specs.Contents.{numbered_things}
 use Rattle.uimg_map.specs.FitContents.{fit_contents}
 use Rattle.uimg_map.specs.Found.{Told, read_label}
 use Rattle.uimg_map.specs.LegacyContents.{legacy_contents}
@@ -22,7 +22,7 @@ contents_of file = if begins_as_blob file then fit_contents file else legacy_con
 -- label i says what that is; and the fault is the first one found.
 pub record IsMapOf (file : List ℕ) (found : Map) : Type 0 where
   -- exactly the things that the definition finds, thing i with number i
-  pub rows : Arranges (length file) (numbered 0 (contents_of file).found) found.rows.items
+  pub rows : Arranges (length file) (numbered_things 0 (contents_of file).found) found.rows.items
   -- each label, read in the file, names its thing
   pub labels : map (read_label file) found.labels.items ≡ map (λ f. f.what) (contents_of file).found
   -- the first fault, if there is one

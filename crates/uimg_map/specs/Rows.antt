@@ -6,18 +6,18 @@ use Rattle.uimg_map.specs.declared.row.Row.{Row}
 use Rattle.uimg_map.specs.declared.row.Row.TheVariants.{Taken, Gap, Rest}
 
 -- where a thing ends; without one, the file's start
-abbrev pub end_of : Option Thing → ℕ
-end_of None = 0
-end_of (Some t) = t.end
+abbrev pub thing_end : Option Thing → ℕ
+thing_end None = 0
+thing_end (Some t) = t.end
 
 -- the one that ends later; the earlier one if both end at the same offset
 abbrev pub further : Option Thing → Thing → Option Thing
-further last t = if nat_lt (end_of last) t.end then Some t else last
+further last t = if nat_lt (thing_end last) t.end then Some t else last
 
 -- The thing that ends last, if another one, which begins no earlier, shares bytes with it; a thing
 -- without bytes overlaps nothing.
 unfoldable pub overlapped : Option Thing → Thing → Option Thing
-overlapped last t = if nat_lt t.place (min (end_of last) t.end) then last else None
+overlapped last t = if nat_lt t.place (min (thing_end last) t.end) then last else None
 
 -- the bytes from an end up to an offset, if there are any, before a thing
 unfoldable pub gap : ℕ → ℕ → List Row
@@ -28,13 +28,14 @@ unfoldable pub rest : ℕ → ℕ → List Row
 rest size end = if nat_lt end size then Rest end size ∷ [] else []
 
 -- the rows of a thing after others: the bytes before it, as far as the file has them, and its own
-abbrev pub step : ℕ → Option Thing → Thing → List Row
-step size last t = gap (end_of last) (min t.place size) ++ Taken t (overlapped last t) ∷ []
+abbrev pub rows_of_thing : ℕ → Option Thing → Thing → List Row
+rows_of_thing size last t =
+    gap (thing_end last) (min t.place size) ++ Taken t (overlapped last t) ∷ []
 
 -- The rows of things in order, in a file of `size` bytes, after others of which `last` ends last.
 abbrev pub rows_from : ℕ → Option Thing → List Thing → List Row
-rows_from size last [] = rest size (end_of last)
-rows_from size last (t ∷ ts) = step size last t ++ rows_from size (further last t) ts
+rows_from size last [] = rest size (thing_end last)
+rows_from size last (t ∷ ts) = rows_of_thing size last t ++ rows_from size (further last t) ts
 
 -- the things of rows
 abbrev pub thing_of : Row → List Thing

@@ -12,26 +12,26 @@ use Rattle.uimg_legacy.specs.Parts.{has_parts, sizes}
 use Rattle.uimg_fit_base.specs.Files.{begins_as_blob}
 
 -- the number of images of a file
-abbrev pub images_in : Result Said Fault → ℕ
-images_in (Ok said) = length said.images
-images_in (Err fault) = 0
+abbrev pub image_count : Result Said Fault → ℕ
+image_count (Ok said) = length said.images
+image_count (Err fault) = 0
 
 -- of a FIT image: the header's numbers, the reservation block in the file, the index, 12 an image
 abbrev pub fit_work : List ℕ → ℕ
-fit_work file = 40 + length file + (index_cost file + 12 * images_in (survey_of file))
+fit_work file = 40 + length file + (index_cost file + 12 * image_count (survey_of file))
 
 -- of the data of a legacy image: each size twice, and the word after them once
-abbrev pub table_work : Bool → List ℕ → ℕ
-table_work true data_bytes = 8 * length (sizes data_bytes) + 4
-table_work false data_bytes = 0
+abbrev pub legacy_table_work : Bool → List ℕ → ℕ
+legacy_table_work true data_bytes = 8 * length (sizes data_bytes) + 4
+legacy_table_work false data_bytes = 0
 
-abbrev pub data_work : List ℕ → Result Header LegacyFault → ℕ
-data_work file (Ok h) = table_work (has_parts h.kind) (payload file h)
-data_work file (Err fault) = 0
+abbrev pub legacy_data_work : List ℕ → Result Header LegacyFault → ℕ
+legacy_data_work file (Ok h) = legacy_table_work (has_parts h.kind) (payload file h)
+legacy_data_work file (Err fault) = 0
 
 -- of a legacy image: the header, and the data
 abbrev pub legacy_work : List ℕ → ℕ
-legacy_work file = 64 + data_work file (header file)
+legacy_work file = 64 + legacy_data_work file (header file)
 
 -- of any file: the four bytes of the format, then those of the format
 abbrev pub map_work : List ℕ → ℕ

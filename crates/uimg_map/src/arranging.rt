@@ -2,7 +2,7 @@
 
 ghost use Rattle.std.specs.Prelude.{◌≡◌, ◌++◌, None, IfOk, OnOk};
 ghost use Rattle.uimg_map.specs.Arranging.{Arranges};
-ghost use Rattle.uimg_map.specs.Rows.{end_of, further, overlapped, step, rest, rows_from};
+ghost use Rattle.uimg_map.specs.Rows.{thing_end, further, overlapped, rows_of_thing, rest, rows_from};
 
 use crate::row::Row;
 use crate::thing::Thing;
@@ -10,7 +10,7 @@ use std::alloc::{AllocError, Global};
 
 // Returns where a thing ends; without one, the file's start.
 fn end_of(last: Option<Thing>) -> u64
-    ensures { result ≡ end_of last }
+    ensures { result ≡ thing_end last }
 {
     match last {
         Some(thing) => thing.end,
@@ -44,7 +44,7 @@ fn overlapped(last: Option<Thing>, thing: Thing) -> Option<Thing>
 // Adds the rows of the next thing: the gap before it, if there is one, and its own.
 #[tactic(auto, unfolding(crate::specs::Rows::gap))]
 fn add(rows: &mut Vec<Row>, size: u64, last: Option<Thing>, thing: Thing) -> Result<(), AllocError>
-    ensures { OnOk result (rows.new.items ≡ rows.old.items ++ step size last thing) }
+    ensures { OnOk result (rows.new.items ≡ rows.old.items ++ rows_of_thing size last thing) }
 {
     let (end, next) = (end_of(last), u64::min(thing.place, size));
     if end < next {
@@ -57,7 +57,7 @@ fn add(rows: &mut Vec<Row>, size: u64, last: Option<Thing>, thing: Thing) -> Res
 // Adds the row of the bytes after all things, if there are any.
 #[tactic(auto, unfolding(crate::specs::Rows::rest))]
 fn add_rest(rows: &mut Vec<Row>, size: u64, last: Option<Thing>) -> Result<(), AllocError>
-    ensures { OnOk result (rows.new.items ≡ rows.old.items ++ rest size (end_of last)) }
+    ensures { OnOk result (rows.new.items ≡ rows.old.items ++ rest size (thing_end last)) }
 {
     if end_of(last) < size {
         rows.push(Row::Rest(end_of(last), size))?;

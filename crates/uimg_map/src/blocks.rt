@@ -1,7 +1,7 @@
 //! The header of a devicetree blob and the blocks by its numbers.
 
 ghost use Rattle.std.specs.Prelude.{◌≡◌, ◌+◌};
-ghost use Rattle.uimg_map.specs.Blocks.{blocks_of};
+ghost use Rattle.uimg_map.specs.Blocks.{blocks_by};
 
 use crate::fdt_header::{BLOB_HEADER_LEN, FdtHeader};
 use crate::thing::Thing;
@@ -24,7 +24,7 @@ fn block(place: u32, size: u32, number: usize) -> Thing
 /// block, numbered from 0 to 3, by the numbers of the header, in a file of `size` bytes. A
 /// reservation block without an end in the file is taken to end with an entry after the file's end.
 pub fn blocks_of(header: &FdtHeader, reservations_end: Option<u64>, size: u64) -> [Thing; 4]
-    ensures { result ≡ blocks_of header.now reservations_end size }
+    ensures { result ≡ blocks_by header.now reservations_end size }
 {
     let place = header.off_mem_rsvmap as u64;
     let behind = u64::max(place, size).saturating_add(ENTRY_LEN);

@@ -1,7 +1,7 @@
 //! Collects what is in the file of an image.
 
 ghost use Rattle.std.specs.Prelude.{◌≡◌, [], None, List, ℕ};
-ghost use Rattle.uimg_map.specs.Contents.{Grows, Adds};
+ghost use Rattle.uimg_map.specs.Contents.{GrowsBy, AddsFound};
 ghost use Rattle.uimg_map.specs.Found.{read_label, thing, refused, refused_at, refused_behind};
 
 use crate::fault::MapFault;
@@ -80,7 +80,8 @@ impl Contents {
 
     /// Adds a thing from an offset up to an end.
     pub(crate) fn add(&mut self, place: u64, end: u64, label: Label) -> Result<(), MapFault>
-        ensures { Adds (λ file. thing (read_label file label) place end) result self.old self.new }
+        ensures { AddsFound
+            (λ file. thing (read_label file label) place end) result self.old self.new }
     {
         let number = self.labels.len();
         self.labels.push(label)?;
@@ -90,7 +91,7 @@ impl Contents {
 
     /// Adds a fault with an offset.
     pub(crate) fn refuse_at(&mut self, place: u64, fault: MapFault) -> Result<(), MapFault>
-        ensures { Adds (λ _. refused_at place fault) result self.old self.new }
+        ensures { AddsFound (λ _. refused_at place fault) result self.old self.new }
     {
         self.add(place, place, Label::Fault(fault))?;
         self.refuse(fault);
@@ -99,7 +100,7 @@ impl Contents {
 
     /// Sets the fault of the image, if it has none yet.
     pub(crate) fn refuse(&mut self, fault: MapFault)
-        ensures { (file : List ℕ) → Grows file (refused fault) self.old self.new }
+        ensures { (file : List ℕ) → GrowsBy file (refused fault) self.old self.new }
     {
         if self.fault.is_none() {
             self.fault = Some(fault);
@@ -109,7 +110,7 @@ impl Contents {
     /// Sets the fault of the image, if something ends after the file.
     #[tactic(auto, unfolding(crate::specs::Found::refused_behind))]
     pub(crate) fn refuse_behind(&mut self, end: u64, fault: MapFault)
-        ensures { (file : List ℕ) → Grows file (refused_behind self.old.size end fault) self.old self.new }
+        ensures { (file : List ℕ) → GrowsBy file (refused_behind self.old.size end fault) self.old self.new }
     {
         if end > self.size {
             self.refuse(fault);

@@ -6,12 +6,12 @@ ghost use Rattle.uimg_blob_reading.specs.Faults.{refuses_memory};
 ghost use Rattle.uimg_fit_checking.specs.Survey.{read_image, survey_of};
 ghost use Rattle.uimg_fit_checking.specs.declared.surveying.facts.Survey.{Survey};
 ghost use Rattle.uimg_fit_checking.specs.SurveyParts.{ImageInside, SurveyInside, is_unread, Surveys};
-ghost use Rattle.uimg_map.specs.Contents.{Grows, Adds, Gathers};
+ghost use Rattle.uimg_map.specs.Contents.{GrowsBy, AddsFound, Gathers};
 ghost use Rattle.uimg_map.specs.Faults.{is_read, stops};
-ghost use Rattle.uimg_map.specs.FitContents.{blocks_told, is_value, what_payload, payload_told, image_told, images_told, survey_told, fit_contents};
+ghost use Rattle.uimg_map.specs.FitContents.{blocks_told, is_value, what_payload, payload_told, image_found, images_found, survey_told, fit_contents};
 ghost use Rattle.uimg_map.specs.Found.{read_label};
 ghost use Rattle.uimg_map.specs.FdtHeader.{fdt_header_of};
-ghost use Rattle.uimg_map.specs.Work.{images_in, fit_work};
+ghost use Rattle.uimg_map.specs.Work.{image_count, fit_work};
 
 use crate::blocks::blocks_of;
 use crate::contents::{Contents, Label};
@@ -66,7 +66,7 @@ fn add_surveyed<S: Source>(
     contents: &mut Contents,
 ) -> Result<(), MapFault>
     requires { contents.old.size ≡ length (S.device source.old).bytes }
-    ensures { Gathers (λ file. index_cost file + 12 * images_in (survey_of file))
+    ensures { Gathers (λ file. index_cost file + 12 * image_count (survey_of file))
         (λ file. survey_told (length file) (survey_of file)) result
         (S.device source.old) (S.device source.new) contents.old contents.new }
 {
@@ -90,7 +90,7 @@ fn add_refused(fault: Fault, contents: &mut Contents) -> Result<(), MapFault>
     ensures size { contents.new.size ≡ contents.old.size }
     ensures read { is_read result ≡ is_unread {X = Survey} (Err (SurveyFault.Stopped fault)) }
     ensures grows { (file : List ℕ) → Surveys file (Err (SurveyFault.Stopped fault)) →
-        OnOk result (Grows file (survey_told contents.old.size (survey_of file)) contents.old contents.new) }
+        OnOk result (GrowsBy file (survey_told contents.old.size (survey_of file)) contents.old contents.new) }
     ensures stops { (file : List ℕ) → Surveys file (Err (SurveyFault.Stopped fault)) →
         IfErr result (λ fault. IsTrue (stops fault)) }
 {
@@ -130,7 +130,7 @@ fn add_payloads<S: Source>(
     requires survey { SurveyInside (length (S.device source.old).bytes) survey.now }
     requires size { contents.old.size ≡ length (S.device source.old).bytes }
     ensures { Gathers (λ _. 12 * length survey.now.images.items)
-        (λ file. images_told (length file) survey.now.totalsize (map (read_image file) survey.now.images.items))
+        (λ file. images_found (length file) survey.now.totalsize (map (read_image file) survey.now.images.items))
         result (S.device source.old) (S.device source.new) contents.old contents.new }
 {
     for image in &survey.images {
@@ -149,7 +149,7 @@ fn add_image<S: Source>(
     requires image { ImageInside totalsize image.now }
     requires blob { totalsize ≤ length (S.device source.old).bytes }
     requires size { contents.old.size ≡ length (S.device source.old).bytes }
-    ensures { Gathers (λ _. 12) (λ file. image_told (length file) totalsize (read_image file image.now))
+    ensures { Gathers (λ _. 12) (λ file. image_found (length file) totalsize (read_image file image.now))
         result (S.device source.old) (S.device source.new) contents.old contents.new }
 {
     match find_payload(source, totalsize, &image.payload)? {
@@ -167,7 +167,7 @@ fn add_image<S: Source>(
 // Adds the payload of an image at this span.
 fn add_payload(image: &ImageFacts, span: Span, contents: &mut Contents) -> Result<(), MapFault>
     requires { (span.place < 2 ^ 41) × (span.length < 2 ^ 32) }
-    ensures { Adds (λ file. payload_told contents.old.size (read_image file image.now) (Ok span)) result
+    ensures { AddsFound (λ file. payload_told contents.old.size (read_image file image.now) (Ok span)) result
         contents.old contents.new }
 {
     let end = span.place + span.length;

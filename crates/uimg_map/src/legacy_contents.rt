@@ -5,10 +5,10 @@ ghost use Rattle.uimg_base.specs.Honest.{HonestSource};
 ghost use Rattle.uimg_base.specs.Using.{Asks, UsesAtMost};
 ghost use Rattle.uimg_legacy.specs.Image.{payload};
 ghost use Rattle.uimg_legacy.specs.Parts.{has_parts, sizes, part_sizes};
-ghost use Rattle.uimg_map.specs.Contents.{Adds, Gathers};
+ghost use Rattle.uimg_map.specs.Contents.{AddsFound, Gathers};
 ghost use Rattle.uimg_map.specs.LegacyContents.{legacy_fault, is_bad_crc, refused_header, header_told, padding_told, part_told, parts_told, endless_told, table_told, data_told, legacy_contents};
 ghost use Rattle.uimg_map.specs.Tables.{word_at, count_in};
-ghost use Rattle.uimg_map.specs.Work.{legacy_work, table_work};
+ghost use Rattle.uimg_map.specs.Work.{legacy_work, legacy_table_work};
 ghost use Rattle.uimg_texts.specs.Slices.{slice};
 
 use crate::contents::{Contents, Label};
@@ -47,7 +47,7 @@ fn legacy_fault(fault: LegacyFault) -> MapFault
 
 // Adds a refused header, if there is one, and its fault.
 fn add_refused(fault: LegacyFault, contents: &mut Contents) -> Result<(), MapFault>
-    ensures { Adds (λ _. refused_header fault) result contents.old contents.new }
+    ensures { AddsFound (λ _. refused_header fault) result contents.old contents.new }
 {
     if is_bad_crc(fault) {
         contents.add(0, HEADER_LEN as u64, Label::Header)?;
@@ -70,7 +70,7 @@ fn is_bad_crc(fault: LegacyFault) -> bool
 
 // Adds the header of `size` bytes of data.
 fn add_header(size: u32, contents: &mut Contents) -> Result<(), MapFault>
-    ensures { Adds (λ _. header_told contents.old.size size) result contents.old contents.new }
+    ensures { AddsFound (λ _. header_told contents.old.size size) result contents.old contents.new }
 {
     contents.add(0, HEADER_LEN as u64, Label::Header)?;
     contents.refuse_behind(end_of(size), legacy_fault(LegacyFault::Truncated));
@@ -91,7 +91,8 @@ fn add_data<S: Source>(
     contents: &mut Contents,
 ) -> Result<(), MapFault>
     requires { contents.old.size ≡ length (S.device source.old).bytes }
-    ensures { Gathers (λ file. table_work (has_parts header.now.kind) (payload file header.now))
+    ensures { Gathers
+        (λ file. legacy_table_work (has_parts header.now.kind) (payload file header.now))
         (λ file. data_told file header.now (has_parts header.now.kind)) result
         (S.device source.old) (S.device source.new) contents.old contents.new }
 {
@@ -106,7 +107,7 @@ fn add_data<S: Source>(
 // Adds the table of sizes of `size` bytes of data, and the parts.
 fn add_table<S: Source>(source: &mut S, size: u32, contents: &mut Contents) -> Result<(), MapFault>
     requires { contents.old.size ≡ length (S.device source.old).bytes }
-    ensures { Gathers (λ file. table_work true (slice file 64 size))
+    ensures { Gathers (λ file. legacy_table_work true (slice file 64 size))
         (λ file. table_told (length file) size (part_sizes (slice file 64 size))) result
         (S.device source.old) (S.device source.new) contents.old contents.new }
 {
@@ -132,7 +133,7 @@ fn first_part(count: u32) -> u64
 
 // Adds a table without an end, of `size` bytes of data.
 fn add_endless(size: u32, contents: &mut Contents) -> Result<(), MapFault>
-    ensures { Adds (λ _. endless_told contents.old.size size LegacyFault.NoTableEnd) result
+    ensures { AddsFound (λ _. endless_told contents.old.size size LegacyFault.NoTableEnd) result
         contents.old contents.new }
 {
     let end = end_of(size);
@@ -218,7 +219,7 @@ fn add_part(
     contents: &mut Contents,
 ) -> Result<bool, MapFault>
     requires { at < 2 ^ 36 }
-    ensures adds { Adds (λ _. part_told (nat_lt end (at + size)) at number size is_last) result
+    ensures adds { AddsFound (λ _. part_told (nat_lt end (at + size)) at number size is_last) result
         contents.old contents.new }
     ensures outside { IfOk result (λ outside. outside ≡ nat_lt end (at + size)) }
 {
@@ -235,7 +236,7 @@ fn add_part(
 // Adds the bytes from the end of a part up to the next part, unless it is the last.
 fn add_padding(stop: u64, is_last: bool, contents: &mut Contents) -> Result<(), MapFault>
     requires { stop < 2 ^ 37 }
-    ensures { Adds (λ _. padding_told stop is_last) result contents.old contents.new }
+    ensures { AddsFound (λ _. padding_told stop is_last) result contents.old contents.new }
 {
     if is_last {
         return Ok(());

@@ -3,7 +3,7 @@
 ghost use Rattle.std.specs.Prelude.{◌≡◌, ◌+◌, ◌≤◌, length, is_err, IfOk, IfSome};
 ghost use Rattle.uimg_base.specs.Honest.{HonestSource};
 ghost use Rattle.uimg_base.specs.Using.{Asks};
-ghost use Rattle.uimg_map.specs.Reservations.{zeros, EndsBlock};
+ghost use Rattle.uimg_map.specs.Reservations.{is_zero_entry, EndsBlock};
 ghost use Rattle.uimg_texts.specs.Slices.{slice};
 
 use uimg_base::{Source, SourceFault};
@@ -16,7 +16,7 @@ fn is_last<S: Source>(source: &mut S, at: u64) -> Result<bool, SourceFault>
     requires { at + 16 ≤ length (S.device source.old).bytes }
     ensures uses { Asks 16 (is_err result) (S.device source.old) (S.device source.new) }
     ensures last { HonestSource S.device source →
-        IfOk result (λ is. is ≡ zeros (slice (S.device source.old).bytes at 16)) }
+        IfOk result (λ is. is ≡ is_zero_entry (slice (S.device source.old).bytes at 16)) }
 {
     let mut entry = [0; ENTRY_LEN];
     source.fill_at(at, &mut entry)?;

@@ -1,7 +1,7 @@
 //! The rows of a map.
 
 ghost use Rattle.std.specs.Prelude.{◌≡◌};
-ghost use Rattle.uimg_map.specs.Cover.{place_of, end_of};
+ghost use Rattle.uimg_map.specs.Cover.{place_of, row_end};
 
 use crate::thing::Thing;
 
@@ -32,7 +32,7 @@ impl Row {
 
     /// Returns the offset after its last byte.
     pub fn end(&self) -> u64
-        ensures { result ≡ end_of self.now }
+        ensures { result ≡ row_end self.now }
     {
         match *self {
             Row::Taken(thing, _) => thing.end,

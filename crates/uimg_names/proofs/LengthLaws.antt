@@ -7,7 +7,7 @@ use Rattle.std.specs.Str.{bytes_eq, str_eq_ignore_ascii_case, str_to_ascii_lower
 use Rattle.std.proofs.lemmas.Bool.{and_parts, ltb-true}
 use Rattle.std.proofs.lemmas.List.{length-map}
 use Rattle.std.proofs.lemmas.Slice.Eq.{bytes_eq-Decides}
-use Rattle.uimg_texts.specs.Names.{Row, code_of}
+use Rattle.uimg_texts.specs.Names.{NameRow, code_of}
 use Rattle.uimg_names.specs.declared.field.Field.{Field}
 use Rattle.uimg_names.specs.declared.field.Field.TheVariants.{Architecture, System, Kind, Compression}
 use Rattle.uimg_names.specs.declared.naming.Naming.{Naming}
@@ -15,7 +15,7 @@ use Rattle.uimg_names.specs.declared.naming.Naming.TheVariants.{Profile, All}
 use Rattle.uimg_names.specs.Naming.{profile_rows, all_rows, unknown, code_in_any_case, code_text, code_named, name_text}
 
 -- each short name of some rows has at most 31 bytes
-abbrev AreShort : List Row → Bool
+abbrev AreShort : List NameRow → Bool
 AreShort rows = list_all (λ r. nat_lt (length r.short) 32) rows
 
 by_bool : {P : Type 0} (b : Bool) → (b ≡ true → P) → (b ≡ false → P) → P
@@ -23,17 +23,17 @@ by_bool true = λ yes no. yes refl
 by_bool false = λ yes no. no refl
 
 -- no row has a longer name
-none_longer : (rows : List Row) (name : List ℕ) → AreShort rows ≡ true → 31 < length name → code_of rows name ≡ None
+none_longer : (rows : List NameRow) (name : List ℕ) → AreShort rows ≡ true → 31 < length name → code_of rows name ≡ None
 none_longer [] name short long = refl
 none_longer (r ∷ rs) name short long =
     let parts = and_parts (nat_lt (length r.short) 32) (AreShort rs) short in
     let below : length r.short < 32 = ltb-true (length r.short) 32 parts.0 in
     by_bool (bytes_eq name r.short)
     (λ same. let is : name ≡ r.short = (bytes_eq-Decides name r.short).0 same in absurd (omega (arith, ap length is, below, long)))
-    (λ differs. ap (λ (b : Bool). option_map (λ (x : Row). x.code) (cond b (Some r) (find (λ (x : Row). bytes_eq name x.short) rs))) differs ∙ none_longer rs name parts.1 long)
+    (λ differs. ap (λ (b : Bool). option_map (λ (x : NameRow). x.code) (cond b (Some r) (find (λ (x : NameRow). bytes_eq name x.short) rs))) differs ∙ none_longer rs name parts.1 long)
 
 -- nor has one a name that is longer but for its letters
-none_longer_in_any_case : (rows : List Row) (name : List ℕ) → AreShort rows ≡ true → 31 < length name → code_in_any_case rows name ≡ None
+none_longer_in_any_case : (rows : List NameRow) (name : List ℕ) → AreShort rows ≡ true → 31 < length name → code_in_any_case rows name ≡ None
 none_longer_in_any_case [] name short long = refl
 none_longer_in_any_case (r ∷ rs) name short long =
     let parts = and_parts (nat_lt (length r.short) 32) (AreShort rs) short in
@@ -42,7 +42,7 @@ none_longer_in_any_case (r ∷ rs) name short long =
     (λ same.
     let is : str_to_ascii_lowercase r.short ≡ str_to_ascii_lowercase name = (bytes_eq-Decides (str_to_ascii_lowercase r.short) (str_to_ascii_lowercase name)).0 same in
     absurd (omega (arith, ap length is, length-map r.short to_ascii_lowercase, length-map name to_ascii_lowercase, below, long)))
-    (λ differs. ap (λ (b : Bool). option_map (λ (x : Row). x.code) (cond b (Some r) (find (λ (x : Row). str_eq_ignore_ascii_case x.short name) rs))) differs ∙ none_longer_in_any_case rs name parts.1 long)
+    (λ differs. ap (λ (b : Bool). option_map (λ (x : NameRow). x.code) (cond b (Some r) (find (λ (x : NameRow). str_eq_ignore_ascii_case x.short name) rs))) differs ∙ none_longer_in_any_case rs name parts.1 long)
 
 profile_short : (field : Field) → AreShort (profile_rows field) ≡ true
 profile_short Architecture = refl

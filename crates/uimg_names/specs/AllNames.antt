@@ -1,9 +1,9 @@
 -- All names of image.h of U-Boot 2023.01, with their codes, sorted by short name.
 use Rattle.std.specs.Prelude.{List, [], ◌∷◌, codes}
-use Rattle.uimg_texts.specs.Names.{Row, row}
+use Rattle.uimg_texts.specs.Names.{NameRow, row}
 
 -- IH_ARCH_
-abbrev pub all_architectures : List Row
+abbrev pub all_architectures : List NameRow
 all_architectures =
     row (codes "alpha") 1 (codes "Alpha")
     ∷ row (codes "arc") 23 (codes "ARC")
@@ -34,7 +34,7 @@ all_architectures =
     ∷ []
 
 -- IH_OS_
-abbrev pub all_systems : List Row
+abbrev pub all_systems : List NameRow
 all_systems =
     row (codes "4_4bsd") 4 (codes "4_4BSD")
     ∷ row (codes "arm-trusted-firmware") 25 (codes "ARM Trusted Firmware")
@@ -65,7 +65,7 @@ all_systems =
     ∷ []
 
 -- IH_TYPE_
-abbrev pub all_types : List Row
+abbrev pub all_types : List NameRow
 all_types =
     row (codes "aisimage") 13 (codes "Davinci AIS image")
     ∷ row (codes "atmelimage") 18 (codes "ATMEL ROM-Boot Image")
@@ -111,7 +111,7 @@ all_types =
     ∷ []
 
 -- IH_COMP_
-abbrev pub all_compressions : List Row
+abbrev pub all_compressions : List NameRow
 all_compressions =
     row (codes "bzip2") 2 (codes "bzip2 compressed")
     ∷ row (codes "gzip") 1 (codes "gzip compressed")

@@ -3,7 +3,7 @@
 ghost use Rattle.std.specs.Prelude.{◌≡◌, map};
 ghost use Rattle.std.specs.Str.{str_eq_ignore_ascii_case};
 ghost use Rattle.uimg_texts.specs.CodeRows.{row_of};
-ghost use Rattle.uimg_texts.specs.Names.{printed};
+ghost use Rattle.uimg_texts.specs.Names.{name_printed};
 ghost use Rattle.uimg_names.specs.Naming.{unknown, all_rows, code_in_any_case};
 
 use crate::all_names::{ARCHITECTURES, COMPRESSIONS, SYSTEMS, TYPES};
@@ -53,7 +53,7 @@ impl Field {
 
     // Returns the printed name of a code in image.h.
     pub(crate) fn text_of(self, code: u8) -> &'static str
-        ensures { result.now ≡ printed (all_rows self) (unknown self) code }
+        ensures { result.now ≡ name_printed (all_rows self) (unknown self) code }
     {
         let rows = self.rows();
         for (_, known, printed) in rows {

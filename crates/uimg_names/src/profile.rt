@@ -1,7 +1,7 @@
 //! The names of the profile.
 
 ghost use Rattle.std.specs.Prelude.{◌≡◌};
-ghost use Rattle.uimg_texts.specs.Names.{code_of, printed};
+ghost use Rattle.uimg_texts.specs.Names.{code_of, name_printed};
 ghost use Rattle.uimg_names.specs.Naming.{unknown, profile_rows};
 
 use crate::field::Field;
@@ -11,7 +11,7 @@ use uimg_texts::{
 
 // Returns the printed name of a code in the profile.
 pub(crate) fn profile_text(field: Field, code: u8) -> &'static str
-    ensures { result.now ≡ printed (profile_rows field) (unknown field) code }
+    ensures { result.now ≡ name_printed (profile_rows field) (unknown field) code }
 {
     match field {
         Field::Architecture => arch_text(code),

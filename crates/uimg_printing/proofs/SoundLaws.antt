@@ -9,7 +9,7 @@ use Rattle.json.specs.Token.{Token}
 use Rattle.json.specs.Tree.{json_tokens, items_tokens, members_tokens, depth, items_depth, members_depth}
 use Rattle.json.proofs.Printed.Trees.{value-json_tokens}
 use Rattle.uimg_printing.specs.Objects.{is_one_line}
-use Rattle.uimg_printing.specs.Members.{Member, members_of, items_of, number_member, number_if, string_member, spelled, beside, text_members}
+use Rattle.uimg_printing.specs.Members.{Member, members_of, items_of, number_member, number_if, string_member, text_json, beside, text_members}
 use Rattle.uimg_printing.proofs.LineLaws as line
 
 -- arrays and objects nest so deep at most, and each number is on one line
@@ -111,7 +111,7 @@ pub number_if_sound : (d : ℕ) (name : List ℕ) (n : Option ℕ) → AreSound 
 number_if_sound d name None = tt
 number_if_sound d name (Some n) = number_sound d name n
 
-pub spelled_sound : (d : ℕ) (b : Bool) (t : List ℕ) → Sound d (spelled b t)
+pub spelled_sound : (d : ℕ) (b : Bool) (t : List ℕ) → Sound d (text_json b t)
 spelled_sound d true t = tt
 spelled_sound d false t = tt
 
@@ -124,7 +124,7 @@ beside_sound d true name j h = tt
 beside_sound d false name j h = (h, tt)
 
 pub text_sound : (d : ℕ) (name t : List ℕ) → AreSound d (text_members name t)
-text_sound d name t = (tt, beside_sound d (is_utf8 t) name (spelled true t) tt)
+text_sound d name t = (tt, beside_sound d (is_utf8 t) name (text_json true t) tt)
 
 pub string_sound : (d : ℕ) (name s : List ℕ) → AreSound d (string_member name s)
 string_sound d name s = (tt, tt)

@@ -8,7 +8,7 @@ use Rattle.base64.specs.Engines.{standard}
 use Rattle.base64.specs.GeneralPurpose.{encode_of}
 use Rattle.json.specs.Token.{Token}
 use Rattle.json.specs.Written.{Written}
-use Rattle.uimg_printing.specs.Members.{spelled, beside, of_bytes, string_member, text_members, tokens_of}
+use Rattle.uimg_printing.specs.Members.{text_json, beside, of_bytes, string_member, text_members, tokens_of}
 use Rattle.uimg_printing.specs.Steps.{Appended}
 use Rattle.uimg_printing.proofs.StepLaws.{then_appended, appended_as}
 
@@ -47,11 +47,11 @@ pub text_whole : (s t : Written) (name text told : List ℕ) → told ≡ utf8_l
 text_whole s t name text told is whole p =
     appended_as s t _ _
     (ap (λ (l : List ℕ). Token.key name ∷ Token.string l ∷ []) is
-    ∙ ap (λ (b : Bool). Token.key name ∷ Token.string (utf8_lossy text) ∷ tokens_of (beside b name (spelled true text))) (sym whole)) p
+    ∙ ap (λ (b : Bool). Token.key name ∷ Token.string (utf8_lossy text) ∷ tokens_of (beside b name (text_json true text))) (sym whole)) p
 
 pub text_beside : (s t u : Written) (name text told bytes : List ℕ) → told ≡ utf8_lossy text → is_utf8 text ≡ false → bytes ≡ encode_of standard text → Appended s t (tokens_of (string_member name told)) → Appended t u (tokens_of (string_member (of_bytes name) bytes)) → Appended s u (tokens_of (text_members name text))
 text_beside s t u name text told bytes is part are p q =
     appended_as s u _ _
     (ap (λ (l : List ℕ). Token.key name ∷ Token.string l ∷ Token.key (of_bytes name) ∷ Token.string bytes ∷ []) is
     ∙ ap (λ (l : List ℕ). Token.key name ∷ Token.string (utf8_lossy text) ∷ Token.key (of_bytes name) ∷ Token.string l ∷ []) are
-    ∙ ap (λ (b : Bool). Token.key name ∷ Token.string (utf8_lossy text) ∷ tokens_of (beside b name (spelled true text))) (sym part)) (then_appended s t u _ _ p q)
+    ∙ ap (λ (b : Bool). Token.key name ∷ Token.string (utf8_lossy text) ∷ tokens_of (beside b name (text_json true text))) (sym part)) (then_appended s t u _ _ p q)

@@ -52,9 +52,9 @@ number_if name (Some n) = number_member name n
 
 -- a text: in base64 (RFC 4648, section 4), or as UTF-8 with U+FFFD in place of other bytes (Unicode
 -- Standard, section 3.9)
-abbrev pub spelled : Bool → List ℕ → Json
-spelled true t = string (encode_of standard t)
-spelled false t = string (utf8_lossy t)
+abbrev pub text_json : Bool → List ℕ → Json
+text_json true t = string (encode_of standard t)
+text_json false t = string (utf8_lossy t)
 
 -- the name of the member that has the bytes of a text that is not UTF-8
 abbrev pub of_bytes : List ℕ → List ℕ
@@ -66,4 +66,4 @@ beside true name bytes = []
 beside false name bytes = (of_bytes name, bytes) ∷ []
 
 abbrev pub text_members : List ℕ → List ℕ → List Member
-text_members name t = (name, spelled false t) ∷ beside (is_utf8 t) name (spelled true t)
+text_members name t = (name, text_json false t) ∷ beside (is_utf8 t) name (text_json true t)

@@ -5,7 +5,7 @@ use Rattle.std.proofs.lemmas.List.Splits.{length-slice_split}
 use Rattle.uimg_legacy.specs.Parts.{has_parts}
 use Rattle.uimg_legacy.specs.declared.options.Options.{Options}
 use Rattle.uimg_requests.specs.Commands.{FitNames}
-use Rattle.uimg_requests.specs.Names.{between_colons, names_of}
+use Rattle.uimg_requests.specs.Names.{between_colons, part_names}
 
 -- one element more on both sides
 pub map_one_more : {X Y Z : Type 0} (f : X → Z) (g : Y → Z) (xs now : List X) (ys : List Y) (x : X) (y : Y) → now ≡ xs ++ x ∷ [] → map f xs ≡ map g ys → f x ≡ g y → map f now ≡ map g (ys ++ y ∷ [])
@@ -22,7 +22,7 @@ one_name true word is = absurd (cc)
 one_name false word is = refl
 
 -- The names of a word are such as its options want.
-pub names_fit : (options : Options) (names : List (List ℕ)) (word : List ℕ) → names ≡ names_of options.kind word → FitNames options names
+pub names_fit : (options : Options) (names : List (List ℕ)) (word : List ℕ) → names ≡ part_names options.kind word → FitNames options names
 names_fit options names word are =
     record {
       some = λ none. some_names (has_parts options.kind) word (sym (ap length are) ∙ none);

@@ -8,5 +8,5 @@ abbrev pub between_colons : List ℕ → List (List ℕ)
 between_colons word = slice_split (λ byte. byte == 58) word
 
 -- several names for an image type with parts, else the word itself
-abbrev pub names_of : ℕ → List ℕ → List (List ℕ)
-names_of kind word = if has_parts kind then between_colons word else word ∷ []
+abbrev pub part_names : ℕ → List ℕ → List (List ℕ)
+part_names kind word = if has_parts kind then between_colons word else word ∷ []

@@ -1,7 +1,7 @@
 //! The names of the files that an image is made from.
 
 ghost use Rattle.std.specs.Prelude.{◌≡◌, map, IfOk};
-ghost use Rattle.uimg_requests.specs.Names.{between_colons, names_of};
+ghost use Rattle.uimg_requests.specs.Names.{between_colons, part_names};
 
 use std::alloc::{AllocError, Global};
 use uimg_legacy::has_parts;
@@ -9,7 +9,8 @@ use uimg_legacy::has_parts;
 /// Returns the file names in the word of -d, by the image type: those between its colons for a type
 /// with parts, else the word itself.
 pub fn file_names(alloc: Global, kind: u8, word: &str) -> Result<Vec<Vec<u8>>, AllocError>
-    ensures { IfOk result (λ names. map (λ name. name.items) names.items ≡ names_of kind word.now) }
+    ensures { IfOk result
+        (λ names. map (λ name. name.items) names.items ≡ part_names kind word.now) }
 {
     if has_parts(kind) {
         cut_at_colons(alloc, word)

@@ -1,7 +1,7 @@
 //! Requests of a command line, with the paths that it names.
 
 ghost use Rattle.std.specs.Prelude.{◌≡◌, ◌++◌, [], IfOk};
-ghost use Rattle.uimg_requests.specs.Names.{names_of};
+ghost use Rattle.uimg_requests.specs.Names.{part_names};
 ghost use Rattle.uimg_requests.specs.Requests.{AsksParts, AsksSource};
 ghost use Rattle.uimg_requests.specs.Commands.{HasFitNames, has_fit_names_prop};
 
@@ -73,7 +73,7 @@ impl<'a> MakeRequest<'a> {
         outfile: &'a str,
     ) -> Result<MakeRequest<'a>, AllocError>
         ensures asks { IfOk result (λ request. AsksParts request.command options
-            (names_of options.kind word.now)) }
+            (part_names options.kind word.now)) }
         ensures plain { IfOk result (λ request. IsPlain request time outfile.entry.now) }
     {
         let files = file_names(alloc, options.kind, word)?;

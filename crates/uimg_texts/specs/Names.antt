@@ -5,25 +5,25 @@ use Rattle.std.specs.Str.{bytes_eq}
 
 -- a name as users write it, its code, and the name as printed; the codes are those of image.h, the
 -- choice of rows (the profile) is this project's
-pub record Row : Type 0 where
+pub record NameRow : Type 0 where
   pub short : List ℕ
   pub code : ℕ
   pub printed : List ℕ
 
-abbrev pub row : List ℕ → ℕ → List ℕ → Row
-row short code printed = record { short = short; code = code; printed = printed }
+abbrev pub row : List ℕ → ℕ → List ℕ → NameRow
+row short code name_printed = record { short = short; code = code; printed = name_printed }
 
 -- the code in the first row with this name
-abbrev pub code_of : List Row → List ℕ → Option ℕ
+abbrev pub code_of : List NameRow → List ℕ → Option ℕ
 code_of table name = option_map (λ r. r.code) (find (λ r. bytes_eq name r.short) table)
 
 -- the printed name in the first row with this code, or `unknown` if no row has it
-abbrev pub printed : List Row → List ℕ → ℕ → List ℕ
-printed table unknown code =
+abbrev pub name_printed : List NameRow → List ℕ → ℕ → List ℕ
+name_printed table unknown code =
     option_map_or (λ r. r.printed) (find (λ r. code == r.code) table) unknown
 
 -- IH_OS_
-abbrev pub os_table : List Row
+abbrev pub os_table : List NameRow
 os_table =
     row (codes "netbsd") 2 (codes "NetBSD")
     ∷ row (codes "linux") 5 (codes "Linux")
@@ -39,7 +39,7 @@ os_table =
     ∷ []
 
 -- IH_ARCH_
-abbrev pub arch_table : List Row
+abbrev pub arch_table : List NameRow
 arch_table =
     row (codes "arm") 2 (codes "ARM")
     ∷ row (codes "x86") 3 (codes "Intel x86")
@@ -54,7 +54,7 @@ arch_table =
     ∷ []
 
 -- IH_TYPE_
-abbrev pub kind_table : List Row
+abbrev pub kind_table : List NameRow
 kind_table =
     row (codes "standalone") 1 (codes "Standalone Program")
     ∷ row (codes "kernel") 2 (codes "Kernel Image")
@@ -67,11 +67,11 @@ kind_table =
     ∷ row (codes "kernel_noload") 14 (codes "Kernel Image (no loading done)")
     ∷ []
 
-abbrev compressed : List ℕ → ℕ → Row
+abbrev compressed : List ℕ → ℕ → NameRow
 compressed short code = row short code (short ++ codes " compressed")
 
 -- IH_COMP_
-abbrev pub comp_table : List Row
+abbrev pub comp_table : List NameRow
 comp_table =
     row (codes "none") 0 (codes "uncompressed")
     ∷ compressed (codes "gzip") 1

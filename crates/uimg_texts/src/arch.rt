@@ -1,7 +1,7 @@
 //! Architectures: codes, short names and printed names.
 
 ghost use Rattle.std.specs.Prelude.{◌≡◌, codes};
-ghost use Rattle.uimg_texts.specs.Names.{code_of, printed, arch_table};
+ghost use Rattle.uimg_texts.specs.Names.{code_of, name_printed, arch_table};
 
 use crate::codes::{CodeRow, code_in, printed_in};
 
@@ -28,7 +28,7 @@ pub fn arch_code(name: &[u8]) -> Option<u8>
 
 /// Looks up an architecture's printed name by code. Returns `Unknown Architecture` if it has none.
 pub fn arch_text(code: u8) -> &'static str
-    ensures { result.now ≡ printed arch_table (codes "Unknown Architecture") code }
+    ensures { result.now ≡ name_printed arch_table (codes "Unknown Architecture") code }
 {
     printed_in(&ARCHITECTURES, "Unknown Architecture", code)
 }

@@ -1,7 +1,7 @@
 //! Tables of codes, and look-ups in them.
 
 ghost use Rattle.std.specs.Prelude.{◌≡◌, map};
-ghost use Rattle.uimg_texts.specs.Names.{code_of, printed};
+ghost use Rattle.uimg_texts.specs.Names.{code_of, name_printed};
 ghost use Rattle.uimg_texts.specs.CodeRows.{row_of};
 
 /// A row of a table of codes: a name as in command lines and FIT properties, its code in a legacy
@@ -22,7 +22,7 @@ pub(crate) fn code_in(rows: &[CodeRow], name: &[u8]) -> Option<u8>
 
 // Looks up the printed name in the first row with this code. Returns `unknown` if no row has it.
 pub(crate) fn printed_in(rows: &[CodeRow], unknown: &'static str, code: u8) -> &'static str
-    ensures { result.now ≡ printed (map row_of rows.now) unknown.now code }
+    ensures { result.now ≡ name_printed (map row_of rows.now) unknown.now code }
 {
     for (_, known, printed) in rows {
         if code == *known {

@@ -1,7 +1,7 @@
 //! Compressions: codes, short names and printed names.
 
 ghost use Rattle.std.specs.Prelude.{◌≡◌, codes};
-ghost use Rattle.uimg_texts.specs.Names.{code_of, printed, comp_table};
+ghost use Rattle.uimg_texts.specs.Names.{code_of, name_printed, comp_table};
 
 use crate::codes::{CodeRow, code_in, printed_in};
 
@@ -25,7 +25,7 @@ pub fn comp_code(name: &[u8]) -> Option<u8>
 
 /// Looks up a compression's printed name by code. Returns `Unknown Compression` if it has none.
 pub fn comp_text(code: u8) -> &'static str
-    ensures { result.now ≡ printed comp_table (codes "Unknown Compression") code }
+    ensures { result.now ≡ name_printed comp_table (codes "Unknown Compression") code }
 {
     printed_in(&COMPRESSIONS, "Unknown Compression", code)
 }

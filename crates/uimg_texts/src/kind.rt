@@ -1,7 +1,7 @@
 //! Image types: codes, short names and printed names.
 
 ghost use Rattle.std.specs.Prelude.{◌≡◌, codes};
-ghost use Rattle.uimg_texts.specs.Names.{code_of, printed, kind_table};
+ghost use Rattle.uimg_texts.specs.Names.{code_of, name_printed, kind_table};
 
 use crate::codes::{CodeRow, code_in, printed_in};
 
@@ -36,7 +36,7 @@ pub fn kind_code(name: &[u8]) -> Option<u8>
 
 /// Looks up an image type's printed name by its code. Returns `Unknown Image` if it has none.
 pub fn kind_text(code: u8) -> &'static str
-    ensures { result.now ≡ printed kind_table (codes "Unknown Image") code }
+    ensures { result.now ≡ name_printed kind_table (codes "Unknown Image") code }
 {
     printed_in(&IMAGE_TYPES, "Unknown Image", code)
 }

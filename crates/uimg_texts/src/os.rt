@@ -1,7 +1,7 @@
 //! Operating systems: codes, short names and printed names.
 
 ghost use Rattle.std.specs.Prelude.{◌≡◌, codes};
-ghost use Rattle.uimg_texts.specs.Names.{code_of, printed, os_table};
+ghost use Rattle.uimg_texts.specs.Names.{code_of, name_printed, os_table};
 
 use crate::codes::{CodeRow, code_in, printed_in};
 
@@ -29,7 +29,7 @@ pub fn os_code(name: &[u8]) -> Option<u8>
 
 /// Looks up an operating system's printed name by code. Returns `Unknown OS` if it has none.
 pub fn os_text(code: u8) -> &'static str
-    ensures { result.now ≡ printed os_table (codes "Unknown OS") code }
+    ensures { result.now ≡ name_printed os_table (codes "Unknown OS") code }
 {
     printed_in(&OPERATING_SYSTEMS, "Unknown OS", code)
 }

@@ -6,7 +6,7 @@ use Rattle.std.specs.List.{flat_map}
 use Rattle.std.specs.Str.{bytes_eq}
 use Rattle.uimg_sums.specs.Algorithms.{algo_name, digest_size}
 use Rattle.uimg_fit_base.specs.Report.{word_text}
-use Rattle.uimg_fit_checking.specs.Unpacking.{bytes_of}
+use Rattle.uimg_fit_checking.specs.Unpacking.{as_bytes}
 use Rattle.uimg_fit_checking.specs.declared.unpacking.node_names.NodeName.{NodeName}
 use Rattle.uimg_fit_checking.specs.declared.unpacking.taker.Refusal.{Refusal}
 use Rattle.uimg_fit_checking.specs.declared.unpacking.taker.Refusal.TheVariants.{Wrong, Weak}
@@ -41,18 +41,18 @@ kept_line name file size vouched =
 
 abbrev pub refusal_text : List ℕ → Refusal → List ℕ
 refusal_text name (Wrong hash word) =
-    printed true name ++ codes ": " ++ word_text word ++ codes " " ++ printed true (bytes_of hash)
+    printed true name ++ codes ": " ++ word_text word ++ codes " " ++ printed true (as_bytes hash)
 refusal_text name Weak = printed true name ++ codes ": weak"
 
 abbrev pub crc_text : ℕ → List ℕ
 crc_text dcrc = codes ", data crc32 " ++ flat_map digits_of (crc_bytes dcrc)
 
-abbrev pub part_line : ℕ → ℕ → ℕ → List ℕ
-part_line number size dcrc =
+abbrev pub unpacked_line : ℕ → ℕ → ℕ → List ℕ
+unpacked_line number size dcrc =
     codes "image-" ++ decimal number ++ codes ": " ++ bytes_text size ++ crc_text dcrc
 
 abbrev pub line_of : Line → List ℕ
-line_of (Kept name file size vouched) = kept_line (bytes_of name.now) file.now size vouched
-line_of (Refused name refusal) = refusal_text (bytes_of name.now) refusal
-line_of (Overlapping name) = printed true (bytes_of name.now) ++ codes ": overlapping"
-line_of (Part number size dcrc) = part_line number size dcrc
+line_of (Kept name file size vouched) = kept_line (as_bytes name.now) file.now size vouched
+line_of (Refused name refusal) = refusal_text (as_bytes name.now) refusal
+line_of (Overlapping name) = printed true (as_bytes name.now) ++ codes ": overlapping"
+line_of (Part number size dcrc) = unpacked_line number size dcrc

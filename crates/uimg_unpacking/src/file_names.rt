@@ -2,7 +2,7 @@
 
 ghost use Rattle.std.specs.Prelude.{◌≡◌};
 ghost use Rattle.std.specs.List.{list_all};
-ghost use Rattle.uimg_unpacking.specs.FileNames.{is_allowed, begins, is_file_name};
+ghost use Rattle.uimg_unpacking.specs.FileNames.{is_allowed, may_begin, is_file_name};
 
 // The bytes that a file name may have.
 const ALLOWED: &[u8] = b"ABCDEFGHIJKLMNOPQRSTUVWXYZabcdefghijklmnopqrstuvwxyz0123456789._-+@";
@@ -19,7 +19,7 @@ fn is_allowed(byte: u8) -> bool
 
 // Returns whether a file name may begin with an allowed byte.
 fn begins(byte: u8) -> bool
-    ensures { result ≡ begins byte }
+    ensures { result ≡ may_begin byte }
 {
     !NOT_FIRST.contains(&byte)
 }

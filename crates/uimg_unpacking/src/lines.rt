@@ -2,9 +2,9 @@
 
 ghost use Rattle.std.specs.Prelude.{◌≡◌, Some};
 ghost use Rattle.std.specs.Fmt.{WritesOnOk};
-ghost use Rattle.uimg_fit_checking.specs.Unpacking.{bytes_of};
+ghost use Rattle.uimg_fit_checking.specs.Unpacking.{as_bytes};
 ghost use Rattle.uimg_printing.specs.Counting.{counted};
-ghost use Rattle.uimg_unpacking.specs.Lines.{bytes_text, as_text, vouched_text, crc_bytes, crc_text, kept_line, part_line, refusal_text, line_of};
+ghost use Rattle.uimg_unpacking.specs.Lines.{bytes_text, as_text, vouched_text, crc_bytes, crc_text, kept_line, unpacked_line, refusal_text, line_of};
 
 use std::fmt;
 use std::fmt::{Display, Formatter, Write};
@@ -83,7 +83,7 @@ fn put_kept<W: Write>(
     f: &mut Formatter<W>,
 ) -> fmt::Result
     ensures { WritesOnOk W.Write.write_str_gives f.old result
-        (kept_line (bytes_of name.now) file.now size vouched) f.new }
+        (kept_line (as_bytes name.now) file.now size vouched) f.new }
 {
     write!(f, "{}: {}", PrintedWord(name.bytes()), bytes(size))?;
     put_file(name.bytes(), file, f)?;
@@ -117,7 +117,7 @@ fn put_vouched<W: Write>(vouched: Option<Vouched>, f: &mut Formatter<W>) -> fmt:
 // Writes the line of a refused payload.
 fn put_refused<W: Write>(name: &NodeName, refusal: Refusal, f: &mut Formatter<W>) -> fmt::Result
     ensures { WritesOnOk W.Write.write_str_gives f.old result
-        (refusal_text (bytes_of name.now) refusal) f.new }
+        (refusal_text (as_bytes name.now) refusal) f.new }
 {
     let name = PrintedWord(name.bytes());
     match refusal {
@@ -151,7 +151,8 @@ fn put_crc<W: Write>(dcrc: u32, f: &mut Formatter<W>) -> fmt::Result
 
 // Writes the line of a kept part: its file, its size, and the checksum of its data.
 fn put_part<W: Write>(number: u32, size: u64, dcrc: u32, f: &mut Formatter<W>) -> fmt::Result
-    ensures { WritesOnOk W.Write.write_str_gives f.old result (part_line number size dcrc) f.new }
+    ensures { WritesOnOk W.Write.write_str_gives f.old result
+        (unpacked_line number size dcrc) f.new }
 {
     write!(f, "image-{number}: {}", bytes(size))?;
     put_crc(dcrc, f)

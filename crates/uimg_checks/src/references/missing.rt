@@ -11,7 +11,7 @@ ghost use Rattle.uimg_fit_reading.specs.Values.{pieces};
 ghost use Rattle.uimg_checks.specs.Given.{given_facts, GivenInside};
 ghost use Rattle.uimg_checks.specs.ReferenceNames.{HasNames, is_lost};
 ghost use Rattle.uimg_checks.specs.ReferenceWork.{given_size, values_size, missing_work};
-ghost use Rattle.uimg_checks.specs.References.{Finds, TellsFirst, under_property, among_properties, of_configuration, of_configurations};
+ghost use Rattle.uimg_checks.specs.References.{Seeks, TellsFirst, under_property, among_properties, of_configuration, of_configurations};
 
 use crate::references::names::{configuration_names, image_names};
 use crate::references::reference::Reference;
@@ -71,7 +71,7 @@ fn missing_under<S: Source>(
     value: Option<Span>,
 ) -> Result<Option<Missing>, SurveyFault>
     requires { Ends (length (S.device source.old).bytes) value }
-    ensures { Finds (span_size value) (under_property configuration reference value)
+    ensures { Seeks (span_size value) (under_property configuration reference value)
         names.now result S.device source }
 {
     let Some(span) = value else {
@@ -114,7 +114,7 @@ fn missing_among<S: Source>(
     properties: &[(Reference, Option<Span>)],
 ) -> Result<Option<Missing>, SurveyFault>
     requires { All (GivenInside (length (S.device source.old).bytes)) properties.now }
-    ensures { Finds (sum_by given_size properties.now)
+    ensures { Seeks (sum_by given_size properties.now)
         (among_properties configuration properties.now) names.now result S.device source }
 {
     for (reference, value) in properties {
@@ -134,7 +134,7 @@ fn missing_of<S: Source>(
     configuration: &ConfigurationFacts,
 ) -> Result<Option<Missing>, SurveyFault>
     requires { ConfigurationInside (length (S.device source.old).bytes) configuration.now }
-    ensures { Finds (values_size configuration.now) (of_configuration configuration.now)
+    ensures { Seeks (values_size configuration.now) (of_configuration configuration.now)
         images.now result S.device source }
 {
     let given = given_by(configuration);
@@ -149,7 +149,7 @@ fn first_missing<S: Source>(
     configurations: &[ConfigurationFacts],
 ) -> Result<Option<Missing>, SurveyFault>
     requires { All (ConfigurationInside (length (S.device source.old).bytes)) configurations.now }
-    ensures { Finds (sum_by values_size configurations.now) (of_configurations configurations.now)
+    ensures { Seeks (sum_by values_size configurations.now) (of_configurations configurations.now)
         images.now result S.device source }
 {
     for configuration in configurations {

@@ -6,7 +6,7 @@ ghost use Rattle.std.specs.List.{All, sum_by};
 ghost use Rattle.uimg_base.specs.Honest.{HonestSource};
 ghost use Rattle.uimg_base.specs.Using.{Asks};
 ghost use Rattle.uimg_fit_checking.specs.SurveyParts.{is_unread, IsOwn, ImageInside, ConfigurationInside};
-ghost use Rattle.uimg_checks.specs.ReferenceNames.{name_in, image_name_in, configuration_name_in, AddsName, TellsNames};
+ghost use Rattle.uimg_checks.specs.ReferenceNames.{name_in_span, image_name_in, configuration_name_in, AddsName, TellsNames};
 
 use std::alloc::Global;
 use std::collections::BTreeSet;
@@ -24,7 +24,7 @@ fn add_name<S: Source>(
     ensures uses { Asks span.length (is_unread result) (S.device source.old) (S.device source.new) }
     ensures own { IsOwn result }
     ensures told { HonestSource S.device source →
-        OnOk result (AddsName (name_in (S.device source.old).bytes span) names.old names.new) }
+        OnOk result (AddsName (name_in_span (S.device source.old).bytes span) names.old names.new) }
 {
     let name = read_bytes(alloc, source, span)?;
     let Ok(_is_new) = names.insert(name) else {

@@ -3,7 +3,7 @@
 ghost use Rattle.std.specs.Prelude.{◌≡◌, ◌++◌, IfOk, OnOk, codes};
 ghost use Rattle.uimg_blob_writing.specs.Trees.{node_of};
 ghost use Rattle.uimg_fit_building.specs.Filling.{in_first, with_images};
-ghost use Rattle.uimg_fit_building.specs.Placing.{cell, cells, placed_image, with_placed};
+ghost use Rattle.uimg_fit_building.specs.Placing.{cell_property, cells, placed_image, with_placed};
 ghost use Rattle.uimg_fit_building.specs.UnreadTrees.{unread_own, unread_from};
 
 use crate::building::payload_sizes::{CELL, padded_size_in_cell};
@@ -16,7 +16,7 @@ use uimg_blob_writing::{
 
 // Returns a property of one cell.
 fn cell<A: Allocator + Copy>(alloc: A, name: &[u8], number: u32) -> Result<Prop<A>, AllocError>
-    ensures { IfOk result (λ prop. prop ≡ cell name.now number) }
+    ensures { IfOk result (λ prop. prop ≡ cell_property name.now number) }
 {
     let name = copy_bytes(alloc, name)?;
     let value = copy_bytes(alloc, &number.to_be_bytes())?;

@@ -7,7 +7,7 @@ ghost use Rattle.uimg_blob_reading.specs.Roles.{is_hash};
 ghost use Rattle.uimg_blob_writing.specs.Content.{IsKept};
 ghost use Rattle.uimg_blob_writing.specs.Properties.{content};
 ghost use Rattle.uimg_blob_writing.specs.Trees.{siblings};
-ghost use Rattle.uimg_blob_writing.specs.LentFiles.{IfHonest};
+ghost use Rattle.uimg_blob_writing.specs.LentFiles.{OfHonest};
 ghost use Rattle.uimg_fit_building.specs.FillAnswers.{OpensKept};
 ghost use Rattle.uimg_fit_building.specs.Behind.{entry};
 ghost use Rattle.uimg_fit_building.specs.Filling.{each};
@@ -36,9 +36,9 @@ fn fill_hashes<F: Files, A: Allocator + Copy>(
 ) -> Result<(), FitFault>
     ensures opens { OpensKept F.Opened.steady F.map (λ there. IsKept there (content payload.now))
         result files }
-    ensures filled { IfHonest F.map files (λ there. FillsHashes (λ u. siblings nodes.new) there
+    ensures filled { OfHonest F.map files (λ there. FillsHashes (λ u. siblings nodes.new) there
         (content payload.now) (siblings nodes.old) result) }
-    ensures kept { IfHonest F.map files (λ there. OnOk result (
+    ensures kept { OfHonest F.map files (λ there. OnOk result (
         filter (λ h. is_hash h.name) (listed (siblings nodes.old)) ≢ [] →
         IsKept there (content payload.now))) }
     ensures rest { (message : List ℕ) → OnOk result (
@@ -64,7 +64,7 @@ fn fill_image<F: Files, A: Allocator + Copy>(
 ) -> Result<(), FitFault>
     ensures opens { OpensKept F.Opened.steady F.map (λ there. IsKeptImage there (entry image.old))
         result files }
-    ensures filled { IfHonest F.map files (λ there.
+    ensures filled { OfHonest F.map files (λ there.
         FillsImage there (entry image.old) (entry image.new) result) }
     ensures order { IsTrue (F.map files.old).honest →
         FillsNext (F.map files.old) F.Opened.steady (entry image.old) result }
@@ -90,7 +90,7 @@ pub(crate) fn fill_images<F: Files, A: Allocator + Copy>(
     files: &mut F,
 ) -> Result<(), FitFault>
     ensures opens { OpensImages F.Opened.steady F.map (Some (map entry images.old)) result files }
-    ensures filled { IfHonest F.map files (λ there.
+    ensures filled { OfHonest F.map files (λ there.
         FillsImages there (map entry images.old) (map entry images.new) result) }
     ensures order { AnswersInOrder F.Opened.steady F.map (Some (map entry images.old)) result files }
     ensures rest { OnOk result (

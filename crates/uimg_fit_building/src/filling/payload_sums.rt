@@ -3,9 +3,9 @@
 ghost use Rattle.std.specs.Prelude.{◌≡◌, length, IsOkUnless, IfOk, OnOk};
 ghost use Rattle.uimg_base.specs.Honest.{HonestSource};
 ghost use Rattle.uimg_base.specs.Device.{RisesIf};
-ghost use Rattle.uimg_blob_writing.specs.Content.{bytes_in, file};
+ghost use Rattle.uimg_blob_writing.specs.Content.{content_bytes, file};
 ghost use Rattle.uimg_blob_writing.specs.Properties.{content};
-ghost use Rattle.uimg_blob_writing.specs.LentFiles.{IfHonest};
+ghost use Rattle.uimg_blob_writing.specs.LentFiles.{OfHonest};
 ghost use Rattle.uimg_fit_building.specs.FillAnswers.{fails_to_read};
 ghost use Rattle.uimg_fit_building.specs.PayloadSteps.{ReadsPayload, Feeds};
 ghost use Rattle.uimg_fit_base.specs.AlgoSets.{set_of, AreDigests};
@@ -44,8 +44,8 @@ fn feed_file<F: Files>(
     files: &mut F,
 ) -> Result<(), FitFault>
     ensures reads { ReadsPayload F.Opened.steady F.map (file name.now size) result files }
-    ensures fed { IfHonest F.map files (λ there.
-        OnOk result (Feeds bundle (bytes_in there (file name.now size)))) }
+    ensures fed { OfHonest F.map files (λ there.
+        OnOk result (Feeds bundle (content_bytes there (file name.now size)))) }
 {
     let Ok(mut source) = files.open(name) else {
         return Err(FitFault::NoFile);
@@ -60,8 +60,8 @@ fn feed_payload<F: Files, A: Allocator>(
     files: &mut F,
 ) -> Result<(), FitFault>
     ensures reads { ReadsPayload F.Opened.steady F.map (content payload.now) result files }
-    ensures fed { IfHonest F.map files (λ there.
-        OnOk result (Feeds bundle (bytes_in there (content payload.now)))) }
+    ensures fed { OfHonest F.map files (λ there.
+        OnOk result (Feeds bundle (content_bytes there (content payload.now)))) }
 {
     match payload {
         Value::Bytes(bytes) => {
@@ -80,8 +80,8 @@ pub(crate) fn payload_digests<F: Files, A: Allocator>(
 ) -> Result<Digests, FitFault>
     ensures reads { ReadsPayload F.Opened.steady F.map (content payload.now) result files }
     ensures set { IfOk result (λ digests. set_of digests ≡ set) }
-    ensures digests { IfHonest F.map files (λ there.
-        IfOk result (λ digests. AreDigests digests (bytes_in there (content payload.now)))) }
+    ensures digests { OfHonest F.map files (λ there.
+        IfOk result (λ digests. AreDigests digests (content_bytes there (content payload.now)))) }
 {
     let mut sums = set.sums();
     feed_payload(&mut sums, payload, files)?;

@@ -7,7 +7,7 @@ ghost use Rattle.uimg_blob_reading.specs.Indexed.{IsIndexed};
 ghost use Rattle.uimg_blob_reading.specs.LookUps.{NodeOf};
 ghost use Rattle.uimg_blob_reading.specs.Roles.{in_images};
 ghost use Rattle.uimg_blob_reading.specs.Spots.{Spot};
-ghost use Rattle.uimg_fit_checking.specs.Checks.{EndsInside, told_of, hash_count, unhashed_in, unhashed_of, all_right};
+ghost use Rattle.uimg_fit_checking.specs.Checks.{EndsInside, named_finding, hash_count, unhashed_in, unhashed_of, all_right};
 ghost use Rattle.uimg_fit_reading.specs.Nodes.{HashesAt, IsEntryOrNone, InAnyFile, FromNode, InTreeFrom};
 ghost use Rattle.uimg_fit_reading.specs.Values.{in_span};
 ghost use Rattle.uimg_fit_reading.specs.PayloadPlaces.{Ends};
@@ -103,7 +103,7 @@ pub(crate) fn all_right<A: Allocator>(
     requires { IsEntryOrNone blob.now room.now first }
     ensures inside { InAnyFile blob.now room.now (λ size. EndsInside size result) }
     ensures told { FromNode blob.now room.now in_images first
-        (λ file found. told_of file result ≡ all_right need found) }
+        (λ file found. named_finding file result ≡ all_right need found) }
 {
     match unhashed(blob, room, first, need) {
         Some(image) => Finding::Unhashed(image),

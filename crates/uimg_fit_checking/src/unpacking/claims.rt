@@ -5,7 +5,7 @@ ghost use Rattle.std.specs.Prelude.{◌≡◌, IfOk, IsTrue};
 ghost use Rattle.std.specs.Option.{option_map};
 ghost use Rattle.uimg_blob_reading.specs.Roles.{in_images};
 ghost use Rattle.uimg_fit_reading.specs.Nodes.{OfNodes, HasNodes};
-ghost use Rattle.uimg_fit_checking.specs.Unpacking.{bytes_of};
+ghost use Rattle.uimg_fit_checking.specs.Unpacking.{as_bytes};
 ghost use Rattle.uimg_fit_checking.specs.UnpackingParts.{LeavesImage, Claims, ClaimsImages};
 
 use crate::unpacking::node_names::NodeName;
@@ -59,7 +59,7 @@ pub(super) fn claim_images<S: Source, A: Allocator, T: Taker>(
     ensures leaves { LeavesImage result S.device source room }
     ensures none_given { IsTrue T.honest → T.takes taker.new ≡ T.takes taker.old }
     ensures told { OfNodes (S.device source.old) blob.now room.old in_images first
-        (λ found. ClaimsImages (option_map bytes_of only) found result S.device source) }
+        (λ found. ClaimsImages (option_map as_bytes only) found result S.device source) }
 {
     let mut left = source.size()?;
     let mut next = first;

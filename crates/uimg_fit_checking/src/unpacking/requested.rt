@@ -6,9 +6,9 @@ ghost use Rattle.uimg_base.specs.Using.{Asks};
 ghost use Rattle.uimg_blob_reading.specs.Roles.{in_images};
 ghost use Rattle.uimg_fit_base.specs.Faults.{is_read};
 ghost use Rattle.uimg_fit_reading.specs.Nodes.{OfNode, HasNode};
-ghost use Rattle.uimg_fit_reading.specs.Puts.{OnlyReads};
-ghost use Rattle.uimg_fit_checking.specs.Unpacking.{bytes_of, is_asked};
-ghost use Rattle.uimg_fit_checking.specs.UnpackingParts.{IsOf, TellsFound};
+ghost use Rattle.uimg_fit_reading.specs.Puts.{OnlyReadFaults};
+ghost use Rattle.uimg_fit_checking.specs.Unpacking.{as_bytes, is_asked};
+ghost use Rattle.uimg_fit_checking.specs.UnpackingParts.{IsPayloadOf, TellsFound};
 
 use crate::unpacking::node_names::{NodeName, read_name};
 use std::alloc::Allocator;
@@ -40,7 +40,7 @@ pub(super) struct Requested {
 
 // Returns whether an image is requested: all are, or those of one name.
 fn is_asked(only: Option<NodeName>, name: &NodeName) -> bool
-    ensures { result ≡ is_asked (option_map bytes_of only) (bytes_of name.now) }
+    ensures { result ≡ is_asked (option_map as_bytes only) (as_bytes name.now) }
 {
     match only {
         Some(asked) => asked.bytes() == name.bytes(),
@@ -58,11 +58,11 @@ pub(super) fn find_requested<S: Source, A: Allocator>(
 ) -> Result<Option<Requested>, Fault>
     requires { HasNode (S.device source.old) blob.now room.now image }
     ensures uses { Asks 267 (is_read result) (S.device source.old) (S.device source.new) }
-    ensures only { OnlyReads result }
+    ensures only { OnlyReadFaults result }
     ensures its { IfOk result (λ found. IfSome found
-        (IsOf image (length (S.device source.old).bytes))) }
+        (IsPayloadOf image (length (S.device source.old).bytes))) }
     ensures told { OfNode (S.device source.old) blob.now room.now in_images image
-        (λ found. TellsFound (option_map bytes_of only) (S.device source.old).bytes found result) }
+        (λ found. TellsFound (option_map as_bytes only) (S.device source.old).bytes found result) }
 {
     let name = read_name(source, name_of(blob, room, image))?;
     if !is_asked(only, &name) {

@@ -1,7 +1,7 @@
 //! The trait of those who are given unpacked payloads.
 
 ghost use Rattle.std.specs.Prelude.{◌≡◌, ℕ, [], List, Bool, false, Some, IfOk, IsTrue};
-ghost use Rattle.uimg_fit_checking.specs.Unpacking.{Take, kept, refused, told_of, bytes_of, AddsIf, IsVouched};
+ghost use Rattle.uimg_fit_checking.specs.Unpacking.{Take, kept, refused, told_of, as_bytes, AddsIf, IsVouched};
 
 use crate::unpacking::node_names::NodeName;
 use std::io::Write;
@@ -66,7 +66,7 @@ pub trait Taker {
             IsVouched bytes vouched }
         ensures { IsTrue honest → (bytes : List ℕ) → Self.Shelf.contents shelf ≡ Some bytes →
             AddsIf result (takes self.old) (takes self.new)
-            (kept (bytes_of name.now) bytes vouched) };
+            (kept (as_bytes name.now) bytes vouched) };
 
     /// Takes a payload that is not kept, to discard it.
     fn refuse(
@@ -76,5 +76,5 @@ pub trait Taker {
         refusal: Refusal,
     ) -> Result<(), PutFault>
         ensures { IsTrue honest → AddsIf result (takes self.old) (takes self.new)
-            (refused (bytes_of name.now) (told_of (bytes_of name.now) refusal)) };
+            (refused (as_bytes name.now) (told_of (as_bytes name.now) refusal)) };
 }

@@ -7,7 +7,7 @@ ghost use Rattle.uimg_blob_reading.specs.LookUps.{hashes};
 ghost use Rattle.uimg_blob_reading.specs.Roles.{in_images};
 ghost use Rattle.uimg_fit_base.specs.Places.{payload};
 ghost use Rattle.uimg_fit_reading.specs.Nodes.{OfNode, OfNodes, HasNode, HasNodes};
-ghost use Rattle.uimg_fit_checking.specs.Unpacking.{take_of, takes, bytes_of, bytes_or_none, is_asked};
+ghost use Rattle.uimg_fit_checking.specs.Unpacking.{take_of, takes, as_bytes, bytes_or_none, is_asked};
 ghost use Rattle.uimg_fit_checking.specs.UnpackingParts.{LeavesImage, TakesTo, TakesRequested, TakesAll, Fitting, size_if, take_allowance};
 ghost use Rattle.uimg_fit_reading.specs.Puts.{Pays};
 
@@ -68,10 +68,10 @@ fn take_image<S: Source, A: Allocator, T: Taker>(
     requires { HasNode (S.device source.old) blob.now room.old image }
     ensures leaves { LeavesImage result S.device source room }
     ensures paid { OfNode (S.device source.old) blob.now room.old in_images image
-        (λ found. Pays (size_if (is_asked (option_map bytes_of request.only) found.name)
+        (λ found. Pays (size_if (is_asked (option_map as_bytes request.only) found.name)
         (payload (S.device source.old).bytes found) + take_allowance found) S.device source) }
     ensures told { IsTrue T.honest → OfNode (S.device source.old) blob.now room.old in_images image
-        (λ found. TakesTo (is_asked (option_map bytes_of request.only) found.name)
+        (λ found. TakesTo (is_asked (option_map as_bytes request.only) found.name)
         (take_of request.need found (bytes_or_none (payload (S.device source.old).bytes found)))
         result (payload (S.device source.old).bytes found)
         (T.takes taker.old) (T.takes taker.new)) }
@@ -94,11 +94,11 @@ pub(super) fn take_images<S: Source, A: Allocator, T: Taker>(
     requires { HasNodes (S.device source.old) blob.now room.old first }
     ensures leaves { LeavesImage result S.device source room }
     ensures paid { OfNodes (S.device source.old) blob.now room.old in_images first
-        (λ found. Fitting (option_map bytes_of request.only) (S.device source.old).bytes found
+        (λ found. Fitting (option_map as_bytes request.only) (S.device source.old).bytes found
         (Pays (length (S.device source.old).bytes + sum_by take_allowance found) S.device source)) }
     ensures told { IsTrue T.honest → OfNodes (S.device source.old) blob.now room.old in_images first
-        (λ found. Fitting (option_map bytes_of request.only) (S.device source.old).bytes found
-        (TakesAll (takes request.need (option_map bytes_of request.only)
+        (λ found. Fitting (option_map as_bytes request.only) (S.device source.old).bytes found
+        (TakesAll (takes request.need (option_map as_bytes request.only)
         (S.device source.old).bytes found) result (T.takes taker.old) (T.takes taker.new))) }
 {
     let mut all = true;

@@ -4,7 +4,7 @@ ghost use Rattle.std.specs.List.{flat_map, sum_by};
 ghost use Rattle.uimg_blob_reading.specs.LookUps.{hashes};
 ghost use Rattle.uimg_blob_reading.specs.Roles.{in_images, in_image, is_hash};
 ghost use Rattle.uimg_fit_reading.specs.Allowances.{text_sizes, node_allowance};
-ghost use Rattle.uimg_fit_reading.specs.Listing.{hash_lines, size_in};
+ghost use Rattle.uimg_fit_reading.specs.Listing.{hash_node_lines, size_in};
 ghost use Rattle.uimg_fit_reading.specs.NodeLines.{ListsNode, ListsNodes};
 ghost use Rattle.uimg_fit_reading.specs.Rows.{image_rows, rows_lines, title};
 ghost use Rattle.uimg_fit_reading.specs.Nodes.{HasNode, HasNodes, OfHashes, OfNode};
@@ -43,7 +43,7 @@ fn put_hash<S: Source, A: Allocator, W: Write>(
     ensures leaves { Leaves result S.device fit out }
     ensures told { InFit S.device fit.old OfNode in_image hash
         (λ found. is_hash found.name ≡ true →
-        Lists (node_allowance found) result S.device fit out (hash_lines found)) }
+        Lists (node_allowance found) result S.device fit out (hash_node_lines found)) }
 {
     put_rows(fit, hash, NO_FACTS, &HASH, out)
 }
@@ -57,7 +57,7 @@ fn put_hashes<S: Source, A: Allocator, W: Write>(
     requires { InFit S.device fit.old HasNodes first }
     ensures leaves { Leaves result S.device fit out }
     ensures told { InFit S.device fit.old OfHashes first (λ hs.
-        Lists (sum_by node_allowance hs) result S.device fit out (flat_map hash_lines hs)) }
+        Lists (sum_by node_allowance hs) result S.device fit out (flat_map hash_node_lines hs)) }
 {
     let mut next = first;
     while let Some(hash) = next {
@@ -91,7 +91,7 @@ fn put_known_image<S: Source, A: Allocator, W: Write>(
     ensures told { InFit S.device fit.old OfNode in_images image.node
         (λ found. Lists (748 + 4 * text_sizes found.own + sum_by node_allowance (hashes found))
         result S.device fit out (title (codes " Image ") image.number found.name
-        ++ (rows_lines facts found.own (image_rows naming) ++ flat_map hash_lines (hashes found)))) }
+        ++ (rows_lines facts found.own (image_rows naming) ++ flat_map hash_node_lines (hashes found)))) }
 {
     let rows = image_rows(naming);
     put_node(fit, b" Image ", image, facts, &rows, out)?;

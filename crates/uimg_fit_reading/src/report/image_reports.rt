@@ -1,6 +1,6 @@
 //! Reports on images, one after the other.
 ghost use Rattle.std.specs.Prelude.{◌≡◌, ◌+◌, ◌≤◌, length};
-ghost use Rattle.uimg_fit_reading.specs.ImageReports.{ReportsFound, ReportsImage, ReportsImages, status_of};
+ghost use Rattle.uimg_fit_reading.specs.ImageReports.{ReportsFound, ReportsImage, ReportsImages, report_status};
 ghost use Rattle.uimg_fit_reading.specs.Nodes.{HasNode, HasNodes};
 ghost use Rattle.uimg_fit_reading.specs.OpenFits.{file_of, InFit};
 ghost use Rattle.uimg_fit_reading.specs.Puts.{Leaves, LeavesOrRefuses};
@@ -52,7 +52,7 @@ fn report_image<S: Source, A: Allocator, W: Write>(
 
 // Returns the status of a report.
 fn status(are_right: bool) -> Status
-    ensures { result ≡ status_of are_right }
+    ensures { result ≡ report_status are_right }
 {
     if are_right {
         Status::Done

@@ -3,10 +3,10 @@ ghost use Rattle.std.specs.Prelude.{◌≡◌, ℕ, ◌+◌, ◌≤◌, List, le
 ghost use Rattle.uimg_base.specs.Using.{Asks};
 ghost use Rattle.uimg_fit_base.specs.AlgoSets.{set_of, AreDigests};
 ghost use Rattle.uimg_fit_base.specs.Report.{word_of};
-ghost use Rattle.uimg_fit_reading.specs.HashReports.{PutsHash, line_of};
+ghost use Rattle.uimg_fit_reading.specs.HashReports.{PutsHash, verdict_line};
 ghost use Rattle.uimg_fit_reading.specs.Nodes.{OfHash, HasNode};
 ghost use Rattle.uimg_fit_reading.specs.OpenFits.{file_of, InFit};
-ghost use Rattle.uimg_fit_reading.specs.Plans.{IsCovered, algo_length, plan_of};
+ghost use Rattle.uimg_fit_reading.specs.Plans.{IsCovered, algo_length, hash_plan};
 ghost use Rattle.uimg_fit_reading.specs.Puts.{Leaves};
 ghost use Rattle.uimg_fit_reading.specs.Telling.{Lists};
 ghost use Rattle.uimg_fit_reading.specs.Values.{in_span};
@@ -33,7 +33,7 @@ pub fn judge<S: Source, A: Allocator>(
     ensures uses { Asks 96 (is_err result) (S.device source.old) (S.device source.new) }
     ensures word { OfHash (S.device source.old) blob.now room.now hash (λ found.
         (message : List ℕ) → AreDigests digests.now message →
-        IsCovered (set_of digests.now) (plan_of found) →
+        IsCovered (set_of digests.now) (hash_plan found) →
         IfOk result (λ word. word ≡ word_of message found)) }
 {
     let plan = plan_at(source, blob, room, hash)?;
@@ -53,7 +53,7 @@ fn put_judged<S: Source, A: Allocator, W: Write>(
     ensures leaves { Leaves result S.device fit out }
     ensures told { InFit S.device fit.old OfHash hash
         (λ found. Lists (image.length + 255 + algo_length found) result S.device fit out
-        (line_of (in_span (file_of S.device fit.old) image) word found)) }
+        (verdict_line (in_span (file_of S.device fit.old) image) word found)) }
 {
     let line = HashLine {
         image,

@@ -7,7 +7,7 @@ ghost use Rattle.uimg_base.specs.Using.{Asks};
 ghost use Rattle.uimg_fit_base.specs.AlgoSets.{set_of, AreDigests};
 ghost use Rattle.uimg_fit_base.specs.Report.{word_of};
 ghost use Rattle.uimg_fit_reading.specs.Nodes.{OfHash, HasNode};
-ghost use Rattle.uimg_fit_reading.specs.Plans.{plan_by_value, plan_by_algo, plan_by_name, plan_of, text_in, IsOf, EndsIn, IsCovered, IsCompared, word_by};
+ghost use Rattle.uimg_fit_reading.specs.Plans.{plan_by_value, plan_by_algo, plan_by_name, hash_plan, text_in, IsOf, EndsIn, IsCovered, IsCompared, word_by};
 ghost use Rattle.uimg_fit_reading.specs.Values.{in_span};
 ghost use Rattle.uimg_fit_reading.specs.PayloadPlaces.{Ends};
 
@@ -81,7 +81,7 @@ pub(crate) fn plan_at<S: Source, A: Allocator>(
     ensures uses { Asks 32 (is_err result) (S.device source.old) (S.device source.new) }
     ensures ends { IfOk result (EndsIn (length (S.device source.old).bytes)) }
     ensures plan { OfHash (S.device source.old) blob.now room.now hash (λ found.
-        IfOk result (λ plan. plan ≡ plan_of found)) }
+        IfOk result (λ plan. plan ≡ hash_plan found)) }
     ensures word { OfHash (S.device source.old) blob.now room.now hash (λ found.
         (message : List ℕ) → IfOk result (λ plan.
         word_by (S.device source.old).bytes message plan ≡ word_of message found)) }

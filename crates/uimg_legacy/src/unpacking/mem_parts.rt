@@ -1,7 +1,7 @@
 //! Parts that are unpacked into memory.
 
 ghost use Rattle.std.specs.Prelude.{◌≡◌, [], true, map, not};
-ghost use Rattle.uimg_legacy.specs.MemParts.{part_at, parts_if};
+ghost use Rattle.uimg_legacy.specs.MemParts.{mem_part, parts_if};
 
 use crate::unpacking::part_taker::PartTaker;
 use std::alloc::Allocator;
@@ -40,7 +40,7 @@ impl<A: Allocator + Copy> MemParts<A> {
 
     /// Returns the parts that it keeps.
     pub fn kept(&self) -> &[MemPart<A>]
-        ensures { map part_at result.now ≡ ⟦<MemParts<A> as PartTaker>⟧.kept self.now }
+        ensures { map mem_part result.now ≡ ⟦<MemParts<A> as PartTaker>⟧.kept self.now }
     {
         if self.is_kept {
             self.parts.as_slice()

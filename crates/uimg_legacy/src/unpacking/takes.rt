@@ -4,8 +4,8 @@ ghost use Rattle.std.specs.Prelude.{◌≡◌, ◌+◌, ◌-◌, ◌*◌, ◌≤
 ghost use Rattle.uimg_base.specs.Honest.{IfHonest};
 ghost use Rattle.uimg_base.specs.Using.{Asks};
 ghost use Rattle.uimg_legacy.specs.Faults.{is_refused};
-ghost use Rattle.uimg_legacy.specs.Unpacking.{is_asked};
-ghost use Rattle.uimg_legacy.specs.UnpackingSteps.{Takes, TakesPart, TakesNext, Pays, Walks, RefusesNumber, RefusesFrom};
+ghost use Rattle.uimg_legacy.specs.Unpacking.{is_part_asked};
+ghost use Rattle.uimg_legacy.specs.UnpackingSteps.{Takes, TakesPart, TakesNext, PaysWalked, Walks, RefusesNumber, RefusesFrom};
 
 use crate::fault::{Fault, LegacyFault};
 use crate::unpacking::part_taker::PartTaker;
@@ -26,7 +26,7 @@ pub(super) struct Parts {
 impl Parts {
     // Returns whether a part is requested.
     fn is_asked(self, number: u32) -> bool
-        ensures { result ≡ is_asked self.only number }
+        ensures { result ≡ is_part_asked self.only number }
     {
         match self.only {
             Some(asked) => asked == number,
@@ -112,7 +112,7 @@ fn take_next<S: Source, A: Allocator, T: PartTaker>(
     requires place { walk.old.at ≤ parts.size }
     ensures takes { Takes (Asks (4 + (parts.size - walk.old.at))) result
         S.device source room T.honest T.kept taker }
-    ensures paid { Pays 4 result S.device source walk }
+    ensures paid { PaysWalked 4 result S.device source walk }
     ensures taken { TakesNext parts number result S.device source walk T.honest T.held taker }
     ensures refused { IfHonest S.device source (λ file.
         RefusesNumber number parts.size walk.old.at file result) }
@@ -150,7 +150,7 @@ pub(super) fn take_parts<S: Source, A: Allocator, T: PartTaker>(
     requires place { walk.old.at ≡ 4 * (parts.count + 1) }
     ensures takes { Takes (Asks (4 * parts.count + (parts.size - walk.old.at))) result
         S.device source room T.honest T.kept taker }
-    ensures paid { Pays (4 * parts.count) result S.device source walk }
+    ensures paid { PaysWalked (4 * parts.count) result S.device source walk }
     ensures taken { Walks parts result S.device source walk T.honest T.held taker }
     ensures refused { IfHonest S.device source (λ file.
         RefusesFrom parts.count parts.size walk.old.at file result) }

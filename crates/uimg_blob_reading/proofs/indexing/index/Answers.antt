@@ -41,9 +41,9 @@ pub returns-in_err-state-clause-uses : goal.returns-in_err-state-clause-uses
 returns-in_err-state-clause-uses g c = record {
   same = search rules;
   asked = λ honest.
-        let w : (g.S.Source.device c.pass.new.source).asked + 40 ≤ (g.S.Source.device c.read_extent.new.source).asked + index_cost (g.S.Source.device c.args.source.now).bytes =
-        (within_cost _ _ c.in_ok-extent.extent _ _ c.read_extent.ensures.uses.same c.in_ok-extent.ensures.gives c.pass.ensures.within honest).0 in
-        omega (arith, w, c.read_extent.ensures.uses.asked);
+      let w : (g.S.Source.device c.pass.new.source).asked + 40 ≤ (g.S.Source.device c.read_extent.new.source).asked + index_cost (g.S.Source.device c.args.source.now).bytes =
+      (within_cost _ _ c.in_ok-extent.extent _ _ c.read_extent.ensures.uses.same c.in_ok-extent.ensures.gives c.pass.ensures.within honest).0 in
+      omega (arith, w, c.read_extent.ensures.uses.asked);
   failures = search rules;
 }
 
@@ -55,9 +55,9 @@ pub returns-in_err-state-clause-room : goal.returns-in_err-state-clause-room
 returns-in_err-state-clause-room g c = record {
   refused = search rules;
   peak = λ honest.
-        let w : length c.pass.new.room.entries ≤ nodes_met (g.S.Source.device c.args.source.now).bytes =
-        (within_cost _ _ c.in_ok-extent.extent _ _ c.read_extent.ensures.uses.same c.in_ok-extent.ensures.gives c.pass.ensures.within honest).1 in
-        omega (arith, w, c.pass.ensures.room.peak, ap (λ (h : Held). h.peak) c.clear.ensures);
+      let w : length c.pass.new.room.entries ≤ nodes_met (g.S.Source.device c.args.source.now).bytes =
+      (within_cost _ _ c.in_ok-extent.extent _ _ c.read_extent.ensures.uses.same c.in_ok-extent.ensures.gives c.pass.ensures.within honest).1 in
+      omega (arith, w, c.pass.ensures.room.peak, ap (λ (h : Held). h.peak) c.clear.ensures);
   most = search rules;
 }
 
@@ -70,9 +70,9 @@ pub returns-clause-uses : goal.returns-clause-uses
 returns-clause-uses g c = record {
   same = search rules;
   asked = λ honest.
-        let w : (g.S.Source.device c.pass.new.source).asked + 40 ≤ (g.S.Source.device c.read_extent.new.source).asked + index_cost (g.S.Source.device c.args.source.now).bytes =
-        (within_cost _ _ c.in_ok-extent.extent _ _ c.read_extent.ensures.uses.same c.in_ok-extent.ensures.gives c.pass.ensures.within honest).0 in
-        omega (arith, w, c.read_extent.ensures.uses.asked);
+      let w : (g.S.Source.device c.pass.new.source).asked + 40 ≤ (g.S.Source.device c.read_extent.new.source).asked + index_cost (g.S.Source.device c.args.source.now).bytes =
+      (within_cost _ _ c.in_ok-extent.extent _ _ c.read_extent.ensures.uses.same c.in_ok-extent.ensures.gives c.pass.ensures.within honest).0 in
+      omega (arith, w, c.read_extent.ensures.uses.asked);
   failures = search rules;
 }
 
@@ -84,9 +84,9 @@ pub returns-clause-room : goal.returns-clause-room
 returns-clause-room g c = record {
   refused = search rules;
   peak = λ honest.
-        let w : length c.pass.new.room.entries ≤ nodes_met (g.S.Source.device c.args.source.now).bytes =
-        (within_cost _ _ c.in_ok-extent.extent _ _ c.read_extent.ensures.uses.same c.in_ok-extent.ensures.gives c.pass.ensures.within honest).1 in
-        omega (arith, w, c.pass.ensures.room.peak, ap (λ (h : Held). h.peak) c.clear.ensures);
+      let w : length c.pass.new.room.entries ≤ nodes_met (g.S.Source.device c.args.source.now).bytes =
+      (within_cost _ _ c.in_ok-extent.extent _ _ c.read_extent.ensures.uses.same c.in_ok-extent.ensures.gives c.pass.ensures.within honest).1 in
+      omega (arith, w, c.pass.ensures.room.peak, ap (λ (h : Held). h.peak) c.clear.ensures);
   most = search rules;
 }
 

@@ -5,7 +5,7 @@ use Rattle.uimg_blob_reading.specs.declared.states.State.{State}
 use Rattle.uimg_blob_reading.specs.Extents.{blocks_of}
 use Rattle.uimg_blob_reading.specs.Tokens.{tokens}
 use Rattle.uimg_blob_reading.specs.Walk.{begun}
-use Rattle.uimg_blob_reading.specs.Passes.{Steps, StopsAt}
+use Rattle.uimg_blob_reading.specs.Passes.{PassesToken, StopsAt}
 use Rattle.uimg_blob_reading.proofs.PhaseLaws.{holds_within}
 use Rattle.uimg_blob_reading.proofs.IndexLaws.{begins, goes_on, ends_ok, ends_passed, ends_err, steps_same, paid_same, last_paid, stay_err, prefix_err, stops_at}
 use Rattle.uimg_blob_reading.proofs.indexing.pass.Goals as goal
@@ -36,7 +36,7 @@ loop-next-preserved g c =
     let e = g.S.Source.device c.loop-next.source in
     let ahead : (c.loop-next.state.at + 4 ≤ c.in-Some.next.at) × (c.in-Some.next.at < c.args.extent.structure_end + 4) =
     subst (λ (o : Option State). IfSome o (λ s. (c.loop-next.state.at + 4 ≤ s.at) × (s.at < c.args.extent.structure_end + 4))) c.in-Some.is c.in_ok-next.ensures.ahead in
-    let steps = subst (λ (o : Option State). Steps e.honest (blocks_of e.bytes c.args.extent) pass.phase c.loop-next.state.at (Ok o) c.loop-next.room.entries c.step.new.room.entries)
+    let steps = subst (λ (o : Option State). PassesToken e.honest (blocks_of e.bytes c.args.extent) pass.phase c.loop-next.state.at (Ok o) c.loop-next.room.entries c.step.new.room.entries)
     c.in-Some.is (c.in_ok-next.ensures.steps pass.phase pass.holds) in
     record {
       same = record { bytes = c.step.ensures.uses.same.bytes ∙ same.bytes; honest = c.step.ensures.uses.same.honest ∙ same.honest };
@@ -85,7 +85,7 @@ returns g c =
     let new = c.step.new.room.entries in
     let pass = now.invariant.pass in
     let steps = steps_same d e c.args.extent pass.phase now.state.at (Ok None) now.room.entries new now.invariant.same
-    (subst (λ (o : Option State). Steps e.honest (blocks_of e.bytes c.args.extent) pass.phase now.state.at (Ok o) now.room.entries new) c.in_default.is (c.in_ok-next.ensures.steps pass.phase pass.holds)) in
+    (subst (λ (o : Option State). PassesToken e.honest (blocks_of e.bytes c.args.extent) pass.phase now.state.at (Ok o) now.room.entries new) c.in_default.is (c.in_ok-next.ensures.steps pass.phase pass.holds)) in
     let stay = steps.acts.3 in
     record {
       uses = search rules;

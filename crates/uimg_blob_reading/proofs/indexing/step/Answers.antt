@@ -5,7 +5,7 @@ use Rattle.uimg_blob_reading.specs.declared.fault.IndexFault.TheVariants.{Read}
 use Rattle.uimg_blob_reading.specs.declared.states.State.{State}
 use Rattle.uimg_blob_reading.specs.Extents.{blocks_of}
 use Rattle.uimg_blob_reading.specs.Tokens.{token_at, next}
-use Rattle.uimg_blob_reading.specs.Passes.{step, Steps}
+use Rattle.uimg_blob_reading.specs.Passes.{step, PassesToken}
 use Rattle.uimg_blob_reading.proofs.KeyLaws.{passed_on, on_err}
 use Rattle.uimg_blob_reading.proofs.PassLaws.{acts_read, refuses_read}
 use Rattle.uimg_blob_reading.proofs.ActLaws.{adds_grows, found, step_goes, step_ends}
@@ -55,7 +55,7 @@ returns-in_err-next g c =
     record {
       uses = search rules;
       room = search (rules, room);
-      steps = λ p h. subst (λ (r : Result (Option State) IndexFault). Steps d.honest b p s.at r c.args.room.now.entries c.act.new.room.entries) (sym is)
+      steps = λ p h. subst (λ (r : Result (Option State) IndexFault). PassesToken d.honest b p s.at r c.args.room.now.entries c.act.new.room.entries) (sym is)
           (step_goes d.honest b p s c.in_ok-token.token _ c.args.room.now c.read_token.new.room c.act.new.room f c.read_token.ensures.room
           (λ now. sym (c.is_done.ensures p f.token_is now f.read) ∙ c.if-is_done.false) c.in_err-next.ensures h);
       no_making = search rules;

@@ -4,7 +4,7 @@ use Rattle.uimg_blob_writing.specs.Alignment.{aligned}
 use Rattle.uimg_blob_writing.specs.Encoding.{strings, names_of, with_names_in}
 use Rattle.uimg_blob_writing.specs.Layouts.{Plan, plan_of, nodes_size, totalsize}
 use Rattle.uimg_blob_writing.specs.Measured.{measured}
-use Rattle.uimg_blob_writing.specs.Names.{texts}
+use Rattle.uimg_blob_writing.specs.Names.{name_texts}
 use Rattle.uimg_blob_writing.specs.Trees.{node_of}
 use Rattle.uimg_blob_writing.proofs.MeasuredLaws.{are_named, not-memory, same-fault}
 use Rattle.uimg_blob_writing.proofs.PlanLaws.{on-ok, measured-ok, measured-large, measured-bad, Measures-bad}
@@ -31,10 +31,10 @@ pub returns-then-aligned-gt-LARGEST-clause-measured : goal.returns-then-aligned-
 returns-then-aligned-gt-LARGEST-clause-measured g c =
     let t = node_of c.args.tree.now.root in
     let added = on-ok c.add_all_names.result (sym c.is_err.ensures.value ∙ c.if-is_err.false) c.add_all_names.ensures.added in
-    let is_names : texts c.add_all_names.new.names.items ≡ names_of t = added ∙ ap (λ (l : List (Bor (List ℕ))). with_names_in (texts l) t) c.new-names.ensures.items in
+    let is_names : name_texts c.add_all_names.new.names.items ≡ names_of t = added ∙ ap (λ (l : List (Bor (List ℕ))). with_names_in (name_texts l) t) c.new-names.ensures.items in
     let size = c.node_size-structure.ensures in
     let length_is : c.strings_size-strings.result ≡ min (length (strings (names_of t))) (2 ^ 36) =
-    c.strings_size-strings.ensures ∙ ap (λ (l : List (Bor (List ℕ))). min (length (strings (texts l))) (2 ^ 36)) c.as_slice.ensures.value
+    c.strings_size-strings.ensures ∙ ap (λ (l : List (Bor (List ℕ))). min (length (strings (name_texts l))) (2 ^ 36)) c.as_slice.ensures.value
     ∙ ap (λ (l : List (List ℕ)). min (length (strings l)) (2 ^ 36)) is_names in
     let counted = 56 + (c.node_size-structure.result + 4) + c.strings_size-strings.result in
     let end = 56 + (nodes_size t + 4) + length (strings (names_of t)) in
@@ -44,12 +44,12 @@ returns-then-aligned-gt-LARGEST-clause-measured g c =
 pub returns-clause-measured : goal.returns-clause-measured
 returns-clause-measured g c =
     let t = node_of c.args.tree.now.root in
-    let names = texts c.add_all_names.new.names.items in
+    let names = name_texts c.add_all_names.new.names.items in
     let added = on-ok c.add_all_names.result (sym c.is_err.ensures.value ∙ c.if-is_err.false) c.add_all_names.ensures.added in
-    let is_names : names ≡ names_of t = added ∙ ap (λ (l : List (Bor (List ℕ))). with_names_in (texts l) t) c.new-names.ensures.items in
+    let is_names : names ≡ names_of t = added ∙ ap (λ (l : List (Bor (List ℕ))). with_names_in (name_texts l) t) c.new-names.ensures.items in
     let size = c.node_size-structure.ensures in
     let length_is : c.strings_size-strings.result ≡ min (length (strings (names_of t))) (2 ^ 36) =
-    c.strings_size-strings.ensures ∙ ap (λ (l : List (Bor (List ℕ))). min (length (strings (texts l))) (2 ^ 36)) c.as_slice.ensures.value
+    c.strings_size-strings.ensures ∙ ap (λ (l : List (Bor (List ℕ))). min (length (strings (name_texts l))) (2 ^ 36)) c.as_slice.ensures.value
     ∙ ap (λ (l : List (List ℕ)). min (length (strings l)) (2 ^ 36)) is_names in
     let counted = 56 + (c.node_size-structure.result + 4) + c.strings_size-strings.result in
     let whole : counted ≡ 56 + (nodes_size t + 4) + length (strings (names_of t)) = omega (arith, size, length_is, c.aligned.ensures.least, c.if-aligned-gt-LARGEST.false) in
@@ -65,9 +65,9 @@ returns-clause-named g c = are_named (node_of c.args.tree.now.root) (sym c.in_ok
 pub returns-clause-sized : goal.returns-clause-sized
 returns-clause-sized g c = λ files kept.
     let t = node_of c.args.tree.now.root in
-    let names = texts c.add_all_names.new.names.items in
+    let names = name_texts c.add_all_names.new.names.items in
     let added = on-ok c.add_all_names.result (sym c.is_err.ensures.value ∙ c.if-is_err.false) c.add_all_names.ensures.added in
-    let is_names : names ≡ names_of t = added ∙ ap (λ (l : List (Bor (List ℕ))). with_names_in (texts l) t) c.new-names.ensures.items in
+    let is_names : names ≡ names_of t = added ∙ ap (λ (l : List (Bor (List ℕ))). with_names_in (name_texts l) t) c.new-names.ensures.items in
     let structure : nodes_size t + 4 ≡ c.node_size-structure.result + 4 = omega (arith, c.node_size-structure.ensures, c.aligned.ensures.least, c.if-aligned-gt-LARGEST.false) in
     encode-size files c.args.align t kept
     ∙ ap totalsize (ap (λ (l : List (List ℕ)). plan c.args.align l (nodes_size t + 4)) (sym is_names) ∙ ap (λ (n : ℕ). plan c.args.align names n) structure)

@@ -4,7 +4,7 @@ use Rattle.std.proofs.Math.ListN.{drop_of_length-le}
 use Rattle.uimg_blob_writing.specs.declared.tree.Node.{Node}
 use Rattle.uimg_blob_writing.specs.Content.{Unread, count}
 use Rattle.uimg_blob_writing.specs.Trees.{siblings}
-use Rattle.uimg_blob_writing.specs.Names.{texts}
+use Rattle.uimg_blob_writing.specs.Names.{name_texts}
 use Rattle.uimg_blob_writing.specs.Encoding.{with_names, with_names_in}
 use Rattle.uimg_blob_writing.proofs.NameLaws.{on-err, length-with_names_in}
 use Rattle.uimg_blob_writing.proofs.NodeLaws.{count-at}
@@ -49,7 +49,7 @@ pub returns-in_err-add_names-clause-memory : goal.returns-in_err-add_names-claus
 unfolding with_names_in
 returns-in_err-add_names-clause-memory g t c =
     let node = c.args.this.node.now in
-    let old = texts c.args.names.now.items in
+    let old = name_texts c.args.names.now.items in
     on-err c.from_residual.result (omega (arith, c.in_err-add_names.ensures.memory, length-with_names_in (with_names old node.props) node.children))
 
 pub returns-in_err-add_all_names-clause-memory : goal.returns-in_err-add_all_names-clause-memory
@@ -60,8 +60,8 @@ returns-in_err-add_all_names-clause-memory g t c =
     let d = c.node-item.result in
     let node = c.args.this.node.now in
     let rest = siblings (drop (i + 1) items) in
-    let old = texts c.args.names.now.items in
-    let now = texts c.loop-node.names.items in
+    let old = name_texts c.args.names.now.items in
+    let now = name_texts c.loop-node.names.items in
     let more : drop i items ≡ d ∷ drop (i + 1) items = drop_more items i d c.loop-node-test.true ∙ ap (λ (p : Node g.row.A.Denot). p ∷ drop (i + 1) items) (sym c.node-item.is) in
     let one = with_names_in (with_names now d.props) d.children in
     let whole : with_names_in one rest ≡ with_names_in (with_names old node.props) node.children =

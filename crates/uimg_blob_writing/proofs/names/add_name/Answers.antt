@@ -2,7 +2,7 @@ use Rattle.std.proofs.Common.{◌≡◌, ◌++◌, map, ℕ, ◌∙◌, ap, sym,
 use Rattle.std.proofs.lemmas.List.{map-append}
 use Rattle.std.specs.List.{list_any}
 use Rattle.std.specs.Str.{bytes_eq}
-use Rattle.uimg_blob_writing.specs.Names.{texts}
+use Rattle.uimg_blob_writing.specs.Names.{name_texts}
 use Rattle.uimg_blob_writing.specs.Encoding.{with_name}
 use Rattle.uimg_blob_writing.proofs.NameLaws.{on-err}
 use Rattle.uimg_blob_writing.proofs.names.add_name.Goals as goal
@@ -31,8 +31,8 @@ returns-clause-added g c =
 
 pub returns-in_err-push-clause-memory : goal.returns-in_err-push-clause-memory
 returns-in_err-push-clause-memory g c =
-    let old = texts c.args.names.now.items in
+    let old = name_texts c.args.names.now.items in
     let name = c.args.name.now in
     let other : list_any (bytes_eq name) old ≡ false =
-    ap (λ (l : List (Bor (List ℕ))). list_any (bytes_eq name) (texts l)) (sym c.as_slice.ensures.value) ∙ sym c.has_name.ensures ∙ c.if-has_name.false in
+    ap (λ (l : List (Bor (List ℕ))). list_any (bytes_eq name) (name_texts l)) (sym c.as_slice.ensures.value) ∙ sym c.has_name.ensures ∙ c.if-has_name.false in
     on-err c.from_residual.result (omega (arith, ap length (with_name-other old name other), length-append old (name ∷ [])))

@@ -5,7 +5,7 @@ use Rattle.uimg_blob_writing.specs.declared.props.Prop.{Prop}
 use Rattle.uimg_blob_reading.specs.Plain.{NamedOf}
 use Rattle.uimg_blob_writing.specs.Content.{Content}
 use Rattle.uimg_blob_writing.specs.Properties.{property}
-use Rattle.uimg_blob_writing.specs.Names.{texts}
+use Rattle.uimg_blob_writing.specs.Names.{name_texts}
 use Rattle.uimg_blob_writing.specs.Encoding.{with_name, with_names}
 use Rattle.uimg_blob_writing.proofs.NameLaws.{on-err, length-with_names}
 use Rattle.uimg_blob_writing.proofs.names.add_names.Goals as goal
@@ -42,8 +42,8 @@ returns-in_err-add_name-clause-memory g c =
     let i = c.loop-prop.prop-index in
     let d = c.prop-item.result in
     let rest = map property (drop (i + 1) items) in
-    let old = texts c.args.names.now.items in
-    let now = texts c.loop-prop.names.items in
+    let old = name_texts c.args.names.now.items in
+    let now = name_texts c.loop-prop.names.items in
     let more : drop i items ≡ d ∷ drop (i + 1) items = drop_more items i d c.loop-prop-test.true ∙ ap (λ (p : Prop g.row.A.Denot). p ∷ drop (i + 1) items) (sym c.prop-item.is) in
     let whole : with_names (with_name now d.name) rest ≡ with_names old c.args.props.now =
     sym (ap (λ (l : List (Prop g.row.A.Denot)). with_names now (map property l)) more)

@@ -2,7 +2,7 @@ use Rattle.std.proofs.Common.{◌≡◌, ◌<◌, length, map, drop, ℕ, ◌+�
 use Rattle.std.proofs.lemmas.List.{drop_more}
 use Rattle.std.proofs.Math.ListN.{drop_of_length-le}
 use Rattle.std.specs.Str.{bytes_eq}
-use Rattle.uimg_blob_writing.specs.Encoding.{strings, ended, name_offset}
+use Rattle.uimg_blob_writing.specs.Encoding.{strings, with_nul, name_offset}
 use Rattle.uimg_blob_writing.proofs.names.name_offset.Goals as goal
 
 -- what is left is one name and what is left after it
@@ -18,7 +18,7 @@ unfolding name_offset
 offset-other first name names other = rw (sym other) (omega (arith, length-append first (0 ∷ [])))
 
 strings-first : (first : List ℕ) (names : List (List ℕ)) → length (strings (first ∷ names)) ≡ length first + 1 + length (strings names)
-strings-first first names = omega (arith, length-append (ended first) (strings names), length-append first (0 ∷ []))
+strings-first first names = omega (arith, length-append (with_nul first) (strings names), length-append first (0 ∷ []))
 
 pub loop-other-init : goal.loop-other-init
 loop-other-init c = record { place = omega arith; rest = omega arith }

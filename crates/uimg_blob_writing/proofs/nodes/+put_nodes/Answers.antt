@@ -6,7 +6,7 @@ use Rattle.uimg_blob_writing.specs.declared.fault.TreeFault.TheVariants.{Put}
 use Rattle.uimg_blob_writing.specs.declared.tree.Node.{Node}
 use Rattle.uimg_blob_writing.specs.Content.{Content, Unread, bytes, size_of, count}
 use Rattle.uimg_blob_writing.specs.Encoding.{word}
-use Rattle.uimg_blob_writing.specs.Names.{texts}
+use Rattle.uimg_blob_writing.specs.Names.{name_texts}
 use Rattle.uimg_blob_writing.specs.Trees.{siblings, node_of}
 use Rattle.uimg_blob_writing.specs.Pieces.{begin_bytes, property_pieces, nodes_pieces, WritesPieces}
 use Rattle.uimg_blob_writing.proofs.NodeLaws.{siblings-pieces, values-at, count-at}
@@ -16,7 +16,7 @@ use Rattle.uimg_blob_writing.proofs.nodes.+put_nodes.Goals as goal
 pub put_node-returns-in_err-put_begin_node : goal.put_node-returns-in_err-put_begin_node
 unfolding nodes_pieces
 put_node-returns-in_err-put_begin_node g t c =
-    let names = texts c.args.names.now in
+    let names = name_texts c.args.names.now in
     let node = c.args.this.node.now in
     let begin = subst (λ (n : List ℕ). Writes true c.args.out.now c.put_begin_node.new.out (begin_bytes n)) c.items.ensures c.in_err-put_begin_node.ensures in
     let rest = flat_map (property_pieces names) node.props ++ (nodes_pieces names node.children ++ bytes (word 2) ∷ []) in
@@ -25,7 +25,7 @@ put_node-returns-in_err-put_begin_node g t c =
 pub put_node-returns-in_err-put_properties : goal.put_node-returns-in_err-put_properties
 unfolding nodes_pieces
 put_node-returns-in_err-put_properties g t c =
-    let names = texts c.args.names.now in
+    let names = name_texts c.args.names.now in
     let node = c.args.this.node.now in
     let begin = subst (λ (n : List ℕ). Writes false c.args.out.now c.put_begin_node.new.out (begin_bytes n)) c.items.ensures c.in_ok-put_begin_node.ensures in
     let rest = nodes_pieces names node.children ++ bytes (word 2) ∷ [] in
@@ -69,7 +69,7 @@ put_nodes-returns-in_err-put_node g t c =
     let k = g.F.Files.map c.put_node.new.files in
     let s = c.args.out.now in
     let items = c.items-node-items.result.now in
-    let names = texts c.args.names.now in
+    let names = name_texts c.args.names.now in
     let f : Node g.row.A.Denot → List Content = λ n. nodes_pieces names (node_of n) in
     let fault = c.in_err-put_node.field-0.0 in
     let here = subst (λ (x : Node g.row.A.Denot). WritesPieces g.F.Opened.Source.steady (failed fault) n k c.loop-node.out c.put_node.new.out (f x)) c.node-item.is c.in_err-put_node.ensures in
@@ -84,7 +84,7 @@ put_nodes-loop-node-preserved g t c =
     let n = g.F.Files.map c.loop-node.files in
     let k = g.F.Files.map c.put_node.new.files in
     let items = c.items-node-items.result.now in
-    let f : Node g.row.A.Denot → List Content = λ n. nodes_pieces (texts c.args.names.now) (node_of n) in
+    let f : Node g.row.A.Denot → List Content = λ n. nodes_pieces (name_texts c.args.names.now) (node_of n) in
     let here = subst (λ (x : Node g.row.A.Denot). WritesPieces g.F.Opened.Source.steady went_well n k c.loop-node.out c.put_node.new.out (f x)) c.node-item.is c.in_ok-put_node.ensures in
     each-goes g.F.Opened.Source.steady f items c.loop-node.node-index c.node-item.result c.loop-node-test.true m n k c.args.out.now c.loop-node.out c.put_node.new.out c.loop-node.invariant here
 
@@ -93,7 +93,7 @@ put_nodes-returns g t c =
     let m = g.F.Files.map c.args.files.now in
     let n = g.F.Files.map c.loop-node.files in
     let items = c.items-node-items.result.now in
-    let names = texts c.args.names.now in
+    let names = name_texts c.args.names.now in
     let f : Node g.row.A.Denot → List Content = λ n. nodes_pieces names (node_of n) in
     let whole = each-all g.F.Opened.Source.steady f items c.loop-node.node-index c.loop-node-test.false m n c.args.out.now c.loop-node.out c.loop-node.invariant in
     subst (λ (ps : List Content). WritesPieces g.F.Opened.Source.steady went_well m n c.args.out.now c.loop-node.out ps)

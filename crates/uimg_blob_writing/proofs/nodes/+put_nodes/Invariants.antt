@@ -1,7 +1,7 @@
 use Rattle.std.proofs.Common.{take, suc}
 use Rattle.std.specs.List.{flat_map}
 use Rattle.uimg_blob_writing.specs.Content.{count}
-use Rattle.uimg_blob_writing.specs.Names.{texts}
+use Rattle.uimg_blob_writing.specs.Names.{name_texts}
 use Rattle.uimg_blob_writing.specs.Trees.{node_of}
 use Rattle.uimg_blob_writing.specs.Pieces.{nodes_pieces, WritesPieces}
 use Rattle.uimg_blob_writing.proofs.WritesLaws.{went_well}
@@ -18,4 +18,4 @@ decreases-put_nodes g l = count l.these.nodes.now
 abbrev pub invariant-put_nodes-loop-node : goal.invariant-put_nodes-loop-node
 invariant-put_nodes-loop-node g l =
     WritesPieces g.F.Opened.Source.steady went_well (g.F.Files.map l.fn.files) (g.F.Files.map l.files) l.fn.out l.out
-    (flat_map (λ n. nodes_pieces (texts l.names) (node_of n)) (take l.node-index l.node-items))
+    (flat_map (λ n. nodes_pieces (name_texts l.names) (node_of n)) (take l.node-index l.node-items))

@@ -4,7 +4,7 @@ use Rattle.std.specs.List.{flat_map, AllByRecursion}
 use Rattle.uimg_blob_reading.specs.Plain.{NamedOf}
 use Rattle.uimg_blob_writing.specs.declared.props.Prop.{Prop}
 use Rattle.uimg_blob_writing.specs.Content.{Content, size_of}
-use Rattle.uimg_blob_writing.specs.Names.{texts}
+use Rattle.uimg_blob_writing.specs.Names.{name_texts}
 use Rattle.uimg_blob_writing.specs.Properties.{content, property}
 use Rattle.uimg_blob_writing.specs.Pieces.{property_pieces, WritesPieces}
 use Rattle.uimg_blob_writing.proofs.WritesLaws.{went_well, failed, refused, each-goes, each-stops, each-all, all-at}
@@ -24,7 +24,7 @@ returns-in_err-put_property g c =
     let n = device c.loop-prop.files in
     let k = device c.put_property.new.files in
     let items = c.items-prop-items.result.now in
-    let names = texts c.args.names.now in
+    let names = name_texts c.args.names.now in
     let f : Prop g.row.A.Denot → List Content = λ p. property_pieces names (property p) in
     let d = c.prop-item.result in
     let fault = c.in_err-put_property.field-0.0 in
@@ -40,7 +40,7 @@ loop-prop-preserved g c =
     let n = device c.loop-prop.files in
     let k = device c.put_property.new.files in
     let items = c.items-prop-items.result.now in
-    let f : Prop g.row.A.Denot → List Content = λ p. property_pieces (texts c.args.names.now) (property p) in
+    let f : Prop g.row.A.Denot → List Content = λ p. property_pieces (name_texts c.args.names.now) (property p) in
     let here = subst (λ (p : Prop g.row.A.Denot). WritesPieces g.F.Opened.Source.steady went_well n k c.loop-prop.out c.put_property.new.out (f p)) c.prop-item.is c.in_ok-put_property.ensures in
     each-goes g.F.Opened.Source.steady f items c.loop-prop.prop-index c.prop-item.result c.loop-prop-test.true (device c.args.files.now) n k c.args.out.now c.loop-prop.out c.put_property.new.out c.loop-prop.invariant here
 
@@ -50,7 +50,7 @@ returns g c =
     let m = device c.args.files.now in
     let n = device c.loop-prop.files in
     let items = c.items-prop-items.result.now in
-    let names = texts c.args.names.now in
+    let names = name_texts c.args.names.now in
     let f : Prop g.row.A.Denot → List Content = λ p. property_pieces names (property p) in
     let whole = each-all g.F.Opened.Source.steady f items c.loop-prop.prop-index c.loop-prop-test.false m n c.args.out.now c.loop-prop.out c.loop-prop.invariant in
     subst (λ (ps : List Content). WritesPieces g.F.Opened.Source.steady went_well m n c.args.out.now c.loop-prop.out ps)

@@ -1,6 +1,6 @@
 use Rattle.std.proofs.Common.{take}
 use Rattle.std.specs.List.{flat_map}
-use Rattle.uimg_blob_writing.specs.Names.{texts}
+use Rattle.uimg_blob_writing.specs.Names.{name_texts}
 use Rattle.uimg_blob_writing.specs.Properties.{property}
 use Rattle.uimg_blob_writing.specs.Pieces.{property_pieces, WritesPieces}
 use Rattle.uimg_blob_writing.proofs.WritesLaws.{went_well}
@@ -10,4 +10,4 @@ use Rattle.uimg_blob_writing.proofs.properties.put_properties.Given as goal
 abbrev pub invariant-loop-prop : goal.invariant-loop-prop
 invariant-loop-prop g l =
     WritesPieces g.F.Opened.Source.steady went_well (g.F.Files.map l.fn.files) (g.F.Files.map l.files) l.fn.out l.out
-    (flat_map (λ p. property_pieces (texts l.names) (property p)) (take l.prop-index l.prop-items))
+    (flat_map (λ p. property_pieces (name_texts l.names) (property p)) (take l.prop-index l.prop-items))

@@ -4,7 +4,7 @@ use Rattle.uimg_blob_reading.specs.Plain.{NamedOf}
 use Rattle.uimg_blob_writing.specs.declared.fault.TreeFault.TheVariants.{Put}
 use Rattle.uimg_blob_writing.specs.Content.{Content, bytes, file, size_of}
 use Rattle.uimg_blob_writing.specs.Encoding.{name_offset}
-use Rattle.uimg_blob_writing.specs.Names.{texts}
+use Rattle.uimg_blob_writing.specs.Names.{name_texts}
 use Rattle.uimg_blob_writing.specs.Properties.{content, property}
 use Rattle.uimg_blob_writing.specs.Pieces.{head_bytes, padding, property_pieces, WritesPieces}
 use Rattle.uimg_blob_writing.proofs.WritesLaws.{went_well, failed, refused, together}
@@ -26,7 +26,7 @@ returns-in_err-put_whole-in-Bytes g c =
     let m = g.F.Files.map c.args.files.now in
     let s = c.args.out.now in
     let t = c.put_whole.new.out in
-    let names = texts c.args.names.now in
+    let names = name_texts c.args.names.now in
     let p = property c.args.prop.now in
     let value : List ℕ = c.in-Bytes.value in
     let offset = c.name_offset-offset.result in
@@ -43,7 +43,7 @@ returns-in_ok-put_whole-in-Bytes g c =
     let m = g.F.Files.map c.args.files.now in
     let s = c.args.out.now in
     let t = c.put_whole.new.out in
-    let names = texts c.args.names.now in
+    let names = name_texts c.args.names.now in
     let p = property c.args.prop.now in
     let value : List ℕ = c.in-Bytes.value in
     let offset = c.name_offset-offset.result in
@@ -57,7 +57,7 @@ pub returns-in-File : goal.returns-in-File
 returns-in-File g c =
     let m = g.F.Files.map c.args.files.now in
     let n = g.F.Files.map c.put_from_file.new.files in
-    let names = texts c.args.names.now in
+    let names = name_texts c.args.names.now in
     let p = property c.args.prop.now in
     let name : List ℕ = c.in-File.name in
     let size = c.in-File.size in

@@ -4,7 +4,7 @@ use Rattle.uimg_blob_writing.specs.declared.fault.TreeFault.TheVariants.{Put}
 use Rattle.uimg_blob_writing.specs.Content.{Content, bytes}
 use Rattle.uimg_blob_writing.specs.Encoding.{word, strings}
 use Rattle.uimg_blob_writing.specs.Layouts.{Plan, nodes_size}
-use Rattle.uimg_blob_writing.specs.Names.{texts}
+use Rattle.uimg_blob_writing.specs.Names.{name_texts}
 use Rattle.uimg_blob_writing.specs.Trees.{node_of}
 use Rattle.uimg_blob_writing.specs.Alignment.{padding_by}
 use Rattle.uimg_blob_writing.specs.Pieces.{nodes_pieces, blob_pieces, WritesPieces}
@@ -33,7 +33,7 @@ returns-in_err-put_node-clause-writes g c =
     let m = g.F.Files.map c.args.files.now in
     let n = g.F.Files.map c.put_node.new.files in
     let fault = c.in_err-put_node.field-0.0 in
-    let is_names : texts c.as_slice-names.result.now ≡ p.names = ap texts c.as_slice-names.ensures.value ∙ ap (λ (q : Plan). q.names) c.layout.view_is in
+    let is_names : name_texts c.as_slice-names.result.now ≡ p.names = ap name_texts c.as_slice-names.ensures.value ∙ ap (λ (q : Plan). q.names) c.layout.view_is in
     let nodes = subst (λ (ns : List (List ℕ)). WritesPieces g.F.Opened.Source.steady (failed fault) m n c.put_header.new.out c.put_node.new.out (nodes_pieces ns t)) is_names c.in_err-put_node.ensures in
     let rest : List Content = bytes (word 9) ∷ bytes (strings p.names) ∷ bytes (padding_by p.align (56 + p.structure + length (strings p.names))) ∷ [] in
     refused g.F.Opened.Source.steady _ fault _ _ _ _ _ c.from_residual-in_err-put_node.ensures.1 (all-put c.in_ok-put_header.ensures ▶ before rest nodes)
@@ -45,7 +45,7 @@ returns-in_err-put_end-clause-writes g c =
     let t = node_of c.args.tree.now.root in
     let m = g.F.Files.map c.args.files.now in
     let n = g.F.Files.map c.put_node.new.files in
-    let is_names : texts c.as_slice-names.result.now ≡ p.names = ap texts c.as_slice-names.ensures.value ∙ ap (λ (q : Plan). q.names) c.layout.view_is in
+    let is_names : name_texts c.as_slice-names.result.now ≡ p.names = ap name_texts c.as_slice-names.ensures.value ∙ ap (λ (q : Plan). q.names) c.layout.view_is in
     let nodes = subst (λ (ns : List (List ℕ)). WritesPieces g.F.Opened.Source.steady went_well m n c.put_header.new.out c.put_node.new.out (nodes_pieces ns t)) is_names c.in_ok-put_node.ensures in
     let rest : List Content = bytes (strings p.names) ∷ bytes (padding_by p.align (56 + p.structure + length (strings p.names))) ∷ [] in
     refused g.F.Opened.Source.steady _ Put _ _ _ _ _ c.from_residual-in_err-put_end.ensures.1 (all-put c.in_ok-put_header.ensures ▶ nodes ▶ before rest (prefix-put c.in_err-put_end.ensures))
@@ -57,7 +57,7 @@ returns-in_err-put_strings-clause-writes g c =
     let t = node_of c.args.tree.now.root in
     let m = g.F.Files.map c.args.files.now in
     let n = g.F.Files.map c.put_node.new.files in
-    let is_names : texts c.as_slice-names.result.now ≡ p.names = ap texts c.as_slice-names.ensures.value ∙ ap (λ (q : Plan). q.names) c.layout.view_is in
+    let is_names : name_texts c.as_slice-names.result.now ≡ p.names = ap name_texts c.as_slice-names.ensures.value ∙ ap (λ (q : Plan). q.names) c.layout.view_is in
     let nodes = subst (λ (ns : List (List ℕ)). WritesPieces g.F.Opened.Source.steady went_well m n c.put_header.new.out c.put_node.new.out (nodes_pieces ns t)) is_names c.in_ok-put_node.ensures in
     let names = subst (λ (ns : List (List ℕ)). Writes true c.put_end.new.out c.put_strings.new.out (strings ns)) is_names c.in_err-put_strings.ensures in
     let rest : List Content = bytes (padding_by p.align (56 + p.structure + length (strings p.names))) ∷ [] in
@@ -71,7 +71,7 @@ returns-in_err-put_gap-clause-writes g c =
     let t = node_of c.args.tree.now.root in
     let m = g.F.Files.map c.args.files.now in
     let n = g.F.Files.map c.put_node.new.files in
-    let is_names : texts c.as_slice-names.result.now ≡ p.names = ap texts c.as_slice-names.ensures.value ∙ ap (λ (q : Plan). q.names) c.layout.view_is in
+    let is_names : name_texts c.as_slice-names.result.now ≡ p.names = ap name_texts c.as_slice-names.ensures.value ∙ ap (λ (q : Plan). q.names) c.layout.view_is in
     let nodes = subst (λ (ns : List (List ℕ)). WritesPieces g.F.Opened.Source.steady went_well m n c.put_header.new.out c.put_node.new.out (nodes_pieces ns t)) is_names c.in_ok-put_node.ensures in
     let names = subst (λ (ns : List (List ℕ)). Writes false c.put_end.new.out c.put_strings.new.out (strings ns)) is_names c.in_ok-put_strings.ensures in
     let align : c.layout.inside.align ≡ p.align = ap (λ (q : Plan). q.align) c.layout.view_is in
@@ -86,7 +86,7 @@ returns-clause-writes g c =
     let t = node_of c.args.tree.now.root in
     let m = g.F.Files.map c.args.files.now in
     let n = g.F.Files.map c.put_node.new.files in
-    let is_names : texts c.as_slice-names.result.now ≡ p.names = ap texts c.as_slice-names.ensures.value ∙ ap (λ (q : Plan). q.names) c.layout.view_is in
+    let is_names : name_texts c.as_slice-names.result.now ≡ p.names = ap name_texts c.as_slice-names.ensures.value ∙ ap (λ (q : Plan). q.names) c.layout.view_is in
     let nodes = subst (λ (ns : List (List ℕ)). WritesPieces g.F.Opened.Source.steady went_well m n c.put_header.new.out c.put_node.new.out (nodes_pieces ns t)) is_names c.in_ok-put_node.ensures in
     let names = subst (λ (ns : List (List ℕ)). Writes false c.put_end.new.out c.put_strings.new.out (strings ns)) is_names c.in_ok-put_strings.ensures in
     let align : c.layout.inside.align ≡ p.align = ap (λ (q : Plan). q.align) c.layout.view_is in

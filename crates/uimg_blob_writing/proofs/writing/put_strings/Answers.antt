@@ -4,8 +4,8 @@ use Rattle.std.proofs.lemmas.List.Folds.{flat_map-map}
 use Rattle.std.specs.List.{flat_map}
 use Rattle.uimg_base.specs.Writing.{Writes}
 use Rattle.uimg_base.proofs.WritingLaws.{stops, ◌▷◌}
-use Rattle.uimg_blob_writing.specs.Encoding.{ended, strings}
-use Rattle.uimg_blob_writing.specs.Names.{texts}
+use Rattle.uimg_blob_writing.specs.Encoding.{with_nul, strings}
+use Rattle.uimg_blob_writing.specs.Names.{name_texts}
 use Rattle.uimg_blob_writing.proofs.WritesLaws.{flat_map-at, flat_map-suc}
 use Rattle.uimg_blob_writing.proofs.writing.put_strings.Goals as goal
 
@@ -14,7 +14,7 @@ none : Bor (List ℕ)
 none = record { ref_ptr = (0, 0); now = [] }
 
 one : Bor (List ℕ) → List ℕ
-one name = ended name.now
+one name = with_nul name.now
 
 pub returns-in_err-put_name : goal.returns-in_err-put_name
 unfolding none one
@@ -24,8 +24,8 @@ returns-in_err-put_name g c =
     let s = c.args.out.now in
     let t = c.put_name.new.out in
     let failed : is_err c.from_residual.result ≡ true = search rules in
-    let whole : flat_map one (take i names) ++ one (get_or names i none) ++ flat_map one (drop (suc i) names) ≡ strings (texts names) =
-    sym (flat_map-at one names i none c.loop-name-test.true) ∙ sym (flat_map-map ended (λ (n : Bor (List ℕ)). n.now) names) in
+    let whole : flat_map one (take i names) ++ one (get_or names i none) ++ flat_map one (drop (suc i) names) ≡ strings (name_texts names) =
+    sym (flat_map-at one names i none c.loop-name-test.true) ∙ sym (flat_map-map with_nul (λ (n : Bor (List ℕ)). n.now) names) in
     let written : Writes true s t (flat_map one (take i names) ++ one (get_or names i none)) = c.loop-name.invariant ▷ c.in_err-put_name.ensures in
     rw failed (subst (λ (w : List ℕ). Writes true s t w) whole (stops s t _ (flat_map one (drop (suc i) names)) written))
 
@@ -46,4 +46,4 @@ returns g c =
     let i = c.loop-name.name-index in
     let every : take i names ≡ names = take_all i names c.loop-name-test.false in
     subst (λ (w : List ℕ). Writes false c.args.out.now c.loop-name.out w)
-    (ap (λ (l : List (Bor (List ℕ))). flat_map one l) every ∙ sym (flat_map-map ended (λ (n : Bor (List ℕ)). n.now) names)) c.loop-name.invariant
+    (ap (λ (l : List (Bor (List ℕ))). flat_map one l) every ∙ sym (flat_map-map with_nul (λ (n : Bor (List ℕ)). n.now) names)) c.loop-name.invariant

@@ -1,6 +1,6 @@
 use Rattle.std.proofs.Common.{map}
 use Rattle.uimg_blob_reading.specs.Plain.{with_value, with_values}
-use Rattle.uimg_blob_writing.specs.Content.{bytes_in}
+use Rattle.uimg_blob_writing.specs.Content.{content_bytes}
 use Rattle.uimg_fit_building.proofs.BuildLaws.{on-built}
 use Rattle.uimg_fit_building.proofs.building.build_by.Goals as goal
 
@@ -8,6 +8,6 @@ pub returns-clause-reads_back : goal.returns-clause-reads_back
 unfolding with_values
 returns-clause-reads_back g c = λ honest kept filled.
     let node = c.args.tree.now.root in
-    let read = bytes_in (g.F.Files.map c.args.files.now).bytes in
+    let read = content_bytes (g.F.Files.map c.args.files.now).bytes in
     on-built node.name (map (with_value read) node.props) (with_values read node.children) c.args.placement c.place_and_build.result c.args.out.now c.place_and_build.new.out
     (c.place_and_build.ensures.told honest kept) filled

@@ -6,7 +6,7 @@ use Rattle.uimg_fit_base.specs.declared.fault.Fault.{Fault}
 use Rattle.uimg_fit_base.specs.Faults.{Gives}
 use Rattle.uimg_base.specs.declared.spans.Span.{Span}
 use Rattle.uimg_fit_checking.specs.declared.checking.Finding.{Finding}
-use Rattle.uimg_fit_checking.specs.Checks.{Told, told_of, check_of}
+use Rattle.uimg_fit_checking.specs.Checks.{NamedFinding, named_finding, check_of}
 use Rattle.uimg_fit_checking.specs.CheckParts.{ChecksImagesBetween}
 use Rattle.uimg_fit_reading.specs.Nodes.{InFile, IsRead, Opened}
 use Rattle.uimg_fit_reading.proofs.OpenedLaws.{still}
@@ -56,7 +56,7 @@ returns-in_err-finding-clause-told g c = λ honest.
     let some : (is_some c.args.need && is_none c.in_ok-first.first) ≡ false = search rules in
     let has = check_has file h.nodes c.args.need found.found c.in_ok-first.first h.read.is found.is found.from some in
     let is : c.from_residual-in_err-finding.result ≡ Err c.in_err-finding.field-0.0 = search rules in
-    subst (λ (r : Result (Finding Span) Fault). Gives (told_of file) r (check_of c.args.need file)) (sym is)
+    subst (λ (r : Result (Finding Span) Fault). Gives (named_finding file) r (check_of c.args.need file)) (sym is)
     (check_cut file c.args.need found.found c.in_err-finding.field-0.0 has told.told)
 
 pub returns-in-Some-clause-inspects : goal.returns-in-Some-clause-inspects
@@ -92,8 +92,8 @@ returns-in-Some-clause-told g c = λ honest.
     (c.in_ok-finding.ensures.told h.nodes (still same refl opened) found.found found.from) in
     let some : (is_some c.args.need && is_none c.in_ok-first.first) ≡ false = search rules in
     let has = check_has file h.nodes c.args.need found.found c.in_ok-first.first h.read.is found.is found.from some in
-    check_ends file c.args.need found.found (Some (told_of file c.in-Some.finding)) has
-    (told.told ∙ ap (λ (o : Option (Finding Span)). Ok (option_map (told_of file) o)) c.in-Some.is)
+    check_ends file c.args.need found.found (Some (named_finding file c.in-Some.finding)) has
+    (told.told ∙ ap (λ (o : Option (Finding Span)). Ok (option_map (named_finding file) o)) c.in-Some.is)
 
 pub returns-clause-inspects : goal.returns-clause-inspects
 returns-clause-inspects g c = record {
@@ -129,8 +129,8 @@ returns-clause-told g c = λ honest.
     let some : (is_some c.args.need && is_none c.in_ok-first.first) ≡ false = search rules in
     let has = check_has file h.nodes c.args.need found.found c.in_ok-first.first h.read.is found.is found.from some in
     let read = subst (λ (r : Held). IsRead file c.in_ok-blob.blob r.entries h.nodes) (sym c.first_finding.ensures.leaves.room) h.read in
-    check_ends file c.args.need found.found None has (told.told ∙ ap (λ (o : Option (Finding Span)). Ok (option_map (told_of file) o)) c.in_default.is)
-    ∙ ap (λ (x : Told). Ok x) (sym (c.all_right.ensures.told file h.nodes read found.found found.from))
+    check_ends file c.args.need found.found None has (told.told ∙ ap (λ (o : Option (Finding Span)). Ok (option_map (named_finding file) o)) c.in_default.is)
+    ∙ ap (λ (x : NamedFinding). Ok x) (sym (c.all_right.ensures.told file h.nodes read found.found found.from))
 
 pub returns-clause-inside : goal.returns-clause-inside
 returns-clause-inside g c =

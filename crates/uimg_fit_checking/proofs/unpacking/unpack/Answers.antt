@@ -3,7 +3,7 @@ use Rattle.std.specs.Prelude.{Ok, Err}
 use Rattle.std.specs.List.{sum_by}
 use Rattle.std.specs.Option.{option_map}
 use Rattle.uimg_fit_reading.specs.Nodes.{Opened}
-use Rattle.uimg_fit_checking.specs.Unpacking.{takes, bytes_of}
+use Rattle.uimg_fit_checking.specs.Unpacking.{takes, as_bytes}
 use Rattle.uimg_fit_checking.specs.UnpackingParts.{ClaimsImagesBetween, TakesAll, Fitting, take_allowance}
 use Rattle.uimg_fit_reading.proofs.OpenedLaws.{still}
 use Rattle.uimg_fit_checking.proofs.UnpackedLaws.{unpack_is, unpack_refused, unpack_overlaps, fitting, unpack_taken, unpack_stops, unpack_within}
@@ -16,7 +16,7 @@ returns-in_err-name-clause-takes g c = record {
     asked = λ honest.
         let d = g.S.Source.device in
         let file = (d c.args.source.now).bytes in
-        let only = option_map bytes_of c.args.only in
+        let only = option_map as_bytes c.args.only in
         let h = c.in_ok-blob.ensures.gives honest in
         let found = c.in_ok-first.ensures.told h.nodes h.read.indexed in
         let same = c.read_tree.ensures.inspects.uses.same in
@@ -35,7 +35,7 @@ pub returns-in_err-name-clause-told : goal.returns-in_err-name-clause-told
 returns-in_err-name-clause-told g c = λ honest shelf.
     let d = g.S.Source.device in
     let file = (d c.args.source.now).bytes in
-    let only = option_map bytes_of c.args.only in
+    let only = option_map as_bytes c.args.only in
     let h = c.in_ok-blob.ensures.gives honest in
     let found = c.in_ok-first.ensures.told h.nodes h.read.indexed in
     let same = c.read_tree.ensures.inspects.uses.same in
@@ -55,7 +55,7 @@ returns-in-Some-clause-takes g c = record {
     asked = λ honest.
         let d = g.S.Source.device in
         let file = (d c.args.source.now).bytes in
-        let only = option_map bytes_of c.args.only in
+        let only = option_map as_bytes c.args.only in
         let h = c.in_ok-blob.ensures.gives honest in
         let found = c.in_ok-first.ensures.told h.nodes h.read.indexed in
         let same = c.read_tree.ensures.inspects.uses.same in
@@ -74,7 +74,7 @@ pub returns-in-Some-clause-told : goal.returns-in-Some-clause-told
 returns-in-Some-clause-told g c = λ honest shelf.
     let d = g.S.Source.device in
     let file = (d c.args.source.now).bytes in
-    let only = option_map bytes_of c.args.only in
+    let only = option_map as_bytes c.args.only in
     let h = c.in_ok-blob.ensures.gives honest in
     let found = c.in_ok-first.ensures.told h.nodes h.read.indexed in
     let same = c.read_tree.ensures.inspects.uses.same in
@@ -92,7 +92,7 @@ returns-in_err-all-clause-takes g c = record {
     asked = λ honest.
         let d = g.S.Source.device in
         let file = (d c.args.source.now).bytes in
-        let only = option_map bytes_of c.args.only in
+        let only = option_map as_bytes c.args.only in
         let h = c.in_ok-blob.ensures.gives honest in
         let found = c.in_ok-first.ensures.told h.nodes h.read.indexed in
         let same = c.read_tree.ensures.inspects.uses.same in
@@ -116,7 +116,7 @@ pub returns-in_err-all-clause-told : goal.returns-in_err-all-clause-told
 returns-in_err-all-clause-told g c = λ honest shelf.
     let d = g.S.Source.device in
     let file = (d c.args.source.now).bytes in
-    let only = option_map bytes_of c.args.only in
+    let only = option_map as_bytes c.args.only in
     let h = c.in_ok-blob.ensures.gives honest in
     let found = c.in_ok-first.ensures.told h.nodes h.read.indexed in
     let same = c.read_tree.ensures.inspects.uses.same in
@@ -143,7 +143,7 @@ returns-clause-takes g c = record {
     asked = λ honest.
         let d = g.S.Source.device in
         let file = (d c.args.source.now).bytes in
-        let only = option_map bytes_of c.args.only in
+        let only = option_map as_bytes c.args.only in
         let h = c.in_ok-blob.ensures.gives honest in
         let found = c.in_ok-first.ensures.told h.nodes h.read.indexed in
         let same = c.read_tree.ensures.inspects.uses.same in
@@ -167,7 +167,7 @@ pub returns-clause-told : goal.returns-clause-told
 returns-clause-told g c = λ honest shelf.
     let d = g.S.Source.device in
     let file = (d c.args.source.now).bytes in
-    let only = option_map bytes_of c.args.only in
+    let only = option_map as_bytes c.args.only in
     let h = c.in_ok-blob.ensures.gives honest in
     let found = c.in_ok-first.ensures.told h.nodes h.read.indexed in
     let same = c.read_tree.ensures.inspects.uses.same in

@@ -5,9 +5,9 @@ use Rattle.uimg_blob_reading.specs.LookUps.{NodeOf, listed}
 use Rattle.uimg_blob_reading.specs.Roles.{Level}
 use Rattle.uimg_blob_reading.specs.Spots.{Spot}
 use Rattle.uimg_fit_reading.specs.Allowances.{text_sizes, node_allowance}
-use Rattle.uimg_fit_base.specs.Files.{bytes_of}
+use Rattle.uimg_fit_base.specs.Files.{value_bytes}
 use Rattle.uimg_fit_reading.specs.Heads.{default_line}
-use Rattle.uimg_fit_reading.specs.Listing.{configuration_lines, configurations_lines, numbered}
+use Rattle.uimg_fit_reading.specs.Listing.{configuration_lines, configurations_lines, numbered_lines}
 use Rattle.uimg_fit_reading.specs.ListingParts.{configurations_allowance}
 use Rattle.uimg_fit_reading.specs.Nodes.{AreFrom}
 use Rattle.uimg_fit_reading.specs.Telling.{ListsBetween}
@@ -32,7 +32,7 @@ returns-in_err-put_default-clause-told g c = λ t o.
     rw failed (subst (λ (o : Option (NodeOf Spot)). ListsBetween true (configurations_allowance o) d m c.args.out.now c.put_default.new.out (configurations_lines o)) (sym h.is)
     (record {
       asked = omega (arith, c.put_default.ensures.uses.asked, size, few);
-      written = cut c.args.out.now c.put_default.new.out (default_line (bytes_of h.found.own (codes "default"))) (numbered configuration_lines 0 (listed h.found.below)) told;
+      written = cut c.args.out.now c.put_default.new.out (default_line (value_bytes h.found.own (codes "default"))) (numbered_lines configuration_lines 0 (listed h.found.below)) told;
     }))
 
 pub returns-clause-told : goal.returns-clause-told
@@ -48,14 +48,14 @@ returns-clause-told g c = λ t o.
     let size = value_size h.found.own (codes "default") _ (c.value_of-default.ensures.span t o.read.indexed h.level h.found h.node h.keeps) in
     let few = one_text h.found.own (codes "default") refl in
     let told = subst (λ (v : Option (List ℕ)). Written false c.args.out.now c.put_default.new.out (default_line v)) (sym value) (c.in_ok-put_default.ensures.told o.honest) in
-    let head : ListsBetween false (760 + 4 * text_sizes h.found.own) d m c.args.out.now c.put_default.new.out (default_line (bytes_of h.found.own (codes "default"))) =
+    let head : ListsBetween false (760 + 4 * text_sizes h.found.own) d m c.args.out.now c.put_default.new.out (default_line (value_bytes h.found.own (codes "default"))) =
     record { asked = omega (arith, c.put_default.ensures.uses.asked, size, few); written = told } in
     let from = subst (λ (l : Level). AreFrom t l c.child_of-first.result (listed h.found.below)) h.children (c.child_of-first.ensures.children t here.read.indexed h.level h.found h.node) in
     let tail = c.put_listed_nodes.ensures.told t here (listed h.found.below) from in
     subst (λ (o : Option (NodeOf Spot)). ListsBetween e (configurations_allowance o) d f c.args.out.now c.put_listed_nodes.new.out (configurations_lines o)) (sym h.is)
     (more_lists e _ (node_allowance h.found) d f c.args.out.now c.put_listed_nodes.new.out _ (omega (arith, children_allowed h.found))
     (then_lists e (760 + 4 * text_sizes h.found.own) (sum_by node_allowance (listed h.found.below)) d m f c.args.out.now c.put_default.new.out c.put_listed_nodes.new.out
-    (default_line (bytes_of h.found.own (codes "default"))) (numbered configuration_lines 0 (listed h.found.below)) head tail))
+    (default_line (value_bytes h.found.own (codes "default"))) (numbered_lines configuration_lines 0 (listed h.found.below)) head tail))
 
 pub returns-in_err-put_default-clause-leaves : goal.returns-in_err-put_default-clause-leaves
 returns-in_err-put_default-clause-leaves g c = leaves_stops _ _ c.from_residual.ensures.1 (puts_leave (record { source = refl; blob = refl; room = refl }) c.in_err-put_default.ensures)

@@ -8,7 +8,7 @@ use Rattle.uimg_printing.specs.Members.{array_of}
 use Rattle.uimg_printing.proofs.StepLaws.{one, after, appended_as, object_appended, tokens_two}
 use Rattle.uimg_info.specs.Fit.{configuration_facts, configuration_members, node_json, property_json}
 use Rattle.uimg_info.specs.Members.{facts_members}
-use Rattle.uimg_info.specs.Work.{node_size, property_size, configuration_rows_size, configuration_size}
+use Rattle.uimg_info.specs.Work.{node_size, place_size, configuration_rows_size, configuration_size}
 use Rattle.uimg_info.proofs.WorkLaws.{asks_then, asks_as}
 use Rattle.uimg_info.proofs.configurations.put_configuration.Goals as goal
 
@@ -24,7 +24,7 @@ returns g c =
     let properties = c.in_ok-put_properties.ensures in
     let items : c.as_slice.result.now ≡ facts.nodes.items = search rules in
     record {
-      uses = asks_as (ap (λ (ns : List Span). (configuration_rows_size facts + sum_by node_size ns) + sum_by property_size places) items) (asks_then (asks_then rows.uses nodes.uses) properties.uses);
+      uses = asks_as (ap (λ (ns : List Span). (configuration_rows_size facts + sum_by node_size ns) + sum_by place_size places) items) (asks_then (asks_then rows.uses nodes.uses) properties.uses);
       own = tt;
       before = c.end_object.ensures.room.0 ∙ properties.before ∙ c.key-2.ensures.room.0 ∙ nodes.before ∙ c.key.ensures.room.0 ∙ rows.before ∙ c.begin_object.ensures.room.0;
       told = λ honest.

@@ -7,7 +7,7 @@ use Rattle.uimg_printing.specs.Members.{items_of, array_of}
 use Rattle.uimg_fit_checking.specs.FullSurvey.{read_properties}
 use Rattle.uimg_fit_checking.specs.Survey.{read_configuration}
 use Rattle.uimg_info.specs.Fit.{configurations_json}
-use Rattle.uimg_info.specs.Work.{property_size, configuration_size, list_size}
+use Rattle.uimg_info.specs.Work.{place_size, configuration_size, list_size}
 use Rattle.uimg_info.proofs.PropertyLaws.{none_behind}
 use Rattle.uimg_info.proofs.configurations.put_configurations.Goals as goal
 
@@ -30,7 +30,7 @@ returns-in_err-put_configuration g c =
           arith,
           now.invariant.asked,
           c.put_configuration.ensures.uses.asked,
-          ap (sum_by property_size) slice,
+          ap (sum_by place_size) slice,
           sum_by_more_le configuration_size cs i facts first,
           ap configuration_size c.index-configurations-i.is,
           sum_by_more_le list_size ps i places second,

@@ -1,7 +1,7 @@
 use Rattle.std.proofs.Common.{◌≡◌, ◌≤◌, ◌<◌, ◌∷◌, ◌++◌, [], List, length, drop, true, false, sym, subst, rules}
 use Rattle.std.specs.Option.{option_map}
 use Rattle.uimg_info.specs.declared.reservations.Reservation.{Reservation}
-use Rattle.uimg_info.specs.Reservations.{entry_of, is_end, entries_in}
+use Rattle.uimg_info.specs.Reservations.{reservation_at, ends_list, entries_in}
 use Rattle.uimg_info.proofs.EntryLaws.{one_more, all_there, none_there}
 use Rattle.uimg_info.proofs.reservations.entries_in.Goals as goal
 
@@ -10,8 +10,8 @@ returns-then-is_end c =
     let rest = c.loop-rest.rest.now in
     let entry = c.entry_of-entry.result in
     let some : 16 ≤ length rest = search rules in
-    let read : entry ≡ entry_of rest = search rules in
-    let ends : is_end entry ≡ true = search rules in
+    let read : entry ≡ reservation_at rest = search rules in
+    let ends : ends_list entry ≡ true = search rules in
     all_there c.loop-rest.entries.items entry rest (entries_in c.args.bytes.now) some read ends c.loop-rest.invariant.all
 
 pub loop-rest-preserved : goal.loop-rest-preserved
@@ -19,8 +19,8 @@ loop-rest-preserved c =
     let rest = c.loop-rest.rest.now in
     let entry = c.entry_of-entry.result in
     let some : 16 ≤ length rest = search rules in
-    let read : entry ≡ entry_of rest = search rules in
-    let goes : is_end entry ≡ false = search rules in
+    let read : entry ≡ reservation_at rest = search rules in
+    let goes : ends_list entry ≡ false = search rules in
     let left : c.behind-rest.result.now ≡ drop 16 rest = search rules in
     let pushed : c.push.new.self.items ≡ c.loop-rest.entries.items ++ entry ∷ [] = search rules in
     record {

@@ -10,7 +10,7 @@ use Rattle.uimg_fit_base.specs.declared.fault.Fault.{Fault}
 use Rattle.uimg_fit_checking.specs.Survey.{Said, read_survey}
 use Rattle.uimg_info.specs.Reservations.{reservations_of}
 use Rattle.uimg_info.specs.Fit.{fit_json, info_of}
-use Rattle.uimg_info.specs.Work.{size_if, survey_size, names_size, list_size}
+use Rattle.uimg_info.specs.Work.{facts_size, survey_size, names_size, list_size}
 use Rattle.uimg_fit_checking.specs.Survey.{survey_of}
 use Rattle.uimg_info.proofs.InformLaws.{informs}
 use Rattle.uimg_info.proofs.WorkLaws.{survey_sized, names_sized}
@@ -49,7 +49,7 @@ returns-clause-uses g c =
     record {
       same = record { bytes = read.same.bytes ∙ sized.same.bytes ∙ first.uses.same.bytes; honest = read.same.honest ∙ sized.same.honest ∙ first.uses.same.honest };
       asked = λ honest.
-          let said : size_if (survey_of file) ≡ survey_size survey = ap size_if (first.told honest) ∙ survey_sized file survey first.inside.survey in
+          let said : facts_size (survey_of file) ≡ survey_size survey = ap facts_size (first.told honest) ∙ survey_sized file survey first.inside.survey in
           let names : sum_by names_size (properties_of file) ≡ sum_by list_size c.in_ok-full.full.properties.items =
           ap (λ (ps : List (List (NamedOf Span))). sum_by names_size ps) (sym (first.properties honest)) ∙ names_sized file c.in_ok-full.full first.inside in
           omega (arith, said, names, first.uses.asked honest, sized.asked, read.asked);

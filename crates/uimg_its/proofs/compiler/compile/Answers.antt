@@ -1,6 +1,6 @@
 use Rattle.uimg_blob_writing.specs.Trees.{node_of}
 use Rattle.uimg_its.specs.Words.{words}
-use Rattle.uimg_its.specs.Answers.{is_outside}
+use Rattle.uimg_its.specs.Answers.{is_outside_text}
 use Rattle.uimg_its.proofs.SoundLaws.{files_at_data, are_kept}
 use Rattle.uimg_its.proofs.CompileLaws.{only_spelled, accepted, refused_outside}
 use Rattle.uimg_its.proofs.compiler.compile.Goals as goal
@@ -23,4 +23,4 @@ returns-in-Ok-clause-accepted g c = λ honest t spelled.
 
 pub returns-in-Err-clause-accepted : goal.returns-in-Err-clause-accepted
 returns-in-Err-clause-accepted g c = λ honest t spelled.
-    refused_outside (is_outside c.in-Err.stop.kind) (words c.args.text.now) (g.F.Files.map c.args.files.now).bytes t (c.in-Err.ensures.gives honest) spelled
+    refused_outside (is_outside_text c.in-Err.stop.kind) (words c.args.text.now) (g.F.Files.map c.args.files.now).bytes t (c.in-Err.ensures.gives honest) spelled

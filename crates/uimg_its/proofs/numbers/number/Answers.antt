@@ -5,12 +5,12 @@ use Rattle.std.proofs.Common.{◌+◌, ◌*◌, ◌^◌, ◌≤◌, get_or, drop
 use Rattle.std.proofs.lemmas.List.{at_drop_more}
 use Rattle.std.specs.Char.{digit_value}
 use Rattle.std.specs.Str.Parse.{digits_value, digits_value_after}
-use Rattle.uimg_its.specs.Digits.{number}
+use Rattle.uimg_its.specs.Digits.{number_in_base}
 use Rattle.uimg_its.proofs.DigitLaws.{never_falls}
 use Rattle.uimg_its.proofs.numbers.number.Goals as goal
 
 pub returns-then-next : goal.returns-then-next
-unfolding number
+unfolding number_in_base
 returns-then-next c =
     let l = c.digits in
     let ds = c.args.digits.now in

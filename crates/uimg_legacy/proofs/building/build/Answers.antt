@@ -2,7 +2,7 @@ use Rattle.std.proofs.Common.{rules, ◌≡◌, ◌++◌, length, map, Ok, ◌�
 use Rattle.uimg_legacy.specs.Header.{header, spelled}
 use Rattle.uimg_legacy.specs.Parts.{has_parts}
 use Rattle.uimg_legacy.specs.Building.{data_for, header_for, legacy_image}
-use Rattle.uimg_legacy.specs.BuildingSteps.{IsHead}
+use Rattle.uimg_legacy.specs.BuildingSteps.{SpellsHeader}
 use Rattle.uimg_legacy.specs.Devices.{bytes_of, AreHonest}
 use Rattle.uimg_legacy.proofs.DevicesLaws.{honest_then, count_bytes, uses_then, unasked}
 use Rattle.uimg_legacy.proofs.ResultLaws.{OnOk-always}
@@ -31,7 +31,7 @@ returns-clause-builds g c = record {
 }
 
 -- the header's bytes, of the parts as they were at first
-head : (g : _) (c : goal.After-parts-3-1 g) → AreHonest (map g.S.Source.device c.args.parts.now) → IsHead c.in_ok-head.head (header_for c.args.options.now (data_for c.args.options.now.kind (bytes_of (map g.S.Source.device c.args.parts.now))))
+head : (g : _) (c : goal.After-parts-3-1 g) → AreHonest (map g.S.Source.device c.args.parts.now) → SpellsHeader c.in_ok-head.head (header_for c.args.options.now (data_for c.args.options.now.kind (bytes_of (map g.S.Source.device c.args.parts.now))))
 head g c honest =
     let measured = c.measure.ensures.uses.same in
     rw measured.bytes at c.in_ok-head.ensures.answer (honest_then _ _ measured honest)

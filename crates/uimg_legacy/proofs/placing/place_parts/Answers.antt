@@ -4,7 +4,7 @@ use Rattle.uimg_base.proofs.Slices.{length-slice}
 use Rattle.uimg_base.specs.declared.spans.Span.{Span}
 use Rattle.uimg_texts.specs.Numbers.{be32, up4}
 use Rattle.uimg_legacy.specs.Parts.{sizes, start}
-use Rattle.uimg_legacy.specs.Placing.{before, places, place_of}
+use Rattle.uimg_legacy.specs.Placing.{spans_before, places, span_of_part}
 use Rattle.uimg_legacy.proofs.SourceLaws.{honest_still, same_still}
 use Rattle.uimg_legacy.proofs.PartsLaws.{table_words, start_first, start_more, up4_bound}
 use Rattle.uimg_legacy.proofs.LinesLaws.{outside_yes, outside_no}
@@ -15,7 +15,7 @@ use Rattle.uimg_legacy.proofs.placing.place_parts.Goals as goal
 size_read : (image now : List ℕ) (size i n count : ℕ) → now ≡ image → 64 + size ≤ length image → count ≡ length (sizes (slice image 64 size)) → i < count → n ≡ be32 now (64 + 4 * i) → n ≡ get_or (sizes (slice image 64 size)) i 0
 size_read image now size i n count same inside counts there word = rw same at word ∙ sym (table_words image size inside i (omega (arith, counts)))
 
-place_is : (table : List ℕ) (i at n : ℕ) → at ≡ start table i → n ≡ get_or table i 0 → record { place = 64 + at; length = n } ≡ place_of table i
+place_is : (table : List ℕ) (i at n : ℕ) → at ≡ start table i → n ≡ get_or table i 0 → record { place = 64 + at; length = n } ≡ span_of_part table i
 place_is table i at n a e = ap (λ (k : ℕ). record { place = 64 + k; length = n }) a ∙ ap (λ (k : ℕ). record { place = 64 + start table i; length = k }) e
 
 pub loop-i-init : goal.loop-i-init
@@ -29,8 +29,8 @@ loop-i-init g c = record {
       let data_of = slice (g.S.Source.device c.args.source.now).bytes 64 c.args.size in
       let all : c.args.count ≡ c.args.count - 0 = omega arith in
       let none : c.new-parts.result.items ≡ [] = search rules in
-      before_none (places data_of (sizes data_of) c.args.count 0) ∙ ap (λ (n : ℕ). before [] (places data_of (sizes data_of) n 0)) all
-      ∙ ap (λ (l : List Span). before l (places data_of (sizes data_of) (c.args.count - 0) 0)) (sym none);
+      before_none (places data_of (sizes data_of) c.args.count 0) ∙ ap (λ (n : ℕ). spans_before [] (places data_of (sizes data_of) n 0)) all
+      ∙ ap (λ (l : List Span). spans_before l (places data_of (sizes data_of) (c.args.count - 0) 0)) (sym none);
 }
 
 pub returns-then-start-len-clause-told : goal.returns-then-start-len-clause-told
@@ -61,7 +61,7 @@ loop-i-preserved g c =
           let size = size_read image _ c.args.size c.loop-i.i _ _ same.bytes c.requires.data count c.loop-i-test.true (c.in_ok-len.ensures.size (honest_still same honest)) in
           let near = outside_no data_of table c.args.size c.loop-i.i c.loop-i.start c.in_ok-len.len (length-slice image 64 c.args.size c.requires.data) (c.loop-i.invariant.start honest count) size c.if-start-len.false in
           let one = place_one data_of table c.args.count c.loop-i.i c.loop-i.parts.items _ _ c.loop-i-test.true near (place_is table c.loop-i.i c.loop-i.start c.in_ok-len.len (c.loop-i.invariant.start honest count) size) (c.loop-i.invariant.told honest count) in
-          one ∙ ap (λ (l : List Span). before l (places data_of table (c.args.count - (c.loop-i.i + 1)) (c.loop-i.i + 1))) (search rules);
+          one ∙ ap (λ (l : List Span). spans_before l (places data_of table (c.args.count - (c.loop-i.i + 1)) (c.loop-i.i + 1))) (search rules);
     }
 
 pub returns-clause-told : goal.returns-clause-told

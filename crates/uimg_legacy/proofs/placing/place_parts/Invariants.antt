@@ -2,7 +2,7 @@ use Rattle.std.proofs.Common.{◌≡◌, ◌≤◌, ◌+◌, ◌-◌, ◌*◌, �
 use Rattle.uimg_base.specs.Device.{SameDevice}
 use Rattle.uimg_texts.specs.Slices.{slice}
 use Rattle.uimg_legacy.specs.Parts.{sizes, start}
-use Rattle.uimg_legacy.specs.Placing.{before, places}
+use Rattle.uimg_legacy.specs.Placing.{spans_before, places}
 use Rattle.uimg_legacy.proofs.placing.place_parts.Given as goal
 
 -- the places so far and those from i on are all
@@ -16,5 +16,5 @@ invariant-loop-i g l =
       failures : (device l.source).failures ≡ (device l.fn.source).failures;
       bound : l.start ≤ 4 * (l.count + 1) + 2 ^ 32 * l.i;
       start : IsTrue (device l.fn.source).honest → l.count ≡ length (sizes data_of) → l.start ≡ start (sizes data_of) l.i;
-      told : IsTrue (device l.fn.source).honest → l.count ≡ length (sizes data_of) → places data_of (sizes data_of) l.count 0 ≡ before l.parts.items (places data_of (sizes data_of) (l.count - l.i) l.i);
+      told : IsTrue (device l.fn.source).honest → l.count ≡ length (sizes data_of) → places data_of (sizes data_of) l.count 0 ≡ spans_before l.parts.items (places data_of (sizes data_of) (l.count - l.i) l.i);
     }

@@ -1,5 +1,5 @@
 use Rattle.std.proofs.Common.{◌≢◌, ◌∙◌, get_or, sym, arith}
-use Rattle.uimg_legacy.specs.Words.{words}
+use Rattle.uimg_legacy.specs.Words.{whole_words}
 use Rattle.uimg_legacy.proofs.PartsLaws.{words-at, length-words, sizes_more, sizes_end}
 use Rattle.uimg_legacy.proofs.ChunkLaws.{sizes-le-words}
 use Rattle.uimg_legacy.proofs.table.leading_sizes.Goals as goal
@@ -17,7 +17,7 @@ loop-i-preserved c =
     let bytes = c.args.bytes.now in
     let i = c.loop-i.i in
     let few = length-words bytes in
-    let more : get_or (words bytes) i 0 ≢ 0 = λ e. c.if-be32_at-eq0.false (c.be32_at.ensures ∙ sym (words-at bytes i (omega arith)) ∙ e) in
+    let more : get_or (whole_words bytes) i 0 ≢ 0 = λ e. c.if-be32_at-eq0.false (c.be32_at.ensures ∙ sym (words-at bytes i (omega arith)) ∙ e) in
     sizes_more bytes i c.loop-i.invariant (omega (arith, few.1)) more
 
 pub returns-clause-count : goal.returns-clause-count

@@ -2,7 +2,7 @@ use Rattle.std.proofs.Common.{◌≡◌, ◌≤◌, ◌+◌, ◌-◌, ◌*◌, �
 use Rattle.std.specs.Prelude.{sum_by}
 use Rattle.uimg_base.specs.Device.{SameDevice}
 use Rattle.uimg_texts.specs.Numbers.{up4}
-use Rattle.uimg_legacy.specs.Words.{words}
+use Rattle.uimg_legacy.specs.Words.{whole_words}
 use Rattle.uimg_legacy.specs.Reading.{window}
 use Rattle.uimg_legacy.proofs.table.sum_first.Given as goal
 
@@ -17,7 +17,7 @@ invariant-loop-done g l =
       asked : (device l.source).asked ≤ (device l.fn.source).asked + 4 * l.done;
       failures : (device l.source).failures ≡ (device l.fn.source).failures;
       bound : l.sum ≤ 2 ^ 32 * l.done;
-      sum : IsTrue (device l.fn.source).honest → l.sum ≡ sum_by up4 (words (window (device l.fn.source).bytes 0 l.done));
+      sum : IsTrue (device l.fn.source).honest → l.sum ≡ sum_by up4 (whole_words (window (device l.fn.source).bytes 0 l.done));
     }
 
 abbrev pub decreases-loop-done : goal.decreases-loop-done

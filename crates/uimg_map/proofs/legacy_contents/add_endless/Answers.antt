@@ -1,7 +1,7 @@
 use Rattle.std.proofs.Common.{◌≡◌, ◌<◌, ◌≤◌, ℕ, ◌+◌, true, false, nat_lt, ◌∙◌, subst, arith}
 use Rattle.std.proofs.lemmas.Bool.{lt-ltb, le-ltb}
 use Rattle.uimg_legacy.specs.declared.fault.LegacyFault.TheVariants.{NoTableEnd}
-use Rattle.uimg_map.specs.Contents.{Grows}
+use Rattle.uimg_map.specs.Contents.{GrowsBy}
 use Rattle.uimg_map.specs.Found.{Told, the_table, thing, refused_at}
 use Rattle.uimg_map.specs.LegacyContents.{legacy_fault}
 use Rattle.uimg_map.proofs.ContentsLaws.{grows_none, grows_then}
@@ -17,7 +17,7 @@ returns-then-end-contents c =
     record {
       size = same;
       grows = λ file.
-          let table = subst (λ (n : ℕ). Grows file (thing the_table 64 n) c.args.contents.now c.add.new.self) c.end_of-end.ensures (c.in_ok-add.ensures.grows file) in
+          let table = subst (λ (n : ℕ). GrowsBy file (thing the_table 64 n) c.args.contents.now c.add.new.self) c.end_of-end.ensures (c.in_ok-add.ensures.grows file) in
           rw behind (grows_then table (grows_none file c.add.new.self));
       memory = tt;
     }
@@ -33,8 +33,8 @@ returns c =
     record {
       size = c.in_ok-refuse_at.ensures.size ∙ same;
       grows = λ file.
-          let table = subst (λ (n : ℕ). Grows file (thing the_table 64 n) c.args.contents.now c.add.new.self) c.end_of-end.ensures (c.in_ok-add.ensures.grows file) in
-          let refused = subst (λ (t : Told). Grows file t c.add.new.self c.refuse_at.new.self) told (c.in_ok-refuse_at.ensures.grows file) in
+          let table = subst (λ (n : ℕ). GrowsBy file (thing the_table 64 n) c.args.contents.now c.add.new.self) c.end_of-end.ensures (c.in_ok-add.ensures.grows file) in
+          let refused = subst (λ (t : Told). GrowsBy file t c.add.new.self c.refuse_at.new.self) told (c.in_ok-refuse_at.ensures.grows file) in
           rw inside (grows_then table refused);
       memory = tt;
     }

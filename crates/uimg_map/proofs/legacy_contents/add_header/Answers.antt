@@ -1,6 +1,6 @@
 use Rattle.std.proofs.Common.{◌≡◌, [], ◌+◌, ◌∙◌, subst}
 use Rattle.uimg_legacy.specs.declared.fault.LegacyFault.TheVariants.{Truncated}
-use Rattle.uimg_map.specs.Contents.{Grows}
+use Rattle.uimg_map.specs.Contents.{GrowsBy}
 use Rattle.uimg_map.specs.Found.{Told, refused_behind}
 use Rattle.uimg_map.specs.LegacyContents.{legacy_fault}
 use Rattle.uimg_map.proofs.ContentsLaws.{grows_then}
@@ -13,6 +13,6 @@ returns c =
     record {
       size = (c.refuse_behind.ensures []).size ∙ same;
       grows = λ file. grows_then (c.in_ok-add.ensures.grows file)
-          (subst (λ (t : Told). Grows file t c.add.new.self c.refuse_behind.new.self) told (c.refuse_behind.ensures file));
+          (subst (λ (t : Told). GrowsBy file t c.add.new.self c.refuse_behind.new.self) told (c.refuse_behind.ensures file));
       memory = tt;
     }

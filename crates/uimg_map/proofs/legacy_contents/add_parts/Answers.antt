@@ -2,7 +2,7 @@ use Rattle.std.proofs.Common.{rules, ◌≡◌, ◌≤◌, ◌<◌, ℕ, ◌+◌
 use Rattle.std.proofs.lemmas.Bool.{ltb-false}
 use Rattle.uimg_texts.specs.Slices.{slice}
 use Rattle.uimg_legacy.specs.Parts.{sizes}
-use Rattle.uimg_map.specs.Contents.{Grows}
+use Rattle.uimg_map.specs.Contents.{GrowsBy}
 use Rattle.uimg_map.specs.LegacyContents.{part_told, parts_told}
 use Rattle.uimg_map.proofs.TableLaws.{read_word, size_word, is_counted}
 use Rattle.uimg_map.proofs.PartsLaws.{part_then, part_ends, parts_end}
@@ -62,7 +62,7 @@ returns-then-branch g c =
           let there : i < length table = omega (arith, count, c.loop-number-test.true) in
           let some = read_word d (device c.loop-number.source) i c.in_ok-size.field-0 (Some w) inv.same c.in_ok-size.ensures.word c.in-Some.is h in
           let word = same_some w (get_or table i 0) (sym some ∙ size_word d.bytes size i there) in
-          let part = subst (λ (n : ℕ). Grows d.bytes (part_told (nat_lt end (at + w)) at i w (nat_le n (i + 1))) before after) count (added.adds.grows d.bytes) in
+          let part = subst (λ (n : ℕ). GrowsBy d.bytes (part_told (nat_lt end (at + w)) at i w (nat_le n (i + 1))) before after) count (added.adds.grows d.bytes) in
           inv.left h after (part_ends d.bytes table end at i w there word before after (sym added.outside ∙ c.if-branch.true) part);
       stops = λ h. tt;
     }
@@ -94,8 +94,8 @@ loop-number-preserved g c =
           let there : i < length table = omega (arith, count, c.loop-number-test.true) in
           let some = read_word d (device c.loop-number.source) i c.in_ok-size.field-0 (Some w) inv.same c.in_ok-size.ensures.word c.in-Some.is h in
           let word = same_some w (get_or table i 0) (sym some ∙ size_word d.bytes size i there) in
-          let part = subst (λ (n : ℕ). Grows d.bytes (part_told (nat_lt end (at + w)) at i w (nat_le n (i + 1))) before after) count (added.adds.grows d.bytes) in
-          let rest = subst (λ (n : ℕ). Grows d.bytes (parts_told end n (i + 1) (drop (i + 1) table)) after all) c.up4-at.ensures more in
+          let part = subst (λ (n : ℕ). GrowsBy d.bytes (part_told (nat_lt end (at + w)) at i w (nat_le n (i + 1))) before after) count (added.adds.grows d.bytes) in
+          let rest = subst (λ (n : ℕ). GrowsBy d.bytes (parts_told end n (i + 1) (drop (i + 1) table)) after all) c.up4-at.ensures more in
           inv.left h all (part_then d.bytes table end at i w there word before after all inside part rest);
     }
 

@@ -3,7 +3,7 @@ use Rattle.uimg_base.specs.Device.{SameDevice}
 use Rattle.uimg_legacy.specs.Parts.{sizes}
 use Rattle.uimg_texts.specs.Slices.{slice}
 use Rattle.uimg_map.specs.declared.contents.Contents.{Contents}
-use Rattle.uimg_map.specs.Contents.{Grows}
+use Rattle.uimg_map.specs.Contents.{GrowsBy}
 use Rattle.uimg_map.specs.LegacyContents.{parts_told}
 use Rattle.uimg_map.proofs.legacy_contents.add_parts.Given as goal
 
@@ -20,6 +20,6 @@ invariant-loop-number g l =
       failures : (device l.source).failures ≡ (device l.fn.source).failures;
       kept : l.contents.size ≡ l.fn.contents.size;
       left : IsTrue (device l.fn.source).honest → (all : Contents)
-          → Grows file (parts_told l.end l.at l.number (drop l.number table)) l.contents all
-          → Grows file (parts_told (64 + l.size) (64 + 4 * (l.count + 1)) 0 table) l.fn.contents all;
+          → GrowsBy file (parts_told l.end l.at l.number (drop l.number table)) l.contents all
+          → GrowsBy file (parts_told (64 + l.size) (64 + 4 * (l.count + 1)) 0 table) l.fn.contents all;
     }

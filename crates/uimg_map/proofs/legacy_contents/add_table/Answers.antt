@@ -1,6 +1,6 @@
 use Rattle.std.proofs.Common.{ℕ, List, ◌∙◌, sym, subst}
 use Rattle.std.proofs.lemmas.Result.{err_from_is_err_and}
-use Rattle.uimg_map.specs.Contents.{Grows}
+use Rattle.uimg_map.specs.Contents.{GrowsBy}
 use Rattle.uimg_map.specs.Found.{the_table, thing}
 use Rattle.uimg_map.proofs.LegacyLaws.{table_then, table_endless}
 use Rattle.uimg_map.proofs.legacy_contents.add_table.Goals as goal
@@ -8,13 +8,13 @@ use Rattle.uimg_map.proofs.legacy_contents.add_table.Goals as goal
 pub returns-in_err-add_parts-in-Some : goal.returns-in_err-add_parts-in-Some
 returns-in_err-add_parts-in-Some g c =
     let p = err_from_is_err_and c.from_residual-in_err-add_parts-in-Some.result c.from_residual-in_err-add_parts-in-Some.ensures.1 in
-    let table = λ (file : List ℕ). subst (λ (n : ℕ). Grows file (thing the_table 64 n) c.args.contents.now c.add.new.self) c.first_part.ensures (c.in_ok-add-in-Some.ensures.grows file) in
+    let table = λ (file : List ℕ). subst (λ (n : ℕ). GrowsBy file (thing the_table 64 n) c.args.contents.now c.add.new.self) c.first_part.ensures (c.in_ok-add-in-Some.ensures.grows file) in
     rw (p.1, p.2)
     (table_then c.args.size c.in-Some.count c.in_ok-count.ensures.uses (λ h. sym c.in-Some.is ∙ c.in_ok-count.ensures.count h) c.in_ok-add-in-Some.ensures.size table c.in_err-add_parts-in-Some.ensures)
 
 pub returns-in_ok-add_parts-in-Some : goal.returns-in_ok-add_parts-in-Some
 returns-in_ok-add_parts-in-Some g c =
-    let table = λ (file : List ℕ). subst (λ (n : ℕ). Grows file (thing the_table 64 n) c.args.contents.now c.add.new.self) c.first_part.ensures (c.in_ok-add-in-Some.ensures.grows file) in
+    let table = λ (file : List ℕ). subst (λ (n : ℕ). GrowsBy file (thing the_table 64 n) c.args.contents.now c.add.new.self) c.first_part.ensures (c.in_ok-add-in-Some.ensures.grows file) in
     table_then c.args.size c.in-Some.count c.in_ok-count.ensures.uses (λ h. sym c.in-Some.is ∙ c.in_ok-count.ensures.count h) c.in_ok-add-in-Some.ensures.size table c.in_ok-add_parts-in-Some.ensures
 
 pub returns-in_ok-add_endless-in-None : goal.returns-in_ok-add_endless-in-None

@@ -6,7 +6,7 @@ use Rattle.uimg_fit_checking.specs.declared.surveying.facts.ConfigurationFacts.{
 use Rattle.uimg_fit_checking.specs.Survey.{read_configuration, read_image}
 use Rattle.uimg_checks.specs.declared.references.reference.Reference.TheVariants.{Default}
 use Rattle.uimg_checks.specs.ReferenceNames.{HasNames, image_name_in, configuration_name_in}
-use Rattle.uimg_checks.specs.References.{MissingSaid, read_missing, first_of, missing_under, first_missing}
+use Rattle.uimg_checks.specs.References.{MissingSaid, read_missing, earlier_missing, missing_under, first_missing}
 use Rattle.uimg_checks.proofs.MissingLaws.{image_names, configuration_names, none_read, some_first, none_first}
 use Rattle.uimg_checks.proofs.references.missing.find_missing.Goals as goal
 
@@ -22,7 +22,7 @@ returns-then-is_some-clause-told g c = λ honest.
     let told = subst (λ (w : List ℕ). option_map (read_missing w) c.in_ok-preferred.preferred ≡ missing_under names None Default (bytes_in w c.args.survey.now.preferred)) same.bytes (c.in_ok-preferred.ensures.told here names named) in
     let some : is_some c.in_ok-preferred.preferred ≡ true = sym c.is_some.ensures ∙ c.if-is_some.true in
     let later = first_missing (map (λ i. i.name) (map (read_image file) c.args.survey.now.images.items)) (map (read_configuration file) configurations) in
-    sym (some_first file c.in_ok-preferred.preferred later some) ∙ ap (λ (o : Option MissingSaid). first_of o later) told
+    sym (some_first file c.in_ok-preferred.preferred later some) ∙ ap (λ (o : Option MissingSaid). earlier_missing o later) told
 
 pub returns-clause-told : goal.returns-clause-told
 returns-clause-told g c = λ honest.
@@ -42,7 +42,7 @@ returns-clause-told g c = λ honest.
     let told = subst (λ (w : List ℕ). option_map (read_missing w) c.in_ok-preferred.preferred ≡ missing_under names None Default (bytes_in w c.args.survey.now.preferred)) first.bytes (c.in_ok-preferred.ensures.told here names named) in
     let none : is_some c.in_ok-preferred.preferred ≡ false = sym c.is_some.ensures ∙ c.if-is_some.false in
     let later = first_missing image_list (map (read_configuration file) configurations) in
-    let decided : later ≡ first_of (missing_under names None Default (bytes_in file c.args.survey.now.preferred)) later = sym (none_first _ later (sym told ∙ none_read file c.in_ok-preferred.preferred none)) in
+    let decided : later ≡ earlier_missing (missing_under names None Default (bytes_in file c.args.survey.now.preferred)) later = sym (none_first _ later (sym told ∙ none_read file c.in_ok-preferred.preferred none)) in
     let imaged : HasNames c.in_ok-images.images image_list =
     subst (λ (l : List (List ℕ)). HasNames c.in_ok-images.images l) (sym (image_names file images))
     (subst (λ (w : List ℕ). HasNames c.in_ok-images.images (map (image_name_in w) images)) (second.bytes ∙ first.bytes)

@@ -5,7 +5,7 @@ use Rattle.uimg_blob_writing.specs.declared.tree.Node.{Node}
 use Rattle.uimg_fit_building.specs.Behind.{entry}
 use Rattle.uimg_fit_building.specs.ImageFillings.{hashed_in}
 use Rattle.uimg_fit_base.specs.AlgoSets.{set_of}
-use Rattle.uimg_fit_building.specs.PayloadSums.{IsCovered}
+use Rattle.uimg_fit_building.specs.PayloadSums.{CoversHash}
 use Rattle.uimg_fit_building.specs.DigestBytes.{zeroed_child}
 use Rattle.uimg_fit_building.proofs.EachLaws.{same-at, rest-more, changed-more, changed-all, agree-more, agree-all}
 use Rattle.uimg_fit_building.proofs.FilledHashLaws.{covered-at}
@@ -28,8 +28,8 @@ loop-node-preserved g c =
       changed = λ message all covered.
           let was = c.loop-node.invariant.changed message all covered in
           let here : child ≡ get_or old i d = same-at entry (hashed_in message) old now i d in_old in_now was.rest in
-          let covers : is_hash child.name ≡ true → IsCovered set (entry child) =
-          λ is. subst (λ (n : Node _). IsCovered set (entry n)) (sym here) (covered-at set old i d in_old covered (subst (λ (n : Node _). is_hash n.name ≡ true) here is)) in
+          let covers : is_hash child.name ≡ true → CoversHash set (entry child) =
+          λ is. subst (λ (n : Node _). CoversHash set (entry n)) (sym here) (covered-at set old i d in_old covered (subst (λ (n : Node _). is_hash n.name ≡ true) here is)) in
           changed-more entry (hashed_in message) old now i d c.fill_child.new.node in_old in_now was
           (c.in_ok-fill_child.ensures.filled message all covers ∙ ap (λ (n : Node _). hashed_in message (entry n)) here);
       rest = rest-more old now i d c.fill_child.new.node in_old in_now c.loop-node.invariant.rest;

@@ -4,7 +4,7 @@ use Rattle.uimg_blob_reading.specs.Roles.{is_hash}
 use Rattle.uimg_fit_building.specs.Behind.{entry}
 use Rattle.uimg_fit_building.specs.ImageFillings.{hashed_in}
 use Rattle.uimg_fit_base.specs.AlgoSets.{set_of, AreDigests}
-use Rattle.uimg_fit_building.specs.PayloadSums.{IsCovered}
+use Rattle.uimg_fit_building.specs.PayloadSums.{CoversHash}
 use Rattle.uimg_fit_building.specs.DigestBytes.{zeroed_child}
 use Rattle.uimg_fit_building.proofs.EachLaws.{ChangedTo, AgreeTo}
 use Rattle.uimg_fit_building.proofs.filling.filled_hashes.fill_children.Given as goal
@@ -14,7 +14,7 @@ abbrev pub invariant-loop-node : goal.invariant-loop-node
 invariant-loop-node g l = record {
   long : length l.nodes ≡ length l.fn.nodes;
   changed : (message : List ℕ) → AreDigests l.digests message
-      → AllByRecursion (IsCovered (set_of l.digests)) (filter (λ h. is_hash h.name) (map entry l.fn.nodes))
+      → AllByRecursion (CoversHash (set_of l.digests)) (filter (λ h. is_hash h.name) (map entry l.fn.nodes))
       → ChangedTo entry (hashed_in message) l.fn.nodes l.nodes l.node-index;
   rest : drop l.node-index l.nodes ≡ drop l.node-index l.fn.nodes;
   zeroed : (message : List ℕ) → AgreeTo (λ n. zeroed_child (entry n)) (λ n. zeroed_child (hashed_in message (entry n))) l.fn.nodes l.nodes l.node-index;

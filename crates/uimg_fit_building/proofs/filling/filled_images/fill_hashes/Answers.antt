@@ -2,10 +2,10 @@ use Rattle.std.proofs.Common.{◌∙◌, refl, sym, ap, subst, map, Option, Some
 use Rattle.std.specs.List.{filter, AllByRecursion}
 use Rattle.uimg_blob_reading.specs.Roles.{is_hash}
 use Rattle.uimg_fit_building.specs.Behind.{entry}
-use Rattle.uimg_fit_building.specs.PayloadSums.{IsCovered}
+use Rattle.uimg_fit_building.specs.PayloadSums.{CoversHash}
 use Rattle.std.specs.Bool.{⊤}
 use Rattle.uimg_fit_base.specs.declared.algo_sets.AlgoSet.{AlgoSet}
-use Rattle.uimg_blob_writing.specs.Content.{bytes_in}
+use Rattle.uimg_blob_writing.specs.Content.{content_bytes}
 use Rattle.uimg_blob_writing.specs.Properties.{content}
 use Rattle.uimg_blob_writing.specs.Trees.{siblings}
 use Rattle.uimg_fit_building.specs.Filling.{each}
@@ -23,7 +23,7 @@ returns-then-is_empty-clause-filled g c = λ honest.
     let is = sym c.algos_of.ensures ∙ c.in-Some.is in
     let empty = empty-is c.in-Some.set (sym c.is_empty.ensures ∙ c.if-is_empty.true) in (
       all-known c.args.nodes.now _ refl c.in-Some.set is,
-      none-hashed c.args.nodes.now _ refl (bytes_in (g.F.Files.map c.args.files.now).bytes (content c.args.payload.now))
+      none-hashed c.args.nodes.now _ refl (content_bytes (g.F.Files.map c.args.files.now).bytes (content c.args.payload.now))
           (is ∙ ap (λ (s : AlgoSet). let o : Option AlgoSet = Some s in o) empty),
     )
 
@@ -42,8 +42,8 @@ returns-in-Ok-clause-filled g c = λ honest.
     children-filled c.fill_children.result files payload c.args.nodes.now c.fill_children.new.nodes
     (all-known c.args.nodes.now _ refl c.in-Some.set is)
     c.fill_children.ensures.memory
-    (c.fill_children.ensures.filled (bytes_in files payload) (c.in-Ok.ensures.digests honest)
-    (subst (λ (s : AlgoSet). AllByRecursion (IsCovered s) (filter (λ h. is_hash h.name) (map entry c.args.nodes.now))) (sym c.in-Ok.ensures.set) (all-covered c.args.nodes.now _ refl c.in-Some.set is)))
+    (c.fill_children.ensures.filled (content_bytes files payload) (c.in-Ok.ensures.digests honest)
+    (subst (λ (s : AlgoSet). AllByRecursion (CoversHash s) (filter (λ h. is_hash h.name) (map entry c.args.nodes.now))) (sym c.in-Ok.ensures.set) (all-covered c.args.nodes.now _ refl c.in-Some.set is)))
 
 pub returns-then-is_empty-clause-kept : goal.returns-then-is_empty-clause-kept
 returns-then-is_empty-clause-kept g c = λ honest hashed.

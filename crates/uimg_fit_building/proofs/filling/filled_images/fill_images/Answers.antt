@@ -4,7 +4,7 @@ use Rattle.std.specs.Bool.{⊤}
 use Rattle.uimg_blob_writing.specs.declared.tree.Node.{Node}
 use Rattle.uimg_fit_building.specs.Behind.{entry}
 use Rattle.uimg_fit_building.specs.FillAnswers.{opens_no_file, fails_to_read}
-use Rattle.uimg_fit_building.specs.FillOrder.{IsPassed, IsRefused, FillsInOrder}
+use Rattle.uimg_fit_building.specs.FillOrder.{IsPassed, IsImageRefused, FillsInOrder}
 use Rattle.uimg_fit_building.specs.ImageFillings.{filled_over, fault_in_memory, FillsImage, FillsImages, IsKeptImage}
 use Rattle.uimg_fit_building.specs.PayloadSums.{no_files}
 use Rattle.uimg_fit_building.specs.DigestBytes.{zeroed_image}
@@ -94,7 +94,7 @@ returns-in_err-fill_image-clause-order g c = λ honest.
     let told = c.in_err-fill_image.ensures.order (subst (λ (b : Bool). IsTrue b) (sym s.same.honest) honest) in
     let same = refused-before files (g.F.Files.map c.loop-image.files) s.same steady (entry (get_or now i d)) fault told in
     by-refusal (λ r. FillsInOrder files steady (Some (map entry old)) r) c.from_residual.result fault c.from_residual.ensures.1
-    (order-refused files steady old i d in_old (s.passed honest) ⊤ fault (subst (λ (n : Node _). IsRefused files steady (entry n) fault) here same))
+    (order-refused files steady old i d in_old (s.passed honest) ⊤ fault (subst (λ (n : Node _). IsImageRefused files steady (entry n) fault) here same))
 
 pub loop-image-preserved : goal.loop-image-preserved
 loop-image-preserved g c =

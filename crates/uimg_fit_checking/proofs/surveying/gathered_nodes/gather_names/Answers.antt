@@ -6,7 +6,7 @@ use Rattle.uimg_blob_reading.specs.LookUps.{NodeOf}
 use Rattle.uimg_blob_reading.specs.Roles.{elsewhere}
 use Rattle.uimg_blob_reading.specs.Spots.{Spot}
 use Rattle.uimg_fit_reading.specs.Nodes.{AreFrom}
-use Rattle.uimg_fit_checking.specs.Survey.{node_name, read_name}
+use Rattle.uimg_fit_checking.specs.Survey.{name_of_node, read_name}
 use Rattle.uimg_fit_checking.specs.SurveyParts.{NameInside}
 use Rattle.uimg_fit_reading.proofs.ImageLaws.{front, none_left}
 use Rattle.uimg_fit_checking.proofs.SurveyLaws.{one_gathered, all_gathered}
@@ -22,7 +22,7 @@ loop-next-preserved g c = record {
       let k = c.loop-next.invariant.left file t read all from in
       let begins = subst (λ (o : Option ℕ). AreFrom t elsewhere o k.left) c.in-Some.is k.at in
       let f = front t elsewhere c.in-Some.node k.left begins in
-      one_gathered (AreFrom t elsewhere) (read_name file) node_name all c.loop-next.names.items _ c.name_of.result _ _ k f.image f.more f.are
+      one_gathered (AreFrom t elsewhere) (read_name file) name_of_node all c.loop-next.names.items _ c.name_of.result _ _ k f.image f.more f.are
       (c.name_of.ensures.name file t read elsewhere f.image f.node) c.in_ok-push.ensures.items
       (c.next_of-next.ensures.next t read.indexed elsewhere f.image f.more (subst (λ (l : List (NodeOf Spot)). AreFrom t elsewhere (Some c.in-Some.node) l) f.are begins));
 }
@@ -31,4 +31,4 @@ pub returns-clause-said : goal.returns-clause-said
 returns-clause-said g c = λ file t read all from.
     let k = c.loop-next.invariant.left file t read all from in
     let ended = none_left t elsewhere k.left (subst (λ (o : Option ℕ). AreFrom t elsewhere o k.left) c.in_default.is k.at) in
-    all_gathered (AreFrom t elsewhere) (read_name file) node_name all c.loop-next.names.items _ k ended
+    all_gathered (AreFrom t elsewhere) (read_name file) name_of_node all c.loop-next.names.items _ k ended

@@ -7,7 +7,7 @@ use Rattle.uimg_blob_reading.specs.LookUps.{NodeOf}
 use Rattle.uimg_blob_reading.specs.Roles.{elsewhere}
 use Rattle.uimg_blob_reading.specs.Spots.{Spot}
 use Rattle.uimg_fit_reading.specs.Nodes.{InFile, IsRead, AreFrom}
-use Rattle.uimg_fit_checking.specs.Survey.{node_name, read_name}
+use Rattle.uimg_fit_checking.specs.Survey.{name_of_node, read_name}
 use Rattle.uimg_fit_checking.specs.SurveyParts.{NameInside}
 use Rattle.uimg_fit_checking.proofs.SurveyLaws.{Gathered}
 use Rattle.uimg_fit_checking.proofs.surveying.gathered_nodes.gather_names.Given as goal
@@ -18,7 +18,7 @@ invariant-loop-next g l = record {
   within : IfSome l.next (λ i. i < length l.room.entries);
   inside : (size : ℕ) → InFile size l.blob l.room.entries → All (NameInside size) l.names.items;
   left : (file : List ℕ) (t : Siblings) → IsRead file l.blob l.room.entries t → (all : List (NodeOf Spot)) → AreFrom t elsewhere l.fn.first all
-      → Gathered Span (List ℕ) (AreFrom t elsewhere) (read_name file) node_name l.names.items l.next all;
+      → Gathered Span (List ℕ) (AreFrom t elsewhere) (read_name file) name_of_node l.names.items l.next all;
 }
 
 abbrev pub decreases-loop-next : goal.decreases-loop-next

@@ -7,8 +7,8 @@ use Rattle.uimg_blob_reading.specs.Spots.{Spot}
 use Rattle.uimg_fit_base.specs.declared.fault.Fault.TheVariants.{Put}
 use Rattle.uimg_fit_checking.specs.declared.unpacking.claims.Claim.{Claim}
 use Rattle.uimg_fit_reading.specs.Nodes.{AreFrom}
-use Rattle.uimg_fit_checking.specs.Unpacking.{bytes_of}
-use Rattle.uimg_fit_checking.specs.UnpackingParts.{IsOf, TellsFound, Claims}
+use Rattle.uimg_fit_checking.specs.Unpacking.{as_bytes}
+use Rattle.uimg_fit_checking.specs.UnpackingParts.{IsPayloadOf, TellsFound, Claims}
 use Rattle.uimg_fit_reading.proofs.OpenedLaws.{still}
 use Rattle.uimg_fit_reading.proofs.ImageLaws.{front}
 use Rattle.uimg_fit_checking.proofs.ClaimLaws.{claims_more, claims_end, claims_cut, claims_done}
@@ -24,7 +24,7 @@ loop-next-preserved g c = record {
   told = λ t o found from.
       let d = g.S.Source.device in
       let file = (d c.args.source.now).bytes in
-      let only = option_map bytes_of c.args.only in
+      let only = option_map as_bytes c.args.only in
       let k = c.loop-next.invariant.told t o found from in
       let same = c.loop-next.invariant.same in
       let here = still same c.loop-next.invariant.room o in
@@ -32,7 +32,7 @@ loop-next-preserved g c = record {
       let f = front t in_images c.in-Some.image k.rest start in
       let it = c.in_ok-found.found in
       let tells = subst (λ (xs : List ℕ). TellsFound only xs f.image (Ok it)) same.bytes (c.in_ok-found.ensures.told t here f.image f.node) in
-      let its = subst (λ (xs : List ℕ). IfSome it (IsOf c.in-Some.image (length xs))) same.bytes c.in_ok-found.ensures.its in
+      let its = subst (λ (xs : List ℕ). IfSome it (IsPayloadOf c.in-Some.image (length xs))) same.bytes c.in_ok-found.ensures.its in
       let claims = subst (λ (x : Claim). Claims c.loop-next.left it x) c.in-Fits.is c.in_ok-rest.ensures.told in
       let indexed = (still c.find_requested.ensures.uses.same refl here).read.indexed in
       claims_more t file only found _ _ c.loop-next.left c.loop-next.next k f.image f.more f.are _ c.in-Fits.rest _ c.in-Some.image it c.find_requested.ensures.uses.asked tells its claims
@@ -43,21 +43,21 @@ pub returns-in-Overlaps-clause-told : goal.returns-in-Overlaps-clause-told
 returns-in-Overlaps-clause-told g c = λ t o found from.
     let d = g.S.Source.device in
     let file = (d c.args.source.now).bytes in
-    let only = option_map bytes_of c.args.only in
+    let only = option_map as_bytes c.args.only in
     let k = c.loop-next.invariant.told t o found from in
     let same = c.loop-next.invariant.same in
     let here = still same c.loop-next.invariant.room o in
     let f = front t in_images c.in-Some.image k.rest (subst (λ (x : Option ℕ). AreFrom t in_images x k.rest) c.in-Some.is k.from) in
     let it = c.in_ok-found.found in
     let tells = subst (λ (xs : List ℕ). TellsFound only xs f.image (Ok it)) same.bytes (c.in_ok-found.ensures.told t here f.image f.node) in
-    let its = subst (λ (xs : List ℕ). IfSome it (IsOf c.in-Some.image (length xs))) same.bytes c.in_ok-found.ensures.its in
+    let its = subst (λ (xs : List ℕ). IfSome it (IsPayloadOf c.in-Some.image (length xs))) same.bytes c.in_ok-found.ensures.its in
     let claims = subst (λ (x : Claim). Claims c.loop-next.left it x) c.in-Overlaps.is c.in_ok-rest.ensures.told in
     claims_end t file only found _ _ c.loop-next.left c.loop-next.next k f.image f.more f.are _ c.in-Overlaps.name c.in-Some.image it c.find_requested.ensures.uses.asked tells its claims
 
 pub returns-in_err-found-clause-told : goal.returns-in_err-found-clause-told
 returns-in_err-found-clause-told g c = λ t o found from.
     let file = (g.S.Source.device c.args.source.now).bytes in
-    let only = option_map bytes_of c.args.only in
+    let only = option_map as_bytes c.args.only in
     let k = c.loop-next.invariant.told t o found from in
     let same = c.loop-next.invariant.same in
     let fault = c.in_err-found.field-0.0 in
@@ -71,8 +71,8 @@ returns-in_err-rest-clause-told g c = λ t o found from.
     let k = c.loop-next.invariant.told t o found from in
     let is : c.from_residual-in_err-rest.result ≡ Err Put = search rules in
     let f = front t in_images c.in-Some.image k.rest (subst (λ (x : Option ℕ). AreFrom t in_images x k.rest) c.in-Some.is k.from) in
-    claims_cut t _ (option_map bytes_of c.args.only) found _ _ c.loop-next.left c.loop-next.next k f.image f.more f.are _ Put c.from_residual-in_err-rest.result is c.find_requested.ensures.uses.asked tt
+    claims_cut t _ (option_map as_bytes c.args.only) found _ _ c.loop-next.left c.loop-next.next k f.image f.more f.are _ Put c.from_residual-in_err-rest.result is c.find_requested.ensures.uses.asked tt
 
 pub returns-clause-told : goal.returns-clause-told
 returns-clause-told g c = λ t o found from.
-    claims_done t _ (option_map bytes_of c.args.only) found _ _ c.loop-next.left c.loop-next.next (search rules) (c.loop-next.invariant.told t o found from)
+    claims_done t _ (option_map as_bytes c.args.only) found _ _ c.loop-next.left c.loop-next.next (search rules) (c.loop-next.invariant.told t o found from)

@@ -6,7 +6,7 @@ use Rattle.uimg_blob_reading.specs.LookUps.{NodeOf}
 use Rattle.uimg_blob_reading.specs.Roles.{in_images}
 use Rattle.uimg_blob_reading.specs.Spots.{Spot}
 use Rattle.uimg_fit_reading.specs.Nodes.{Opened, AreFrom}
-use Rattle.uimg_fit_checking.specs.Unpacking.{bytes_of}
+use Rattle.uimg_fit_checking.specs.Unpacking.{as_bytes}
 use Rattle.uimg_fit_checking.proofs.ClaimLaws.{LeftClaimed}
 use Rattle.uimg_fit_checking.proofs.unpacking.claims.claim_images.Given as goal
 
@@ -22,7 +22,7 @@ invariant-loop-next g l =
       within : IfSome l.next (λ i. i < length l.fn.room.entries);
       none_given : IsTrue g.T.Taker.honest → g.T.Taker.takes l.taker ≡ g.T.Taker.takes l.fn.taker;
       told : (t : Siblings) → Opened (device l.fn.source) l.blob l.fn.room t → (found : List (NodeOf Spot)) → AreFrom t in_images l.fn.first found
-          → LeftClaimed t file (option_map bytes_of l.only) found (device l.fn.source).asked (device l.source).asked l.left l.next;
+          → LeftClaimed t file (option_map as_bytes l.only) found (device l.fn.source).asked (device l.source).asked l.left l.next;
     }
 
 abbrev pub decreases-loop-next : goal.decreases-loop-next

@@ -5,8 +5,8 @@ use Rattle.uimg_texts.specs.Slices.{slice}
 use Rattle.uimg_blob_reading.specs.Roles.{in_images}
 use Rattle.uimg_fit_reading.specs.Nodes.{IsNode}
 use Rattle.uimg_fit_checking.specs.declared.unpacking.requested.Requested.{Requested}
-use Rattle.uimg_fit_checking.specs.Unpacking.{bytes_of}
-use Rattle.uimg_fit_checking.specs.UnpackingParts.{IsOf, TellsFound}
+use Rattle.uimg_fit_checking.specs.Unpacking.{as_bytes}
+use Rattle.uimg_fit_checking.specs.UnpackingParts.{IsPayloadOf, TellsFound}
 use Rattle.uimg_fit_reading.proofs.OpenedLaws.{still}
 use Rattle.uimg_fit_checking.proofs.TakeLaws.{takes_skips, takes_lacks, takes_there, take_paid}
 use Rattle.uimg_fit_checking.proofs.unpacking.takes.take_image.Goals as goal
@@ -16,20 +16,20 @@ returns-in_err-payload-clause-told g c = λ honest t o found n.
     let file = (g.S.Source.device c.args.source.now).bytes in
     let fault = c.in_err-payload.field-0.0 in
     let is : c.from_residual.result ≡ Err fault = search rules in
-    takes_lacks file (option_map bytes_of c.args.request.only) _ found fault c.from_residual.result _ is (c.in_err-payload.ensures.told t o found n)
+    takes_lacks file (option_map as_bytes c.args.request.only) _ found fault c.from_residual.result _ is (c.in_err-payload.ensures.told t o found n)
 
 pub returns-in-None-clause-told : goal.returns-in-None-clause-told
 returns-in-None-clause-told g c = λ honest t o found n.
     let file = (g.S.Source.device c.args.source.now).bytes in
-    let only = option_map bytes_of c.args.request.only in
+    let only = option_map as_bytes c.args.request.only in
     takes_skips file only _ found _ (subst (λ (x : Option Requested). TellsFound only file found (Ok x)) c.in-None.is (c.in_ok-payload.ensures.told t o found n))
 
 pub returns-in-Some-clause-paid : goal.returns-in-Some-clause-paid
 returns-in-Some-clause-paid g c = λ t o found n.
     let file = (g.S.Source.device c.args.source.now).bytes in
-    let only = option_map bytes_of c.args.request.only in
+    let only = option_map as_bytes c.args.request.only in
     let it = c.in-Some.payload in
-    let its = subst (λ (x : Option Requested). IfSome x (IsOf c.args.image (length file))) c.in-Some.is c.in_ok-payload.ensures.its in
+    let its = subst (λ (x : Option Requested). IfSome x (IsPayloadOf c.args.image (length file))) c.in-Some.is c.in_ok-payload.ensures.its in
     let finds = subst (λ (x : Option Requested). TellsFound only file found (Ok x)) c.in-Some.is (c.in_ok-payload.ensures.told t o found n) in
     let node = subst (λ (k : ℕ). IsNode t in_images k found) (sym its.number) n in
     take_paid file only found it.span _ _ _ finds.asked finds.is its.inside c.find_requested.ensures.uses.asked (c.take_requested.ensures.paid t (still c.find_requested.ensures.uses.same refl o) found node)
@@ -37,9 +37,9 @@ returns-in-Some-clause-paid g c = λ t o found n.
 pub returns-in-Some-clause-told : goal.returns-in-Some-clause-told
 returns-in-Some-clause-told g c = λ honest t o found n.
     let file = (g.S.Source.device c.args.source.now).bytes in
-    let only = option_map bytes_of c.args.request.only in
+    let only = option_map as_bytes c.args.request.only in
     let it = c.in-Some.payload in
-    let its = subst (λ (x : Option Requested). IfSome x (IsOf c.args.image (length file))) c.in-Some.is c.in_ok-payload.ensures.its in
+    let its = subst (λ (x : Option Requested). IfSome x (IsPayloadOf c.args.image (length file))) c.in-Some.is c.in_ok-payload.ensures.its in
     let finds = subst (λ (x : Option Requested). TellsFound only file found (Ok x)) c.in-Some.is (c.in_ok-payload.ensures.told t o found n) in
     let node = subst (λ (k : ℕ). IsNode t in_images k found) (sym its.number) n in
     let same = c.find_requested.ensures.uses.same in

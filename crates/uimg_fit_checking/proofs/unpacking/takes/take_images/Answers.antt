@@ -7,7 +7,7 @@ use Rattle.uimg_blob_reading.specs.Spots.{Spot}
 use Rattle.uimg_fit_base.specs.Places.{payload}
 use Rattle.uimg_fit_base.specs.declared.fault.Fault.{Fault}
 use Rattle.uimg_fit_reading.specs.Nodes.{AreFrom}
-use Rattle.uimg_fit_checking.specs.Unpacking.{is_asked, bytes_of, take_of, takes, bytes_or_none}
+use Rattle.uimg_fit_checking.specs.Unpacking.{is_asked, as_bytes, take_of, takes, bytes_or_none}
 use Rattle.uimg_fit_checking.specs.UnpackingParts.{TakesTo, TakesAll, size_if, take_allowance}
 use Rattle.uimg_fit_reading.proofs.OpenedLaws.{still}
 use Rattle.uimg_fit_reading.proofs.ImageLaws.{front}
@@ -33,7 +33,7 @@ loop-next-preserved g c = record {
   paid = λ t o found from fits.
       let d = g.S.Source.device in
       let file = (d c.args.source.now).bytes in
-      let only = option_map bytes_of c.args.request.only in
+      let only = option_map as_bytes c.args.request.only in
       let same = c.loop-next.invariant.same in
       let here = still same c.loop-next.invariant.room o in
       let k = c.loop-next.invariant.paid t o found from fits in
@@ -47,7 +47,7 @@ loop-next-preserved g c = record {
   told = λ honest t o found from fits.
       let d = g.S.Source.device in
       let file = (d c.args.source.now).bytes in
-      let only = option_map bytes_of c.args.request.only in
+      let only = option_map as_bytes c.args.request.only in
       let same = c.loop-next.invariant.same in
       let here = still same c.loop-next.invariant.room o in
       let k = c.loop-next.invariant.told honest t o found from fits in
@@ -65,7 +65,7 @@ pub returns-in_err-all-clause-paid : goal.returns-in_err-all-clause-paid
 returns-in_err-all-clause-paid g c = λ t o found from fits.
     let d = g.S.Source.device in
     let file = (d c.args.source.now).bytes in
-    let only = option_map bytes_of c.args.request.only in
+    let only = option_map as_bytes c.args.request.only in
     let same = c.loop-next.invariant.same in
     let here = still same c.loop-next.invariant.room o in
     let k = c.loop-next.invariant.paid t o found from fits in
@@ -78,7 +78,7 @@ pub returns-in_err-all-clause-told : goal.returns-in_err-all-clause-told
 returns-in_err-all-clause-told g c = λ honest t o found from fits.
     let d = g.S.Source.device in
     let file = (d c.args.source.now).bytes in
-    let only = option_map bytes_of c.args.request.only in
+    let only = option_map as_bytes c.args.request.only in
     let same = c.loop-next.invariant.same in
     let here = still same c.loop-next.invariant.room o in
     let k = c.loop-next.invariant.told honest t o found from fits in

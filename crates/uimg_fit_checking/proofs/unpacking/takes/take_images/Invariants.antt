@@ -6,7 +6,7 @@ use Rattle.uimg_blob_reading.specs.LookUps.{NodeOf}
 use Rattle.uimg_blob_reading.specs.Roles.{in_images}
 use Rattle.uimg_blob_reading.specs.Spots.{Spot}
 use Rattle.uimg_fit_reading.specs.Nodes.{Opened, AreFrom}
-use Rattle.uimg_fit_checking.specs.Unpacking.{bytes_of}
+use Rattle.uimg_fit_checking.specs.Unpacking.{as_bytes}
 use Rattle.uimg_fit_checking.specs.UnpackingParts.{Fitting}
 use Rattle.uimg_fit_checking.proofs.TakeLaws.{LeftToPay, LeftToTake}
 use Rattle.uimg_fit_checking.proofs.unpacking.takes.take_images.Given as goal
@@ -16,7 +16,7 @@ abbrev pub invariant-loop-next : goal.invariant-loop-next
 invariant-loop-next g l =
     let device = g.S.Source.device in
     let file = (device l.fn.source).bytes in
-    let only = option_map bytes_of l.request.only in
+    let only = option_map as_bytes l.request.only in
     record {
       same : SameDevice (device l.fn.source) (device l.source);
       failures : (device l.source).failures ≡ (device l.fn.source).failures;

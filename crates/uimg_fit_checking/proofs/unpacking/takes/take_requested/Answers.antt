@@ -6,7 +6,7 @@ use Rattle.uimg_base.specs.Sink.{Sink}
 use Rattle.uimg_blob_reading.specs.LookUps.{hashes}
 use Rattle.uimg_fit_checking.specs.declared.unpacking.taker.Refusal.{Refusal}
 use Rattle.uimg_fit_checking.specs.Checks.{wrong_in, or_weak}
-use Rattle.uimg_fit_checking.specs.Unpacking.{Take, kept, bytes_of, take_of, told_of}
+use Rattle.uimg_fit_checking.specs.Unpacking.{Take, kept, as_bytes, take_of, told_of}
 use Rattle.uimg_fit_checking.specs.UnpackingParts.{TakesTo}
 use Rattle.uimg_fit_reading.proofs.OpenedLaws.{still}
 use Rattle.uimg_fit_checking.proofs.TakeLaws.{filled_by, kept_is}
@@ -78,5 +78,5 @@ returns-clause-told g c = λ honest t o found n named message is.
     let holds = c.into_inner-shelf.ensures ∙ filled_by _ _ taken.message (ap (λ (s : Sink). s.contents) c.new-out.ensures ∙ c.in_ok-shelf.ensures.empty honest) taken.wrote.appended in
     let given = c.in_ok-keep.ensures honest taken.message holds in
     subst (λ (xs : List ℕ). TakesTo true (take_of c.args.need found xs) (Ok true) (Ok xs) (g.T.Taker.takes c.args.taker.now) (g.T.Taker.takes c.keep.new.self)) whole
-    (kept_is c.args.need found taken.message (bytes_of c.args.payload.name) _ c.vouched_by.result (Ok taken.message) _ _ named none (taken.set ∙ algos.algos) (c.vouched_by.ensures taken.message taken.digests)
-    (given ∙ ap (λ (l : List Take). l ++ kept (bytes_of c.args.payload.name) taken.message c.vouched_by.result ∷ []) (c.in_ok-shelf.ensures.same honest)))
+    (kept_is c.args.need found taken.message (as_bytes c.args.payload.name) _ c.vouched_by.result (Ok taken.message) _ _ named none (taken.set ∙ algos.algos) (c.vouched_by.ensures taken.message taken.digests)
+    (given ∙ ap (λ (l : List Take). l ++ kept (as_bytes c.args.payload.name) taken.message c.vouched_by.result ∷ []) (c.in_ok-shelf.ensures.same honest)))

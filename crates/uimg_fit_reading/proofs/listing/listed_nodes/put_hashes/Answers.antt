@@ -2,7 +2,7 @@ use Rattle.std.proofs.Common.{rules, ℕ, List, Option, refl, subst, Err}
 use Rattle.std.specs.List.{flat_map}
 use Rattle.uimg_blob_reading.specs.LookUps.{NodeOf}
 use Rattle.uimg_blob_reading.specs.Spots.{Spot}
-use Rattle.uimg_fit_reading.specs.Listing.{hash_lines}
+use Rattle.uimg_fit_reading.specs.Listing.{hash_node_lines}
 use Rattle.uimg_fit_reading.specs.Nodes.{HashesAt, FirstHash}
 use Rattle.uimg_fit_reading.proofs.TellingLaws.{left_more, left_fails, left_ends}
 use Rattle.uimg_fit_reading.proofs.OpenedLaws.{stays}
@@ -10,7 +10,7 @@ use Rattle.uimg_fit_reading.proofs.PassedLaws.{failed_of, leaves_stops, leaves_t
 use Rattle.uimg_fit_reading.proofs.listing.listed_nodes.put_hashes.Goals as goal
 
 abbrev texts : ℕ → List (NodeOf Spot) → List ℕ
-texts i ns = flat_map hash_lines ns
+texts i ns = flat_map hash_node_lines ns
 
 pub returns-in_err-put_hash-clause-told : goal.returns-in_err-put_hash-clause-told
 returns-in_err-put_hash-clause-told g c = λ t o hs at.
@@ -19,7 +19,7 @@ returns-in_err-put_hash-clause-told g c = λ t o hs at.
     let first : FirstHash t c.in-Some.hash left.rest = subst (λ (o : Option ℕ). HashesAt t o left.rest) c.in-Some.is left.at in
     let here = stays c.loop-next.invariant.leaves.keeps o in
     let told = c.in_err-put_hash.ensures.told t here first.hash first.at.node first.at.named in
-    rw failed (left_fails (HashesAt t) texts 0 0 c.loop-next.next _ _ _ _ _ _ hs left first.hash first.more (hash_lines first.hash) first.are refl told)
+    rw failed (left_fails (HashesAt t) texts 0 0 c.loop-next.next _ _ _ _ _ _ hs left first.hash first.more (hash_node_lines first.hash) first.are refl told)
 
 pub loop-next-preserved : goal.loop-next-preserved
 loop-next-preserved g c =
@@ -32,7 +32,7 @@ loop-next-preserved g c =
           let here = stays c.loop-next.invariant.leaves.keeps o in
           let then = stays c.put_hash.ensures.leaves.keeps here in
           let told = c.in_ok-put_hash.ensures.told t here first.hash first.at.node first.at.named in
-          left_more (HashesAt t) texts 0 0 c.loop-next.next c.next_hash-next.result _ _ _ _ _ _ hs left first.hash first.more (hash_lines first.hash) first.are refl told
+          left_more (HashesAt t) texts 0 0 c.loop-next.next c.next_hash-next.result _ _ _ _ _ _ hs left first.hash first.more (hash_node_lines first.hash) first.are refl told
           (c.next_hash-next.ensures.hashes t then.read.indexed first.hash first.more first.at);
     }
 

@@ -4,7 +4,7 @@ use Rattle.std.specs.Option.{option_map_or}
 use Rattle.uimg_blob_reading.specs.Grammar.{Siblings}
 use Rattle.uimg_blob_reading.specs.LookUps.{NodeOf}
 use Rattle.uimg_blob_reading.specs.Spots.{Spot}
-use Rattle.uimg_fit_reading.specs.Listing.{hash_lines}
+use Rattle.uimg_fit_reading.specs.Listing.{hash_node_lines}
 use Rattle.uimg_fit_reading.specs.Nodes.{HashesAt, Opened}
 use Rattle.uimg_fit_reading.specs.OpenFits.{InFit}
 use Rattle.uimg_fit_reading.specs.Puts.{LeavesBetween}
@@ -19,7 +19,7 @@ invariant-loop-next g l =
       within : IfSome l.next (λ i. i < length l.fit.room.now.entries);
       leaves : LeavesBetween {X = Unit} (Ok tt) device l.fn.fit l.fit l.fn.out l.out;
       left : (t : Siblings) → InFit device l.fn.fit Opened t → (hs : List (NodeOf Spot)) → HashesAt t l.fn.first hs
-          → Left (HashesAt t) (λ i ns. flat_map hash_lines ns) 0 l.next (device l.fn.fit.source.now) (device l.fit.source.now) l.fn.out l.out hs;
+          → Left (HashesAt t) (λ i ns. flat_map hash_node_lines ns) 0 l.next (device l.fn.fit.source.now) (device l.fit.source.now) l.fn.out l.out hs;
     }
 
 abbrev pub decreases-loop-next : goal.decreases-loop-next

@@ -3,7 +3,7 @@ use Rattle.std.specs.List.{flat_map}
 use Rattle.uimg_base.specs.Writing.{Written}
 use Rattle.uimg_fit_reading.specs.Listing.{size_in}
 use Rattle.uimg_blob_reading.specs.LookUps.{hashes}
-use Rattle.uimg_fit_reading.specs.Listing.{hash_lines}
+use Rattle.uimg_fit_reading.specs.Listing.{hash_node_lines}
 use Rattle.uimg_fit_reading.specs.Rows.{image_rows, rows_lines, title}
 use Rattle.uimg_fit_reading.proofs.OpenedLaws.{still}
 use Rattle.uimg_fit_reading.proofs.SharesLaws.{hashes_allowed}
@@ -17,5 +17,5 @@ returns-in-Ok-clause-told g c = λ t o found n.
     record {
       asked = omega (arith, told.asked, c.find_place.ensures.uses.asked, hashes_allowed found);
       written = subst (λ (o : Option ℕ). Written (is_err c.put_known_image.result) c.args.out.now c.put_known_image.new.out
-          (title (codes " Image ") c.args.image.number found.name ++ (rows_lines (record { time = c.args.time; size = o }) found.own (image_rows c.args.naming) ++ flat_map hash_lines (hashes found)))) size told.written;
+          (title (codes " Image ") c.args.image.number found.name ++ (rows_lines (record { time = c.args.time; size = o }) found.own (image_rows c.args.naming) ++ flat_map hash_node_lines (hashes found)))) size told.written;
     }

@@ -5,9 +5,9 @@ use Rattle.uimg_blob_reading.specs.LookUps.{NodeOf, hashes}
 use Rattle.uimg_blob_reading.specs.Spots.{Spot}
 use Rattle.uimg_names.specs.declared.field.Field.TheVariants.{Architecture, System, Kind, Compression}
 use Rattle.uimg_names.specs.declared.naming.Naming.{Naming}
-use Rattle.uimg_fit_base.specs.Files.{bytes_of}
+use Rattle.uimg_fit_base.specs.Files.{value_bytes}
 use Rattle.uimg_fit_reading.specs.Allowances.{text_sizes, node_allowance}
-use Rattle.uimg_fit_reading.specs.Listing.{hash_lines}
+use Rattle.uimg_fit_reading.specs.Listing.{hash_node_lines}
 use Rattle.uimg_fit_reading.specs.Rows.{image_rows, keeps_row, row_cost, rows_lines, title}
 use Rattle.uimg_fit_reading.specs.Telling.{ListsBetween}
 use Rattle.uimg_fit_reading.proofs.RowLaws.{name_cost, address_cost}
@@ -21,12 +21,12 @@ use Rattle.uimg_fit_reading.proofs.listing.listed_nodes.put_known_image.Goals as
 image_paid : (naming : Naming) (found : NodeOf Spot) → 255 + sum_by (row_cost found.own) (image_rows naming) ≤ 748 + 4 * text_sizes found.own
 image_paid naming found =
     let own = found.own in
-    let k1 = name_cost naming Kind (bytes_of own (codes "type")) in
-    let k2 = name_cost naming Compression (bytes_of own (codes "compression")) in
-    let k3 = name_cost naming Architecture (bytes_of own (codes "arch")) in
-    let k4 = name_cost naming System (bytes_of own (codes "os")) in
-    let k5 = address_cost (bytes_of own (codes "load")) in
-    let k6 = address_cost (bytes_of own (codes "entry")) in
+    let k1 = name_cost naming Kind (value_bytes own (codes "type")) in
+    let k2 = name_cost naming Compression (value_bytes own (codes "compression")) in
+    let k3 = name_cost naming Architecture (value_bytes own (codes "arch")) in
+    let k4 = name_cost naming System (value_bytes own (codes "os")) in
+    let k5 = address_cost (value_bytes own (codes "load")) in
+    let k6 = address_cost (value_bytes own (codes "entry")) in
     omega (arith, one_text own (codes "description") refl, k1, k2, k3, k4, k5, k6)
 
 pub returns-in_err-put_node-clause-told : goal.returns-in_err-put_node-clause-told
@@ -37,8 +37,8 @@ returns-in_err-put_node-clause-told g c = λ t o found n.
     let m = g.S.Source.device c.put_node.new.fit.source.now in
     let head = more_lists true _ (748 + 4 * text_sizes found.own) d m c.args.out.now c.put_node.new.out _ (image_paid c.args.naming found) (rw known at (c.in_err-put_node.ensures.told t o in_images found n (ap (list_all (keeps_row in_images found.name)) known))) in
     rw failed (subst (λ (w : List ℕ). ListsBetween true (748 + 4 * text_sizes found.own + sum_by node_allowance (hashes found)) d m c.args.out.now c.put_node.new.out w)
-    (append_assoc (title (codes " Image ") c.args.image.number found.name) (rows_lines c.args.facts found.own (image_rows c.args.naming)) (flat_map hash_lines (hashes found)))
-    (cut_lists _ _ _ _ _ _ _ (flat_map hash_lines (hashes found)) head))
+    (append_assoc (title (codes " Image ") c.args.image.number found.name) (rows_lines c.args.facts found.own (image_rows c.args.naming)) (flat_map hash_node_lines (hashes found)))
+    (cut_lists _ _ _ _ _ _ _ (flat_map hash_node_lines (hashes found)) head))
 
 pub returns-clause-told : goal.returns-clause-told
 returns-clause-told g c = λ t o found n.
@@ -50,7 +50,7 @@ returns-clause-told g c = λ t o found n.
     let head = more_lists false _ (748 + 4 * text_sizes found.own) d m c.args.out.now c.put_node.new.out _ (image_paid c.args.naming found) (rw known at (c.in_ok-put_node.ensures.told t o in_images found n (ap (list_all (keeps_row in_images found.name)) known))) in
     let tail = c.put_hashes.ensures.told t here (hashes found) (c.first_hash-first.ensures.hashes t here.read.indexed found n) in
     subst (λ (w : List ℕ). ListsBetween (is_err c.put_hashes.result) (748 + 4 * text_sizes found.own + sum_by node_allowance (hashes found)) d f c.args.out.now c.put_hashes.new.out w)
-    (append_assoc (title (codes " Image ") c.args.image.number found.name) (rows_lines c.args.facts found.own (image_rows c.args.naming)) (flat_map hash_lines (hashes found)))
+    (append_assoc (title (codes " Image ") c.args.image.number found.name) (rows_lines c.args.facts found.own (image_rows c.args.naming)) (flat_map hash_node_lines (hashes found)))
     (then_lists (is_err c.put_hashes.result) _ _ _ _ _ _ _ _ _ _ head tail)
 
 pub returns-in_err-put_node-clause-leaves : goal.returns-in_err-put_node-clause-leaves

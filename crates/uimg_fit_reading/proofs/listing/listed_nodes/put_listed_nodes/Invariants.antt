@@ -2,7 +2,7 @@ use Rattle.std.proofs.Common.{◌≤◌, ◌<◌, List, length, IfSome, Ok}
 use Rattle.uimg_blob_reading.specs.Grammar.{Siblings}
 use Rattle.uimg_blob_reading.specs.LookUps.{NodeOf}
 use Rattle.uimg_blob_reading.specs.Spots.{Spot}
-use Rattle.uimg_fit_reading.specs.Listing.{numbered}
+use Rattle.uimg_fit_reading.specs.Listing.{numbered_lines}
 use Rattle.uimg_fit_reading.specs.NodeLines.{level_of, node_lines}
 use Rattle.uimg_fit_reading.specs.Nodes.{AreFrom, Opened}
 use Rattle.uimg_fit_reading.specs.OpenFits.{InFit}
@@ -18,5 +18,5 @@ invariant-loop-number g l =
       within : IfSome l.next (λ i. (l.number ≤ i) × (i < length l.fit.room.now.entries));
       leaves : LeavesBetween {X = Unit} (Ok tt) device l.fn.fit l.fit l.fn.out l.out;
       left : (t : Siblings) → InFit device l.fn.fit Opened t → (all : List (NodeOf Spot)) → AreFrom t (level_of l.kind) l.fn.first all
-          → Left (AreFrom t (level_of l.kind)) (numbered (node_lines (device l.fn.fit.source.now).bytes l.kind)) l.number l.next (device l.fn.fit.source.now) (device l.fit.source.now) l.fn.out l.out all;
+          → Left (AreFrom t (level_of l.kind)) (numbered_lines (node_lines (device l.fn.fit.source.now).bytes l.kind)) l.number l.next (device l.fn.fit.source.now) (device l.fit.source.now) l.fn.out l.out all;
     }

@@ -3,7 +3,7 @@ use Rattle.std.specs.Prelude.{Ok}
 use Rattle.uimg_texts.specs.Slices.{slice}
 use Rattle.uimg_base.specs.Writing.{Written}
 use Rattle.uimg_base.proofs.SinkLaws.{prefix_none}
-use Rattle.uimg_fit_reading.specs.HashReports.{line_of}
+use Rattle.uimg_fit_reading.specs.HashReports.{verdict_line}
 use Rattle.uimg_fit_reading.proofs.OpenedLaws.{still}
 use Rattle.uimg_fit_reading.proofs.PlanLaws.{if_err}
 use Rattle.uimg_fit_reading.proofs.LineLaws.{puts_line}
@@ -21,7 +21,7 @@ returns-in_err-put_judged-clause-told g c = λ t o found more at message are cov
     let image = c.args.image in
     let failed = failed_of c.from_residual.result c.from_residual.ensures.0 in
     let put = c.in_err-put_judged.ensures.told t here found more at in
-    let written = subst (λ (xs : List ℕ). Written true c.args.out.now c.put_judged.new.out (line_of (slice xs image.place image.length) c.in-Ok.word found)) same.bytes put.written in
+    let written = subst (λ (xs : List ℕ). Written true c.args.out.now c.put_judged.new.out (verdict_line (slice xs image.place image.length) c.in-Ok.word found)) same.bytes put.written in
     puts_line _ message image.length found _ _ _ c.in-Ok.word c.from_residual.result true c.args.out.now c.put_judged.new.out
     (c.in-Ok.ensures.word t o found more at message are covered) (if_err c.from_residual.result _ failed) failed written put.asked c.judge.ensures.uses.asked
 
@@ -31,6 +31,6 @@ returns-clause-told g c = λ t o found more at message are covered.
     let here = still same refl o in
     let image = c.args.image in
     let put = c.in_ok-put_judged.ensures.told t here found more at in
-    let written = subst (λ (xs : List ℕ). Written false c.args.out.now c.put_judged.new.out (line_of (slice xs image.place image.length) c.in-Ok.word found)) same.bytes put.written in
+    let written = subst (λ (xs : List ℕ). Written false c.args.out.now c.put_judged.new.out (verdict_line (slice xs image.place image.length) c.in-Ok.word found)) same.bytes put.written in
     puts_line _ message image.length found _ _ _ c.in-Ok.word (Ok c.in-Ok.word) false c.args.out.now c.put_judged.new.out
     (c.in-Ok.ensures.word t o found more at message are covered) refl refl written put.asked c.judge.ensures.uses.asked
