@@ -4,14 +4,21 @@ PREFIX ?= /usr/local
 IMAGE ?= examples/abc-kernel.img
 export RT
 
-.PHONY: all demo try check test gate wrong-bodies definitions contracts lib lib-test json-test farm-test install deb peers bench clean help
+.PHONY: all demo try check test gate wrong-bodies definitions contracts lib lib-test json-test farm-test install deb release arm64-test peers bench clean help
 .NOTPARALLEL:
 
 ## make          proves the program and all crates below it, and builds bin/uimg
 all: bin/uimg
 	@echo "bin/uimg is up to date"
 
-bin/uimg: $(shell scripts/sources.sh uimg)
+# The processor that programs and libraries are compiled for: CPU=x86-64-v3 sums faster.
+CPU ?=
+export CPU
+
+bin/processor-$(CPU):
+	@mkdir -p bin && rm -f bin/processor-* && touch $@
+
+bin/uimg: $(shell scripts/sources.sh uimg) bin/processor-$(CPU)
 	@scripts/build.sh uimg
 
 bin/uimg_peers: $(shell scripts/sources.sh uimg_peers)
@@ -60,7 +67,7 @@ contracts:
 lib: lib/libuimg.a
 	@echo "lib/ is up to date"
 
-lib/libuimg.a: $(shell scripts/sources.sh uimg_c) $(wildcard library/* include/*)
+lib/libuimg.a: $(shell scripts/sources.sh uimg_c) $(wildcard library/* include/*) bin/processor-$(CPU)
 	@scripts/lib.sh
 
 ## make lib-test tests the library from C, C++, Python and Go against the program, and with valgrind
@@ -96,6 +103,17 @@ install: bin/uimg
 ## make deb      packs both, with documents and examples, as Debian packages in out/
 deb: bin/uimg lib/libuimg.a
 	@scripts/deb.sh
+
+## make release  makes archives and Debian packages for x86-64 and 64-bit ARM, in release/
+release:
+	@scripts/needs.sh rt python3 git aarch64-linux-gnu-gcc dpkg-buildpackage dh lintian
+	@python3 scripts/release.py
+
+## make arm64-test   tests the program and the library for 64-bit ARM under qemu
+arm64-test:
+	@scripts/needs.sh rt python3 aarch64-linux-gnu-gcc qemu-aarch64-static
+	@python3 scripts/release.py --programs
+	@python3 scripts/arm64_test.py out/release
 
 ## make peers    compares the program with the real mkimage, dumpimage and dtc, if installed
 peers: bin/uimg bin/uimg_peers

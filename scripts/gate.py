@@ -3,7 +3,8 @@
 crate except those of tests from nothing; beside it the sentinels (scripts/sentinels.txt), some of
 the wrong bodies, are tried, those of a crate once the crates below it are proved. The command lines
 are played again with the program that `rt ci` built, and with a C compiler the library for C is
-linked and tested, which counts as one. The last line, 'N passed, M failed', counts all; the status
+linked and tested, which counts as one; with a cross compiler and qemu, program and library are
+tested for 64-bit ARM. The last line, 'N passed, M failed', counts all; the status
 is 0 if nothing failed.
 
 It works on a copy of the tree without the crates of tests and the wrong bodies. `rt ci` would prove
@@ -109,6 +110,18 @@ class Library(threading.Thread):
                 return
 
 
+def arm64():
+    """Tests the program and the library for 64-bit ARM beside those for x86-64, compiled over the
+    libraries of `rt ci`. Returns how many passed and failed."""
+    missing = [it for it in ("aarch64-linux-gnu-gcc", "qemu-aarch64-static") if not shutil.which(it)]
+    if missing:
+        print(f"64-bit ARM: left out, since there is no {missing[0]}\n", flush=True)
+        return 0, 0
+    status, lines = test.run(["python3", "scripts/release.py", "--compile"])
+    print("\n".join(lines[-12:]), flush=True)
+    return (0, 1) if status else counted(["scripts/arm64_test.py", "out/release"], dict(os.environ))
+
+
 def gate():
     """Runs the gate in the current folder. Returns how many passed and failed."""
     environment = {"RT_JOBS": lanes(), **os.environ}
@@ -129,6 +142,8 @@ def gate():
             library.join()
             passed, failed = passed + library.is_right, failed + (not library.is_right)
         print(f"libuimg: {library.said}\n", flush=True)
+        more, bad = arm64()
+        passed, failed = passed + more, failed + bad
     elif not failed:
         print("uimg: the gate built no program to play the cases against", flush=True)
         failed = 1

@@ -7,16 +7,15 @@ import array
 import ctypes
 import json
 import os
-import random
 import re
 import shutil
 import subprocess
 import sys
 import tempfile
 
+import broken
+
 PROGRAM, LIBRARY = (os.path.abspath(it) for it in sys.argv[1:3])
-IMAGES = ["abc-kernel.img", "three-part.img", "kernel.itb"]
-BROKEN = 1000
 ONE = '/dts-v1/; / { description = "d"; images { %s }; };'
 IMAGE = 'k%d { description = "k"; data = "abc"; %s };'
 HASHED = 'hash-1 { algo = "%s"; };'
@@ -73,22 +72,6 @@ def check_headers():
             with open(path, "w", encoding="ascii") as file:
                 file.write("#include <uimg.h>\n#include <uimg_block.h>\nint main(void) { return 0; }\n")
             compiled(f"header as {standard}", path, "-pedantic", compiler=compiler, standard=standard)
-
-
-def broken_images(count):
-    """Returns bytes of images: the examples, and some that are cut or have a few flipped bits."""
-    chance = random.Random(1)
-    whole = [open(f"examples/{it}", "rb").read() for it in IMAGES]
-    images = [*whole, b"", b"\xd0\x0d\xfe\xed"]
-    while len(images) < count:
-        image = bytearray(chance.choice(whole))
-        if chance.random() < 0.2:
-            image = image[: chance.randrange(len(image))]
-        else:
-            for _ in range(chance.choice((1, 1, 2, 5))):
-                image[chance.randrange(len(image))] ^= 1 << chance.randrange(8)
-        images.append(bytes(image))
-    return images
 
 
 def by_program(*words):
@@ -317,7 +300,7 @@ def check_programs(files):
 
 
 def main():
-    images = broken_images(BROKEN)
+    images = broken.images(1000)
     files = []
     for number, image in enumerate(images):
         files.append(f"{WORK}/{number}.img")
