@@ -37,11 +37,6 @@ Prints j text = text.items ≡ print (json_tokens j)
 abbrev pub IsJson : {Z : Type 0} → Json → Vec ℕ Z → Type 0
 IsJson j text = document text.items ≡ Some j
 
--- P holds for the text of the object of a file of a size with these facts, if there is one.
-abbrev pub OfJson : {Z : Type 0} → (Json → Vec ℕ Z → Type 0) → List ℕ → ℕ → FullSurvey
-    → Result (Vec ℕ Z) SurveyFault → List ℕ → Type 0
-OfJson P path size full result file = IfOk result (P (read_json path size file full))
-
 -- At most `most` bytes were requested, and a failure of the device was counted exactly if a read
 -- failed; over an honest device the tokens were appended, unless the step failed.
 pub record PutsTokensBetween {X : Type 0} (most : ℕ) (result : Result X SurveyFault) (d e : Device)
@@ -92,3 +87,8 @@ abbrev pub read_json : List ℕ → ℕ → List ℕ → FullSurvey → Json
 read_json path size file full =
     fit_json path size (reservations_of file full.survey.totalsize) (read_survey file full.survey)
     (map (read_properties file) full.properties.items)
+
+-- P holds for the text of the object of a file of a size with these facts, if there is one.
+abbrev pub OfJson : {Z : Type 0} → (Json → Vec ℕ Z → Type 0) → List ℕ → ℕ → FullSurvey
+    → Result (Vec ℕ Z) SurveyFault → List ℕ → Type 0
+OfJson P path size full result file = IfOk result (P (read_json path size file full))
