@@ -11,9 +11,12 @@ export RT
 all: bin/uimg
 	@echo "bin/uimg is up to date"
 
-# The processor that programs and libraries are compiled for: CPU=x86-64-v3 sums faster.
-CPU ?=
+# The processor that programs and libraries are compiled for, by default that of the last build, and
+# x86-64-v2 at first. CPU=x86-64-v3 sums faster.
+CPU ?= $(patsubst bin/processor-%,%,$(wildcard bin/processor-*))
 export CPU
+# For a release, only the one of the command line or the environment counts.
+ASKED = $(if $(filter file,$(origin CPU)),,$(CPU))
 
 bin/processor-$(CPU):
 	@mkdir -p bin && rm -f bin/processor-* && touch $@
@@ -106,13 +109,13 @@ deb: bin/uimg lib/libuimg.a
 
 ## make release  makes archives and Debian packages for x86-64 and 64-bit ARM, in release/
 release:
-	@scripts/needs.sh rt python3 git aarch64-linux-gnu-gcc dpkg-buildpackage dh lintian
-	@python3 scripts/release.py
+	@scripts/needs.sh rt python3 git gcc ld objcopy ar aarch64-linux-gnu-gcc dpkg-buildpackage dh lintian
+	@CPU=$(ASKED) python3 scripts/release.py
 
 ## make arm64-test   tests the program and the library for 64-bit ARM under qemu
 arm64-test:
-	@scripts/needs.sh rt python3 aarch64-linux-gnu-gcc qemu-aarch64-static
-	@python3 scripts/release.py --programs
+	@scripts/needs.sh rt python3 gcc ld objcopy ar prlimit aarch64-linux-gnu-gcc qemu-aarch64-static
+	@CPU=$(ASKED) python3 scripts/release.py --programs
 	@python3 scripts/arm64_test.py out/release
 
 ## make peers    compares the program with the real mkimage, dumpimage and dtc, if installed
@@ -131,7 +134,7 @@ bench: bin/uimg
 
 ## make clean    removes all that was built, and what the prover kept
 clean:
-	rm -rf bin lib out crates/*/out
+	rm -rf bin lib out release crates/*/out
 
 ## make help     lists the targets
 help:

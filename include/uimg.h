@@ -9,7 +9,7 @@
    No call checks signatures or the hash nodes of configurations. Right hashes say that the image is undamaged, and not
    who made it.
 
-   The library is compiled for x86-64-v2 (SSE4.2) and uses the SSE registers.
+   On x86-64 the library needs a processor of the level x86-64-v2 (SSE4.2), and uses the SSE registers.
 
    The caller has to ensure:
    - No pointer is null, even for a size of 0, and each points to as many bytes as its size says.

@@ -1,6 +1,7 @@
 /* program_test.c: tests the calls of program.c by the arguments and the environment of main.
-   program_test [exec | memory]: with exec it runs itself with no argument at all; with memory,
-   under a limit of the address space, allocations beyond it have to be refused. */
+   program_test [exec | memory]: with exec it runs itself with an empty list of arguments, to which
+   Linux since 5.18 adds an empty one; with memory, under a limit of the address space, allocations
+   beyond it have to be refused. */
 #include <errno.h>
 #include <stddef.h>
 #include <stdint.h>
@@ -26,8 +27,9 @@ void rattle_dealloc(void *start);
 
 extern char **environ;
 
-/* The longest text that the kernel passes has 131,071 bytes. */
-static uint8_t buffer[1 << 18];
+/* The longest text that Linux passes is 32 pages long, its NUL counted: 2 MiB with the largest
+   pages. */
+static uint8_t buffer[(1 << 21) + 2];
 
 static void require(int holds, const char *what, size_t i)
 {

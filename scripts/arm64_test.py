@@ -1,11 +1,12 @@
 #!/usr/bin/env python3
 """arm64_test.py FOLDER: tests what was made for 64-bit ARM in FOLDER/aarch64, under qemu, beside
 what was made for x86-64 in FOLDER/x86_64 (release.py): the C calls of both programs; all command
-lines, but for those that limit memory, stack or open files, which are named; listings, reports,
-maps and facts of 1000 images, and the images that both make; the library for C, by its report on
-each image. The last line is 'N passed, M failed'."""
+lines, for ARM but for those that limit memory, stack or open files, which are named; listings,
+reports, maps and facts of 1000 images, and the images that both make; the library for C, by its
+report on each image. The last line is 'N passed, M failed'."""
 import concurrent.futures
 import os
+import shlex
 import shutil
 import subprocess
 import sys
@@ -51,7 +52,8 @@ class Machine:
 
 def test_calls(machine, room):
     """The C calls of the program: without arguments, with empty ones, 100,000, and one of 128 KiB;
-    without an environment, and with a large one; if memory is refused."""
+    without an environment, and with a large one; if memory is refused. Under qemu neither the list
+    of arguments can be empty nor memory be limited."""
     words = machine.compiled(f"{room}/calls", "library/program.c", "library/program_test.c")
     for count, more in ((1, []), (3, ["", ""]), (100_001, ["x"] * 100_000), (2, ["x" * (2**17 - 1)])):
         told = subprocess.run([*words, *more], capture_output=True, text=True)
@@ -60,22 +62,28 @@ def test_calls(machine, room):
         told = subprocess.run([*words, "x"], env={"PATH": os.environ["PATH"], **environment} if machine.runner else environment, capture_output=True)
         case("environment", told.returncode == 0)
     if not machine.runner:
-        case("no argument at all", subprocess.run([*words, "exec"], stdout=subprocess.DEVNULL).returncode == 0)
+        told = subprocess.run([*words, "exec"], capture_output=True, text=True)
+        case("an empty list of arguments", (told.returncode, told.stdout) in ((0, "0\n"), (0, "1\n")))
         limited = ["prlimit", f"--as={SPACE}", *words, "memory"]
         case("refused memory", subprocess.run(limited, stdout=subprocess.DEVNULL).returncode == 0)
 
 
-def play(arm, room):
-    """All command lines, by play.py."""
+def play(words):
+    """All command lines, by play.py with these words before their files."""
     global passed, failed
-    os.mkdir(f"{room}/bin")
-    with open(f"{room}/bin/uimg", "w", encoding="ascii") as file:
-        file.write(WRAPPER.format(qemu=shutil.which(QEMU), program=f"{arm.folder}/uimg"))
-    os.chmod(f"{room}/bin/uimg", 0o755)
-    told = subprocess.run(["scripts/play.py", "--tried", f"{room}/bin/uimg", *test.PLAYED], stdout=subprocess.PIPE, text=True)
+    told = subprocess.run(["scripts/play.py", *words, *test.PLAYED], stdout=subprocess.PIPE, text=True)
     *lines, count = told.stdout.splitlines()
     print("\n".join(lines), flush=True)
     passed, failed = passed + int(count.split()[0]), failed + int(count.split()[2])
+
+
+def play_both(x86, arm, room):
+    os.mkdir(f"{room}/bin")
+    with open(f"{room}/bin/uimg", "w", encoding="utf-8") as file:
+        file.write(WRAPPER.format(qemu=shutil.which(QEMU), program=shlex.quote(f"{arm.folder}/uimg")))
+    os.chmod(f"{room}/bin/uimg", 0o755)
+    play([f"{x86.folder}/uimg"])
+    play(["--tried", f"{room}/bin/uimg"])
 
 
 def compare(x86, arm, files):
@@ -120,7 +128,7 @@ def main(folder):
         compare_images(x86, arm, room)
         compare_library(x86, arm, files, room)
         compare(x86, arm, files)
-        play(arm, room)
+        play_both(x86, arm, room)
     print(f"{passed} passed, {failed} failed")
     return 1 if failed else 0
 

@@ -9,8 +9,9 @@ room=$(mktemp -d) || exit 1
 trap 'rm -rf "$room"' EXIT
 mkdir -p out "$to" "$room/uimg/bin" && cp "$program" "$room/uimg/bin" && cp -r "$library" "$room/uimg/lib" &&
     cp -r debian include library docs examples completions README.md SECURITY.md CHANGELOG.md "$room/uimg" || exit 1
-log=$PWD/out/deb.log
-(cd "$room/uimg" && dpkg-buildpackage -b -us -uc -d -a "$architecture") > "$log" 2>&1 || {
+log=$PWD/out/deb.log cross=
+test "$architecture" = "$(dpkg --print-architecture)" || cross="-d -a $architecture"
+(cd "$room/uimg" && dpkg-buildpackage -b -us -uc $cross) > "$log" 2>&1 || {
     tail -n 12 "$log" >&2
     echo "uimg: no package was made; the log is out/deb.log" >&2
     exit 1

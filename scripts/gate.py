@@ -33,7 +33,7 @@ MEMORY = 4_000_000_000
 SENTINELS = "scripts/sentinels.txt"
 PROGRAM = "crates/uimg/out/uimg"
 # Built files are not copied, and the wrong bodies go to a folder of their own.
-LEFT_OUT = shutil.ignore_patterns(".git", "out", "bin", "lib", "__pycache__", "must-fail")
+LEFT_OUT = shutil.ignore_patterns(".git", "out", "bin", "lib", "release", "__pycache__", "must-fail")
 ASIDE = "wrong-bodies"
 # A line that reports the end of a proof.
 STEP = re.compile(r"rt: \w+(: its tests are)? (NOT )?(PROVED|proved)")

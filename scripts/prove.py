@@ -5,7 +5,8 @@ and an interrupted run resumes with the crates that it had not finished.
 
 A crate is proved from nothing, with one job except for those of JOBS, and its library holds what
 the crates above may cite. The results are in crates/CRATE/out: rlib, the program or the archive,
-and the file `proved` with the sum of all that the proof depends on.
+the file `statement`, what the prover said, and the file `proved` with the sum of all that the proof
+depends on.
 
 On a terminal one line shows the progress; elsewhere, or with -q, each crate has its line. The
 log of a crate is out/CRATE.log. The status is 0 if all are proved."""
@@ -47,8 +48,9 @@ class Proof:
         with open(self.log, "w", encoding="utf-8") as log:
             self.is_proved = all(self.is_done(words, log) for words in self.steps())
         if self.is_proved:
-            with open(f"{made}/proved", "w", encoding="ascii") as file:
-                file.write(self.stamp)
+            for name, text in (("statement", statement(self.log)), ("proved", self.stamp)):
+                with open(f"{made}/{name}", "w", encoding="ascii") as file:
+                    file.write(text)
 
     def steps(self):
         """Yields the commands that prove it, and compile it if no crate above uses its library."""
@@ -90,6 +92,12 @@ class Screen:
             print(f"\r\x1b[K{text[:width]}", end="", flush=True)
 
 
+def statement(log):
+    """Returns what the prover said of a crate that is proved, from its log."""
+    with open(log, encoding="utf-8", errors="replace") as file:
+        return [it.rstrip() for it in file if it.startswith("logic=proved")][-1]
+
+
 def first_error(log):
     with open(log, encoding="utf-8", errors="replace") as file:
         lines = [it.rstrip() for it in file if not re.match(r"\S+ \S+: modules loaded=", it)]
@@ -113,8 +121,9 @@ class Run:
 
     def is_kept(self, name):
         """Returns whether a crate is proved, and all that its proof depends on is unchanged."""
-        path = f"{self.crates.by_name[name].folder}/out/proved"
-        if not os.path.isfile(path):
+        made = f"{self.crates.by_name[name].folder}/out"
+        path = f"{made}/proved"
+        if not os.path.isfile(path) or not os.path.isfile(f"{made}/statement"):
             return False
         with open(path, encoding="ascii") as file:
             return file.read() == self.crates.stamp(name, self.stamps)

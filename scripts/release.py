@@ -1,13 +1,15 @@
 #!/usr/bin/env python3
-"""release.py [--programs | --compile]: makes the files of a release in release/, for x86-64 and 64-bit ARM: the program,
-linked statically, with its other names, manual pages and completions (uimg-VERSION-MACHINE.tar.gz);
-the library for C (libuimg-VERSION-MACHINE.tar.gz); Debian packages of both; PROVED.txt, with the
-commit, the kit and the prover's statement on each crate; and SHA256SUMS.
+"""release.py [--programs | --compile]: makes the files of a release in release/, for x86-64 and
+64-bit ARM: the program, linked statically, with its other names, manual pages and completions
+(uimg-VERSION-MACHINE.tar.gz); the library for C (libuimg-VERSION-MACHINE.tar.gz); Debian packages
+of both; PROVED.txt, with the commit, the kit and the prover's statement on each crate; SHA256SUMS.
 
 What is proved already is skipped. With --programs it stops once the programs and libraries are in
-out/release; with --compile it makes these over libraries that are there. All files have the time of the commit and no path of this
-machine: the same commit gives the same bytes in another folder, and elsewhere with the same
-compilers. With CPU=x86-64-v3 in the environment, what is made for x86-64 needs such a processor."""
+out/release; with --compile it makes these over libraries that are there. All files have the time
+of the commit and no path of this machine: the same commit gives the same bytes in another folder,
+and elsewhere with the same compilers. With CPU=x86-64-v3 in the environment, what is made for
+x86-64 needs such a processor, has it in its name, and is not packed for Debian."""
+import concurrent.futures
 import glob
 import gzip
 import hashlib
@@ -18,7 +20,6 @@ import shutil
 import subprocess
 import sys
 import tarfile
-import threading
 
 import kit
 import prove
@@ -32,6 +33,15 @@ COMPLETIONS = {
 }
 PAPERS = ("LICENSE-MIT", "LICENSE-APACHE", "CHANGELOG.md")
 FLAGS = ("-std=c11", "-O2", "-Wall", "-Wextra", "-Werror")
+# The static program has code of the C library.
+NOTICE = """The program uimg has code of the GNU C Library, which is under the GNU Lesser General Public
+License, version 2.1 or later: https://www.gnu.org/software/libc/. The sources of uimg, and
+`make release` in them, link it with another version of that library.
+"""
+
+
+class Link(str):
+    """The target of a symbolic link."""
 
 
 class Machine:
@@ -41,6 +51,8 @@ class Machine:
     def __init__(self, name, tools, debian, cpu=None):
         self.name, self.tools, self.debian, self.cpu = name, tools, debian, cpu
         self.target, self.folder = f"{name}-unknown-linux-gnu", os.path.abspath(f"{WORK}/{name}")
+        # The name in those of archives: x86_64-v3, if it is for such a processor.
+        self.label = f"{name}-{cpu.rpartition('-')[2]}" if cpu else name
 
 
 X86 = Machine("x86_64", "", "amd64", kit.CPU)
@@ -54,7 +66,8 @@ def fail(text):
 
 def run(words, **more):
     """Runs a command that has to succeed. Returns its output."""
-    told = subprocess.run(words, stdin=subprocess.DEVNULL, stdout=subprocess.PIPE, stderr=subprocess.STDOUT, text=True, **more)
+    how = {"stdin": subprocess.DEVNULL, "stdout": subprocess.PIPE, "stderr": subprocess.STDOUT, "text": True}
+    told = subprocess.run(words, **how, **more)
     if told.returncode:
         print("\n".join(told.stdout.splitlines()[-12:]))
         fail(f"{words[0]} failed")
@@ -66,103 +79,101 @@ def version():
         return re.search(r'VERSION.*"(.*)"', file.read())[1]
 
 
-class Compilation(threading.Thread):
-    """The proof and the compilation of a crate for a machine. Its log is in the machine's folder."""
+def log_of(crate, machine):
+    return f"{machine.folder}/{crate}.log"
 
-    def __init__(self, crate, machine):
-        super().__init__()
-        self.crate, self.machine, self.status = crate, machine, None
-        os.makedirs(machine.folder, exist_ok=True)
-        self.start()
 
-    def run(self):
-        _, words = kit.Crates().object(self.crate, self.machine.folder, self.machine.target, self.machine.cpu)
-        with open(self.log(), "w", encoding="utf-8") as log:
-            self.status = subprocess.run(words, cwd=f"crates/{self.crate}", stdin=subprocess.DEVNULL, stdout=log, stderr=subprocess.STDOUT).returncode
-
-    def log(self):
-        return f"{self.machine.folder}/{self.crate}.log"
+def compile_one(crate, machine):
+    """Proves and compiles a crate for a machine. Returns whether it is proved."""
+    os.makedirs(machine.folder, exist_ok=True)
+    _, words = kit.Crates().object(crate, machine.folder, machine.target, machine.cpu)
+    how = {"cwd": f"crates/{crate}", "stdin": subprocess.DEVNULL, "stderr": subprocess.STDOUT}
+    with open(log_of(crate, machine), "w", encoding="utf-8") as log:
+        return subprocess.run(words, stdout=log, **how).returncode == 0
 
 
 def compile_all(machines):
-    """Compiles the program and the library for these machines, over proved crates."""
-    for it in [Compilation(crate, machine) for machine in machines for crate in ("uimg", "uimg_c")]:
-        it.join()
-        if it.status:
-            print("\n".join(prove.first_error(it.log())))
-            fail(f"{it.crate} is not proved for {it.machine.name}; its log is {it.log()}")
-        print(f"{it.crate} proved and compiled for {it.machine.name}", flush=True)
+    """Compiles the program and the library for these machines, over proved crates, as many at
+    once as there are processors and memory for."""
+    jobs = [(crate, machine) for machine in machines for crate in ("uimg", "uimg_c")]
+    at_once = max(1, min(kit.processors(), kit.free_memory() // prove.MEMORY))
+    with concurrent.futures.ThreadPoolExecutor(at_once) as pool:
+        for (crate, machine), is_proved in zip(jobs, pool.map(lambda job: compile_one(*job), jobs)):
+            if not is_proved:
+                print("\n".join(prove.first_error(log_of(crate, machine))))
+                fail(f"{crate} is not proved for {machine.name}; its log is {log_of(crate, machine)}")
+            print(f"{crate} proved and compiled for {machine.name}", flush=True)
 
 
 def link(machine):
     """Links the program statically, and the library, to the machine's folder and its lib/."""
     made, compiler = machine.folder, f"{machine.tools}gcc"
-    run([compiler, *FLAGS, "-static", "-s", "-Wl,--build-id=none", "-o", f"{made}/uimg", f"{made}/uimg.o", "library/program.c"])
-    run(["scripts/link.sh", f"{made}/libuimg_c.a", f"{made}/lib", machine.tools])
+    program = ["-static", "-s", "-Wl,--build-id=none", "-o", f"{made}/uimg", f"{made}/uimg.o", "library/program.c"]
+    run([compiler, *FLAGS, *program])
+    run(["scripts/link.sh", f"{made}/libuimg_c.a", f"{made}/lib", machine.tools], env={**os.environ, "CC": "gcc"})
 
 
 def archive(path, top, files, time):
-    """Packs files, pairs of a name and a path or the target of a symbolic link, in a folder top."""
+    """Packs files in a folder top: names, each with a path, bytes, or the target of a symbolic
+    link."""
     with gzip.GzipFile(path, "wb", mtime=time) as packed, tarfile.open(fileobj=packed, mode="w", format=tarfile.USTAR_FORMAT) as tar:
         for name, source in sorted(files.items()):
             entry = tarfile.TarInfo(f"{top}/{name}")
             entry.mtime, entry.mode = time, 0o755 if name.startswith("bin/") or ".so" in name else 0o644
-            if isinstance(source, bytes):
-                entry.size = len(source)
-                tar.addfile(entry, io.BytesIO(source))
-            elif os.path.exists(source):
-                entry.size = os.path.getsize(source)
-                with open(source, "rb") as file:
-                    tar.addfile(entry, file)
-            else:
+            if isinstance(source, Link):
                 entry.type, entry.linkname = tarfile.SYMTYPE, source
                 tar.addfile(entry)
+                continue
+            if isinstance(source, str):
+                with open(source, "rb") as file:
+                    source = file.read()
+            entry.size = len(source)
+            tar.addfile(entry, io.BytesIO(source))
 
 
 def program_files(machine):
-    files = {"bin/uimg": f"{machine.folder}/uimg", "bin/uimg-mkimage": "uimg", "bin/uimg-dumpimage": "uimg"}
+    files = {"bin/uimg": f"{machine.folder}/uimg", "bin/uimg-mkimage": Link("uimg"), "bin/uimg-dumpimage": Link("uimg")}
     files |= {f"share/man/man1/{it}": f"docs/{it}" for it in MANUALS}
     files |= {f"share/{to}": f"completions/{it}" for it, to in COMPLETIONS.items()}
-    return files | {it: it for it in PAPERS}
+    return files | {it: it for it in PAPERS} | {"NOTICE": NOTICE.encode()}
 
 
 def library_files(machine):
     """Returns the files of the library. Its pkg-config file finds them beside itself."""
     with open("library/libuimg.pc.in", encoding="utf-8") as file:
-        text = file.read().replace("@PREFIX@", "${pcfiledir}/../..").replace("@LIBDIR@", "${prefix}/lib").replace("@VERSION@", version())
+        text = file.read()
+    for mark, value in (("PREFIX", "${pcfiledir}/../.."), ("LIBDIR", "${prefix}/lib"), ("VERSION", version())):
+        text = text.replace(f"@{mark}@", value)
     files = {f"lib/{it}": f"{machine.folder}/lib/{it}" for it in ("libuimg.a", "libuimg_block.a", "libuimg.so.0")}
-    files |= {"lib/libuimg.so": "libuimg.so.0", "lib/pkgconfig/libuimg.pc": text.encode()}
+    files |= {"lib/libuimg.so": Link("libuimg.so.0"), "lib/pkgconfig/libuimg.pc": text.encode()}
     files |= {f"include/{it}": f"include/{it}" for it in ("uimg.h", "uimg_block.h")}
     return files | {it: it for it in PAPERS} | {"LIBRARY.md": "docs/LIBRARY.md"}
 
 
 def statements():
-    """Returns a line for each crate: what the prover said of it. A program and the library have
+    """Yields a line for each crate: what the prover said of it. A program and the library have
     one for each machine."""
-    crates, lines = kit.Crates(), []
-    for name in [*crates.below("uimg"), *(it for it in crates.below("uimg_c") if it not in crates.below("uimg"))]:
-        lines.append((name, f"out/{name}.log"))
+    crates = kit.Crates()
+    below = crates.below("uimg")
+    for name in [*below, *(it for it in crates.below("uimg_c") if it not in below)]:
+        with open(f"{crates.by_name[name].folder}/out/statement", encoding="utf-8") as file:
+            yield f"{name}: {file.read().strip()}"
     for machine in (X86, ARM):
-        lines += [(f"{name} for {machine.name}", f"{machine.folder}/{name}.log") for name in ("uimg", "uimg_c")]
-    for name, log in lines:
-        with open(log, encoding="utf-8", errors="replace") as file:
-            yield f"{name}: " + [it for it in file.read().splitlines() if it.startswith("logic=")][-1]
+        for name in ("uimg", "uimg_c"):
+            yield f"{name} for {machine.name}: {prove.statement(log_of(name, machine))}"
 
 
 def packages(machine, time):
     """Makes the Debian packages for a machine, with its static program, in release/."""
-    log = run(["scripts/deb.sh", machine.folder, machine.debian, "release"], env={**os.environ, "SOURCE_DATE_EPOCH": str(time)})
-    with open(f"{machine.folder}/deb.log", "w", encoding="utf-8") as file:
-        file.write(log)
+    words = ["scripts/deb.sh", machine.folder, machine.debian, "release"]
+    run(words, env={**os.environ, "SOURCE_DATE_EPOCH": str(time)})
 
 
 def sums():
-    lines = []
-    for path in sorted(glob.glob("release/*")):
-        with open(path, "rb") as file:
-            lines.append(f"{hashlib.sha256(file.read()).hexdigest()}  {os.path.basename(path)}\n")
-    with open("release/SHA256SUMS", "w", encoding="ascii") as file:
-        file.writelines(lines)
+    with open("release/SHA256SUMS", "w", encoding="ascii") as sums_file:
+        for path in sorted(set(glob.glob("release/*")) - {"release/SHA256SUMS"}):
+            with open(path, "rb") as file:
+                sums_file.write(f"{hashlib.sha256(file.read()).hexdigest()}  {os.path.basename(path)}\n")
 
 
 def prove_below():
@@ -179,26 +190,43 @@ def programs():
         link(machine)
 
 
-def main():
-    if run(["git", "status", "--porcelain"]):
-        fail("a release is made of a commit: commit the changes first")
-    commit, time = run(["git", "log", "-1", "--format=%H %ct"]).split()
+def pack(commit, time):
+    """Packs what was made."""
     shutil.rmtree("release", ignore_errors=True)
     os.makedirs("release")
-    prove_below()
-    programs()
     for machine in (X86, ARM):
         for what, files in (("uimg", program_files(machine)), ("libuimg", library_files(machine))):
-            top = f"{what}-{version()}-{machine.name}"
-            archive(f"release/{top}.tar.gz", top, files, int(time))
-        packages(machine, int(time))
+            top = f"{what}-{version()}-{machine.label}"
+            archive(f"release/{top}.tar.gz", top, files, time)
+        if not machine.cpu:
+            packages(machine, time)
     with open("release/PROVED.txt", "w", encoding="utf-8") as file:
         file.write(f"uimg {version()}, commit {commit}\n{kit.kit_id().strip()}\n\n" + "\n".join(statements()) + "\n")
     sums()
     print("\n".join(sorted(os.listdir("release"))))
 
 
-if __name__ == "__main__":
-    if sys.argv[1:] == ["--programs"]:
+def release():
+    if run(["git", "status", "--porcelain"]):
+        fail("a release is made of a commit: commit the changes first")
+    if run(["dpkg-parsechangelog", "-S", "Version"]).strip() != version():
+        fail("debian/changelog has another version than crates/uimg_requests/src/version.rt")
+    commit, time = run(["git", "log", "-1", "--format=%H %ct"]).split()
+    prove_below()
+    programs()
+    pack(commit, int(time))
+
+
+def main(words):
+    if words not in ([], ["--programs"], ["--compile"]):
+        sys.exit("usage: scripts/release.py [--programs | --compile]")
+    if not words:
+        release()
+        return
+    if words == ["--programs"]:
         prove_below()
-    programs() if sys.argv[1:] else main()
+    programs()
+
+
+if __name__ == "__main__":
+    main(sys.argv[1:])

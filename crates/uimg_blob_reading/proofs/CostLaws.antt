@@ -111,8 +111,8 @@ moves (after o) (last at) q h = absurd (on_stop (sym h))
 moves p (stray at f) q h = absurd (on_stop (sym h))
 
 pick : {X : Type 0} (P : X → Type 0) (c : Bool) (x y : X) → P x → P y → P (if c then x else y)
-pick P true x y left_after right = left_after
-pick P false x y left_after right = right
+pick P true x y left right = left
+pick P false x y left right = right
 
 -- a token stands where it is read
 pub offset_at : (b : Blocks) (at : ℕ) → offset (token_at b at) ≡ at

@@ -48,7 +48,7 @@ pub record Does (token : ReadToken) (s : State) (result : Result State IndexFaul
   -- what the token does in one pass
   pub goes : (p : Phase) (t : Token) → InPhase p s old.entries → IsReadAs s.at t token
       → is_done p t ≡ false → Goes (step p t) (next t) result old.entries new.entries
-  -- a faulty token is refused with its own fault
+  -- memory is refused for a node that begins, at its offset, and for no other token
   pub refuses : (t : Token) → IsReadAs s.at t token → RefusesMemory t result
   -- the next offset is after this one
   pub ahead : (end : ℕ) → Stands end s.at token

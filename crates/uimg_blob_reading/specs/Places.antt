@@ -62,7 +62,7 @@ FindsPlace file found None = is_ok found ≡ false
 abbrev pub is_edge : Token → Bool
 is_edge (begin_node at name) = true
 is_edge (end_node at) = true
-is_edge (prop at property_at) = false
+is_edge (prop at property) = false
 is_edge (nop at) = false
 is_edge (last at) = false
 is_edge (stray at fault) = false
@@ -106,8 +106,7 @@ meeting_cost t = cond (is_prop t) 268 4
 
 -- What is met at an offset, and what that costs.
 pub record MeetsToken (x : Extent) (at : ℕ) (result : Result Met SourceFault) (d e : Device)
-    (h k : Held)
-    : Type 0 where
+    (h k : Held) : Type 0 where
   pub uses : UsesAtMost (meeting_cost (token_at (blocks_of d.bytes x) at)) (is_err result) d e
   pub room : k ≡ h
   pub met : IsTrue d.honest

@@ -28,7 +28,7 @@ pub data Token : Type 0 where
 abbrev pub offset : Token → ℕ
 offset (begin_node at name) = at
 offset (end_node at) = at
-offset (prop at property_at) = at
+offset (prop at property) = at
 offset (nop at) = at
 offset (last at) = at
 offset (stray at fault) = at

@@ -53,9 +53,8 @@ fn child_role(parent: Role, label: Label, had_images: bool, had_configurations: 
 // Returns the role of a node with this label that begins in the innermost node.
 fn role_for<A: Allocator>(room: &Room<A>, state: State, label: Label) -> Role
     requires { IfSome state.current (λ i. i < length room.now.entries) }
-    ensures { (p : Phase) (name : List ℕ) → InPhase p state room.now.entries → label ≡ label_of name
-        →
-        result ≡ role_at (next_level (stack p)) name }
+    ensures { (p : Phase) (name : List ℕ) → InPhase p state room.now.entries →
+        label ≡ label_of name → result ≡ role_at (next_level (stack p)) name }
 {
     match state.current {
         None => Role::Root,
@@ -169,9 +168,8 @@ fn property<A: Allocator>(
 
 // Returns whether the token ends the tree.
 pub(crate) fn is_done<A: Allocator>(room: &Room<A>, state: State, token: ReadToken) -> bool
-    ensures { (p : Phase) (t : Token) → InPhase p state room.now.entries → IsReadAs state.at t token
-        →
-        result ≡ is_done p t }
+    ensures { (p : Phase) (t : Token) → InPhase p state room.now.entries →
+        IsReadAs state.at t token → result ≡ is_done p t }
 {
     match token {
         ReadToken::End => is_after(room, state),

@@ -32,7 +32,8 @@ pub record WritesTreeBetween {X : Type 0} (always : Bool) (align : ℕ) (t : Unr
   -- over honest files of the stored sizes the blob was written, or at a fault a prefix of it
   pub written : IsTrue old.honest → AreKept old.bytes t
       → Written (is_err answer) s u (encode_by align (in_full old.bytes t))
-  -- a file that begins with the blob reads back as the tree
+  -- if files have the stored sizes and all names are good, a file that begins with the blob reads
+  -- back as the tree
   pub reads_back : AreKept old.bytes t → AreNamed t → ReadsBack align (in_full old.bytes t)
 
 abbrev pub WritesTree : {F X : Type 0} → Bool → (F → FileMap) → ℕ → Unread → Result X TreeFault

@@ -64,7 +64,7 @@ outcome_by action image =
     outcome_of Profile (record { action = action; form = form.Guess }) image
 
 -- A payload has the end of an extraction's outcome, and the span of the bytes in the image.
-pub record Extracts (o : Outcome Fault) (image : List ℕ) (payload : UimgPayload) : Type 0 where
+pub record HasBytes (o : Outcome Fault) (image : List ℕ) (payload : UimgPayload) : Type 0 where
   pub code : code_of_end o.end ≡ Some
       (record { status = payload.status; fault = payload.fault; place = payload.place })
   -- exactly the bytes that an extraction writes

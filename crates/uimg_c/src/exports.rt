@@ -12,7 +12,7 @@ ghost use Rattle.uimg_requests.specs.declared.command.Form.TheVariants as form;
 ghost use Rattle.uimg_checks.specs.Counting.{count_of};
 ghost use Rattle.uimg_engine.specs.Headline.{is_fit};
 ghost use Rattle.uimg_fit_checking.specs.Named.{name_at, payload_named};
-ghost use Rattle.uimg_c.specs.Answers.{ReportsCheck, ReportsCount, Extracts, FindsNamed, Located, ReportsOn, no_report, outcome_by, table_most};
+ghost use Rattle.uimg_c.specs.Answers.{ReportsCheck, ReportsCount, HasBytes, FindsNamed, Located, ReportsOn, no_report, outcome_by, table_most};
 
 use crate::checks::check;
 use crate::counts::payload_count;
@@ -81,7 +81,7 @@ pub extern "C" fn uimg_payload_at(
     position: u32,
     payload: &mut UimgPayload,
 ) -> u32
-    ensures located { Located (Extracts (outcome_by (action.Extract position) image.now) image.now)
+    ensures located { Located (HasBytes (outcome_by (action.Extract position) image.now) image.now)
         form.Guess image.now result payload.new }
     ensures legacy { is_fit form.Guess image.now ≡ false → result ≢ 3 }
 {

@@ -5,7 +5,7 @@ ghost use Rattle.uimg_requests.specs.declared.command.Action.TheVariants as acti
 ghost use Rattle.uimg_requests.specs.declared.command.Form.TheVariants as form;
 ghost use Rattle.uimg_engine.specs.Headline.{is_fit};
 ghost use Rattle.uimg_fit_checking.specs.Named.{name_at, payload_named};
-ghost use Rattle.uimg_c.specs.Answers.{Extracts, FindsNamed, Located, outcome_by};
+ghost use Rattle.uimg_c.specs.Answers.{HasBytes, FindsNamed, Located, outcome_by};
 ghost use Rattle.uimg_c.specs.Codes.{code_of_fault};
 
 use crate::codes::{DONE, NO_MEMORY, fault_code};
@@ -70,7 +70,7 @@ pub(crate) fn payload_at(
     position: u32,
     payload: &mut UimgPayload,
 ) -> u32
-    ensures located { Located (Extracts (outcome_by (action.Extract position) image.now) image.now)
+    ensures located { Located (HasBytes (outcome_by (action.Extract position) image.now) image.now)
         form.Guess image.now result payload.new }
     ensures legacy { is_fit form.Guess image.now ≡ false → result ≢ 3 }
 {

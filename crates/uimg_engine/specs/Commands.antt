@@ -191,23 +191,27 @@ pub record ListsLastBetween {X : Type 0} (result : Result X Fault) (s t : Sink) 
 abbrev pub ListsLast : {X : Type 0} → Result X Fault → Lent Sink → Type 0
 ListsLast result out = ListsLastBetween result out.entry.now out.exit.now
 
--- What making does at any exit, over files, a shelf and what it keeps that are steady or not: their
--- reads, and keeping, never fail.
+-- What making does at any exit. Files, shelf and what is kept are steady if their reads, and the
+-- keeping, never fail.
 pub record MakesBetween {K : Type 0} (device : K → Device) (naming : Naming) (command : MakeCommand)
     (files_steady shelf_steady kept_steady : Bool) (result : Result K Fault)
     (before after : FileMap) (old new : Held) (s t : Sink) : Type 0 where
+  -- which opens were refused
   pub files : OpensToBuild command result before after
   pub output : ListsLastBetween result s t
-  -- `Read` and I6 are never returned
+  -- over steady, honest files and a steady kept source `Read` and I6 are never returned; of parts
+  -- the files need not be honest
   pub reads : IsTrue files_steady → IsTrue kept_steady → KeepsSizes command before
       → is_unread result ≡ false
-  -- F10 is never returned
+  -- over steady, honest files F10 is never returned
   pub payloads : IsTrue files_steady → IsTrue before.honest → is_lost_payload result ≡ false
-  -- `Keep` is never returned
+  -- a steady shelf is always kept
   pub keeps : IsTrue shelf_steady → is_keep result ≡ false
+  -- exactly the listing of an honest kept source was appended
   pub listed : IfOk result (ListsKeptBetween device naming command s t)
   -- no read of what was kept failed
   pub kept_reads : IfOk result (λ kept. (device kept).failures ≡ 0)
+  -- memory was taken for the listing alone
   pub room : LeavesRoomBetween device before.honest command result old new
 
 abbrev pub Makes : {K F : Type 0} → (K → Device) → (F → FileMap) → Naming → MakeCommand

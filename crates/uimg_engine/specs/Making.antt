@@ -47,8 +47,7 @@ pub record RefusesParts (options : Options) (files : List ℕ → Option (List �
 
 -- The names have parts that an image can be built from.
 pub record AcceptsParts (options : Options) (files : List ℕ → Option (List ℕ))
-    (names : List (List ℕ))
-    : Type 0 where
+    (names : List (List ℕ)) : Type 0 where
   pub parts : List (List ℕ)
   pub have : HaveParts files names parts
   pub accepted : data_to_build options.kind parts ≡ Ok (data_of (has_parts options.kind) parts)

@@ -4,7 +4,7 @@ use Rattle.uimg_fit_base.specs.declared.fault.FitFault.{FitFault}
 use Rattle.uimg_fit_base.specs.declared.fault.FitFault.TheVariants.{OutOfMemory}
 
 -- A fact holds of the result, or memory was refused.
-pub record MakesUnlessMemory {X : Type 0} (result : Result X FitFault) (Made : X
-    → Type 0) : Type 0 where
+pub record MakesUnlessMemory {X : Type 0} (result : Result X FitFault) (Made : X → Type 0)
+    : Type 0 where
   pub made : IfOk result Made
   pub memory : IsOkUnless result OutOfMemory

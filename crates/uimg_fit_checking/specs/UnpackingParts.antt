@@ -77,8 +77,7 @@ pub record IsPayloadOf (image size : ℕ) (found : Requested) : Type 0 where
 
 -- The image is requested, and this is its payload.
 pub record FindsPayload (only : Option (List ℕ)) (file : List ℕ) (image : NodeOf Spot)
-    (found : Requested)
-    : Type 0 where
+    (found : Requested) : Type 0 where
   pub asked : is_asked only image.name ≡ true
   pub named : as_bytes found.name ≡ image.name
   pub is : payload file image ≡ Ok (in_span file found.span)

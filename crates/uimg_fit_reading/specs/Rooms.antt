@@ -95,8 +95,7 @@ KeepsAhead work outcome device source out = IsTrue (device source.entry.now).hon
 -- A call over bytes in memory: no read or write fails, and it takes memory for the image's nodes
 -- alone.
 pub record ReadsMemoryBetween {X : Type 0} (file : List ℕ) (result : Result X Fault)
-    (old new : Held)
-    : Type 0 where
+    (old new : Held) : Type 0 where
   -- `OutOfMemory` of the blob is returned exactly if the refusals of the room rose
   pub refused : RisesIf (is_out_of_memory result) old.refused new.refused
   -- 8192 bytes, and 128 for each node that was met

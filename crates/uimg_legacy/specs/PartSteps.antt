@@ -62,10 +62,9 @@ FeedsParts sure holds text result device parts sum = FeedsBetween sure holds tex
 
 -- A step that writes bytes of the parts and refuses nothing. If the devices are `sure`, it writes
 -- `text` of them, or a prefix of that if a device failed.
-pub record PutsPartsBetween {X P : Type 0} (sure : List Device → Type 0) (text : List (List ℕ)
-    → List ℕ)
-    (result : Result X Fault) (device : P → Device) (old new : List P) (from to : Sink)
-    : Type 0 where
+pub record PutsPartsBetween {X P : Type 0} (sure : List Device → Type 0)
+    (text : List (List ℕ) → List ℕ) (result : Result X Fault) (device : P → Device)
+    (old new : List P) (from to : Sink) : Type 0 where
   pub uses : UsesAll (is_read result) (map device old) (map device new)
   pub faults : RisesIf (is_put result) from.faults to.faults
   pub accepted : is_refused result ≡ false

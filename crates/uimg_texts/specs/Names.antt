@@ -11,7 +11,7 @@ pub record NameRow : Type 0 where
   pub printed : List ℕ
 
 abbrev pub row : List ℕ → ℕ → List ℕ → NameRow
-row short code name_printed = record { short = short; code = code; printed = name_printed }
+row short code printed = record { short = short; code = code; printed = printed }
 
 -- the code in the first row with this name
 abbrev pub code_of : List NameRow → List ℕ → Option ℕ
