@@ -34,7 +34,7 @@ use Rattle.uimg_fit_checking.specs.declared.checking.checked_payloads.Checked.{C
 use Rattle.uimg_fit_checking.specs.declared.checking.checked_payloads.Checked.TheVariants.{On, Ended}
 use Rattle.uimg_fit_checking.specs.declared.wrong_hashes.WrongHash.{WrongHash}
 use Rattle.uimg_fit_reading.specs.Allowances.{node_allowance, allowance}
-use Rattle.uimg_fit_checking.specs.Checks.{NamedFinding, check_work, named_finding, wrong_in, is_weak, or_weak, found_of, image_told, or_later, first_told, images_told, some_told, check_of, or_right}
+use Rattle.uimg_fit_checking.specs.Checks.{NamedFinding, check_work, named_finding, wrong_in, is_weak, or_weak, found_of, image_finding, or_later, first_told, images_finding, some_told, check_of, or_right}
 use Rattle.uimg_fit_checking.specs.CheckParts.{FindsWrongBetween, IsChecked, TellsChecked, left_of, ChecksPayloadBetween, ChecksImageBetween, ChecksImagesBetween}
 use Rattle.uimg_fit_reading.specs.HashReports.{AllCovered}
 use Rattle.uimg_fit_reading.specs.Nodes.{AreFrom, HashesAt, FirstHash}
@@ -203,11 +203,11 @@ payload_on file need left size image message asked middle new set rest is few pa
 
 -- an image whose payload is there
 checked_is : (file : List ℕ) (need : Option Algo) (left : ℕ) (image : NodeOf Spot) (message : List ℕ) (p : Result (List ℕ) FitFault) (step : Checked) → p ≡ Ok message
-    → IsChecked file left (hashed_size image (Ok message)) (found_of need left image message) step → TellsChecked file left (hashed_size image p) (image_told need left image p) (Ok step)
+    → IsChecked file left (hashed_size image (Ok message)) (found_of need left image message) step → TellsChecked file left (hashed_size image p) (image_finding need left image p) (Ok step)
 checked_is file need left image message p (On rest) is checked =
-    (ap (image_told need left image) is ∙ ap (λ (o : Option NamedFinding). Ok o) checked.0, omega (arith, checked.1, ap (hashed_size image) is))
+    (ap (image_finding need left image) is ∙ ap (λ (o : Option NamedFinding). Ok o) checked.0, omega (arith, checked.1, ap (hashed_size image) is))
 checked_is file need left image message p (Ended found) is checked =
-    ap (image_told need left image) is ∙ ap (λ (o : Option NamedFinding). Ok o) checked
+    ap (image_finding need left image) is ∙ ap (λ (o : Option NamedFinding). Ok o) checked
 
 pub image_checked : (file : List ℕ) (need : Option Algo) (left : ℕ) (image : NodeOf Spot) (message : List ℕ) (asked middle new : ℕ) (step : Checked) → payload file image ≡ Ok message → middle ≤ asked + 12
     → ChecksPayloadBetween file need left image message middle new (Ok step) → ChecksImageBetween file need left image asked new (Ok step)
@@ -225,9 +225,9 @@ image_cut file need left image message asked middle new fault paid c = record {
 }
 
 -- one whose payload is not there
-lacks_payload : (file : List ℕ) (need : Option Algo) (left size : ℕ) (image : NodeOf Spot) (fault : Fault) → TellsPlace file image (Err fault) → TellsChecked file left size (image_told need left image (payload file image)) (Err fault)
+lacks_payload : (file : List ℕ) (need : Option Algo) (left size : ℕ) (image : NodeOf Spot) (fault : Fault) → TellsPlace file image (Err fault) → TellsChecked file left size (image_finding need left image (payload file image)) (Err fault)
 lacks_payload file need left size image (of.Blob fault at) tells = absurd tells
-lacks_payload file need left size image (of.Fit fault) tells = ap (image_told need left image) tells
+lacks_payload file need left size image (of.Fit fault) tells = ap (image_finding need left image) tells
 lacks_payload file need left size image of.Read tells = tt
 lacks_payload file need left size image of.Put tells = tt
 
@@ -247,7 +247,7 @@ pub record LeftChecked (t : Siblings) (file : List ℕ) (need : Option Algo) (fo
 
 -- an image, and those after it
 told_more : (need : Option Algo) (file : List ℕ) (left : ℕ) (image : NodeOf Spot) (more : List (NodeOf Spot))
-    → first_told need file left (image ∷ more) ≡ or_later (image_told need left image (payload file image)) (first_told need file (left - hashed_size image (payload file image)) more)
+    → first_told need file left (image ∷ more) ≡ or_later (image_finding need left image (payload file image)) (first_told need file (left - hashed_size image (payload file image)) more)
 unfolding first_told
 told_more need file left image more = refl
 
@@ -290,7 +290,7 @@ pub images_cut : (t : Siblings) (file : List ℕ) (need : Option Algo) (found : 
     → (image : NodeOf Spot) (more : List (NodeOf Spot)) → k.rest ≡ image ∷ more → (later : ℕ) (fault : Fault) → ChecksImageBetween file need left image new later (Err fault)
     → ChecksImagesBetween file need found asked later (Err fault)
 images_cut t file need found asked new left next k image more are later fault c = record {
-  told = fault_gives file left (hashed_size image (payload file image)) (image_told need left image (payload file image)) _
+  told = fault_gives file left (hashed_size image (payload file image)) (image_finding need left image (payload file image)) _
       (first_told need file (left - hashed_size image (payload file image)) more) fault (k.same ∙ ap (first_told need file left) are ∙ told_more need file left image more) c.told;
   paid = omega (arith, k.paid, c.paid, ap (sum_by node_allowance) are, sum_by-cons node_allowance image more);
 }
@@ -329,19 +329,19 @@ check_lacks file t need found first is has from lacks = check_is file t need fou
 
 -- an image, or no needed strength
 has_image : (file : List ℕ) (t : Siblings) (need : Option Algo) (found : List (NodeOf Spot)) (first : Option ℕ) → AreFrom t in_images first found → (is_some need && is_none first) ≡ false
-    → some_told need file found ≡ images_told need file found
+    → some_told need file found ≡ images_finding need file found
 has_image file t None found first from some = refl
 has_image file t (Some need) found None from some = absurd (true_false some)
 has_image file t (Some need) found (Some i) from some =
     let f = front t in_images i found from in
-    ap (some_told (Some need) file) f.are ∙ sym (ap (images_told (Some need) file) f.are)
+    ap (some_told (Some need) file) f.are ∙ sym (ap (images_finding (Some need) file) f.are)
 
 -- What is found of the images is found of the file.
 pub check_has : (file : List ℕ) (t : Siblings) (need : Option Algo) (found : List (NodeOf Spot)) (first : Option ℕ) → tree file ≡ Ok t → images (spots t) ≡ Some found → AreFrom t in_images first found
-    → (is_some need && is_none first) ≡ false → check_of need file ≡ images_told need file found
+    → (is_some need && is_none first) ≡ false → check_of need file ≡ images_finding need file found
 check_has file t need found first is has from some = check_is file t need found is has ∙ has_image file t need found first from some
 
-pub check_cut : (file : List ℕ) (need : Option Algo) (found : List (NodeOf Spot)) (fault : Fault) → check_of need file ≡ images_told need file found
+pub check_cut : (file : List ℕ) (need : Option Algo) (found : List (NodeOf Spot)) (fault : Fault) → check_of need file ≡ images_finding need file found
     → Gives (option_map (named_finding file)) (let r : Result (Option (Finding Span)) Fault = Err fault in r) (first_told need file (length file) found)
     → Gives (named_finding file) (let r : Result (Finding Span) Fault = Err fault in r) (check_of need file)
 check_cut file need found (of.Blob fault at) is gives = λ m. is ∙ ap (λ (r : Result (Option NamedFinding) Fault). r >>= (λ o. Ok (or_right need found o))) (gives m)
@@ -349,6 +349,6 @@ check_cut file need found (of.Fit fault) is gives = is ∙ ap (λ (r : Result (O
 check_cut file need found of.Read is gives = tt
 check_cut file need found of.Put is gives = tt
 
-pub check_ends : (file : List ℕ) (need : Option Algo) (found : List (NodeOf Spot)) (o : Option NamedFinding) → check_of need file ≡ images_told need file found → first_told need file (length file) found ≡ Ok o
+pub check_ends : (file : List ℕ) (need : Option Algo) (found : List (NodeOf Spot)) (o : Option NamedFinding) → check_of need file ≡ images_finding need file found → first_told need file (length file) found ≡ Ok o
     → check_of need file ≡ Ok (or_right need found o)
 check_ends file need found o is gives = is ∙ ap (λ (r : Result (Option NamedFinding) Fault). r >>= (λ o. Ok (or_right need found o))) gives

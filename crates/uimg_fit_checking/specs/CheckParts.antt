@@ -26,7 +26,7 @@ use Rattle.uimg_fit_reading.specs.Allowances.{node_allowance}
 use Rattle.uimg_fit_reading.specs.Work.{hashed_size}
 use Rattle.uimg_fit_checking.specs.Checks.{NamedFinding, named_finding, EndsInside, wrong_in}
 use Rattle.uimg_fit_checking.specs.Checks.{found_of}
-use Rattle.uimg_fit_checking.specs.Checks.{image_told, first_told}
+use Rattle.uimg_fit_checking.specs.Checks.{image_finding, first_told}
 
 -- the finding about an image with a hash node that is not right
 abbrev pub wrong_told : List ℕ → List ℕ → WrongHash → NamedFinding
@@ -92,7 +92,7 @@ ChecksPayload need left found payload result device source =
 pub record ChecksImageBetween (file : List ℕ) (need : Option Algo) (left : ℕ) (image : NodeOf Spot)
     (asked new : ℕ) (result : Result Checked Fault) : Type 0 where
   pub told : TellsChecked file left (hashed_size image (payload file image))
-      (image_told need left image (payload file image)) result
+      (image_finding need left image (payload file image)) result
   pub paid : new + left_of result ≤ asked + left + node_allowance image
 
 abbrev pub ChecksImage : {S : Type 0} → Option Algo → ℕ → NodeOf Spot → Result Checked Fault

@@ -74,10 +74,10 @@ found_of need left image message =
     else or_weak (wrong_in image.name message (hashes image)) need image
 
 -- the same, or the fault of the payload
-abbrev pub image_told : Option Algo → ℕ → NodeOf Spot → Result (List ℕ) FitFault
+abbrev pub image_finding : Option Algo → ℕ → NodeOf Spot → Result (List ℕ) FitFault
     → Result (Option NamedFinding) Fault
-image_told need left image (Ok message) = Ok (found_of need left image message)
-image_told need left image (Err fault) = Err (of.Fit fault)
+image_finding need left image (Ok message) = Ok (found_of need left image message)
+image_finding need left image (Err fault) = Err (of.Fit fault)
 
 -- the finding about an image, or else that about the others
 abbrev pub or_later : Result (Option NamedFinding) Fault → Result (Option NamedFinding) Fault
@@ -91,7 +91,7 @@ unfoldable pub first_told : Option Algo → List ℕ → ℕ → List (NodeOf Sp
     → Result (Option NamedFinding) Fault
 first_told need file left [] = Ok None
 first_told need file left (image ∷ more) =
-    or_later (image_told need left image (payload file image))
+    or_later (image_finding need left image (payload file image))
     (first_told need file (left - hashed_size image (payload file image)) more)
 
 -- how many hash nodes these images have
@@ -126,16 +126,16 @@ or_right need found (Some told) = told
 or_right need found None = all_right need found
 
 -- the finding about images; of their payloads as many bytes may be read as the file has
-abbrev pub images_told : Option Algo → List ℕ → List (NodeOf Spot) → Result NamedFinding Fault
-images_told need file found = do
+abbrev pub images_finding : Option Algo → List ℕ → List (NodeOf Spot) → Result NamedFinding Fault
+images_finding need file found = do
   first ← first_told need file (length file) found
   Ok (or_right need found first)
 
 -- a needed strength requires an image
 abbrev pub some_told : Option Algo → List ℕ → List (NodeOf Spot) → Result NamedFinding Fault
-some_told None file found = images_told None file found
+some_told None file found = images_finding None file found
 some_told (Some need) file [] = Ok NoImage
-some_told (Some need) file (image ∷ more) = images_told (Some need) file (image ∷ more)
+some_told (Some need) file (image ∷ more) = images_finding (Some need) file (image ∷ more)
 
 -- the finding about a file, or its first fault
 abbrev pub check_of : Option Algo → List ℕ → Result NamedFinding Fault

@@ -94,7 +94,7 @@ KeepsAhead work outcome device source out = IsTrue (device source.entry.now).hon
 
 -- A call over bytes in memory: no read or write fails, and it takes memory for the image's nodes
 -- alone.
-pub record ReadsMemoryBetween {X : Type 0} (file : List ℕ) (result : Result X Fault)
+pub record ReadsInMemoryBetween {X : Type 0} (file : List ℕ) (result : Result X Fault)
     (old new : Held) : Type 0 where
   -- `OutOfMemory` of the blob is returned exactly if the refusals of the room rose
   pub refused : RisesIf (is_out_of_memory result) old.refused new.refused
@@ -105,4 +105,4 @@ pub record ReadsMemoryBetween {X : Type 0} (file : List ℕ) (result : Result X 
   pub no_making : is_of_making result ≡ false
 
 abbrev pub ReadsInMemory : {X : Type 0} → List ℕ → Result X Fault → Lent Held → Type 0
-ReadsInMemory file result room = ReadsMemoryBetween file result room.entry.now room.exit.now
+ReadsInMemory file result room = ReadsInMemoryBetween file result room.entry.now room.exit.now

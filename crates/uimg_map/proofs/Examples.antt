@@ -7,7 +7,7 @@ use Rattle.uimg_fit_checking.specs.Survey.{ImageSaid}
 use Rattle.uimg_legacy.specs.declared.fault.LegacyFault.TheVariants.{TooShort, BadHeaderCrc, NoTableEnd, PartOutside}
 use Rattle.uimg_legacy.specs.Header.{head}
 use Rattle.uimg_map.specs.declared.fault.MapFault.TheVariants.{Fit}
-use Rattle.uimg_map.specs.FitContents.{is_value, image_found, images_found}
+use Rattle.uimg_map.specs.FitContents.{is_value, image_told, images_told}
 use Rattle.uimg_map.specs.Found.{the_header, payload_of, embedded_of, the_table, part_at, the_padding, fault_of, refused_behind}
 use Rattle.uimg_map.specs.LegacyContents.{legacy_fault, refused_header, endless_told, parts_told, legacy_contents}
 use Rattle.uimg_map.specs.Reservations.{end_among, block_end}
@@ -37,14 +37,14 @@ bare : ImageSaid
 bare = record inner { payload = record { embedded = None; size = None; offset = None; position = None } }
 
 -- the first fault counts: a payload that ends behind the file, and not that the next image has none
-payloads : images_found 103 97 (inner ∷ outer ∷ bare ∷ []) ≡ record {
+payloads : images_told 103 97 (inner ∷ outer ∷ bare ∷ []) ≡ record {
   found = record { what = embedded_of (codes "a"); place = 90; end = 93 } ∷ record { what = payload_of (codes "b"); place = 101; end = 104 } ∷ [];
   fault = Some (Fit (of.Fit DataOutside));
 }
 unfolding inner outer bare is_value refused_behind number
 payloads = refl
 
-no_payload : image_found 103 97 bare ≡ record { found = []; fault = Some (Fit (of.Fit NoData)) }
+no_payload : image_told 103 97 bare ≡ record { found = []; fault = Some (Fit (of.Fit NoData)) }
 unfolding inner bare
 no_payload = refl
 

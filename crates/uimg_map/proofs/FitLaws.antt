@@ -14,7 +14,7 @@ use Rattle.uimg_map.specs.declared.contents.Contents.{Contents}
 use Rattle.uimg_map.specs.declared.fault.MapFault.{MapFault}
 use Rattle.uimg_map.specs.Contents.{GrowsBy, Gathers}
 use Rattle.uimg_map.specs.Faults.{is_read, stops}
-use Rattle.uimg_map.specs.FitContents.{header_and_blocks, blocks_told, image_found, images_found, survey_told}
+use Rattle.uimg_map.specs.FitContents.{header_and_blocks, blocks_told, image_told, images_told, survey_told}
 use Rattle.uimg_map.specs.Work.{image_count}
 use Rattle.uimg_map.specs.declared.fdt_header.FdtHeader.{FdtHeader}
 use Rattle.uimg_map.specs.FdtHeader.{fdt_header_of}
@@ -23,13 +23,13 @@ use Rattle.uimg_map.proofs.ContentsLaws.{grows_none, grows_then, reads_then, rea
 use Rattle.uimg_map.proofs.ReservationsLaws.{end_is}
 
 module _ (file : List ℕ) (size totalsize : ℕ) (images : List ImageFacts) (i : ℕ) where
-  pub image_then : (image : ImageFacts) (a b c : Contents) → i < length images → image ≡ get_or images i image → GrowsBy file (image_found size totalsize (read_image file image)) a b → GrowsBy file (images_found size totalsize (map (read_image file) (drop (i + 1) images))) b c → GrowsBy file (images_found size totalsize (map (read_image file) (drop i images))) a c
+  pub image_then : (image : ImageFacts) (a b c : Contents) → i < length images → image ≡ get_or images i image → GrowsBy file (image_told size totalsize (read_image file image)) a b → GrowsBy file (images_told size totalsize (map (read_image file) (drop (i + 1) images))) b c → GrowsBy file (images_told size totalsize (map (read_image file) (drop i images))) a c
   image_then image a b c there is p q =
       let from : drop i images ≡ image ∷ drop (i + 1) images = drop_more images i image there ∙ ap (λ (x : ImageFacts). x ∷ drop (i + 1) images) (sym is) in
-      subst (λ (xs : List ImageFacts). GrowsBy file (images_found size totalsize (map (read_image file) xs)) a c) (sym from) (grows_then p q)
+      subst (λ (xs : List ImageFacts). GrowsBy file (images_told size totalsize (map (read_image file) xs)) a c) (sym from) (grows_then p q)
 
-  pub images_end : (a : Contents) → length images ≤ i → GrowsBy file (images_found size totalsize (map (read_image file) (drop i images))) a a
-  images_end a h = subst (λ (xs : List ImageFacts). GrowsBy file (images_found size totalsize (map (read_image file) xs)) a a) (sym (drop_of_length-le images h)) (grows_none file a)
+  pub images_end : (a : Contents) → length images ≤ i → GrowsBy file (images_told size totalsize (map (read_image file) (drop i images))) a a
+  images_end a h = subst (λ (xs : List ImageFacts). GrowsBy file (images_told size totalsize (map (read_image file) xs)) a a) (sym (drop_of_length-le images h)) (grows_none file a)
 
 -- why there are no payloads
 module _ {X : Type 0} {r : Result X MapFault} {d e : Device} {a b : Contents} where

@@ -54,17 +54,17 @@ payload_told size image (Ok span) = found_then
 payload_told size image (Err fault) = refused (Fit (of.Fit fault))
 
 -- the payloads of images, in a file of `size` bytes whose blob has this total size
-abbrev pub image_found : ℕ → ℕ → ImageSaid → Told
-image_found size totalsize image = payload_told size image (place_said totalsize image.payload)
+abbrev pub image_told : ℕ → ℕ → ImageSaid → Told
+image_told size totalsize image = payload_told size image (place_said totalsize image.payload)
 
-abbrev pub images_found : ℕ → ℕ → List ImageSaid → Told
-images_found size totalsize [] = nothing
-images_found size totalsize (image ∷ images) =
-    found_then (image_found size totalsize image) (images_found size totalsize images)
+abbrev pub images_told : ℕ → ℕ → List ImageSaid → Told
+images_told size totalsize [] = nothing
+images_told size totalsize (image ∷ images) =
+    found_then (image_told size totalsize image) (images_told size totalsize images)
 
 -- the payloads of a file with these facts, or its fault: a fault of the blob has an offset
 abbrev pub survey_told : ℕ → Result Said Fault → Told
-survey_told size (Ok said) = images_found size said.totalsize said.images
+survey_told size (Ok said) = images_told size said.totalsize said.images
 survey_told size (Err (of.Blob fault at)) = refused_at at (Fit (of.Blob fault at))
 survey_told size (Err fault) = refused (Fit fault)
 

@@ -8,7 +8,7 @@ ghost use Rattle.uimg_fit_checking.specs.declared.surveying.facts.Survey.{Survey
 ghost use Rattle.uimg_fit_checking.specs.SurveyParts.{ImageInside, SurveyInside, is_unread, Surveys};
 ghost use Rattle.uimg_map.specs.Contents.{GrowsBy, AddsFound, Gathers};
 ghost use Rattle.uimg_map.specs.Faults.{is_read, stops};
-ghost use Rattle.uimg_map.specs.FitContents.{blocks_told, is_value, what_payload, payload_told, image_found, images_found, survey_told, fit_contents};
+ghost use Rattle.uimg_map.specs.FitContents.{blocks_told, is_value, what_payload, payload_told, image_told, images_told, survey_told, fit_contents};
 ghost use Rattle.uimg_map.specs.Found.{read_label};
 ghost use Rattle.uimg_map.specs.FdtHeader.{fdt_header_of};
 ghost use Rattle.uimg_map.specs.Work.{image_count, fit_work};
@@ -130,7 +130,7 @@ fn add_payloads<S: Source>(
     requires survey { SurveyInside (length (S.device source.old).bytes) survey.now }
     requires size { contents.old.size ≡ length (S.device source.old).bytes }
     ensures { Gathers (λ _. 12 * length survey.now.images.items)
-        (λ file. images_found (length file) survey.now.totalsize (map (read_image file) survey.now.images.items))
+        (λ file. images_told (length file) survey.now.totalsize (map (read_image file) survey.now.images.items))
         result (S.device source.old) (S.device source.new) contents.old contents.new }
 {
     for image in &survey.images {
@@ -149,7 +149,7 @@ fn add_image<S: Source>(
     requires image { ImageInside totalsize image.now }
     requires blob { totalsize ≤ length (S.device source.old).bytes }
     requires size { contents.old.size ≡ length (S.device source.old).bytes }
-    ensures { Gathers (λ _. 12) (λ file. image_found (length file) totalsize (read_image file image.now))
+    ensures { Gathers (λ _. 12) (λ file. image_told (length file) totalsize (read_image file image.now))
         result (S.device source.old) (S.device source.new) contents.old contents.new }
 {
     match find_payload(source, totalsize, &image.payload)? {

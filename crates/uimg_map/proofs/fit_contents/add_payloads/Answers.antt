@@ -1,7 +1,7 @@
 use Rattle.std.proofs.Common.{rules, ◌≤◌, List, ℕ, length, IsTrue, sym, subst, arith}
 use Rattle.uimg_fit_checking.specs.Survey.{read_image}
 use Rattle.uimg_map.specs.Contents.{GrowsBy}
-use Rattle.uimg_map.specs.FitContents.{image_found}
+use Rattle.uimg_map.specs.FitContents.{image_told}
 use Rattle.uimg_map.proofs.FitLaws.{image_then, images_end}
 use Rattle.uimg_map.proofs.fit_contents.add_payloads.Goals as goal
 
@@ -24,8 +24,8 @@ loop-image-preserved g c =
       size = search rules;
       left = λ h all more.
           let there : IsTrue (device c.loop-image.source).honest = subst IsTrue (sym same.honest) h in
-          let this : GrowsBy file (image_found (length file) totalsize (read_image file image)) c.loop-image.contents c.add_image.new.contents =
-          subst (λ (bytes : List ℕ). GrowsBy bytes (image_found (length bytes) totalsize (read_image bytes image)) c.loop-image.contents c.add_image.new.contents) same.bytes (c.in_ok-add_image.ensures.grows there) in
+          let this : GrowsBy file (image_told (length file) totalsize (read_image file image)) c.loop-image.contents c.add_image.new.contents =
+          subst (λ (bytes : List ℕ). GrowsBy bytes (image_told (length bytes) totalsize (read_image bytes image)) c.loop-image.contents c.add_image.new.contents) same.bytes (c.in_ok-add_image.ensures.grows there) in
           c.loop-image.invariant.left h all (image_then file (length file) totalsize images c.loop-image.image-index image _ _ _ (search rules) (search rules) this more);
     }
 
