@@ -17,8 +17,8 @@ pub record AlgoRow : Type 0 where
   pub size : ℕ
   pub digest : List ℕ → List ℕ
 
-abbrev row : ℕ → List ℕ → ℕ → (List ℕ → List ℕ) → AlgoRow
-row number name size digest =
+abbrev algo_row : ℕ → List ℕ → ℕ → (List ℕ → List ℕ) → AlgoRow
+algo_row number name size digest =
     record { number = number; name = name; size = size; digest = digest }
 
 -- the algorithms, from the weakest to the strongest
@@ -28,12 +28,12 @@ all_algos = Crc32 ∷ Md5 ∷ Sha1 ∷ Sha256 ∷ Sha384 ∷ Sha512 ∷ []
 -- The names are those in the hash nodes of a FIT image and in U-Boot's hash.c. The digest of CRC-32
 -- is the number in four bytes, big-endian (RFC 1321; FIPS 180-4, sections 6.1, 6.2, 6.4 and 6.5).
 abbrev pub row_of : Algo → AlgoRow
-row_of Crc32 = row 0 (codes "crc32") 4 (λ message. to_be_bytes w32 (crc message))
-row_of Md5 = row 1 (codes "md5") 16 md5
-row_of Sha1 = row 2 (codes "sha1") 20 sha1
-row_of Sha256 = row 3 (codes "sha256") 32 sha256
-row_of Sha384 = row 4 (codes "sha384") 48 sha384
-row_of Sha512 = row 5 (codes "sha512") 64 sha512
+row_of Crc32 = algo_row 0 (codes "crc32") 4 (λ message. to_be_bytes w32 (crc message))
+row_of Md5 = algo_row 1 (codes "md5") 16 md5
+row_of Sha1 = algo_row 2 (codes "sha1") 20 sha1
+row_of Sha256 = algo_row 3 (codes "sha256") 32 sha256
+row_of Sha384 = algo_row 4 (codes "sha384") 48 sha384
+row_of Sha512 = algo_row 5 (codes "sha512") 64 sha512
 
 -- the number of an algorithm in their order, from 0
 abbrev pub number : Algo → ℕ
