@@ -1,10 +1,11 @@
--- What a window gives.
+-- What is given of what was read ahead.
 use Rattle.std.proofs.Common.{◌≡◌, ◌≤◌, ◌-◌, ◌+◌, ℕ, List, length, take, drop, Option, Some, None, ap, sym, ◌∙◌, arith}
 use Rattle.std.proofs.lemmas.List.{drop-take, take-take, drop-drop}
 use Rattle.uimg_texts.specs.Slices.{slice}
+use Rattle.uimg_base.specs.declared.piece.Piece.{Piece}
 use Rattle.uimg_base.specs.declared.windows.Window.{Window}
 use Rattle.uimg_base.specs.Streams.{Stream, HoldsFrom}
-use Rattle.uimg_base.specs.Ahead.{IsAhead}
+use Rattle.uimg_base.specs.Ahead.{IsAhead, IsPieceAhead}
 
 -- a part of the front of a list
 of_front : (xs : List ℕ) (c start len : ℕ) → start + len ≤ c → slice xs start len ≡ slice (take c xs) start len
@@ -13,13 +14,21 @@ of_front xs c start len within =
     ∙ ap (take len) (sym (drop-take start (c - start) xs))
     ∙ ap (λ k. take len (drop start (take k xs))) (omega (arith, within))
 
-window_gives : (bytes file : List ℕ) (base c start len : ℕ) → start + len ≤ c → take c bytes ≡ slice file base c → slice bytes start len ≡ slice file (base + start) len
-window_gives bytes file base c start len within is =
-    of_front bytes c start len within ∙ ap (λ xs. slice xs start len) is ∙ sym (of_front (drop base file) c start len within)
-    ∙ ap (take len) (drop-drop start base file)
+-- a part of a part of a file
+of_part : (file : List ℕ) (base c start len : ℕ) → start + len ≤ c → slice (slice file base c) start len ≡ slice file (base + start) len
+of_part file base c start len within =
+    sym (of_front (drop base file) c start len within) ∙ ap (take len) (drop-drop start base file)
 
 -- the bytes of a window from an offset on are the file's
 pub gives_from : (w : Window) (s : Option Stream) (at start : ℕ) (to : List ℕ) → IsAhead w s → start + length to ≤ w.count → at ≡ w.at + start → to ≡ slice w.bytes start (length to) → HoldsFrom at s to
 gives_from w None at start to ahead within there is = tt
 gives_from w (Some stream) at start to ahead within there is =
-    is ∙ window_gives w.bytes stream.bytes w.at w.count start (length to) within ahead ∙ ap (λ k. slice stream.bytes k (length to)) (sym there)
+    is ∙ of_front w.bytes w.count start (length to) within ∙ ap (λ xs. slice xs start (length to)) ahead
+    ∙ of_part stream.bytes w.at w.count start (length to) within ∙ ap (λ k. slice stream.bytes k (length to)) (sym there)
+
+-- those of a piece are, too
+pub piece_gives_from : (p : Piece) (s : Option Stream) (at start : ℕ) (to : List ℕ) → IsPieceAhead p s → start + length to ≤ length p.bytes.items → at ≡ p.at + start → to ≡ slice p.bytes.items start (length to) → HoldsFrom at s to
+piece_gives_from p None at start to ahead within there is = tt
+piece_gives_from p (Some stream) at start to ahead within there is =
+    is ∙ ap (λ xs. slice xs start (length to)) ahead
+    ∙ of_part stream.bytes p.at (length p.bytes.items) start (length to) within ∙ ap (λ k. slice stream.bytes k (length to)) (sym there)

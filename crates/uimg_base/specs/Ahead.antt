@@ -1,7 +1,8 @@
--- The windows that are read ahead of a file.
-use Rattle.std.specs.Prelude.{◌≡◌, take, Option, IfSome}
+-- What is read ahead of a file.
+use Rattle.std.specs.Prelude.{◌≡◌, length, take, Option, IfSome}
 use Rattle.uimg_texts.specs.Slices.{slice}
 use Rattle.uimg_base.specs.Streams.{Stream}
+use Rattle.uimg_base.specs.declared.piece.Piece.{Piece}
 use Rattle.uimg_base.specs.declared.windows.Window.{Window}
 use Rattle.uimg_base.specs.declared.windows.Windows.{Windows}
 
@@ -13,3 +14,7 @@ IsAhead w s = IfSome s (λ stream. take w.count w.bytes ≡ slice stream.bytes w
 pub record AreAhead (w : Windows) (s : Option Stream) : Type 0 where
   pub first : IsAhead w.first s
   pub second : IsAhead w.second s
+
+-- The piece has the file's bytes at its offset, if they are known.
+abbrev pub IsPieceAhead : Piece → Option Stream → Type 0
+IsPieceAhead p s = IfSome s (λ stream. p.bytes.items ≡ slice stream.bytes p.at (length p.bytes.items))

@@ -11,6 +11,7 @@ mod fuse_writer;
 mod mem_files;
 mod mem_shelf;
 mod output;
+mod piece;
 mod ranges;
 mod reading;
 mod room;

@@ -1,21 +1,24 @@
-//! Reads of a file at any offset; small ones go through windows that are read ahead.
+//! Reads of a file at any offset; small ones, and those that follow one another, are read ahead.
 
 ghost use Rattle.std.specs.Prelude.{◌≡◌, ◌≤◌, ◌+◌, length, is_err, true, Some, IfOk, IfSome, IsTrue, OnOk};
 ghost use Rattle.uimg_base.specs.Device.{RisesIf, asked_more};
-ghost use Rattle.uimg_base.specs.Ahead.{AreAhead};
+ghost use Rattle.uimg_base.specs.Ahead.{AreAhead, IsPieceAhead};
 ghost use Rattle.uimg_base.specs.Streams.{StandsAt, SameBytes, HoldsFrom, HasLength, ReadsOn};
 
+use crate::piece::Piece;
 use crate::seek_read::SeekRead;
 use crate::source::SourceFault;
 use crate::windows::{AHEAD, Windows};
+use std::alloc::Global;
 use std::io::ErrorKind;
 
-/// The state of an open file: its position, if known, the windows read ahead, its length, and the
+/// The state of an open file: its position, if known, what is read ahead, its length, and the
 /// counters of a source.
 #[derive(Drop)]
 pub(crate) struct Reading {
     pub(crate) position: Option<u64>,
     pub(crate) windows: Windows,
+    pub(crate) piece: Piece,
     pub(crate) length: u64,
     pub(crate) asked: u128,
     pub(crate) failures: u64,
@@ -23,10 +26,11 @@ pub(crate) struct Reading {
 
 impl Reading {
     // Finds the length of a file. Nothing was requested of it yet.
-    pub(crate) fn of<F: SeekRead>(file: &mut F) -> Result<Reading, SourceFault>
+    pub(crate) fn of<F: SeekRead>(alloc: Global, file: &mut F) -> Result<Reading, SourceFault>
         ensures same { SameBytes (F.stream file.old) (F.stream file.new) }
         ensures stands { IfOk result (λ r. StandsAt r.position (F.stream file.new)) }
         ensures ahead { IfOk result (λ r. AreAhead r.windows (F.stream file.new)) }
+        ensures piece { IfOk result (λ r. IsPieceAhead r.piece (F.stream file.new)) }
         ensures whole { IfOk result (λ r. HasLength r.length (F.stream file.new)) }
         ensures asked { IfOk result (λ r. r.asked ≡ 0) }
         ensures failures { IfOk result (λ r. r.failures ≡ 0) }
@@ -37,6 +41,7 @@ impl Reading {
         Ok(Reading {
             position: Some(length),
             windows: Windows::new(),
+            piece: Piece::new(alloc),
             length,
             asked: 0,
             failures: 0,
@@ -52,8 +57,10 @@ impl Reading {
     ) -> Result<(), SourceFault>
         requires stands { StandsAt self.old.position (F.stream file.old) }
         requires ahead { AreAhead self.old.windows (F.stream file.old) }
+        requires piece { IsPieceAhead self.old.piece (F.stream file.old) }
         ensures stands { StandsAt self.new.position (F.stream file.new) }
         ensures ahead { AreAhead self.new.windows (F.stream file.new) }
+        ensures piece { IsPieceAhead self.new.piece (F.stream file.new) }
         ensures same { SameBytes (F.stream file.old) (F.stream file.new) }
         ensures length { self.new.length ≡ self.old.length }
         ensures bytes { OnOk result (HoldsFrom at (F.stream file.old) to.new) }
@@ -70,21 +77,27 @@ impl Reading {
         }
     }
 
-    // Fills `to` from the windows if it is small, or else by reading only the requested bytes.
-    // Returns whether it is full.
+    // Fills `to` from what is read ahead, if it is small or follows the read before it, or else by
+    // reading only the requested bytes. Returns whether it is full.
     fn fill<F: SeekRead>(&mut self, file: &mut F, at: u64, to: &mut [u8]) -> bool
         requires stands { StandsAt self.old.position (F.stream file.old) }
         requires ahead { AreAhead self.old.windows (F.stream file.old) }
+        requires piece { IsPieceAhead self.old.piece (F.stream file.old) }
         ensures stands { StandsAt self.new.position (F.stream file.new) }
         ensures ahead { AreAhead self.new.windows (F.stream file.new) }
+        ensures piece { IsPieceAhead self.new.piece (F.stream file.new) }
         ensures same { SameBytes (F.stream file.old) (F.stream file.new) }
         ensures length { self.new.length ≡ self.old.length }
         ensures asked { self.new.asked ≡ self.old.asked }
         ensures failures { self.new.failures ≡ self.old.failures }
         ensures bytes { IsTrue result → HoldsFrom at (F.stream file.old) to.new }
     {
+        let left = self.length.saturating_sub(at);
+        if self.piece.fill(file, &mut self.position, at, left, to) {
+            return true;
+        }
         if to.len() < AHEAD {
-            let most = u64::min(AHEAD as u64, self.length.saturating_sub(at)) as usize;
+            let most = u64::min(AHEAD as u64, left) as usize;
             if self.windows.fill(file, &mut self.position, at, most, to) {
                 return true;
             }

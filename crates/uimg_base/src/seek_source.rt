@@ -4,18 +4,24 @@ ghost use Rattle.std.specs.Prelude.{◌≡◌, ◌^◌, ◌<◌, true, IfOk, IfS
 ghost use Rattle.std.proofs.Common.{rules};
 ghost use Rattle.std.proofs.Props.{props};
 ghost use Rattle.uimg_base.specs.Device.{IsFresh};
-ghost use Rattle.uimg_base.specs.Ahead.{IsAhead};
+ghost use Rattle.uimg_base.specs.Ahead.{IsAhead, IsPieceAhead};
 ghost use Rattle.uimg_base.specs.Streams.{StandsAt, HasLength, stream_bytes_of, short_bytes};
 
 use crate::reading::Reading;
 use crate::seek_read::SeekRead;
 use crate::source::{Source, SourceFault};
+use std::alloc::Global;
 
 /// An open file as a source, read by seek and read.
 ///
-/// The length is that found at creation. It reads ahead as a `FileSource` does. Over a file whose
-/// bytes contracts know, it is an honest source of these bytes. Over any other, contracts see
-/// zeros, and it is not claimed to be honest.
+/// The length is that found at creation. Over a file whose bytes contracts know, it is an honest
+/// source of these bytes. Over any other, contracts see zeros, and it is not claimed to be honest.
+///
+/// Reads of fewer than 4096 bytes are served from two windows of 4096 bytes that are read ahead. If
+/// two longer ones follow one another, 256 KiB are read ahead, to memory that is freed at the end of
+/// the file; without this memory only the requested bytes are read. It never reads past the length,
+/// nor ahead by more than one such piece. If a read ahead fails or is short, only the requested
+/// bytes are read.
 #[derive(Drop)]
 pub struct SeekSource<F: SeekRead> {
     file: F,
@@ -24,6 +30,7 @@ pub struct SeekSource<F: SeekRead> {
     ghost stands: { StandsAt reading.position (F.stream file) } by { Prim.hlevel props },
     ghost first_ahead: { IsAhead reading.windows.first (F.stream file) } by { Prim.hlevel props },
     ghost second_ahead: { IsAhead reading.windows.second (F.stream file) } by { Prim.hlevel props },
+    ghost piece_ahead: { IsPieceAhead reading.piece (F.stream file) } by { Prim.hlevel props },
     ghost whole: { HasLength reading.length (F.stream file) } by { Prim.hlevel props },
 }
 
@@ -31,7 +38,7 @@ impl<F: SeekRead> SeekSource<F> {
     /// Creates a source of an open file. Nothing was requested of it yet.
     ///
     /// Returns `SourceFault` if the file has no known length (a pipe).
-    pub fn new(mut file: F) -> Result<SeekSource<F>, SourceFault>
+    pub fn new(alloc: Global, mut file: F) -> Result<SeekSource<F>, SourceFault>
         ensures fresh { IfOk result (λ s. IsFresh (⟦<SeekSource<F> as Source>⟧.device s)) }
         ensures known { IfSome (F.stream file) (λ stream.
             IfOk result (λ s. ⟦<SeekSource<F> as Source>⟧.device s ≡ record {
@@ -41,7 +48,7 @@ impl<F: SeekRead> SeekSource<F> {
               failures = 0;
             })) }
     {
-        let reading = Reading::of(&mut file)?;
+        let reading = Reading::of(alloc, &mut file)?;
         Ok(SeekSource { file, reading })
     }
 }

@@ -36,7 +36,10 @@ fn mem_source(bytes: &[u8]) -> MemSource<'_> {
     MemSource::new(bytes)
 }
 
-fn file_source<R: rt::Files>(rt: &R, path: &str) -> Result<FileSource<R::File>, SourceFault> {
+fn file_source<R: rt::Files + AllocGlobal>(
+    rt: &R,
+    path: &str,
+) -> Result<FileSource<R::File>, SourceFault> {
     FileSource::open(rt, path)
 }
 

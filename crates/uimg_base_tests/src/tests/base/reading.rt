@@ -1,15 +1,16 @@
-//! Reads through the windows, in any order and size.
+//! Reads of a file that is read ahead, in any order and size.
 
 use super::files::DigitFile;
 use super::steps::{number, reads_at};
+use std::alloc::Global;
 use std::cell::Cell;
 use uimg_base::SeekSource;
 
 // Reads of a file: the name, the file, the bytes per read, the offsets, how many of these reads
 // succeed before one fails, and how often the file is read in all. A read of fewer than 4096 bytes
-// reads ahead once if no window has them; if that is not enough, it reads just these bytes, with at
-// most one read per byte.
-const READS: [(&str, &str, usize, &str, u64, u64); 27] = [
+// reads ahead once if no window has them, and so does a longer one that follows another; if that is
+// not enough, it reads just these bytes, with at most one read per byte.
+const READS: [(&str, &str, usize, &str, u64, u64); 37] = [
     ("a far offset", "most 2", 3, "4294967299", 1, 3),
     (
         "a farther offset, by whole windows",
@@ -128,6 +129,86 @@ const READS: [(&str, &str, usize, &str, u64, u64); 27] = [
         4,
         10,
     ),
+    (
+        "long reads that follow one another",
+        "bad 20000|length 20000",
+        5000,
+        "0 5000 10000 15000",
+        4,
+        2,
+    ),
+    (
+        "long reads that do not",
+        "bad 20000|length 20000",
+        5000,
+        "0 10000 5000 15000 15000",
+        5,
+        5,
+    ),
+    (
+        "a piece has all that lies in it",
+        "bad 20000|length 20000",
+        4096,
+        "100 4196 9000 4196",
+        4,
+        2,
+    ),
+    (
+        "a piece has 256 KiB",
+        "bad 600000|length 600000",
+        4096,
+        "0 4096 262144 266240 524288",
+        5,
+        3,
+    ),
+    (
+        "and no byte more",
+        "bad 600000|length 600000",
+        4096,
+        "0 4096 262145",
+        3,
+        3,
+    ),
+    (
+        "a piece ends at the length",
+        "bad 10000|length 10000",
+        4096,
+        "0 4096 5904",
+        3,
+        2,
+    ),
+    (
+        "a piece that was read to the end is dropped",
+        "bad 10000|length 10000",
+        4096,
+        "0 4096 5904 5904",
+        4,
+        3,
+    ),
+    (
+        "by itself where the piece is short",
+        "most 1500|bad 20000|length 20000",
+        4096,
+        "0 4096",
+        2,
+        7,
+    ),
+    (
+        "long reads after an interrupt",
+        "interrupts 1|bad 20000|length 20000",
+        4096,
+        "0 4096 8192",
+        3,
+        3,
+    ),
+    (
+        "a fault beyond the requested bytes is none",
+        "bad 12000|length 20000",
+        4096,
+        "0 4096 8192",
+        2,
+        5,
+    ),
 ];
 
 // Checks that the bytes are the digits from an offset on.
@@ -161,20 +242,21 @@ fn succeeding<'a>(
     Some(count)
 }
 
-fn reads(description: &str, size: usize, offsets: &str, wanted: u64, turns: u64) -> bool {
+// Returns how many reads succeed, and how often the file is read.
+fn reads(alloc: Global, description: &str, size: usize, offsets: &str) -> Option<(u64, u64)> {
     let counted = Cell::new(0);
-    let Ok(mut source) = SeekSource::new(DigitFile::new(description, &counted)) else {
-        return false;
+    let Ok(mut source) = SeekSource::new(alloc, DigitFile::new(description, &counted)) else {
+        return None;
     };
-    let count = succeeding(&mut source, size, offsets);
-    count == Some(wanted) && counted.get() == turns
+    let count = succeeding(&mut source, size, offsets)?;
+    Some((count, counted.get()))
 }
 
 #[test]
 fn reads_of_slow_files(rt: HostRuntime) {
     for (name, description, size, offsets, wanted, turns) in &READS {
         assert!(rt;
-            reads(description, *size, offsets, *wanted, *turns),
+            reads(rt.alloc(), description, *size, offsets) == Some((*wanted, *turns)),
             "{name}"
         );
     }

@@ -68,7 +68,7 @@ fn slices_behind_a_fuse(rt: HostRuntime) {
 // A slice as a file is read like any source.
 #[test]
 fn a_cursor_is_read_at_any_place(rt: HostRuntime) {
-    match SeekSource::new(Cursor::new(b"123456789".as_slice())) {
+    match SeekSource::new(rt.alloc(), Cursor::new(b"123456789".as_slice())) {
         Ok(source) => plays(&rt, "a cursor", source, ANY_PLACE),
         Err(_) => assert!(rt; false),
     }
