@@ -79,23 +79,22 @@ pub fn locate_in_memory<A: Allocator>(
 ///
 /// The room takes memory for the listing alone: none for a legacy image, and at most 128 bytes for
 /// each node of the FIT image. A fault of making only clears it.
-pub fn make_in_memory<W: Write, A: Allocator + Copy, B: Allocator, H: Allocator>(
+pub fn make_in_memory<W: Write, A: Allocator + Copy, B: Allocator>(
     alloc: A,
     command: &MakeCommand,
     manner: Manner,
     files: &[(&[u8], &[u8])],
-    shelf: H,
     room: &mut Room<B>,
     out: &mut Out<W>,
-) -> Result<MemKept<H>, Fault>
+) -> Result<MemKept<A>, Fault>
     requires fit { HasFitNames command.now }
-    ensures made { MakesCommand (⟦<MemKept<H> as Source>⟧.device) manner.naming command.now manner.time
+    ensures made { MakesCommand (⟦<MemKept<A> as Source>⟧.device) manner.naming command.now manner.time
         manner.align (bytes_among files.now) result out }
     ensures missing { IfErr result (LacksFile command.now (bytes_among files.now)) }
     ensures reads { LosesNothing result }
     ensures keep { is_keep result ≡ false }
     ensures listed { ListsLast result out }
-    ensures room { LeavesRoom (⟦<MemKept<H> as Source>⟧.device) true command.now result room }
+    ensures room { LeavesRoom (⟦<MemKept<A> as Source>⟧.device) true command.now result room }
     ensures peak { HoldsCommand command.now manner.time manner.align (bytes_among files.now) room }
 {
     make_by(
@@ -103,7 +102,7 @@ pub fn make_in_memory<W: Write, A: Allocator + Copy, B: Allocator, H: Allocator>
         command,
         manner,
         &mut MemFiles::new(files),
-        MemShelf::new(shelf),
+        MemShelf::new(alloc),
         room,
         out,
     )

@@ -68,7 +68,6 @@ fn makes<R: AllocGlobal + Abort>(rt: &R, name: &str) -> Result<(), Fail> {
             align: WORD_ALIGNMENT,
         },
         &FILES,
-        rt.alloc(),
         &mut room,
         &mut out,
     );
