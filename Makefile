@@ -123,8 +123,8 @@ peers: bin/uimg bin/uimg_peers
 	@scripts/needs.sh python3
 	python3 peers/peers.py bin/uimg bin/uimg_peers
 
-## make bench    times the program beside dumpimage, mkimage, cat and cp; draws bench/chart.svg
-##               with python3-matplotlib
+## make bench    times the program, and those of release/, beside dumpimage, mkimage, cat and cp; draws
+##               bench/chart.svg with python3-matplotlib
 bench: bin/uimg
 	@scripts/needs.sh python3
 	@mkdir -p out

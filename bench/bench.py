@@ -4,7 +4,8 @@
 The commands of one kind run several times in turn on the same file. It prints a table: the best and
 the median seconds, the best MB/s (millions of bytes of payload a second), the peak memory, and the
 ratio of the best time to that of the last row of the same kind. Tools that are not installed are
-left out.
+left out. If `make release` left programs in release/, that for x86-64-v3 has a row too, and a second
+table has the sizes of all its files.
 
 The files are in the folder that BENCH_DIR names, or else in /dev/shm if it exists: on a disk the
 noise of the writes would hide everything else.
@@ -22,6 +23,7 @@ import time
 import zlib
 
 import fits
+import released
 import shapes
 
 SIZE = 512 * 1024 * 1024
@@ -208,6 +210,16 @@ def unpack_rows(uimg, folder):
     yield kind, "uimg unpack", [uimg, "unpack", "--force", "-C", there, image], text, OUTSIDE
     yield kind, "verify, dumpimage -o", ["sh", "-c", f'{uimg} verify "$0" && {uimg} dumpimage -o "$1" "$0"', image, copy], text, OUTSIDE
     yield kind, "uimg verify", [uimg, "verify", image], text, OUTSIDE
+    yield from sum_rows(uimg, folder, image)
+
+
+def sum_rows(uimg, folder, image):
+    """The timings for one sum over a large payload: the same."""
+    kind, text, newer = "verify 512 MiB, sha256", os.path.join(folder, "text"), released.program("x86_64-v3", folder)
+    yield kind, "uimg verify", [uimg, "verify", image], text, OUTSIDE
+    if newer:
+        yield kind, "uimg verify, v3", [newer, "verify", image], text, OUTSIDE
+    yield kind, "sha256sum", ["sha256sum", os.path.join(folder, "payload.bin")], text, OUTSIDE
 
 
 def shape_rows(uimg, folder):
@@ -254,6 +266,16 @@ def main():
     print(f"\nBest and median of {RUNS} runs; the rows of one kind run in turn. The ratio compares the best times with the")
     print(f"last row of the same kind. The payload of the legacy image has {SIZE} bytes, that of `verify 4 sums`")
     print(f"{INSIDE}. The peak memory of a command that takes at most 0.01 s is not measured.")
+    print_sizes()
+
+
+def print_sizes():
+    """Prints the sizes of what was released."""
+    rows = list(released.sizes())
+    if rows:
+        print("\n| File of a release                  |   bytes |\n|-------------------------------------|---------|")
+    for name, size in rows:
+        print(f"| {name:35} | {size:7} |")
 
 
 def print_row(values, widths):

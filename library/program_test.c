@@ -125,6 +125,9 @@ int main(int argc, char **argv)
     rattle_set_errno(EIO);
     require(errno == EIO && rattle_errno() == EIO, "errno", 0);
     test_memory(argc == 2 && strcmp(argv[1], "memory") == 0 ? (size_t)1 << 31 : SIZE_MAX / 2);
+    environ = NULL;
+    test_environment();
+    require(rattle_env((const uint8_t *)"PATH", buffer, sizeof buffer) == -1, "variable without an environment", 0);
     printf("%d\n", argc);
     return 0;
 }

@@ -1,10 +1,12 @@
 #!/usr/bin/env python3
 """arm64_test.py FOLDER: tests what was made for 64-bit ARM in FOLDER/aarch64, under qemu, beside
-what was made for x86-64 in FOLDER/x86_64 (release.py): the C calls of both programs; all command
+what was made for x86-64 in FOLDER/x86_64 (release.py): the C calls of both programs; both programs
+where a folder without a C library is the root directory, if this user may chroot; all command
 lines, for ARM but for those that limit memory, stack or open files, which are named; listings,
 reports, maps and facts of 1000 images, and the images that both make; the library for C, by its
 report on each image. The last line is 'N passed, M failed'."""
 import concurrent.futures
+import glob
 import os
 import shlex
 import shutil
@@ -16,11 +18,20 @@ import broken
 import kit
 import test
 
-QEMU = "qemu-aarch64-static"
+QEMU = shutil.which("qemu-aarch64-static")
+EPOCH = {"SOURCE_DATE_EPOCH": "1700000000"}
 WRAPPER = '#!/bin/sh\nexec {qemu} -0 "$0" {program} "$@"\n'
-FLAGS = ("-std=c11", "-O2", "-Wall", "-Wextra", "-Werror", "-static")
+# Where qemu finds the shared C library.
+SYSROOT = "/usr/aarch64-linux-gnu"
+FLAGS = ("-std=c11", "-O2", "-Wall", "-Wextra", "-Werror")
 # Under a limit of the address space of this many bytes, a test requests 2 GiB.
 SPACE = 1_000_000_000
+# What is run where there is no C library, in a copy of examples/.
+ALONE = (
+    "--version", "dumpimage -l kernel.itb", "verify kernel.itb", "check --strict --need sha256 kernel.itb", "map kernel.itb",
+    "info kernel.itb", "unpack kernel.itb", "mkimage -E -f kernel.its made.itb", "dumpimage -o payload made.itb", "verify abc-kernel.img",
+    "mkimage -A arm64 -O linux -T kernel -C none -n n -d abc.bin made.img",
+)  # fmt: skip
 COMMANDS = (["dumpimage", "-l"], ["verify"], ["map"], ["info"], ["check", "--json"], ["check", "--strict", "--need", "sha256"])
 passed, failed = 0, 0
 
@@ -32,6 +43,12 @@ def case(name, is_right):
         print(f"{name}: not the same, or not as it should be", flush=True)
 
 
+def result_of(words, **how):
+    """Runs a command. Returns its status and what it printed."""
+    ended = subprocess.run(words, capture_output=True, **how)
+    return ended.returncode, ended.stdout, ended.stderr
+
+
 class Machine:
     """A machine: the folder of its programs, its compiler, and the words that run a program."""
 
@@ -40,39 +57,68 @@ class Machine:
 
     def compiled(self, made, *words):
         """Compiles a C program. Returns the words that run it."""
-        told = subprocess.run([self.compiler, *FLAGS, "-Iinclude", "-o", made, *words])
-        case(f"{self.compiler} compiles {words[0]}", told.returncode == 0)
+        ended = subprocess.run([self.compiler, *FLAGS, "-Iinclude", "-o", made, *words])
+        case(f"{self.compiler} {' '.join(words)}", ended.returncode == 0)
         return [*self.runner, made]
 
     def ran(self, words, folder=None):
-        """Runs the program. Returns its status and what it printed."""
-        told = subprocess.run([*self.runner, f"{self.folder}/uimg", *words], cwd=folder, capture_output=True)
-        return told.returncode, told.stdout, told.stderr
+        """Runs the program in a folder. Returns its status and what it printed."""
+        return result_of([*self.runner, f"{self.folder}/uimg", *words], cwd=folder)
+
+    def ran_alone(self, words, folder):
+        """Runs a copy of the program with a folder as root directory, which has that copy, and
+        what runs it, in bin/. Returns its status and what it printed."""
+        paths = [f"/bin/{os.path.basename(it)}" for it in (*self.runner[:1], "uimg")]
+        return result_of([*paths, *words], cwd=folder, env=EPOCH, preexec_fn=lambda: os.chroot(folder))
 
 
 def test_calls(machine, room):
     """The C calls of the program: without arguments, with empty ones, 100,000, and one of 128 KiB;
     without an environment, and with a large one; if memory is refused. Under qemu neither the list
     of arguments can be empty nor memory be limited."""
-    words = machine.compiled(f"{room}/calls", "library/program.c", "library/program_test.c")
+    words = machine.compiled(f"{room}/calls", "-static", "library/program.c", "library/program_test.c")
     for count, more in ((1, []), (3, ["", ""]), (100_001, ["x"] * 100_000), (2, ["x" * (2**17 - 1)])):
-        told = subprocess.run([*words, *more], capture_output=True, text=True)
-        case(f"{count} arguments", (told.returncode, told.stdout) == (0, f"{count}\n"))
+        case(f"{count} arguments", result_of([*words, *more]) == (0, b"%d\n" % count, b""))
     for environment in ({}, {"A": "", "B": "x" * (2**17 - 3)}):
-        told = subprocess.run([*words, "x"], env={"PATH": os.environ["PATH"], **environment} if machine.runner else environment, capture_output=True)
-        case("environment", told.returncode == 0)
+        case("environment", result_of([*words, "x"], env=environment)[0] == 0)
     if not machine.runner:
-        told = subprocess.run([*words, "exec"], capture_output=True, text=True)
-        case("an empty list of arguments", (told.returncode, told.stdout) in ((0, "0\n"), (0, "1\n")))
-        limited = ["prlimit", f"--as={SPACE}", *words, "memory"]
-        case("refused memory", subprocess.run(limited, stdout=subprocess.DEVNULL).returncode == 0)
+        case("an empty list of arguments", result_of([*words, "exec"]) in ((0, b"0\n", b""), (0, b"1\n", b"")))
+        case("refused memory", result_of(["prlimit", f"--as={SPACE}", *words, "memory"])[0] == 0)
+
+
+def files_in(folder):
+    """Returns the files in a folder and what they hold."""
+    names = [it for it in os.listdir(folder) if os.path.isfile(f"{folder}/{it}")]
+    return {it: open(f"{folder}/{it}", "rb").read() for it in names}
+
+
+def test_alone(machine, room):
+    """The program where there is no C library and no other file of a system, beside what it does
+    and makes here."""
+    here, alone = (f"{room}/{machine.compiler}-{it}" for it in ("here", "alone"))
+    for folder in (here, alone):
+        shutil.copytree("examples", folder)
+        os.mkdir(f"{folder}/bin")
+    for it in (*machine.runner[:1], f"{machine.folder}/uimg"):
+        shutil.copy2(it, f"{alone}/bin")
+    for it in ALONE:
+        case(f"alone: uimg {it}", machine.ran(it.split(), here) == machine.ran_alone(it.split(), alone))
+    case("what it made alone", files_in(here) == files_in(alone) and "made.img" in files_in(here))
+
+
+def may_chroot():
+    try:
+        subprocess.run(["true"], preexec_fn=lambda: os.chroot("/"), check=True)
+    except subprocess.SubprocessError:
+        return False
+    return True
 
 
 def play(words):
     """All command lines, by play.py with these words before their files."""
     global passed, failed
-    told = subprocess.run(["scripts/play.py", *words, *test.PLAYED], stdout=subprocess.PIPE, text=True)
-    *lines, count = told.stdout.splitlines()
+    played = subprocess.run(["scripts/play.py", *words, *test.PLAYED], stdout=subprocess.PIPE, text=True)
+    *lines, count = played.stdout.splitlines()
     print("\n".join(lines), flush=True)
     passed, failed = passed + int(count.split()[0]), failed + int(count.split()[2])
 
@@ -80,7 +126,7 @@ def play(words):
 def play_both(x86, arm, room):
     os.mkdir(f"{room}/bin")
     with open(f"{room}/bin/uimg", "w", encoding="utf-8") as file:
-        file.write(WRAPPER.format(qemu=shutil.which(QEMU), program=shlex.quote(f"{arm.folder}/uimg")))
+        file.write(WRAPPER.format(qemu=QEMU, program=shlex.quote(f"{arm.folder}/uimg")))
     os.chmod(f"{room}/bin/uimg", 0o755)
     play([f"{x86.folder}/uimg"])
     play(["--tried", f"{room}/bin/uimg"])
@@ -98,25 +144,31 @@ def compare_images(x86, arm, room):
     """The images that both programs make."""
     builds = [["-f", "kernel.its"], ["-E", "-f", "kernel.its"], ["-E", "-p", "1000", "-f", "kernel.its"]]
     builds += [["-T", kind, "-A", "arm64", "-O", "linux", "-C", "none", "-n", "n", "-d", parts] for kind, parts in (("kernel", "abc.bin"), ("multi", "abc.bin:kernel.itb"))]
-    os.environ["SOURCE_DATE_EPOCH"] = "1700000000"
     for number, words in enumerate(builds):
-        told = [it.ran(["mkimage", *words, f"{room}/{name}-{number}"], "examples") for name, it in (("x86", x86), ("arm", arm))]
+        both = [it.ran(["mkimage", *words, f"{room}/{name}-{number}"], "examples") for name, it in (("x86", x86), ("arm", arm))]
         images = [open(f"{room}/{name}-{number}", "rb").read() for name in ("x86", "arm") if os.path.exists(f"{room}/{name}-{number}")]
-        case(f"mkimage {' '.join(words)}", told[0] == told[1] and told[0][0] == 0 and len(images) == 2 and images[0] == images[1])
+        case(f"mkimage {' '.join(words)}", both[0] == both[1] and both[0][0] == 0 and len(images) == 2 and images[0] == images[1])
 
 
 def compare_library(x86, arm, files, room):
-    """The reports of the library, over malloc and over a block."""
-    for flags, library in ((), "libuimg.a"), (("-DOVER_A_BLOCK",), "libuimg_block.a"):
-        told = []
-        for name, machine in (("x86", x86), ("arm", arm)):
-            words = machine.compiled(f"{room}/{name}-{library}", *flags, "library/report.c", f"{machine.folder}/lib/{library}")
-            told.append(subprocess.run([*words, *files], capture_output=True))
-        case(f"reports of {library}", told[0].returncode == 0 and told[0].stdout == told[1].stdout != b"")
+    """The reports of the library: over malloc, over a block, and shared. What the example program
+    unpacks with it."""
+    for library, *flags in (("libuimg.a", "-static"), ("libuimg_block.a", "-static", "-DOVER_A_BLOCK"), ("libuimg.so",)):
+        reports = []
+        for machine in (x86, arm):
+            linked = [f"{machine.folder}/lib/{library}", f"-Wl,-rpath,{machine.folder}/lib"]
+            words = machine.compiled(f"{room}/report", *flags, "library/report.c", *linked)
+            reports.append(result_of([*words, *files]))
+        case(f"reports of {library}", reports[0] == reports[1] and reports[0][0] == 0 and reports[0][1] != b"")
+    programs = [it.compiled(f"{room}/{it.compiler}-unpack", "-static", "examples/c/unpack.c", f"{it.folder}/lib/libuimg.a") for it in (x86, arm)]
+    for path in sorted(glob.glob("examples/*.i[tm][bg]")):
+        for position in "012":
+            case(f"unpack {path} {position}", result_of([*programs[0], path, position]) == result_of([*programs[1], path, position]))
 
 
 def main(folder):
-    x86, arm = Machine(f"{folder}/x86_64", "", []), Machine(f"{folder}/aarch64", "aarch64-linux-gnu-", [QEMU])
+    os.environ |= EPOCH
+    x86, arm = Machine(f"{folder}/x86_64", "", []), Machine(f"{folder}/aarch64", "aarch64-linux-gnu-", [QEMU, "-L", SYSROOT])
     with tempfile.TemporaryDirectory() as room:
         files = []
         for number, image in enumerate(broken.images(1000)):
@@ -125,6 +177,10 @@ def main(folder):
                 file.write(image)
         for machine in (x86, arm):
             test_calls(machine, room)
+            if may_chroot():
+                test_alone(machine, room)
+        if not may_chroot():
+            print("the programs alone in a root directory: left out, since this user may not chroot", flush=True)
         compare_images(x86, arm, room)
         compare_library(x86, arm, files, room)
         compare(x86, arm, files)

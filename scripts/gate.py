@@ -4,8 +4,8 @@ crate except those of tests from nothing; beside it the sentinels (scripts/senti
 the wrong bodies, are tried, those of a crate once the crates below it are proved. The command lines
 are played again with the program that `rt ci` built, and with a C compiler the library for C is
 linked and tested, which counts as one; with a cross compiler and qemu, program and library are
-tested for 64-bit ARM. The last line, 'N passed, M failed', counts all; the status
-is 0 if nothing failed.
+tested for 64-bit ARM. What is left out for want of a tool has a line at the end. The last line,
+'N passed, M failed', counts all; the status is 0 if nothing failed.
 
 It works on a copy of the tree without the crates of tests and the wrong bodies. `rt ci` would prove
 each test function too, and try each wrong body with a check of the whole crate; wrong_bodies.py
@@ -32,11 +32,16 @@ import test
 MEMORY = 4_000_000_000
 SENTINELS = "scripts/sentinels.txt"
 PROGRAM = "crates/uimg/out/uimg"
+# What the tests for 64-bit ARM need.
+ARM_TOOLS = ("gcc", "ld", "objcopy", "ar", "prlimit", "aarch64-linux-gnu-gcc", "qemu-aarch64-static")
 # Built files are not copied, and the wrong bodies go to a folder of their own.
 LEFT_OUT = shutil.ignore_patterns(".git", "out", "bin", "lib", "release", "__pycache__", "must-fail")
 ASIDE = "wrong-bodies"
 # A line that reports the end of a proof.
 STEP = re.compile(r"rt: \w+(: its tests are)? (NOT )?(PROVED|proved)")
+
+# What is not tested for want of a tool, and why.
+untested = []
 
 
 def lanes():
@@ -86,13 +91,21 @@ def counted(words, environment, told=None):
     return passed, failed
 
 
+def is_left_out(what, tools):
+    """Returns whether one of these tools is missing, and notes what is left out then."""
+    status, lines = test.run(["scripts/needs.sh", *tools])
+    if status:
+        untested.append(f"{what} was left out: {lines[-1]}")
+    return status != 0
+
+
 class Library(threading.Thread):
     """The archive of the library for C, compiled over the libraries of `rt ci`, linked, and
     tested beside the program."""
 
     def __init__(self):
         super().__init__()
-        self.is_right, self.said = False, "there is no C compiler, so it was neither linked nor tested"
+        self.is_right, self.said = False, ""
 
     def run(self):
         """Runs the steps, up to the first that fails."""
@@ -113,9 +126,7 @@ class Library(threading.Thread):
 def arm64():
     """Tests the program and the library for 64-bit ARM beside those for x86-64, compiled over the
     libraries of `rt ci`. Returns how many passed and failed."""
-    missing = [it for it in ("aarch64-linux-gnu-gcc", "qemu-aarch64-static") if not shutil.which(it)]
-    if missing:
-        print(f"64-bit ARM: left out, since there is no {missing[0]}\n", flush=True)
+    if is_left_out("64-bit ARM", ARM_TOOLS):
         return 0, 0
     status, lines = test.run(["python3", "scripts/release.py", "--compile"])
     print("\n".join(lines[-12:]), flush=True)
@@ -133,7 +144,7 @@ def gate():
     passed, failed = counted([kit.RT, "ci"], environment, wrong_bodies.begin)
     library = Library()
     if os.path.isfile(PROGRAM):
-        has_compiler = shutil.which(os.environ.get("CC", "cc"))
+        has_compiler = not is_left_out("the library for C", [os.environ.get("CC", "cc"), "ld", "objcopy", "ar"])
         if has_compiler:
             library.start()
         more, bad = counted(["scripts/play.py", PROGRAM, *test.PLAYED], environment)
@@ -141,7 +152,7 @@ def gate():
         if has_compiler:
             library.join()
             passed, failed = passed + library.is_right, failed + (not library.is_right)
-        print(f"libuimg: {library.said}\n", flush=True)
+            print(f"libuimg: {library.said}\n", flush=True)
         more, bad = arm64()
         passed, failed = passed + more, failed + bad
     elif not failed:
@@ -160,6 +171,8 @@ def main():
         os.chdir(room)
         more, bad = gate()
         os.chdir("/")
+    for line in untested:
+        print(line)
     print(f"{passed + more} passed, {failed + bad} failed")
     return 1 if failed + bad else 0
 

@@ -7,8 +7,10 @@ of both; PROVED.txt, with the commit, the kit and the prover's statement on each
 What is proved already is skipped. With --programs it stops once the programs and libraries are in
 out/release; with --compile it makes these over libraries that are there. All files have the time
 of the commit and no path of this machine: the same commit gives the same bytes in another folder,
-and elsewhere with the same compilers. With CPU=x86-64-v3 in the environment, what is made for
-x86-64 needs such a processor, has it in its name, and is not packed for Debian."""
+and elsewhere with the same compilers. The files get into release/ once all are made.
+
+With CPU=x86-64-v3 in the environment, a release is the archives for such a processor alone, in
+release/x86-64-v3/."""
 import concurrent.futures
 import glob
 import gzip
@@ -25,6 +27,8 @@ import kit
 import prove
 
 WORK = "out/release"
+# The files of a release, until all are made.
+PACKED = f"{WORK}/packed"
 MANUALS = ("uimg.1", "uimg-mkimage.1", "uimg-dumpimage.1")
 COMPLETIONS = {
     "uimg.bash": "bash-completion/completions/uimg",
@@ -57,6 +61,8 @@ class Machine:
 
 X86 = Machine("x86_64", "", "amd64", kit.CPU)
 ARM = Machine("aarch64", "aarch64-linux-gnu-", "arm64")
+# The machines of a release, and its folder.
+MACHINES, RELEASE = ((X86,), f"release/{kit.CPU}") if kit.CPU else ((X86, ARM), "release")
 
 
 def fail(text):
@@ -77,6 +83,17 @@ def run(words, **more):
 def version():
     with open("crates/uimg_requests/src/version.rt", encoding="utf-8") as file:
         return re.search(r'VERSION.*"(.*)"', file.read())[1]
+
+
+def check_version():
+    """Refuses a release if a document has another version than the program."""
+    found = {"CHANGELOG.md": r"\n## (\S+) - \d{4}-\d\d-\d\d\n", "debian/changelog": r"^uimg \((.*)\) ", "README.md": r"uimg-([\d.]+)-"}
+    found |= {f"docs/{it}": r'^\.TH .* "uimg (.*)" "' for it in MANUALS}
+    for path, pattern in found.items():
+        with open(path, encoding="utf-8") as file:
+            its = re.search(pattern, file.read())
+        if not its or its[1] != version():
+            fail(f"{path} has another version than crates/uimg_requests/src/version.rt: {version()}")
 
 
 def log_of(crate, machine):
@@ -131,11 +148,16 @@ def archive(path, top, files, time):
             tar.addfile(entry, io.BytesIO(source))
 
 
+def papers(what):
+    return {f"share/doc/{what}/{it}": it for it in PAPERS}
+
+
 def program_files(machine):
+    """Returns the files of the program, as they are below a prefix."""
     files = {"bin/uimg": f"{machine.folder}/uimg", "bin/uimg-mkimage": Link("uimg"), "bin/uimg-dumpimage": Link("uimg")}
     files |= {f"share/man/man1/{it}": f"docs/{it}" for it in MANUALS}
     files |= {f"share/{to}": f"completions/{it}" for it, to in COMPLETIONS.items()}
-    return files | {it: it for it in PAPERS} | {"NOTICE": NOTICE.encode()}
+    return files | papers("uimg") | {"share/doc/uimg/NOTICE": NOTICE.encode()}
 
 
 def library_files(machine):
@@ -147,7 +169,7 @@ def library_files(machine):
     files = {f"lib/{it}": f"{machine.folder}/lib/{it}" for it in ("libuimg.a", "libuimg_block.a", "libuimg.so.0")}
     files |= {"lib/libuimg.so": Link("libuimg.so.0"), "lib/pkgconfig/libuimg.pc": text.encode()}
     files |= {f"include/{it}": f"include/{it}" for it in ("uimg.h", "uimg_block.h")}
-    return files | {it: it for it in PAPERS} | {"LIBRARY.md": "docs/LIBRARY.md"}
+    return files | papers("libuimg") | {"share/doc/libuimg/LIBRARY.md": "docs/LIBRARY.md"}
 
 
 def statements():
@@ -158,20 +180,20 @@ def statements():
     for name in [*below, *(it for it in crates.below("uimg_c") if it not in below)]:
         with open(f"{crates.by_name[name].folder}/out/statement", encoding="utf-8") as file:
             yield f"{name}: {file.read().strip()}"
-    for machine in (X86, ARM):
+    for machine in MACHINES:
         for name in ("uimg", "uimg_c"):
             yield f"{name} for {machine.name}: {prove.statement(log_of(name, machine))}"
 
 
 def packages(machine, time):
-    """Makes the Debian packages for a machine, with its static program, in release/."""
-    words = ["scripts/deb.sh", machine.folder, machine.debian, "release"]
+    """Makes the Debian packages for a machine, with its static program."""
+    words = ["scripts/deb.sh", machine.folder, machine.debian, PACKED]
     run(words, env={**os.environ, "SOURCE_DATE_EPOCH": str(time)})
 
 
 def sums():
-    with open("release/SHA256SUMS", "w", encoding="ascii") as sums_file:
-        for path in sorted(set(glob.glob("release/*")) - {"release/SHA256SUMS"}):
+    with open(f"{PACKED}/SHA256SUMS", "w", encoding="ascii") as sums_file:
+        for path in sorted(set(glob.glob(f"{PACKED}/*")) - {f"{PACKED}/SHA256SUMS"}):
             with open(path, "rb") as file:
                 sums_file.write(f"{hashlib.sha256(file.read()).hexdigest()}  {os.path.basename(path)}\n")
 
@@ -182,38 +204,39 @@ def prove_below():
         sys.exit(1)
 
 
-def programs():
+def programs(machines):
     """Makes the program and the library for each machine, in its folder, over proved crates."""
     shutil.rmtree(WORK, ignore_errors=True)
-    compile_all((X86, ARM))
-    for machine in (X86, ARM):
+    compile_all(machines)
+    for machine in machines:
         link(machine)
 
 
 def pack(commit, time):
-    """Packs what was made."""
-    shutil.rmtree("release", ignore_errors=True)
-    os.makedirs("release")
-    for machine in (X86, ARM):
+    """Packs what was made, and gives it the place of an earlier release."""
+    os.makedirs(PACKED)
+    for machine in MACHINES:
         for what, files in (("uimg", program_files(machine)), ("libuimg", library_files(machine))):
             top = f"{what}-{version()}-{machine.label}"
-            archive(f"release/{top}.tar.gz", top, files, time)
+            archive(f"{PACKED}/{top}.tar.gz", top, files, time)
         if not machine.cpu:
             packages(machine, time)
-    with open("release/PROVED.txt", "w", encoding="utf-8") as file:
+    with open(f"{PACKED}/PROVED.txt", "w", encoding="utf-8") as file:
         file.write(f"uimg {version()}, commit {commit}\n{kit.kit_id().strip()}\n\n" + "\n".join(statements()) + "\n")
     sums()
-    print("\n".join(sorted(os.listdir("release"))))
+    shutil.rmtree(RELEASE, ignore_errors=True)
+    os.makedirs(os.path.dirname(RELEASE) or ".", exist_ok=True)
+    os.rename(PACKED, RELEASE)
+    print("\n".join(f"{RELEASE}/{it}" for it in sorted(os.listdir(RELEASE))))
 
 
 def release():
     if run(["git", "status", "--porcelain"]):
         fail("a release is made of a commit: commit the changes first")
-    if run(["dpkg-parsechangelog", "-S", "Version"]).strip() != version():
-        fail("debian/changelog has another version than crates/uimg_requests/src/version.rt")
+    check_version()
     commit, time = run(["git", "log", "-1", "--format=%H %ct"]).split()
     prove_below()
-    programs()
+    programs(MACHINES)
     pack(commit, int(time))
 
 
@@ -225,7 +248,7 @@ def main(words):
         return
     if words == ["--programs"]:
         prove_below()
-    programs()
+    programs((X86, ARM))
 
 
 if __name__ == "__main__":
