@@ -1,5 +1,5 @@
 -- What contracts know of a file with a position.
-use Rattle.std.specs.Prelude.{◌≡◌, ℕ, IfSome, ◌+◌, ◌^◌, ◌<◌, List, take, length, Option, Some, None}
+use Rattle.std.specs.Prelude.{◌≡◌, ℕ, IfSome, ◌+◌, ◌-◌, ◌^◌, ◌<◌, ◌≤◌, List, take, length, Option, Some, None}
 use Rattle.std.specs.Prelude.{Result, Ok, Err}
 use Rattle.std.specs.Option.{option_map}
 use Rattle.uimg_texts.specs.Slices.{slice}
@@ -55,6 +55,10 @@ stream_bytes_of count (Some s) = s.bytes
 -- the file, if known, has this length
 abbrev pub HasLength : ℕ → Option Stream → Type 0
 HasLength count s = IfSome s (λ stream. length stream.bytes ≡ count)
+
+-- these bytes from an offset on are in the file, if it is known, or there are none
+abbrev pub IsInside : ℕ → ℕ → Option Stream → Type 0
+IsInside at count s = IfSome s (λ stream. count ≤ length stream.bytes - at)
 
 -- `to` has the bytes at an offset, if they are known
 abbrev pub HoldsFrom : ℕ → Option Stream → List ℕ → Type 0

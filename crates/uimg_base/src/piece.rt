@@ -1,6 +1,6 @@
 //! A piece read ahead of a file, which serves long reads that follow one another.
 ghost use Rattle.std.specs.Prelude.{◌≡◌, ◌≤◌, length, Option, IsTrue, []};
-ghost use Rattle.uimg_base.specs.Streams.{Stream, StandsAt, SameBytes, HoldsFrom};
+ghost use Rattle.uimg_base.specs.Streams.{Stream, StandsAt, SameBytes, HoldsFrom, IsInside};
 ghost use Rattle.uimg_base.specs.Ahead.{IsPieceAhead};
 
 use crate::reading::{move_to, read_some};
@@ -48,6 +48,7 @@ impl Piece {
     ) -> bool
         requires stands { StandsAt position.old (F.stream file.old) }
         requires ahead { IsPieceAhead self.old (F.stream file.old) }
+        requires inside { IsInside at left (F.stream file.old) }
         ensures stands { StandsAt position.new (F.stream file.new) }
         ensures same { SameBytes (F.stream file.old) (F.stream file.new) }
         ensures ahead { IsPieceAhead self.new (F.stream file.new) }
@@ -105,10 +106,12 @@ impl Piece {
         most: usize,
     )
         requires few { most ≤ 262144 }
+        requires inside { IsInside at most (F.stream file.old) }
         requires stands { StandsAt position.old (F.stream file.old) }
         ensures stands { StandsAt position.new (F.stream file.new) }
         ensures same { SameBytes (F.stream file.old) (F.stream file.new) }
         ensures ahead { IsPieceAhead self.new (F.stream file.old) }
+        ensures read { length self.new.bytes.items ≤ most }
     {
         if self.bytes.resize(most, 0).is_err() || !move_to(file, position, at) {
             self.bytes.clear();

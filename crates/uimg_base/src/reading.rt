@@ -58,6 +58,7 @@ impl Reading {
         requires stands { StandsAt self.old.position (F.stream file.old) }
         requires ahead { AreAhead self.old.windows (F.stream file.old) }
         requires piece { IsPieceAhead self.old.piece (F.stream file.old) }
+        requires whole { HasLength self.old.length (F.stream file.old) }
         ensures stands { StandsAt self.new.position (F.stream file.new) }
         ensures ahead { AreAhead self.new.windows (F.stream file.new) }
         ensures piece { IsPieceAhead self.new.piece (F.stream file.new) }
@@ -83,6 +84,7 @@ impl Reading {
         requires stands { StandsAt self.old.position (F.stream file.old) }
         requires ahead { AreAhead self.old.windows (F.stream file.old) }
         requires piece { IsPieceAhead self.old.piece (F.stream file.old) }
+        requires whole { HasLength self.old.length (F.stream file.old) }
         ensures stands { StandsAt self.new.position (F.stream file.new) }
         ensures ahead { AreAhead self.new.windows (F.stream file.new) }
         ensures piece { IsPieceAhead self.new.piece (F.stream file.new) }

@@ -1,6 +1,6 @@
 //! Windows read ahead of a file, which serve consecutive small reads with few reads of the file.
 ghost use Rattle.std.specs.Prelude.{◌≤◌, length, Option, IsTrue};
-ghost use Rattle.uimg_base.specs.Streams.{Stream, StandsAt, SameBytes, HoldsFrom};
+ghost use Rattle.uimg_base.specs.Streams.{Stream, StandsAt, SameBytes, HoldsFrom, IsInside};
 ghost use Rattle.uimg_base.specs.Ahead.{IsAhead, AreAhead};
 
 use crate::reading::{move_to, read_some};
@@ -57,10 +57,12 @@ impl Window {
         most: usize,
     )
         requires few { most ≤ 4096 }
+        requires inside { IsInside at most (F.stream file.old) }
         requires stands { StandsAt position.old (F.stream file.old) }
         ensures stands { StandsAt position.new (F.stream file.new) }
         ensures same { SameBytes (F.stream file.old) (F.stream file.new) }
         ensures ahead { IsAhead self.new (F.stream file.old) }
+        ensures read { self.new.count ≤ most }
     {
         self.count = 0;
         if !move_to(file, position, at) {
@@ -109,6 +111,7 @@ impl Windows {
         to: &mut [u8],
     ) -> bool
         requires few { most ≤ 4096 }
+        requires inside { IsInside at most (F.stream file.old) }
         requires stands { StandsAt position.old (F.stream file.old) }
         requires ahead { AreAhead self.old (F.stream file.old) }
         ensures stands { StandsAt position.new (F.stream file.new) }
