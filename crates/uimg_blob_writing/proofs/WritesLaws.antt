@@ -8,7 +8,7 @@ use Rattle.uimg_base.specs.Device.{RisesIf}
 use Rattle.uimg_base.specs.Sink.{Sink}
 use Rattle.uimg_base.specs.Named.{FileMap, SameFiles}
 use Rattle.uimg_base.specs.Writing.{Writes, Written}
-use Rattle.uimg_base.proofs.SinkLaws.{prefix_first, prefix_none, Appends-none}
+use Rattle.uimg_base.proofs.SinkLaws.{prefix_first}
 use Rattle.uimg_base.proofs.WritingLaws.{written_then}
 use Rattle.uimg_blob_writing.specs.declared.fault.TreeFault.{TreeFault}
 use Rattle.uimg_blob_writing.specs.declared.fault.TreeFault.TheVariants.{Put}
@@ -93,18 +93,6 @@ stops steady f m n s t xs ys p = record {
     all = (p.written honest).all;
     prefix = prefix_first s t (flat_map (content_bytes m.bytes) xs) (flat_map (content_bytes m.bytes) ys) (p.written honest).prefix;
   });
-}
-
--- nothing is written, and no file opened
-pub nothing : (steady : Bool) (m : FileMap) (s : Sink) → WritesPieces steady went_well m m s s []
-nothing steady m s = record {
-  files = record { same = record { bytes = refl; honest = refl; complete = refl }; refusals = refl };
-  faults = refl;
-  found = λ complete kept. refl;
-  reads = λ always honest kept. refl;
-  in_memory = λ embedded. refl;
-  kept = λ honest. tt;
-  written = λ honest. record { all = record { appended = Appends-none s.contents }; prefix = prefix_none s [] };
 }
 
 -- bytes that are put are a piece

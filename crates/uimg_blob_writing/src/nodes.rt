@@ -1,6 +1,6 @@
 //! Writing of nodes, by recursion.
 
-ghost use Rattle.std.specs.Prelude.{◌≡◌, ◌^◌, ◌<◌, length};
+ghost use Rattle.std.specs.Prelude.{◌^◌, ◌<◌, length};
 ghost use Rattle.uimg_blob_reading.specs.Plain.{AllValues};
 ghost use Rattle.uimg_blob_writing.specs.Content.{size_of};
 ghost use Rattle.uimg_blob_writing.specs.Encoding.{strings};

@@ -1,6 +1,6 @@
 //! Writing of a value with its padding.
 
-ghost use Rattle.std.specs.Prelude.{◌≡◌, ◌∷◌, [], length};
+ghost use Rattle.std.specs.Prelude.{◌≡◌, ◌∷◌, []};
 ghost use Rattle.uimg_blob_writing.specs.Alignment.{padding_by};
 ghost use Rattle.uimg_blob_writing.specs.Content.{bytes, size_of};
 ghost use Rattle.uimg_blob_writing.specs.Pieces.{padding, WritesPieces};

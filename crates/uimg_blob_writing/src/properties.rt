@@ -1,8 +1,7 @@
 //! Writing of properties.
 
-ghost use Rattle.std.specs.Prelude.{◌≡◌, ◌^◌, ◌<◌, ◌++◌, ◌∷◌, [], length, is_err};
+ghost use Rattle.std.specs.Prelude.{◌^◌, ◌<◌, ◌∷◌, [], length};
 ghost use Rattle.std.specs.List.{flat_map, AllByRecursion};
-ghost use Rattle.uimg_base.specs.Writing.{Writes};
 ghost use Rattle.uimg_blob_writing.specs.Content.{bytes, file, size_of};
 ghost use Rattle.uimg_blob_writing.specs.Encoding.{strings};
 ghost use Rattle.uimg_blob_writing.specs.Names.{name_texts};

@@ -1,5 +1,5 @@
 -- The unread part of a command line.
-use Rattle.std.specs.Prelude.{◌+◌, ℕ, List, length, drop, suc}
+use Rattle.std.specs.Prelude.{◌+◌, ℕ, length, drop, suc}
 use Rattle.std.specs.List.{sum_by}
 use Rattle.uimg_compat.specs.declared.getopt.Words.{Words}
 

@@ -1,5 +1,5 @@
 //! FIT images that are made from image-tree source.
-ghost use Rattle.std.specs.Prelude.{◌≡◌, false, Some, IsTrue, IsSome, IfErr};
+ghost use Rattle.std.specs.Prelude.{◌≡◌, false, Some, IsTrue, IfErr};
 ghost use Rattle.uimg_base.specs.Honest.{HonestSource};
 ghost use Rattle.uimg_blob_writing.specs.Trees.{node_of};
 ghost use Rattle.uimg_blob_writing.specs.UsingFiles.{UsesFiles};

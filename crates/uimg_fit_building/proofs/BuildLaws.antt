@@ -86,17 +86,6 @@ large-told : (o : Option BlobFault) (p : Plan) → large_in o ≡ false → answ
 large-told None p small e = (refl, ltb-true _ _ (large-step (nat_lt 4294967295 (totalsize p)) p e))
 large-told (Some g) p small e = absurd (let same : g ≡ blob.TooLarge = cc in let told : is_large g ≡ true = ap is_large same in cc)
 
-ok-step : (b : Bool) (p q : Plan) → (let r : Result Plan BlobFault = if b then Err blob.TooLarge else Ok p in r) ≡ Ok q → p ≡ q
-ok-step true p q e = absurd (cc)
-ok-step false p q e = cc
-
-ok-told : (o : Option BlobFault) (p q : Plan) → answer o p ≡ Ok q → (o ≡ None) × (p ≡ q)
-ok-told None p q e = (refl, ok-step (nat_lt 4294967295 (totalsize p)) p q e)
-ok-told (Some g) p q e = absurd (cc)
-
-pub measured-ok : (align : ℕ) (t : Unread) (p : Plan) → measured align t ≡ Ok p → (bad_name t ≡ None) × (plan_of align t ≡ p)
-measured-ok align t p e = ok-told (bad_name t) (plan_of align t) p e
-
 pub measured-err : (align : ℕ) (t : Unread) (f : BlobFault) → Measures (Err f) (measured align t) → MeasuresTree align (Err (of_measure f)) t
 measured-err align t blob.TooShort e = (bad-told (bad_name t) (plan_of align t) blob.TooShort refl e, refl)
 measured-err align t blob.BadMagic e = (bad-told (bad_name t) (plan_of align t) blob.BadMagic refl e, refl)

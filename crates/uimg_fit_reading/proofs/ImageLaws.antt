@@ -80,10 +80,6 @@ pub record LeftImages (t : Siblings) (position : ℕ) (next : Option ℕ) : Type
   pub is : images (spots t) ≡ Some found
   pub from : AreFrom t in_images next (drop position found)
 
--- all images
-pub all_left : (t : Siblings) (first : Option ℕ) → HasImages t first → LeftImages t 0 first
-all_left t first h = record { found = h.found; is = h.is; from = h.from }
-
 -- the node that some nodes begin with, its row, and the nodes after it
 pub record Front (t : Siblings) (level : Level) (number : ℕ) (found : List (NodeOf Spot)) : Type 0 where
   pub image : NodeOf Spot

@@ -32,10 +32,6 @@ nothing s = record { all = record { appended = Appends-none s.contents }; prefix
 pub line_then : (e : Bool) (s m t : Sink) (label text : List ℕ) → AppendsAll s m label → Written e m t (line text) → Written e s t (line (label ++ text))
 line_then e s m t label text p q = subst (λ (w : List ℕ). Written e s t w) (sym (append_assoc label text (10 ∷ []))) (p ▶ q)
 
--- a label, a text, and the end of the line
-pub line_put : (e : Bool) (s m n t : Sink) (label text : List ℕ) → AppendsAll s m label → AppendsAll m n text → Written e n t (10 ∷ []) → Written e s t (line (label ++ text))
-line_put e s m n t label text p q r = line_then e s m t label text p (q ▶ r)
-
 -- the bytes of a value: those done, the next, and the rest
 pub three_parts : (file : List ℕ) (at done next all : ℕ) → done + next ≤ all
     → slice file at all ≡ slice file at done ++ (slice file (at + done) next ++ slice file (at + done + next) (all - (done + next)))

@@ -36,9 +36,6 @@ pub record Left (At : Option ℕ → List (NodeOf Spot) → Type 0) (texts : ℕ
   pub at : At next rest
   pub goes : (e : Bool) (f : Device) (u : Sink) → ListsBetween e (sum_by node_allowance rest) m f n u (texts i rest) → ListsBetween e (sum_by node_allowance all) d f s u (texts 0 all)
 
-pub all_left : (At : Option ℕ → List (NodeOf Spot) → Type 0) (texts : ℕ → List (NodeOf Spot) → List ℕ) (next : Option ℕ) (d : Device) (s : Sink) (all : List (NodeOf Spot)) → At next all → Left At texts 0 next d d s s all
-all_left At texts next d s all at = record { rest = all; at = at; goes = λ e f u told. told }
-
 one : (texts : ℕ → List (NodeOf Spot) → List ℕ) (i j : ℕ) (rest more : List (NodeOf Spot)) (x : NodeOf Spot) (text : List ℕ) (e : Bool) (m f : Device) (n u : Sink) → rest ≡ x ∷ more → texts i (x ∷ more) ≡ text ++ texts j more
     → ListsBetween e (node_allowance x + sum_by node_allowance more) m f n u (text ++ texts j more) → ListsBetween e (sum_by node_allowance rest) m f n u (texts i rest)
 one texts i j rest more x text e m f n u is are told =

@@ -27,10 +27,6 @@ next_shrinks [] after w e = absurd (cc)
 next_shrinks (stray ∷ ws) after w e = absurd (cc)
 next_shrinks (w' ∷ ws) after w e = let same : ws ≡ after = ap (λ (x : Word × List Word). x.1) (some_is _ _ e) in omega (arith, ap length same)
 
--- a step that isn't the last
-pub not_last : {X : Type 0} → (xs ys : List X) (ws after : List Word) → ◌≡◌ {A = Step X} (Some (true, xs, ws)) (Some (false, ys, after)) → ⊥
-not_last {X = X} xs ys ws after e = let last : true ≡ false = ap (λ (x : Bool × List X × List Word). x.0) (some_is _ _ e) in absurd (cc)
-
 -- where a step that is read leads
 pub leads_to : {X : Type 0} → (b c : Bool) (xs ys : List X) (ws after : List Word) → ◌≡◌ {A = Step X} (Some (b, xs, ws)) (Some (c, ys, after)) → ws ≡ after
 leads_to {X = X} b c xs ys ws after e = ap (λ (x : Bool × List X × List Word). x.2) (some_is _ _ e)

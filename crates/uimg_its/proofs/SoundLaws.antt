@@ -27,9 +27,6 @@ pub still_sound : {a b : FileMap} (old new : List (NamedOf Content)) → SameFil
 still_sound old new same f =
     still (λ h m. AllByRecursion (λ (p : NamedOf Content). IsSoundValue h m p.name p.value) old) (λ h m. AllByRecursion (λ (p : NamedOf Content). IsSoundValue h m p.name p.value) new) same f
 
-pub props_push : (m : FileMap) (ps : List (NamedOf Content)) (p : NamedOf Content) (more : List (NamedOf Content)) → more ≡ ps ++ p ∷ [] → AreSound m ps → IsSoundValue m.honest m.bytes p.name p.value → AreSound m more
-props_push m ps p more is all s = rw is (all_push (λ (q : NamedOf Content). IsSoundValue m.honest m.bytes q.name q.value) ps p all s)
-
 -- the nodes of the code, and those that contracts see
 pub in_full_siblings : {A : Type 0} (files : FileBytes) (ns : List (Node A)) → in_full files (siblings ns) ≡ chain (all_parts_of files ns)
 unfolding with_values

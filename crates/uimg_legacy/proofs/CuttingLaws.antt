@@ -136,10 +136,6 @@ word_of (a ∷ b ∷ c ∷ []) h = absurd (omega (arith, h))
 word_of (a ∷ b ∷ c ∷ d ∷ []) h = refl
 word_of (a ∷ b ∷ c ∷ d ∷ e ∷ rest) h = absurd (omega (arith, h))
 
-pub words_none : whole_words [] ≡ []
-unfolding whole_words
-words_none = refl
-
 -- how many words there are
 pub count_words : (xs : List ℕ) (n : ℕ) → length xs ≡ 4 * n → length (whole_words xs) ≡ n
 unfolding whole_words

@@ -1,5 +1,5 @@
 -- The parts that are kept are those that extractions write.
-use Rattle.std.proofs.Common.{◌≡◌, ◌≤◌, ◌<◌, ◌+◌, ◌-◌, ◌*◌, ℕ, zero, suc, List, [], ◌∷◌, ◌++◌, length, take, drop, get_or, Bool, true, false, nat_lt, nat_le, ◌==◌, IsTrue, Option, Some, None, Result, Ok, Err, refl, ap, sym, subst, ◌∙◌, arith}
+use Rattle.std.proofs.Common.{◌≡◌, ◌≤◌, ◌<◌, ◌+◌, ◌-◌, ◌*◌, ℕ, zero, suc, List, [], ◌∷◌, ◌++◌, length, take, drop, get_or, Bool, true, false, nat_lt, nat_le, ◌==◌, Option, Some, Result, Ok, Err, refl, ap, sym, subst, ◌∙◌, arith}
 use Rattle.std.specs.Prelude.{sum_by, if◌then◌else◌}
 use Rattle.std.specs.List.{AllByRecursion, list_any}
 use Rattle.std.proofs.lemmas.Bool.{lt-leb, le-ltb, ltb-false}
@@ -16,10 +16,10 @@ use Rattle.uimg_legacy.specs.declared.fault.LegacyFault.TheVariants.{NoTableEnd,
 use Rattle.uimg_legacy.specs.declared.fault.Fault.{Fault}
 use Rattle.uimg_legacy.specs.Words.{whole_words}
 use Rattle.uimg_legacy.specs.Header.{header}
-use Rattle.uimg_legacy.specs.Image.{payload, has_right_data, legacy}
+use Rattle.uimg_legacy.specs.Image.{payload, has_right_data}
 use Rattle.uimg_legacy.specs.Parts.{has_parts, sizes, part_sizes, start, is_outside}
 use Rattle.uimg_legacy.specs.Extraction.{listed_part, single, part_of_data, extract_of}
-use Rattle.uimg_legacy.specs.Unpacking.{Part, parts_by, parts_in, part_if, is_part_asked, is_there, chosen_parts, kept_if, data_there, unpacked, unpack_of, UnpacksBetween, ExtractsBetween}
+use Rattle.uimg_legacy.specs.Unpacking.{Part, parts_by, parts_in, part_if, is_part_asked, is_there, chosen_parts, kept_if, data_there, unpack_of, UnpacksBetween, ExtractsBetween}
 use Rattle.uimg_legacy.proofs.PartsLaws.{sizes-at, sizes_end}
 use Rattle.uimg_legacy.proofs.ChunkLaws.{sizes-le-words}
 use Rattle.uimg_legacy.proofs.CuttingLaws.{cut_first, positive}

@@ -1,5 +1,5 @@
 -- Each byte of the file is of a row, and what no row of a thing has is of no thing.
-use Rattle.std.proofs.Common.{◌≡◌, ◌≤◌, ◌<◌, ℕ, ◌+◌, List, [], ◌∷◌, ◌++◌, min, Bool, true, false, nat_lt, nat_le, Option, Some, None, ◌∙◌, ap, sym, refl, arith}
+use Rattle.std.proofs.Common.{◌≡◌, ◌≤◌, ◌<◌, ℕ, ◌+◌, List, [], ◌∷◌, ◌++◌, min, Bool, true, false, nat_lt, nat_le, Option, Some, ◌∙◌, ap, sym, refl, arith}
 use Rattle.std.specs.Prelude.{◌&&◌, ◌||◌, if◌then◌else◌}
 use Rattle.std.specs.List.{AllByRecursion, list_any}
 use Rattle.std.proofs.Math.Bool.{or-true, true≢false}

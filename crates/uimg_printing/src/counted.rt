@@ -1,6 +1,6 @@
 //! Counts with a noun, and bytes in hexadecimal.
 
-ghost use Rattle.std.specs.Prelude.{◌≡◌, Some};
+ghost use Rattle.std.specs.Prelude.{Some};
 ghost use Rattle.std.specs.Fmt.{WritesOnOk};
 ghost use Rattle.std.specs.List.{flat_map};
 ghost use Rattle.uimg_printing.specs.Counting.{counted};

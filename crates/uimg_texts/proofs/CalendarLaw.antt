@@ -3,7 +3,7 @@ use Rattle.std.proofs.Common.{◌≡◌, ◌≤◌, ◌<◌, ℕ, zero, suc, Boo
 use Rattle.std.proofs.lemmas.Bool.{cases_lt}
 use Rattle.std.proofs.lemmas.Bool.Decides.{nat_tests}
 use Rattle.jiff_core.specs.declared.civil.date.Date.{Date as JiffDate}
-use Rattle.jiff_core.specs.Calendar.{days_in_month, days_from_civil, day_count}
+use Rattle.jiff_core.specs.Calendar.{days_from_civil, day_count}
 use Rattle.jiff_core.specs.Date.{epoch_day}
 use Rattle.jiff_core.proofs.SignedLemmas.{signed_arith}
 use Rattle.jiff_core.proofs.CalendarLemmas.{days_from_civil-day_count, day_count-lt_year, days_in_month_bounds}
@@ -21,9 +21,6 @@ pub record IsDay (d : Date) : Type 0 where
 -- the day number of a date
 abbrev pub number_of : Date → ℤ
 number_of d = days_from_civil (pos d.year) d.month d.day
-
-month_length-days_in_month : (y m : ℕ) → month_length y m ≡ days_in_month (pos y) m
-month_length-days_in_month y m = refl
 
 month_length_bounds : (y m : ℕ) → (month_length y m ≤ 31) × (28 ≤ month_length y m)
 month_length_bounds y m = days_in_month_bounds (pos y) m
